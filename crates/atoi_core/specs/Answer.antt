@@ -1,0 +1,54 @@
+-- The answers of the parses, for an integer type.
+use Rattle.std.specs.Prelude.{ℕ, ◌+◌, Bool, List, ℤ, Result, Ok, Err}
+use Rattle.atoi_core.specs.Digit.{Table, decimal_table}
+use Rattle.atoi_core.specs.Refusal.{Refusal}
+use Rattle.atoi_core.specs.Refusal.{answer_of}
+use Rattle.atoi_core.specs.declared.error.AtoiSimdError.{AtoiSimdError}
+use Rattle.atoi_core.specs.Magnitude.{Class, narrow, wide64, wide128, whole_magnitude, prefix_magnitude}
+use Rattle.atoi_core.specs.Kind.{Kind, class_of, bound_of, limit_of}
+use Rattle.atoi_core.specs.Sign.{sign_of, number_of}
+
+-- the answer with f of its value
+abbrev pub map_answer : {A B : Type 0} → (A → B) → Result A Refusal → Result B Refusal
+map_answer f (Ok value) = Ok (f value)
+map_answer f (Err reason) = Err reason
+
+-- a result of a type's values as an answer of numbers: `number` is what each value means
+abbrev pub typed_answer : {T : Type 0} → (T → ℤ) → Result T AtoiSimdError → Result ℤ Refusal
+typed_answer number result = map_answer number (answer_of result)
+
+-- the same of a value with a count
+abbrev pub typed_prefix_answer : {T : Type 0} → (T → ℤ) → Result (T × ℕ) AtoiSimdError → Result (ℤ × ℕ) Refusal
+typed_prefix_answer {T} number result =
+    map_answer (λ (found : T × ℕ). (number found.0, found.1)) (answer_of result)
+
+-- the digits that a whole slice is read by: of a narrow type the decimal ones, whatever the engine's are
+abbrev pub whole_table : Class → Table → Table
+whole_table narrow table = decimal_table
+whole_table wide64 table = table
+whole_table wide128 table = table
+
+-- a body as a whole, with the sign that stood before it
+abbrev pub whole_answer : Table → Kind → (minus skip : Bool) → List ℕ → Result ℤ Refusal
+whole_answer table k minus skip body =
+    map_answer (number_of minus)
+    (whole_magnitude table (class_of k) (bound_of k minus) (limit_of k) skip body)
+
+-- the number at the front of a body, with the sign that stood before it, and its length in bytes
+abbrev pub prefix_answer : Table → Kind → (minus skip : Bool) → List ℕ → Result (ℤ × ℕ) Refusal
+prefix_answer table k minus skip body =
+    map_answer (λ (found : ℕ × ℕ). (number_of minus found.0, found.1))
+    (prefix_magnitude table (class_of k) (bound_of k minus) (limit_of k) skip body)
+
+-- what `parse` answers: the sign is taken, and the body is read as a whole
+abbrev pub parse_answer : Kind → (skip plus : Bool) → List ℕ → Result ℤ Refusal
+parse_answer k skip plus s =
+    let sign = sign_of k.signed plus s in
+    whole_answer decimal_table k sign.minus skip sign.body
+
+-- what `parse_prefix` answers: the count is of the sign's byte too
+abbrev pub parse_prefix_answer : Kind → (skip plus : Bool) → List ℕ → Result (ℤ × ℕ) Refusal
+parse_prefix_answer k skip plus s =
+    let sign = sign_of k.signed plus s in
+    map_answer (λ (found : ℤ × ℕ). (found.0, found.1 + sign.taken))
+    (prefix_answer decimal_table k sign.minus skip sign.body)

@@ -1,0 +1,34 @@
+-- What a parse has to know of an integer type.
+use Rattle.std.specs.Prelude.{◌≡◌, ◌⊎◌, ℕ, ◌+◌, ◌-◌, ◌^◌, Bool, true, false, ◌==◌, nat_le, if◌then◌else◌}
+use Rattle.atoi_core.specs.Magnitude.{Class, narrow, wide64, wide128}
+
+-- a type's bits, whether it is signed, and its greatest value
+pub record Kind : Type 0 where
+  pub bits : ℕ
+  pub signed : Bool
+  pub greatest : ℕ
+
+abbrev pub kind : ℕ → Bool → ℕ → Kind
+kind bits signed greatest = record { bits = bits; signed = signed; greatest = greatest }
+
+-- the greatest value of that many bits, one of which is the sign's where there is one
+abbrev pub greatest_of : ℕ → Bool → ℕ
+greatest_of bits true = 2 ^ (bits - 1) - 1
+greatest_of bits false = 2 ^ bits - 1
+
+-- a kind of integer that there is: 8, 16, 32, 64 or 128 bits, and the greatest value of these
+pub record IsSized (k : Kind) : Type 0 where
+  pub bits : (k.bits ≡ 8) ⊎ ((k.bits ≡ 16) ⊎ ((k.bits ≡ 32) ⊎ ((k.bits ≡ 64) ⊎ (k.bits ≡ 128))))
+  pub greatest : k.greatest ≡ greatest_of k.bits k.signed
+
+-- up to 32 bits, 64, or 128
+abbrev pub class_of : Kind → Class
+class_of k = if nat_le k.bits 32 then narrow else (if k.bits == 64 then wide64 else wide128)
+
+-- the greatest magnitude: of the greatest value, or after a minus of the least
+abbrev pub bound_of : Kind → Bool → ℕ
+bound_of k minus = if minus then k.greatest + 1 else k.greatest
+
+-- how many digits the greatest magnitude of a wide type has, with a minus or without
+abbrev pub limit_of : Kind → ℕ
+limit_of k = if k.bits == 64 then (if k.signed then 19 else 20) else 39

@@ -1,0 +1,12 @@
+pub mod Digit
+pub mod Run
+pub mod Refusal
+pub mod ErrorText
+pub mod Magnitude
+pub mod Kind
+pub mod Sign
+pub mod Answer
+pub mod Text
+pub mod Loads
+pub mod Window
+pub mod Examples

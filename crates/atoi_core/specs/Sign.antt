@@ -1,0 +1,26 @@
+-- The sign at the front of a slice.
+use Rattle.std.specs.Prelude.{ℕ, Bool, true, false, ◌&&◌, ◌==◌, if◌then◌else◌, List, [], ◌∷◌, ℤ, pos, neg_ℤ}
+
+-- whether a minus was taken, how many bytes were taken, and the body behind them
+pub record Sign : Type 0 where
+  pub minus : Bool
+  pub taken : ℕ
+  pub body : List ℕ
+
+abbrev pub plus_sign : ℕ
+plus_sign = 43
+
+abbrev pub minus_sign : ℕ
+minus_sign = 45
+
+-- at most one sign is taken: a plus where that is asked for, a minus where the type is signed
+abbrev pub sign_of : (signed plus : Bool) → List ℕ → Sign
+sign_of signed plus [] = record { minus = false; taken = 0; body = [] }
+sign_of signed plus (byte ∷ bytes) =
+    if plus && byte == plus_sign then record { minus = false; taken = 1; body = bytes }
+    else (if signed && byte == minus_sign then record { minus = true; taken = 1; body = bytes }
+    else record { minus = false; taken = 0; body = byte ∷ bytes })
+
+-- a magnitude with its sign
+abbrev pub number_of : Bool → ℕ → ℤ
+number_of minus magnitude = if minus then neg_ℤ (pos magnitude) else pos magnitude

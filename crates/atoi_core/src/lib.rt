@@ -1,0 +1,13 @@
+//! The engines, loops and definitions under `atoi_simd`: exact parses of decimal digits at the front
+//! of a byte slice into integers.
+#![tactic(auto)]
+
+mod engine;
+mod error;
+mod steps;
+mod window;
+
+pub use crate::engine::Engine;
+pub use crate::error::AtoiSimdError;
+pub use crate::steps::Steps;
+pub use crate::window::Window;

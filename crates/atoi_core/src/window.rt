@@ -1,0 +1,12 @@
+//! What one load tells of a slice. It stands on nothing.
+
+/// What a window of 8 or 16 bytes tells of the front of a slice.
+#[derive(Clone, Copy, PartialEq, Eq)]
+pub struct Window {
+    /// How many digits the window begins with.
+    pub len: u32,
+    /// How many zeros it begins with, where all its bytes are digits; else 0.
+    pub zeroes: u32,
+    /// The number that its first `len` digits write.
+    pub number: u64,
+}
