@@ -6,6 +6,7 @@ mod engine;
 mod error;
 mod steps;
 mod window;
+pub mod words;
 
 pub use crate::engine::Engine;
 pub use crate::error::AtoiSimdError;

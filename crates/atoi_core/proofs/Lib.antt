@@ -1,0 +1,3 @@
+pub mod Rounds
+pub mod Fields
+pub mod Sums
