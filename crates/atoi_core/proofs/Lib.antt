@@ -5,3 +5,4 @@ pub mod ByteCases
 pub mod TrailingBytes
 pub mod Bitwise
 pub mod WordRuns
+pub mod LoadedBytes
