@@ -5,9 +5,11 @@
 mod engine;
 mod error;
 mod steps;
+mod text;
 mod window;
 
 pub use crate::engine::Engine;
 pub use crate::error::AtoiSimdError;
 pub use crate::steps::Steps;
+pub use crate::text::decimal;
 pub use crate::window::Window;
