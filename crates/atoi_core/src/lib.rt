@@ -7,6 +7,7 @@ mod engine;
 mod error;
 mod plain;
 mod steps;
+mod text;
 mod window;
 
 pub use crate::digit_loop::narrow_whole;
@@ -14,4 +15,5 @@ pub use crate::engine::Engine;
 pub use crate::error::AtoiSimdError;
 pub use crate::plain::Plain;
 pub use crate::steps::Steps;
+pub use crate::text::decimal;
 pub use crate::window::Window;
