@@ -1,3 +1,6 @@
 mod Digits
 mod Magnitudes
 pub mod DigitText
+pub mod RunLemmas
+pub mod ValueLemmas
+pub mod WindowLemmas
