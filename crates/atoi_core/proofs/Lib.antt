@@ -1,1 +1,3 @@
+pub mod AsciiText
 pub mod DigitText
+pub mod ErrorOrder

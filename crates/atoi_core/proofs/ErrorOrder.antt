@@ -1,0 +1,50 @@
+-- The order of errors.
+use Rattle.std.proofs.Common.{◌≡◌, refl}
+use Rattle.std.specs.declared.cmp.Ordering.{Ordering}
+use Rattle.std.specs.declared.cmp.Ordering.TheVariants.{Less, Equal, Greater}
+use Rattle.std.specs.Ordering.{nat_cmp, ordering_then}
+use Rattle.std.specs.Cmp.Lexicographic.{slice_cmp}
+use Rattle.std.proofs.lemmas.Cmp.{nat_cmp_total, nat_list_cmp_total, tied_itself}
+use Rattle.std.proofs.lemmas.Map.Lookups.{exact_bytes}
+use Rattle.atoi_core.specs.Refusal.{Refusal, empty, size, overflow, invalid64, invalid128, rank, numbers, input_of, refusal_cmp}
+
+-- where one comparison after another answers `Equal`, both did
+then_first : (first rest : Ordering) → ordering_then first rest ≡ Equal → first ≡ Equal
+then_first Less rest equal = cc
+then_first Equal rest equal = refl
+then_first Greater rest equal = cc
+
+then_rest : (first rest : Ordering) → ordering_then first rest ≡ Equal → rest ≡ Equal
+then_rest Less rest equal = cc
+then_rest Equal rest equal = equal
+then_rest Greater rest equal = cc
+
+-- an error compares as equal with itself
+pub refusal_cmp-same : (a : Refusal) → refusal_cmp a a ≡ Equal
+refusal_cmp-same a =
+    rw (tied_itself nat_cmp_total (rank a), tied_itself nat_list_cmp_total (numbers a), tied_itself nat_list_cmp_total (input_of a))
+
+-- the numbers of two errors of which neither is less are the same
+same_numbers : (a b : Refusal) → refusal_cmp a b ≡ Equal → numbers a ≡ numbers b
+same_numbers a b equal = exact_bytes _ _ (then_first _ _ (then_rest (nat_cmp (rank a) (rank b)) _ equal))
+
+-- and so are their slices
+same_input : (a b : Refusal) → refusal_cmp a b ≡ Equal → input_of a ≡ input_of b
+same_input a b equal =
+    exact_bytes _ _ (then_rest (slice_cmp nat_cmp (numbers a) (numbers b)) _ (then_rest (nat_cmp (rank a) (rank b)) _ equal))
+
+-- two errors compare as equal only where they are the same
+pub same-refusal_cmp : (a b : Refusal) → refusal_cmp a b ≡ Equal → a ≡ b
+same-refusal_cmp empty empty equal = refl
+same-refusal_cmp (size m s) (size n t) equal =
+    let e = same_numbers (size m s) (size n t) equal in
+    let f = same_input (size m s) (size n t) equal in cc
+same-refusal_cmp (overflow s) (overflow t) equal =
+    let f = same_input (overflow s) (overflow t) equal in cc
+same-refusal_cmp (invalid64 m i s) (invalid64 n j t) equal =
+    let e = same_numbers (invalid64 m i s) (invalid64 n j t) equal in
+    let f = same_input (invalid64 m i s) (invalid64 n j t) equal in cc
+same-refusal_cmp (invalid128 m i s) (invalid128 n j t) equal =
+    let e = same_numbers (invalid128 m i s) (invalid128 n j t) equal in
+    let f = same_input (invalid128 m i s) (invalid128 n j t) equal in cc
+same-refusal_cmp a b equal = cc
