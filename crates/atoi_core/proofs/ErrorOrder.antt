@@ -1,10 +1,11 @@
 -- The order of errors.
-use Rattle.std.proofs.Common.{◌≡◌, refl}
+use Rattle.std.proofs.Common.{◌≡◌, ◌↔◌, refl}
 use Rattle.std.specs.declared.cmp.Ordering.{Ordering}
 use Rattle.std.specs.declared.cmp.Ordering.TheVariants.{Less, Equal, Greater}
 use Rattle.std.specs.Ordering.{nat_cmp, ordering_then}
 use Rattle.std.specs.Cmp.Lexicographic.{slice_cmp}
-use Rattle.std.proofs.lemmas.Cmp.{nat_cmp_total, nat_list_cmp_total, tied_itself}
+use Rattle.std.specs.Cmp.{IsTotalOrder}
+use Rattle.std.proofs.lemmas.Cmp.{nat_cmp_total, nat_list_cmp_total, on_total, then_total, tied_itself}
 use Rattle.std.proofs.lemmas.Map.Lookups.{exact_bytes}
 use Rattle.atoi_core.specs.Refusal.{Refusal, empty, size, overflow, invalid64, invalid128, rank, numbers, input_of, refusal_cmp}
 
@@ -19,10 +20,11 @@ then_rest Less rest equal = cc
 then_rest Equal rest equal = equal
 then_rest Greater rest equal = cc
 
--- an error compares as equal with itself
-pub refusal_cmp-same : (a : Refusal) → refusal_cmp a a ≡ Equal
-refusal_cmp-same a =
-    rw (tied_itself nat_cmp_total (rank a), tied_itself nat_list_cmp_total (numbers a), tied_itself nat_list_cmp_total (input_of a))
+-- the order of errors is total
+pub refusal_cmp-total : IsTotalOrder refusal_cmp
+refusal_cmp-total =
+    then_total (on_total rank nat_cmp_total)
+    (then_total (on_total numbers nat_list_cmp_total) (on_total input_of nat_list_cmp_total))
 
 -- the numbers of two errors of which neither is less are the same
 same_numbers : (a b : Refusal) → refusal_cmp a b ≡ Equal → numbers a ≡ numbers b
@@ -34,7 +36,7 @@ same_input a b equal =
     exact_bytes _ _ (then_rest (slice_cmp nat_cmp (numbers a) (numbers b)) _ (then_rest (nat_cmp (rank a) (rank b)) _ equal))
 
 -- two errors compare as equal only where they are the same
-pub same-refusal_cmp : (a b : Refusal) → refusal_cmp a b ≡ Equal → a ≡ b
+same-refusal_cmp : (a b : Refusal) → refusal_cmp a b ≡ Equal → a ≡ b
 same-refusal_cmp empty empty equal = refl
 same-refusal_cmp (size m s) (size n t) equal =
     let e = same_numbers (size m s) (size n t) equal in
@@ -48,3 +50,7 @@ same-refusal_cmp (invalid128 m i s) (invalid128 n j t) equal =
     let e = same_numbers (invalid128 m i s) (invalid128 n j t) equal in
     let f = same_input (invalid128 m i s) (invalid128 n j t) equal in cc
 same-refusal_cmp a b equal = cc
+
+-- two errors compare as equal exactly where they are the same
+pub refusal_cmp-Equal : (a b : Refusal) → (refusal_cmp a b ≡ Equal) ↔ (a ≡ b)
+refusal_cmp-Equal a b = (same-refusal_cmp a b, λ same. rw (← same) (tied_itself refusal_cmp-total a))

@@ -142,3 +142,77 @@ fn put_invalid(number: u128, index: usize, out: &mut [u8; 400]) -> usize
     let end = put_bytes(b" it must contain only digits, starting with: ", out, end);
     put_decimal(number, out, end)
 }
+
+#[cfg(test)]
+mod tests {
+    use super::*;
+    use std::process::Abort;
+    use std::test::Fail;
+
+    fn check_text(rt: &impl Abort, error: &AtoiSimdError<'_>, expected: &[u8]) {
+        let mut out = [b'?'; 400];
+        let length = error.text(&mut out);
+        assert_eq!(rt; &out[..length], expected);
+    }
+
+    #[test]
+    fn texts_name_the_reason(rt: HostRuntime) {
+        check_text(&rt, &AtoiSimdError::Empty, b"atoi_simd string is empty");
+        check_text(
+            &rt,
+            &AtoiSimdError::Size(27, b"11"),
+            b"atoi_simd wrong size: 27 input: [31, 31]",
+        );
+        check_text(
+            &rt,
+            &AtoiSimdError::Overflow(b"128"),
+            b"atoi_simd overflow, input: [31, 32, 38]",
+        );
+        check_text(
+            &rt,
+            &AtoiSimdError::Invalid64(255, 3, b"255\r"),
+            b"atoi_simd invalid at index: 3 it must contain only digits, starting with: 255  input: [32, 35, 35, D]",
+        );
+        check_text(
+            &rt,
+            &AtoiSimdError::Invalid128(12, 2, b"12a"),
+            b"atoi_simd invalid at index: 2 it must contain only digits, starting with: 12 input: [31, 32, 61]",
+        );
+    }
+
+    #[test]
+    fn an_empty_slice_is_shown_as_brackets(rt: HostRuntime) {
+        check_text(
+            &rt,
+            &AtoiSimdError::Overflow(b""),
+            b"atoi_simd overflow, input: []",
+        );
+    }
+
+    #[test]
+    fn at_most_48_bytes_are_shown(rt: HostRuntime) {
+        check_text(
+            &rt,
+            &AtoiSimdError::Overflow(&[10; 50]),
+            b"atoi_simd overflow, input: [A, A, A, A, A, A, A, A, A, A, A, A, A, A, A, A, A, A, A, A, A, A, A, A, A, A, A, A, A, A, A, A, A, A, A, A, A, A, A, A, A, A, A, A, A, A, A, A]",
+        );
+    }
+
+    #[test]
+    fn errors_are_ordered_by_variant_then_numbers_then_slice(rt: HostRuntime) {
+        assert!(rt; AtoiSimdError::Size(9, b"b") < AtoiSimdError::Overflow(b"a"));
+        assert!(rt; AtoiSimdError::Overflow(b"1") < AtoiSimdError::Overflow(b"11"));
+        assert!(rt; AtoiSimdError::Invalid64(1, 2, b"a") < AtoiSimdError::Invalid64(2, 1, b"a"));
+    }
+
+    #[test]
+    fn display_writes_the_text_whatever_the_format(rt: HostRuntime) -> Result<(), Fail> {
+        let error = AtoiSimdError::Overflow(b"129");
+        let text = "atoi_simd overflow, input: [31, 32, 39]";
+        assert_eq!(rt; format!(in rt.alloc(); "{error}")?.as_str(), text);
+        assert_eq!(rt; format!(in rt.alloc(); "{error:>80}")?.as_str(), text);
+        assert_eq!(rt; format!(in rt.alloc(); "{error:*^80}")?.as_str(), text);
+        assert_eq!(rt; format!(in rt.alloc(); "{error:<080.3}")?.as_str(), text);
+        Ok(())
+    }
+}
