@@ -7,3 +7,10 @@ pub mod WindowLemmas
 pub mod AsciiText
 pub mod DigitText
 pub mod ErrorOrder
+pub mod Rounds
+pub mod Fields
+pub mod Sums
+pub mod ByteCases
+pub mod TrailingBytes
+pub mod Bitwise
+pub mod WordRuns

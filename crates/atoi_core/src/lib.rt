@@ -9,6 +9,7 @@ mod plain;
 mod steps;
 mod text;
 mod window;
+pub mod words;
 
 pub use crate::digit_loop::narrow_whole;
 pub use crate::engine::Engine;
