@@ -1,0 +1,2 @@
+pub mod MaskLemmas
+pub mod SumLemmas
