@@ -5,7 +5,6 @@ pub mod RunLemmas
 pub mod ValueLemmas
 pub mod WindowLemmas
 pub mod AsciiText
-pub mod DigitText
 pub mod ErrorOrder
 pub mod Rounds
 pub mod Fields
