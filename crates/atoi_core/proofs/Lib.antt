@@ -14,3 +14,4 @@ pub mod TrailingBytes
 pub mod Bitwise
 pub mod WordRuns
 pub mod LoadedBytes
+pub mod WordWindows

@@ -9,6 +9,7 @@ mod plain;
 mod steps;
 mod text;
 mod window;
+mod word_engine;
 pub mod words;
 
 pub use crate::digit_loop::narrow_whole;
@@ -18,3 +19,4 @@ pub use crate::plain::Plain;
 pub use crate::steps::Steps;
 pub use crate::text::decimal;
 pub use crate::window::Window;
+pub use crate::word_engine::Words;
