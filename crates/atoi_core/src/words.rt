@@ -65,7 +65,8 @@ pub fn check_len_8(val: u64) -> u32
 pub fn process_8(val: u64, len: u32) -> u64
     requires some { 1 ≤ len }
     requires most { len ≤ 8 }
-    ensures { result ≡ low_value (low_bytes len val) }
+    ensures sum { result ≡ low_value (low_bytes len val) }
+    ensures most { result ≤ 166666665 }
 {
     let ones = (val << (64 - 8 * len)) & 0x0F0F_0F0F_0F0F_0F0F;
     let tens = (ones.wrapping_mul(0xA01) >> 8) & 0x00FF_00FF_00FF_00FF;
@@ -78,7 +79,8 @@ pub fn process_8(val: u64, len: u32) -> u64
 pub fn process_16(val: u128, len: u32) -> u64
     requires some { 1 ≤ len }
     requires most { len ≤ 16 }
-    ensures { result ≡ low_value (low_bytes len val) }
+    ensures sum { result ≡ low_value (low_bytes len val) }
+    ensures most { result ≤ 16666666666666665 }
 {
     let ones = (val << (128 - 8 * len)) & 0x0F0F_0F0F_0F0F_0F0F_0F0F_0F0F_0F0F_0F0F;
     let tens = (ones.wrapping_mul(0xA01) >> 8) & 0x00FF_00FF_00FF_00FF_00FF_00FF_00FF_00FF;
