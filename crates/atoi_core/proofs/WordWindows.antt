@@ -71,7 +71,7 @@ loaded_value (suc n) (suc k) (b ∷ bs) fits digits =
     let low : (b + 256 * word) % 256 ≡ b = omega arith in
     let high : (b + 256 * word) / 256 ≡ word = omega arith in
     let places : length (digits_l 256 n word) ≡ length (take n (take k bs)) =
-      length-digits 256 n word ∙ sym (length-take-le n (take k bs) (omega (arith, passes.1, prefix_len-le-length (is_digit decimal_table) (take k bs)))) in
+    length-digits 256 n word ∙ sym (length-take-le n (take k bs) (omega (arith, passes.1, prefix_len-le-length (is_digit decimal_table) (take k bs)))) in
     ap₂ (λ x y. (x % 16) * 10 ^ length (digits_l 256 n y) + low_value (digits_l 256 n y)) low high
     ∙ ap₂ (λ x e. x * 10 ^ e + low_value (digits_l 256 n word)) (half_is_worth b small passes.0) places
     ∙ ap (λ v. worth decimal_table b * 10 ^ length (take n (take k bs)) + v) (loaded_value n k bs (λ i. fits (suc i)) passes.1)
@@ -123,7 +123,7 @@ no_zero_first word other =
     let is : bit_and word 255 ≡ byte = and_mask word 8 in
     let differs : byte ≢ 48 = λ e. other (is ∙ e) in
     sym (ap (λ t. cond t (1 + zeros decimal_table (digits_l 256 7 (word / 256))) 0)
-      (is_zero_byte byte (mod-lt word (zero-lt-suc 255)) ∙ ne_eqb byte 48 differs))
+    (is_zero_byte byte (mod-lt word (zero-lt-suc 255)) ∙ ne_eqb byte 48 differs))
 
 -- the zeros of two words go on from the first to the next where the first holds zeros only
 pub zeros_when_all : (first next : ℕ) → zeros decimal_table (low_bytes 8 first) ≡ 8
@@ -131,22 +131,22 @@ pub zeros_when_all : (first next : ℕ) → zeros decimal_table (low_bytes 8 fir
 unfolding low_bytes
 zeros_when_all first next e =
     sym (prefix_len-append (is_zero decimal_table) (digits_l 256 8 first) (digits_l 256 8 next)
-      ∙ ap (λ t. cond t (8 + zeros decimal_table (digits_l 256 8 next)) (zeros decimal_table (digits_l 256 8 first))) (eq-eqb (zeros decimal_table (digits_l 256 8 first)) 8 e))
+    ∙ ap (λ t. cond t (8 + zeros decimal_table (digits_l 256 8 next)) (zeros decimal_table (digits_l 256 8 first))) (eq-eqb (zeros decimal_table (digits_l 256 8 first)) 8 e))
 
 pub zeros_when_some : (first next : ℕ) → zeros decimal_table (low_bytes 8 first) ≢ 8
     → zeros decimal_table (low_bytes 8 first) ≡ zeros decimal_table (low_bytes 8 first ++ low_bytes 8 next)
 unfolding low_bytes
 zeros_when_some first next ne =
     sym (prefix_len-append (is_zero decimal_table) (digits_l 256 8 first) (digits_l 256 8 next)
-      ∙ ap (λ t. cond t (8 + zeros decimal_table (digits_l 256 8 next)) (zeros decimal_table (digits_l 256 8 first))) (ne_eqb (zeros decimal_table (digits_l 256 8 first)) 8 ne))
+    ∙ ap (λ t. cond t (8 + zeros decimal_table (digits_l 256 8 next)) (zeros decimal_table (digits_l 256 8 first))) (ne_eqb (zeros decimal_table (digits_l 256 8 first)) 8 ne))
 
 -- ---- windows
 
 same_test : (more : ℕ) → (more == 8) ≡ (8 + more == 16)
 same_test more =
     elim (cases_eq more 8) [
-      inl e ↦ eq-eqb more 8 e ∙ sym (eq-eqb (8 + more) 16 (omega arith))
-    | inr ne ↦ ne_eqb more 8 ne ∙ sym (ne_eqb (8 + more) 16 (omega arith))
+      | inl e ↦ eq-eqb more 8 e ∙ sym (eq-eqb (8 + more) 16 (omega arith))
+      | inr ne ↦ ne_eqb more 8 ne ∙ sym (ne_eqb (8 + more) 16 (omega arith))
     ]
 
 -- zeros are told of a full window alone
@@ -165,9 +165,9 @@ pub window_from : (c : ℕ) (s : List ℕ) (len leading number : ℕ)
 window_from c s len leading number len_is leading_is number_is =
     let within : run_len decimal_table (take c s) ≡ min c (run_len decimal_table s) = prefix_len-take (is_digit decimal_table) c s in
     let same_leading : leading ≡ (if run_len decimal_table (take c s) == c then zeros decimal_table (take c s) else 0) =
-      leading_is ∙ ap (λ n. if n == c then zeros decimal_table (take c s) else 0) len_is in
+    leading_is ∙ ap (λ n. if n == c then zeros decimal_table (take c s) else 0) len_is in
     let same_number : number ≡ value decimal_table (take (run_len decimal_table (take c s)) (take c s)) =
-      number_is ∙ ap (value decimal_table) (sym (take-take len c s (omega arith)) ∙ ap (λ n. take n (take c s)) len_is) in
+    number_is ∙ ap (value decimal_table) (sym (take-take len c s (omega arith)) ∙ ap (λ n. take n (take c s)) len_is) in
     λ i. record { len = len_is i; zeroes = same_leading i; number = same_number i }
 
 -- where the first eight bytes are not all digits, sixteen tell no more than they
@@ -199,7 +199,7 @@ window_joined s more leading first next full more_is leading_is first_is next_is
     let within : run_len decimal_table s ≤ length s = prefix_len-le-length (is_digit decimal_table) s in
     let sixteen : take 8 s ++ take 8 (drop 8 s) ≡ take 16 s = sym (take-add 8 8 s) in
     let same_leading : leading ≡ (if 8 + more == 16 then zeros decimal_table (take 16 s) else 0) =
-      leading_is ∙ ap₂ (λ t z. cond t z 0) (same_test more) (ap (zeros decimal_table) sixteen) in
+    leading_is ∙ ap₂ (λ t z. cond t z 0) (same_test more) (ap (zeros decimal_table) sixteen) in
     let same_number : first * 10 ^ more + next ≡ value decimal_table (take (8 + more) s) =
-      ap₂ (λ x y. x * 10 ^ more + y) first_is next_is ∙ sym (value-take-add decimal_table 8 more s (omega arith)) in
+    ap₂ (λ x y. x * 10 ^ more + y) first_is next_is ∙ sym (value-take-add decimal_table 8 more s (omega arith)) in
     window_from 16 s (8 + more) leading (first * 10 ^ more + next) (omega arith) same_leading same_number

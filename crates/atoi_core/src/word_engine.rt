@@ -1,4 +1,4 @@
-//! The engine that reads a window as words of eight bytes.
+//! The engine that reads a window as one word of eight bytes, or as two.
 //! It stands on `words`, `engine`, `window` and `steps`.
 ghost use Rattle.std.specs.Prelude.{◌≡◌, ◌+◌, ◌^◌, ◌≤◌, ◌++◌, length, take, drop};
 ghost use Rattle.atoi_core.specs.Digit.{decimal_table};
@@ -13,13 +13,14 @@ use crate::steps::Steps;
 use crate::window::Window;
 use crate::words::{check_len_8, len_zeroes, load_8, process_8};
 
-/// The engine that reads eight bytes at once, as a word.
+/// The engine that reads eight bytes at once, as a word. Its digits are the decimal ones.
 pub struct Words;
 
 impl Engine for Words {
     ghost table = { decimal_table };
 
-    /// The first 16 bytes, or all where there are fewer. Adds one step.
+    /// The first 16 bytes, or all where there are fewer: how many digits they begin with, the number
+    /// that these write, and the zeros among them where all 16 are digits. Adds one step.
     #[inline(always)]
     fn window(s: &[u8], steps: &mut Steps) -> Window {
         steps.tick();
@@ -36,17 +37,13 @@ impl Engine for Words {
         }
     }
 
-    /// The first 8 bytes, or all where there are fewer. Adds one step.
+    /// The same of the first 8 bytes. Adds one step.
     #[inline(always)]
     fn window_8(s: &[u8], steps: &mut Steps) -> Window {
         steps.tick();
         let word = load_8(s);
         let len = check_len_8(word);
-        let zeroes = if len == 8 {
-            zeroes_of(word)
-        } else {
-            0
-        };
+        let zeroes = if len == 8 { zeroes_of(word) } else { 0 };
         Window {
             len,
             zeroes,
@@ -105,7 +102,11 @@ fn number_of(word: u64, len: u32) -> u64
 fn zeroes_of(word: u64) -> u32
     ensures { result ≡ zeros decimal_table (low_bytes 8 word) }
 {
-    if word & 0xFF == ZERO { len_zeroes(word) } else { 0 }
+    if word & 0xFF == ZERO {
+        len_zeroes(word)
+    } else {
+        0
+    }
 }
 
 // How many zeros two words begin with, one behind the other. Most begin with none.
@@ -114,7 +115,11 @@ fn zeroes_of_two(first: u64, next: u64) -> u32
     ensures { result ≡ zeros decimal_table (low_bytes 8 first ++ low_bytes 8 next) }
 {
     let zeroes = zeroes_of(first);
-    if zeroes == 8 { 8 + len_zeroes(next) } else { zeroes }
+    if zeroes == 8 {
+        8 + len_zeroes(next)
+    } else {
+        zeroes
+    }
 }
 
 // The byte of the digit zero.
@@ -142,3 +147,41 @@ const POWERS: [u64; 9] = [
     10_000_000,
     100_000_000,
 ];
+
+#[cfg(test)]
+mod tests {
+    use super::*;
+
+    fn first_16(s: &[u8]) -> Window {
+        Words::window(s, &mut Steps::new())
+    }
+
+    fn first_8(s: &[u8]) -> Window {
+        Words::window_8(s, &mut Steps::new())
+    }
+
+    fn is_window(window: Window, len: u32, zeroes: u32, number: u64) -> bool {
+        window
+            == Window {
+                len,
+                zeroes,
+                number,
+            }
+    }
+
+    #[test]
+    fn windows_of_sixteen_bytes(rt: HostRuntime) {
+        assert!(rt; is_window(first_16(b"000000000000123\0"), 15, 0, 123));
+        assert!(rt; is_window(first_16(b"0000000000000123"), 16, 13, 123));
+        assert!(rt; is_window(first_16(b"12345678/1234567"), 8, 0, 12345678));
+        assert!(rt; is_window(first_16(b"12345678901"), 11, 0, 12345678901));
+        assert!(rt; is_window(first_16(b""), 0, 0, 0));
+    }
+
+    #[test]
+    fn windows_of_eight_bytes(rt: HostRuntime) {
+        assert!(rt; is_window(first_8(b"00000123456789"), 8, 5, 123));
+        assert!(rt; is_window(first_8(b"0001"), 4, 0, 1));
+        assert!(rt; is_window(first_8(b":1234567"), 0, 0, 0));
+    }
+}

@@ -26,14 +26,14 @@ returns c =
     let more_is : more ≡ run_len decimal_table (take 8 rest) = c.check_len_8-more.ensures.len ∙ loaded_run rest behind next c.load_next-next.ensures in
     let all_zeros = zeros decimal_table (take 8 s ++ take 8 rest) in
     let whole : more ≡ 8 → zeros decimal_table (low_bytes 8 first ++ low_bytes 8 next) ≡ all_zeros =
-      λ e. ap₂ (λ xs ys. zeros decimal_table (xs ++ ys))
-        (loaded_bytes s fits first c.requires.loaded (enough_bytes s full))
-        (loaded_bytes rest behind next c.load_next-next.ensures (enough_bytes rest (sym more_is ∙ e))) in
+    λ e. ap₂ (λ xs ys. zeros decimal_table (xs ++ ys))
+    (loaded_bytes s fits first c.requires.loaded (enough_bytes s full))
+    (loaded_bytes rest behind next c.load_next-next.ensures (enough_bytes rest (sym more_is ∙ e))) in
     ap (λ power. let w : Window = record { len = 8 + more; zeroes = c.if-more-eq8.zeroes; number = c.process_8.result * power + c.number_of.result } in w) c.power_of_ten.ensures.value
     ∙ window_joined s more c.if-more-eq8.zeroes c.process_8.result c.number_of.result full more_is
-      (elim c.if-more-eq8.branch [
-        then-more-eq8 w ↦ w.zeroes-is ∙ w.zeroes_of_two-zeroes.ensures ∙ whole w.if-more-eq8.true ∙ sym (told_full more 8 all_zeros w.if-more-eq8.true)
+    (elim c.if-more-eq8.branch [
+      | then-more-eq8 w ↦ w.zeroes-is ∙ w.zeroes_of_two-zeroes.ensures ∙ whole w.if-more-eq8.true ∙ sym (told_full more 8 all_zeros w.if-more-eq8.true)
       | else-more-eq8 w ↦ w.zeroes-is ∙ sym (told_none more 8 all_zeros w.if-more-eq8.false)
-      ])
-      (c.process_8.ensures.sum ∙ loaded_sum s fits first 8 c.requires.loaded (sym c.requires.full))
-      (c.number_of.ensures.sum ∙ loaded_sum rest behind next more c.load_next-next.ensures c.check_len_8-more.ensures.len)
+    ])
+    (c.process_8.ensures.sum ∙ loaded_sum s fits first 8 c.requires.loaded (sym c.requires.full))
+    (c.number_of.ensures.sum ∙ loaded_sum rest behind next more c.load_next-next.ensures c.check_len_8-more.ensures.len)

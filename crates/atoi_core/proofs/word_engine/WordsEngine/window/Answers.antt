@@ -10,6 +10,6 @@ returns-else-len-eq8-clause-window c =
     let first = c.load_8-first.result in
     let len = c.check_len_8-len.result in
     window_short s len c.number_of.result
-      (c.check_len_8-len.ensures.len ∙ loaded_run s fits first c.load_8-first.ensures)
-      c.if-len-eq8.false
-      (c.number_of.ensures.sum ∙ loaded_sum s fits first len c.load_8-first.ensures c.check_len_8-len.ensures.len)
+    (c.check_len_8-len.ensures.len ∙ loaded_run s fits first c.load_8-first.ensures)
+    c.if-len-eq8.false
+    (c.number_of.ensures.sum ∙ loaded_sum s fits first len c.load_8-first.ensures c.check_len_8-len.ensures.len)
