@@ -1,5 +1,5 @@
 -- The fields of a word under a bitwise operator, and of a word that repeats one field.
-use Rattle.std.proofs.Common.{◌≡◌, ℕ, zero, suc, ◌+◌, ◌-◌, ◌*◌, ◌/◌, ◌%◌, ◌^◌, ◌<◌, List, [], ◌∷◌, map, refl, sym, ap, ap₂, ◌∙◌, arith, zero-lt-suc}
+use Rattle.std.proofs.Common.{◌≡◌, ℕ, zero, suc, ◌+◌, ◌*◌, ◌/◌, ◌%◌, ◌^◌, ◌<◌, ◌∷◌, map, refl, ap, ap₂, ◌∙◌, arith}
 use Rattle.std.proofs.lemmas.Nat.{and_mask, and_shr, and_mod, or_shr, or_mod, xor_shr, xor_mod, div-mul-add, mod-mul-add}
 use Rattle.std.specs.Int.Bits.{bit_and, bit_or, bit_xor}
 use Rattle.std.specs.Simd.Lanes.{digits_l, zip2}
@@ -13,6 +13,7 @@ repeated b (suc k) = repeated b k * 256 + b
 module _ (op : ℕ → ℕ → ℕ)
     (high : (a b g : ℕ) → op a b / 2 ^ g ≡ op (a / 2 ^ g) (b / 2 ^ g))
     (low : (a b g : ℕ) → op a b % 2 ^ g ≡ op (a % 2 ^ g) (b % 2 ^ g)) where
+  -- field by field, of two words
   op_fields : (g k a b : ℕ) → digits_l (2 ^ g) k (op a b) ≡ zip2 op (digits_l (2 ^ g) k a) (digits_l (2 ^ g) k b)
   op_fields g zero a b = refl
   op_fields g (suc k) a b =
@@ -27,12 +28,15 @@ module _ (op : ℕ → ℕ → ℕ)
       (ap (digits_l 256 k) (high a (repeated b (suc k)) 8 ∙ ap (op (a / 256)) (div-mul-add (repeated b k) 256 b fits))
       ∙ op_repeated b fits k (a / 256))
 
+-- the bytes of a disjunction of two words
 pub or_bytes : (k a b : ℕ) → digits_l 256 k (bit_or a b) ≡ zip2 bit_or (digits_l 256 k a) (digits_l 256 k b)
 or_bytes = op_fields bit_or or_shr or_mod 8
 
+-- the bytes under a mask that is the same for each
 pub and_repeated : (b : ℕ) → b < 256 → (k a : ℕ) → digits_l 256 k (bit_and a (repeated b k)) ≡ map (λ x. bit_and x b) (digits_l 256 k a)
 and_repeated = op_repeated bit_and and_shr and_mod
 
+-- the bytes, each combined with the same byte
 pub xor_repeated : (b : ℕ) → b < 256 → (k a : ℕ) → digits_l 256 k (bit_xor a (repeated b k)) ≡ map (λ x. bit_xor x b) (digits_l 256 k a)
 xor_repeated = op_repeated bit_xor xor_shr xor_mod
 

@@ -1,5 +1,5 @@
 -- Facts of every byte, by computing all 256 cases.
-use Rattle.std.proofs.Common.{◌≡◌, ℕ, zero, suc, ◌+◌, ◌/◌, ◌%◌, ◌<◌, ◌⊎◌, inl, inr, Bool, true, false, ◌&&◌, not, cond, List, [], ◌∷◌, refl, sym, ap, ap₂, subst, ◌∙◌, arith, mod-lt, zero-lt-suc}
+use Rattle.std.proofs.Common.{◌≡◌, ℕ, zero, suc, ◌+◌, ◌/◌, ◌%◌, ◌<◌, inl, inr, Bool, true, false, ◌&&◌, not, cond, refl, sym, ap, ap₂, ◌∙◌, arith, mod-lt, zero-lt-suc}
 use Rattle.std.proofs.Math.Nat.{eq-or-lt_of_le, le_of_suc-le-suc}
 use Rattle.std.specs.List.{prefix_len}
 use Rattle.std.specs.Simd.Lanes.{digits_l}
@@ -9,10 +9,12 @@ abbrev pub passes_below : (ℕ → Bool) → ℕ → Bool
 passes_below p zero = true
 passes_below p (suc n) = p n && passes_below p n
 
+-- both parts of a conjunction that holds
 both : (a b : Bool) → (a && b) ≡ true → (a ≡ true) × (b ≡ true)
 both true b e = (refl, e)
 both false b e = absurd (cc)
 
+-- what passes below n passes at each number below n
 passes_at : (p : ℕ → Bool) (n : ℕ) → passes_below p n ≡ true → (b : ℕ) → b < n → p b ≡ true
 passes_at p zero e b h = absurd (omega arith)
 passes_at p (suc n) e b h =
@@ -28,6 +30,7 @@ abbrev pub same : Bool → Bool → Bool
 same true b = b
 same false b = not b
 
+-- and then they are equal
 pub same_answer : (a b : Bool) → same a b ≡ true → a ≡ b
 same_answer true b e = sym e
 same_answer false true e = absurd (cc)

@@ -1,5 +1,5 @@
 -- Words made of the first bytes of a slice.
-use Rattle.std.proofs.Common.{◌≡◌, ℕ, zero, suc, ◌+◌, ◌-◌, ◌*◌, ◌/◌, ◌%◌, ◌^◌, ◌<◌, ◌≤◌, List, [], ◌∷◌, length, take, drop, get_or, take-take, refl, sym, ap, ◌∙◌, arith}
+use Rattle.std.proofs.Common.{◌≡◌, ℕ, ◌+◌, ◌-◌, ◌*◌, ◌/◌, ◌%◌, ◌^◌, ◌<◌, ◌≤◌, List, [], ◌∷◌, length, take, drop, get_or, take-take, ap, ◌∙◌, arith}
 use Rattle.std.specs.Int.{from_le_bytes, w32, w64}
 use Rattle.atoi_core.specs.Words.{word_of}
 
@@ -16,6 +16,7 @@ word_from_bytes (a ∷ b ∷ c ∷ d ∷ e ∷ f ∷ []) = omega arith
 word_from_bytes (a ∷ b ∷ c ∷ d ∷ e ∷ f ∷ g ∷ []) = omega arith
 word_from_bytes (a ∷ b ∷ c ∷ d ∷ e ∷ f ∷ g ∷ h ∷ rest) = omega arith
 
+-- the same of the first eight bytes in an array
 pub word_of_first : (s bytes : List ℕ) → bytes ≡ take 8 s → from_le_bytes w64 bytes ≡ word_of (take 8 s)
 word_of_first s bytes e = ap (from_le_bytes w64) e ∙ word_from_bytes (take 8 s) ∙ ap word_of (take-take 8 8 s (omega arith))
 

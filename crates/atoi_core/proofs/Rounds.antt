@@ -1,7 +1,7 @@
 -- One round of a sum by places: a mask, a product by 1 + t * 2 ^ (h + h), its wrap, and a shift.
 use Rattle.std.proofs.Common.{◌≡◌, ℕ, zero, suc, ◌+◌, ◌-◌, ◌*◌, ◌/◌, ◌%◌, ◌^◌, ◌<◌, ◌≤◌, List, [], ◌∷◌, length, refl, sym, ap, ap₂, ◌∙◌, arith}
-use Rattle.std.proofs.Math.Nat.{mod-lt, add-mul-div_right, div-div-eq-div-mul, mul_comm, mod-mod, zero-div, zero-mod, suc-mul, mul-le-mul_right, mul_assoc, pow-zero, pow-suc}
-use Rattle.std.proofs.Math.Pow.{mod-mod-pow, pow-lt, ones_lt, pow_mono}
+use Rattle.std.proofs.Math.Nat.{mod-lt, add-mul-div_right, div-div-eq-div-mul, mul_comm, zero-mod, suc-mul, mul-le-mul_right, mul_assoc, pow-zero, pow-suc}
+use Rattle.std.proofs.Math.Pow.{mod-mod-pow, ones_lt, pow_mono}
 use Rattle.std.proofs.lemmas.Nat.{pow_pos, pow-add, mod-pow-add, field_of, and_mask, and_block, shr_split, div-mul-add, mod-mul-add}
 use Rattle.std.specs.Int.Bits.{bit_and, and_zero_r}
 
@@ -15,6 +15,7 @@ abbrev pub masks : ℕ → ℕ → ℕ
 masks h zero = 0
 masks h (suc k) = masks h k * 2 ^ (h + h) + (2 ^ h - 1)
 
+-- twice m, in two steps for each of m, as pairs are taken
 abbrev pub twice : ℕ → ℕ
 twice zero = zero
 twice (suc m) = suc (suc (twice m))
@@ -25,6 +26,7 @@ pairs t [] = []
 pairs t (x ∷ []) = x ∷ []
 pairs t (x ∷ y ∷ rest) = (y + x * t) ∷ pairs t rest
 
+-- the bits of half a field fit a field
 half_below : (h : ℕ) → 2 ^ h - 1 < 2 ^ (h + h)
 half_below h = let le : 2 ^ h ≤ 2 ^ (h + h) = pow_mono (omega arith) in omega (arith, ones_lt h)
 
@@ -52,6 +54,7 @@ masked_low h (suc k) word =
 pub spread : ℕ → ℕ → ℕ → ℕ
 spread b t word = word / b + word * t
 
+-- the product and the shift by one field are that sum
 product_shifted : (b t word : ℕ) → 0 < b → word * (1 + t * b) / b ≡ spread b t word
 unfolding spread
 product_shifted b t word pos =
@@ -73,12 +76,14 @@ spread_pair b t u f g below =
 -- what the fields of a spread word show: the lowest half is the first pair's sum, and above the pair
 -- stands the rest, spread
 module _ (h t : ℕ) (room : (2 ^ h - 1) * (1 + t) < 2 ^ (h + h)) where
+  -- two digits in base t fit a field
   two_digits : (f g : ℕ) → f < 2 ^ h → g < 2 ^ h → g + f * t < 2 ^ (h + h)
   two_digits f g f_below g_below =
       let g_most : g ≤ 2 ^ h - 1 = omega arith in
       let f_most : f * t ≤ (2 ^ h - 1) * t = mul-le-mul_right t (omega arith) in
       omega arith
 
+  -- the lower halves of the fields of pairs, once the masked word is spread, are the pairs' sums
   spread_masked : (m word : ℕ) → lows (h + h) m (spread (2 ^ (h + h)) t (bit_and word (masks h (twice m)))) ≡ pairs t (lows h (twice m) word)
   spread_masked zero word = refl
   spread_masked (suc m) word =
@@ -139,14 +144,17 @@ abbrev pub number_in : ℕ → List ℕ → ℕ
 number_in t [] = 0
 number_in t (digit ∷ digits) = digit * t ^ length digits + number_in t digits
 
+-- as many halves as fields
 pub length-lows : (h k word : ℕ) → length (lows h k word) ≡ k
 length-lows h zero word = refl
 length-lows h (suc k) word = ap suc (length-lows h k (word / 2 ^ (h + h)))
 
+-- half as many pairs as digits
 length-pairs : (h t m word : ℕ) → length (pairs t (lows h (twice m) word)) ≡ m
 length-pairs h t zero word = refl
 length-pairs h t (suc m) word = ap suc (length-pairs h t m (word / 2 ^ (h + h) / 2 ^ (h + h)))
 
+-- a power of a square is the power of twice the exponent
 power_of_square : (t m : ℕ) → (t * t) ^ m ≡ t ^ twice m
 power_of_square t zero = pow-zero (t * t) ∙ sym (pow-zero t)
 power_of_square t (suc m) =

@@ -1,5 +1,5 @@
 -- The sums by places of eight and of sixteen bytes: three rounds, and four.
-use Rattle.std.proofs.Common.{◌≡◌, ℕ, ◌+◌, ◌-◌, ◌*◌, ◌/◌, ◌%◌, ◌^◌, ◌<◌, ◌≤◌, suc, List, [], ◌∷◌, length, refl, sym, ap, ◌∙◌, arith}
+use Rattle.std.proofs.Common.{◌≡◌, ℕ, ◌+◌, ◌-◌, ◌*◌, ◌/◌, ◌%◌, ◌^◌, ◌<◌, ◌≤◌, suc, List, [], ◌∷◌, length, sym, ◌∙◌, arith}
 use Rattle.std.proofs.Common.{lit<}
 use Rattle.std.proofs.Math.Nat.{mul-le-mul_right, pow-suc, pow-le-pow_right}
 use Rattle.std.specs.Simd.Lanes.{digits_l}
@@ -12,6 +12,7 @@ use Rattle.atoi_core.proofs.Fields.{shifted_sum, length-digits}
 one_field_8 : (word : ℕ) → word < 2 ^ 32 → number_in 100000000 (lows 32 1 word) ≡ word
 one_field_8 word below = omega arith
 
+-- and so is a sum of sixteen
 one_field_16 : (word : ℕ) → word < 2 ^ 64 → number_in 10000000000000000 (lows 64 1 word) ≡ word
 one_field_16 word below = omega arith
 
@@ -58,6 +59,7 @@ places_most (byte ∷ bytes) =
     let power : 10 ^ suc (length bytes) ≡ 10 ^ length bytes * 10 = pow-suc 10 (length bytes) in
     omega (arith, places_most bytes)
 
+-- so the sum of the lowest bytes is bounded by how many they may be
 sum_most : (count len val : ℕ) → len ≤ count → 9 * low_value (low_bytes len val) + 15 ≤ 15 * 10 ^ count
 unfolding low_bytes
 sum_most count len val most =
@@ -66,8 +68,10 @@ sum_most count len val most =
     let power : 10 ^ length (digits_l 256 len val) ≤ 10 ^ count = pow-le-pow_right (lit< tt) few in
     omega (arith, places_most (digits_l 256 len val))
 
+-- the greatest sum of eight bytes, and of sixteen: each half is 15
 pub most_8 : (val len : ℕ) → len ≤ 8 → (result : ℕ) → result ≡ low_value (low_bytes len val) → result ≤ 166666665
 most_8 val len most result is = omega (arith, sum_most 8 len val most)
 
+-- the same of sixteen
 pub most_16 : (val len : ℕ) → len ≤ 16 → (result : ℕ) → result ≡ low_value (low_bytes len val) → result ≤ 16666666666666665
 most_16 val len most result is = omega (arith, sum_most 16 len val most)

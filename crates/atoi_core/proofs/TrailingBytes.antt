@@ -1,5 +1,5 @@
 -- Trailing zero bits, and the bytes of 0 that they make.
-use Rattle.std.proofs.Common.{◌≡◌, ℕ, zero, suc, ◌+◌, ◌-◌, ◌*◌, ◌/◌, ◌%◌, ◌^◌, ◌<◌, ◌≤◌, ◌⊎◌, inl, inr, Bool, true, false, cond, ◌==◌, refl, sym, ap, ap₂, ◌∙◌, arith, mod-lt, zero-lt-suc}
+use Rattle.std.proofs.Common.{◌≡◌, ℕ, zero, suc, ◌+◌, ◌*◌, ◌/◌, ◌%◌, ◌^◌, ◌<◌, inl, inr, cond, ◌==◌, refl, sym, ap, ap₂, ◌∙◌, arith, mod-lt}
 use Rattle.std.proofs.Math.Nat.{div-one, zero-add, suc-add, suc-mul, add_comm, div-div-eq-div-mul, pow-suc, mul_comm, eq-zero-or-pos}
 use Rattle.std.proofs.Math.Numerals.{add-one}
 use Rattle.std.proofs.lemmas.Nat.{mod-pow-add, pow_pos}
@@ -12,6 +12,7 @@ use Rattle.std.specs.Int.Count.{count_trailing_zeros, under}
 lowest_bit : (a n : ℕ) → n % 2 ^ suc a ≡ (n / 2 % 2 ^ a) * 2 + n % 2
 lowest_bit a n = ap (λ e. n % 2 ^ e) (sym (add-one a)) ∙ mod-pow-add n a 1
 
+-- what stands above the lowest bit, above a bits more
 halves : (a n : ℕ) → n / 2 / 2 ^ a ≡ n / 2 ^ suc a
 halves a n = div-div-eq-div-mul n 2 (2 ^ a) ∙ ap (λ m. n / m) (mul_comm 2 (2 ^ a) ∙ sym (pow-suc 2 a))
 

@@ -1,5 +1,5 @@
 -- How many lowest bytes of a word are digits, and how many are zeros, as the kernels count them.
-use Rattle.std.proofs.Common.{◌≡◌, ℕ, zero, suc, ◌+◌, ◌-◌, ◌*◌, ◌/◌, ◌%◌, ◌^◌, ◌<◌, Bool, true, false, cond, ◌==◌, nat_lt, not, ◌||◌, List, [], ◌∷◌, map, refl, sym, ap, ap₂, ◌∙◌, arith, mod-lt, zero-lt-suc}
+use Rattle.std.proofs.Common.{◌≡◌, ℕ, zero, suc, ◌+◌, ◌*◌, ◌/◌, ◌%◌, ◌^◌, ◌<◌, Bool, true, false, cond, ◌==◌, not, ◌||◌, List, [], ◌∷◌, map, refl, ap, ap₂, ◌∙◌, arith, mod-lt, zero-lt-suc}
 use Rattle.std.proofs.Math.Dec.{lit<, ltb}
 use Rattle.std.proofs.lemmas.Bool.{ltb-true}
 use Rattle.std.specs.List.{prefix_len}
@@ -14,12 +14,14 @@ use Rattle.atoi_core.proofs.TrailingBytes.{trailing_bytes}
 use Rattle.atoi_core.proofs.Bitwise.{repeated, or_bytes, and_repeated, xor_repeated, upper_halves}
 use Rattle.atoi_core.proofs.Fields.{digits_cut}
 
+-- the front of a mapped list that passes a test is the front that passes the test of the map
 prefix_len-map : (p : ℕ → Bool) (f : ℕ → ℕ) (xs : List ℕ) → prefix_len p (map f xs) ≡ prefix_len (λ x. p (f x)) xs
 prefix_len-map p f [] = refl
 prefix_len-map p f (x ∷ xs) = ap (λ n. cond (p (f x)) (1 + n) 0) (prefix_len-map p f xs)
 
 -- ---- zeros
 
+-- a byte combined with 48 is 0 exactly where it is the zero
 zero_byte : (b : ℕ) → b < 256 → (bit_xor b 48 == 0) ≡ is_zero decimal_table b
 zero_byte b h = same_answer (bit_xor b 48 == 0) (is_zero decimal_table b) (of_each_byte (λ x. same (bit_xor x 48 == 0) (is_zero decimal_table x)) refl b h)
 
@@ -38,6 +40,7 @@ zeros_counted k word =
 abbrev mark : ℕ → ℕ → ℕ
 mark raised byte = bit_xor (bit_or (raised / 16) (bit_and byte 240)) 51
 
+-- the mark is 0 exactly for a digit
 digit_byte : (b : ℕ) → b < 256 → (mark ((b + 6) % 256) b == 0) ≡ is_digit decimal_table b
 digit_byte b h =
     same_answer (mark ((b + 6) % 256) b == 0) (is_digit decimal_table b)
@@ -47,9 +50,11 @@ digit_byte b h =
 digit_low : (b : ℕ) → b < 256 → (not (is_digit decimal_table b) || ltb b 250) ≡ true
 digit_low = of_each_byte (λ x. not (is_digit decimal_table x) || ltb x 250) refl
 
+-- the same as an order
 digit_below : (b : ℕ) → b < 256 → is_digit decimal_table b ≡ true → b < 250
 digit_below b h e = ltb-true b 250 (rw e at (digit_low b h))
 
+-- two runs behind one test have to agree only where the test passes
 run_goes_on : (t : Bool) (m n : ℕ) → (t ≡ true → m ≡ n) → cond t (1 + m) 0 ≡ cond t (1 + n) 0
 run_goes_on true m n e = ap (λ x. 1 + x) (e refl)
 run_goes_on false m n e = refl
@@ -72,6 +77,7 @@ carried_run (suc k) word =
     ∙ run_goes_on (is_digit decimal_table byte) (run (raised / 256)) (prefix_len (is_digit decimal_table) (digits_l 256 k (word / 256)))
     (λ e. ap run (carries_nothing (digit_below byte is_byte e)) ∙ carried_run k (word / 256))
 
+-- the digits, by the trailing bytes of 0 among the marks
 pub digits_counted : (k word : ℕ)
     → count_trailing_zeros (k * 8) (bit_xor (bit_or (bit_and ((word + repeated 6 k) % 2 ^ (k * 8) / 16) (repeated 15 k)) (bit_and word (repeated 240 k))) (repeated 51 k)) / 8
     ≡ run_len decimal_table (low_bytes k word)

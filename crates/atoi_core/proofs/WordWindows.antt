@@ -1,7 +1,7 @@
 -- What the word of a slice's first bytes tells of these bytes.
-use Rattle.std.proofs.Common.{◌≡◌, ℕ, zero, suc, ◌+◌, ◌-◌, ◌*◌, ◌/◌, ◌%◌, ◌^◌, ◌<◌, ◌≤◌, ◌≢◌, min, Bool, true, false, cond, ◌==◌, not, ◌||◌, ◌⊎◌, inl, inr, List, [], ◌∷◌, length, take, drop, get_or, ◌++◌, mod-lt, zero-lt-suc, if◌then◌else◌, refl, sym, ap, ap₂, ◌∙◌, arith}
+use Rattle.std.proofs.Common.{◌≡◌, ℕ, zero, suc, ◌+◌, ◌*◌, ◌/◌, ◌%◌, ◌^◌, ◌<◌, ◌≤◌, ◌≢◌, min, Bool, true, false, cond, ◌==◌, not, ◌||◌, inl, inr, List, [], ◌∷◌, length, take, drop, get_or, ◌++◌, mod-lt, zero-lt-suc, if◌then◌else◌, refl, sym, ap, ap₂, ◌∙◌, arith}
 use Rattle.std.proofs.lemmas.Bool.{eqb-true, eq-eqb, ne_eqb, cases_eq}
-use Rattle.std.proofs.lemmas.List.{length-take, length-take-le, get_or-drop, take-take, take_rest}
+use Rattle.std.proofs.lemmas.List.{length-take, length-take-le, get_or-drop, take-take}
 use Rattle.std.proofs.lemmas.List.Sums.{prefix_len-le-length}
 use Rattle.std.proofs.lemmas.List.Folds.{prefix_len-append}
 use Rattle.std.proofs.lemmas.Nat.{and_mask}
@@ -9,16 +9,13 @@ use Rattle.std.proofs.Math.Seq.{take-add}
 use Rattle.std.specs.Int.Bits.{bit_and}
 use Rattle.std.specs.List.{prefix_len}
 use Rattle.std.specs.Simd.Lanes.{digits_l, number_l}
-use Rattle.atoi_core.specs.Digit.{decimal_table, IsBelowTen, is_digit, is_zero, worth}
-use Rattle.atoi_core.specs.Run.{run_len, run, zeros, value}
+use Rattle.atoi_core.specs.Digit.{decimal_table, is_digit, is_zero, worth}
+use Rattle.atoi_core.specs.Run.{run_len, zeros, value}
 use Rattle.atoi_core.specs.Window.{window_of}
 use Rattle.atoi_core.specs.declared.window.Window.{Window}
 use Rattle.atoi_core.specs.Words.{low_bytes, word_of, low_value}
-use Rattle.std.proofs.Math.Dec.{lit<}
-use Rattle.std.proofs.Math.Nat.{pow-le-pow_right}
-use Rattle.std.proofs.lemmas.Bool.Decides.{nat_tests}
 use Rattle.atoi_core.proofs.RunLemmas.{prefix_len-take, prefix_len-drop}
-use Rattle.atoi_core.proofs.ValueLemmas.{value-below, value-take-add}
+use Rattle.atoi_core.proofs.ValueLemmas.{value-take-add}
 use Rattle.atoi_core.proofs.ByteCases.{of_each_byte, same, same_answer}
 use Rattle.atoi_core.proofs.Fields.{length-digits}
 
@@ -50,6 +47,7 @@ loaded_whole (suc k) (b ∷ bs) enough fits =
 digit_half : (b : ℕ) → b < 256 → (not (is_digit decimal_table b) || (b % 16 == worth decimal_table b)) ≡ true
 digit_half = of_each_byte (λ x. not (is_digit decimal_table x) || (x % 16 == worth decimal_table x)) refl
 
+-- the same as an equation
 half_is_worth : (b : ℕ) → b < 256 → is_digit decimal_table b ≡ true → b % 16 ≡ worth decimal_table b
 half_is_worth b h e = eqb-true (b % 16) (worth decimal_table b) (rw e at (digit_half b h))
 
@@ -84,11 +82,13 @@ pub loaded_run : (s : List ℕ) → ((i : ℕ) → get_or s i 0 < 256) → (word
 unfolding low_bytes word_of
 loaded_run s fits word is = ap (λ w. run_len decimal_table (low_bytes 8 w)) is ∙ loaded_front (is_digit decimal_table) refl 8 s fits
 
+-- and as many zeros
 pub loaded_zeros : (s : List ℕ) → ((i : ℕ) → get_or s i 0 < 256) → (word : ℕ) → word ≡ word_of (take 8 s)
     → zeros decimal_table (low_bytes 8 word) ≡ zeros decimal_table (take 8 s)
 unfolding low_bytes word_of
 loaded_zeros s fits word is = ap (λ w. zeros decimal_table (low_bytes 8 w)) is ∙ loaded_front (is_zero decimal_table) refl 8 s fits
 
+-- the bytes of the loaded word, where eight are there
 pub loaded_bytes : (s : List ℕ) → ((i : ℕ) → get_or s i 0 < 256) → (word : ℕ) → word ≡ word_of (take 8 s) → 8 ≤ length s
     → low_bytes 8 word ≡ take 8 s
 unfolding low_bytes word_of
@@ -112,6 +112,7 @@ pub sum_of_none : (word len : ℕ) → len ≡ 0 → 0 ≡ low_value (low_bytes 
 unfolding low_bytes
 sum_of_none word len e = ap (λ l. low_value (low_bytes l word)) (sym e)
 
+-- the only zero is the byte 48
 is_zero_byte : (b : ℕ) → b < 256 → is_zero decimal_table b ≡ (b == 48)
 is_zero_byte b h = same_answer (is_zero decimal_table b) (b == 48) (of_each_byte (λ x. same (is_zero decimal_table x) (x == 48)) refl b h)
 
@@ -133,6 +134,7 @@ zeros_when_all first next e =
     sym (prefix_len-append (is_zero decimal_table) (digits_l 256 8 first) (digits_l 256 8 next)
     ∙ ap (λ t. cond t (8 + zeros decimal_table (digits_l 256 8 next)) (zeros decimal_table (digits_l 256 8 first))) (eq-eqb (zeros decimal_table (digits_l 256 8 first)) 8 e))
 
+-- and stop in the first where it holds another byte
 pub zeros_when_some : (first next : ℕ) → zeros decimal_table (low_bytes 8 first) ≢ 8
     → zeros decimal_table (low_bytes 8 first) ≡ zeros decimal_table (low_bytes 8 first ++ low_bytes 8 next)
 unfolding low_bytes
@@ -142,6 +144,7 @@ zeros_when_some first next ne =
 
 -- ---- windows
 
+-- eight more behind eight are sixteen
 same_test : (more : ℕ) → (more == 8) ≡ (8 + more == 16)
 same_test more =
     elim (cases_eq more 8) [
@@ -153,6 +156,7 @@ same_test more =
 pub told_full : (n c z : ℕ) → n ≡ c → (if n == c then z else 0) ≡ z
 told_full n c z e = ap (λ t. cond t z 0) (eq-eqb n c e)
 
+-- and none of another
 pub told_none : (n c z : ℕ) → n ≢ c → (if n == c then z else 0) ≡ 0
 told_none n c z ne = ap (λ t. cond t z 0) (ne_eqb n c ne)
 
