@@ -1,3 +1,5 @@
 pub mod RunLemmas
 pub mod ValueLemmas
 pub mod WindowLemmas
+pub mod SkipLemmas
+pub mod WideLemmas

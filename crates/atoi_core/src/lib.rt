@@ -4,10 +4,13 @@
 
 mod engine;
 mod error;
+mod join;
+mod narrow;
 mod steps;
 mod window;
 
 pub use crate::engine::Engine;
 pub use crate::error::AtoiSimdError;
+pub use crate::narrow::narrow_prefix;
 pub use crate::steps::Steps;
 pub use crate::window::Window;
