@@ -3,3 +3,4 @@ pub mod ValueLemmas
 pub mod WindowLemmas
 pub mod SkipLemmas
 pub mod WideLemmas
+pub mod NarrowLemmas

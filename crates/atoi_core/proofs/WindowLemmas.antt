@@ -26,6 +26,8 @@ pub record Reads (t : Table) (c : ℕ) (s : List ℕ) (m x : ℕ) : Type 0 where
 -- what a window w of c bytes tells of a slice s
 pub record Shows (t : Table) (c : ℕ) (s : List ℕ) (w : Window) : Type 0 where
   pub reads : Reads t c s w.len w.number
+  pub len_is : w.len ≡ min c (run_len t s)
+  pub number_is : w.number ≡ value t (take w.len s)
   -- behind a full one the run goes on, and its number is joined
   pub goes_on : w.len ≡ c → run_len t s ≡ c + run_len t (drop c s)
   pub joins : w.len ≡ c → value t (run t s) ≡ w.number * 10 ^ run_len t (drop c s) + value t (run t (drop c s))
@@ -67,6 +69,8 @@ shows_of t below c s =
     } in
     record {
       reads = reads;
+      len_is = len;
+      number_is = front;
       goes_on = on;
       joins = λ h.
         let e : value t (take c s) ≡ number = ap (λ (m : ℕ). value t (take m s)) (sym h) ∙ sym front in
