@@ -1,6 +1,7 @@
 -- The loop that skips zeros by whole windows: how far it comes, and how many windows it loads.
-use Rattle.std.proofs.Common.{◌≡◌, ℕ, ◌+◌, ◌-◌, ◌*◌, ◌/◌, ◌^◌, ◌<◌, ◌≤◌, ◌⊎◌, min, Bool, true, false, List, length, take, drop, refl, sym, ap, ◌∙◌, inl, inr, ⊎_elim, arith}
-use Rattle.std.proofs.lemmas.Bool.{cases_lt}
+use Rattle.std.proofs.Common.{◌≡◌, ℕ, ◌+◌, ◌-◌, ◌*◌, ◌/◌, ◌^◌, ◌<◌, ◌≤◌, ◌⊎◌, min, Bool, true, false, List, length, take, drop, IsTrue, refl, sym, ap, ◌∙◌, inl, inr, ⊎_elim, arith}
+use Rattle.std.proofs.lemmas.Bool.{cases_lt, false≢true}
+use Rattle.std.proofs.lemmas.List.{take_rest}
 use Rattle.std.proofs.lemmas.List.Sums.{prefix_len-le-length}
 use Rattle.atoi_core.specs.Digit.{Table, IsBelowTen, is_digit, is_zero}
 use Rattle.atoi_core.specs.Run.{run_len, run, zeros, value}
@@ -20,6 +21,19 @@ pub record Skipping (t : Table) (skip : Bool) (s : List ℕ) (at before now : �
   pub least : at + 16 * before ≤ 16 * now
   pub place : (16 * now ≡ 16 * before + at) ⊎ ((at ≡ zeros t s) × (zeros t s / 16 < run_len t s / 16))
 
+-- a window of the rest of a slice from a place on
+pub shows_rest : (t : Table) → IsBelowTen t → (c : ℕ) (s : List ℕ) (at : ℕ) (w : Window) →
+    w ≡ window_of t c (take (length s - at) (drop at s)) → Shows t c (drop at s) w
+shows_rest t below c s at w e = shows t below c (drop at s) w (e ∙ ap (window_of t c) (take_rest s at))
+
+-- a window k bytes behind such a place
+pub shows_behind : (t : Table) → IsBelowTen t → (c k : ℕ) (s : List ℕ) (at : ℕ) (w : Window) →
+    w ≡ window_of t c (take (length (take (length s - at) (drop at s)) - k) (drop k (take (length s - at) (drop at s)))) →
+    Shows t c (drop k (drop at s)) w
+shows_behind t below c k s at w e =
+    shows_rest t below c (drop at s) k w
+    (e ∙ ap (λ (r : List ℕ). window_of t c (take (length r - k) (drop k r))) (take_rest s at))
+
 -- nothing is skipped at first
 pub Skipping-none : (t : Table) (skip : Bool) (s : List ℕ) (n : ℕ) → Skipping t skip s 0 n n
 Skipping-none t skip s n = record {
@@ -32,11 +46,11 @@ Skipping-none t skip s n = record {
 }
 
 -- a window that tells zeros is skipped by them
-pub Skipping-more : (t : Table) → IsBelowTen t → (skip : Bool) (s : List ℕ) (at before now : ℕ) (w : Window) →
-    Skipping t skip s at before now → w ≡ window_of t 16 (drop at s) → skip ≡ true → 0 < w.zeroes →
-    Skipping t skip s (at + w.zeroes) before (now + 1)
-Skipping-more t below skip s at before now w so e on some =
-    let tell : Shows t 16 (drop at s) w = shows t below 16 (drop at s) w e in
+pub Skipping-more : (t : Table) → IsBelowTen t → (skip : Bool) (s : List ℕ) (at before now next : ℕ) (w : Window) →
+    Skipping t skip s at before now → w ≡ window_of t 16 (take (length s - at) (drop at s)) → next ≡ now + 1 →
+    skip ≡ true → 0 < w.zeroes → Skipping t skip s (at + w.zeroes) before next
+Skipping-more t below skip s at before now next w so e one on some =
+    let tell : Shows t 16 (drop at s) w = shows_rest t below 16 s at w e in
     let zeros_are : zeros t s ≡ at + zeros t (drop at s) = prefix_len-drop (is_zero t) at s so.bounded in
     let run_is : run_len t s ≡ at + run_len t (drop at s) = prefix_len-drop (is_digit t) at s (omega (arith, so.bounded, zeros-le t s)) in
     let run_most : run_len t s ≤ length s = prefix_len-le-length (is_digit t) s in
@@ -49,7 +63,7 @@ Skipping-more t below skip s at before now w so e on some =
     record {
       bounded = omega arith;
       within = omega arith;
-      off = λ h. cc;
+      off = λ h. absurd (false≢true (sym h ∙ on));
       most = omega arith;
       least = omega arith;
       place = elim (cases_lt w.zeroes 16)
@@ -73,11 +87,13 @@ pub record Skipped (t : Table) (skip : Bool) (s : List ℕ) (at before now : ℕ
   pub least : skip ≡ true → zeros t s + 16 * before ≤ 16 * now
   pub place : skip ≡ true → (at ≡ 16 * (zeros t s / 16)) ⊎ ((at ≡ zeros t s) × (zeros t s / 16 < run_len t s / 16))
 
-pub Skipped-end : (t : Table) → IsBelowTen t → (skip : Bool) (s : List ℕ) (at before now : ℕ) (w : Window) →
-    Skipping t skip s at before now → w ≡ window_of t 16 (drop at s) → (skip ≡ true → w.zeroes ≡ 0) →
-    Skipped t skip s at before (now + 1) w
-Skipped-end t below skip s at before now w so e last =
-    let tell : Shows t 16 (drop at s) w = shows t below 16 (drop at s) w e in
+pub Skipped-end : (t : Table) → IsBelowTen t → (skip : Bool) (s : List ℕ) (at before now next : ℕ) (w : Window) →
+    Skipping t skip s at before now → w ≡ window_of t 16 (take (length s - at) (drop at s)) → next ≡ now + 1 →
+    (skip ≡ false) ⊎ ((skip ≡ true) × (w.zeroes ≡ 0)) → Skipped t skip s at before next w
+Skipped-end t below skip s at before now next w so e one stops =
+    let last : skip ≡ true → w.zeroes ≡ 0 =
+        λ h. elim stops [ inl k ↦ absurd (false≢true (sym k ∙ h)) | inr k ↦ k.1 ] in
+    let tell : Shows t 16 (drop at s) w = shows_rest t below 16 s at w e in
     let zeros_are : zeros t s ≡ at + zeros t (drop at s) = prefix_len-drop (is_zero t) at s so.bounded in
     let run_is : run_len t s ≡ at + run_len t (drop at s) = prefix_len-drop (is_digit t) at s (omega (arith, so.bounded, zeros-le t s)) in
     let zero_most : zeros t (drop at s) ≤ run_len t (drop at s) = zeros-le t (drop at s) in
@@ -103,3 +119,13 @@ Skipped-end t below skip s at before now w so e last =
           [ inl m ↦ inl (omega (arith, short m))
           | inr m ↦ inl (omega (arith, full h (omega (arith, tell.reads.within)))) ]) ];
     }
+
+-- that place is within the slice
+pub Skipping-nearer : (t : Table) (skip : Bool) (s : List ℕ) (at before now k : ℕ) → Skipping t skip s (at + k) before now →
+    0 < k → length s - (at + k) < length s - at
+Skipping-nearer t skip s at before now k so some = omega (arith, so.within)
+
+-- a call that skips has loaded a window for each 32 zeros at least, however many it loads after these
+pub Skipped-loads : (t : Table) (skip : Bool) (s : List ℕ) (at before now last : ℕ) (w : Window) →
+    Skipped t skip s at before now w → now ≤ last → IsTrue skip → before + zeros t s / 32 ≤ last
+Skipped-loads t skip s at before now last w so more on = omega (arith, so.least on)

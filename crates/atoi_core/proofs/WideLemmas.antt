@@ -1,7 +1,7 @@
 -- The answers of a wide class, from what was read behind the zeros that are skipped.
 use Rattle.std.proofs.Common.{◌≡◌, ℕ, ◌+◌, ◌-◌, ◌*◌, ◌/◌, ◌^◌, ◌<◌, ◌≤◌, ◌==◌, ◌⊎◌, min, Bool, true, false, nat_lt, List, length, take, drop, Option, Some, None, Result, Ok, Err, refl, sym, ap, ◌∙◌, lit<, ne_eqb, inl, inr, arith, if◌then◌else◌}
 use Rattle.std.proofs.Math.Nat.{pow-le-pow_right}
-use Rattle.std.proofs.lemmas.Bool.{cases_lt, eq-eqb, eqb-true, eqb-false, lt-ltb, le-ltb}
+use Rattle.std.proofs.lemmas.Bool.{cases_lt, eq-eqb, eqb-true, eqb-false, lt-ltb, le-ltb, ltb-true, ltb-false}
 use Rattle.atoi_core.specs.Digit.{Table}
 use Rattle.atoi_core.specs.Run.{run_len, run, zeros, value}
 use Rattle.atoi_core.specs.Refusal.{Refusal, empty, size, overflow}
@@ -64,6 +64,20 @@ not_refused : (told bound limit : ℕ) (skip : Bool) (n z v : ℕ) (s : List ℕ
 unfolding wide_refusal
 not_refused told bound limit skip n z v s some fits within =
     rw (ne_eqb n 0 (omega arith), le-ltb limit (counted skip n z) fits, le-ltb bound v within) refl
+
+-- a number that is there where it is within the bound
+pub some_within : (bound x n : ℕ) → Some n ≡ (if nat_lt bound x then None else Some x) → (n ≡ x) × (x ≤ bound)
+some_within bound x n =
+    (elim (nat_lt bound x) as (λ v. nat_lt bound x ≡ v → Some n ≡ (if v then None else Some x) → (n ≡ x) × (x ≤ bound))
+    [ true ↦ λ e h. cc
+    | false ↦ λ e h. (cc, ltb-false bound x e) ]) refl
+
+-- and is not there where it is above
+pub none_above : (bound x : ℕ) → None ≡ (if nat_lt bound x then None else Some x) → bound < x
+none_above bound x =
+    (elim (nat_lt bound x) as (λ v. nat_lt bound x ≡ v → None ≡ (if v then None else Some x) → bound < x)
+    [ true ↦ λ e h. ltb-true bound x e
+    | false ↦ λ e h. cc ]) refl
 
 -- fewer digits than the bound has write no more than it
 pub below_bound : (limit bound m x : ℕ) → HasDigits limit bound → m < limit → x < 10 ^ m → x < bound

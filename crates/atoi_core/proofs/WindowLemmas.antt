@@ -3,7 +3,7 @@ use Rattle.std.proofs.Common.{◌≡◌, ℕ, zero, suc, ◌+◌, ◌-◌, ◌*�
 use Rattle.std.proofs.Math.Nat.{mul-le-mul_right}
 use Rattle.std.proofs.lemmas.Nat.{pow-add}
 use Rattle.std.proofs.lemmas.Bool.{eqb-true, eqb-false, eq-eqb}
-use Rattle.std.proofs.lemmas.List.{take-take, length-take-le, length-drop}
+use Rattle.std.proofs.lemmas.List.{drop-drop, take-take, length-take-le, length-drop}
 use Rattle.std.proofs.lemmas.List.Sums.{prefix_len-le-length}
 use Rattle.atoi_core.specs.Digit.{Table, IsBelowTen, is_digit, is_zero}
 use Rattle.atoi_core.specs.Run.{run_len, run, zeros, value}
@@ -120,3 +120,15 @@ Reads-widen t c d s m x reads ends more = record {
   value_is = λ _. reads.value_is ends;
   below = reads.below;
 }
+
+-- two full windows, and what was read behind them
+pub Reads-join_two : (t : Table) (s : List ℕ) (front middle : Window) (m x : ℕ) →
+    Shows t 16 s front → front.len ≡ 16 → Shows t 16 (drop 16 s) middle → middle.len ≡ 16 → Reads t 8 (drop 32 s) m x →
+    Reads t 40 s (32 + m) (front.number * 10 ^ (16 + m) + (middle.number * 10 ^ m + x))
+Reads-join_two t s front middle m x first full second more back =
+    let P : List ℕ → Type 0 = λ r. Reads t 8 r m x in
+    let rest : Reads t 8 (drop 16 (drop 16 s)) m x = subst P (sym (drop-drop 16 16 s)) back in
+    let inner = Reads-join t 16 8 (drop 16 s) middle m x second more rest in
+    let Q : ℕ → Type 0 = λ k. Reads t 40 s k (front.number * 10 ^ (16 + m) + (middle.number * 10 ^ m + x)) in
+    let same : 16 + (16 + m) ≡ 32 + m = omega arith in
+    subst Q same (Reads-join t 16 24 s front (16 + m) (middle.number * 10 ^ m + x) first full inner)

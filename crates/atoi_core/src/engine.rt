@@ -8,7 +8,7 @@ ghost use Rattle.atoi_core.specs.Refusal.{answer_of};
 ghost use Rattle.atoi_core.specs.Window.{window_of};
 
 use crate::error::AtoiSimdError;
-use crate::join::{POWERS, up_to_64};
+use crate::join::{power_of_ten, up_to_64};
 use crate::steps::Steps;
 use crate::window::Window;
 
@@ -66,7 +66,7 @@ pub trait Engine {
         if digits > limit {
             return Err(AtoiSimdError::Size(len, rest));
         }
-        let power = POWERS[back.len as usize];
+        let power = power_of_ten(back.len);
         if digits < limit {
             return Ok((front.number * power + back.number, len));
         }

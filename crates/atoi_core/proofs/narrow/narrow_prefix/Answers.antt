@@ -1,75 +1,50 @@
-use Rattle.std.proofs.Common.{rules, ◌≡◌, ◌+◌, ◌<◌, ◌≤◌, IsTrue, length, ℕ, ◌-◌, ◌*◌, ◌/◌, ◌%◌, Bool, true, false, nat_eq, nat_lt, List, [], ◌∷◌, ◌++◌, slice_index_or, slice_set, bit_and, bit_or, Fits, w8, w32, w64, Bor, MutBor}
-use Rattle.atoi_core.specs.Loads.{most_loads, least_loads}
-use Rattle.atoi_core.specs.Magnitude.{narrow, prefix_magnitude}
-use Rattle.atoi_core.specs.Refusal.{answer_of}
+-- The loop leaves what `Skipped` says; the answers and the loads follow from it.
+use Rattle.std.proofs.Common.{◌≡◌, ◌+◌, ◌<◌, ◌≤◌, ℕ, ◌∙◌, sym, ap, Err, arith}
+use Rattle.std.proofs.lemmas.List.{take_rest}
+use Rattle.atoi_core.specs.Refusal.{overflow}
+use Rattle.atoi_core.proofs.SkipLemmas.{Skipping-none, Skipping-more, Skipping-nearer, Skipped, Skipped-end, Skipped-loads}
+use Rattle.atoi_core.proofs.NarrowLemmas.{narrow_answer_is, narrow_empty, narrow_overflow, narrow_ok}
 use Rattle.atoi_core.proofs.narrow.narrow_prefix.Goals as goal
 
--- src/narrow.rt:27:9
 pub loop-window-init : goal.loop-window-init
-loop-window-init g c = ?
+loop-window-init g c = Skipping-none _ c.args.skip c.args.s.now c.args.steps.now
 
--- src/narrow.rt:28:32
 pub slice_bounds-window-count : goal.slice_bounds-window-count
-slice_bounds-window-count g c = ?
+slice_bounds-window-count g c = c.loop-window.invariant.within
 
--- src/narrow.rt:28:32
-pub slice_bounds-window-start : goal.slice_bounds-window-start
-slice_bounds-window-start g c = ?
-
--- src/narrow.rt:27:9
-pub loop-window-smaller : goal.loop-window-smaller
-loop-window-smaller g c = ?
-
--- src/narrow.rt:27:9
 pub loop-window-preserved : goal.loop-window-preserved
-loop-window-preserved g c = ?
+loop-window-preserved g c =
+    Skipping-more _ g.met.E.Engine.below_ten _ _ _ _ _ _ c.window-window.result
+    c.loop-window.invariant c.window-window.ensures.window c.window-window.ensures.one_step
+    c.if-not-skip.false (omega arith)
 
--- src/narrow.rt:13:1
 pub returns-then-len-eq0-clause-answer : goal.returns-then-len-eq0-clause-answer
-returns-then-len-eq0-clause-answer g c = ?
+returns-then-len-eq0-clause-answer g c =
+    let so = Skipped-end _ g.met.E.Engine.below_ten _ _ _ _ _ _ c.window-window.result
+      c.loop-window.invariant c.window-window.ensures.window c.window-window.ensures.one_step c.then-not-skip.either in
+    narrow_empty _ _ _ _ _ _ _ _ so c.if-len-eq0.true ∙ sym (narrow_answer_is _ _ _ _ _)
 
--- src/narrow.rt:13:1
-pub returns-then-len-eq0-clause-most : goal.returns-then-len-eq0-clause-most
-returns-then-len-eq0-clause-most g c = ?
-
--- src/narrow.rt:13:1
-pub returns-then-len-eq0-clause-least : goal.returns-then-len-eq0-clause-least
-returns-then-len-eq0-clause-least g c = ?
-
--- src/narrow.rt:13:1
-pub returns-then-len-eq0-clause-least_skipping : goal.returns-then-len-eq0-clause-least_skipping
-returns-then-len-eq0-clause-least_skipping g c = ?
-
--- src/narrow.rt:13:1
 pub returns-then-window-bound-clause-answer : goal.returns-then-window-bound-clause-answer
-returns-then-window-bound-clause-answer g c = ?
+returns-then-window-bound-clause-answer g c =
+    let so = Skipped-end _ g.met.E.Engine.below_ten _ _ _ _ _ _ c.window-window.result
+      c.loop-window.invariant c.window-window.ensures.window c.window-window.ensures.one_step c.then-not-skip.either in
+    ap (λ r. Err (overflow r)) (take_rest c.args.s.now c.loop-window.at)
+    ∙ narrow_overflow _ _ _ _ _ _ _ _ so (omega arith) c.if-window-bound.true ∙ sym (narrow_answer_is _ _ _ _ _)
 
--- src/narrow.rt:13:1
-pub returns-then-window-bound-clause-most : goal.returns-then-window-bound-clause-most
-returns-then-window-bound-clause-most g c = ?
+pub returns-then-window-bound-clause-least_skipping : goal.returns-then-window-bound-clause-least_skipping
+returns-then-window-bound-clause-least_skipping g c =
+    let so = Skipped-end _ g.met.E.Engine.below_ten _ _ _ _ _ _ c.window-window.result
+      c.loop-window.invariant c.window-window.ensures.window c.window-window.ensures.one_step c.then-not-skip.either in
+    Skipped-loads _ _ _ _ _ _ _ _ so (omega arith)
 
--- src/narrow.rt:13:1
-pub returns-then-window-bound-clause-least : goal.returns-then-window-bound-clause-least
-returns-then-window-bound-clause-least g c = ?
-
--- src/narrow.rt:13:1
-pub returns-then-window-bound-clause-least_skipping :
-    goal.returns-then-window-bound-clause-least_skipping
-returns-then-window-bound-clause-least_skipping g c = ?
-
--- src/narrow.rt:13:1
 pub returns-else-window-bound-clause-answer : goal.returns-else-window-bound-clause-answer
-returns-else-window-bound-clause-answer g c = ?
+returns-else-window-bound-clause-answer g c =
+    let so = Skipped-end _ g.met.E.Engine.below_ten _ _ _ _ _ _ c.window-window.result
+      c.loop-window.invariant c.window-window.ensures.window c.window-window.ensures.one_step c.then-not-skip.either in
+    narrow_ok _ _ _ _ _ _ _ _ so c.requires.high (omega arith) c.if-window-bound.false ∙ sym (narrow_answer_is _ _ _ _ _)
 
--- src/narrow.rt:13:1
-pub returns-else-window-bound-clause-most : goal.returns-else-window-bound-clause-most
-returns-else-window-bound-clause-most g c = ?
-
--- src/narrow.rt:13:1
-pub returns-else-window-bound-clause-least : goal.returns-else-window-bound-clause-least
-returns-else-window-bound-clause-least g c = ?
-
--- src/narrow.rt:13:1
-pub returns-else-window-bound-clause-least_skipping :
-    goal.returns-else-window-bound-clause-least_skipping
-returns-else-window-bound-clause-least_skipping g c = ?
+pub returns-else-window-bound-clause-least_skipping : goal.returns-else-window-bound-clause-least_skipping
+returns-else-window-bound-clause-least_skipping g c =
+    let so = Skipped-end _ g.met.E.Engine.below_ten _ _ _ _ _ _ c.window-window.result
+      c.loop-window.invariant c.window-window.ensures.window c.window-window.ensures.one_step c.then-not-skip.either in
+    Skipped-loads _ _ _ _ _ _ _ _ so (omega arith)
