@@ -13,3 +13,6 @@ pub mod ByteCases
 pub mod TrailingBytes
 pub mod Bitwise
 pub mod WordRuns
+pub mod SkipLemmas
+pub mod WideLemmas
+pub mod NarrowLemmas
