@@ -1,0 +1,4 @@
+pub mod Failures
+pub mod ToWriter
+pub mod FromReader
+pub mod Status

@@ -1,0 +1,13 @@
+//! Answers rows of texts and integer types, as standard input gives them, on standard output.
+#![tactic(auto)]
+
+use std::process::ExitCode;
+
+mod refused;
+mod sink;
+mod source;
+mod status;
+
+fn main(_rt: HostRuntime) -> ExitCode {
+    ExitCode::from(0)
+}
