@@ -3,7 +3,9 @@
 
 use std::process::ExitCode;
 
+mod input;
 mod refused;
+mod request;
 mod sink;
 mod source;
 mod status;
