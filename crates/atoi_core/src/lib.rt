@@ -2,11 +2,13 @@
 //! of a byte slice into integers.
 #![tactic(auto)]
 
+mod digit_loop;
 mod engine;
 mod error;
 mod steps;
 mod window;
 
+pub use crate::digit_loop::narrow_whole;
 pub use crate::engine::Engine;
 pub use crate::error::AtoiSimdError;
 pub use crate::steps::Steps;
