@@ -1,2 +1,3 @@
 mod Digits
 mod Magnitudes
+pub mod DigitText

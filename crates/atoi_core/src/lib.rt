@@ -6,10 +6,12 @@ mod digit_loop;
 mod engine;
 mod error;
 mod steps;
+mod text;
 mod window;
 
 pub use crate::digit_loop::narrow_whole;
 pub use crate::engine::Engine;
 pub use crate::error::AtoiSimdError;
 pub use crate::steps::Steps;
+pub use crate::text::decimal;
 pub use crate::window::Window;
