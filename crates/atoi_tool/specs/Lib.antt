@@ -4,3 +4,6 @@ pub mod FromReader
 pub mod Status
 pub mod ReadAll
 pub mod Request
+pub mod Row
+pub mod Answer
+pub mod Output

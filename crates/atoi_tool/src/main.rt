@@ -3,9 +3,14 @@
 
 use std::process::ExitCode;
 
+mod answer;
 mod input;
+mod line;
+mod output;
+mod place;
 mod refused;
 mod request;
+mod row;
 mod sink;
 mod source;
 mod status;
