@@ -1,3 +1,5 @@
-mod Digits
-mod Magnitudes
+pub mod AsciiText
 pub mod DigitText
+mod Digits
+pub mod ErrorOrder
+mod Magnitudes

@@ -1,6 +1,6 @@
 //! Bytes, hexadecimal numbers and decimal numbers written into a slice from a place on.
 //! It stands on nothing.
-ghost use Rattle.std.specs.Prelude.{◌≡◌, ◌+◌, ◌*◌, ◌^◌, ◌<◌, ◌≤◌, ◌∷◌, [], ◌++◌, true, length, take, decimal};
+ghost use Rattle.std.specs.Prelude.{◌≡◌, ◌+◌, ◌-◌, ◌*◌, ◌^◌, ◌<◌, ◌≤◌, ◌∷◌, [], ◌++◌, true, length, take, decimal, IsAscii};
 ghost use Rattle.std.specs.Fmt.{digit_glyph};
 ghost use Rattle.atoi_core.specs.ErrorText.{hex_text, hex_list};
 
@@ -11,6 +11,7 @@ pub fn decimal(value: u128, out: &mut [u8; 39]) -> usize
     ensures digits { take result out.new ≡ decimal value }
     ensures length { result ≡ length (decimal value) }
     ensures fits { result ≤ 39 }
+    ensures ascii { IsAscii (decimal value) }
 {
     put_decimal(value, out, 0)
 }
@@ -43,6 +44,7 @@ pub(crate) fn put_decimal(value: u128, out: &mut [u8], at: usize) -> usize
     ensures place { result ≡ at + length (decimal value) }
     ensures fits { result ≤ at + 39 }
     ensures fits_of_64_bits { value < 2 ^ 64 → result ≤ at + 20 }
+    ensures ascii { IsAscii (decimal value) }
 {
     let last = b'0' + (value % 10) as u8;
     if value < 10 {
@@ -53,7 +55,7 @@ pub(crate) fn put_decimal(value: u128, out: &mut [u8], at: usize) -> usize
 }
 
 // In capitals, without a leading zero.
-#[tactic(auto, using(std::proofs::lemmas::Fmt::hex_one_digit))]
+#[tactic(auto, using(crate::proofs::DigitText::hex_text_of_one_digit))]
 fn put_hex(byte: u8, out: &mut [u8], at: usize) -> usize
     requires { at + 2 ≤ length out.old }
     ensures written { take result out.new ≡ take at out.old ++ hex_text byte }
@@ -78,11 +80,12 @@ fn hex_digit(digit: u8) -> u8
     }
 }
 
-// Each byte in hexadecimal, joined by comma and space.
+// Each byte in hexadecimal, joined by comma and space: four bytes for each, but two for the last.
 pub(crate) fn put_hex_list(bytes: &[u8], out: &mut [u8], at: usize) -> usize
-    requires { at + 4 * length bytes.now ≤ length out.old }
+    requires { at + (4 * length bytes.now - 2) ≤ length out.old }
     ensures written { take result out.new ≡ take at out.old ++ hex_list bytes.now }
-    ensures fits { result ≤ at + 4 * length bytes.now }
+    ensures fits { result ≤ at + (4 * length bytes.now - 2) }
+    ensures ascii { IsAscii (hex_list bytes.now) }
 {
     let [first, rest @ ..] = bytes else {
         return at;
@@ -93,4 +96,21 @@ pub(crate) fn put_hex_list(bytes: &[u8], out: &mut [u8], at: usize) -> usize
         end = put_hex(*byte, out, end);
     }
     end
+}
+
+#[cfg(test)]
+mod tests {
+    use super::*;
+
+    #[test]
+    fn zero_is_one_digit_and_the_greatest_number_is_39(rt: HostRuntime) {
+        let mut out = [b'?'; 39];
+        let length = decimal(0, &mut out);
+        assert_eq!(rt; &out[..length], b"0".as_slice());
+        let length = decimal(u128::MAX, &mut out);
+        assert_eq!(rt;
+            &out[..length],
+            b"340282366920938463463374607431768211455".as_slice()
+        );
+    }
 }

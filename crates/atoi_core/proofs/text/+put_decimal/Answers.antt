@@ -1,4 +1,5 @@
 use Rattle.std.proofs.Common.{◌^◌, ◌≤◌, ◌<◌, arith, append_assoc}
+use Rattle.std.proofs.lemmas.Fmt.{IsAscii-decimal_wide}
 use Rattle.atoi_core.proofs.DigitText.{decimal_more, length_decimal_more, length_decimal_of_128_bits, length_decimal_of_64_bits}
 use Rattle.atoi_core.proofs.text.+put_decimal.Goals as goal
 
@@ -33,3 +34,6 @@ returns-clause-fits_of_64_bits t c = λ narrow.
     let small : c.args.value < 2 ^ 128 = omega arith in
     let low : 10 ≤ c.args.value = omega arith in
     omega (arith, length_decimal_more c.args.value low small, length_decimal_of_64_bits c.args.value narrow)
+
+pub returns-clause-ascii : goal.returns-clause-ascii
+returns-clause-ascii t c = IsAscii-decimal_wide c.args.value (omega arith)
