@@ -1,2 +1,3 @@
 pub mod LinesLemmas
 pub mod Appended
+pub mod Rows

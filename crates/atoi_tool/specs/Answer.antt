@@ -1,5 +1,6 @@
 -- The answer to a line.
-use Rattle.std.specs.Prelude.{Option, Some, None, Result, Ok, Err, Bool, true, false, ℕ, ℤ, List, ◌++◌, codes, decimal, if◌then◌else◌, option_and_then, unwrap_or, is_some}
+use Rattle.std.specs.Prelude.{Option, Some, None, Result, Ok, Err, Bool, true, false, ℕ, ℤ, List, ◌++◌, codes, decimal, is_some}
+use Rattle.std.specs.Option.{option_map_or}
 use Rattle.std.specs.Fmt.{signed_decimal}
 use Rattle.atoi_core.specs.Digit.{decimal_table}
 use Rattle.atoi_core.specs.Refusal.{Refusal}
@@ -10,7 +11,7 @@ use Rattle.atoi_tool.specs.declared.request.Call.{Call}
 use Rattle.atoi_tool.specs.declared.request.Call.TheVariants.{Parse, Pos, Neg, Prefix, PrefixPos, PrefixNeg}
 use Rattle.atoi_tool.specs.declared.request.Flags.{Flags}
 use Rattle.atoi_tool.specs.declared.request.Request.{Request}
-use Rattle.atoi_tool.specs.Request.{kind_of, is_known}
+use Rattle.atoi_tool.specs.Request.{kind_of}
 use Rattle.atoi_tool.specs.Row.{row_of}
 
 -- why there is no value
@@ -40,15 +41,10 @@ call_text PrefixNeg k flags text = prefix_text (prefix_answer decimal_table k tr
 abbrev pub row_text : Request → List ℕ → List ℕ
 row_text request text = call_text request.call (kind_of request.integer) request.flags text
 
--- the answer to a line that is a row that there is an answer to
-unfoldable pub row_answer : List ℕ → Option (List ℕ)
-row_answer line =
-    option_and_then (λ row. if is_known row.0 then Some (row_text row.0 row.1) else None) (row_of line)
-
 -- the line is a row that there is an answer to
 abbrev pub is_good_line : List ℕ → Bool
-is_good_line line = is_some (row_answer line)
+is_good_line line = is_some (row_of line)
 
--- the answer to any line
+-- the answer to a line
 abbrev pub line_answer : List ℕ → List ℕ
-line_answer line = unwrap_or (row_answer line) (codes "bad row")
+line_answer line = option_map_or (λ row. row_text row.0 row.1) (row_of line) (codes "bad row")

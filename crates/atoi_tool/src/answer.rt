@@ -40,7 +40,7 @@ fn push_refusal(error: &AtoiSimdError<'_>, out: &mut Line)
 }
 
 /// Appends a value of a magnitude, or why there is none.
-fn push_whole(minus: bool, result: &Result<u64, AtoiSimdError<'_>>, out: &mut Line)
+fn push_whole(minus: bool, outcome: &Result<u64, AtoiSimdError<'_>>, out: &mut Line)
     requires { out.old ≡ [] }
     ensures text { out.new ≡ whole_text (map_answer (number_of minus) (answer_of outcome.now)) }
     ensures length { length out.new ≤ 336 }
@@ -51,5 +51,39 @@ fn push_whole(minus: bool, result: &Result<u64, AtoiSimdError<'_>>, out: &mut Li
             push_number(minus, u128::from(*magnitude), out);
         }
         Err(error) => push_refusal(error, out),
+    }
+}
+
+/// Writes the answer to a row that there is an answer to.
+fn answer_row(request: &Request, text: &[u8], out: &mut Line)
+    requires known { is_known request.now ≡ true }
+    requires empty { out.old ≡ [] }
+    ensures text { out.new ≡ row_text request.now text.now }
+    ensures length { length out.new ≤ 336 }
+{
+    let (minus, bound) = match (request.call, request.integer) {
+        (Call::Neg, _) => (true, 128),
+        (_, Integer::I8) => (false, 127),
+        _ => (false, 255),
+    };
+    push_whole(minus, &narrow_whole(bound, text), out);
+}
+
+/// Writes the answer to a line, and answers whether the line is a row that there is an answer to.
+pub fn answer(line: &[u8], out: &mut Line) -> bool
+    requires { out.old ≡ [] }
+    ensures text { out.new ≡ line_answer line.now }
+    ensures good { result ≡ is_good_line line.now }
+    ensures length { length out.new ≤ 336 }
+{
+    match row_of(line) {
+        Some((request, text)) => {
+            answer_row(&request, text, out);
+            true
+        }
+        None => {
+            out.push(b"bad row");
+            false
+        }
     }
 }
