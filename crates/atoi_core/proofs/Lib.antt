@@ -16,3 +16,8 @@ pub mod WordRuns
 pub mod SkipLemmas
 pub mod WideLemmas
 pub mod NarrowLemmas
+pub mod AsciiText
+pub mod DigitText
+mod Digits
+pub mod ErrorOrder
+mod Magnitudes
