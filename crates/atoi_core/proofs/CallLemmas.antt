@@ -1,0 +1,77 @@
+-- The calls by the sign that they go by, and what an answer that is `Ok` tells.
+use Rattle.std.proofs.Common.{◌≡◌, ℕ, ◌+◌, Bool, true, false, List, length, take, Option, Some, None, Result, Ok, Err, ℤ, refl, sym, ap, ◌∙◌, add-zero}
+use Rattle.atoi_core.specs.Digit.{decimal_table}
+use Rattle.atoi_core.specs.Run.{run_len, run, value}
+use Rattle.atoi_core.specs.Refusal.{Refusal}
+use Rattle.atoi_core.specs.Magnitude.{whole, prefix, seen, refusal, unless_refused}
+use Rattle.atoi_core.specs.Kind.{Kind, class_of, bound_of, limit_of}
+use Rattle.atoi_core.specs.Sign.{number_of}
+use Rattle.atoi_core.specs.Answer.{map_answer, whole_answer, prefix_answer}
+use Rattle.atoi_core.specs.Laws.{SignForm, looked_for, positive, negative, sign_in, whole_call, prefix_call, with_more}
+use Rattle.atoi_core.proofs.RefusalLemmas.{IsAccepted, accepted, refusal-none}
+
+with_more-zero : (r : Result (ℤ × ℕ) Refusal) → with_more 0 r ≡ r
+with_more-zero (Ok found) = rw add-zero refl
+with_more-zero (Err reason) = refl
+
+-- a whole parse reads the body behind its sign
+pub whole_call-is : (k : Kind) (form : SignForm) (skip : Bool) (s : List ℕ)
+    → whole_call k form skip s ≡ whole_answer decimal_table k (sign_in k form s).minus skip (sign_in k form s).body
+whole_call-is k (looked_for plus) skip s = refl
+whole_call-is k positive skip s = refl
+whole_call-is k negative skip s = refl
+
+-- a prefix parse too, and counts the sign's byte
+pub prefix_call-is : (k : Kind) (form : SignForm) (skip : Bool) (s : List ℕ)
+    → prefix_call k form skip s
+    ≡ with_more (sign_in k form s).taken (prefix_answer decimal_table k (sign_in k form s).minus skip (sign_in k form s).body)
+prefix_call-is k (looked_for plus) skip s = refl
+prefix_call-is k positive skip s = sym (with_more-zero (prefix_answer decimal_table k false skip s))
+prefix_call-is k negative skip s = sym (with_more-zero (prefix_answer decimal_table k true skip s))
+
+-- an answer of one value, unless there is a reason
+map_unless_ok : {A B : Type 0} (f : A → B) (r : Option Refusal) (x : A) (y : B)
+    → map_answer f (unless_refused r x) ≡ Ok y → (r ≡ None) × (y ≡ f x)
+map_unless_ok f None x y h = (refl, cc)
+map_unless_ok f (Some reason) x y h = absurd (cc h)
+
+map_unless_err : {A B : Type 0} (f : A → B) (r : Option Refusal) (x : A) (reason : Refusal)
+    → map_answer f (unless_refused r x) ≡ Err reason → r ≡ Some reason
+map_unless_err f None x reason h = absurd (cc h)
+map_unless_err f (Some other) x reason h = cc
+
+map_unless_none : {A B : Type 0} (f : A → B) (r : Option Refusal) (x : A) → r ≡ None → map_answer f (unless_refused r x) ≡ Ok (f x)
+map_unless_none f r x h = rw h refl
+
+module _ (k : Kind) (minus skip : Bool) (body : List ℕ) where
+  -- nothing is to be refused of the body as a whole
+  abbrev pub IsWhole : Type 0
+  IsWhole = IsAccepted decimal_table (class_of k) (bound_of k minus) (limit_of k) whole skip body
+
+  -- nothing is to be refused of its front
+  abbrev pub IsFront : Type 0
+  IsFront = IsAccepted decimal_table (class_of k) (bound_of k minus) (limit_of k) prefix skip body
+
+  -- how many bytes of it are read
+  abbrev pub read_len : ℕ
+  read_len = seen (class_of k) prefix skip (run_len decimal_table body)
+
+  pub from_whole : (v : ℤ) → whole_answer decimal_table k minus skip body ≡ Ok v
+      → IsWhole × (v ≡ number_of minus (value decimal_table (run decimal_table body)))
+  from_whole v h =
+      let found = map_unless_ok (number_of minus) _ _ v h in
+      (accepted decimal_table (class_of k) (bound_of k minus) (limit_of k) whole skip body found.0, found.1)
+
+  pub to_whole : IsWhole → whole_answer decimal_table k minus skip body ≡ Ok (number_of minus (value decimal_table (run decimal_table body)))
+  to_whole h =
+      map_unless_none (number_of minus) _ _ (refusal-none decimal_table (class_of k) (bound_of k minus) (limit_of k) whole skip body h)
+
+  pub from_prefix : (v : ℤ) (count : ℕ) → prefix_answer decimal_table k minus skip body ≡ Ok (v, count)
+      → IsFront × (v ≡ number_of minus (value decimal_table (take read_len body))) × (count ≡ read_len)
+  from_prefix v count h =
+      let found = map_unless_ok (λ (found : ℕ × ℕ). (number_of minus found.0, found.1)) _ _ (v, count) h in
+      (accepted decimal_table (class_of k) (bound_of k minus) (limit_of k) prefix skip body found.0, ap (λ (p : ℤ × ℕ). p.0) found.1, ap (λ (p : ℤ × ℕ). p.1) found.1)
+
+  pub to_prefix : IsFront → prefix_answer decimal_table k minus skip body ≡ Ok (number_of minus (value decimal_table (take read_len body)), read_len)
+  to_prefix h =
+      map_unless_none (λ (found : ℕ × ℕ). (number_of minus found.0, found.1)) _ _ (refusal-none decimal_table (class_of k) (bound_of k minus) (limit_of k) prefix skip body h)

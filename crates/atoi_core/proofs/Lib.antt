@@ -1,0 +1,4 @@
+pub mod RunLemmas
+pub mod RefusalLemmas
+pub mod SignLemmas
+pub mod CallLemmas
