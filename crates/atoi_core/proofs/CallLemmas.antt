@@ -1,9 +1,10 @@
 -- The calls by the sign that they go by, and what an answer that is `Ok` tells.
-use Rattle.std.proofs.Common.{◌≡◌, ℕ, ◌+◌, Bool, true, false, List, length, take, Option, Some, None, Result, Ok, Err, ℤ, refl, sym, ap, ◌∙◌, add-zero}
+use Rattle.std.proofs.Common.{◌≡◌, ℕ, ◌+◌, Bool, true, false, List, length, take, Option, Some, None, Result, Ok, Err, ℤ, refl, sym, ap, ◌∙◌, add-zero, ◌<◌, ◌≤◌, eqb, not, eqb-true, eq-eqb}
+use Rattle.std.proofs.lemmas.Bool.{not-false}
 use Rattle.atoi_core.specs.Digit.{decimal_table}
-use Rattle.atoi_core.specs.Run.{run_len, run, value}
+use Rattle.atoi_core.specs.Run.{run_len, run, zeros, value}
 use Rattle.atoi_core.specs.Refusal.{Refusal}
-use Rattle.atoi_core.specs.Magnitude.{whole, prefix, seen, refusal, unless_refused}
+use Rattle.atoi_core.specs.Magnitude.{Class, narrow, wide64, wide128, whole, prefix, seen, counted, is_too_long, leaves_rest, refusal, unless_refused}
 use Rattle.atoi_core.specs.Kind.{Kind, class_of, bound_of, limit_of}
 use Rattle.atoi_core.specs.Sign.{number_of}
 use Rattle.atoi_core.specs.Answer.{map_answer, whole_answer, prefix_answer}
@@ -43,6 +44,19 @@ map_unless_err f (Some other) x reason h = cc
 map_unless_none : {A B : Type 0} (f : A → B) (r : Option Refusal) (x : A) → r ≡ None → map_answer f (unless_refused r x) ≡ Ok (f x)
 map_unless_none f r x h = rw h refl
 
+-- a whole slice is read to the end of its run
+pub seen-whole : (class : Class) (skip : Bool) (digits : ℕ) → seen class whole skip digits ≡ digits
+seen-whole narrow skip digits = refl
+seen-whole wide64 skip digits = refl
+seen-whole wide128 skip digits = refl
+
+-- what is read as a whole is digits to its end
+pub whole_is_run : (digits length : ℕ) → leaves_rest whole digits length ≡ false → digits ≡ length
+whole_is_run digits length h = eqb-true digits length (not-false (eqb digits length) h)
+
+pub run_is_whole : (digits length : ℕ) → digits ≡ length → leaves_rest whole digits length ≡ false
+run_is_whole digits length h = rw (eq-eqb digits length h) refl
+
 module _ (k : Kind) (minus skip : Bool) (body : List ℕ) where
   -- nothing is to be refused of the body as a whole
   abbrev pub IsWhole : Type 0
@@ -75,3 +89,15 @@ module _ (k : Kind) (minus skip : Bool) (body : List ℕ) where
   pub to_prefix : IsFront → prefix_answer decimal_table k minus skip body ≡ Ok (number_of minus (value decimal_table (take read_len body)), read_len)
   to_prefix h =
       map_unless_none (λ (found : ℕ × ℕ). (number_of minus found.0, found.1)) _ _ (refusal-none decimal_table (class_of k) (bound_of k minus) (limit_of k) prefix skip body h)
+
+  -- the body as a whole, by its run
+  pub whole_in_range : IsWhole → value decimal_table (run decimal_table body) ≤ bound_of k minus
+  whole_in_range h = rw seen-whole at h.in_range
+
+  pub is_whole : 0 < run_len decimal_table body
+      → is_too_long (class_of k) (limit_of k) (counted skip (run_len decimal_table body) (zeros decimal_table body)) ≡ false
+      → value decimal_table (run decimal_table body) ≤ bound_of k minus
+      → run_len decimal_table body ≡ length body
+      → IsWhole
+  is_whole some short in_range all =
+      record { some = some; short = short; in_range = rw seen-whole in_range; ends = run_is_whole (run_len decimal_table body) (length body) all }

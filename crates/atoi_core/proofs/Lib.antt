@@ -2,3 +2,5 @@ pub mod RunLemmas
 pub mod RefusalLemmas
 pub mod SignLemmas
 pub mod CallLemmas
+pub mod LimitLemmas
+pub mod TextLemmas

@@ -3,7 +3,7 @@ use Rattle.std.proofs.Common.{◌≡◌, ℕ, zero, suc, ◌+◌, ◌-◌, ◌*�
 use Rattle.std.proofs.Math.Nat.{le-mul_of_pos_right}
 use Rattle.std.proofs.lemmas.Bool.Decides.{eqb_tells}
 use Rattle.std.proofs.lemmas.List.{take_all, length-take}
-use Rattle.std.proofs.lemmas.List.Sums.{prefix_len-le-length, prefix_len_stops}
+use Rattle.std.proofs.lemmas.List.Sums.{prefix_len-le-length, prefix_len_stops, prefix_len_passes, prefix_len_is}
 use Rattle.std.proofs.lemmas.List.Folds.{length-prefix_len}
 use Rattle.std.specs.List.{prefix_len}
 use Rattle.atoi_core.specs.Digit.{Table, is_digit, worth, is_zero}
@@ -49,6 +49,17 @@ module _ (table : Table) where
 
   zero_is_digit : (byte : ℕ) → is_zero table byte ≡ true → is_digit table byte ≡ true
   zero_is_digit byte h = grind arith
+
+  -- a slice of digits is its own run
+  pub all_digits : (s : List ℕ) → All (λ byte. IsTrue (is_digit table byte)) s → run_len table s ≡ length s
+  all_digits s h =
+      prefix_len_is (is_digit table) s (length s) 0 (omega arith) (λ i lt. h i 0 lt) (λ lt. absurd (omega arith))
+
+  pub digits_all : (s : List ℕ) → run_len table s ≡ length s → All (λ byte. IsTrue (is_digit table byte)) s
+  digits_all s h = λ i d lt. prefix_len_passes (is_digit table) s i d (omega arith)
+
+  pub run_all : (s : List ℕ) → run_len table s ≡ length s → run table s ≡ s
+  run_all s h = take_all (run_len table s) s (omega arith)
 
   -- the zeros are part of the run
   pub zeros-le : (s : List ℕ) → zeros table s ≤ run_len table s

@@ -15,7 +15,8 @@ one_of_three true b x y z P p q r = p refl
 one_of_three false true x y z P p q r = q refl refl
 one_of_three false false x y z P p q r = r
 
-sign_cases : (signed plus : Bool) (byte : ℕ) (bytes : List ℕ) (P : Sign → Type 0)
+-- the three ways to take a sign
+pub sign_cases : (signed plus : Bool) (byte : ℕ) (bytes : List ℕ) (P : Sign → Type 0)
     → ((plus && eqb byte plus_sign) ≡ true → P (record { minus = false; taken = 1; body = bytes }))
     → ((plus && eqb byte plus_sign) ≡ false → (signed && eqb byte minus_sign) ≡ true → P (record { minus = true; taken = 1; body = bytes }))
     → P (record { minus = false; taken = 0; body = byte ∷ bytes })
