@@ -4,3 +4,4 @@ pub mod SignLemmas
 pub mod CallLemmas
 pub mod LimitLemmas
 pub mod TextLemmas
+pub mod ValueLemmas

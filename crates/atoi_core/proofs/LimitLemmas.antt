@@ -44,6 +44,28 @@ bound-limit k sized minus h =
       | inr (inr (inr (inr e))) ↦ inr (rw (sized.greatest, e) (bound-128 k.signed minus h))
     ]
 
+below-64 : (bits : ℕ) (signed minus : Bool) → ((bits ≡ 8) ⊎ ((bits ≡ 16) ⊎ ((bits ≡ 32) ⊎ ((bits ≡ 64) ⊎ (bits ≡ 128)))))
+    → cond minus (greatest_of bits signed + 1) (greatest_of bits signed) < 10 ^ 64
+below-64 bits signed minus h =
+    elim h [
+      | inl e ↦ rw e (first 8 signed minus (omega arith) (omega arith))
+      | inr (inl e) ↦ rw e (first 16 signed minus (omega arith) (omega arith))
+      | inr (inr (inl e)) ↦ rw e (first 32 signed minus (omega arith) (omega arith))
+      | inr (inr (inr (inl e))) ↦ rw e (first 64 signed minus (omega arith) (omega arith))
+      | inr (inr (inr (inr e))) ↦ rw e (first 128 signed minus (omega arith) (omega arith))
+    ]
+  where
+    first : (bits : ℕ) (signed minus : Bool) → greatest_of bits true + 1 < 10 ^ 64 → greatest_of bits false + 1 < 10 ^ 64
+        → cond minus (greatest_of bits signed + 1) (greatest_of bits signed) < 10 ^ 64
+    first bits true true p q = p
+    first bits true false p q = omega arith
+    first bits false true p q = q
+    first bits false false p q = omega arith
+
+-- each magnitude has far fewer than 64 digits
+pub bound_below-64 : (k : Kind) → IsSized k → (minus : Bool) → bound_of k minus < 10 ^ 64
+bound_below-64 k sized minus = rw sized.greatest (below-64 k.bits k.signed minus sized.bits)
+
 -- digits that write a number below a power of ten have no more places behind their zeros
 pub places-le : (table : Table) (s : List ℕ) (limit : ℕ) → value table (run table s) < 10 ^ limit → run_len table s - zeros table s ≤ limit
 places-le table s limit h =
