@@ -1,14 +1,14 @@
 -- The calls by the sign that they go by, and what an answer that is `Ok` tells.
-use Rattle.std.proofs.Common.{◌≡◌, ℕ, ◌+◌, Bool, true, false, List, length, take, Option, Some, None, Result, Ok, Err, ℤ, refl, sym, ap, ◌∙◌, add-zero, ◌<◌, ◌≤◌, eqb, not, eqb-true, eq-eqb}
-use Rattle.std.proofs.lemmas.Bool.{not-false}
+use Rattle.std.proofs.Common.{◌≡◌, ℕ, ◌+◌, Bool, true, false, List, length, take, Option, Some, None, Result, Ok, Err, ℤ, refl, sym, ap, ◌∙◌, add-zero, ◌<◌, ◌≤◌, eqb, not, eqb-true, eq-eqb, cond, inl, inr, arith}
+use Rattle.std.proofs.lemmas.Bool.{not-false, lt-leb}
 use Rattle.atoi_core.specs.Digit.{decimal_table}
 use Rattle.atoi_core.specs.Run.{run_len, run, zeros, value}
 use Rattle.atoi_core.specs.Refusal.{Refusal}
 use Rattle.atoi_core.specs.Magnitude.{Class, narrow, wide64, wide128, whole, prefix, seen, counted, is_too_long, leaves_rest, refusal, unless_refused}
 use Rattle.atoi_core.specs.Kind.{Kind, class_of, bound_of, limit_of}
-use Rattle.atoi_core.specs.Sign.{number_of}
+use Rattle.atoi_core.specs.Sign.{Sign, number_of}
 use Rattle.atoi_core.specs.Answer.{map_answer, whole_answer, prefix_answer}
-use Rattle.atoi_core.specs.Laws.{SignForm, looked_for, positive, negative, sign_in, whole_call, prefix_call, with_more}
+use Rattle.atoi_core.specs.Laws.{SignForm, looked_for, positive, negative, sign_in, whole_call, prefix_call, with_more, ReadsWholeRun}
 use Rattle.atoi_core.proofs.RefusalLemmas.{IsAccepted, accepted, refusal-none}
 
 with_more-zero : (r : Result (ℤ × ℕ) Refusal) → with_more 0 r ≡ r
@@ -57,6 +57,50 @@ whole_is_run digits length h = eqb-true digits length (not-false (eqb digits len
 pub run_is_whole : (digits length : ℕ) → digits ≡ length → leaves_rest whole digits length ≡ false
 run_is_whole digits length h = rw (eq-eqb digits length h) refl
 
+-- how much of a run is read: none of it is left where zeros are skipped, or in a wide class; else at most 16
+pub seen-le : (class : Class) (skip : Bool) (digits : ℕ) → seen class prefix skip digits ≤ digits
+seen-le narrow true digits = omega arith
+seen-le narrow false digits = omega arith
+seen-le wide64 skip digits = omega arith
+seen-le wide128 skip digits = omega arith
+
+pub seen-pos : (class : Class) (skip : Bool) (digits : ℕ) → 0 < digits → 0 < seen class prefix skip digits
+seen-pos narrow true digits h = h
+seen-pos narrow false digits h = omega arith
+seen-pos wide64 skip digits h = h
+seen-pos wide128 skip digits h = h
+
+pub seen-seen : (class : Class) (skip : Bool) (digits : ℕ)
+    → seen class prefix skip (seen class prefix skip digits) ≡ seen class prefix skip digits
+seen-seen narrow true digits = refl
+seen-seen narrow false digits = omega arith
+seen-seen wide64 skip digits = refl
+seen-seen wide128 skip digits = refl
+
+seen-skipping : (class : Class) (digits : ℕ) → seen class prefix true digits ≡ digits
+seen-skipping narrow digits = refl
+seen-skipping wide64 digits = refl
+seen-skipping wide128 digits = refl
+
+pub seen-all : (k : Kind) (skip : Bool) (digits : ℕ) → ReadsWholeRun k skip → seen (class_of k) prefix skip digits ≡ digits
+seen-all k skip digits h =
+    elim h [
+      | inl e ↦ rw e (seen-skipping (class_of k) digits)
+      | inr lt ↦ rw (lt-leb k.bits 32 lt) (wide (eqb k.bits 64))
+    ]
+  where
+    wide : (b : Bool) → seen (cond b wide64 wide128) prefix skip digits ≡ digits
+    wide true = refl
+    wide false = refl
+
+-- the same answer, with the sign's byte counted
+with_more_ok : (more : ℕ) (r : Result (ℤ × ℕ) Refusal) (v : ℤ) (count : ℕ) → with_more more r ≡ Ok (v, count)
+    → (read : ℕ) × (r ≡ Ok (v, read)) × (count ≡ read + more)
+with_more_ok more (Ok found) v count h =
+    let e : (found.0, found.1 + more) ≡ (v, count) = cc h in
+    (found.1, ap (λ x. Ok (x, found.1)) (ap (λ (p : ℤ × ℕ). p.0) e), sym (ap (λ (p : ℤ × ℕ). p.1) e))
+with_more_ok more (Err reason) v count h = absurd (cc h)
+
 module _ (k : Kind) (minus skip : Bool) (body : List ℕ) where
   -- nothing is to be refused of the body as a whole
   abbrev pub IsWhole : Type 0
@@ -101,3 +145,32 @@ module _ (k : Kind) (minus skip : Bool) (body : List ℕ) where
       → IsWhole
   is_whole some short in_range all =
       record { some = some; short = short; in_range = rw seen-whole in_range; ends = run_is_whole (run_len decimal_table body) (length body) all }
+
+-- what a prefix that is `Ok` tells: how many bytes of its body are read, that these are not refused,
+-- and that they give the value and the count
+pub record IsFound (k : Kind) (g : Sign) (skip : Bool) (v : ℤ) (count read : ℕ) : Type 0 where
+  pub front : IsFront k g.minus skip g.body
+  pub as_far : read ≡ read_len k g.minus skip g.body
+  pub number : v ≡ number_of g.minus (value decimal_table (take read g.body))
+  pub counted : count ≡ read + g.taken
+
+pub found_prefix : (k : Kind) (form : SignForm) (skip : Bool) (s : List ℕ) (v : ℤ) (count : ℕ)
+    → prefix_call k form skip s ≡ Ok (v, count) → (read : ℕ) × IsFound k (sign_in k form s) skip v count read
+found_prefix k form skip s v count h =
+    let g = sign_in k form s in
+    let counted = with_more_ok g.taken (prefix_answer decimal_table k g.minus skip g.body) v count (sym (prefix_call-is k form skip s) ∙ h) in
+    let found = from_prefix k g.minus skip g.body v counted.0 counted.1 in
+    (counted.0, record {
+      front = found.0;
+      as_far = found.2;
+      number = rw found.2 found.1;
+      counted = counted.2;
+    })
+
+pub ok_prefix : (k : Kind) (form : SignForm) (skip : Bool) (s : List ℕ) (v : ℤ) (count read : ℕ)
+    → IsFound k (sign_in k form s) skip v count read → prefix_call k form skip s ≡ Ok (v, count)
+ok_prefix k form skip s v count read h =
+    let g = sign_in k form s in
+    prefix_call-is k form skip s
+    ∙ ap (with_more g.taken) (to_prefix k g.minus skip g.body h.front)
+    ∙ rw (h.number, h.counted, h.as_far) refl

@@ -5,3 +5,4 @@ pub mod CallLemmas
 pub mod LimitLemmas
 pub mod TextLemmas
 pub mod ValueLemmas
+pub mod PrefixLemmas
