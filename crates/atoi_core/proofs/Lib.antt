@@ -1,8 +1,8 @@
-pub mod RunLemmas
+pub mod CutLemmas
 pub mod RefusalLemmas
 pub mod SignLemmas
 pub mod CallLemmas
 pub mod LimitLemmas
 pub mod TextLemmas
-pub mod ValueLemmas
+pub mod DecimalLemmas
 pub mod PrefixLemmas

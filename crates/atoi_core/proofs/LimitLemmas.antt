@@ -6,7 +6,7 @@ use Rattle.atoi_core.specs.Digit.{Table}
 use Rattle.atoi_core.specs.Run.{run_len, run, zeros, value}
 use Rattle.atoi_core.specs.Magnitude.{Class, narrow, wide64, wide128, is_too_long, counted}
 use Rattle.atoi_core.specs.Kind.{Kind, IsSized, greatest_of, class_of, bound_of, limit_of}
-use Rattle.atoi_core.proofs.RunLemmas.{value-ge}
+use Rattle.atoi_core.proofs.CutLemmas.{value-ge}
 
 -- no class finds a count within the limit too long
 pub short_enough : (class : Class) (limit count : ℕ) → count ≤ limit → is_too_long class limit count ≡ false

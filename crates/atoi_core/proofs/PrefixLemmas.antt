@@ -9,7 +9,7 @@ use Rattle.atoi_core.specs.Kind.{Kind, class_of, bound_of, limit_of}
 use Rattle.atoi_core.specs.Sign.{Sign, sign_of, number_of}
 use Rattle.atoi_core.specs.Answer.{whole_answer, prefix_answer}
 use Rattle.atoi_core.specs.Laws.{SignForm, HasForm, sign_in, whole_call, prefix_call, ReadsWholeRun, PrefixIsWhole, PrefixOfCut, PrefixStopsAtRest}
-use Rattle.atoi_core.proofs.RunLemmas.{run_len-le, run_stops, run_len-take, zeros-take}
+use Rattle.atoi_core.proofs.CutLemmas.{run_len-le, run_stops, run_len-take, zeros-take}
 use Rattle.atoi_core.proofs.SignLemmas.{drop-taken, length-taken, sign_again}
 use Rattle.atoi_core.proofs.CallLemmas.{whole_call-is, from_whole, to_whole, is_whole, whole_is_run, whole_in_range, IsFront, IsFound, found_prefix, ok_prefix, seen-le, seen-pos, seen-seen, seen-all}
 use Rattle.atoi_core.proofs.LimitLemmas.{shorter}

@@ -9,7 +9,7 @@ use Rattle.atoi_core.specs.Sign.{Sign, sign_of, number_of, plus_sign, minus_sign
 use Rattle.atoi_core.specs.Answer.{whole_answer, parse_answer}
 use Rattle.atoi_core.specs.Text.{SignMark, no_sign, plus, minus, sign_bytes, is_minus, IsText}
 use Rattle.atoi_core.specs.Laws.{AcceptedTexts, looked_for}
-use Rattle.atoi_core.proofs.RunLemmas.{run_len-le, all_digits, digits_all, run_all}
+use Rattle.atoi_core.proofs.CutLemmas.{run_len-le, all_digits, digits_all, run_all}
 use Rattle.atoi_core.proofs.RefusalLemmas.{IsAccepted}
 use Rattle.atoi_core.proofs.SignLemmas.{sign_cases, sign_of_digits, minus_is_signed}
 use Rattle.atoi_core.proofs.CallLemmas.{from_whole, to_whole, whole_is_run, is_whole, whole_in_range}
