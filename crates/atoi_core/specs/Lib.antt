@@ -10,4 +10,5 @@ pub mod Text
 pub mod Laws
 pub mod Loads
 pub mod Window
+pub mod Words
 pub mod Examples

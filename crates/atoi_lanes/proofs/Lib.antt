@@ -1,0 +1,3 @@
+pub mod LoadLemmas
+pub mod MaskLemmas
+pub mod SumLemmas
