@@ -25,6 +25,17 @@ module _ (table : Table) where
   pub length-run : (s : List ℕ) → length (run table s) ≡ run_len table s
   length-run s = length-prefix_len (is_digit table) s
 
+  -- a slice of digits is its own run
+  pub all_digits : (s : List ℕ) → All (λ byte. IsTrue (is_digit table byte)) s → run_len table s ≡ length s
+  all_digits s h =
+      prefix_len_is (is_digit table) s (length s) 0 (omega arith) (λ i lt. h i 0 lt) (λ lt. absurd (omega arith))
+
+  pub digits_all : (s : List ℕ) → run_len table s ≡ length s → All (λ byte. IsTrue (is_digit table byte)) s
+  digits_all s h = λ i d lt. prefix_len_passes (is_digit table) s i d (omega arith)
+
+  pub run_all : (s : List ℕ) → run_len table s ≡ length s → run table s ≡ s
+  run_all s h = take_all (run_len table s) s (omega arith)
+
   -- where the slice is cut within its run, the run is cut there
   pub run_len-take : (n : ℕ) (s : List ℕ) → n ≤ run_len table s → run_len table (take n s) ≡ n
   run_len-take n s h = omega (arith, prefix_len-take (is_digit table) n s)

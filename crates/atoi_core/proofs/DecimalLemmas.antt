@@ -11,7 +11,7 @@ use Rattle.atoi_core.specs.Kind.{Kind, IsSized, class_of, bound_of, limit_of}
 use Rattle.atoi_core.specs.Sign.{Sign, sign_of, number_of}
 use Rattle.atoi_core.specs.Answer.{whole_answer, parse_answer}
 use Rattle.atoi_core.specs.Laws.{SignForm, looked_for, HasForm, sign_in, whole_call, least_of, TextOfValue, SkippingAgrees}
-use Rattle.atoi_core.proofs.CutLemmas.{zeros-le, run_all}
+use Rattle.atoi_core.proofs.CutLemmas.{run_all}
 use Rattle.atoi_core.proofs.SignLemmas.{sign_of_digits}
 use Rattle.atoi_core.proofs.CallLemmas.{whole_call-is, from_whole, to_whole, is_whole, whole_is_run, whole_in_range}
 use Rattle.atoi_core.proofs.LimitLemmas.{shorter, short_enough, bound-limit, bound_below-64}
