@@ -36,7 +36,7 @@ map_unless_ok : {A B : Type 0} (f : A → B) (r : Option Refusal) (x : A) (y : B
 map_unless_ok f None x y h = (refl, cc)
 map_unless_ok f (Some reason) x y h = absurd (cc h)
 
-map_unless_err : {A B : Type 0} (f : A → B) (r : Option Refusal) (x : A) (reason : Refusal)
+pub map_unless_err : {A B : Type 0} (f : A → B) (r : Option Refusal) (x : A) (reason : Refusal)
     → map_answer f (unless_refused r x) ≡ Err reason → r ≡ Some reason
 map_unless_err f None x reason h = absurd (cc h)
 map_unless_err f (Some other) x reason h = cc

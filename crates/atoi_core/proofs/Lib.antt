@@ -21,3 +21,4 @@ pub mod LimitLemmas
 pub mod TextLemmas
 pub mod DecimalLemmas
 pub mod PrefixLemmas
+pub mod SuffixLemmas
