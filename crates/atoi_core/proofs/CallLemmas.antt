@@ -11,7 +11,7 @@ use Rattle.atoi_core.specs.Answer.{map_answer, whole_answer, prefix_answer}
 use Rattle.atoi_core.specs.Laws.{SignForm, looked_for, positive, negative, sign_in, whole_call, prefix_call, with_more, ReadsWholeRun}
 use Rattle.atoi_core.proofs.RefusalLemmas.{IsAccepted, accepted, refusal-none}
 
-with_more-zero : (r : Result (ℤ × ℕ) Refusal) → with_more 0 r ≡ r
+pub with_more-zero : (r : Result (ℤ × ℕ) Refusal) → with_more 0 r ≡ r
 with_more-zero (Ok found) = rw add-zero refl
 with_more-zero (Err reason) = refl
 

@@ -22,3 +22,4 @@ pub mod TextLemmas
 pub mod DecimalLemmas
 pub mod PrefixLemmas
 pub mod SuffixLemmas
+pub mod KindLemmas

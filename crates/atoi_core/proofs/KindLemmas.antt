@@ -1,0 +1,113 @@
+-- Answers of one kind: what decides the kind, and that neither the rest behind a run nor zeros
+-- before it change it.
+use Rattle.std.proofs.Common.{◌≡◌, ℕ, zero, suc, ◌+◌, ◌-◌, ◌<◌, ◌≤◌, Bool, true, false, not, eqb, ltb, List, [], ◌++◌, length, take, replicate, Option, Some, None, Result, Ok, Err, ℤ, option_map, refl, sym, ap, ◌∙◌, subst, subst₂, arith, take-take, take_at, length-append, add_assoc, eq-eqb, ne_eqb}
+use Rattle.std.proofs.lemmas.List.{length-replicate}
+use Rattle.std.proofs.lemmas.Bool.{cases_eq}
+use Rattle.std.proofs.Math.Seq.{take-add}
+use Rattle.atoi_core.specs.Digit.{decimal_table, is_digit, is_zero}
+use Rattle.atoi_core.specs.Run.{run_len, run, zeros, value}
+use Rattle.atoi_core.specs.Refusal.{Refusal, rank}
+use Rattle.atoi_core.specs.Magnitude.{Class, narrow, wide64, wide128, Extent, whole, prefix, seen, counted, is_too_long, leaves_rest, invalid, refusal, unless_refused}
+use Rattle.atoi_core.specs.Kind.{Kind, class_of, bound_of, limit_of}
+use Rattle.atoi_core.specs.Sign.{Sign, number_of}
+use Rattle.atoi_core.specs.Answer.{map_answer, whole_answer, prefix_answer}
+use Rattle.atoi_core.specs.Laws.{SignForm, HasForm, sign_in, whole_call, prefix_call, with_more, with_zeros, zero_byte, IsSameKind, HaveSameRun, RestChangesNothing, ZerosChangeNothing}
+use Rattle.atoi_core.proofs.RunLemmas.{zeros-le}
+use Rattle.atoi_core.proofs.CutLemmas.{run_len-le, length-run, zeros-run, value-replicate, prefix_len-replicate_append}
+use Rattle.atoi_core.proofs.RefusalLemmas.{refusal-rank, first_rank}
+use Rattle.atoi_core.proofs.SignLemmas.{sign_again}
+use Rattle.atoi_core.proofs.CallLemmas.{whole_call-is, prefix_call-is, seen-le, seen-whole, with_more-zero}
+
+-- two whole answers are of one kind where the reasons are, and the values are equal
+same_kind : (minus other_minus : Bool) (r q : Option Refusal) (x y : ℕ) → option_map rank r ≡ option_map rank q
+    → number_of minus x ≡ number_of other_minus y
+    → IsSameKind (map_answer (number_of minus) (unless_refused r x)) (map_answer (number_of other_minus) (unless_refused q y))
+same_kind minus other_minus None None x y h e = e
+same_kind minus other_minus (Some reason) (Some other) x y h e = cc h
+same_kind minus other_minus None (Some other) x y h e = absurd (cc h)
+same_kind minus other_minus (Some reason) None x y h e = absurd (cc h)
+
+-- the magnitude with its sign, and how many bytes were read
+abbrev counted_number : Bool → ℕ × ℕ → ℤ × ℕ
+counted_number minus found = (number_of minus found.0, found.1)
+
+-- two prefix answers, of which the first has a count that is less by `more`
+same_prefix_kind : (more taken other_taken : ℕ) (minus other_minus : Bool) (r q : Option Refusal) (x y : ℕ × ℕ) → option_map rank r ≡ option_map rank q
+    → number_of minus x.0 ≡ number_of other_minus y.0 → x.1 + taken + more ≡ y.1 + other_taken
+    → IsSameKind (with_more more (with_more taken (map_answer (counted_number minus) (unless_refused r x))))
+      (with_more other_taken (map_answer (counted_number other_minus) (unless_refused q y)))
+same_prefix_kind more taken other_taken minus other_minus None None x y h e c = λ i. (e i, c i)
+same_prefix_kind more taken other_taken minus other_minus (Some reason) (Some other) x y h e c = cc h
+same_prefix_kind more taken other_taken minus other_minus None (Some other) x y h e c = absurd (cc h)
+same_prefix_kind more taken other_taken minus other_minus (Some reason) None x y h e c = absurd (cc h)
+
+-- the reason to refuse a body behind its sign, and the number that is read there
+abbrev reason_at : Kind → Bool → Extent → Sign → Option Refusal
+reason_at k skip extent g = refusal decimal_table (class_of k) (bound_of k g.minus) (limit_of k) extent skip g.body
+
+abbrev read_at : Kind → Bool → Extent → Sign → ℕ
+read_at k skip extent g = seen (class_of k) extent skip (run_len decimal_table g.body)
+
+abbrev number_at : Kind → Bool → Extent → Sign → ℕ
+number_at k skip extent g = value decimal_table (take (read_at k skip extent g) g.body)
+
+-- what the four tests are of two bodies that are refused for reasons of one kind, or not at all
+record IsAlike (k : Kind) (skip : Bool) (extent : Extent) (g h : Sign) : Type 0 where
+  bound : bound_of k g.minus ≡ bound_of k h.minus
+  is_empty : eqb (run_len decimal_table g.body) 0 ≡ eqb (run_len decimal_table h.body) 0
+  counts : counted skip (run_len decimal_table g.body) (zeros decimal_table g.body) ≡ counted skip (run_len decimal_table h.body) (zeros decimal_table h.body)
+  number : number_at k skip extent g ≡ number_at k skip extent h
+  followed : leaves_rest extent (run_len decimal_table g.body) (length g.body) ≡ leaves_rest extent (run_len decimal_table h.body) (length h.body)
+
+same_reason : (k : Kind) (skip : Bool) (extent : Extent) (g h : Sign) → IsAlike k skip extent g h
+    → option_map rank (reason_at k skip extent g) ≡ option_map rank (reason_at k skip extent h)
+same_reason k skip extent g h alike =
+    refusal-rank decimal_table (class_of k) (bound_of k g.minus) (limit_of k) extent skip g.body
+    ∙ (λ i. first_rank (alike.is_empty i) (is_too_long (class_of k) (limit_of k) (alike.counts i)) (ltb (alike.bound i) (alike.number i)) (alike.followed i) 0 1 2 (rank (invalid (class_of k) 0 0 [])))
+    ∙ sym (refusal-rank decimal_table (class_of k) (bound_of k h.minus) (limit_of k) extent skip h.body)
+
+-- what a call answers that goes by a sign
+abbrev prefix_at : Kind → Bool → Sign → Result (ℤ × ℕ) Refusal
+prefix_at k skip g = with_more g.taken (prefix_answer decimal_table k g.minus skip g.body)
+
+abbrev whole_at : Kind → Bool → Sign → Result ℤ Refusal
+whole_at k skip g = whole_answer decimal_table k g.minus skip g.body
+
+-- equal runs have equal lengths, zeros and values
+same_len : (s t : List ℕ) → run decimal_table s ≡ run decimal_table t → run_len decimal_table s ≡ run_len decimal_table t
+same_len s t e = sym (length-run decimal_table s) ∙ ap length e ∙ length-run decimal_table t
+
+same_zeros : (s t : List ℕ) → run decimal_table s ≡ run decimal_table t → zeros decimal_table s ≡ zeros decimal_table t
+same_zeros s t e = sym (zeros-run decimal_table s) ∙ ap (zeros decimal_table) e ∙ zeros-run decimal_table t
+
+same_front : (n : ℕ) (s t : List ℕ) → run decimal_table s ≡ run decimal_table t → n ≤ run_len decimal_table s → take n s ≡ take n t
+same_front n s t e h =
+    let len = same_len s t e in
+    sym (take-take n (run_len decimal_table s) s h) ∙ ap (take n) e ∙ take-take n (run_len decimal_table t) t (omega arith)
+
+-- two bodies with equal runs, behind the same sign
+same_run : (k : Kind) (skip : Bool) (g h : Sign) → g.minus ≡ h.minus → g.taken ≡ h.taken → run decimal_table g.body ≡ run decimal_table h.body
+    → IsSameKind (with_more 0 (prefix_at k skip g)) (prefix_at k skip h)
+same_run k skip g h minus taken runs =
+    let len = same_len g.body h.body runs in
+    let leading = same_zeros g.body h.body runs in
+    let read : read_at k skip prefix g ≡ read_at k skip prefix h = ap (seen (class_of k) prefix skip) len in
+    let number : number_at k skip prefix g ≡ number_at k skip prefix h =
+        ap (value decimal_table) (same_front (read_at k skip prefix g) g.body h.body runs (seen-le (class_of k) skip (run_len decimal_table g.body))
+        ∙ ap (λ (n : ℕ). take n h.body) read)
+    in
+    same_prefix_kind 0 g.taken h.taken g.minus h.minus (reason_at k skip prefix g) (reason_at k skip prefix h)
+    (number_at k skip prefix g, read_at k skip prefix g) (number_at k skip prefix h, read_at k skip prefix h)
+    (same_reason k skip prefix g h (record {
+      bound = ap (bound_of k) minus;
+      is_empty = ap (λ (n : ℕ). eqb n 0) len;
+      counts = λ i. counted skip (len i) (leading i);
+      number = number;
+      followed = refl;
+    }))
+    (λ i. number_of (minus i) (number i)) (omega arith)
+
+pub rest_changes_nothing : (k : Kind) → RestChangesNothing k
+rest_changes_nothing k form has skip s t same =
+    subst₂ (λ x y. IsSameKind x y) (with_more-zero (prefix_at k skip (sign_in k form s)) ∙ sym (prefix_call-is k form skip s)) (sym (prefix_call-is k form skip t))
+    (same_run k skip (sign_in k form s) (sign_in k form t) same.minus same.taken same.run)
