@@ -77,7 +77,7 @@ seen-seen narrow false digits = omega arith
 seen-seen wide64 skip digits = refl
 seen-seen wide128 skip digits = refl
 
-seen-skipping : (class : Class) (digits : ℕ) → seen class prefix true digits ≡ digits
+pub seen-skipping : (class : Class) (digits : ℕ) → seen class prefix true digits ≡ digits
 seen-skipping narrow digits = refl
 seen-skipping wide64 digits = refl
 seen-skipping wide128 digits = refl

@@ -1,6 +1,6 @@
 -- Answers of one kind: what decides the kind, and that neither the rest behind a run nor zeros
 -- before it change it.
-use Rattle.std.proofs.Common.{◌≡◌, ℕ, zero, suc, ◌+◌, ◌-◌, ◌<◌, ◌≤◌, Bool, true, false, not, eqb, ltb, List, [], ◌++◌, length, take, replicate, Option, Some, None, Result, Ok, Err, ℤ, option_map, refl, sym, ap, ◌∙◌, subst, subst₂, arith, take-take, take_at, length-append, add_assoc, eq-eqb, ne_eqb}
+use Rattle.std.proofs.Common.{◌≡◌, ℕ, zero, suc, ◌+◌, ◌-◌, ◌<◌, ◌≤◌, Bool, true, false, not, eqb, ltb, List, [], ◌++◌, length, take, replicate, Option, Some, None, Result, Ok, Err, ℤ, option_map, refl, sym, ap, ◌∙◌, subst, subst₂, arith, take-take, take_at, drop_at, inl, inr, length-append, add_assoc, eq-eqb, ne_eqb}
 use Rattle.std.proofs.lemmas.List.{length-replicate}
 use Rattle.std.proofs.lemmas.Bool.{cases_eq}
 use Rattle.std.proofs.Math.Seq.{take-add}
@@ -16,7 +16,7 @@ use Rattle.atoi_core.proofs.RunLemmas.{zeros-le}
 use Rattle.atoi_core.proofs.CutLemmas.{run_len-le, length-run, zeros-run, value-replicate, prefix_len-replicate_append}
 use Rattle.atoi_core.proofs.RefusalLemmas.{refusal-rank, first_rank}
 use Rattle.atoi_core.proofs.SignLemmas.{sign_again}
-use Rattle.atoi_core.proofs.CallLemmas.{whole_call-is, prefix_call-is, seen-le, seen-whole, with_more-zero}
+use Rattle.atoi_core.proofs.CallLemmas.{whole_call-is, prefix_call-is, seen-le, seen-whole, seen-skipping, with_more-zero}
 
 -- two whole answers are of one kind where the reasons are, and the values are equal
 same_kind : (minus other_minus : Bool) (r q : Option Refusal) (x y : ℕ) → option_map rank r ≡ option_map rank q
@@ -111,3 +111,114 @@ pub rest_changes_nothing : (k : Kind) → RestChangesNothing k
 rest_changes_nothing k form has skip s t same =
     subst₂ (λ x y. IsSameKind x y) (with_more-zero (prefix_at k skip (sign_in k form s)) ∙ sym (prefix_call-is k form skip s)) (sym (prefix_call-is k form skip t))
     (same_run k skip (sign_in k form s) (sign_in k form t) same.minus same.taken same.run)
+
+-- ---- zeros put before a body
+
+abbrev padded : ℕ → List ℕ → List ℕ
+padded count body = replicate count zero_byte ++ body
+
+run_len-padded : (count : ℕ) (body : List ℕ) → run_len decimal_table (padded count body) ≡ count + run_len decimal_table body
+run_len-padded count body = prefix_len-replicate_append (is_digit decimal_table) zero_byte refl count body
+
+zeros-padded : (count : ℕ) (body : List ℕ) → zeros decimal_table (padded count body) ≡ count + zeros decimal_table body
+zeros-padded count body = prefix_len-replicate_append (is_zero decimal_table) zero_byte refl count body
+
+length-padded : (count : ℕ) (body : List ℕ) → length (padded count body) ≡ count + length body
+length-padded count body = simp (length-append, length-replicate)
+
+-- a front of them is a front of the body behind the zeros
+take-padded : (count n : ℕ) (body : List ℕ) → take (count + n) (padded count body) ≡ padded count (take n body)
+take-padded count n body =
+    let len = length-replicate count zero_byte in
+    take-add count n (padded count body)
+    ∙ (λ i. take_at (replicate count zero_byte) body count len i ++ take n (drop_at (replicate count zero_byte) body count len i))
+
+-- where zeros are skipped, all digits are read
+seen_all : (class : Class) (extent : Extent) (digits : ℕ) → seen class extent true digits ≡ digits
+seen_all class whole digits = seen-whole class true digits
+seen_all class prefix digits = seen-skipping class digits
+
+value-padded : (count : ℕ) (body : List ℕ) → value decimal_table (run decimal_table body) ≡ value decimal_table (run decimal_table (padded count body))
+value-padded count body =
+    let n = run_len decimal_table body in
+    sym (value-replicate decimal_table zero_byte refl count (take n body))
+    ∙ ap (value decimal_table) (sym (take-padded count n body))
+    ∙ ap (λ (m : ℕ). value decimal_table (take m (padded count body))) (sym (run_len-padded count body))
+
+number-all : (k : Kind) (extent : Extent) (g : Sign) → number_at k true extent g ≡ value decimal_table (run decimal_table g.body)
+number-all k extent g = ap (λ (m : ℕ). value decimal_table (take m g.body)) (seen_all (class_of k) extent (run_len decimal_table g.body))
+
+number-padded : (k : Kind) (extent : Extent) (count : ℕ) (g : Sign)
+    → number_at k true extent g ≡ number_at k true extent (record { minus = g.minus; taken = g.taken; body = padded count g.body })
+number-padded k extent count g =
+    number-all k extent g ∙ value-padded count g.body
+    ∙ sym (number-all k extent (record { minus = g.minus; taken = g.taken; body = padded count g.body }))
+
+-- a test of two numbers stays where both grow alike
+eqb-add : (more m n : ℕ) → eqb m n ≡ eqb (more + m) (more + n)
+eqb-add more m n =
+    elim (cases_eq m n) [
+      | inl e ↦ eq-eqb m n e ∙ sym (eq-eqb (more + m) (more + n) (omega arith))
+      | inr ne ↦ ne_eqb m n ne ∙ sym (ne_eqb (more + m) (more + n) (λ e. ne (omega arith)))
+    ]
+
+followed-padded : (extent : Extent) (count : ℕ) (body : List ℕ)
+    → leaves_rest extent (run_len decimal_table body) (length body) ≡ leaves_rest extent (run_len decimal_table (padded count body)) (length (padded count body))
+followed-padded prefix count body = refl
+followed-padded whole count body =
+    ap not (eqb-add count (run_len decimal_table body) (length body))
+    ∙ rw (run_len-padded count body, length-padded count body) refl
+
+padded_alike : (k : Kind) (extent : Extent) (count : ℕ) (g : Sign) → 0 < run_len decimal_table g.body
+    → IsAlike k true extent g (record { minus = g.minus; taken = g.taken; body = padded count g.body })
+padded_alike k extent count g some =
+    let longer = run_len-padded count g.body in
+    let leading = zeros-padded count g.body in
+    record {
+      bound = refl;
+      is_empty = ne_eqb (run_len decimal_table g.body) 0 (omega arith) ∙ sym (ne_eqb (run_len decimal_table (padded count g.body)) 0 (omega arith));
+      counts = omega arith;
+      number = number-padded k extent count g;
+      followed = followed-padded extent count g.body;
+    }
+
+-- the sign is taken before the zeros too
+sign_of_padded : (k : Kind) (form : SignForm) (s : List ℕ) (count : ℕ) → 0 < run_len decimal_table (sign_in k form s).body
+    → sign_in k form (with_zeros k form count s)
+    ≡ record { minus = (sign_in k form s).minus; taken = (sign_in k form s).taken; body = padded count (sign_in k form s).body }
+sign_of_padded k form s count some =
+    let longer = run_len-padded count (sign_in k form s).body in
+    sign_again k form s (padded count (sign_in k form s).body) (omega arith)
+
+-- a whole parse and a prefix parse of the body with zeros before it, behind the same sign
+whole_padded : (k : Kind) (g : Sign) (count : ℕ) → 0 < run_len decimal_table g.body
+    → IsSameKind (whole_at k true g) (whole_at k true (record { minus = g.minus; taken = g.taken; body = padded count g.body }))
+whole_padded k g count some =
+    let h = record g { body = padded count g.body } in
+    same_kind g.minus g.minus (reason_at k true whole g) (reason_at k true whole h) (value decimal_table (run decimal_table g.body)) (value decimal_table (run decimal_table h.body))
+    (same_reason k true whole g h (padded_alike k whole count g some))
+    (ap (number_of g.minus) (value-padded count g.body))
+
+prefix_padded : (k : Kind) (g : Sign) (count : ℕ) → 0 < run_len decimal_table g.body
+    → IsSameKind (with_more count (prefix_at k true g)) (prefix_at k true (record { minus = g.minus; taken = g.taken; body = padded count g.body }))
+prefix_padded k g count some =
+    let h = record g { body = padded count g.body } in
+    let shorter = seen-skipping (class_of k) (run_len decimal_table g.body) in
+    let longer = seen-skipping (class_of k) (run_len decimal_table h.body) in
+    let more = run_len-padded count g.body in
+    same_prefix_kind count g.taken g.taken g.minus g.minus (reason_at k true prefix g) (reason_at k true prefix h)
+    (number_at k true prefix g, read_at k true prefix g) (number_at k true prefix h, read_at k true prefix h)
+    (same_reason k true prefix g h (padded_alike k prefix count g some))
+    (ap (number_of g.minus) (number-padded k prefix count g)) (omega arith)
+
+pub zeros_change_nothing : (k : Kind) → ZerosChangeNothing k
+zeros_change_nothing k = record {
+  whole = λ form has s count some.
+      subst₂ (λ x y. IsSameKind x y) (sym (whole_call-is k form true s))
+      (ap (whole_at k true) (sym (sign_of_padded k form s count some)) ∙ sym (whole_call-is k form true (with_zeros k form count s)))
+      (whole_padded k (sign_in k form s) count some);
+  prefix = λ form has s count some.
+      subst₂ (λ x y. IsSameKind x y) (ap (with_more count) (sym (prefix_call-is k form true s)))
+      (ap (prefix_at k true) (sym (sign_of_padded k form s count some)) ∙ sym (prefix_call-is k form true (with_zeros k form count s)))
+      (prefix_padded k (sign_in k form s) count some);
+}
