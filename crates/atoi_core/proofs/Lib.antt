@@ -1,2 +1,5 @@
-mod Digits
-mod Magnitudes
+pub mod Digits
+pub mod Magnitudes
+pub mod RunLemmas
+pub mod ValueLemmas
+pub mod WindowLemmas
