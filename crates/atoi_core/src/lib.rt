@@ -5,13 +5,17 @@
 mod digit_loop;
 mod engine;
 mod error;
+mod number;
 mod plain;
+mod sign;
 mod steps;
 mod window;
 
 pub use crate::digit_loop::narrow_whole;
 pub use crate::engine::Engine;
 pub use crate::error::AtoiSimdError;
+pub use crate::number::{Number, Signed};
 pub use crate::plain::Plain;
+pub use crate::sign::take_sign;
 pub use crate::steps::Steps;
 pub use crate::window::Window;
