@@ -21,3 +21,13 @@ pub mod DigitText
 mod Digits
 pub mod ErrorOrder
 mod Magnitudes
+pub mod CutLemmas
+pub mod RefusalLemmas
+pub mod SignLemmas
+pub mod CallLemmas
+pub mod LimitLemmas
+pub mod TextLemmas
+pub mod DecimalLemmas
+pub mod PrefixLemmas
+pub mod SuffixLemmas
+pub mod KindLemmas
