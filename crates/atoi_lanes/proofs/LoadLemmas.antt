@@ -130,8 +130,8 @@ lanes-of_words s h lt =
     let low = number_l 256 (take 8 s) in
     let high = number_l 256 (drop 8 s) in
     let all : low + 2 ^ 64 * (high + 2 ^ 64 * 0) ≡ number_l 256 s =
-      elim (cases_lt (length s) 8) [
-        | inl short ↦ omega (arith, ap (number_l 256) (take_all 8 s (omega arith)), ap (number_l 256) (drop_all 8 s (omega arith)))
-        | inr long ↦ omega (arith, first-and_rest 8 s long)
-      ] in
+    elim (cases_lt (length s) 8) [
+      | inl short ↦ omega (arith, ap (number_l 256) (take_all 8 s (omega arith)), ap (number_l 256) (drop_all 8 s (omega arith)))
+      | inr long ↦ omega (arith, first-and_rest 8 s long)
+    ] in
     ap (digits_l 256 16) all ∙ digits-number 256 16 16 s h (omega arith)

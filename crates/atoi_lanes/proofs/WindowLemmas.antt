@@ -43,7 +43,7 @@ lanes_tell size s =
     let len = prefix_len-padded (is_digit decimal_table) refl 16 16 s in
     let leading = prefix_len-padded (is_zero decimal_table) refl 16 16 s in
     let front : run decimal_table (padded 16 s) ≡ run decimal_table (take 16 s) =
-      ap (λ n. take n (padded 16 s)) len ∙ front-padded (is_digit decimal_table) 16 s (replicate 16 0) in
+    ap (λ n. take n (padded 16 s)) len ∙ front-padded (is_digit decimal_table) 16 s (replicate 16 0) in
     let window : (ℕ → ℕ → List ℕ → Window) = λ n z r. record { len = n; zeroes = if n == size then z else 0; number = value decimal_table r } in
     ap₂ (λ n z. window n z (run decimal_table (padded 16 s))) len leading
     ∙ ap (window (run_len decimal_table (take 16 s)) (zeros decimal_table (take 16 s))) front

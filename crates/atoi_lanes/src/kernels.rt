@@ -143,3 +143,16 @@ pub fn sum_lanes(v: u8x16, len: u32) -> u64
     let places = u64x16::from_slice(&PLACES[LANES - len as usize..]);
     (worths * places).reduce_sum()
 }
+
+#[cfg(test)]
+mod tests {
+    use super::*;
+
+    #[test]
+    fn lanes_behind_the_run_are_not_added(rt: HostRuntime) {
+        let lanes = load_lanes(b"12\xFF9999999999999");
+        assert_eq!(rt; len_lanes(lanes), 2);
+        let lanes = u8x16::from_array(*b"12\xFF9999999999999");
+        assert_eq!(rt; sum_lanes(lanes, 2), 12);
+    }
+}

@@ -7,15 +7,9 @@ ghost use Rattle.atoi_core.specs.Digit.{decimal_table};
 ghost use Rattle.atoi_core.specs.Window.{window_of};
 ghost use Rattle.atoi_lanes.specs.LaneWindow.{lane_window};
 
-use atoi_core::Engine;
-use atoi_core::Steps;
-use atoi_core::Window;
+use crate::kernels::{len_lanes, load_lanes, sum_lanes, zeroes_lanes};
+use atoi_core::{Engine, Steps, Window};
 use std::simd::prelude::*;
-
-use crate::kernels::len_lanes;
-use crate::kernels::load_lanes;
-use crate::kernels::sum_lanes;
-use crate::kernels::zeroes_lanes;
 
 /// The engine on vector lanes: its windows answer what those of every decimal engine do.
 pub struct Lanes;
@@ -52,4 +46,52 @@ impl Engine for Lanes {
     }
 
     ghost below_ten = { λ byte. Prim.grind (arith, nat_tests) };
+}
+
+#[cfg(test)]
+mod tests {
+    use super::*;
+
+    fn first_16(s: &[u8]) -> Window {
+        Lanes::window(s, &mut Steps::new())
+    }
+
+    fn first_8(s: &[u8]) -> Window {
+        Lanes::window_8(s, &mut Steps::new())
+    }
+
+    #[test]
+    fn the_neighbours_of_the_digits_are_no_digits(rt: HostRuntime) {
+        assert_eq!(rt; first_16(b"/0").len, 0);
+        assert_eq!(rt; first_16(b":0").len, 0);
+        let front = first_16(b"9\xFF9");
+        assert_eq!(rt; (front.len, front.number), (1, 9));
+    }
+
+    #[test]
+    fn a_full_window_tells_its_zeros(rt: HostRuntime) {
+        let nines = first_16(b"9999999999999999");
+        assert_eq!(rt;
+            (nines.len, nines.zeroes, nines.number),
+            (16, 0, 9_999_999_999_999_999)
+        );
+        let padded = first_16(b"0000000000000123");
+        assert_eq!(rt; (padded.len, padded.zeroes, padded.number), (16, 13, 123));
+    }
+
+    #[test]
+    fn a_window_that_is_not_full_tells_no_zeros(rt: HostRuntime) {
+        let cut = first_16(b"000000000000123\0");
+        assert_eq!(rt; (cut.len, cut.zeroes, cut.number), (15, 0, 123));
+        let short = first_16(b"123\0\0\0\0\0\0\0\0\0\0\0\0\0");
+        assert_eq!(rt; (short.len, short.zeroes, short.number), (3, 0, 123));
+    }
+
+    #[test]
+    fn eight_bytes(rt: HostRuntime) {
+        assert_eq!(rt; first_8(b"1\0\0\0\0\0\0\0").len, 1);
+        assert_eq!(rt; first_8(b"12\0\0\0\0\0\0").len, 2);
+        let full = first_8(b"12345678");
+        assert_eq!(rt; (full.len, full.zeroes, full.number), (8, 0, 12_345_678));
+    }
 }
