@@ -9,4 +9,5 @@ pub mod Answer
 pub mod Text
 pub mod Loads
 pub mod Window
+pub mod Words
 pub mod Examples

@@ -1,0 +1,20 @@
+use Rattle.atoi_core.proofs.AsciiText.{IsAscii-size_text, IsAscii-overflow_text, IsAscii-invalid64_text, IsAscii-invalid128_text}
+use Rattle.atoi_core.proofs.error.AtoiSimdError.text.Goals as goal
+
+pub returns-in-Size-clause-ascii : goal.returns-in-Size-clause-ascii
+returns-in-Size-clause-ascii c =
+    let number = c.put_decimal-end.ensures.ascii in
+    rw c.in-Size.is (IsAscii-size_text _ _ number c.put_input.ensures.ascii)
+
+pub returns-in-Overflow-clause-ascii : goal.returns-in-Overflow-clause-ascii
+returns-in-Overflow-clause-ascii c = rw c.in-Overflow.is (IsAscii-overflow_text _ c.put_input-in-Overflow.ensures.ascii)
+
+pub returns-in-Invalid64-clause-ascii : goal.returns-in-Invalid64-clause-ascii
+returns-in-Invalid64-clause-ascii c =
+    let place = c.put_invalid-end.ensures.ascii in
+    rw c.in-Invalid64.is (IsAscii-invalid64_text _ _ _ place.1 place.0 c.put_input-in-Invalid64.ensures.ascii)
+
+pub returns-in-Invalid128-clause-ascii : goal.returns-in-Invalid128-clause-ascii
+returns-in-Invalid128-clause-ascii c =
+    let place = c.put_invalid-end-in-Invalid128.ensures.ascii in
+    rw c.in-Invalid128.is (IsAscii-invalid128_text _ _ _ place.1 place.0 c.put_input-in-Invalid128.ensures.ascii)

@@ -1,0 +1,116 @@
+//! Bytes, hexadecimal numbers and decimal numbers written into a slice from a place on.
+//! It stands on nothing.
+ghost use Rattle.std.specs.Prelude.{◌≡◌, ◌+◌, ◌-◌, ◌*◌, ◌^◌, ◌<◌, ◌≤◌, ◌∷◌, [], ◌++◌, true, length, take, decimal, IsAscii};
+ghost use Rattle.std.specs.Fmt.{digit_glyph};
+ghost use Rattle.atoi_core.specs.ErrorText.{hex_text, hex_list};
+
+/// Puts the decimal digits of `value` at the front of `out` and answers how many they are, from 1
+/// to 39 bytes. There is no leading zero, and zero is one digit. What stands behind them in `out` is
+/// open.
+pub fn decimal(value: u128, out: &mut [u8; 39]) -> usize
+    ensures digits { take result out.new ≡ decimal value }
+    ensures length { result ≡ length (decimal value) }
+    ensures fits { result ≤ 39 }
+    ensures ascii { IsAscii (decimal value) }
+{
+    put_decimal(value, out, 0)
+}
+
+// Writes the bytes from `at` on, and answers the place behind them, as each function below does.
+pub(crate) fn put_bytes(bytes: &[u8], out: &mut [u8], at: usize) -> usize
+    requires { at + length bytes.now ≤ length out.old }
+    ensures written { take result out.new ≡ take at out.old ++ bytes.now }
+    ensures place { result ≡ at + length bytes.now }
+{
+    let end = at + bytes.len();
+    out[at..end].copy_from_slice(bytes);
+    end
+}
+
+fn put_byte(byte: u8, out: &mut [u8], at: usize) -> usize
+    requires { at < length out.old }
+    ensures written { take result out.new ≡ take at out.old ++ byte ∷ [] }
+    ensures place { result ≡ at + 1 }
+{
+    out[at] = byte;
+    at + 1
+}
+
+// The front of the number, and then its last digit.
+#[tactic(auto, using(std::proofs::lemmas::Fmt::decimal_digit))]
+pub(crate) fn put_decimal(value: u128, out: &mut [u8], at: usize) -> usize
+    requires { at + 39 ≤ length out.old }
+    ensures written { take result out.new ≡ take at out.old ++ decimal value }
+    ensures place { result ≡ at + length (decimal value) }
+    ensures fits { result ≤ at + 39 }
+    ensures fits_of_64_bits { value < 2 ^ 64 → result ≤ at + 20 }
+    ensures ascii { IsAscii (decimal value) }
+{
+    let last = b'0' + (value % 10) as u8;
+    if value < 10 {
+        return put_byte(last, out, at);
+    }
+    let end = put_decimal(value / 10, out, at);
+    put_byte(last, out, end)
+}
+
+// In capitals, without a leading zero.
+#[tactic(auto, using(crate::proofs::DigitText::hex_text_of_one_digit))]
+fn put_hex(byte: u8, out: &mut [u8], at: usize) -> usize
+    requires { at + 2 ≤ length out.old }
+    ensures written { take result out.new ≡ take at out.old ++ hex_text byte }
+    ensures fits { result ≤ at + 2 }
+{
+    let last = hex_digit(byte % 16);
+    if byte < 16 {
+        return put_byte(last, out, at);
+    }
+    let end = put_byte(hex_digit(byte / 16), out, at);
+    put_byte(last, out, end)
+}
+
+fn hex_digit(digit: u8) -> u8
+    requires { digit < 16 }
+    ensures { result ≡ digit_glyph true digit }
+{
+    if digit < 10 {
+        b'0' + digit
+    } else {
+        b'A' + (digit - 10)
+    }
+}
+
+// Each byte in hexadecimal, joined by comma and space: four bytes for each, but two for the last.
+pub(crate) fn put_hex_list(bytes: &[u8], out: &mut [u8], at: usize) -> usize
+    requires { at + (4 * length bytes.now - 2) ≤ length out.old }
+    ensures written { take result out.new ≡ take at out.old ++ hex_list bytes.now }
+    ensures fits { result ≤ at + (4 * length bytes.now - 2) }
+    ensures ascii { IsAscii (hex_list bytes.now) }
+{
+    let [first, rest @ ..] = bytes else {
+        return at;
+    };
+    let mut end = put_hex(*first, out, at);
+    for byte in rest {
+        end = put_bytes(b", ", out, end);
+        end = put_hex(*byte, out, end);
+    }
+    end
+}
+
+#[cfg(test)]
+mod tests {
+    use super::*;
+
+    #[test]
+    fn zero_is_one_digit_and_the_greatest_number_is_39(rt: HostRuntime) {
+        let mut out = [b'?'; 39];
+        let length = decimal(0, &mut out);
+        assert_eq!(rt; &out[..length], b"0".as_slice());
+        let length = decimal(u128::MAX, &mut out);
+        assert_eq!(rt;
+            &out[..length],
+            b"340282366920938463463374607431768211455".as_slice()
+        );
+    }
+}
