@@ -31,3 +31,4 @@ pub mod DecimalLemmas
 pub mod PrefixLemmas
 pub mod SuffixLemmas
 pub mod KindLemmas
+pub mod LoadedBytes

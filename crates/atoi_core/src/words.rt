@@ -1,9 +1,52 @@
 //! Eight or sixteen bytes in one word, the first the lowest: a load, how many digits or zeros
 //! it begins with, and the number that they write. It stands on nothing.
-ghost use Rattle.std.specs.Prelude.{◌≡◌, ℕ, ◌≤◌, take};
+ghost use Rattle.std.specs.Prelude.{◌≡◌, ℕ, ◌<◌, ◌≤◌, length, take};
+ghost use Rattle.std.specs.Int.{from_le_bytes, w64};
 ghost use Rattle.atoi_core.specs.Digit.{decimal_table};
 ghost use Rattle.atoi_core.specs.Run.{run_len, zeros};
 ghost use Rattle.atoi_core.specs.Words.{low_bytes, word_of, low_value};
+
+/// The first 8 bytes, or all where there are fewer: the first is the lowest, and a byte that is
+/// missing is 0.
+#[inline(always)]
+pub fn load_8(s: &[u8]) -> u64
+    ensures { result ≡ word_of (take 8 s.now) }
+{
+    match s.first_chunk::<8>() {
+        Some(bytes) => u64::from_le_bytes(*bytes),
+        None => load_part(s),
+    }
+}
+
+// Fewer than 8 bytes: from 4 on the first 4, and above them those of the last 4 that are left.
+#[inline(always)]
+fn load_part(s: &[u8]) -> u64
+    requires { length s.now < 8 }
+    ensures { result ≡ from_le_bytes w64 s.now }
+{
+    match (s.first_chunk::<4>(), s.last_chunk::<4>()) {
+        (Some(first), Some(last)) => {
+            let low = u32::from_le_bytes(*first) as u64;
+            let high = u32::from_le_bytes(*last) as u64;
+            low + ((high >> (64 - 8 * s.len())) << 32)
+        }
+        _ => load_few(s),
+    }
+}
+
+// Fewer than 4 bytes.
+#[inline(always)]
+fn load_few(s: &[u8]) -> u64
+    requires { length s.now < 4 }
+    ensures { result ≡ from_le_bytes w64 s.now }
+{
+    match s {
+        [] => 0,
+        [a] => *a as u64,
+        [a, b] => *a as u64 + ((*b as u64) << 8),
+        [a, b, c, ..] => *a as u64 + ((*b as u64) << 8) + ((*c as u64) << 16),
+    }
+}
 
 /// How many lowest bytes in a row are digits: 0 to 8.
 #[inline(always)]
