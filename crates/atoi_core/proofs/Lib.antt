@@ -16,11 +16,6 @@ pub mod WordRuns
 pub mod SkipLemmas
 pub mod WideLemmas
 pub mod NarrowLemmas
-pub mod AsciiText
-pub mod DigitText
-mod Digits
-pub mod ErrorOrder
-mod Magnitudes
 pub mod CutLemmas
 pub mod RefusalLemmas
 pub mod SignLemmas
