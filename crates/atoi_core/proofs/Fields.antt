@@ -6,7 +6,7 @@ use Rattle.std.specs.Simd.Lanes.{digits_l}
 use Rattle.atoi_core.specs.Words.{low_bytes, low_value}
 use Rattle.atoi_core.proofs.Rounds.{lows, number_in, length-lows}
 
-length-digits : (base k word : ℕ) → length (digits_l base k word) ≡ k
+pub length-digits : (base k word : ℕ) → length (digits_l base k word) ≡ k
 length-digits base zero word = refl
 length-digits base (suc k) word = ap suc (length-digits base k (word / base))
 

@@ -27,3 +27,4 @@ pub mod PrefixLemmas
 pub mod SuffixLemmas
 pub mod KindLemmas
 pub mod LoadedBytes
+pub mod WordWindows

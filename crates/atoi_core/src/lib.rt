@@ -14,6 +14,7 @@ mod sign;
 mod steps;
 mod text;
 mod window;
+mod word_engine;
 pub mod words;
 
 pub use crate::digit_loop::narrow_whole;
@@ -26,3 +27,4 @@ pub use crate::sign::take_sign;
 pub use crate::steps::Steps;
 pub use crate::text::decimal;
 pub use crate::window::Window;
+pub use crate::word_engine::Words;
