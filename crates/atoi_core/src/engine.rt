@@ -8,7 +8,7 @@ ghost use Rattle.atoi_core.specs.Refusal.{answer_of};
 ghost use Rattle.atoi_core.specs.Window.{window_of};
 
 use crate::error::AtoiSimdError;
-use crate::join::{power_of_ten, up_to_64};
+use crate::join::{joined_128, power_of_ten, up_to_64};
 use crate::steps::Steps;
 use crate::window::Window;
 
@@ -71,6 +71,53 @@ pub trait Engine {
             return Ok((front.number * power + back.number, len));
         }
         match up_to_64(bound, front.number, power, back.number) {
+            Some(number) => Ok((number, len)),
+            None => Err(AtoiSimdError::Overflow(rest)),
+        }
+    }
+
+    /// The number at the front of `s`, and how many bytes it has, for an integer of 128 bits.
+    fn prefix_128<'a>(
+        bound: u128,
+        skip: bool,
+        s: &'a [u8],
+        steps: &mut Steps,
+    ) -> Result<(u128, usize), AtoiSimdError<'a>>
+        requires digits { HasDigits 39 bound }
+        ensures answer { answer_of result ≡ prefix_magnitude table wide128 bound 39 skip s.now }
+        ensures most { steps.new ≤ steps.old + most_loads table wide128 s.now }
+        ensures least { 0 < length s.now → steps.old < steps.new }
+        ensures least_skipping { IsTrue skip → steps.old + least_loads table s.now ≤ steps.new }
+    {
+        let mut at = 0;
+        let front = loop {
+            let window = Self::window(&s[at..], steps);
+            if !skip || window.zeroes == 0 {
+                break window;
+            }
+            at += window.zeroes as usize;
+        };
+        if front.len < 16 {
+            let len = at + front.len as usize;
+            return if len == 0 {
+                Err(AtoiSimdError::Empty)
+            } else {
+                Ok((u128::from(front.number), len))
+            };
+        }
+        let rest = &s[at..];
+        let middle = Self::window(&rest[16..], steps);
+        if middle.len < 16 {
+            let high = u128::from(front.number) * u128::from(power_of_ten(middle.len));
+            let len = at + 16 + middle.len as usize;
+            return Ok((high + u128::from(middle.number), len));
+        }
+        let back = Self::window_8(&rest[32..], steps);
+        let len = at + 32 + back.len as usize;
+        if back.len == 8 {
+            return Err(AtoiSimdError::Size(len, rest));
+        }
+        match joined_128(bound, front.number, middle.number, back) {
             Some(number) => Ok((number, len)),
             None => Err(AtoiSimdError::Overflow(rest)),
         }
