@@ -29,6 +29,7 @@ whole_skipping k minus body v h =
     (is_whole k minus true body old.some short (whole_in_range k minus false body old) (whole_is_run n (length body) old.ends))
     ∙ ap Ok (sym found.1)
 
+-- the law: skipping zeros agrees with counting them, where the latter succeeds
 pub skipping_agrees : (k : Kind) → SkippingAgrees k
 skipping_agrees k form has s v h =
     whole_call-is k form true s ∙ whole_skipping k (sign_in k form s).minus (sign_in k form s).body v (sym (whole_call-is k form false s) ∙ h)
@@ -37,6 +38,7 @@ skipping_agrees k form has s v h =
 digit_is : (byte : ℕ) → 48 ≤ byte → byte ≤ 57 → decimal_table byte ≡ Some (byte - 48)
 digit_is byte lo hi = rw (le-leb 48 byte lo, le-leb byte 57 hi) refl
 
+-- its worth is its distance from `0`
 worth_is : (byte : ℕ) → 48 ≤ byte → byte ≤ 57 → worth decimal_table byte ≡ byte - 48
 worth_is byte lo hi = rw (digit_is byte lo hi) refl
 
@@ -57,6 +59,7 @@ record IsTextOf (n : ℕ) (ds : List ℕ) : Type 0 where
   some : 0 < length ds
   is : value decimal_table ds ≡ n
 
+-- std writes such a text
 decimal_text : (n : ℕ) → n < 10 ^ 64 → IsTextOf n (decimal n)
 decimal_text n h =
     let numeral = decimal_is_IsNumeral_wide n h in
@@ -100,6 +103,7 @@ counting_text k sized minus h n le =
     ∙ ap (λ digits. Ok (number_of minus (value decimal_table digits))) is_run
     ∙ ap (λ m. Ok (number_of minus m)) text.is
 
+-- the same whether zeros are skipped or not
 magnitude_text : (k : Kind) → IsSized k → (minus : Bool) → (minus ≡ true → k.signed ≡ true) → (skip : Bool) (n : ℕ) → n ≤ bound_of k minus
     → whole_answer decimal_table k minus skip (decimal n) ≡ Ok (number_of minus n)
 magnitude_text k sized minus h true n le = whole_skipping k minus (decimal n) (number_of minus n) (counting_text k sized minus h n le)
@@ -117,6 +121,7 @@ negative_in_range : (signed : Bool) (greatest n : ℕ) → cond signed (neg_ℤ 
 negative_in_range false greatest n h = absurd h.le
 negative_in_range true greatest n h = let within = rw add-one at h in (refl, leb→le n greatest within.le)
 
+-- the law: the decimal text of every number of the type is parsed to it
 pub text_of_value : (k : Kind) → IsSized k → TextOfValue k
 text_of_value k sized skip plus (pos n) low high =
     let text = decimal_text n (lt_of_le_of_lt (leb→le n k.greatest high.le) (bound_below-64 k sized false)) in

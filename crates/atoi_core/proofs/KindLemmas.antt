@@ -45,9 +45,11 @@ same_prefix_kind more taken other_taken minus other_minus (Some reason) None x y
 abbrev reason_at : Kind → Bool → Extent → Sign → Option Refusal
 reason_at k skip extent g = refusal decimal_table (class_of k) (bound_of k g.minus) (limit_of k) extent skip g.body
 
+-- how many bytes are read there
 abbrev read_at : Kind → Bool → Extent → Sign → ℕ
 read_at k skip extent g = seen (class_of k) extent skip (run_len decimal_table g.body)
 
+-- the number that they write
 abbrev number_at : Kind → Bool → Extent → Sign → ℕ
 number_at k skip extent g = value decimal_table (take (read_at k skip extent g) g.body)
 
@@ -59,6 +61,7 @@ record IsAlike (k : Kind) (skip : Bool) (extent : Extent) (g h : Sign) : Type 0 
   number : number_at k skip extent g ≡ number_at k skip extent h
   followed : leaves_rest extent (run_len decimal_table g.body) (length g.body) ≡ leaves_rest extent (run_len decimal_table h.body) (length h.body)
 
+-- bodies that the tests do not tell apart are refused for reasons of one kind
 same_reason : (k : Kind) (skip : Bool) (extent : Extent) (g h : Sign) → IsAlike k skip extent g h
     → option_map rank (reason_at k skip extent g) ≡ option_map rank (reason_at k skip extent h)
 same_reason k skip extent g h alike =
@@ -70,6 +73,7 @@ same_reason k skip extent g h alike =
 abbrev prefix_at : Kind → Bool → Sign → Result (ℤ × ℕ) Refusal
 prefix_at k skip g = with_more g.taken (prefix_answer decimal_table k g.minus skip g.body)
 
+-- the same for a whole parse
 abbrev whole_at : Kind → Bool → Sign → Result ℤ Refusal
 whole_at k skip g = whole_answer decimal_table k g.minus skip g.body
 
@@ -77,9 +81,11 @@ whole_at k skip g = whole_answer decimal_table k g.minus skip g.body
 same_len : (s t : List ℕ) → run decimal_table s ≡ run decimal_table t → run_len decimal_table s ≡ run_len decimal_table t
 same_len s t e = sym (length-run decimal_table s) ∙ ap length e ∙ length-run decimal_table t
 
+-- and the same zeros
 same_zeros : (s t : List ℕ) → run decimal_table s ≡ run decimal_table t → zeros decimal_table s ≡ zeros decimal_table t
 same_zeros s t e = sym (zeros-run decimal_table s) ∙ ap (zeros decimal_table) e ∙ zeros-run decimal_table t
 
+-- and the same fronts within the run
 same_front : (n : ℕ) (s t : List ℕ) → run decimal_table s ≡ run decimal_table t → n ≤ run_len decimal_table s → take n s ≡ take n t
 same_front n s t e h =
     let len = same_len s t e in
@@ -107,6 +113,7 @@ same_run k skip g h minus taken runs =
     }))
     (λ i. number_of (minus i) (number i)) (omega arith)
 
+-- the law: what stands behind a run changes nothing
 pub rest_changes_nothing : (k : Kind) → RestChangesNothing k
 rest_changes_nothing k form has skip s t same =
     subst₂ (λ x y. IsSameKind x y) (with_more-zero (prefix_at k skip (sign_in k form s)) ∙ sym (prefix_call-is k form skip s)) (sym (prefix_call-is k form skip t))
@@ -114,15 +121,19 @@ rest_changes_nothing k form has skip s t same =
 
 -- ---- zeros put before a body
 
+-- a body with that many zeros before it
 abbrev padded : ℕ → List ℕ → List ℕ
 padded count body = replicate count zero_byte ++ body
 
+-- its run is longer by the zeros
 run_len-padded : (count : ℕ) (body : List ℕ) → run_len decimal_table (padded count body) ≡ count + run_len decimal_table body
 run_len-padded count body = prefix_len-replicate_append (is_digit decimal_table) zero_byte refl count body
 
+-- it begins with as many zeros more
 zeros-padded : (count : ℕ) (body : List ℕ) → zeros decimal_table (padded count body) ≡ count + zeros decimal_table body
 zeros-padded count body = prefix_len-replicate_append (is_zero decimal_table) zero_byte refl count body
 
+-- it is longer by them
 length-padded : (count : ℕ) (body : List ℕ) → length (padded count body) ≡ count + length body
 length-padded count body = simp (length-append, length-replicate)
 
@@ -138,6 +149,7 @@ seen_all : (class : Class) (extent : Extent) (digits : ℕ) → seen class exten
 seen_all class whole digits = seen-whole class true digits
 seen_all class prefix digits = seen-skipping class digits
 
+-- its run writes the same number
 value-padded : (count : ℕ) (body : List ℕ) → value decimal_table (run decimal_table body) ≡ value decimal_table (run decimal_table (padded count body))
 value-padded count body =
     let n = run_len decimal_table body in
@@ -145,9 +157,11 @@ value-padded count body =
     ∙ ap (value decimal_table) (sym (take-padded count n body))
     ∙ ap (λ (m : ℕ). value decimal_table (take m (padded count body))) (sym (run_len-padded count body))
 
+-- where zeros are skipped, the number is that of the whole run
 number-all : (k : Kind) (extent : Extent) (g : Sign) → number_at k true extent g ≡ value decimal_table (run decimal_table g.body)
 number-all k extent g = ap (λ (m : ℕ). value decimal_table (take m g.body)) (seen_all (class_of k) extent (run_len decimal_table g.body))
 
+-- the number that is read stays
 number-padded : (k : Kind) (extent : Extent) (count : ℕ) (g : Sign)
     → number_at k true extent g ≡ number_at k true extent (record { minus = g.minus; taken = g.taken; body = padded count g.body })
 number-padded k extent count g =
@@ -162,6 +176,7 @@ eqb-add more m n =
       | inr ne ↦ ne_eqb m n ne ∙ sym (ne_eqb (more + m) (more + n) (λ e. ne (omega arith)))
     ]
 
+-- a rest behind the digits stays
 followed-padded : (extent : Extent) (count : ℕ) (body : List ℕ)
     → leaves_rest extent (run_len decimal_table body) (length body) ≡ leaves_rest extent (run_len decimal_table (padded count body)) (length (padded count body))
 followed-padded prefix count body = refl
@@ -169,6 +184,7 @@ followed-padded whole count body =
     ap not (eqb-add count (run_len decimal_table body) (length body))
     ∙ rw (run_len-padded count body, length-padded count body) refl
 
+-- the tests do not tell a body from the same with zeros before it
 padded_alike : (k : Kind) (extent : Extent) (count : ℕ) (g : Sign) → 0 < run_len decimal_table g.body
     → IsAlike k true extent g (record { minus = g.minus; taken = g.taken; body = padded count g.body })
 padded_alike k extent count g some =
@@ -199,6 +215,7 @@ whole_padded k g count some =
     (same_reason k true whole g h (padded_alike k whole count g some))
     (ap (number_of g.minus) (value-padded count g.body))
 
+-- the same of a prefix parse, whose count grows by the zeros
 prefix_padded : (k : Kind) (g : Sign) (count : ℕ) → 0 < run_len decimal_table g.body
     → IsSameKind (with_more count (prefix_at k true g)) (prefix_at k true (record { minus = g.minus; taken = g.taken; body = padded count g.body }))
 prefix_padded k g count some =
@@ -211,6 +228,7 @@ prefix_padded k g count some =
     (same_reason k true prefix g h (padded_alike k prefix count g some))
     (ap (number_of g.minus) (number-padded k prefix count g)) (omega arith)
 
+-- the law: zeros before a body change nothing
 pub zeros_change_nothing : (k : Kind) → ZerosChangeNothing k
 zeros_change_nothing k = record {
   whole = λ form has s count some.

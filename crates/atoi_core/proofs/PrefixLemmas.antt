@@ -14,6 +14,7 @@ use Rattle.atoi_core.proofs.SignLemmas.{drop-taken, length-taken, sign_again}
 use Rattle.atoi_core.proofs.CallLemmas.{whole_call-is, from_whole, to_whole, is_whole, whole_is_run, whole_in_range, IsFront, IsFound, found_prefix, ok_prefix, seen-le, seen-pos, seen-seen, seen-all}
 use Rattle.atoi_core.proofs.LimitLemmas.{shorter}
 
+-- the law: a prefix that reads its whole run stops at the end or before a byte that is no digit
 pub prefix_stops_at_rest : (k : Kind) → PrefixStopsAtRest k
 prefix_stops_at_rest k form has skip s v count all h =
     let found = found_prefix k form skip s v count h in
@@ -45,6 +46,7 @@ reached k form skip s v read h =
     let counted = h.counted in
     (omega arith, omega arith)
 
+-- a prefix that reaches the end is a whole parse
 whole_of_prefix : (k : Kind) (form : SignForm) (skip : Bool) (s : List ℕ) (v : ℤ)
     → prefix_call k form skip s ≡ Ok (v, length s) → whole_call k form skip s ≡ Ok v
 whole_of_prefix k form skip s v h =
@@ -59,6 +61,7 @@ whole_of_prefix k form skip s v h =
     whole_call-is k form skip s ∙ to_whole k g.minus skip g.body body_is
     ∙ ap (λ read. Ok (number_of g.minus (value decimal_table (take read g.body)))) (sym ends.0) ∙ ap Ok (sym found.1.number)
 
+-- a whole parse is a prefix that reaches the end, where the whole run is read
 prefix_of_whole : (k : Kind) (form : SignForm) (skip : Bool) (s : List ℕ) (v : ℤ) → ReadsWholeRun k skip
     → whole_call k form skip s ≡ Ok v → prefix_call k form skip s ≡ Ok (v, length s)
 prefix_of_whole k form skip s v all h =
@@ -76,6 +79,7 @@ prefix_of_whole k form skip s v all h =
       counted = omega arith;
     })
 
+-- the law: both directions
 pub prefix_is_whole : (k : Kind) → PrefixIsWhole k
 prefix_is_whole k = record {
   whole = λ form has skip s v h. whole_of_prefix k form skip s v h;
@@ -115,6 +119,7 @@ found_again k g skip v count read h =
     counted-le true read n z h = omega arith
     counted-le false read n z h = h
 
+-- the law: a prefix is answered alike where the slice ends with it
 pub prefix_of_cut : (k : Kind) → PrefixOfCut k
 prefix_of_cut k form has skip s v count h =
     let found = found_prefix k form skip s v count h in

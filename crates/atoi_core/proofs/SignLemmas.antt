@@ -50,6 +50,7 @@ minus_of signed plus (byte ∷ bytes) h =
     sign_cases signed plus byte bytes (λ g. g.minus ≡ true → signed ≡ true)
     (λ e q. absurd (cc q)) (λ p e q. (and_parts signed (eqb byte minus_sign) e).0) (λ q. absurd (cc q)) h
 
+-- a call of any form goes by a minus only where the type is signed
 pub minus_is_signed : (k : Kind) (form : SignForm) → HasForm k form → (s : List ℕ) → (sign_in k form s).minus ≡ true → k.signed ≡ true
 minus_is_signed k (looked_for plus) has s h = minus_of k.signed plus s h
 minus_is_signed k positive has s h = absurd (cc h)
