@@ -1,10 +1,10 @@
 -- The calls by the sign that they go by, and what an answer that is `Ok` tells.
-use Rattle.std.proofs.Common.{◌≡◌, ℕ, ◌+◌, Bool, true, false, List, length, take, Option, Some, None, Result, Ok, Err, ℤ, refl, sym, ap, ◌∙◌, add-zero, ◌<◌, ◌≤◌, eqb, not, eqb-true, eq-eqb, cond, inl, inr, arith}
+use Rattle.std.proofs.Common.{◌≡◌, ℕ, ◌+◌, Bool, true, false, List, length, take, Option, Some, None, Result, Ok, Err, ℤ, refl, sym, ap, ◌∙◌, add-zero, ◌<◌, ◌≤◌, eqb, eqb-true, eq-eqb, cond, inl, inr, arith}
 use Rattle.std.proofs.lemmas.Bool.{not-false, lt-leb}
 use Rattle.atoi_core.specs.Digit.{decimal_table}
 use Rattle.atoi_core.specs.Run.{run_len, run, zeros, value}
 use Rattle.atoi_core.specs.Refusal.{Refusal}
-use Rattle.atoi_core.specs.Magnitude.{Class, narrow, wide64, wide128, whole, prefix, seen, counted, is_too_long, leaves_rest, refusal, unless_refused}
+use Rattle.atoi_core.specs.Magnitude.{Class, narrow, wide64, wide128, whole, prefix, seen, counted, is_too_long, leaves_rest, unless_refused}
 use Rattle.atoi_core.specs.Kind.{Kind, class_of, bound_of, limit_of}
 use Rattle.atoi_core.specs.Sign.{Sign, number_of}
 use Rattle.atoi_core.specs.Answer.{map_answer, whole_answer, prefix_answer}
@@ -173,13 +173,15 @@ pub found_prefix : (k : Kind) (form : SignForm) (skip : Bool) (s : List ℕ) (v 
 found_prefix k form skip s v count h =
     let g = sign_in k form s in
     let counted = with_more_ok g.taken (prefix_answer decimal_table k g.minus skip g.body) v count (sym (prefix_call-is k form skip s) ∙ h) in
-    let found = from_prefix k g.minus skip g.body v counted.0 counted.1 in
-    (counted.0, record {
-      front = found.0;
-      as_far = found.2;
-      number = rw found.2 found.1;
-      counted = counted.2;
-    })
+    let found = from_prefix k g.minus skip g.body v counted.0 counted.1 in (
+      counted.0,
+      record {
+        front = found.0;
+        as_far = found.2;
+        number = rw found.2 found.1;
+        counted = counted.2;
+      },
+    )
 
 -- a prefix call that finds such a front is `Ok`
 pub ok_prefix : (k : Kind) (form : SignForm) (skip : Bool) (s : List ℕ) (v : ℤ) (count read : ℕ)

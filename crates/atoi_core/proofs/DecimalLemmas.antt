@@ -1,16 +1,15 @@
 -- The decimal text of a number is parsed to that number.
-use Rattle.std.proofs.Common.{◌≡◌, ◌⊎◌, ℕ, zero, suc, ◌+◌, ◌-◌, ◌*◌, ◌^◌, ◌<◌, ◌≤◌, Bool, true, false, cond, ◌&&◌, eqb, leb, List, [], ◌∷◌, ◌++◌, length, take, decimal, IsTrue, All, Result, Ok, Err, ℤ, pos, negsuc, neg_ℤ, ◌≤ℤ◌, refl, sym, ap, ◌∙◌, subst, arith, inl, inr, add-one, leb→le, le-leb, lt_of_le_of_lt, one-add, Some, ◌↔◌}
-use Rattle.std.specs.Fmt.{signed_decimal}
+use Rattle.std.proofs.Common.{◌≡◌, ℕ, suc, ◌+◌, ◌-◌, ◌^◌, ◌<◌, ◌≤◌, Bool, true, false, cond, eqb, List, [], ◌∷◌, length, decimal, Ok, ℤ, pos, negsuc, neg_ℤ, ◌≤ℤ◌, refl, sym, ap, ◌∙◌, arith, inl, inr, add-one, leb→le, le-leb, lt_of_le_of_lt, Some}
 use Rattle.std.specs.Str.Parse.{AllDigits}
-use Rattle.std.proofs.lemmas.Str.Parse.{WeighsDigits, IsNumeralModel, numerals_by_weight, tells_digits, digit_from_value}
+use Rattle.std.proofs.lemmas.Str.Parse.{IsNumeralModel, numerals_by_weight, tells_digits, digit_from_value}
 use Rattle.std.proofs.lemmas.Fmt.{decimal_is_IsNumeral_wide, length-decimal-le_wide}
-use Rattle.atoi_core.specs.Digit.{decimal_table, is_digit, worth}
+use Rattle.atoi_core.specs.Digit.{decimal_table, worth}
 use Rattle.atoi_core.specs.Run.{run_len, run, zeros, value}
-use Rattle.atoi_core.specs.Magnitude.{narrow, is_too_long, counted}
+use Rattle.atoi_core.specs.Magnitude.{is_too_long, counted}
 use Rattle.atoi_core.specs.Kind.{Kind, IsSized, class_of, bound_of, limit_of}
 use Rattle.atoi_core.specs.Sign.{Sign, sign_of, number_of}
-use Rattle.atoi_core.specs.Answer.{whole_answer, parse_answer}
-use Rattle.atoi_core.specs.Laws.{SignForm, looked_for, HasForm, sign_in, whole_call, least_of, TextOfValue, SkippingAgrees}
+use Rattle.atoi_core.specs.Answer.{whole_answer}
+use Rattle.atoi_core.specs.Laws.{sign_in, TextOfValue, SkippingAgrees}
 use Rattle.atoi_core.proofs.CutLemmas.{run_all}
 use Rattle.atoi_core.proofs.SignLemmas.{sign_of_digits}
 use Rattle.atoi_core.proofs.CallLemmas.{whole_call-is, from_whole, to_whole, is_whole, whole_is_run, whole_in_range}
@@ -96,7 +95,7 @@ counting_text k sized minus h n le =
     let is_run = run_all decimal_table (decimal n) text.all in
     let some : 0 < run_len decimal_table (decimal n) = omega (arith, text.all, text.some) in
     let short : is_too_long (class_of k) (limit_of k) (counted false (run_len decimal_table (decimal n)) (zeros decimal_table (decimal n))) ≡ false =
-        rw text.all (decimal_short k sized minus h n le)
+    rw text.all (decimal_short k sized minus h n le)
     in
     let in_range : value decimal_table (run decimal_table (decimal n)) ≤ bound_of k minus = rw (is_run, text.is) le in
     to_whole k minus false (decimal n) (is_whole k minus false (decimal n) some short in_range text.all)

@@ -1,19 +1,18 @@
 -- Answers of one kind: what decides the kind, and that neither the rest behind a run nor zeros
 -- before it change it.
-use Rattle.std.proofs.Common.{◌≡◌, ℕ, zero, suc, ◌+◌, ◌-◌, ◌<◌, ◌≤◌, Bool, true, false, not, eqb, ltb, List, [], ◌++◌, length, take, replicate, Option, Some, None, Result, Ok, Err, ℤ, option_map, refl, sym, ap, ◌∙◌, subst, subst₂, arith, take-take, take_at, drop_at, inl, inr, length-append, add_assoc, eq-eqb, ne_eqb}
+use Rattle.std.proofs.Common.{◌≡◌, ℕ, ◌+◌, ◌<◌, ◌≤◌, Bool, true, not, eqb, ltb, List, [], ◌++◌, length, take, replicate, Option, Some, None, Result, ℤ, option_map, refl, sym, ap, ◌∙◌, subst₂, arith, take-take, take_at, drop_at, inl, inr, length-append, eq-eqb, ne_eqb}
 use Rattle.std.proofs.lemmas.List.{length-replicate}
 use Rattle.std.proofs.lemmas.Bool.{cases_eq}
 use Rattle.std.proofs.Math.Seq.{take-add}
 use Rattle.atoi_core.specs.Digit.{decimal_table, is_digit, is_zero}
 use Rattle.atoi_core.specs.Run.{run_len, run, zeros, value}
 use Rattle.atoi_core.specs.Refusal.{Refusal, rank}
-use Rattle.atoi_core.specs.Magnitude.{Class, narrow, wide64, wide128, Extent, whole, prefix, seen, counted, is_too_long, leaves_rest, invalid, refusal, unless_refused}
+use Rattle.atoi_core.specs.Magnitude.{Class, Extent, whole, prefix, seen, counted, is_too_long, leaves_rest, invalid, refusal, unless_refused}
 use Rattle.atoi_core.specs.Kind.{Kind, class_of, bound_of, limit_of}
 use Rattle.atoi_core.specs.Sign.{Sign, number_of}
 use Rattle.atoi_core.specs.Answer.{map_answer, whole_answer, prefix_answer}
-use Rattle.atoi_core.specs.Laws.{SignForm, HasForm, sign_in, whole_call, prefix_call, with_more, with_zeros, zero_byte, IsSameKind, HaveSameRun, RestChangesNothing, ZerosChangeNothing}
-use Rattle.atoi_core.proofs.RunLemmas.{zeros-le}
-use Rattle.atoi_core.proofs.CutLemmas.{run_len-le, length-run, zeros-run, value-replicate, prefix_len-replicate_append}
+use Rattle.atoi_core.specs.Laws.{SignForm, sign_in, with_more, with_zeros, zero_byte, IsSameKind, RestChangesNothing, ZerosChangeNothing}
+use Rattle.atoi_core.proofs.CutLemmas.{length-run, zeros-run, value-replicate, prefix_len-replicate_append}
 use Rattle.atoi_core.proofs.RefusalLemmas.{refusal-rank, first_rank}
 use Rattle.atoi_core.proofs.SignLemmas.{sign_again}
 use Rattle.atoi_core.proofs.CallLemmas.{whole_call-is, prefix_call-is, seen-le, seen-whole, seen-skipping, with_more-zero}
@@ -35,7 +34,7 @@ counted_number minus found = (number_of minus found.0, found.1)
 same_prefix_kind : (more taken other_taken : ℕ) (minus other_minus : Bool) (r q : Option Refusal) (x y : ℕ × ℕ) → option_map rank r ≡ option_map rank q
     → number_of minus x.0 ≡ number_of other_minus y.0 → x.1 + taken + more ≡ y.1 + other_taken
     → IsSameKind (with_more more (with_more taken (map_answer (counted_number minus) (unless_refused r x))))
-      (with_more other_taken (map_answer (counted_number other_minus) (unless_refused q y)))
+    (with_more other_taken (map_answer (counted_number other_minus) (unless_refused q y)))
 same_prefix_kind more taken other_taken minus other_minus None None x y h e c = λ i. (e i, c i)
 same_prefix_kind more taken other_taken minus other_minus (Some reason) (Some other) x y h e c = cc h
 same_prefix_kind more taken other_taken minus other_minus None (Some other) x y h e c = absurd (cc h)
@@ -99,8 +98,8 @@ same_run k skip g h minus taken runs =
     let leading = same_zeros g.body h.body runs in
     let read : read_at k skip prefix g ≡ read_at k skip prefix h = ap (seen (class_of k) prefix skip) len in
     let number : number_at k skip prefix g ≡ number_at k skip prefix h =
-        ap (value decimal_table) (same_front (read_at k skip prefix g) g.body h.body runs (seen-le (class_of k) skip (run_len decimal_table g.body))
-        ∙ ap (λ (n : ℕ). take n h.body) read)
+    ap (value decimal_table) (same_front (read_at k skip prefix g) g.body h.body runs (seen-le (class_of k) skip (run_len decimal_table g.body))
+    ∙ ap (λ (n : ℕ). take n h.body) read)
     in
     same_prefix_kind 0 g.taken h.taken g.minus h.minus (reason_at k skip prefix g) (reason_at k skip prefix h)
     (number_at k skip prefix g, read_at k skip prefix g) (number_at k skip prefix h, read_at k skip prefix h)

@@ -1,5 +1,5 @@
 -- A number in range never has too many digits.
-use Rattle.std.proofs.Common.{◌≡◌, ◌⊎◌, ℕ, ◌+◌, ◌-◌, ◌*◌, ◌^◌, ◌<◌, ◌≤◌, Bool, true, false, cond, eqb, leb, List, length, take, refl, sym, ap, ◌∙◌, arith, inl, inr, le_trans, lt_of_le_of_lt, le-ltb, ltb-false}
+use Rattle.std.proofs.Common.{◌≡◌, ◌⊎◌, ℕ, ◌+◌, ◌-◌, ◌^◌, ◌<◌, ◌≤◌, Bool, true, false, cond, List, refl, arith, inl, inr, lt_of_le_of_lt, le-ltb, ltb-false}
 use Rattle.std.proofs.Math.Nat.{pow-le-pow_right}
 use Rattle.std.proofs.lemmas.Bool.{cases_lt}
 use Rattle.atoi_core.specs.Digit.{Table}
@@ -75,7 +75,7 @@ places-le table s limit h =
     elim (cases_lt limit (run_len table s - zeros table s)) [
       | inl more ↦
           let p : 10 ^ limit ≤ 10 ^ (run_len table s - zeros table s - 1) =
-              pow-le-pow_right {n = 10} (omega arith) {i = limit} {j = run_len table s - zeros table s - 1} (omega arith)
+          pow-le-pow_right {n = 10} (omega arith) {i = limit} {j = run_len table s - zeros table s - 1} (omega arith)
           in
           absurd (omega (arith, value-ge table s (omega arith)))
       | inr le ↦ le

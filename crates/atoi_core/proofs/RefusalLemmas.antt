@@ -1,11 +1,11 @@
 -- Where a body is refused, and why: the cases of `refusal`, each as a fact.
-use Rattle.std.proofs.Common.{◌≡◌, ◌≢◌, ℕ, zero, suc, ◌+◌, ◌-◌, ◌*◌, ◌<◌, ◌≤◌, min, Bool, true, false, cond, not, eqb, ltb, List, [], length, take, drop, subst, Option, Some, None, Result, Ok, Err, option_map, refl, sym, ap, ◌∙◌, arith, ltb-false, ltb-true, le-ltb, lt-ltb, eqb-true, eq-eqb, ne_eqb}
+use Rattle.std.proofs.Common.{◌≡◌, ℕ, ◌+◌, ◌-◌, ◌<◌, ◌≤◌, min, Bool, true, false, cond, eqb, ltb, List, [], length, take, drop, subst, Option, Some, None, option_map, refl, sym, ap, ◌∙◌, arith, ltb-false, le-ltb, ne_eqb}
 use Rattle.std.proofs.lemmas.Bool.{eqb-false}
 use Rattle.std.proofs.Math.Seq.{drop-length}
 use Rattle.atoi_core.specs.Digit.{Table}
-use Rattle.atoi_core.specs.Run.{run_len, run, zeros, value}
+use Rattle.atoi_core.specs.Run.{run_len, zeros, value}
 use Rattle.atoi_core.specs.Refusal.{Refusal, empty, size, overflow, rank, input_of}
-use Rattle.atoi_core.specs.Magnitude.{Class, narrow, wide64, wide128, Extent, whole, prefix, refusal, counted, seen, dropped, is_too_long, leaves_rest, cap, invalid}
+use Rattle.atoi_core.specs.Magnitude.{Class, narrow, wide64, wide128, Extent, refusal, counted, seen, dropped, is_too_long, leaves_rest, cap, invalid}
 
 -- the first of four reasons whose test holds
 abbrev first_reason : (a b c d : Bool) → (p q r s : Refusal) → Option Refusal

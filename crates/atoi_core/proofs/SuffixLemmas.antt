@@ -1,5 +1,5 @@
 -- Each slice in an error of an answer stands at the end of the slice that was parsed.
-use Rattle.std.proofs.Common.{◌≡◌, ℕ, ◌+◌, Bool, List, ◌++◌, take, drop, Result, Ok, Err, ℤ, refl, sym, ap, ◌∙◌, take-append-drop, drop-drop}
+use Rattle.std.proofs.Common.{◌≡◌, ℕ, ◌+◌, Bool, List, ◌++◌, take, drop, Result, Ok, Err, ℤ, sym, ap, ◌∙◌, take-append-drop, drop-drop}
 use Rattle.atoi_core.specs.Digit.{decimal_table}
 use Rattle.atoi_core.specs.Refusal.{Refusal, input_of}
 use Rattle.atoi_core.specs.Magnitude.{whole, prefix}

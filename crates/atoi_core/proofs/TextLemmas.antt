@@ -1,18 +1,16 @@
 -- The texts of a type are exactly what `parse` with both flags accepts.
-use Rattle.std.proofs.Common.{◌≡◌, ◌↔◌, ℕ, ◌+◌, ◌<◌, ◌≤◌, Bool, true, false, not, ◌&&◌, eqb, List, [], ◌∷◌, ◌++◌, length, take, All, IsTrue, IsOk, is_ok, Result, Ok, Err, ℤ, refl, sym, ap, ◌∙◌, subst, arith, eqb-true, eq-eqb, le_trans}
-use Rattle.std.proofs.lemmas.Bool.{and_parts, not-false}
-use Rattle.atoi_core.specs.Digit.{decimal_table, is_digit}
-use Rattle.atoi_core.specs.Run.{run_len, run, zeros, value}
-use Rattle.atoi_core.specs.Magnitude.{Class, narrow, wide64, wide128, whole, seen, leaves_rest}
-use Rattle.atoi_core.specs.Kind.{Kind, IsSized, class_of, bound_of, limit_of}
+use Rattle.std.proofs.Common.{◌≡◌, ◌↔◌, ℕ, ◌<◌, ◌≤◌, Bool, true, eqb, List, [], ◌∷◌, ◌++◌, length, IsOk, is_ok, Result, Ok, Err, ℤ, refl, sym, ap, ◌∙◌, arith, eqb-true}
+use Rattle.std.proofs.lemmas.Bool.{and_parts}
+use Rattle.atoi_core.specs.Digit.{decimal_table}
+use Rattle.atoi_core.specs.Run.{run_len, run, value}
+use Rattle.atoi_core.specs.Kind.{Kind, IsSized, bound_of}
 use Rattle.atoi_core.specs.Sign.{Sign, sign_of, number_of, plus_sign, minus_sign}
 use Rattle.atoi_core.specs.Answer.{whole_answer, parse_answer, typed_answer}
 use Rattle.atoi_core.specs.declared.error.AtoiSimdError.{AtoiSimdError}
 use Rattle.atoi_core.specs.Text.{SignMark, no_sign, plus, minus, sign_bytes, is_minus, IsText}
-use Rattle.atoi_core.specs.Laws.{AcceptedTexts, looked_for}
-use Rattle.atoi_core.proofs.CutLemmas.{run_len-le, all_digits, digits_all, run_all}
-use Rattle.atoi_core.proofs.RefusalLemmas.{IsAccepted}
-use Rattle.atoi_core.proofs.SignLemmas.{sign_cases, sign_of_digits, minus_is_signed}
+use Rattle.atoi_core.specs.Laws.{AcceptedTexts}
+use Rattle.atoi_core.proofs.CutLemmas.{all_digits, digits_all, run_all}
+use Rattle.atoi_core.proofs.SignLemmas.{sign_cases, sign_of_digits}
 use Rattle.atoi_core.proofs.CallLemmas.{from_whole, to_whole, whole_is_run, is_whole, whole_in_range}
 use Rattle.atoi_core.proofs.LimitLemmas.{in_range_short}
 
@@ -30,7 +28,7 @@ split signed (byte ∷ bytes) =
     sign_cases signed true byte bytes (IsSplit signed (byte ∷ bytes))
     (λ e. record { mark = plus; parts = ap (λ b. b ∷ bytes) (eqb-true byte plus_sign e); same = refl; allowed = λ q. absurd (cc q) })
     (λ p e. let both = and_parts signed (eqb byte minus_sign) e in
-        record { mark = minus; parts = ap (λ b. b ∷ bytes) (eqb-true byte minus_sign both.1); same = refl; allowed = λ q. both.0 })
+    record { mark = minus; parts = ap (λ b. b ∷ bytes) (eqb-true byte minus_sign both.1); same = refl; allowed = λ q. both.0 })
     (record { mark = no_sign; parts = refl; same = refl; allowed = λ q. absurd (cc q) })
 
 -- the sign of a text is the one that is taken from it
