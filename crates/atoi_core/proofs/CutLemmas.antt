@@ -1,7 +1,7 @@
 -- Runs, zeros and values under `take`, under `++`, and under zeros put before them.
-use Rattle.std.proofs.Common.{◌≡◌, ℕ, zero, suc, ◌+◌, ◌-◌, ◌*◌, ◌^◌, ◌<◌, ◌≤◌, min, Bool, true, false, cond, List, [], ◌∷◌, ◌++◌, length, take, drop, replicate, get_or, All, IsTrue, refl, sym, ap, ◌∙◌, arith, append_assoc, subst, eqb, ◌&&◌, ◌≢◌, ◌⊎◌, inl, inr, le_trans}
+use Rattle.std.proofs.Common.{◌≡◌, ℕ, zero, suc, ◌+◌, ◌-◌, ◌^◌, ◌<◌, ◌≤◌, min, Bool, true, false, List, ◌++◌, length, take, drop, replicate, get_or, All, IsTrue, refl, arith, subst}
 use Rattle.std.proofs.lemmas.Bool.Decides.{eqb_tells}
-use Rattle.std.proofs.lemmas.List.{take_all, length-take}
+use Rattle.std.proofs.lemmas.List.{take_all}
 use Rattle.std.proofs.lemmas.List.Sums.{prefix_len-le-length, prefix_len_stops, prefix_len_passes, prefix_len_is}
 use Rattle.std.proofs.lemmas.List.Folds.{length-prefix_len}
 use Rattle.std.specs.List.{prefix_len}
@@ -22,6 +22,7 @@ module _ (table : Table) where
   pub run_len-le : (s : List ℕ) → run_len table s ≤ length s
   run_len-le s = prefix_len-le-length (is_digit table) s
 
+  -- the run is as long as its length says
   pub length-run : (s : List ℕ) → length (run table s) ≡ run_len table s
   length-run s = length-prefix_len (is_digit table) s
 
@@ -30,9 +31,11 @@ module _ (table : Table) where
   all_digits s h =
       prefix_len_is (is_digit table) s (length s) 0 (omega arith) (λ i lt. h i 0 lt) (λ lt. absurd (omega arith))
 
+  -- a slice that is its own run holds digits only
   pub digits_all : (s : List ℕ) → run_len table s ≡ length s → All (λ byte. IsTrue (is_digit table byte)) s
   digits_all s h = λ i d lt. prefix_len_passes (is_digit table) s i d (omega arith)
 
+  -- and its run is the slice
   pub run_all : (s : List ℕ) → run_len table s ≡ length s → run table s ≡ s
   run_all s h = take_all (run_len table s) s (omega arith)
 
@@ -40,6 +43,7 @@ module _ (table : Table) where
   pub run_len-take : (n : ℕ) (s : List ℕ) → n ≤ run_len table s → run_len table (take n s) ≡ n
   run_len-take n s h = omega (arith, prefix_len-take (is_digit table) n s)
 
+  -- so are the zeros, as far as the cut reaches
   pub zeros-take : (n : ℕ) (s : List ℕ) → zeros table (take n s) ≡ min n (zeros table s)
   zeros-take n s = prefix_len-take (is_zero table) n s
 
@@ -51,6 +55,7 @@ module _ (table : Table) where
   pub run_stops : (s : List ℕ) → run_len table s < length s → is_digit table (get_or s (run_len table s) 0) ≡ false
   run_stops s h = prefix_len_stops (is_digit table) s 0 h
 
+  -- a zero is worth 0
   zero_worth : (byte : ℕ) → is_zero table byte ≡ true → worth table byte ≡ 0
   zero_worth byte h = grind (arith, eqb_tells)
 

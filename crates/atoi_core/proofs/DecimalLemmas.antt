@@ -1,16 +1,15 @@
 -- The decimal text of a number is parsed to that number.
-use Rattle.std.proofs.Common.{◌≡◌, ◌⊎◌, ℕ, zero, suc, ◌+◌, ◌-◌, ◌*◌, ◌^◌, ◌<◌, ◌≤◌, Bool, true, false, cond, ◌&&◌, eqb, leb, List, [], ◌∷◌, ◌++◌, length, take, decimal, IsTrue, All, Result, Ok, Err, ℤ, pos, negsuc, neg_ℤ, ◌≤ℤ◌, refl, sym, ap, ◌∙◌, subst, arith, inl, inr, add-one, leb→le, le-leb, lt_of_le_of_lt, one-add, Some, ◌↔◌}
-use Rattle.std.specs.Fmt.{signed_decimal}
+use Rattle.std.proofs.Common.{◌≡◌, ℕ, suc, ◌+◌, ◌-◌, ◌^◌, ◌<◌, ◌≤◌, Bool, true, false, cond, eqb, List, [], ◌∷◌, length, decimal, Ok, ℤ, pos, negsuc, neg_ℤ, ◌≤ℤ◌, refl, sym, ap, ◌∙◌, arith, inl, inr, add-one, leb→le, le-leb, lt_of_le_of_lt, Some}
 use Rattle.std.specs.Str.Parse.{AllDigits}
-use Rattle.std.proofs.lemmas.Str.Parse.{WeighsDigits, IsNumeralModel, numerals_by_weight, tells_digits, digit_from_value}
+use Rattle.std.proofs.lemmas.Str.Parse.{IsNumeralModel, numerals_by_weight, tells_digits, digit_from_value}
 use Rattle.std.proofs.lemmas.Fmt.{decimal_is_IsNumeral_wide, length-decimal-le_wide}
-use Rattle.atoi_core.specs.Digit.{decimal_table, is_digit, worth}
+use Rattle.atoi_core.specs.Digit.{decimal_table, worth}
 use Rattle.atoi_core.specs.Run.{run_len, run, zeros, value}
-use Rattle.atoi_core.specs.Magnitude.{narrow, is_too_long, counted}
+use Rattle.atoi_core.specs.Magnitude.{is_too_long, counted}
 use Rattle.atoi_core.specs.Kind.{Kind, IsSized, class_of, bound_of, limit_of}
 use Rattle.atoi_core.specs.Sign.{Sign, sign_of, number_of}
-use Rattle.atoi_core.specs.Answer.{whole_answer, parse_answer}
-use Rattle.atoi_core.specs.Laws.{SignForm, looked_for, HasForm, sign_in, whole_call, least_of, TextOfValue, SkippingAgrees}
+use Rattle.atoi_core.specs.Answer.{whole_answer}
+use Rattle.atoi_core.specs.Laws.{sign_in, TextOfValue, SkippingAgrees}
 use Rattle.atoi_core.proofs.CutLemmas.{run_all}
 use Rattle.atoi_core.proofs.SignLemmas.{sign_of_digits}
 use Rattle.atoi_core.proofs.CallLemmas.{whole_call-is, from_whole, to_whole, is_whole, whole_is_run, whole_in_range}
@@ -29,6 +28,7 @@ whole_skipping k minus body v h =
     (is_whole k minus true body old.some short (whole_in_range k minus false body old) (whole_is_run n (length body) old.ends))
     ∙ ap Ok (sym found.1)
 
+-- the law: skipping zeros agrees with counting them, where the latter succeeds
 pub skipping_agrees : (k : Kind) → SkippingAgrees k
 skipping_agrees k form has s v h =
     whole_call-is k form true s ∙ whole_skipping k (sign_in k form s).minus (sign_in k form s).body v (sym (whole_call-is k form false s) ∙ h)
@@ -37,6 +37,7 @@ skipping_agrees k form has s v h =
 digit_is : (byte : ℕ) → 48 ≤ byte → byte ≤ 57 → decimal_table byte ≡ Some (byte - 48)
 digit_is byte lo hi = rw (le-leb 48 byte lo, le-leb byte 57 hi) refl
 
+-- its worth is its distance from `0`
 worth_is : (byte : ℕ) → 48 ≤ byte → byte ≤ 57 → worth decimal_table byte ≡ byte - 48
 worth_is byte lo hi = rw (digit_is byte lo hi) refl
 
@@ -57,6 +58,7 @@ record IsTextOf (n : ℕ) (ds : List ℕ) : Type 0 where
   some : 0 < length ds
   is : value decimal_table ds ≡ n
 
+-- std writes such a text
 decimal_text : (n : ℕ) → n < 10 ^ 64 → IsTextOf n (decimal n)
 decimal_text n h =
     let numeral = decimal_is_IsNumeral_wide n h in
@@ -93,13 +95,14 @@ counting_text k sized minus h n le =
     let is_run = run_all decimal_table (decimal n) text.all in
     let some : 0 < run_len decimal_table (decimal n) = omega (arith, text.all, text.some) in
     let short : is_too_long (class_of k) (limit_of k) (counted false (run_len decimal_table (decimal n)) (zeros decimal_table (decimal n))) ≡ false =
-        rw text.all (decimal_short k sized minus h n le)
+    rw text.all (decimal_short k sized minus h n le)
     in
     let in_range : value decimal_table (run decimal_table (decimal n)) ≤ bound_of k minus = rw (is_run, text.is) le in
     to_whole k minus false (decimal n) (is_whole k minus false (decimal n) some short in_range text.all)
     ∙ ap (λ digits. Ok (number_of minus (value decimal_table digits))) is_run
     ∙ ap (λ m. Ok (number_of minus m)) text.is
 
+-- the same whether zeros are skipped or not
 magnitude_text : (k : Kind) → IsSized k → (minus : Bool) → (minus ≡ true → k.signed ≡ true) → (skip : Bool) (n : ℕ) → n ≤ bound_of k minus
     → whole_answer decimal_table k minus skip (decimal n) ≡ Ok (number_of minus n)
 magnitude_text k sized minus h true n le = whole_skipping k minus (decimal n) (number_of minus n) (counting_text k sized minus h n le)
@@ -117,6 +120,7 @@ negative_in_range : (signed : Bool) (greatest n : ℕ) → cond signed (neg_ℤ 
 negative_in_range false greatest n h = absurd h.le
 negative_in_range true greatest n h = let within = rw add-one at h in (refl, leb→le n greatest within.le)
 
+-- the law: the decimal text of every number of the type is parsed to it
 pub text_of_value : (k : Kind) → IsSized k → TextOfValue k
 text_of_value k sized skip plus (pos n) low high =
     let text = decimal_text n (lt_of_le_of_lt (leb→le n k.greatest high.le) (bound_below-64 k sized false)) in

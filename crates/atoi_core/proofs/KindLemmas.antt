@@ -1,19 +1,18 @@
 -- Answers of one kind: what decides the kind, and that neither the rest behind a run nor zeros
 -- before it change it.
-use Rattle.std.proofs.Common.{◌≡◌, ℕ, zero, suc, ◌+◌, ◌-◌, ◌<◌, ◌≤◌, Bool, true, false, not, eqb, ltb, List, [], ◌++◌, length, take, replicate, Option, Some, None, Result, Ok, Err, ℤ, option_map, refl, sym, ap, ◌∙◌, subst, subst₂, arith, take-take, take_at, drop_at, inl, inr, length-append, add_assoc, eq-eqb, ne_eqb}
+use Rattle.std.proofs.Common.{◌≡◌, ℕ, ◌+◌, ◌<◌, ◌≤◌, Bool, true, not, eqb, ltb, List, [], ◌++◌, length, take, replicate, Option, Some, None, Result, ℤ, option_map, refl, sym, ap, ◌∙◌, subst₂, arith, take-take, take_at, drop_at, inl, inr, length-append, eq-eqb, ne_eqb}
 use Rattle.std.proofs.lemmas.List.{length-replicate}
 use Rattle.std.proofs.lemmas.Bool.{cases_eq}
 use Rattle.std.proofs.Math.Seq.{take-add}
 use Rattle.atoi_core.specs.Digit.{decimal_table, is_digit, is_zero}
 use Rattle.atoi_core.specs.Run.{run_len, run, zeros, value}
 use Rattle.atoi_core.specs.Refusal.{Refusal, rank}
-use Rattle.atoi_core.specs.Magnitude.{Class, narrow, wide64, wide128, Extent, whole, prefix, seen, counted, is_too_long, leaves_rest, invalid, refusal, unless_refused}
+use Rattle.atoi_core.specs.Magnitude.{Class, Extent, whole, prefix, seen, counted, is_too_long, leaves_rest, invalid, refusal, unless_refused}
 use Rattle.atoi_core.specs.Kind.{Kind, class_of, bound_of, limit_of}
 use Rattle.atoi_core.specs.Sign.{Sign, number_of}
 use Rattle.atoi_core.specs.Answer.{map_answer, whole_answer, prefix_answer}
-use Rattle.atoi_core.specs.Laws.{SignForm, HasForm, sign_in, whole_call, prefix_call, with_more, with_zeros, zero_byte, IsSameKind, HaveSameRun, RestChangesNothing, ZerosChangeNothing}
-use Rattle.atoi_core.proofs.RunLemmas.{zeros-le}
-use Rattle.atoi_core.proofs.CutLemmas.{run_len-le, length-run, zeros-run, value-replicate, prefix_len-replicate_append}
+use Rattle.atoi_core.specs.Laws.{SignForm, sign_in, with_more, with_zeros, zero_byte, IsSameKind, RestChangesNothing, ZerosChangeNothing}
+use Rattle.atoi_core.proofs.CutLemmas.{length-run, zeros-run, value-replicate, prefix_len-replicate_append}
 use Rattle.atoi_core.proofs.RefusalLemmas.{refusal-rank, first_rank}
 use Rattle.atoi_core.proofs.SignLemmas.{sign_again}
 use Rattle.atoi_core.proofs.CallLemmas.{whole_call-is, prefix_call-is, seen-le, seen-whole, seen-skipping, with_more-zero}
@@ -35,7 +34,7 @@ counted_number minus found = (number_of minus found.0, found.1)
 same_prefix_kind : (more taken other_taken : ℕ) (minus other_minus : Bool) (r q : Option Refusal) (x y : ℕ × ℕ) → option_map rank r ≡ option_map rank q
     → number_of minus x.0 ≡ number_of other_minus y.0 → x.1 + taken + more ≡ y.1 + other_taken
     → IsSameKind (with_more more (with_more taken (map_answer (counted_number minus) (unless_refused r x))))
-      (with_more other_taken (map_answer (counted_number other_minus) (unless_refused q y)))
+    (with_more other_taken (map_answer (counted_number other_minus) (unless_refused q y)))
 same_prefix_kind more taken other_taken minus other_minus None None x y h e c = λ i. (e i, c i)
 same_prefix_kind more taken other_taken minus other_minus (Some reason) (Some other) x y h e c = cc h
 same_prefix_kind more taken other_taken minus other_minus None (Some other) x y h e c = absurd (cc h)
@@ -45,9 +44,11 @@ same_prefix_kind more taken other_taken minus other_minus (Some reason) None x y
 abbrev reason_at : Kind → Bool → Extent → Sign → Option Refusal
 reason_at k skip extent g = refusal decimal_table (class_of k) (bound_of k g.minus) (limit_of k) extent skip g.body
 
+-- how many bytes are read there
 abbrev read_at : Kind → Bool → Extent → Sign → ℕ
 read_at k skip extent g = seen (class_of k) extent skip (run_len decimal_table g.body)
 
+-- the number that they write
 abbrev number_at : Kind → Bool → Extent → Sign → ℕ
 number_at k skip extent g = value decimal_table (take (read_at k skip extent g) g.body)
 
@@ -59,6 +60,7 @@ record IsAlike (k : Kind) (skip : Bool) (extent : Extent) (g h : Sign) : Type 0 
   number : number_at k skip extent g ≡ number_at k skip extent h
   followed : leaves_rest extent (run_len decimal_table g.body) (length g.body) ≡ leaves_rest extent (run_len decimal_table h.body) (length h.body)
 
+-- bodies that the tests do not tell apart are refused for reasons of one kind
 same_reason : (k : Kind) (skip : Bool) (extent : Extent) (g h : Sign) → IsAlike k skip extent g h
     → option_map rank (reason_at k skip extent g) ≡ option_map rank (reason_at k skip extent h)
 same_reason k skip extent g h alike =
@@ -70,6 +72,7 @@ same_reason k skip extent g h alike =
 abbrev prefix_at : Kind → Bool → Sign → Result (ℤ × ℕ) Refusal
 prefix_at k skip g = with_more g.taken (prefix_answer decimal_table k g.minus skip g.body)
 
+-- the same for a whole parse
 abbrev whole_at : Kind → Bool → Sign → Result ℤ Refusal
 whole_at k skip g = whole_answer decimal_table k g.minus skip g.body
 
@@ -77,9 +80,11 @@ whole_at k skip g = whole_answer decimal_table k g.minus skip g.body
 same_len : (s t : List ℕ) → run decimal_table s ≡ run decimal_table t → run_len decimal_table s ≡ run_len decimal_table t
 same_len s t e = sym (length-run decimal_table s) ∙ ap length e ∙ length-run decimal_table t
 
+-- and the same zeros
 same_zeros : (s t : List ℕ) → run decimal_table s ≡ run decimal_table t → zeros decimal_table s ≡ zeros decimal_table t
 same_zeros s t e = sym (zeros-run decimal_table s) ∙ ap (zeros decimal_table) e ∙ zeros-run decimal_table t
 
+-- and the same fronts within the run
 same_front : (n : ℕ) (s t : List ℕ) → run decimal_table s ≡ run decimal_table t → n ≤ run_len decimal_table s → take n s ≡ take n t
 same_front n s t e h =
     let len = same_len s t e in
@@ -93,8 +98,8 @@ same_run k skip g h minus taken runs =
     let leading = same_zeros g.body h.body runs in
     let read : read_at k skip prefix g ≡ read_at k skip prefix h = ap (seen (class_of k) prefix skip) len in
     let number : number_at k skip prefix g ≡ number_at k skip prefix h =
-        ap (value decimal_table) (same_front (read_at k skip prefix g) g.body h.body runs (seen-le (class_of k) skip (run_len decimal_table g.body))
-        ∙ ap (λ (n : ℕ). take n h.body) read)
+    ap (value decimal_table) (same_front (read_at k skip prefix g) g.body h.body runs (seen-le (class_of k) skip (run_len decimal_table g.body))
+    ∙ ap (λ (n : ℕ). take n h.body) read)
     in
     same_prefix_kind 0 g.taken h.taken g.minus h.minus (reason_at k skip prefix g) (reason_at k skip prefix h)
     (number_at k skip prefix g, read_at k skip prefix g) (number_at k skip prefix h, read_at k skip prefix h)
@@ -107,6 +112,7 @@ same_run k skip g h minus taken runs =
     }))
     (λ i. number_of (minus i) (number i)) (omega arith)
 
+-- the law: what stands behind a run changes nothing
 pub rest_changes_nothing : (k : Kind) → RestChangesNothing k
 rest_changes_nothing k form has skip s t same =
     subst₂ (λ x y. IsSameKind x y) (with_more-zero (prefix_at k skip (sign_in k form s)) ∙ sym (prefix_call-is k form skip s)) (sym (prefix_call-is k form skip t))
@@ -114,15 +120,19 @@ rest_changes_nothing k form has skip s t same =
 
 -- ---- zeros put before a body
 
+-- a body with that many zeros before it
 abbrev padded : ℕ → List ℕ → List ℕ
 padded count body = replicate count zero_byte ++ body
 
+-- its run is longer by the zeros
 run_len-padded : (count : ℕ) (body : List ℕ) → run_len decimal_table (padded count body) ≡ count + run_len decimal_table body
 run_len-padded count body = prefix_len-replicate_append (is_digit decimal_table) zero_byte refl count body
 
+-- it begins with as many zeros more
 zeros-padded : (count : ℕ) (body : List ℕ) → zeros decimal_table (padded count body) ≡ count + zeros decimal_table body
 zeros-padded count body = prefix_len-replicate_append (is_zero decimal_table) zero_byte refl count body
 
+-- it is longer by them
 length-padded : (count : ℕ) (body : List ℕ) → length (padded count body) ≡ count + length body
 length-padded count body = simp (length-append, length-replicate)
 
@@ -138,6 +148,7 @@ seen_all : (class : Class) (extent : Extent) (digits : ℕ) → seen class exten
 seen_all class whole digits = seen-whole class true digits
 seen_all class prefix digits = seen-skipping class digits
 
+-- its run writes the same number
 value-padded : (count : ℕ) (body : List ℕ) → value decimal_table (run decimal_table body) ≡ value decimal_table (run decimal_table (padded count body))
 value-padded count body =
     let n = run_len decimal_table body in
@@ -145,9 +156,11 @@ value-padded count body =
     ∙ ap (value decimal_table) (sym (take-padded count n body))
     ∙ ap (λ (m : ℕ). value decimal_table (take m (padded count body))) (sym (run_len-padded count body))
 
+-- where zeros are skipped, the number is that of the whole run
 number-all : (k : Kind) (extent : Extent) (g : Sign) → number_at k true extent g ≡ value decimal_table (run decimal_table g.body)
 number-all k extent g = ap (λ (m : ℕ). value decimal_table (take m g.body)) (seen_all (class_of k) extent (run_len decimal_table g.body))
 
+-- the number that is read stays
 number-padded : (k : Kind) (extent : Extent) (count : ℕ) (g : Sign)
     → number_at k true extent g ≡ number_at k true extent (record { minus = g.minus; taken = g.taken; body = padded count g.body })
 number-padded k extent count g =
@@ -162,6 +175,7 @@ eqb-add more m n =
       | inr ne ↦ ne_eqb m n ne ∙ sym (ne_eqb (more + m) (more + n) (λ e. ne (omega arith)))
     ]
 
+-- a rest behind the digits stays
 followed-padded : (extent : Extent) (count : ℕ) (body : List ℕ)
     → leaves_rest extent (run_len decimal_table body) (length body) ≡ leaves_rest extent (run_len decimal_table (padded count body)) (length (padded count body))
 followed-padded prefix count body = refl
@@ -169,6 +183,7 @@ followed-padded whole count body =
     ap not (eqb-add count (run_len decimal_table body) (length body))
     ∙ rw (run_len-padded count body, length-padded count body) refl
 
+-- the tests do not tell a body from the same with zeros before it
 padded_alike : (k : Kind) (extent : Extent) (count : ℕ) (g : Sign) → 0 < run_len decimal_table g.body
     → IsAlike k true extent g (record { minus = g.minus; taken = g.taken; body = padded count g.body })
 padded_alike k extent count g some =
@@ -199,6 +214,7 @@ whole_padded k g count some =
     (same_reason k true whole g h (padded_alike k whole count g some))
     (ap (number_of g.minus) (value-padded count g.body))
 
+-- the same of a prefix parse, whose count grows by the zeros
 prefix_padded : (k : Kind) (g : Sign) (count : ℕ) → 0 < run_len decimal_table g.body
     → IsSameKind (with_more count (prefix_at k true g)) (prefix_at k true (record { minus = g.minus; taken = g.taken; body = padded count g.body }))
 prefix_padded k g count some =
@@ -211,6 +227,7 @@ prefix_padded k g count some =
     (same_reason k true prefix g h (padded_alike k prefix count g some))
     (ap (number_of g.minus) (number-padded k prefix count g)) (omega arith)
 
+-- the law: zeros before a body change nothing
 pub zeros_change_nothing : (k : Kind) → ZerosChangeNothing k
 zeros_change_nothing k = record {
   whole = λ form has s count some.

@@ -1,5 +1,5 @@
 -- A number in range never has too many digits.
-use Rattle.std.proofs.Common.{◌≡◌, ◌⊎◌, ℕ, ◌+◌, ◌-◌, ◌*◌, ◌^◌, ◌<◌, ◌≤◌, Bool, true, false, cond, eqb, leb, List, length, take, refl, sym, ap, ◌∙◌, arith, inl, inr, le_trans, lt_of_le_of_lt, le-ltb, ltb-false}
+use Rattle.std.proofs.Common.{◌≡◌, ◌⊎◌, ℕ, ◌+◌, ◌-◌, ◌^◌, ◌<◌, ◌≤◌, Bool, true, false, cond, List, refl, arith, inl, inr, lt_of_le_of_lt, le-ltb, ltb-false}
 use Rattle.std.proofs.Math.Nat.{pow-le-pow_right}
 use Rattle.std.proofs.lemmas.Bool.{cases_lt}
 use Rattle.atoi_core.specs.Digit.{Table}
@@ -20,12 +20,14 @@ shorter narrow limit count less h e = refl
 shorter wide64 limit count less h e = le-ltb limit less (omega (arith, ltb-false limit count e))
 shorter wide128 limit count less h e = le-ltb limit less (omega (arith, ltb-false limit count e))
 
+-- the greatest magnitudes of 64 bits have 19 and 20 digits
 bound-64 : (signed minus : Bool) → (minus ≡ true → signed ≡ true) → cond minus (greatest_of 64 signed + 1) (greatest_of 64 signed) < 10 ^ cond signed 19 20
 bound-64 true true h = omega arith
 bound-64 true false h = omega arith
 bound-64 false true h = absurd (cc (h refl))
 bound-64 false false h = omega arith
 
+-- those of 128 bits have 39
 bound-128 : (signed minus : Bool) → (minus ≡ true → signed ≡ true) → cond minus (greatest_of 128 signed + 1) (greatest_of 128 signed) < 10 ^ 39
 bound-128 true true h = omega arith
 bound-128 true false h = omega arith
@@ -44,6 +46,7 @@ bound-limit k sized minus h =
       | inr (inr (inr (inr e))) ↦ inr (rw (sized.greatest, e) (bound-128 k.signed minus h))
     ]
 
+-- no type has a magnitude of 64 digits
 below-64 : (bits : ℕ) (signed minus : Bool) → ((bits ≡ 8) ⊎ ((bits ≡ 16) ⊎ ((bits ≡ 32) ⊎ ((bits ≡ 64) ⊎ (bits ≡ 128)))))
     → cond minus (greatest_of bits signed + 1) (greatest_of bits signed) < 10 ^ 64
 below-64 bits signed minus h =
@@ -72,7 +75,7 @@ places-le table s limit h =
     elim (cases_lt limit (run_len table s - zeros table s)) [
       | inl more ↦
           let p : 10 ^ limit ≤ 10 ^ (run_len table s - zeros table s - 1) =
-              pow-le-pow_right {n = 10} (omega arith) {i = limit} {j = run_len table s - zeros table s - 1} (omega arith)
+          pow-le-pow_right {n = 10} (omega arith) {i = limit} {j = run_len table s - zeros table s - 1} (omega arith)
           in
           absurd (omega (arith, value-ge table s (omega arith)))
       | inr le ↦ le

@@ -1,5 +1,5 @@
 -- The sign at the front of a slice: what it leaves, and when it is taken again.
-use Rattle.std.proofs.Common.{◌≡◌, ℕ, zero, suc, ◌+◌, ◌-◌, ◌<◌, ◌≤◌, Bool, true, false, cond, ◌&&◌, eqb, leb, List, [], ◌∷◌, ◌++◌, length, take, drop, refl, sym, ap, ◌∙◌, subst, arith, leb-true, ne_eqb, is_some, Some, None}
+use Rattle.std.proofs.Common.{◌≡◌, ℕ, ◌+◌, ◌-◌, ◌<◌, ◌≤◌, Bool, true, false, cond, ◌&&◌, eqb, leb, List, [], ◌∷◌, ◌++◌, length, take, drop, refl, arith, leb-true, ne_eqb, is_some, Some, None}
 use Rattle.std.proofs.lemmas.Bool.{and_parts, and_right}
 use Rattle.atoi_core.specs.Digit.{decimal_table, is_digit}
 use Rattle.atoi_core.specs.Run.{run_len}
@@ -50,6 +50,7 @@ minus_of signed plus (byte ∷ bytes) h =
     sign_cases signed plus byte bytes (λ g. g.minus ≡ true → signed ≡ true)
     (λ e q. absurd (cc q)) (λ p e q. (and_parts signed (eqb byte minus_sign) e).0) (λ q. absurd (cc q)) h
 
+-- a call of any form goes by a minus only where the type is signed
 pub minus_is_signed : (k : Kind) (form : SignForm) → HasForm k form → (s : List ℕ) → (sign_in k form s).minus ≡ true → k.signed ≡ true
 minus_is_signed k (looked_for plus) has s h = minus_of k.signed plus s h
 minus_is_signed k positive has s h = absurd (cc h)

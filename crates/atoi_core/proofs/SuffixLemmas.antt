@@ -1,5 +1,5 @@
 -- Each slice in an error of an answer stands at the end of the slice that was parsed.
-use Rattle.std.proofs.Common.{◌≡◌, ℕ, ◌+◌, Bool, List, ◌++◌, take, drop, Result, Ok, Err, ℤ, refl, sym, ap, ◌∙◌, take-append-drop, drop-drop}
+use Rattle.std.proofs.Common.{◌≡◌, ℕ, ◌+◌, Bool, List, ◌++◌, take, drop, Result, Ok, Err, ℤ, sym, ap, ◌∙◌, take-append-drop, drop-drop}
 use Rattle.atoi_core.specs.Digit.{decimal_table}
 use Rattle.atoi_core.specs.Refusal.{Refusal, input_of}
 use Rattle.atoi_core.specs.Magnitude.{whole, prefix}
@@ -19,10 +19,12 @@ suffix_of_body k form s t end =
     let at : t ≡ drop (taken + end.0) s = end.1 ∙ ap (drop end.0) (sym (drop-taken k form s)) ∙ drop-drop end.0 taken s in
     (take (taken + end.0) s, sym (take-append-drop (taken + end.0) s) ∙ ap (λ rest. take (taken + end.0) s ++ rest) (sym at))
 
+-- a count does not touch an error
 with_more_err : (more : ℕ) (r : Result (ℤ × ℕ) Refusal) (reason : Refusal) → with_more more r ≡ Err reason → r ≡ Err reason
 with_more_err more (Ok found) reason h = absurd (cc h)
 with_more_err more (Err other) reason h = cc
 
+-- the slice of a whole call's error stands at the end
 whole_suffix : (k : Kind) (form : SignForm) (skip : Bool) (s : List ℕ) (reason : Refusal)
     → whole_call k form skip s ≡ Err reason → IsSuffix (input_of reason) s
 whole_suffix k form skip s reason h =
@@ -31,6 +33,7 @@ whole_suffix k form skip s reason h =
     (refusal-input decimal_table (class_of k) (bound_of k g.minus) (limit_of k) whole skip g.body reason
     (map_unless_err (number_of g.minus) _ _ reason (sym (whole_call-is k form skip s) ∙ h)))
 
+-- so does that of a prefix call's
 prefix_suffix : (k : Kind) (form : SignForm) (skip : Bool) (s : List ℕ) (reason : Refusal)
     → prefix_call k form skip s ≡ Err reason → IsSuffix (input_of reason) s
 prefix_suffix k form skip s reason h =
@@ -40,6 +43,7 @@ prefix_suffix k form skip s reason h =
     (refusal-input decimal_table (class_of k) (bound_of k g.minus) (limit_of k) prefix skip g.body reason
     (map_unless_err (λ (found : ℕ × ℕ). (number_of g.minus found.0, found.1)) _ _ reason refused))
 
+-- the law: the order of errors, and where their slices stand
 pub order_and_suffix : (k : Kind) → OrderAndSuffix k
 order_and_suffix k = record {
   order = refusal_cmp-Equal;

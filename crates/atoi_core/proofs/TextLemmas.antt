@@ -1,17 +1,16 @@
 -- The texts of a type are exactly what `parse` with both flags accepts.
-use Rattle.std.proofs.Common.{◌≡◌, ◌↔◌, ℕ, ◌+◌, ◌<◌, ◌≤◌, Bool, true, false, not, ◌&&◌, eqb, List, [], ◌∷◌, ◌++◌, length, take, All, IsTrue, IsOk, is_ok, Result, Ok, Err, ℤ, refl, sym, ap, ◌∙◌, subst, arith, eqb-true, eq-eqb, le_trans}
-use Rattle.std.proofs.lemmas.Bool.{and_parts, not-false}
-use Rattle.atoi_core.specs.Digit.{decimal_table, is_digit}
-use Rattle.atoi_core.specs.Run.{run_len, run, zeros, value}
-use Rattle.atoi_core.specs.Magnitude.{Class, narrow, wide64, wide128, whole, seen, leaves_rest}
-use Rattle.atoi_core.specs.Kind.{Kind, IsSized, class_of, bound_of, limit_of}
+use Rattle.std.proofs.Common.{◌≡◌, ◌↔◌, ℕ, ◌<◌, ◌≤◌, Bool, true, eqb, List, [], ◌∷◌, ◌++◌, length, IsOk, is_ok, Result, Ok, Err, ℤ, refl, sym, ap, ◌∙◌, arith, eqb-true}
+use Rattle.std.proofs.lemmas.Bool.{and_parts}
+use Rattle.atoi_core.specs.Digit.{decimal_table}
+use Rattle.atoi_core.specs.Run.{run_len, run, value}
+use Rattle.atoi_core.specs.Kind.{Kind, IsSized, bound_of}
 use Rattle.atoi_core.specs.Sign.{Sign, sign_of, number_of, plus_sign, minus_sign}
-use Rattle.atoi_core.specs.Answer.{whole_answer, parse_answer}
+use Rattle.atoi_core.specs.Answer.{whole_answer, parse_answer, typed_answer}
+use Rattle.atoi_core.specs.declared.error.AtoiSimdError.{AtoiSimdError}
 use Rattle.atoi_core.specs.Text.{SignMark, no_sign, plus, minus, sign_bytes, is_minus, IsText}
-use Rattle.atoi_core.specs.Laws.{AcceptedTexts, looked_for}
-use Rattle.atoi_core.proofs.CutLemmas.{run_len-le, all_digits, digits_all, run_all}
-use Rattle.atoi_core.proofs.RefusalLemmas.{IsAccepted}
-use Rattle.atoi_core.proofs.SignLemmas.{sign_cases, sign_of_digits, minus_is_signed}
+use Rattle.atoi_core.specs.Laws.{AcceptedTexts}
+use Rattle.atoi_core.proofs.CutLemmas.{all_digits, digits_all, run_all}
+use Rattle.atoi_core.proofs.SignLemmas.{sign_cases, sign_of_digits}
 use Rattle.atoi_core.proofs.CallLemmas.{from_whole, to_whole, whole_is_run, is_whole, whole_in_range}
 use Rattle.atoi_core.proofs.LimitLemmas.{in_range_short}
 
@@ -22,13 +21,14 @@ record IsSplit (signed : Bool) (s : List ℕ) (g : Sign) : Type 0 where
   same : is_minus mark ≡ g.minus
   allowed : is_minus mark ≡ true → signed ≡ true
 
+-- each slice is split by its sign
 split : (signed : Bool) (s : List ℕ) → IsSplit signed s (sign_of signed true s)
 split signed [] = record { mark = no_sign; parts = refl; same = refl; allowed = λ e. absurd (cc e) }
 split signed (byte ∷ bytes) =
     sign_cases signed true byte bytes (IsSplit signed (byte ∷ bytes))
     (λ e. record { mark = plus; parts = ap (λ b. b ∷ bytes) (eqb-true byte plus_sign e); same = refl; allowed = λ q. absurd (cc q) })
     (λ p e. let both = and_parts signed (eqb byte minus_sign) e in
-        record { mark = minus; parts = ap (λ b. b ∷ bytes) (eqb-true byte minus_sign both.1); same = refl; allowed = λ q. both.0 })
+    record { mark = minus; parts = ap (λ b. b ∷ bytes) (eqb-true byte minus_sign both.1); same = refl; allowed = λ q. both.0 })
     (record { mark = no_sign; parts = refl; same = refl; allowed = λ q. absurd (cc q) })
 
 -- the sign of a text is the one that is taken from it
@@ -77,6 +77,7 @@ ok_of_text k sized s text =
     ∙ (ap (λ (g : Sign). whole_answer decimal_table k g.minus true g.body) (sign_of_text k.signed text.sign text.digits text.signed some)
     ∙ (accepted ∙ ap (λ digits. Ok (number_of minus (value decimal_table digits))) is_run))
 
+-- an answer with a value is `Ok`
 ok_is_ok : {A E : Type 0} (r : Result A E) (x : A) → r ≡ Ok x → IsOk r
 ok_is_ok r x h = rw h refl
 
@@ -84,5 +85,20 @@ ok_is_ok r x h = rw h refl
 pub parse_accepts : (k : Kind) → IsSized k → (s : List ℕ) → IsOk (parse_answer k true true s) ↔ IsText k s
 parse_accepts k sized s = (text_of_ok k s, λ text. ok_is_ok _ _ (ok_of_text k sized s text))
 
+-- a result has a value where the answer that it stands for has one
+typed-is_ok : {T : Type 0} (number : T → ℤ) (result : Result T AtoiSimdError) → is_ok (typed_answer number result) ≡ is_ok result
+typed-is_ok number (Ok value) = refl
+typed-is_ok number (Err error) = refl
+
+-- the same of a result of the type's values where both flags are on
+pub typed_accepts : {T : Type 0} (number : T → ℤ) (result : Result T AtoiSimdError) (k : Kind) → IsSized k → (skip skip_plus : Bool) (s : List ℕ)
+    → typed_answer number result ≡ parse_answer k skip skip_plus s → skip ≡ true → skip_plus ≡ true → IsOk result ↔ IsText k s
+typed_accepts number result k sized skip skip_plus s h skips pluses =
+    let both : parse_answer k skip skip_plus s ≡ parse_answer k true true s = λ i. parse_answer k (skips i) (pluses i) s in
+    let same : is_ok result ≡ is_ok (parse_answer k true true s) = sym (typed-is_ok number result) ∙ ap is_ok (h ∙ both) in
+    let accepts = parse_accepts k sized s in
+    (λ ok. accepts.0 (sym same ∙ ok), λ text. same ∙ accepts.1 text)
+
+-- the law: what is accepted are the texts, and the answer is the number
 pub accepted_texts : (k : Kind) → IsSized k → AcceptedTexts k
 accepted_texts k sized = record { accepted = parse_accepts k sized; number = ok_of_text k sized }

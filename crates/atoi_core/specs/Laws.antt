@@ -6,7 +6,7 @@ use Rattle.std.specs.declared.cmp.Ordering.TheVariants.{Equal}
 use Rattle.atoi_core.specs.Digit.{decimal_table, is_digit}
 use Rattle.atoi_core.specs.Run.{run_len, run, value}
 use Rattle.atoi_core.specs.Refusal.{Refusal, rank, input_of, refusal_cmp}
-use Rattle.atoi_core.specs.Kind.{Kind, bound_of}
+use Rattle.atoi_core.specs.Kind.{Kind}
 use Rattle.atoi_core.specs.Sign.{Sign, sign_of, number_of}
 use Rattle.atoi_core.specs.Answer.{map_answer, whole_answer, prefix_answer, parse_answer, parse_prefix_answer}
 use Rattle.atoi_core.specs.Text.{IsText, is_minus}
