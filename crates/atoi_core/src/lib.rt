@@ -23,7 +23,7 @@ pub use crate::error::AtoiSimdError;
 pub use crate::number::{Number, Signed};
 pub use crate::plain::Plain;
 pub use crate::narrow::narrow_prefix;
-pub use crate::sign::take_sign;
+pub use crate::sign::{take_sign, with_sign};
 pub use crate::steps::Steps;
 pub use crate::text::decimal;
 pub use crate::window::Window;
