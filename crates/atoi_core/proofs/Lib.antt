@@ -1,3 +1,4 @@
+pub mod AnswerLemmas
 pub mod Digits
 pub mod Magnitudes
 pub mod RunLemmas
