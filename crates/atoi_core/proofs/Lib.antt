@@ -4,3 +4,4 @@ pub mod WindowLemmas
 pub mod SkipLemmas
 pub mod WideLemmas
 pub mod NarrowLemmas
+pub mod WholeLemmas

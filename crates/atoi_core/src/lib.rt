@@ -7,10 +7,12 @@ mod error;
 mod join;
 mod narrow;
 mod steps;
+mod wide;
 mod window;
 
 pub use crate::engine::Engine;
 pub use crate::error::AtoiSimdError;
 pub use crate::narrow::narrow_prefix;
 pub use crate::steps::Steps;
+pub use crate::wide::{whole_64, whole_128};
 pub use crate::window::Window;
