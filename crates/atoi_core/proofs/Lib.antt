@@ -4,3 +4,7 @@ pub mod Magnitudes
 pub mod RunLemmas
 pub mod ValueLemmas
 pub mod WindowLemmas
+pub mod SkipLemmas
+pub mod WideLemmas
+pub mod NarrowLemmas
+pub mod WholeLemmas
