@@ -1,6 +1,9 @@
 mod Digits
 mod Magnitudes
 pub mod DigitText
+pub mod AnswerLemmas
+pub mod Digits
+pub mod Magnitudes
 pub mod RunLemmas
 pub mod ValueLemmas
 pub mod WindowLemmas
@@ -28,3 +31,4 @@ pub mod SuffixLemmas
 pub mod KindLemmas
 pub mod LoadedBytes
 pub mod WordWindows
+pub mod WholeLemmas

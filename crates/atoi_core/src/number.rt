@@ -410,7 +410,8 @@ impl Signed for i128 {
         if magnitude == Self::LEAST_MAGNITUDE {
             i128::MIN
         } else {
-            -(magnitude as i128)
+            let positive = magnitude as i128;
+            -positive
         }
     }
 
