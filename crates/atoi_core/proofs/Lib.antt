@@ -2,8 +2,6 @@ mod Digits
 mod Magnitudes
 pub mod DigitText
 pub mod AnswerLemmas
-pub mod Digits
-pub mod Magnitudes
 pub mod RunLemmas
 pub mod ValueLemmas
 pub mod WindowLemmas
