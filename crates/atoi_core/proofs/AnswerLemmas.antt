@@ -1,7 +1,8 @@
 -- The answers for an integer type, from those of the loops.
 use Rattle.std.proofs.Common.{IfOk, ◌≡◌, ℕ, ◌≤◌, take, drop, min, ◌+◌, ◌-◌, ◌==◌, if◌then◌else◌, Bool, true, false, List, length, Option, Result, Some, None, Ok, Err, refl, ap, ◌∙◌, sym, arith, ltb, nat_lt, ℤ, subst}
 use Rattle.std.proofs.lemmas.Bool.Decides.{nat_tests}
-use Rattle.atoi_core.specs.Digit.{Table}
+use Rattle.std.proofs.lemmas.List.Sums.{prefix_len-le-length}
+use Rattle.atoi_core.specs.Digit.{Table, is_digit}
 use Rattle.atoi_core.specs.Run.{run_len, run, zeros, value}
 use Rattle.atoi_core.specs.Refusal.{Refusal, empty, size, overflow}
 use Rattle.atoi_core.specs.Magnitude.{Class, Extent, narrow, wide64, wide128, whole, prefix, seen, counted, is_too_long, leaves_rest, cap, dropped, invalid, refusal, unless_refused, whole_magnitude, prefix_magnitude}
@@ -70,3 +71,19 @@ pub narrow_whole_limit : (table : Table) (bound limit : ℕ) (skip : Bool) (s : 
     → refusal table narrow bound limit whole skip s ≡ refusal table narrow bound 0 whole false s
 unfolding refusal
 narrow_whole_limit table bound limit skip s = refl
+
+-- no more digits are read than there are
+seen_within : (class : Class) (extent : Extent) (skip : Bool) (digits : ℕ) → seen class extent skip digits ≤ digits
+seen_within narrow whole skip digits = omega arith
+seen_within narrow prefix true digits = omega arith
+seen_within narrow prefix false digits = omega arith
+seen_within wide64 extent skip digits = omega arith
+seen_within wide128 extent skip digits = omega arith
+
+-- what a prefix counts lies within the slice
+pub prefix_within : (table : Table) (class : Class) (bound limit : ℕ) (skip : Bool) (s : List ℕ) (number len : ℕ)
+    → Ok (number, len) ≡ prefix_magnitude table class bound limit skip s → len ≤ length s
+prefix_within table class bound limit skip s number len found =
+    let both = not_refused _ _ _ found in
+    let count : len ≡ seen class prefix skip (run_len table s) = ap (λ (pair : ℕ × ℕ). pair.1) both.1 in
+    omega (arith, seen_within class prefix skip (run_len table s), prefix_len-le-length (is_digit table) s)

@@ -1,6 +1,6 @@
 //! The parses of any integer type: by its class, of at most 32 bits, of 64 or of 128.
 //! It stands on `typed_narrow`, `typed_64` and `typed_128`.
-ghost use Rattle.std.specs.Prelude.{◌≡◌, ◌≢◌, ◌+◌, ◌<◌, ◌≤◌, true, false, IsTrue, length};
+ghost use Rattle.std.specs.Prelude.{◌≡◌, ◌≢◌, ◌+◌, ◌<◌, ◌≤◌, true, false, IfOk, IsTrue, length};
 ghost use Rattle.atoi_core.specs.Answer.{typed_answer, typed_prefix_answer, whole_answer, prefix_answer, whole_table};
 ghost use Rattle.atoi_core.specs.Kind.{kind, class_of};
 ghost use Rattle.atoi_core.specs.Loads.{most_loads, least_loads};
@@ -116,6 +116,7 @@ pub fn prefix_pos<'a, E: Engine, T: Number>(
         typed_prefix_answer T.number result
         ≡ prefix_answer E.table (kind T.BITS T.SIGNED T.GREATEST) false skip s.now
     }
+    ensures within { IfOk result (λ found. found.1 ≤ length s.now) }
     ensures most {
         steps.new ≤ steps.old + most_loads E.table (class_of (kind T.BITS T.SIGNED T.GREATEST)) s.now
     }
@@ -149,6 +150,7 @@ pub fn prefix_neg<'a, E: Engine, T: Signed>(
         typed_prefix_answer T.number result
         ≡ prefix_answer E.table (kind T.BITS T.SIGNED T.GREATEST) true skip s.now
     }
+    ensures within { IfOk result (λ found. found.1 ≤ length s.now) }
     ensures most {
         steps.new ≤ steps.old + most_loads E.table (class_of (kind T.BITS T.SIGNED T.GREATEST)) s.now
     }

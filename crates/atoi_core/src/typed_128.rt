@@ -1,6 +1,6 @@
 //! The parses of an integer type of 128 bits.
 //! It stands on the loops of `engine` and `wide`, and on `number`.
-ghost use Rattle.std.specs.Prelude.{◌≡◌, ◌+◌, ◌<◌, ◌≤◌, true, false, IsTrue, length};
+ghost use Rattle.std.specs.Prelude.{◌≡◌, ◌+◌, ◌<◌, ◌≤◌, true, false, IfOk, IsTrue, length};
 ghost use Rattle.atoi_core.specs.Answer.{typed_answer, typed_prefix_answer, whole_answer, prefix_answer};
 ghost use Rattle.atoi_core.specs.Kind.{kind, class_of};
 ghost use Rattle.atoi_core.specs.Loads.{most_loads, least_loads};
@@ -100,6 +100,7 @@ pub fn prefix_128_pos<'a, E: Engine, T: Number>(
         typed_prefix_answer T.number result
         ≡ prefix_answer E.table (kind T.BITS T.SIGNED T.GREATEST) false skip s.now
     }
+    ensures within { IfOk result (λ found. found.1 ≤ length s.now) }
     ensures most { steps.new ≤ steps.old + most_loads E.table wide128 s.now }
     ensures least { 0 < length s.now → steps.old < steps.new }
     ensures least_skipping { IsTrue skip → steps.old + least_loads E.table s.now ≤ steps.new }
@@ -126,6 +127,7 @@ pub fn prefix_128_neg<'a, E: Engine, T: Signed>(
         typed_prefix_answer T.number result
         ≡ prefix_answer E.table (kind T.BITS T.SIGNED T.GREATEST) true skip s.now
     }
+    ensures within { IfOk result (λ found. found.1 ≤ length s.now) }
     ensures most { steps.new ≤ steps.old + most_loads E.table wide128 s.now }
     ensures least { 0 < length s.now → steps.old < steps.new }
     ensures least_skipping { IsTrue skip → steps.old + least_loads E.table s.now ≤ steps.new }
