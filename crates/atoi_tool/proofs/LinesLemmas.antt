@@ -26,9 +26,9 @@ split-last : (piece : List ℕ) (p : ℕ → Bool) (xs : List ℕ) → without_e
 split-last piece p [] = refl
 split-last piece p (x ∷ xs) =
     elim (p x) as (λ b. without_empty_last (piece ∷ (if b then [] ∷ slice_split p xs else onto_first x (slice_split p xs)))
-        ≡ piece ∷ without_empty_last (if b then [] ∷ slice_split p xs else onto_first x (slice_split p xs))) [
-    | true ↦ refl
-    | false ↦ onto_first-last piece x (slice_split p xs)
+    ≡ piece ∷ without_empty_last (if b then [] ∷ slice_split p xs else onto_first x (slice_split p xs))) [
+      | true ↦ refl
+      | false ↦ onto_first-last piece x (slice_split p xs)
     ]
 
 -- an input with a newline: the first line stands before the first one
@@ -36,8 +36,8 @@ pub lines_of-newline : (xs : List ℕ) (n : ℕ) → position is_newline xs ≡ 
 lines_of-newline xs n found =
     let at = found_at is_newline xs n found in
     let cut : slice_split is_newline xs ≡ take n xs ∷ slice_split is_newline (drop (n + 1) xs) =
-        subst (λ k. slice_split is_newline xs ≡ take k xs ∷ slice_split is_newline (drop (k + 1) xs)) at.0
-        (slice_split_first is_newline xs 0 (omega arith)) in
+    subst (λ k. slice_split is_newline xs ≡ take k xs ∷ slice_split is_newline (drop (k + 1) xs)) at.0
+    (slice_split_first is_newline xs 0 (omega arith)) in
     ap without_empty_last cut ∙ split-last (take n xs) is_newline (drop (n + 1) xs)
 
 -- an input with no newline is one line
@@ -45,5 +45,5 @@ pub lines_of-last : (xs : List ℕ) → 0 < length xs → position is_newline xs
 lines_of-last xs some absent =
     let end = none_found is_newline xs absent in
     let one : slice_split is_newline xs ≡ xs ∷ [] =
-        slice_split_none is_newline xs (λ k d within. fails_before_first is_newline xs k d (omega arith)) in
+    slice_split_none is_newline xs (λ k d within. fails_before_first is_newline xs k d (omega arith)) in
     ap without_empty_last one ∙ grind (arith, nat_tests)
