@@ -1,4 +1,4 @@
-use Rattle.std.proofs.Common.{◌≡◌, ◌∙◌, ap, Bool, ℕ, List, Result}
+use Rattle.std.proofs.Common.{◌≡◌, ◌∙◌, ap, Bool, ℕ, Result}
 use Rattle.atoi_core.specs.Refusal.{Refusal}
 use Rattle.atoi_core.specs.Sign.{number_of}
 use Rattle.atoi_core.specs.Answer.{map_answer}

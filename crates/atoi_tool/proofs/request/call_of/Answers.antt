@@ -1,6 +1,5 @@
-use Rattle.std.proofs.Common.{rules, arith, ◌≡◌, codes}
+use Rattle.std.proofs.Common.{rules, ◌≡◌, codes}
 use Rattle.std.proofs.lemmas.Slice.Eq.{text_from_reads}
-use Rattle.atoi_tool.specs.Request.{call_of}
 use Rattle.atoi_tool.proofs.request.call_of.Goals as goal
 
 pub returns-in-prefix : goal.returns-in-prefix
