@@ -1,9 +1,14 @@
 -- Worked answers. Each computes from the definitions, so a wrong definition fails the check.
-use Rattle.std.specs.Prelude.{◌≡◌, true, false, pos, negsuc, codes, Ok, Err, refl}
-use Rattle.atoi_core.specs.Refusal.{overflow}
+use Rattle.std.specs.Fmt.{digits}
+use Rattle.std.specs.Prelude.{◌≡◌, [], true, false, ◌∷◌, length, replicate, decimal, pos, negsuc, codes, Ok, Err, refl}
+use Rattle.atoi_core.specs.Digit.{decimal_table}
+use Rattle.atoi_core.specs.Refusal.{empty, size, overflow, invalid64, invalid128, refusal_cmp}
+use Rattle.atoi_core.specs.ErrorText.{error_text}
 use Rattle.atoi_core.specs.Magnitude.{refusal}
-use Rattle.atoi_core.specs.Kind.{Kind, kind}
-use Rattle.atoi_core.specs.Answer.{parse_answer, parse_prefix_answer}
+use Rattle.atoi_core.specs.Kind.{Kind, kind, bound_of, limit_of}
+use Rattle.atoi_core.specs.Answer.{parse_answer, parse_prefix_answer, whole_answer}
+use Rattle.atoi_core.specs.Sign.{sign_of}
+use Rattle.std.specs.declared.cmp.Ordering.TheVariants.{Less}
 
 abbrev u8 : Kind
 u8 = kind 8 false 255
@@ -11,31 +16,267 @@ u8 = kind 8 false 255
 abbrev i8 : Kind
 i8 = kind 8 true 127
 
+abbrev i32 : Kind
+i32 = kind 32 true 2147483647
+
 abbrev u64 : Kind
 u64 = kind 64 false 18446744073709551615
 
 abbrev i64 : Kind
 i64 = kind 64 true 9223372036854775807
 
+abbrev i128 : Kind
+i128 = kind 128 true 170141183460469231731687303715884105727
+
 abbrev u128 : Kind
 u128 = kind 128 false 340282366920938463463374607431768211455
 
-pub twenty_zeros : parse_answer u64 true true (codes "+000000000000000000001234") ≡ Ok (pos 1234)
+-- a plus and any number of zeros are skipped where both are asked for
+pub plus_and_zeros : parse_answer u64 true true (codes "+000000000000000000001234") ≡ Ok (pos 1234)
 unfolding refusal
-twenty_zeros = refl
+plus_and_zeros = refl
 
-pub twenty_zeros_counted : parse_prefix_answer u64 true true (codes "+000000000000000000001234") ≡ Ok (pos 1234, 25)
+-- the count of a prefix is of the plus and the zeros too
+pub plus_and_zeros_count : parse_prefix_answer u64 true true (codes "+000000000000000000001234") ≡ Ok (pos 1234, 25)
 unfolding refusal
-twenty_zeros_counted = refl
+plus_and_zeros_count = refl
 
-pub over : parse_answer u8 false false (codes "256x") ≡ Err (overflow (codes "256x"))
+-- a minus is taken where the type is signed
+pub minus : parse_answer i64 false false (codes "-2345") ≡ Ok (negsuc 2344)
 unfolding refusal
-over = refl
+minus = refl
 
-pub least : parse_answer i8 false false (codes "-128") ≡ Ok (negsuc 127)
+-- a negative parse looks for no sign
+pub negative_body : whole_answer decimal_table i64 true false (codes "2345") ≡ Ok (negsuc 2344)
 unfolding refusal
-least = refl
+negative_body = refl
 
-pub inval : parse_answer u128 false false (codes "340282366920938463463374607431768211456") ≡ Err (overflow (codes "340282366920938463463374607431768211456"))
+-- a prefix stops at the first byte that is no digit
+pub prefix_stops : parse_prefix_answer u64 false false (codes "123something_else") ≡ Ok (pos 123, 3)
 unfolding refusal
-inval = refl
+prefix_stops = refl
+
+-- a value above the bound is told before the byte behind it
+pub overflow_first : parse_answer u8 false false (codes "256x") ≡ Err (overflow (codes "256x"))
+unfolding refusal
+overflow_first = refl
+
+-- the byte behind the digits, with the value so far and its place
+pub invalid_after_value : parse_answer u8 false false (codes "255x") ≡ Err (invalid64 255 3 (codes "255x"))
+unfolding refusal
+invalid_after_value = refl
+
+-- the least value of a type is in range
+pub least_value : parse_answer i8 false false (codes "-128") ≡ Ok (negsuc 127)
+unfolding refusal
+least_value = refl
+
+-- one below the least value is not, and the error has no sign
+pub below_least : parse_answer i8 false false (codes "-129") ≡ Err (overflow (codes "129"))
+unfolding refusal
+below_least = refl
+
+-- a narrow prefix that skips no zeros ends after 16 digits
+pub narrow_prefix_ends_in_run : parse_prefix_answer u8 false false (codes "00000000000000007") ≡ Ok (pos 0, 16)
+unfolding refusal
+narrow_prefix_ends_in_run = refl
+
+-- one that skips them does not
+pub narrow_prefix_skips : parse_prefix_answer u8 true false (codes "00000000000000007") ≡ Ok (pos 7, 17)
+unfolding refusal
+narrow_prefix_skips = refl
+
+-- zeros alone are zero, however many
+pub zeros_alone : parse_prefix_answer u8 true false (codes "0000000000000000") ≡ Ok (pos 0, 16)
+unfolding refusal
+zeros_alone = refl
+
+-- the first 16 digits alone decide
+pub narrow_prefix_reads_sixteen : parse_prefix_answer u8 false false (codes "00000000000000255999") ≡ Ok (pos 25, 16)
+unfolding refusal
+narrow_prefix_reads_sixteen = refl
+
+-- an overflow leaves out the zeros where the run reaches the next window
+pub overflow_without_zeros : parse_prefix_answer u8 true false (codes "00000000000000255999") ≡ Err (overflow (codes "255999"))
+unfolding refusal
+overflow_without_zeros = refl
+
+-- 16 digits reach it
+pub overflow_drops_thirteen : parse_prefix_answer u8 true false (codes "0000000000000999x") ≡ Err (overflow (codes "999x"))
+unfolding refusal
+overflow_drops_thirteen = refl
+
+-- 15 digits do not
+pub overflow_keeps_twelve : parse_prefix_answer u8 true false (codes "000000000000999x") ≡ Err (overflow (codes "000000000000999x"))
+unfolding refusal
+overflow_keeps_twelve = refl
+
+-- zeros that are not skipped count against the limit of a wide type
+pub zeros_count_as_digits : parse_answer u64 false false (codes "000000000000000000000") ≡ Err (size 21 (codes "000000000000000000000"))
+unfolding refusal
+zeros_count_as_digits = refl
+
+-- zeros that are skipped do not
+pub zeros_skipped : parse_answer u64 true false (codes "000000000000000000000") ≡ Ok (pos 0)
+unfolding refusal
+zeros_skipped = refl
+
+-- the greatest value of 64 bits is in range
+pub greatest_u64 : parse_answer u64 false false (codes "18446744073709551615") ≡ Ok (pos 18446744073709551615)
+unfolding refusal
+greatest_u64 = refl
+
+-- one above it is not
+pub above_greatest_u64 : parse_answer u64 false false (codes "18446744073709551616") ≡ Err (overflow (codes "18446744073709551616"))
+unfolding refusal
+above_greatest_u64 = refl
+
+-- 20 digits are too many for a signed number of 64 bits
+pub twenty_digits_of_i64 : parse_answer i64 false false (codes "09223372036854775807") ≡ Err (size 20 (codes "09223372036854775807"))
+unfolding refusal
+twenty_digits_of_i64 = refl
+
+-- a size tells at most 24 digits behind the zeros, and the slice begins behind these
+pub size_is_capped : parse_prefix_answer u64 true false (codes "0001111111111111111111111111") ≡ Err (size 27 (codes "1111111111111111111111111"))
+unfolding refusal
+size_is_capped = refl
+
+-- the byte behind the least value's magnitude
+pub magnitude_of_least : whole_answer decimal_table i64 true false (codes "9223372036854775808x") ≡ Err (invalid64 9223372036854775808 19 (codes "9223372036854775808x"))
+unfolding refusal
+magnitude_of_least = refl
+
+-- the least value of 64 bits
+pub least_i64 : whole_answer decimal_table i64 true false (codes "9223372036854775808") ≡ Ok (negsuc 9223372036854775807)
+unfolding refusal
+least_i64 = refl
+
+-- the greatest value of 128 bits is in range
+pub greatest_u128 : parse_answer u128 false false (codes "340282366920938463463374607431768211455") ≡ Ok (pos 340282366920938463463374607431768211455)
+unfolding refusal
+greatest_u128 = refl
+
+-- one above it is not
+pub above_greatest_u128 : parse_answer u128 false false (codes "340282366920938463463374607431768211456") ≡ Err (overflow (codes "340282366920938463463374607431768211456"))
+unfolding refusal
+above_greatest_u128 = refl
+
+-- 39 zeros fit 128 bits
+pub thirty_nine_zeros : parse_answer u128 false false (codes "000000000000000000000000000000000000000") ≡ Ok (pos 0)
+unfolding refusal
+thirty_nine_zeros = refl
+
+-- 41 do not, and the size tells at most 40
+pub forty_one_zeros : parse_answer u128 false false (codes "00000000000000000000000000000000000000000") ≡ Err (size 40 (codes "00000000000000000000000000000000000000000"))
+unfolding refusal
+forty_one_zeros = refl
+
+-- a plus that is taken is counted
+pub plus_counted : parse_prefix_answer i32 false true (codes "+12a") ≡ Ok (pos 12, 3)
+unfolding refusal
+plus_counted = refl
+
+-- and a minus
+pub minus_counted : parse_prefix_answer i32 false false (codes "-12a") ≡ Ok (negsuc 11, 3)
+unfolding refusal
+minus_counted = refl
+
+-- at most one sign is taken
+pub one_sign_alone : parse_answer i8 false true (codes "+-5") ≡ Err empty
+unfolding refusal
+one_sign_alone = refl
+
+-- no plus where it is not asked for
+pub no_plus_unasked : parse_answer i8 false false (codes "+5") ≡ Err empty
+unfolding refusal
+no_plus_unasked = refl
+
+-- no minus on an unsigned type
+pub no_minus_unsigned : parse_answer u8 false true (codes "-5") ≡ Err empty
+unfolding refusal
+no_minus_unsigned = refl
+
+-- the place of the byte counts the zeros, and the slice keeps them
+pub rest_after_zeros : parse_answer u64 true false (codes "0000000000000000000000007x") ≡ Err (invalid64 7 25 (codes "0000000000000000000000007x"))
+unfolding refusal
+rest_after_zeros = refl
+
+-- a number of 128 bits has an error of its own
+pub wide_error : parse_answer u128 true false (codes "0000012x") ≡ Err (invalid128 12 7 (codes "0000012x"))
+unfolding refusal
+wide_error = refl
+
+-- two spaces before `input:` of a 64-bit number
+pub text_of_invalid64 : error_text (invalid64 12 2 (codes "12a")) ≡ codes "atoi_simd invalid at index: 2 it must contain only digits, starting with: 12  input: [31, 32, 61]"
+unfolding digits
+text_of_invalid64 = refl
+
+-- one of a 128-bit number
+pub text_of_invalid128 : error_text (invalid128 12 2 (codes "12a")) ≡ codes "atoi_simd invalid at index: 2 it must contain only digits, starting with: 12 input: [31, 32, 61]"
+unfolding digits
+text_of_invalid128 = refl
+
+-- a size, and the slice
+pub text_of_size : error_text (size 27 (codes "11")) ≡ codes "atoi_simd wrong size: 27 input: [31, 31]"
+unfolding digits
+text_of_size = refl
+
+-- an empty slice
+pub text_of_no_input : error_text (overflow (codes "")) ≡ codes "atoi_simd overflow, input: []"
+unfolding digits
+text_of_no_input = refl
+
+-- no leading zero, and capitals
+pub text_of_small_bytes : error_text (overflow (0 ∷ 10 ∷ 13 ∷ 255 ∷ [])) ≡ codes "atoi_simd overflow, input: [0, A, D, FF]"
+unfolding digits
+text_of_small_bytes = refl
+
+-- at most 48 bytes
+pub text_of_fifty : error_text (overflow (replicate 50 10)) ≡ error_text (overflow (replicate 48 10))
+unfolding digits
+text_of_fifty = refl
+
+-- the variant decides first
+pub variant_first : refusal_cmp (size 9 (codes "b")) (overflow (codes "a")) ≡ Less
+unfolding digits
+variant_first = refl
+
+-- a proper front comes first
+pub front_first : refusal_cmp (overflow (codes "1")) (overflow (codes "11")) ≡ Less
+unfolding digits
+front_first = refl
+
+-- the left number decides first
+pub left_number_first : refusal_cmp (invalid64 1 2 (codes "a")) (invalid64 2 1 (codes "a")) ≡ Less
+unfolding digits
+left_number_first = refl
+
+-- the body begins with the second sign
+pub second_sign_stays : sign_of true true (codes "+-5") ≡ record { minus = false; taken = 1; body = codes "-5" }
+unfolding digits
+second_sign_stays = refl
+
+-- each wide type's limit is the count of digits of its greatest magnitude
+pub limit_u64 : limit_of u64 ≡ length (decimal (bound_of u64 false))
+unfolding digits
+limit_u64 = refl
+
+pub limit_i64 : limit_of i64 ≡ length (decimal (bound_of i64 false))
+unfolding digits
+limit_i64 = refl
+
+pub limit_i64_negative : limit_of i64 ≡ length (decimal (bound_of i64 true))
+unfolding digits
+limit_i64_negative = refl
+
+pub limit_u128 : limit_of u128 ≡ length (decimal (bound_of u128 false))
+unfolding digits
+limit_u128 = refl
+
+pub limit_i128 : limit_of i128 ≡ length (decimal (bound_of i128 false))
+unfolding digits
+limit_i128 = refl
+
+pub limit_i128_negative : limit_of i128 ≡ length (decimal (bound_of i128 true))
+unfolding digits
+limit_i128_negative = refl

@@ -7,6 +7,8 @@ pub mod Kind
 pub mod Sign
 pub mod Answer
 pub mod Text
+pub mod Laws
 pub mod Loads
 pub mod Window
+pub mod Words
 pub mod Examples

@@ -8,7 +8,7 @@ ghost use Rattle.atoi_core.specs.Magnitude.{narrow, whole_magnitude};
 use crate::error::AtoiSimdError;
 
 // What a byte is worth as a decimal digit.
-fn digit(byte: u8) -> Option<u64>
+pub(crate) fn digit(byte: u8) -> Option<u64>
     ensures { result ≡ decimal_table byte }
 {
     if byte.is_ascii_digit() {

@@ -1,0 +1,49 @@
+-- The sums by places of eight and of sixteen bytes: three rounds, and four.
+use Rattle.std.proofs.Common.{◌≡◌, ℕ, ◌+◌, ◌-◌, ◌*◌, ◌/◌, ◌%◌, ◌^◌, ◌<◌, ◌≤◌, refl, sym, ap, ◌∙◌, arith}
+use Rattle.std.proofs.Common.{lit<}
+use Rattle.std.specs.Int.Bits.{bit_and}
+use Rattle.atoi_core.specs.Words.{low_bytes, low_value}
+use Rattle.atoi_core.proofs.Rounds.{lows, number_in, round_number}
+use Rattle.atoi_core.proofs.Fields.{shifted_sum}
+
+-- a sum of eight bytes is the one digit that is left
+one_field_8 : (word : ℕ) → word < 2 ^ 32 → number_in 100000000 (lows 32 1 word) ≡ word
+one_field_8 word below = omega arith
+
+one_field_16 : (word : ℕ) → word < 2 ^ 64 → number_in 10000000000000000 (lows 64 1 word) ≡ word
+one_field_16 word below = omega arith
+
+-- three rounds of eight bytes
+pub sum_8 : (val len : ℕ) → len ≤ 8
+    → let ones = val * 2 ^ (64 - 8 * len) % 2 ^ 64 in
+    let tens = bit_and ones 0x0F0F_0F0F_0F0F_0F0F * 0xA01 % 2 ^ 64 / 2 ^ 8 in
+    let hundreds = bit_and tens 0x00FF_00FF_00FF_00FF * 0x64_0001 % 2 ^ 64 / 2 ^ 16 in
+    bit_and hundreds 0x0000_FFFF_0000_FFFF * 0x2710_0000_0001 % 2 ^ 64 / 2 ^ 32 ≡ low_value (low_bytes len val)
+sum_8 val len most =
+    let ones = val * 2 ^ (64 - 8 * len) % 2 ^ 64 in
+    let tens = bit_and ones 0x0F0F_0F0F_0F0F_0F0F * 0xA01 % 2 ^ 64 / 2 ^ 8 in
+    let hundreds = bit_and tens 0x00FF_00FF_00FF_00FF * 0x64_0001 % 2 ^ 64 / 2 ^ 16 in
+    sym (one_field_8 (bit_and hundreds 0x0000_FFFF_0000_FFFF * 0x2710_0000_0001 % 2 ^ 64 / 2 ^ 32) (omega arith))
+    ∙ round_number 16 10000 (lit< tt) 1 hundreds
+    ∙ round_number 8 100 (lit< tt) 2 tens
+    ∙ round_number 4 10 (lit< tt) 4 ones
+    ∙ shifted_sum (64 - 8 * len) 8 len val (omega arith) most
+
+-- four rounds of sixteen bytes
+pub sum_16 : (val len : ℕ) → len ≤ 16
+    → let ones = val * 2 ^ (128 - 8 * len) % 2 ^ 128 in
+    let tens = bit_and ones 0x0F0F_0F0F_0F0F_0F0F_0F0F_0F0F_0F0F_0F0F * 0xA01 % 2 ^ 128 / 2 ^ 8 in
+    let hundreds = bit_and tens 0x00FF_00FF_00FF_00FF_00FF_00FF_00FF_00FF * 0x64_0001 % 2 ^ 128 / 2 ^ 16 in
+    let ten_thousands = bit_and hundreds 0x0000_FFFF_0000_FFFF_0000_FFFF_0000_FFFF * 0x2710_0000_0001 % 2 ^ 128 / 2 ^ 32 in
+    bit_and ten_thousands 0x0000_0000_FFFF_FFFF_0000_0000_FFFF_FFFF * 0x5F5_E100_0000_0000_0000_0001 % 2 ^ 128 / 2 ^ 64 ≡ low_value (low_bytes len val)
+sum_16 val len most =
+    let ones = val * 2 ^ (128 - 8 * len) % 2 ^ 128 in
+    let tens = bit_and ones 0x0F0F_0F0F_0F0F_0F0F_0F0F_0F0F_0F0F_0F0F * 0xA01 % 2 ^ 128 / 2 ^ 8 in
+    let hundreds = bit_and tens 0x00FF_00FF_00FF_00FF_00FF_00FF_00FF_00FF * 0x64_0001 % 2 ^ 128 / 2 ^ 16 in
+    let ten_thousands = bit_and hundreds 0x0000_FFFF_0000_FFFF_0000_FFFF_0000_FFFF * 0x2710_0000_0001 % 2 ^ 128 / 2 ^ 32 in
+    sym (one_field_16 (bit_and ten_thousands 0x0000_0000_FFFF_FFFF_0000_0000_FFFF_FFFF * 0x5F5_E100_0000_0000_0000_0001 % 2 ^ 128 / 2 ^ 64) (omega arith))
+    ∙ round_number 32 100000000 (lit< tt) 1 ten_thousands
+    ∙ round_number 16 10000 (lit< tt) 2 hundreds
+    ∙ round_number 8 100 (lit< tt) 4 tens
+    ∙ round_number 4 10 (lit< tt) 8 ones
+    ∙ shifted_sum (128 - 8 * len) 16 len val (omega arith) most

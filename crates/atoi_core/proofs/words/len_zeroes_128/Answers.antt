@@ -1,0 +1,6 @@
+-- The zeros are counted by the trailing bytes of 0, at sixteen bytes.
+use Rattle.atoi_core.proofs.WordRuns.{zeros_counted}
+use Rattle.atoi_core.proofs.words.len_zeroes_128.Goals as goal
+
+pub returns-clause-len : goal.returns-clause-len
+returns-clause-len c = zeros_counted 16 c.args.val

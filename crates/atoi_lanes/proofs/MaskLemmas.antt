@@ -1,0 +1,58 @@
+-- From the mask of a comparison of lanes to the first lanes that pass a test.
+use Rattle.std.proofs.Common.{◌≡◌, ℕ, zero, suc, ◌+◌, ◌-◌, ◌*◌, ◌/◌, ◌%◌, ◌^◌, ◌<◌, Bool, true, false, cond, List, [], ◌∷◌, map, length, Fits, w8, w64, refl, ap, ◌∙◌, arith, pow_pos}
+use Rattle.std.specs.Int.{trailing_ones}
+use Rattle.std.specs.List.{prefix_len}
+use Rattle.std.proofs.Math.Nat.{pow-suc, lt_of_lt_of_le}
+use Rattle.std.proofs.lemmas.Bool.{agree_below, agree_below_at}
+use Rattle.std.proofs.lemmas.Simd.{map-map, mask_l-lt, mask_l-mod}
+use Rattle.std.proofs.lemmas.List.{length-map}
+use lib.Count.{count_trailing_zeros}
+use lib.Pow.{pow_mono}
+use lib.Lanes.{Each1, mask_l, top}
+
+-- a number with a zero below its other bits
+trailing-even : (k n : ℕ) → count_trailing_zeros (suc k) (2 * n) ≡ suc (count_trailing_zeros k n)
+unfolding count_trailing_zeros
+trailing-even k n =
+    let rest : 2 * n / 2 ≡ n = omega arith in
+    let lowest : 2 * n % 2 ≡ 0 = omega arith in
+    rw (lowest, rest)
+
+-- a number with a one below its other bits
+trailing-odd : (k n : ℕ) → count_trailing_zeros (suc k) (2 * n + 1) ≡ 0
+unfolding count_trailing_zeros
+trailing-odd k n = let lowest : (2 * n + 1) % 2 ≡ 1 = omega arith in rw lowest
+
+-- in the complement of a mask, the bits below the lowest one that is set are the first lanes that pass
+trailing-complement : (p : ℕ → Bool) (k : ℕ) (xs : List ℕ) → length xs < k → count_trailing_zeros k ((2 ^ k - 1) - mask_l (map p xs)) ≡ prefix_len p xs
+trailing-complement p zero xs h = absurd (omega arith)
+trailing-complement p (suc k) [] h =
+    let odd : (2 ^ suc k - 1) - 0 ≡ 2 * (2 ^ k - 1) + 1 = omega (arith, pow-suc 2 k, pow_pos k) in
+    ap (count_trailing_zeros (suc k)) odd ∙ trailing-odd k (2 ^ k - 1)
+trailing-complement p (suc k) (x ∷ xs) h =
+    let m = mask_l (map p xs) in
+    let rest = trailing-complement p k xs (omega arith) in
+    elim (p x) as (λ b. count_trailing_zeros (suc k) ((2 ^ suc k - 1) - (cond b 1 zero + 2 * m)) ≡ cond b (1 + prefix_len p xs) 0) [
+      | true ↦
+          let even : (2 ^ suc k - 1) - (1 + 2 * m) ≡ 2 * ((2 ^ k - 1) - m) = omega (arith, pow-suc 2 k, pow_pos k) in
+          ap (count_trailing_zeros (suc k)) even ∙ trailing-even k ((2 ^ k - 1) - m) ∙ omega (arith, rest)
+      | false ↦
+          let below : m < 2 ^ k = lt_of_lt_of_le (mask_l-lt (map p xs)) (pow_mono (omega (arith, length-map xs p))) in
+          let odd : (2 ^ suc k - 1) - (0 + 2 * m) ≡ 2 * ((2 ^ k - 1) - m) + 1 = omega (arith, pow-suc 2 k) in
+          ap (count_trailing_zeros (suc k)) odd ∙ trailing-odd k ((2 ^ k - 1) - m)
+    ]
+
+-- two tests that agree at each byte have the same front of a list of bytes
+prefix_len-agree : (p q : ℕ → Bool) → agree_below p q 256 ≡ true → (xs : List ℕ) → Each1 (Fits w8) xs → prefix_len p xs ≡ prefix_len q xs
+prefix_len-agree p q all [] fits = refl
+prefix_len-agree p q all (x ∷ xs) fits =
+    ap (λ b. cond b (1 + prefix_len p xs) 0) (agree_below_at p q 256 x all fits.0.fits)
+    ∙ ap (λ n. cond (q x) (1 + n) 0) (prefix_len-agree p q all xs fits.1)
+
+-- the ones at the low end of a mask are the first lanes that pass, where f of a lane is set just where the lane passes
+pub ones-of_mask : (q : ℕ → Bool) (v : List ℕ) (f : ℕ → ℕ) (z : List ℕ) → length v ≡ 16 → Each1 (Fits w8) v → z ≡ map f v
+    → agree_below (λ x. top 7 (f x)) q 256 ≡ true → trailing_ones w64 (mask_l (map (top 7) z) % 2 ^ 64) ≡ prefix_len q v
+ones-of_mask q v f z long fits lanes all =
+    let set = λ (x : ℕ). top 7 (f x) in
+    let mask = ap (λ l. mask_l l % 2 ^ 64) (ap (map (top 7)) lanes ∙ map-map (top 7) f v) ∙ mask_l-mod (map set v) 64 (omega (arith, length-map v set, long)) in
+    ap (trailing_ones w64) mask ∙ trailing-complement set 64 v (omega arith) ∙ prefix_len-agree set q all v fits
