@@ -1,5 +1,5 @@
 -- Appending one part after another.
-use Rattle.std.proofs.Common.{◌≡◌, ℕ, ◌+◌, List, [], ◌++◌, ◌<◌, ◌≤◌, length, take, drop, Option, Some, None, refl, sym, ap, ◌∙◌, append_assoc, arith, length-append}
+use Rattle.std.proofs.Common.{◌≡◌, ℕ, ◌+◌, List, [], ◌++◌, ◌≤◌, length, take, drop, Option, Some, None, refl, sym, ap, ◌∙◌, append_assoc, arith, length-append}
 use Rattle.std.proofs.lemmas.List.{append-nil, take-append-le}
 use Rattle.std.proofs.Math.Seq.{take-add, take-append-add}
 use Rattle.std.specs.Io.KnownBytes.{Appends, Keeps}
@@ -53,13 +53,15 @@ IsPutUpTo-refused old mid new whole part rest before refused =
     let n = refused.0 in
     let within : n ≤ length part = omega (arith, refused.1) in
     let cut : take (length before.front + n) whole ≡ before.front ++ take n part =
-        ap (take (length before.front + n)) before.parts
-        ∙ (take-append-add before.front (part ++ rest) n
-        ∙ ap (λ (back : List ℕ). before.front ++ back) (take-append-le n part rest within)) in
+    ap (take (length before.front + n)) before.parts
+    ∙ (take-append-add before.front (part ++ rest) n
+    ∙ ap (λ (back : List ℕ). before.front ++ back) (take-append-le n part rest within)) in
     let size : length whole ≡ length before.front + (length part + length rest) =
-        ap length before.parts ∙ simp length-append in
-    (length before.front + n, omega (arith, refused.1),
-    rw cut (Appends-append old mid new before.front (take n part) before.put refused.2))
+    ap length before.parts ∙ simp length-append in (
+      length before.front + n,
+      omega (arith, refused.1),
+      rw cut (Appends-append old mid new before.front (take n part) before.put refused.2),
+    )
 
 -- a further part of the same bytes
 pub Appends-take : (old mid new : Option (List ℕ)) (n m : ℕ) (xs : List ℕ) → Appends old mid (take n xs) → Appends mid new (take m (drop n xs)) → Appends old new (take (n + m) xs)

@@ -1,11 +1,9 @@
 -- The first line of an input.
-use Rattle.std.proofs.Common.{◌≡◌, ℕ, ◌+◌, ◌<◌, ◌≤◌, List, [], ◌∷◌, length, take, drop, Some, None, Bool, true, false, if◌then◌else◌, subst, refl, sym, ap, ◌∙◌, arith, rules, get_or}
-use Rattle.std.specs.List.{position, position_or_len, slice_split, onto_first, All}
-use Rattle.std.proofs.lemmas.List.Quantifiers.{position-Some}
-use Rattle.std.proofs.lemmas.List.Sums.{position_or_len_is, fails_before_first}
+use Rattle.std.proofs.Common.{◌≡◌, ℕ, ◌+◌, ◌<◌, ◌≤◌, List, [], ◌∷◌, length, take, drop, Some, None, Bool, true, false, if◌then◌else◌, subst, refl, ap, ◌∙◌, arith}
+use Rattle.std.specs.List.{position, position_or_len, slice_split, onto_first}
+use Rattle.std.proofs.lemmas.List.Sums.{fails_before_first}
 use Rattle.std.proofs.lemmas.List.Splits.{slice_split_first, slice_split_none}
 use Rattle.std.proofs.lemmas.Bool.Decides.{nat_tests}
-use Rattle.std.proofs.lemmas.Grind.{common_steps}
 use Rattle.atoi_tool.specs.Output.{is_newline, without_empty_last, lines_of}
 
 -- the place that was found is within the list, and the first
@@ -26,9 +24,9 @@ split-last : (piece : List ℕ) (p : ℕ → Bool) (xs : List ℕ) → without_e
 split-last piece p [] = refl
 split-last piece p (x ∷ xs) =
     elim (p x) as (λ b. without_empty_last (piece ∷ (if b then [] ∷ slice_split p xs else onto_first x (slice_split p xs)))
-        ≡ piece ∷ without_empty_last (if b then [] ∷ slice_split p xs else onto_first x (slice_split p xs))) [
-    | true ↦ refl
-    | false ↦ onto_first-last piece x (slice_split p xs)
+    ≡ piece ∷ without_empty_last (if b then [] ∷ slice_split p xs else onto_first x (slice_split p xs))) [
+      | true ↦ refl
+      | false ↦ onto_first-last piece x (slice_split p xs)
     ]
 
 -- an input with a newline: the first line stands before the first one
@@ -36,8 +34,8 @@ pub lines_of-newline : (xs : List ℕ) (n : ℕ) → position is_newline xs ≡ 
 lines_of-newline xs n found =
     let at = found_at is_newline xs n found in
     let cut : slice_split is_newline xs ≡ take n xs ∷ slice_split is_newline (drop (n + 1) xs) =
-        subst (λ k. slice_split is_newline xs ≡ take k xs ∷ slice_split is_newline (drop (k + 1) xs)) at.0
-        (slice_split_first is_newline xs 0 (omega arith)) in
+    subst (λ k. slice_split is_newline xs ≡ take k xs ∷ slice_split is_newline (drop (k + 1) xs)) at.0
+    (slice_split_first is_newline xs 0 (omega arith)) in
     ap without_empty_last cut ∙ split-last (take n xs) is_newline (drop (n + 1) xs)
 
 -- an input with no newline is one line
@@ -45,5 +43,5 @@ pub lines_of-last : (xs : List ℕ) → 0 < length xs → position is_newline xs
 lines_of-last xs some absent =
     let end = none_found is_newline xs absent in
     let one : slice_split is_newline xs ≡ xs ∷ [] =
-        slice_split_none is_newline xs (λ k d within. fails_before_first is_newline xs k d (omega arith)) in
+    slice_split_none is_newline xs (λ k d within. fails_before_first is_newline xs k d (omega arith)) in
     ap without_empty_last one ∙ grind (arith, nat_tests)

@@ -1,5 +1,5 @@
 -- The answer to a line.
-use Rattle.std.specs.Prelude.{Option, Some, None, Result, Ok, Err, Bool, true, false, ℕ, ℤ, List, ◌++◌, codes, decimal, is_some}
+use Rattle.std.specs.Prelude.{Result, Ok, Err, Bool, true, false, ℕ, ℤ, List, ◌++◌, codes, decimal, is_some}
 use Rattle.std.specs.Option.{option_map_or}
 use Rattle.std.specs.Fmt.{signed_decimal}
 use Rattle.atoi_core.specs.Digit.{decimal_table}

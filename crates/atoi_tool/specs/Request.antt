@@ -1,5 +1,5 @@
 -- What the words of a row name, and which rows there are.
-use Rattle.std.specs.Prelude.{Option, Some, None, Bool, true, false, not, List, ℕ, codes, if◌then◌else◌}
+use Rattle.std.specs.Prelude.{Option, Some, None, Bool, true, false, List, ℕ, codes, if◌then◌else◌}
 use Rattle.std.specs.Str.{bytes_eq}
 use Rattle.atoi_core.specs.Kind.{Kind, kind}
 use Rattle.atoi_tool.specs.declared.request.Engine.{Engine}

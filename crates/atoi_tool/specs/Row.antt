@@ -1,10 +1,6 @@
 -- A line as a row: four words and a text, with one space behind each word.
 use Rattle.std.specs.Prelude.{Option, Some, None, ℕ, ◌+◌, ◌==◌, List, take, drop, position, option_and_then, if◌then◌else◌}
 use Rattle.std.specs.Option.{option_map}
-use Rattle.atoi_tool.specs.declared.request.Engine.{Engine}
-use Rattle.atoi_tool.specs.declared.request.Call.{Call}
-use Rattle.atoi_tool.specs.declared.request.Integer.{Integer}
-use Rattle.atoi_tool.specs.declared.request.Flags.{Flags}
 use Rattle.atoi_tool.specs.declared.request.Request.{Request}
 use Rattle.atoi_tool.specs.Request.{engine_of, call_of, integer_of, flags_of, is_known}
 

@@ -1,5 +1,5 @@
--- The status that the program ends with.
-use Rattle.std.specs.Prelude.{ℕ, Bool, true, false, Result, Ok, Err}
+-- The status that the program ends with, and what it says of a fault.
+use Rattle.std.specs.Prelude.{ℕ, List, codes, Bool, true, false, Result, Ok, Err}
 use Rattle.atoi_tool.specs.declared.status.ToolError.{ToolError}
 use Rattle.atoi_tool.specs.declared.status.ToolError.TheVariants.{Memory, Read, Write}
 
@@ -10,3 +10,9 @@ status_of (Ok false) = 2
 status_of (Err Memory) = 3
 status_of (Err Read) = 4
 status_of (Err Write) = 5
+
+-- what the program says of a fault
+abbrev pub tool_error_text : ToolError → List ℕ
+tool_error_text Memory = codes "out of memory"
+tool_error_text Read = codes "cannot read input"
+tool_error_text Write = codes "cannot write output"

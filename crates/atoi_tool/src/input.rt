@@ -33,3 +33,6 @@ pub fn read_all<S: Source>(alloc: Global, input: &mut S) -> Result<Vec<u8>, Tool
         }
     }
 }
+
+#[cfg(test)]
+mod tests;

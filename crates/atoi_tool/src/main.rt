@@ -23,7 +23,11 @@ mod source;
 mod status;
 
 // Answers all that `reader` gives.
-fn run<R: Read + Drop, W: Write + Drop>(alloc: Global, reader: R, writer: W) -> Result<bool, ToolError> {
+fn run<R: Read + Drop, W: Write + Drop>(
+    alloc: Global,
+    reader: R,
+    writer: W,
+) -> Result<bool, ToolError> {
     let input = read_all(alloc, &mut FromReader::new(reader))?;
     answer_lines(&input, &mut ToWriter::new(writer))
 }

@@ -77,3 +77,6 @@ pub fn answer_lines<S: Sink>(input: &[u8], output: &mut S) -> Result<bool, ToolE
     }
     Ok(all_good)
 }
+
+#[cfg(test)]
+mod tests;

@@ -1,7 +1,7 @@
 //! What stopped the program, and the status that it ends with.
 //! It stands on nothing.
-ghost use Rattle.std.specs.Prelude.{◌≡◌};
-ghost use Rattle.atoi_tool.specs.Status.{status_of};
+ghost use Rattle.std.specs.Prelude.{◌≡◌, Some};
+ghost use Rattle.atoi_tool.specs.Status.{status_of, tool_error_text};
 
 use std::fmt;
 
@@ -17,6 +17,8 @@ pub enum ToolError {
 }
 
 impl fmt::Display for ToolError {
+    ghost output = { λ error. Some (tool_error_text error) };
+
     fn fmt<W: fmt::Write>(&self, f: &mut fmt::Formatter<W>) -> fmt::Result {
         f.write_str(match self {
             ToolError::Memory => "out of memory",

@@ -1,4 +1,4 @@
-use Rattle.std.proofs.Common.{◌≡◌, ◌++◌, Option, List, ℕ, codes, ap, ◌∙◌}
+use Rattle.std.proofs.Common.{◌++◌, Option, List, ℕ, codes, ap, ◌∙◌}
 use Rattle.std.specs.Option.{option_map_or}
 use Rattle.atoi_tool.specs.declared.request.Request.{Request}
 use Rattle.atoi_tool.specs.Answer.{row_text}

@@ -1,6 +1,5 @@
-use Rattle.std.proofs.Common.{rules, ◌≡◌, ◌+◌, ◌<◌, [], ◌∷◌, length, sym, ◌∙◌, arith}
+use Rattle.std.proofs.Common.{◌+◌, length, sym, ◌∙◌, arith}
 use Rattle.std.proofs.lemmas.List.{take_rest, drop_all}
-use Rattle.atoi_tool.specs.Output.{lines_of}
 use Rattle.atoi_tool.proofs.LinesLemmas.{lines_of-newline, lines_of-last}
 use Rattle.atoi_tool.proofs.output.first_line.Goals as goal
 

@@ -1,7 +1,6 @@
-use Rattle.std.proofs.Common.{arith, ◌≡◌, ◌+◌, ◌-◌, ◌≤◌, take, drop, length, length-take, length-drop}
+use Rattle.std.proofs.Common.{arith, ◌≤◌, drop, length, length-drop}
 use Rattle.std.proofs.lemmas.Grind.{common_steps}
 use Rattle.std.proofs.lemmas.List.{take_rest}
-use Rattle.std.specs.Io.KnownBytes.{Appends}
 use Rattle.atoi_tool.proofs.Appended.{Appends-take}
 use Rattle.atoi_tool.proofs.output.put_all.Goals as goal
 
