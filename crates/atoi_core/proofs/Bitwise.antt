@@ -23,9 +23,9 @@ module _ (op : ℕ → ℕ → ℕ)
   op_repeated b fits zero a = refl
   op_repeated b fits (suc k) a =
       ap₂ (λ x xs. x ∷ xs)
-        (low a (repeated b (suc k)) 8 ∙ ap (op (a % 256)) (mod-mul-add (repeated b k) 256 b fits))
-        (ap (digits_l 256 k) (high a (repeated b (suc k)) 8 ∙ ap (op (a / 256)) (div-mul-add (repeated b k) 256 b fits))
-          ∙ op_repeated b fits k (a / 256))
+      (low a (repeated b (suc k)) 8 ∙ ap (op (a % 256)) (mod-mul-add (repeated b k) 256 b fits))
+      (ap (digits_l 256 k) (high a (repeated b (suc k)) 8 ∙ ap (op (a / 256)) (div-mul-add (repeated b k) 256 b fits))
+      ∙ op_repeated b fits k (a / 256))
 
 pub or_bytes : (k a b : ℕ) → digits_l 256 k (bit_or a b) ≡ zip2 bit_or (digits_l 256 k a) (digits_l 256 k b)
 or_bytes = op_fields bit_or or_shr or_mod 8
@@ -45,4 +45,4 @@ upper_halves k a = and_repeated 15 (omega arith) k (a / 16) ∙ halves k a
     halves (suc k) a =
         let next : a / 16 / 256 ≡ a / 256 / 16 = omega arith in
         ap₂ (λ x xs. x ∷ xs) (and_mask (a / 16 % 256) 4 ∙ omega arith)
-          (ap (λ x. map (λ y. bit_and y 15) (digits_l 256 k x)) next ∙ halves k (a / 256))
+        (ap (λ x. map (λ y. bit_and y 15) (digits_l 256 k x)) next ∙ halves k (a / 256))

@@ -16,11 +16,11 @@ digits_cut g zero word = refl
 digits_cut g (suc k) word =
     let b = 2 ^ g in
     let cut : word % 2 ^ (suc k * g) ≡ word / b % 2 ^ (k * g) * b + word % b =
-      ap (λ e. word % 2 ^ e) (suc-mul k g) ∙ mod-pow-add word (k * g) g in
+    ap (λ e. word % 2 ^ e) (suc-mul k g) ∙ mod-pow-add word (k * g) g in
     let small : word % b < b = mod-lt word (pow_pos g) in
     ap₂ (λ x xs. x ∷ xs)
-      (ap (λ x. x % b) cut ∙ mod-mul-add (word / b % 2 ^ (k * g)) b (word % b) small)
-      (ap (λ x. digits_l b k (x / b)) cut ∙ ap (digits_l b k) (div-mul-add (word / b % 2 ^ (k * g)) b (word % b) small) ∙ digits_cut g k (word / b))
+    (ap (λ x. x % b) cut ∙ mod-mul-add (word / b % 2 ^ (k * g)) b (word % b) small)
+    (ap (λ x. digits_l b k (x / b)) cut ∙ ap (digits_l b k) (div-mul-add (word / b % 2 ^ (k * g)) b (word % b) small) ∙ digits_cut g k (word / b))
 
 -- bytes of 0 below the others add nothing to their sum
 low_value_shifted : (z k word : ℕ) → low_value (digits_l 256 (z + k) (word * 2 ^ (z * 8))) ≡ low_value (digits_l 256 k word)

@@ -45,7 +45,7 @@ masked_low h (suc k) word =
     let low : word % 2 ^ h < 2 ^ h = mod-lt word (pow_pos h) in
     let fits : word % 2 ^ h < 2 ^ (h + h) = omega (arith, half_below h) in
     let e : bit_and word (masks h (suc k)) % 2 ^ (h + h) ≡ word % 2 ^ h =
-      ap (λ x. x % 2 ^ (h + h)) (mask_step h k word) ∙ mod-mul-add (bit_and (word / 2 ^ (h + h)) (masks h k)) (2 ^ (h + h)) (word % 2 ^ h) fits in
+    ap (λ x. x % 2 ^ (h + h)) (mask_step h k word) ∙ mod-mul-add (bit_and (word / 2 ^ (h + h)) (masks h k)) (2 ^ (h + h)) (word % 2 ^ h) fits in
     omega arith
 
 -- what a word becomes by the product and the shift, before it wraps
@@ -93,18 +93,18 @@ module _ (h t : ℕ) (room : (2 ^ h - 1) * (1 + t) < 2 ^ (h + h)) where
       let lower : g + f * t < b = two_digits f g f_below g_below in
       let fits : f < b = omega (arith, half_below h) in
       let whole : bit_and word (masks h (twice (suc m))) ≡ (u * b + g) * b + f =
-        mask_step h (suc (twice m)) word ∙ ap (λ x. x * b + f) (mask_step h (twice m) (word / b)) in
+      mask_step h (suc (twice m)) word ∙ ap (λ x. x * b + f) (mask_step h (twice m) (word / b)) in
       let square : 2 ^ ((h + h) + (h + h)) ≡ b * b = pow-add 2 (h + h) (h + h) in
       let is : spread b t (bit_and word (masks h (twice (suc m)))) ≡ (spread b t u * b + (u % b + g * t)) * b + (g + f * t) =
-        ap (spread b t) whole ∙ spread_pair b t u f g fits ∙ omega arith in
+      ap (spread b t) whole ∙ spread_pair b t u f g fits ∙ omega arith in
       let low : spread b t (bit_and word (masks h (twice (suc m)))) % b ≡ g + f * t =
-        ap (λ x. x % b) is ∙ mod-mul-add (spread b t u * b + (u % b + g * t)) b (g + f * t) lower in
+      ap (λ x. x % b) is ∙ mod-mul-add (spread b t u * b + (u % b + g * t)) b (g + f * t) lower in
       let high : spread b t (bit_and word (masks h (twice (suc m)))) / 2 ^ ((h + h) + (h + h)) ≡ spread b t u =
-        ap (λ p. spread b t (bit_and word (masks h (twice (suc m)))) / p) square
-        ∙ sym (div-div-eq-div-mul _ b b)
-        ∙ ap (λ x. x / b / b) is
-        ∙ ap (λ x. x / b) (div-mul-add (spread b t u * b + (u % b + g * t)) b (g + f * t) lower)
-        ∙ div-mul-add (spread b t u) b (u % b + g * t) carried in
+      ap (λ p. spread b t (bit_and word (masks h (twice (suc m)))) / p) square
+      ∙ sym (div-div-eq-div-mul _ b b)
+      ∙ ap (λ x. x / b / b) is
+      ∙ ap (λ x. x / b) (div-mul-add (spread b t u * b + (u % b + g * t)) b (g + f * t) lower)
+      ∙ div-mul-add (spread b t u) b (u % b + g * t) carried in
       ap₂ (λ x xs. x ∷ xs) low (ap (lows (h + h) m) high ∙ spread_masked m rest)
 
 -- the lower halves of m fields of g + g bits stay, where a word is cut to these fields before a shift by g
@@ -115,14 +115,14 @@ shift_cut g (suc m) word =
     let w = 2 ^ (g + g) in
     let rest = word / w % 2 ^ (m * (g + g)) in
     let cut : word % 2 ^ (suc m * (g + g)) ≡ rest * w + word % w =
-      ap (λ e. word % 2 ^ e) (suc-mul m (g + g)) ∙ mod-pow-add word (m * (g + g)) (g + g) in
+    ap (λ e. word % 2 ^ e) (suc-mul m (g + g)) ∙ mod-pow-add word (m * (g + g)) (g + g) in
     let swap : (x : ℕ) → x / b / w ≡ x / w / b = λ x. div-div-eq-div-mul x b w ∙ ap (λ e. x / e) (mul_comm b w) ∙ sym (div-div-eq-div-mul x w b) in
     let low : word % 2 ^ (suc m * (g + g)) / b % b ≡ word / b % b =
-      sym (field_of (word % 2 ^ (suc m * (g + g))) g g)
-      ∙ ap (λ x. x / b) (ap (λ x. x % w) cut ∙ mod-mul-add rest w (word % w) (mod-lt word (pow_pos (g + g))))
-      ∙ field_of word g g in
+    sym (field_of (word % 2 ^ (suc m * (g + g))) g g)
+    ∙ ap (λ x. x / b) (ap (λ x. x % w) cut ∙ mod-mul-add rest w (word % w) (mod-lt word (pow_pos (g + g))))
+    ∙ field_of word g g in
     let high : word % 2 ^ (suc m * (g + g)) / b / w ≡ rest / b =
-      swap (word % 2 ^ (suc m * (g + g))) ∙ ap (λ x. x / w / b) cut ∙ ap (λ x. x / b) (div-mul-add rest w (word % w) (mod-lt word (pow_pos (g + g)))) in
+    swap (word % 2 ^ (suc m * (g + g))) ∙ ap (λ x. x / w / b) cut ∙ ap (λ x. x / b) (div-mul-add rest w (word % w) (mod-lt word (pow_pos (g + g)))) in
     ap₂ (λ x xs. x ∷ xs) low (ap (lows g m) high ∙ shift_cut g m (word / w) ∙ ap (lows g m) (sym (swap word)))
 
 -- ONE ROUND: of the lower halves of neighbours it makes the two digits in base t that they are

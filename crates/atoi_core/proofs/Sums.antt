@@ -1,10 +1,12 @@
 -- The sums by places of eight and of sixteen bytes: three rounds, and four.
-use Rattle.std.proofs.Common.{◌≡◌, ℕ, ◌+◌, ◌-◌, ◌*◌, ◌/◌, ◌%◌, ◌^◌, ◌<◌, ◌≤◌, refl, sym, ap, ◌∙◌, arith}
+use Rattle.std.proofs.Common.{◌≡◌, ℕ, ◌+◌, ◌-◌, ◌*◌, ◌/◌, ◌%◌, ◌^◌, ◌<◌, ◌≤◌, suc, List, [], ◌∷◌, length, refl, sym, ap, ◌∙◌, arith}
 use Rattle.std.proofs.Common.{lit<}
+use Rattle.std.proofs.Math.Nat.{mul-le-mul_right, pow-suc, pow-le-pow_right}
+use Rattle.std.specs.Simd.Lanes.{digits_l}
 use Rattle.std.specs.Int.Bits.{bit_and}
 use Rattle.atoi_core.specs.Words.{low_bytes, low_value}
 use Rattle.atoi_core.proofs.Rounds.{lows, number_in, round_number}
-use Rattle.atoi_core.proofs.Fields.{shifted_sum}
+use Rattle.atoi_core.proofs.Fields.{shifted_sum, length-digits}
 
 -- a sum of eight bytes is the one digit that is left
 one_field_8 : (word : ℕ) → word < 2 ^ 32 → number_in 100000000 (lows 32 1 word) ≡ word
@@ -47,3 +49,25 @@ sum_16 val len most =
     ∙ round_number 8 100 (lit< tt) 4 tens
     ∙ round_number 4 10 (lit< tt) 8 ones
     ∙ shifted_sum (128 - 8 * len) 16 len val (omega arith) most
+
+-- the lower half of a byte is at most 15, and so is each place of a sum
+places_most : (bytes : List ℕ) → 9 * low_value bytes + 15 ≤ 15 * 10 ^ length bytes
+places_most [] = omega arith
+places_most (byte ∷ bytes) =
+    let half : (byte % 16) * 10 ^ length bytes ≤ 15 * 10 ^ length bytes = mul-le-mul_right (10 ^ length bytes) (omega arith) in
+    let power : 10 ^ suc (length bytes) ≡ 10 ^ length bytes * 10 = pow-suc 10 (length bytes) in
+    omega (arith, places_most bytes)
+
+sum_most : (count len val : ℕ) → len ≤ count → 9 * low_value (low_bytes len val) + 15 ≤ 15 * 10 ^ count
+unfolding low_bytes
+sum_most count len val most =
+    let places : length (digits_l 256 len val) ≡ len = length-digits 256 len val in
+    let few : length (digits_l 256 len val) ≤ count = omega arith in
+    let power : 10 ^ length (digits_l 256 len val) ≤ 10 ^ count = pow-le-pow_right (lit< tt) few in
+    omega (arith, places_most (digits_l 256 len val))
+
+pub most_8 : (val len : ℕ) → len ≤ 8 → (result : ℕ) → result ≡ low_value (low_bytes len val) → result ≤ 166666665
+most_8 val len most result is = omega (arith, sum_most 8 len val most)
+
+pub most_16 : (val len : ℕ) → len ≤ 16 → (result : ℕ) → result ≡ low_value (low_bytes len val) → result ≤ 16666666666666665
+most_16 val len most result is = omega (arith, sum_most 16 len val most)

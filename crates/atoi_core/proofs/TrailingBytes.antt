@@ -36,12 +36,13 @@ stopping_field (suc a) b n some = go (n % 2) refl (stopping_field a b (n / 2))
   where
     bits : count_trailing_zeros (suc a + b) n ≡ under (n % 2) (count_trailing_zeros (a + b) (n / 2))
     bits = ap (λ k. count_trailing_zeros k n) (suc-add a b)
+
     go : (d : ℕ) → n % 2 ≡ d → (0 < n / 2 % 2 ^ a → count_trailing_zeros (a + b) (n / 2) < a) → count_trailing_zeros (suc a + b) n < suc a
     go zero e above =
         let split = lowest_bit a n in
         let below = above (omega arith) in
         let is : count_trailing_zeros (suc a + b) n ≡ suc (count_trailing_zeros (a + b) (n / 2)) =
-          bits ∙ ap (λ d. under d (count_trailing_zeros (a + b) (n / 2))) e in
+        bits ∙ ap (λ d. under d (count_trailing_zeros (a + b) (n / 2))) e in
         omega arith
     go (suc d) e above =
         let is : count_trailing_zeros (suc a + b) n ≡ 0 = bits ∙ ap (λ d. under d (count_trailing_zeros (a + b) (n / 2))) e in
@@ -58,12 +59,12 @@ trailing_bytes (suc k) word =
     let rest = trailing_bytes k (word / 256) in
     ap (λ j. count_trailing_zeros j word / 8) bits
     ∙ (elim (eq-zero-or-pos (word % 256)) [
-      inl e ↦
-        let up : (8 + above) / 8 ≡ 1 + above / 8 = omega arith in
-        ap (λ x. x / 8) (zero_field 8 (k * 8) word e) ∙ up ∙ ap (λ x. 1 + x) rest
-        ∙ sym (ap (λ t. cond t (1 + run) 0) (eq-eqb (word % 256) 0 e))
+      | inl e ↦
+          let up : (8 + above) / 8 ≡ 1 + above / 8 = omega arith in
+          ap (λ x. x / 8) (zero_field 8 (k * 8) word e) ∙ up ∙ ap (λ x. 1 + x) rest
+          ∙ sym (ap (λ t. cond t (1 + run) 0) (eq-eqb (word % 256) 0 e))
       | inr some ↦
-        let few = stopping_field 8 (k * 8) word some in
-        let none : count_trailing_zeros (8 + k * 8) word / 8 ≡ 0 = omega arith in
-        none ∙ sym (ap (λ t. cond t (1 + run) 0) (ne_eqb (word % 256) 0 (omega arith)))
+          let few = stopping_field 8 (k * 8) word some in
+          let none : count_trailing_zeros (8 + k * 8) word / 8 ≡ 0 = omega arith in
+          none ∙ sym (ap (λ t. cond t (1 + run) 0) (ne_eqb (word % 256) 0 (omega arith)))
     ])

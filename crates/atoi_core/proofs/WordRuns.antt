@@ -41,7 +41,7 @@ mark raised byte = bit_xor (bit_or (raised / 16) (bit_and byte 240)) 51
 digit_byte : (b : ℕ) → b < 256 → (mark ((b + 6) % 256) b == 0) ≡ is_digit decimal_table b
 digit_byte b h =
     same_answer (mark ((b + 6) % 256) b == 0) (is_digit decimal_table b)
-      (of_each_byte (λ x. same (mark ((x + 6) % 256) x == 0) (is_digit decimal_table x)) refl b h)
+    (of_each_byte (λ x. same (mark ((x + 6) % 256) x == 0) (is_digit decimal_table x)) refl b h)
 
 -- a digit and six carry nothing
 digit_low : (b : ℕ) → b < 256 → (not (is_digit decimal_table b) || ltb b 250) ≡ true
@@ -58,7 +58,7 @@ run_goes_on false m n e = refl
 -- no digit, so the marks are those of the bytes alone up to the first that is no digit.
 carried_run : (k word : ℕ)
     → prefix_len (λ b. b == 0) (map (λ x. bit_xor x 51) (zip2 bit_or (map (λ x. x / 16) (digits_l 256 k (word + repeated 6 k))) (map (λ x. bit_and x 240) (digits_l 256 k word))))
-      ≡ prefix_len (is_digit decimal_table) (digits_l 256 k word)
+    ≡ prefix_len (is_digit decimal_table) (digits_l 256 k word)
 carried_run zero word = refl
 carried_run (suc k) word =
     let byte = word % 256 in
@@ -70,11 +70,11 @@ carried_run (suc k) word =
     ap (λ r. cond (mark r byte == 0) (1 + run (raised / 256)) 0) low
     ∙ ap (λ t. cond t (1 + run (raised / 256)) 0) (digit_byte byte is_byte)
     ∙ run_goes_on (is_digit decimal_table byte) (run (raised / 256)) (prefix_len (is_digit decimal_table) (digits_l 256 k (word / 256)))
-      (λ e. ap run (carries_nothing (digit_below byte is_byte e)) ∙ carried_run k (word / 256))
+    (λ e. ap run (carries_nothing (digit_below byte is_byte e)) ∙ carried_run k (word / 256))
 
 pub digits_counted : (k word : ℕ)
     → count_trailing_zeros (k * 8) (bit_xor (bit_or (bit_and ((word + repeated 6 k) % 2 ^ (k * 8) / 16) (repeated 15 k)) (bit_and word (repeated 240 k))) (repeated 51 k)) / 8
-      ≡ run_len decimal_table (low_bytes k word)
+    ≡ run_len decimal_table (low_bytes k word)
 unfolding low_bytes
 digits_counted k word =
     let raised = (word + repeated 6 k) % 2 ^ (k * 8) in
@@ -82,10 +82,10 @@ digits_counted k word =
     let low = bit_and word (repeated 240 k) in
     trailing_bytes k (bit_xor (bit_or high low) (repeated 51 k))
     ∙ ap (prefix_len (λ b. b == 0))
-      (xor_repeated 51 (lit< tt) k (bit_or high low)
-      ∙ ap (map (λ x. bit_xor x 51))
-        (or_bytes k high low
-        ∙ ap₂ (zip2 bit_or)
-          (upper_halves k raised ∙ ap (map (λ x. x / 16)) (digits_cut 8 k (word + repeated 6 k)))
-          (and_repeated 240 (lit< tt) k word)))
+    (xor_repeated 51 (lit< tt) k (bit_or high low)
+    ∙ ap (map (λ x. bit_xor x 51))
+    (or_bytes k high low
+    ∙ ap₂ (zip2 bit_or)
+    (upper_halves k raised ∙ ap (map (λ x. x / 16)) (digits_cut 8 k (word + repeated 6 k)))
+    (and_repeated 240 (lit< tt) k word)))
     ∙ carried_run k word

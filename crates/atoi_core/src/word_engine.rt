@@ -1,8 +1,10 @@
-//! The engine that reads a window as words of eight bytes.
+//! The engine that reads a window as one word of eight bytes, or as two.
 //! It stands on `words`, `engine`, `window` and `steps`.
-ghost use Rattle.std.specs.Prelude.{◌≡◌, ◌+◌, ◌*◌, ◌^◌, ◌<◌, ◌≤◌};
+ghost use Rattle.std.specs.Prelude.{◌≡◌, ◌+◌, ◌^◌, ◌≤◌, ◌++◌, length, take, drop};
 ghost use Rattle.atoi_core.specs.Digit.{decimal_table};
+ghost use Rattle.atoi_core.specs.Run.{run_len, zeros};
 ghost use Rattle.atoi_core.specs.Window.{window_of};
+ghost use Rattle.atoi_core.specs.Words.{low_bytes, low_value, word_of};
 ghost use Rattle.std.proofs.Common.{arith};
 ghost use Rattle.std.proofs.lemmas.Bool.Decides.{nat_tests};
 
@@ -11,96 +13,117 @@ use crate::steps::Steps;
 use crate::window::Window;
 use crate::words::{check_len_8, len_zeroes, load_8, process_8};
 
-/// The engine that reads eight bytes at once, as a word.
+/// The engine that reads eight bytes at once, as a word. Its digits are the decimal ones.
 pub struct Words;
 
 impl Engine for Words {
     ghost table = { decimal_table };
 
-    /// The first 16 bytes, or all where there are fewer. Adds one step.
+    /// The first 16 bytes, or all where there are fewer: how many digits they begin with, the number
+    /// that these write, and the zeros among them where all 16 are digits. Adds one step.
     #[inline(always)]
     fn window(s: &[u8], steps: &mut Steps) -> Window {
         steps.tick();
-        let first = front(s);
-        if first.len < 8 {
-            first
-        } else {
+        let first = load_8(s);
+        let len = check_len_8(first);
+        if len == 8 {
             joined(s, first)
+        } else {
+            Window {
+                len,
+                zeroes: 0,
+                number: number_of(first, len),
+            }
         }
     }
 
-    /// The first 8 bytes, or all where there are fewer. Adds one step.
+    /// The same of the first 8 bytes. Adds one step.
     #[inline(always)]
     fn window_8(s: &[u8], steps: &mut Steps) -> Window {
         steps.tick();
-        front(s)
+        let word = load_8(s);
+        let len = check_len_8(word);
+        let zeroes = if len == 8 { zeroes_of(word) } else { 0 };
+        Window {
+            len,
+            zeroes,
+            number: number_of(word, len),
+        }
     }
 
     ghost below_ten = { λ byte. Prim.grind (arith, nat_tests) };
 }
 
-// The window of 8 bytes.
+// The window of 16 bytes where the first 8, which `first` holds, are digits.
 #[inline(always)]
-fn front(s: &[u8]) -> Window
-    ensures window { result ≡ window_of decimal_table 8 s.now }
-    ensures len { result.len ≤ 8 }
-    ensures zeroes { result.zeroes ≤ 8 }
-    ensures number { result.number < 100000000 }
+fn joined(s: &[u8], first: u64) -> Window
+    requires loaded { first ≡ word_of (take 8 s.now) }
+    requires full { run_len decimal_table (low_bytes 8 first) ≡ 8 }
+    ensures { result ≡ window_of decimal_table 16 s.now }
 {
-    let word = load_8(s);
-    let len = check_len_8(word);
-    if len == 0 {
-        return Window {
-            len: 0,
-            zeroes: 0,
-            number: 0,
-        };
+    let next = load_next(s);
+    let more = check_len_8(next);
+    let zeroes = if more == 8 {
+        zeroes_of_two(first, next)
+    } else {
+        0
+    };
+    Window {
+        len: 8 + more,
+        zeroes,
+        number: process_8(first, 8) * power_of_ten(more) + number_of(next, more),
     }
-    let zeroes = if len == 8 {
+}
+
+// The bytes from 8 on, at most 8. Where the slice ends among them, the last 8 hold them all.
+#[inline(always)]
+fn load_next(s: &[u8]) -> u64
+    requires { 8 ≤ length s.now }
+    ensures { result ≡ word_of (take 8 (drop 8 s.now)) }
+{
+    match s.last_chunk::<8>() {
+        Some(last) if s.len() < 16 => (u64::from_le_bytes(*last) >> (120 - 8 * s.len())) >> 8,
+        _ => load_8(&s[8..]),
+    }
+}
+
+// The number that the first `len` bytes write.
+#[inline(always)]
+fn number_of(word: u64, len: u32) -> u64
+    requires { len ≤ 8 }
+    ensures sum { result ≡ low_value (low_bytes len word) }
+    ensures most { result ≤ 166666665 }
+{
+    if len == 0 { 0 } else { process_8(word, len) }
+}
+
+// How many zeros the word begins with. Most begin with none.
+#[inline(always)]
+fn zeroes_of(word: u64) -> u32
+    ensures { result ≡ zeros decimal_table (low_bytes 8 word) }
+{
+    if word & 0xFF == ZERO {
         len_zeroes(word)
     } else {
         0
-    };
-    Window {
-        len,
-        zeroes,
-        number: process_8(word, len),
     }
 }
 
-// The window of 16 bytes behind 8 digits, which `first` has read.
+// How many zeros two words begin with, one behind the other. Most begin with none.
 #[inline(always)]
-fn joined(s: &[u8], first: Window) -> Window
-    requires first { first ≡ window_of decimal_table 8 s.now }
-    requires full { first.len ≡ 8 }
-    requires small { first.number < 100000000 }
-    ensures { result ≡ window_of decimal_table 16 s.now }
+fn zeroes_of_two(first: u64, next: u64) -> u32
+    ensures { result ≡ zeros decimal_table (low_bytes 8 first ++ low_bytes 8 next) }
 {
-    let next = front(&s[8..]);
-    let zeroes = if next.len < 8 {
-        0
-    } else if first.zeroes < 8 {
-        first.zeroes
+    let zeroes = zeroes_of(first);
+    if zeroes == 8 {
+        8 + len_zeroes(next)
     } else {
-        8 + next.zeroes
-    };
-    Window {
-        len: 8 + next.len,
-        zeroes,
-        number: with_places(first.number, next.len) + next.number,
+        zeroes
     }
 }
 
-// The number with as many places behind it as there are `digits`.
-#[inline(always)]
-fn with_places(number: u64, digits: u32) -> u64
-    requires number { number < 100000000 }
-    requires digits { digits ≤ 8 }
-    ensures value { result ≡ number * 10 ^ digits }
-    ensures most { result ≤ 10000000000000000 }
-{
-    number * power_of_ten(digits)
-}
+// The byte of the digit zero.
+const ZERO: u64 = 48;
 
 // Ten to the power of `digits`.
 #[inline(always)]
@@ -124,3 +147,41 @@ const POWERS: [u64; 9] = [
     10_000_000,
     100_000_000,
 ];
+
+#[cfg(test)]
+mod tests {
+    use super::*;
+
+    fn first_16(s: &[u8]) -> Window {
+        Words::window(s, &mut Steps::new())
+    }
+
+    fn first_8(s: &[u8]) -> Window {
+        Words::window_8(s, &mut Steps::new())
+    }
+
+    fn is_window(window: Window, len: u32, zeroes: u32, number: u64) -> bool {
+        window
+            == Window {
+                len,
+                zeroes,
+                number,
+            }
+    }
+
+    #[test]
+    fn windows_of_sixteen_bytes(rt: HostRuntime) {
+        assert!(rt; is_window(first_16(b"000000000000123\0"), 15, 0, 123));
+        assert!(rt; is_window(first_16(b"0000000000000123"), 16, 13, 123));
+        assert!(rt; is_window(first_16(b"12345678/1234567"), 8, 0, 12345678));
+        assert!(rt; is_window(first_16(b"12345678901"), 11, 0, 12345678901));
+        assert!(rt; is_window(first_16(b""), 0, 0, 0));
+    }
+
+    #[test]
+    fn windows_of_eight_bytes(rt: HostRuntime) {
+        assert!(rt; is_window(first_8(b"00000123456789"), 8, 5, 123));
+        assert!(rt; is_window(first_8(b"0001"), 4, 0, 1));
+        assert!(rt; is_window(first_8(b":1234567"), 0, 0, 0));
+    }
+}

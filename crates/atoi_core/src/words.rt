@@ -1,13 +1,13 @@
-//! Eight or sixteen bytes in one word, the first the lowest: a load, how many digits or zeros
-//! it begins with, and the number that they write. It stands on nothing.
+//! Eight or sixteen bytes in one word, the first the lowest: a load, the digits or zeros that a word
+//! begins with, and the number that its bytes write. It stands on nothing.
 ghost use Rattle.std.specs.Prelude.{◌≡◌, ℕ, ◌<◌, ◌≤◌, length, take};
 ghost use Rattle.std.specs.Int.{from_le_bytes, w64};
 ghost use Rattle.atoi_core.specs.Digit.{decimal_table};
 ghost use Rattle.atoi_core.specs.Run.{run_len, zeros};
 ghost use Rattle.atoi_core.specs.Words.{low_bytes, word_of, low_value};
 
-/// The first 8 bytes, or all where there are fewer: the first is the lowest, and a byte that is
-/// missing is 0.
+/// The first 8 bytes of `s`, or all where there are fewer, as a word: the first byte is the lowest,
+/// and a byte that is missing is 0.
 #[inline(always)]
 pub fn load_8(s: &[u8]) -> u64
     ensures { result ≡ word_of (take 8 s.now) }
@@ -48,48 +48,55 @@ fn load_few(s: &[u8]) -> u64
     }
 }
 
-/// How many lowest bytes in a row are digits: 0 to 8.
+/// How many lowest bytes of `val` in a row are digits, the bytes 48 to 57: 0 to 8. It holds for every
+/// `val`, whatever stands above the first byte that is no digit.
 #[inline(always)]
 pub fn check_len_8(val: u64) -> u32
     ensures len { result ≡ run_len decimal_table (low_bytes 8 val) }
     ensures most { result ≤ 8 }
 {
+    // A digit has the upper half 3, and keeps it when six is added. Above a byte that carries the
+    // sum may be wrong, but such a byte is no digit.
     let high = (val.wrapping_add(0x0606_0606_0606_0606) & 0xF0F0_F0F0_F0F0_F0F0) >> 4;
     let low = val & 0xF0F0_F0F0_F0F0_F0F0;
     ((high | low) ^ 0x3333_3333_3333_3333).trailing_zeros() / 8
 }
 
-/// The number that the lowest `len` bytes write, each by its lower half, the lowest byte in the
-/// highest place: the sum of (byte modulo 16) times its power of ten. For 1 to 8 bytes.
+/// The number that the lowest `len` bytes of `val` write, the lowest byte in the highest place: the
+/// sum of each byte modulo 16 times its power of ten, whether it is a digit or not. `len` is 1 to 8;
+/// the bytes above it do not matter. The most is 166666665, where every bit is set.
 #[inline(always)]
 pub fn process_8(val: u64, len: u32) -> u64
     requires some { 1 ≤ len }
     requires most { len ≤ 8 }
-    ensures { result ≡ low_value (low_bytes len val) }
+    ensures sum { result ≡ low_value (low_bytes len val) }
+    ensures most { result ≤ 166666665 }
 {
+    // Each product adds to a field of the word ten, a hundred, ten thousand times the field below.
     let ones = (val << (64 - 8 * len)) & 0x0F0F_0F0F_0F0F_0F0F;
     let tens = (ones.wrapping_mul(0xA01) >> 8) & 0x00FF_00FF_00FF_00FF;
     let hundreds = (tens.wrapping_mul(0x64_0001) >> 16) & 0x0000_FFFF_0000_FFFF;
     hundreds.wrapping_mul(0x2710_0000_0001) >> 32
 }
 
-/// The same sum over the lowest `len` bytes of sixteen. For 1 to 16 bytes.
+/// The same sum over the lowest `len` bytes of a word of sixteen. `len` is 1 to 16; the bytes above it
+/// do not matter. The most is 16666666666666665, where every bit is set.
 #[inline(always)]
 pub fn process_16(val: u128, len: u32) -> u64
     requires some { 1 ≤ len }
     requires most { len ≤ 16 }
-    ensures { result ≡ low_value (low_bytes len val) }
+    ensures sum { result ≡ low_value (low_bytes len val) }
+    ensures most { result ≤ 16666666666666665 }
 {
     let ones = (val << (128 - 8 * len)) & 0x0F0F_0F0F_0F0F_0F0F_0F0F_0F0F_0F0F_0F0F;
     let tens = (ones.wrapping_mul(0xA01) >> 8) & 0x00FF_00FF_00FF_00FF_00FF_00FF_00FF_00FF;
-    let hundreds =
-        (tens.wrapping_mul(0x64_0001) >> 16) & 0x0000_FFFF_0000_FFFF_0000_FFFF_0000_FFFF;
-    let ten_thousands =
-        (hundreds.wrapping_mul(0x2710_0000_0001) >> 32) & 0x0000_0000_FFFF_FFFF_0000_0000_FFFF_FFFF;
+    let hundreds = (tens.wrapping_mul(0x64_0001) >> 16) & 0x0000_FFFF_0000_FFFF_0000_FFFF_0000_FFFF;
+    let ten_thousands = (hundreds.wrapping_mul(0x2710_0000_0001) >> 32)
+        & 0x0000_0000_FFFF_FFFF_0000_0000_FFFF_FFFF;
     (ten_thousands.wrapping_mul(0x5F5_E100_0000_0000_0000_0001) >> 64) as u64
 }
 
-/// How many lowest bytes in a row are zeros, the byte 48: 0 to 8.
+/// How many lowest bytes of `val` in a row are zeros, the byte 48: 0 to 8.
 #[inline(always)]
 pub fn len_zeroes(val: u64) -> u32
     ensures len { result ≡ zeros decimal_table (low_bytes 8 val) }
@@ -98,11 +105,51 @@ pub fn len_zeroes(val: u64) -> u32
     (val ^ 0x3030_3030_3030_3030).trailing_zeros() / 8
 }
 
-/// How many lowest bytes in a row are zeros, the byte 48: 0 to 16.
+/// How many lowest bytes of `val` in a row are zeros, the byte 48: 0 to 16.
 #[inline(always)]
 pub fn len_zeroes_128(val: u128) -> u32
     ensures len { result ≡ zeros decimal_table (low_bytes 16 val) }
     ensures most { result ≤ 16 }
 {
     (val ^ 0x3030_3030_3030_3030_3030_3030_3030_3030).trailing_zeros() / 8
+}
+
+#[cfg(test)]
+mod tests {
+    use super::*;
+
+    #[test]
+    fn loads(rt: HostRuntime) {
+        assert_eq!(rt; load_8(b""), 0);
+        assert_eq!(rt; load_8(b"123"), 0x33_3231);
+        assert_eq!(rt; load_8(b"12345"), 0x35_3433_3231);
+        assert_eq!(rt; load_8(b"123456789"), 0x3837_3635_3433_3231);
+    }
+
+    #[test]
+    fn runs_of_digits(rt: HostRuntime) {
+        assert_eq!(rt; check_len_8(0x3837_3635_3433_3231), 8);
+        assert_eq!(rt; check_len_8(0xFF30_3030_3030_3039), 7);
+        assert_eq!(rt; check_len_8(0x553A_3938_3736_3534), 6);
+        assert_eq!(rt; check_len_8(0x3736_3534_33FA_3231), 2);
+        assert_eq!(rt; check_len_8(u64::MAX), 0);
+    }
+
+    #[test]
+    fn sums_by_places(rt: HostRuntime) {
+        assert_eq!(rt; process_8(0x553A_3938_3736_3534, 6), 456789);
+        assert_eq!(rt; process_8(0x3837_3635_3433_3231, 1), 1);
+        assert_eq!(rt; process_8(u64::MAX, 8), 166666665);
+        assert_eq!(rt; process_16(u128::MAX, 16), 16666666666666665);
+    }
+
+    #[test]
+    fn runs_of_zeros(rt: HostRuntime) {
+        assert_eq!(rt; len_zeroes(0x3030_3030_3030_3030), 8);
+        assert_eq!(rt; len_zeroes(0x3031_3030_3030_3030), 6);
+        assert_eq!(rt;
+            len_zeroes_128(0x3030_3030_3030_3030_3030_3030_3030_3030),
+            16
+        );
+    }
 }

@@ -1,14 +1,39 @@
--- Two windows of eight bytes are one of sixteen.
-use Rattle.std.proofs.Common.{◌≡◌, ◌∙◌, ap, sym, ◌+◌, ◌*◌, ◌^◌, ◌≤◌, ◌<◌, arith}
+-- The two words are the first sixteen bytes.
+use Rattle.std.proofs.Common.{◌≡◌, ℕ, ◌+◌, ◌*◌, ◌^◌, ◌<◌, ◌≤◌, ◌∙◌, ap, ap₂, sym, drop, take, length, ◌++◌, get_or, arith}
+use Rattle.atoi_core.specs.Digit.{decimal_table}
+use Rattle.atoi_core.specs.Run.{run_len, zeros}
+use Rattle.atoi_core.specs.Words.{low_bytes}
 use Rattle.atoi_core.specs.declared.window.Window.{Window}
-use Rattle.atoi_core.proofs.WordWindows.{window_joined}
+use Rattle.atoi_core.proofs.WordWindows.{enough_bytes, fits_behind, loaded_bytes, loaded_run, loaded_sum, window_joined, told_full, told_none}
 use Rattle.atoi_core.proofs.word_engine.joined.Goals as goal
-use Rattle.atoi_core.proofs.word_engine.joined.Goals.{then-next-lt8, else-next-lt8+then-first-lt8, else-next-lt8+else-first-lt8}
+use Rattle.atoi_core.proofs.word_engine.joined.Goals.{then-more-eq8, else-more-eq8}
+
+pub load_next-next-requires : goal.load_next-next-requires
+load_next-next-requires c =
+    let s = c.args.s.now in
+    enough_bytes s (sym (loaded_run s (λ i. (c.type_inv.s i).fits) c.args.first c.requires.loaded) ∙ c.requires.full)
 
 pub returns : goal.returns
 returns c =
-    (ap (λ n. let w : Window = record { len = 8 + c.front-next.result.len; zeroes = c.if-next-lt8.zeroes; number = n + c.front-next.result.number } in w) c.with_places.ensures.value)
-    ∙ window_joined c.args.s.now c.args.first c.front-next.result c.if-next-lt8.zeroes c.requires.first c.requires.full c.front-next.ensures.window
-      (λ h. elim c.if-next-lt8.branch [ then-next-lt8 w ↦ w.zeroes-is | else-next-lt8+then-first-lt8 w ↦ absurd (omega arith) | else-next-lt8+else-first-lt8 w ↦ absurd (omega arith) ])
-      (λ h k. elim c.if-next-lt8.branch [ then-next-lt8 w ↦ absurd (omega arith) | else-next-lt8+then-first-lt8 w ↦ w.zeroes-is | else-next-lt8+else-first-lt8 w ↦ absurd (omega arith) ])
-      (λ h k. elim c.if-next-lt8.branch [ then-next-lt8 w ↦ absurd (omega arith) | else-next-lt8+then-first-lt8 w ↦ absurd (omega arith) | else-next-lt8+else-first-lt8 w ↦ w.zeroes-is ])
+    let s = c.args.s.now in
+    let rest = drop 8 s in
+    let first = c.args.first in
+    let next = c.load_next-next.result in
+    let more = c.check_len_8-more.result in
+    let fits : (i : ℕ) → get_or s i 0 < 256 = λ i. (c.type_inv.s i).fits in
+    let behind : (i : ℕ) → get_or rest i 0 < 256 = fits_behind s fits in
+    let full : run_len decimal_table (take 8 s) ≡ 8 = sym (loaded_run s fits first c.requires.loaded) ∙ c.requires.full in
+    let more_is : more ≡ run_len decimal_table (take 8 rest) = c.check_len_8-more.ensures.len ∙ loaded_run rest behind next c.load_next-next.ensures in
+    let all_zeros = zeros decimal_table (take 8 s ++ take 8 rest) in
+    let whole : more ≡ 8 → zeros decimal_table (low_bytes 8 first ++ low_bytes 8 next) ≡ all_zeros =
+    λ e. ap₂ (λ xs ys. zeros decimal_table (xs ++ ys))
+    (loaded_bytes s fits first c.requires.loaded (enough_bytes s full))
+    (loaded_bytes rest behind next c.load_next-next.ensures (enough_bytes rest (sym more_is ∙ e))) in
+    ap (λ power. let w : Window = record { len = 8 + more; zeroes = c.if-more-eq8.zeroes; number = c.process_8.result * power + c.number_of.result } in w) c.power_of_ten.ensures.value
+    ∙ window_joined s more c.if-more-eq8.zeroes c.process_8.result c.number_of.result full more_is
+    (elim c.if-more-eq8.branch [
+      | then-more-eq8 w ↦ w.zeroes-is ∙ w.zeroes_of_two-zeroes.ensures ∙ whole w.if-more-eq8.true ∙ sym (told_full more 8 all_zeros w.if-more-eq8.true)
+      | else-more-eq8 w ↦ w.zeroes-is ∙ sym (told_none more 8 all_zeros w.if-more-eq8.false)
+    ])
+    (c.process_8.ensures.sum ∙ loaded_sum s fits first 8 c.requires.loaded (sym c.requires.full))
+    (c.number_of.ensures.sum ∙ loaded_sum rest behind next more c.load_next-next.ensures c.check_len_8-more.ensures.len)

@@ -10,5 +10,5 @@ pub returns-clause-len : goal.returns-clause-len
 returns-clause-len c =
     let low = bit_and c.args.val 0xF0F0_F0F0_F0F0_F0F0 in
     ap (λ high. count_trailing_zeros 64 (bit_xor (bit_or high low) 0x3333_3333_3333_3333) / 8)
-      (and_shr ((c.args.val + 0x0606_0606_0606_0606) % 2 ^ 64) 0xF0F0_F0F0_F0F0_F0F0 4)
+    (and_shr ((c.args.val + 0x0606_0606_0606_0606) % 2 ^ 64) 0xF0F0_F0F0_F0F0_F0F0 4)
     ∙ digits_counted 8 c.args.val

@@ -1,6 +1,15 @@
 -- A window of eight bytes that stops inside them is the one of sixteen.
-use Rattle.atoi_core.proofs.WordWindows.{window_short}
+use Rattle.std.proofs.Common.{ℕ, ◌<◌, ◌∙◌, get_or}
+use Rattle.atoi_core.proofs.WordWindows.{loaded_run, loaded_sum, window_short}
 use Rattle.atoi_core.proofs.word_engine.WordsEngine.window.Goals as goal
 
-pub returns-then-first-lt8-clause-window : goal.returns-then-first-lt8-clause-window
-returns-then-first-lt8-clause-window c = window_short c.args.s.now c.front-first.result c.front-first.ensures.window c.if-first-lt8.true
+pub returns-else-len-eq8-clause-window : goal.returns-else-len-eq8-clause-window
+returns-else-len-eq8-clause-window c =
+    let s = c.args.s.now in
+    let fits : (i : ℕ) → get_or s i 0 < 256 = λ i. (c.type_inv.s i).fits in
+    let first = c.load_8-first.result in
+    let len = c.check_len_8-len.result in
+    window_short s len c.number_of.result
+    (c.check_len_8-len.ensures.len ∙ loaded_run s fits first c.load_8-first.ensures)
+    c.if-len-eq8.false
+    (c.number_of.ensures.sum ∙ loaded_sum s fits first len c.load_8-first.ensures c.check_len_8-len.ensures.len)
