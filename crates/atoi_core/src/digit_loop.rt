@@ -1,0 +1,90 @@
+//! The parse of a whole slice into a narrow integer, digit by digit.
+//! It stands on `error` alone, and loads no window.
+ghost use Rattle.std.specs.Prelude.{◌≡◌, ◌≤◌, ◌==◌, false, if◌then◌else◌};
+ghost use Rattle.atoi_core.specs.Digit.{decimal_table};
+ghost use Rattle.atoi_core.specs.Refusal.{answer_of, refusal_of, empty, invalid64};
+ghost use Rattle.atoi_core.specs.Magnitude.{narrow, whole_magnitude};
+
+use crate::error::AtoiSimdError;
+
+// What a byte is worth as a decimal digit.
+pub(crate) fn digit(byte: u8) -> Option<u64>
+    ensures { result ≡ decimal_table byte }
+{
+    if byte.is_ascii_digit() {
+        Some(u64::from(byte - b'0'))
+    } else {
+        None
+    }
+}
+
+// Why `s` is refused where `len` digits that write `number` are followed by another byte.
+fn rest_after(len: usize, number: u64, s: &[u8]) -> AtoiSimdError<'_>
+    ensures { refusal_of result ≡ (if len == 0 then empty else invalid64 number len s.now) }
+{
+    if len == 0 {
+        AtoiSimdError::Empty
+    } else {
+        AtoiSimdError::Invalid64(number, len, s)
+    }
+}
+
+/// Reads the whole of `s` as decimal digits, at most `bound`.
+///
+/// It reads digit by digit and accepts any number of leading zeros. `bound` is from 9 to 4294967295.
+///
+/// # Errors
+///
+/// - `Empty` where `s` does not begin with a digit;
+/// - `Overflow` with the whole of `s` where the digits that it begins with write a number above `bound`;
+/// - `Invalid64` with that number, the count of these digits and the whole of `s`, where another byte
+///   stands behind them.
+pub fn narrow_whole(bound: u64, s: &[u8]) -> Result<u64, AtoiSimdError<'_>>
+    requires low { 9 ≤ bound }
+    requires high { bound ≤ 4294967295 }
+    ensures answer { answer_of result ≡ whole_magnitude decimal_table narrow bound 0 false s.now }
+{
+    let mut number = 0;
+    for (len, byte) in s.iter().enumerate() {
+        let Some(worth) = digit(*byte) else {
+            return Err(rest_after(len, number, s));
+        };
+        let next = number * 10 + worth;
+        if next > bound {
+            return Err(AtoiSimdError::Overflow(s));
+        }
+        number = next;
+    }
+    if s.is_empty() {
+        Err(AtoiSimdError::Empty)
+    } else {
+        Ok(number)
+    }
+}
+
+#[cfg(test)]
+mod tests {
+    use super::*;
+    use std::test::Fail;
+
+    #[test]
+    fn reads_a_whole_slice(rt: HostRuntime) -> Result<(), Fail> {
+        let mut text = vec![in rt.alloc(); b'0'; 100]?;
+        text.extend_from_slice(b"255")?;
+        assert_eq!(rt; narrow_whole(255, &text), Ok(255));
+        assert_eq!(rt;
+            narrow_whole(255, b"255x"),
+            Err(AtoiSimdError::Invalid64(255, 3, b"255x"))
+        );
+        assert_eq!(rt;
+            narrow_whole(255, b"256x"),
+            Err(AtoiSimdError::Overflow(b"256x"))
+        );
+        assert_eq!(rt;
+            narrow_whole(255, b"12a"),
+            Err(AtoiSimdError::Invalid64(12, 2, b"12a"))
+        );
+        assert_eq!(rt; narrow_whole(255, b""), Err(AtoiSimdError::Empty));
+        Ok(())
+    }
+}

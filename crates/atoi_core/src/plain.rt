@@ -1,0 +1,114 @@
+//! The engine that reads a window byte by byte: the reference for the faster ones.
+//! It stands on `engine`, `window`, `steps` and the one decimal digit of `digit_loop`.
+ghost use Rattle.std.specs.Prelude.{◌≡◌, ◌≤◌, length};
+ghost use Rattle.atoi_core.specs.Digit.{decimal_table};
+ghost use Rattle.atoi_core.specs.Run.{run_len, run, value, zeros};
+ghost use Rattle.atoi_core.specs.Window.{window_of};
+ghost use Rattle.std.proofs.Common.{arith};
+ghost use Rattle.std.proofs.lemmas.Bool.Decides.{nat_tests};
+
+use crate::digit_loop::digit;
+use crate::engine::Engine;
+use crate::steps::Steps;
+use crate::window::Window;
+
+/// The engine that reads byte by byte.
+pub struct Plain;
+
+impl Engine for Plain {
+    ghost table = { decimal_table };
+
+    fn window(s: &[u8], steps: &mut Steps) -> Window {
+        steps.tick();
+        front_of(16, s)
+    }
+
+    fn window_8(s: &[u8], steps: &mut Steps) -> Window {
+        steps.tick();
+        front_of(8, s)
+    }
+
+    ghost below_ten = { λ byte. Prim.grind (arith, nat_tests) };
+}
+
+// The window of `size` bytes.
+fn front_of(size: usize, s: &[u8]) -> Window
+    requires { size ≤ 16 }
+    ensures { result ≡ window_of decimal_table size s.now }
+{
+    let front = &s[..size.min(s.len())];
+    let (len, number) = read_run(front);
+    let zeroes = if len as usize == size {
+        count_zeros(front)
+    } else {
+        0
+    };
+    Window {
+        len,
+        zeroes,
+        number,
+    }
+}
+
+// How many digits `s` begins with, and the number that they write.
+fn read_run(s: &[u8]) -> (u32, u64)
+    requires { length s.now ≤ 16 }
+    ensures { result ≡ (run_len decimal_table s.now, value decimal_table (run decimal_table s.now)) }
+{
+    let mut number = 0;
+    for (len, byte) in s.iter().enumerate() {
+        let Some(worth) = digit(*byte) else {
+            return (len as u32, number);
+        };
+        number = number * 10 + worth;
+    }
+    (s.len() as u32, number)
+}
+
+// How many zeros `s` begins with.
+fn count_zeros(s: &[u8]) -> u32
+    requires { length s.now ≤ 16 }
+    ensures { result ≡ zeros decimal_table s.now }
+{
+    for (at, byte) in s.iter().enumerate() {
+        if digit(*byte) != Some(0) {
+            return at as u32;
+        }
+    }
+    s.len() as u32
+}
+
+#[cfg(test)]
+mod tests {
+    use super::*;
+
+    fn window(s: &[u8]) -> (u32, u32, u64) {
+        let mut steps = Steps::new();
+        let window = Plain::window(s, &mut steps);
+        (window.len, window.zeroes, window.number)
+    }
+
+    fn window_8(s: &[u8]) -> (u32, u32, u64) {
+        let mut steps = Steps::new();
+        let window = Plain::window_8(s, &mut steps);
+        (window.len, window.zeroes, window.number)
+    }
+
+    #[test]
+    fn windows_of_sixteen_bytes(rt: HostRuntime) {
+        assert_eq!(rt; window(b"000000000000123\0"), (15, 0, 123));
+        assert_eq!(rt; window(b"0000000000000123"), (16, 13, 123));
+        assert_eq!(rt; window(b"123\0\0\0\0\0\0\0\0\0\0\0\0\0"), (3, 0, 123));
+        assert_eq!(rt; window(b""), (0, 0, 0));
+        assert_eq!(rt; window(b"x1"), (0, 0, 0));
+    }
+
+    #[test]
+    fn windows_of_eight_bytes(rt: HostRuntime) {
+        assert_eq!(rt; window_8(b"123456789"), (8, 0, 12345678));
+        assert_eq!(rt; window_8(b"0000000"), (7, 0, 0));
+        assert_eq!(rt; window_8(b"00000000"), (8, 8, 0));
+        assert_eq!(rt; window_8(b"1\0\0\0\0\0\0\0"), (1, 0, 1));
+        assert_eq!(rt; window_8(b"12\0\0\0\0\0\0"), (2, 0, 12));
+    }
+}

@@ -1,0 +1,33 @@
+//! The sign at the front of a slice. It stands on nothing.
+ghost use Rattle.std.specs.Prelude.{◌≡◌, ◌+◌, length};
+ghost use Rattle.atoi_core.specs.Sign.{sign_of};
+
+/// Takes at most one sign from the front of `s`: a `+` where `skip_plus` holds, a `-` where `signed`
+/// does.
+///
+/// It answers whether a minus was taken, and the body that is left. One byte was taken exactly where
+/// the body is shorter than `s`.
+#[inline(always)]
+pub fn take_sign(signed: bool, skip_plus: bool, s: &[u8]) -> (bool, &[u8])
+    ensures minus { result.0 ≡ (sign_of signed skip_plus s.now).minus }
+    ensures body { result.1.now ≡ (sign_of signed skip_plus s.now).body }
+    ensures taken { length result.1.now + (sign_of signed skip_plus s.now).taken ≡ length s.now }
+{
+    match s {
+        [b'+', body @ ..] if skip_plus => (false, body),
+        [b'-', body @ ..] if signed => (true, body),
+        _ => (false, s),
+    }
+}
+
+#[cfg(test)]
+mod tests {
+    use super::*;
+
+    #[test]
+    fn at_most_one_sign_is_taken(rt: HostRuntime) {
+        assert_eq!(rt; take_sign(true, true, b"+-5"), (false, b"-5".as_slice()));
+        assert_eq!(rt; take_sign(false, true, b"-5"), (false, b"-5".as_slice()));
+        assert_eq!(rt; take_sign(true, false, b"+5"), (false, b"+5".as_slice()));
+    }
+}
