@@ -42,17 +42,20 @@ dropped_is : (t : Table) (skip : Bool) (s : List ℕ) (at before now : ℕ) (w :
     Skipped t skip s at before now w → dropped narrow prefix skip (run_len t s) (zeros t s) ≡ at
 dropped_is t false s at before now w so = sym (so.off refl)
 dropped_is t true s at before now w so =
-    elim (cases_lt (zeros t s / 16) (run_len t s / 16))
-    [ inl h ↦
-      rw (lt-ltb _ _ h)
-      (elim (so.place refl)
-      [ inr k ↦ sym k.0
-      | inl k ↦ sym (so.full refl (omega (arith, so.run_is, so.shown.len_is))) ])
-    | inr h ↦
-      rw (le-ltb _ _ h)
-      (elim (so.place refl)
-      [ inr k ↦ absurd (omega (arith, k.1))
-      | inl k ↦ sym k ]) ]
+    elim (cases_lt (zeros t s / 16) (run_len t s / 16)) [
+      | inl h ↦
+          rw (lt-ltb _ _ h)
+          (elim (so.place refl) [
+            | inr k ↦ sym k.0
+            | inl k ↦ sym (so.full refl (omega (arith, so.run_is, so.shown.len_is)))
+          ])
+      | inr h ↦
+          rw (le-ltb _ _ h)
+          (elim (so.place refl) [
+            | inr k ↦ absurd (omega (arith, k.1))
+            | inl k ↦ sym k
+          ])
+    ]
 
 -- where no zeros are skipped, the window is what is read
 unskipped_len : (t : Table) (s : List ℕ) (at before now : ℕ) (w : Window) → Skipped t false s at before now w →
@@ -71,14 +74,15 @@ number_most : (t : Table) (skip : Bool) (s : List ℕ) (at before now : ℕ) (w 
     Skipped t skip s at before now w → w.number ≤ value t (take (seen narrow prefix skip (run_len t s)) s)
 number_most t false s at before now w so = omega (arith, unskipped_number t s at before now w so)
 number_most t true s at before now w so =
-    elim (cases_lt w.len 16)
-    [ inl h ↦ omega (arith, so.value_is, so.shown.reads.value_is h)
-    | inr h ↦
-      let full : w.len ≡ 16 = omega (arith, so.shown.reads.within) in
-      let places : ℕ = run_len t (drop 16 (drop at s)) in
-      let more : w.number ≤ w.number * 10 ^ places =
+    elim (cases_lt w.len 16) [
+      | inl h ↦ omega (arith, so.value_is, so.shown.reads.value_is h)
+      | inr h ↦
+          let full : w.len ≡ 16 = omega (arith, so.shown.reads.within) in
+          let places : ℕ = run_len t (drop 16 (drop at s)) in
+          let more : w.number ≤ w.number * 10 ^ places =
           le-mul_of_pos_right w.number (one-le-pow places 10 (lit< tt)) in
-      omega (arith, so.value_is, so.shown.joins full) ]
+          omega (arith, so.value_is, so.shown.joins full)
+    ]
 
 -- a number above the bound
 pub narrow_overflow : (t : Table) (bound : ℕ) (skip : Bool) (s : List ℕ) (at before now : ℕ) (w : Window) →
@@ -105,11 +109,12 @@ narrow_ok t bound false s at before now w so high some within =
 narrow_ok t bound true s at before now w so high some within =
     let n : 0 < run_len t s = omega (arith, so.run_is, so.shown.reads.inside) in
     let short : w.len < 16 =
-        elim (cases_lt w.len 16)
-        [ inl h ↦ h
-        | inr h ↦
+    elim (cases_lt w.len 16) [
+      | inl h ↦ h
+      | inr h ↦
           let least : 10 ^ 15 ≤ w.number = so.shown.least (omega (arith, so.shown.reads.within)) (lit< tt) (so.last refl) in
-          absurd (omega arith) ] in
+          absurd (omega arith)
+    ] in
     let v : w.number ≡ value t (run t s) = sym (so.value_is ∙ so.shown.reads.value_is short) in
     let l : at + w.len ≡ run_len t s = omega (arith, so.run_is, so.shown.reads.ends short) in
     rw (ne_eqb (run_len t s) 0 (omega arith), le-ltb bound (value t (run t s)) (omega arith))

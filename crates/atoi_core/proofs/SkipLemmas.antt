@@ -59,16 +59,17 @@ Skipping-more t below skip s at before now next w so e one on some =
     let full : w.len ≡ 16 = tell.full some in
     let run_more : w.len ≤ run_len t (drop at s) = tell.reads.inside in
     let exact : 16 * now ≡ 16 * before + at =
-        elim so.place [ inl h ↦ h | inr h ↦ absurd (omega (arith, h.0)) ] in
+    elim so.place [ inl h ↦ h | inr h ↦ absurd (omega (arith, h.0)) ] in
     record {
       bounded = omega arith;
       within = omega arith;
       off = λ h. absurd (false≢true (sym h ∙ on));
       most = omega arith;
       least = omega arith;
-      place = elim (cases_lt w.zeroes 16)
-        [ inl h ↦ inr (omega arith, omega arith)
-        | inr h ↦ inl (omega arith) ];
+      place = elim (cases_lt w.zeroes 16) [
+        | inl h ↦ inr (omega arith, omega arith)
+        | inr h ↦ inl (omega arith)
+      ];
     }
 
 -- after the last window w at a place `at`: the run, the zeros and the value go on from there, a full
@@ -92,7 +93,7 @@ pub Skipped-end : (t : Table) → IsBelowTen t → (skip : Bool) (s : List ℕ) 
     (skip ≡ false) ⊎ ((skip ≡ true) × (w.zeroes ≡ 0)) → Skipped t skip s at before next w
 Skipped-end t below skip s at before now next w so e one stops =
     let last : skip ≡ true → w.zeroes ≡ 0 =
-        λ h. elim stops [ inl k ↦ absurd (false≢true (sym k ∙ h)) | inr k ↦ k.1 ] in
+    λ h. elim stops [ inl k ↦ absurd (false≢true (sym k ∙ h)) | inr k ↦ k.1 ] in
     let tell : Shows t 16 (drop at s) w = shows_rest t below 16 s at w e in
     let zeros_are : zeros t s ≡ at + zeros t (drop at s) = prefix_len-drop (is_zero t) at s so.bounded in
     let run_is : run_len t s ≡ at + run_len t (drop at s) = prefix_len-drop (is_digit t) at s (omega (arith, so.bounded, zeros-le t s)) in
@@ -110,14 +111,17 @@ Skipped-end t below skip s at before now next w so e one stops =
       last = last;
       more = omega (arith, so.least);
       most = omega (arith, so.most, so.bounded);
-      least = λ h. elim (cases_lt w.len 16)
-        [ inl k ↦ omega (arith, short k, so.least)
-        | inr k ↦ omega (arith, full h (omega (arith, tell.reads.within)), so.least) ];
-      place = λ h. elim so.place
-        [ inr k ↦ inr k
-        | inl k ↦ (elim (cases_lt w.len 16)
-          [ inl m ↦ inl (omega (arith, short m))
-          | inr m ↦ inl (omega (arith, full h (omega (arith, tell.reads.within)))) ]) ];
+      least = λ h. elim (cases_lt w.len 16) [
+        | inl k ↦ omega (arith, short k, so.least)
+        | inr k ↦ omega (arith, full h (omega (arith, tell.reads.within)), so.least)
+      ];
+      place = λ h. elim so.place [
+        | inr k ↦ inr k
+        | inl k ↦ (elim (cases_lt w.len 16) [
+          | inl m ↦ inl (omega (arith, short m))
+          | inr m ↦ inl (omega (arith, full h (omega (arith, tell.reads.within))))
+        ])
+      ];
     }
 
 -- that place is within the slice

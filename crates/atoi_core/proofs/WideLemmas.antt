@@ -68,16 +68,18 @@ not_refused told bound limit skip n z v s some fits within =
 -- a number that is there where it is within the bound
 pub some_within : (bound x n : ℕ) → Some n ≡ (if nat_lt bound x then None else Some x) → (n ≡ x) × (x ≤ bound)
 some_within bound x n =
-    (elim (nat_lt bound x) as (λ v. nat_lt bound x ≡ v → Some n ≡ (if v then None else Some x) → (n ≡ x) × (x ≤ bound))
-    [ true ↦ λ e h. cc
-    | false ↦ λ e h. (cc, ltb-false bound x e) ]) refl
+    (elim (nat_lt bound x) as (λ v. nat_lt bound x ≡ v → Some n ≡ (if v then None else Some x) → (n ≡ x) × (x ≤ bound)) [
+      | true ↦ λ e h. cc
+      | false ↦ λ e h. (cc, ltb-false bound x e)
+    ]) refl
 
 -- and is not there where it is above
 pub none_above : (bound x : ℕ) → None ≡ (if nat_lt bound x then None else Some x) → bound < x
 none_above bound x =
-    (elim (nat_lt bound x) as (λ v. nat_lt bound x ≡ v → None ≡ (if v then None else Some x) → bound < x)
-    [ true ↦ λ e h. ltb-true bound x e
-    | false ↦ λ e h. cc ]) refl
+    (elim (nat_lt bound x) as (λ v. nat_lt bound x ≡ v → None ≡ (if v then None else Some x) → bound < x) [
+      | true ↦ λ e h. ltb-true bound x e
+      | false ↦ λ e h. cc
+    ]) refl
 
 -- fewer digits than the bound has write no more than it
 pub below_bound : (limit bound m x : ℕ) → HasDigits limit bound → m < limit → x < 10 ^ m → x < bound
@@ -117,7 +119,7 @@ answers_short t told bound limit skip s at before now w so short some long digit
     let v : value t (run t s) ≡ w.number = so.value_is ∙ so.shown.reads.value_is short in
     let least : w.number < bound = below_bound limit bound w.len w.number digits (omega arith) so.shown.reads.below in
     rw (not_refused told bound limit skip (run_len t s) (zeros t s) (value t (run t s)) s (omega arith)
-      (omega (arith, counted_most t skip s at before now w so)) (omega arith))
+    (omega (arith, counted_most t skip s at before now w so)) (omega arith))
     (ap (λ (e : ℕ). Ok (e, at + w.len)) (sym v) ∙ ap (λ (e : ℕ). Ok (value t (run t s), e)) (sym n))
 
 -- what was read counts more digits than the bound has
@@ -129,11 +131,12 @@ answers_size t told bound limit skip s at before now w m x so full reads long =
     let d : counted skip (run_len t s) (zeros t s) ≡ run_len t (drop at s) = counted_is t skip s at before now w so full in
     let e : run_len t s - counted skip (run_len t s) (zeros t s) ≡ at = omega (arith, so.run_is) in
     let k : min (counted skip (run_len t s) (zeros t s)) told ≡ m =
-        elim (cases_lt m told)
-        [ inl h ↦ omega (arith, reads.ends h)
-        | inr h ↦ omega (arith, reads.inside, reads.within) ] in
+    elim (cases_lt m told) [
+      | inl h ↦ omega (arith, reads.ends h)
+      | inr h ↦ omega (arith, reads.inside, reads.within)
+    ] in
     rw (refused_size told bound limit skip (run_len t s) (zeros t s) (value t (run t s)) s
-      (omega (arith, so.run_is, reads.inside)) (omega (arith, reads.inside)))
+    (omega (arith, so.run_is, reads.inside)) (omega (arith, reads.inside)))
     (rw (e, k) refl)
 
 -- what was read is the run, and its number is above the bound
@@ -148,7 +151,7 @@ answers_overflow t told bound limit skip s at before now w m x so full reads som
     let rest : run_len t (drop at s) ≡ m = reads.ends ends in
     let v : value t (run t s) ≡ x = so.value_is ∙ reads.value_is ends in
     rw (refused_overflow told bound limit skip (run_len t s) (zeros t s) (value t (run t s)) s
-      (omega (arith, so.run_is)) (omega arith) (omega arith))
+    (omega (arith, so.run_is)) (omega arith) (omega arith))
     (rw e refl)
 
 -- what was read is the run, and its number is within the bound
@@ -163,5 +166,5 @@ answers_ok t told bound limit skip s at before now w m x so full reads some shor
     let n : run_len t s ≡ at + m = omega (arith, so.run_is) in
     let v : value t (run t s) ≡ x = so.value_is ∙ reads.value_is ends in
     rw (not_refused told bound limit skip (run_len t s) (zeros t s) (value t (run t s)) s
-      (omega arith) (omega arith) (omega arith))
+    (omega arith) (omega arith) (omega arith))
     (ap (λ (e : ℕ). Ok (e, at + m)) (sym v) ∙ ap (λ (e : ℕ). Ok (value t (run t s), e)) (sym n))

@@ -42,9 +42,10 @@ pub record Shows (t : Table) (c : ℕ) (s : List ℕ) (w : Window) : Type 0 wher
 -- zeros that are told only of n bytes that fill the window
 zeroes_cases : (n c z k : ℕ) → z ≤ n → z ≡ min c k → (cond (n == c) z 0 ≤ k) × (cond (n == c) z 0 ≤ n) × (0 < cond (n == c) z 0 → n ≡ c) × (n ≡ c → cond (n == c) z 0 ≡ min c k)
 zeroes_cases n c z k h e =
-    (elim (n == c) as (λ b. (n == c) ≡ b → (cond b z 0 ≤ k) × (cond b z 0 ≤ n) × (0 < cond b z 0 → n ≡ c) × (n ≡ c → cond b z 0 ≡ min c k))
-    [ true ↦ λ q. (omega arith, h, λ _. eqb-true n c q, λ _. e)
-    | false ↦ λ q. (omega arith, omega arith, λ p. absurd (omega arith), λ p. absurd (eqb-false n c q p)) ]) refl
+    (elim (n == c) as (λ b. (n == c) ≡ b → (cond b z 0 ≤ k) × (cond b z 0 ≤ n) × (0 < cond b z 0 → n ≡ c) × (n ≡ c → cond b z 0 ≡ min c k)) [
+      | true ↦ λ q. (omega arith, h, λ _. eqb-true n c q, λ _. e)
+      | false ↦ λ q. (omega arith, omega arith, λ p. absurd (omega arith), λ p. absurd (eqb-false n c q p))
+    ]) refl
 
 -- of a window as it is defined
 shows_of : (t : Table) → IsBelowTen t → (c : ℕ) (s : List ℕ) → Shows t c s (window_of t c s)
@@ -56,15 +57,15 @@ shows_of t below c s =
     let front : number ≡ value t (take n s) = ap (value t) (take-take n c s (omega arith)) in
     let digits : length (take n (take c s)) ≡ n = length-take-le n (take c s) (prefix_len-le-length (is_digit t) (take c s)) in
     let on : n ≡ c → run_len t s ≡ c + run_len t (drop c s) =
-        λ e. prefix_len-drop (is_digit t) c s (omega arith) in
+    λ e. prefix_len-drop (is_digit t) c s (omega arith) in
     let tell = zeroes_cases n c (zeros t (take c s)) (zeros t s) (zeros-le t (take c s)) (prefix_len-take (is_zero t) c s) in
     let reads : Reads t c s n number = record {
       within = omega arith;
       inside = omega arith;
       ends = λ h. omega arith;
       value_is = λ h.
-        let e : run_len t s ≡ n = omega arith in
-        ap (λ (m : ℕ). value t (take m s)) e ∙ sym front;
+          let e : run_len t s ≡ n = omega arith in
+          ap (λ (m : ℕ). value t (take m s)) e ∙ sym front;
       below = let P : ℕ → Type 0 = λ m. number < 10 ^ m in subst P digits (value-below t below (take n (take c s)));
     } in
     record {
@@ -73,16 +74,16 @@ shows_of t below c s =
       number_is = front;
       goes_on = on;
       joins = λ h.
-        let e : value t (take c s) ≡ number = ap (λ (m : ℕ). value t (take m s)) (sym h) ∙ sym front in
-        ap (λ (m : ℕ). value t (take m s)) (on h)
-        ∙ value-take-add t c (run_len t (drop c s)) s (omega (arith, on h))
-        ∙ ap (λ (m : ℕ). m * 10 ^ run_len t (drop c s) + value t (run t (drop c s))) e;
+          let e : value t (take c s) ≡ number = ap (λ (m : ℕ). value t (take m s)) (sym h) ∙ sym front in
+          ap (λ (m : ℕ). value t (take m s)) (on h)
+          ∙ value-take-add t c (run_len t (drop c s)) s (omega (arith, on h))
+          ∙ ap (λ (m : ℕ). m * 10 ^ run_len t (drop c s) + value t (run t (drop c s))) e;
       least = λ h p z.
-        let e : suc (c - 1) ≡ n = omega arith in
-        let none : zeros t s ≡ 0 = omega (arith, tell.3 h) in
-        let P : ℕ → Type 0 = λ m. 10 ^ (c - 1) ≤ value t (take m s) in
-        let least : 10 ^ (c - 1) ≤ value t (take n s) = subst P e (value-least t (c - 1) s (omega arith) none) in
-        omega arith;
+          let e : suc (c - 1) ≡ n = omega arith in
+          let none : zeros t s ≡ 0 = omega (arith, tell.3 h) in
+          let P : ℕ → Type 0 = λ m. 10 ^ (c - 1) ≤ value t (take m s) in
+          let least : 10 ^ (c - 1) ≤ value t (take n s) = subst P e (value-least t (c - 1) s (omega arith) none) in
+          omega arith;
       zeroes = tell.0;
       zeroes_within = tell.1;
       full = tell.2;
@@ -99,15 +100,15 @@ pub Reads-join : (t : Table) (c d : ℕ) (s : List ℕ) (w : Window) (m x : ℕ)
 Reads-join t c d s w m x front full back =
     let ends : c + m < c + d → run_len t (drop c s) ≡ m = λ h. back.ends (omega arith) in
     let most : (w.number + 1) * 10 ^ m ≤ 10 ^ c * 10 ^ m =
-        mul-le-mul_right (10 ^ m) (omega (arith, front.reads.below, ap (λ (e : ℕ). 10 ^ e) full)) in
+    mul-le-mul_right (10 ^ m) (omega (arith, front.reads.below, ap (λ (e : ℕ). 10 ^ e) full)) in
     record {
       within = omega (arith, back.within);
       inside = omega (arith, back.inside, front.goes_on full);
       ends = λ h. omega (arith, ends h, front.goes_on full);
       value_is = λ h.
-        front.joins full
-        ∙ ap (λ (e : ℕ). w.number * 10 ^ e + value t (run t (drop c s))) (ends h)
-        ∙ ap (λ (e : ℕ). w.number * 10 ^ m + e) (back.value_is (omega arith));
+          front.joins full
+          ∙ ap (λ (e : ℕ). w.number * 10 ^ e + value t (run t (drop c s))) (ends h)
+          ∙ ap (λ (e : ℕ). w.number * 10 ^ m + e) (back.value_is (omega arith));
       below = rw pow-add (omega (arith, most, back.below));
     }
 

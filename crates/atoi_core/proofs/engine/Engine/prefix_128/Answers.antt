@@ -26,14 +26,14 @@ loop-window-preserved g c =
 pub returns-then-len-eq0-clause-answer : goal.returns-then-len-eq0-clause-answer
 returns-then-len-eq0-clause-answer g c =
     let so = Skipped-end _ g.met.Self.Engine.below_ten _ _ _ _ _ _ c.window-window.result
-      c.loop-window.invariant c.window-window.ensures.window c.window-window.ensures.one_step c.then-not-skip.either in
+    c.loop-window.invariant c.window-window.ensures.window c.window-window.ensures.one_step c.then-not-skip.either in
     answers_empty _ 40 _ _ _ _ _ _ _ _ so c.if-front-lt16.true c.if-len-eq0.true
     ∙ sym (wide_prefix_128 _ _ _ _ _)
 
 pub returns-else-len-eq0-clause-answer : goal.returns-else-len-eq0-clause-answer
 returns-else-len-eq0-clause-answer g c =
     let so = Skipped-end _ g.met.Self.Engine.below_ten _ _ _ _ _ _ c.window-window.result
-      c.loop-window.invariant c.window-window.ensures.window c.window-window.ensures.one_step c.then-not-skip.either in
+    c.loop-window.invariant c.window-window.ensures.window c.window-window.ensures.one_step c.then-not-skip.either in
     ap (λ (n : ℕ). Ok (n, c.loop-window.at + c.window-window.result.len)) c.from.ensures
     ∙ answers_short _ 40 _ _ _ _ _ _ _ _ so c.if-front-lt16.true (omega arith) (lit< tt) c.requires.digits
     ∙ sym (wide_prefix_128 _ _ _ _ _)
@@ -41,13 +41,13 @@ returns-else-len-eq0-clause-answer g c =
 pub returns-else-len-eq0-clause-least_skipping : goal.returns-else-len-eq0-clause-least_skipping
 returns-else-len-eq0-clause-least_skipping g c =
     let so = Skipped-end _ g.met.Self.Engine.below_ten _ _ _ _ _ _ c.window-window.result
-      c.loop-window.invariant c.window-window.ensures.window c.window-window.ensures.one_step c.then-not-skip.either in
+    c.loop-window.invariant c.window-window.ensures.window c.window-window.ensures.one_step c.then-not-skip.either in
     Skipped-loads _ _ _ _ _ _ _ _ so (omega arith)
 
 pub returns-then-middle-lt16-clause-answer : goal.returns-then-middle-lt16-clause-answer
 returns-then-middle-lt16-clause-answer g c =
     let so = Skipped-end _ g.met.Self.Engine.below_ten _ _ _ _ _ _ c.window-window.result
-      c.loop-window.invariant c.window-window.ensures.window c.window-window.ensures.one_step c.then-not-skip.either in
+    c.loop-window.invariant c.window-window.ensures.window c.window-window.ensures.one_step c.then-not-skip.either in
     let full : c.window-window.result.len ≡ 16 = omega (arith, so.shown.reads.within) in
     let middle = shows_behind g.Self.Engine.table g.met.Self.Engine.below_ten 16 16 c.args.s.now c.loop-window.at c.window-middle.result c.window-middle.ensures.window in
     let reads = Reads-join g.Self.Engine.table 16 16 (drop c.loop-window.at c.args.s.now) c.window-window.result c.window-middle.result.len c.window-middle.result.number so.shown full middle.reads in
@@ -63,13 +63,13 @@ returns-then-middle-lt16-clause-answer g c =
 pub returns-then-middle-lt16-clause-least_skipping : goal.returns-then-middle-lt16-clause-least_skipping
 returns-then-middle-lt16-clause-least_skipping g c =
     let so = Skipped-end _ g.met.Self.Engine.below_ten _ _ _ _ _ _ c.window-window.result
-      c.loop-window.invariant c.window-window.ensures.window c.window-window.ensures.one_step c.then-not-skip.either in
+    c.loop-window.invariant c.window-window.ensures.window c.window-window.ensures.one_step c.then-not-skip.either in
     Skipped-loads _ _ _ _ _ _ _ _ so (omega (arith, c.window-middle.ensures.one_step))
 
 pub slice_bounds-window_8-count : goal.slice_bounds-window_8-count
 slice_bounds-window_8-count g c =
     let so = Skipped-end _ g.met.Self.Engine.below_ten _ _ _ _ _ _ c.window-window.result
-      c.loop-window.invariant c.window-window.ensures.window c.window-window.ensures.one_step c.then-not-skip.either in
+    c.loop-window.invariant c.window-window.ensures.window c.window-window.ensures.one_step c.then-not-skip.either in
     let full : c.window-window.result.len ≡ 16 = omega (arith, so.shown.reads.within) in
     let middle = shows_behind g.Self.Engine.table g.met.Self.Engine.below_ten 16 16 c.args.s.now c.loop-window.at c.window-middle.result c.window-middle.ensures.window in
     let full_too : c.window-middle.result.len ≡ 16 = omega (arith, middle.reads.within) in
@@ -80,7 +80,7 @@ slice_bounds-window_8-count g c =
 pub slice_bounds-window_8-start : goal.slice_bounds-window_8-start
 slice_bounds-window_8-start g c =
     let so = Skipped-end _ g.met.Self.Engine.below_ten _ _ _ _ _ _ c.window-window.result
-      c.loop-window.invariant c.window-window.ensures.window c.window-window.ensures.one_step c.then-not-skip.either in
+    c.loop-window.invariant c.window-window.ensures.window c.window-window.ensures.one_step c.then-not-skip.either in
     let full : c.window-window.result.len ≡ 16 = omega (arith, so.shown.reads.within) in
     let middle = shows_behind g.Self.Engine.table g.met.Self.Engine.below_ten 16 16 c.args.s.now c.loop-window.at c.window-middle.result c.window-middle.ensures.window in
     let full_too : c.window-middle.result.len ≡ 16 = omega (arith, middle.reads.within) in
@@ -94,7 +94,7 @@ slice_bounds-window_8-start g c =
 pub returns-then-back-eq8-clause-answer : goal.returns-then-back-eq8-clause-answer
 returns-then-back-eq8-clause-answer g c =
     let so = Skipped-end _ g.met.Self.Engine.below_ten _ _ _ _ _ _ c.window-window.result
-      c.loop-window.invariant c.window-window.ensures.window c.window-window.ensures.one_step c.then-not-skip.either in
+    c.loop-window.invariant c.window-window.ensures.window c.window-window.ensures.one_step c.then-not-skip.either in
     let full : c.window-window.result.len ≡ 16 = omega (arith, so.shown.reads.within) in
     let middle = shows_behind g.Self.Engine.table g.met.Self.Engine.below_ten 16 16 c.args.s.now c.loop-window.at c.window-middle.result c.window-middle.ensures.window in
     let full_too : c.window-middle.result.len ≡ 16 = omega (arith, middle.reads.within) in
@@ -109,13 +109,13 @@ returns-then-back-eq8-clause-answer g c =
 pub returns-then-back-eq8-clause-least_skipping : goal.returns-then-back-eq8-clause-least_skipping
 returns-then-back-eq8-clause-least_skipping g c =
     let so = Skipped-end _ g.met.Self.Engine.below_ten _ _ _ _ _ _ c.window-window.result
-      c.loop-window.invariant c.window-window.ensures.window c.window-window.ensures.one_step c.then-not-skip.either in
+    c.loop-window.invariant c.window-window.ensures.window c.window-window.ensures.one_step c.then-not-skip.either in
     Skipped-loads _ _ _ _ _ _ _ _ so (omega (arith, c.window-middle.ensures.one_step, c.window_8-back.ensures.one_step))
 
 pub joined_128-requires-clause-front_high : goal.joined_128-requires-clause-front_high
 joined_128-requires-clause-front_high g c =
     let so = Skipped-end _ g.met.Self.Engine.below_ten _ _ _ _ _ _ c.window-window.result
-      c.loop-window.invariant c.window-window.ensures.window c.window-window.ensures.one_step c.then-not-skip.either in
+    c.loop-window.invariant c.window-window.ensures.window c.window-window.ensures.one_step c.then-not-skip.either in
     let full : c.window-window.result.len ≡ 16 = omega (arith, so.shown.reads.within) in
     omega (arith, so.shown.reads.below, ap (λ (n : ℕ). 10 ^ n) full)
 
@@ -138,7 +138,7 @@ joined_128-requires-clause-back_high g c =
 pub returns-in-Some-clause-answer : goal.returns-in-Some-clause-answer
 returns-in-Some-clause-answer g c =
     let so = Skipped-end _ g.met.Self.Engine.below_ten _ _ _ _ _ _ c.window-window.result
-      c.loop-window.invariant c.window-window.ensures.window c.window-window.ensures.one_step c.then-not-skip.either in
+    c.loop-window.invariant c.window-window.ensures.window c.window-window.ensures.one_step c.then-not-skip.either in
     let full : c.window-window.result.len ≡ 16 = omega (arith, so.shown.reads.within) in
     let middle = shows_behind g.Self.Engine.table g.met.Self.Engine.below_ten 16 16 c.args.s.now c.loop-window.at c.window-middle.result c.window-middle.ensures.window in
     let full_too : c.window-middle.result.len ≡ 16 = omega (arith, middle.reads.within) in
@@ -155,13 +155,13 @@ returns-in-Some-clause-answer g c =
 pub returns-in-Some-clause-least_skipping : goal.returns-in-Some-clause-least_skipping
 returns-in-Some-clause-least_skipping g c =
     let so = Skipped-end _ g.met.Self.Engine.below_ten _ _ _ _ _ _ c.window-window.result
-      c.loop-window.invariant c.window-window.ensures.window c.window-window.ensures.one_step c.then-not-skip.either in
+    c.loop-window.invariant c.window-window.ensures.window c.window-window.ensures.one_step c.then-not-skip.either in
     Skipped-loads _ _ _ _ _ _ _ _ so (omega (arith, c.window-middle.ensures.one_step, c.window_8-back.ensures.one_step))
 
 pub returns-in-None-clause-answer : goal.returns-in-None-clause-answer
 returns-in-None-clause-answer g c =
     let so = Skipped-end _ g.met.Self.Engine.below_ten _ _ _ _ _ _ c.window-window.result
-      c.loop-window.invariant c.window-window.ensures.window c.window-window.ensures.one_step c.then-not-skip.either in
+    c.loop-window.invariant c.window-window.ensures.window c.window-window.ensures.one_step c.then-not-skip.either in
     let full : c.window-window.result.len ≡ 16 = omega (arith, so.shown.reads.within) in
     let middle = shows_behind g.Self.Engine.table g.met.Self.Engine.below_ten 16 16 c.args.s.now c.loop-window.at c.window-middle.result c.window-middle.ensures.window in
     let full_too : c.window-middle.result.len ≡ 16 = omega (arith, middle.reads.within) in
@@ -175,5 +175,5 @@ returns-in-None-clause-answer g c =
 pub returns-in-None-clause-least_skipping : goal.returns-in-None-clause-least_skipping
 returns-in-None-clause-least_skipping g c =
     let so = Skipped-end _ g.met.Self.Engine.below_ten _ _ _ _ _ _ c.window-window.result
-      c.loop-window.invariant c.window-window.ensures.window c.window-window.ensures.one_step c.then-not-skip.either in
+    c.loop-window.invariant c.window-window.ensures.window c.window-window.ensures.one_step c.then-not-skip.either in
     Skipped-loads _ _ _ _ _ _ _ _ so (omega (arith, c.window-middle.ensures.one_step, c.window_8-back.ensures.one_step))
