@@ -3,16 +3,11 @@ use Rattle.std.proofs.Common.{subst, Option, lit<, lit≤, zero, suc, ◌≡◌,
 use Rattle.std.proofs.lemmas.Bool.Decides.{nat_tests}
 use Rattle.std.proofs.lemmas.Nat.{pow-add}
 use Rattle.std.proofs.Math.Nat.{mul-le-mul_left, pow-le-pow_right}
-use Rattle.std.proofs.lemmas.List.{length-append, take_more, take-take, take-append-drop}
+use Rattle.std.proofs.lemmas.List.{take_more, take-take, take-append-drop}
 use Rattle.std.proofs.lemmas.List.Sums.{prefix_len-drop_yes, prefix_len-drop_no}
+use Rattle.atoi_core.proofs.ValueLemmas.{value-append}
 use Rattle.atoi_core.specs.Digit.{IsBelowTen, decimal_table, Table, worth, is_digit}
 use Rattle.atoi_core.specs.Run.{value, run_len}
-
--- digits in front of others are worth a power of ten more for each of these
-pub value-append : (t : Table) (xs ys : List ℕ) → value t (xs ++ ys) ≡ value t xs * 10 ^ length ys + value t ys
-value-append t [] ys = grind arith
-value-append t (x ∷ xs) ys =
-    rw (length-append xs ys, pow-add 10 (length xs) (length ys), value-append t xs ys) (grind arith)
 
 -- one more digit
 pub value_more : (t : Table) (s : List ℕ) (i w : ℕ) → i < length s → t (get_or s i 0) ≡ Some w → value t (take (i + 1) s) ≡ value t (take i s) * 10 + w

@@ -1,6 +1,7 @@
 mod Digits
 mod Magnitudes
 pub mod DigitText
+pub mod AnswerLemmas
 pub mod RunLemmas
 pub mod ValueLemmas
 pub mod WindowLemmas
@@ -13,5 +14,19 @@ pub mod ByteCases
 pub mod TrailingBytes
 pub mod Bitwise
 pub mod WordRuns
+pub mod SkipLemmas
+pub mod WideLemmas
+pub mod NarrowLemmas
+pub mod CutLemmas
+pub mod RefusalLemmas
+pub mod SignLemmas
+pub mod CallLemmas
+pub mod LimitLemmas
+pub mod TextLemmas
+pub mod DecimalLemmas
+pub mod PrefixLemmas
+pub mod SuffixLemmas
+pub mod KindLemmas
 pub mod LoadedBytes
 pub mod WordWindows
+pub mod WholeLemmas

@@ -25,7 +25,8 @@ prefix_len-drop p (suc n) (b ∷ bs) =
 pub zeros-le : (t : Table) (s : List ℕ) → zeros t s ≤ run_len t s
 zeros-le t [] = omega arith
 zeros-le t (b ∷ bs) =
-    elim (is_digit t b) as (λ v. cond (v && (worth t b == 0)) (1 + zeros t bs) 0 ≤ cond v (1 + run_len t bs) 0)
-    [ true ↦ elim (worth t b == 0) as (λ v. cond v (1 + zeros t bs) 0 ≤ 1 + run_len t bs)
-      [ true ↦ omega (arith, zeros-le t bs) | false ↦ omega arith ]
-    | false ↦ omega arith ]
+    elim (is_digit t b) as (λ v. cond (v && (worth t b == 0)) (1 + zeros t bs) 0 ≤ cond v (1 + run_len t bs) 0) [
+      | true ↦ elim (worth t b == 0) as (λ v. cond v (1 + zeros t bs) 0 ≤ 1 + run_len t bs)
+          [ true ↦ omega (arith, zeros-le t bs) | false ↦ omega arith ]
+      | false ↦ omega arith
+    ]

@@ -15,8 +15,8 @@ pub value-append : (t : Table) (xs ys : List ℕ) → value t (xs ++ ys) ≡ val
 value-append t [] ys = omega arith
 value-append t (x ∷ xs) ys =
     let power : worth t x * 10 ^ length (xs ++ ys) ≡ worth t x * (10 ^ length xs * 10 ^ length ys) =
-        ap (λ (e : ℕ). worth t x * 10 ^ e) (length-append xs ys)
-        ∙ ap (λ (e : ℕ). worth t x * e) (pow-add 10 (length xs) (length ys)) in
+    ap (λ (e : ℕ). worth t x * 10 ^ e) (length-append xs ys)
+    ∙ ap (λ (e : ℕ). worth t x * e) (pow-add 10 (length xs) (length ys)) in
     omega (arith, power, value-append t xs ys)
 
 -- a number is below ten to the count of its digits
@@ -24,7 +24,7 @@ pub value-below : (t : Table) → IsBelowTen t → (xs : List ℕ) → value t x
 value-below t below [] = omega arith
 value-below t below (x ∷ xs) =
     let most : worth t x * 10 ^ length xs ≤ 9 * 10 ^ length xs =
-        mul-le-mul_right (10 ^ length xs) (omega (arith, below x)) in
+    mul-le-mul_right (10 ^ length xs) (omega (arith, below x)) in
     rw pow-succ' (omega (arith, value-below t below xs))
 
 -- the first digits of a front of digits: the number is cut at them
@@ -41,12 +41,14 @@ pub value-zeros : (t : Table) (n : ℕ) (s : List ℕ) → n ≤ zeros t s → v
 value-zeros t zero s = λ _. refl
 value-zeros t (suc n) [] = λ h. absurd (omega arith)
 value-zeros t (suc n) (b ∷ bs) =
-    elim (is_digit t b) as (λ v. suc n ≤ cond (v && (worth t b == 0)) (1 + zeros t bs) 0 → worth t b * 10 ^ length (take n bs) + value t (take n bs) ≡ 0)
-    [ true ↦
-      (elim (worth t b == 0) as (λ v. (worth t b == 0) ≡ v → suc n ≤ cond v (1 + zeros t bs) 0 → worth t b * 10 ^ length (take n bs) + value t (take n bs) ≡ 0)
-      [ true ↦ λ e h. rw (eqb-true _ _ e, value-zeros t n bs (omega arith)) (omega arith)
-      | false ↦ λ e h. absurd (omega arith) ]) refl
-    | false ↦ λ h. absurd (omega arith) ]
+    elim (is_digit t b) as (λ v. suc n ≤ cond (v && (worth t b == 0)) (1 + zeros t bs) 0 → worth t b * 10 ^ length (take n bs) + value t (take n bs) ≡ 0) [
+      | true ↦
+          (elim (worth t b == 0) as (λ v. (worth t b == 0) ≡ v → suc n ≤ cond v (1 + zeros t bs) 0 → worth t b * 10 ^ length (take n bs) + value t (take n bs) ≡ 0) [
+            | true ↦ λ e h. rw (eqb-true _ _ e, value-zeros t n bs (omega arith)) (omega arith)
+            | false ↦ λ e h. absurd (omega arith)
+          ]) refl
+      | false ↦ λ h. absurd (omega arith)
+    ]
 
 -- leading zeros can be left out
 pub value-drop_zeros : (t : Table) (n : ℕ) (s : List ℕ) → n ≤ zeros t s → value t (run t s) ≡ value t (run t (drop n s))
@@ -61,14 +63,16 @@ value-drop_zeros t n s h =
 pub value-least : (t : Table) (n : ℕ) (s : List ℕ) → suc n ≤ run_len t s → zeros t s ≡ 0 → 10 ^ n ≤ value t (take (suc n) s)
 value-least t n [] = λ h z. absurd (omega arith)
 value-least t n (b ∷ bs) =
-    elim (is_digit t b) as (λ v. suc n ≤ cond v (1 + run_len t bs) 0 → cond (v && (worth t b == 0)) (1 + zeros t bs) 0 ≡ 0 → 10 ^ n ≤ worth t b * 10 ^ length (take n bs) + value t (take n bs))
-    [ true ↦
-      λ h.
-      (elim (worth t b == 0) as (λ v. (worth t b == 0) ≡ v → cond v (1 + zeros t bs) 0 ≡ 0 → 10 ^ n ≤ worth t b * 10 ^ length (take n bs) + value t (take n bs))
-      [ true ↦ λ e z. absurd (omega arith)
-      | false ↦ λ e z.
-        let some : 1 ≤ worth t b = omega (arith, eqb-false _ _ e) in
-        let len : length (take n bs) ≡ n = length-take-le n bs (omega (arith, prefix_len-le-length (is_digit t) bs)) in
-        let least : 1 * 10 ^ length (take n bs) ≤ worth t b * 10 ^ length (take n bs) = mul-le-mul_right (10 ^ length (take n bs)) some in
-        omega (arith, ap (λ (m : ℕ). 10 ^ m) len) ]) refl
-    | false ↦ λ h z. absurd (omega arith) ]
+    elim (is_digit t b) as (λ v. suc n ≤ cond v (1 + run_len t bs) 0 → cond (v && (worth t b == 0)) (1 + zeros t bs) 0 ≡ 0 → 10 ^ n ≤ worth t b * 10 ^ length (take n bs) + value t (take n bs)) [
+      | true ↦
+          λ h.
+          (elim (worth t b == 0) as (λ v. (worth t b == 0) ≡ v → cond v (1 + zeros t bs) 0 ≡ 0 → 10 ^ n ≤ worth t b * 10 ^ length (take n bs) + value t (take n bs)) [
+            | true ↦ λ e z. absurd (omega arith)
+            | false ↦ λ e z.
+                let some : 1 ≤ worth t b = omega (arith, eqb-false _ _ e) in
+                let len : length (take n bs) ≡ n = length-take-le n bs (omega (arith, prefix_len-le-length (is_digit t) bs)) in
+                let least : 1 * 10 ^ length (take n bs) ≤ worth t b * 10 ^ length (take n bs) = mul-le-mul_right (10 ^ length (take n bs)) some in
+                omega (arith, ap (λ (m : ℕ). 10 ^ m) len)
+          ]) refl
+      | false ↦ λ h z. absurd (omega arith)
+    ]

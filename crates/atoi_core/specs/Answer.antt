@@ -46,9 +46,12 @@ parse_answer k skip plus s =
     let sign = sign_of k.signed plus s in
     whole_answer decimal_table k sign.minus skip sign.body
 
+-- a prefix's answer with the bytes of the sign counted too
+abbrev pub with_taken : ℕ → Result (ℤ × ℕ) Refusal → Result (ℤ × ℕ) Refusal
+with_taken taken answer = map_answer (λ (found : ℤ × ℕ). (found.0, found.1 + taken)) answer
+
 -- what `parse_prefix` answers: the count is of the sign's byte too
 abbrev pub parse_prefix_answer : Kind → (skip plus : Bool) → List ℕ → Result (ℤ × ℕ) Refusal
 parse_prefix_answer k skip plus s =
     let sign = sign_of k.signed plus s in
-    map_answer (λ (found : ℤ × ℕ). (found.0, found.1 + sign.taken))
-    (prefix_answer decimal_table k sign.minus skip sign.body)
+    with_taken sign.taken (prefix_answer decimal_table k sign.minus skip sign.body)

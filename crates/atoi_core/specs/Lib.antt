@@ -1,5 +1,6 @@
 pub mod Digit
 pub mod Run
+pub mod ClosedValue
 pub mod Refusal
 pub mod ErrorText
 pub mod Magnitude
@@ -7,6 +8,7 @@ pub mod Kind
 pub mod Sign
 pub mod Answer
 pub mod Text
+pub mod Laws
 pub mod Loads
 pub mod Window
 pub mod Words

@@ -1,13 +1,27 @@
 //! What reads windows of a slice, and the parses of wide integers over any such engine.
 //! It stands on `window`, `steps` and `error`, and on no particular engine.
-ghost use Rattle.std.specs.Prelude.{◌≡◌, ◌+◌, ℕ};
+ghost use Rattle.std.specs.Prelude.{◌≡◌, ◌+◌, ◌<◌, ◌≤◌, ℕ, IsTrue, length};
 ghost use Rattle.atoi_core.specs.Digit.{Table, IsBelowTen};
+ghost use Rattle.atoi_core.specs.Loads.{most_loads, least_loads};
+ghost use Rattle.atoi_core.specs.Magnitude.{HasDigits, wide64, wide128, prefix_magnitude};
+ghost use Rattle.atoi_core.specs.Refusal.{answer_of};
 ghost use Rattle.atoi_core.specs.Window.{window_of};
 
+use crate::error::AtoiSimdError;
+use crate::join::{joined_128, power_of_ten, up_to_64};
 use crate::steps::Steps;
 use crate::window::Window;
 
+#[cfg(test)]
+pub(crate) mod alphabets;
+#[cfg(test)]
+mod tests;
+
 /// What reads windows of a slice.
+///
+/// An engine says what each byte is worth as a digit, and reads the digits at the front of 8 or of
+/// 16 bytes. All parses stand on these two functions. An engine may override the two others under
+/// the same clauses.
 pub trait Engine {
     /// What each byte is worth as a digit. No code can read it.
     ghost table: { Table };
@@ -21,6 +35,131 @@ pub trait Engine {
     fn window_8(s: &[u8], steps: &mut Steps) -> Window
         ensures window { result ≡ window_of table 8 s.now }
         ensures one_step { steps.new ≡ steps.old + 1 };
+
+    /// The number at the front of `s`, and how many bytes it has, for an integer of 64 bits.
+    ///
+    /// `bound` is the greatest number, and has exactly `limit` digits, 17 to 20. With `skip` the
+    /// zeros at the front do not count against `limit`, however many there are. Every digit is
+    /// read, and a byte that is none ends the number.
+    ///
+    /// A turn loads at most two windows: one of 16 bytes, and one of the 8 bytes behind it where the
+    /// digits fill the first. A turn that skips loads one, for at most 16 zeros.
+    ///
+    /// # Errors
+    ///
+    /// - `Empty`: `s` does not begin with a digit.
+    /// - `Size`: more than `limit` digits count. It tells the zeros skipped and at most 24 of the
+    ///   digits that count, and holds `s` behind the zeros skipped.
+    /// - `Overflow`: the number is above `bound`. It holds `s` behind the zeros skipped.
+    fn prefix_64<'a>(
+        bound: u64,
+        limit: u32,
+        skip: bool,
+        s: &'a [u8],
+        steps: &mut Steps,
+    ) -> Result<(u64, usize), AtoiSimdError<'a>>
+        requires limit_low { 17 ≤ limit }
+        requires limit_high { limit ≤ 20 }
+        requires digits { HasDigits limit bound }
+        ensures answer { answer_of result ≡ prefix_magnitude table wide64 bound limit skip s.now }
+        ensures most { steps.new ≤ steps.old + most_loads table wide64 s.now }
+        ensures least { 0 < length s.now → steps.old < steps.new }
+        ensures least_skipping { IsTrue skip → steps.old + least_loads table s.now ≤ steps.new }
+    {
+        let mut at = 0;
+        let front = loop {
+            let window = Self::window(&s[at..], steps);
+            if !skip || window.zeroes == 0 {
+                break window;
+            }
+            at += window.zeroes as usize;
+        };
+        if front.len < 16 {
+            let len = at + front.len as usize;
+            return if len == 0 {
+                Err(AtoiSimdError::Empty)
+            } else {
+                Ok((front.number, len))
+            };
+        }
+        let rest = &s[at..];
+        let back = Self::window_8(&rest[16..], steps);
+        let digits = 16 + back.len;
+        let len = at + digits as usize;
+        if digits > limit {
+            return Err(AtoiSimdError::Size(len, rest));
+        }
+        let power = power_of_ten(back.len);
+        if digits < limit {
+            return Ok((front.number * power + back.number, len));
+        }
+        match up_to_64(bound, front.number, power, back.number) {
+            Some(number) => Ok((number, len)),
+            None => Err(AtoiSimdError::Overflow(rest)),
+        }
+    }
+
+    /// The number at the front of `s`, and how many bytes it has, for an integer of 128 bits.
+    ///
+    /// `bound` is the greatest number, and has exactly 39 digits. With `skip` the zeros at the front
+    /// do not count against these, however many there are. Every digit is read, and a byte that is
+    /// none ends the number.
+    ///
+    /// A turn loads at most three windows: two of 16 bytes and one of the 8 bytes behind them, each
+    /// only where the digits fill the ones before it. A turn that skips loads one, for at most 16
+    /// zeros.
+    ///
+    /// # Errors
+    ///
+    /// - `Empty`: `s` does not begin with a digit.
+    /// - `Size`: more than 39 digits count. It tells the zeros skipped and at most 40 of the digits
+    ///   that count, and holds `s` behind the zeros skipped.
+    /// - `Overflow`: the number is above `bound`. It holds `s` behind the zeros skipped.
+    fn prefix_128<'a>(
+        bound: u128,
+        skip: bool,
+        s: &'a [u8],
+        steps: &mut Steps,
+    ) -> Result<(u128, usize), AtoiSimdError<'a>>
+        requires digits { HasDigits 39 bound }
+        ensures answer { answer_of result ≡ prefix_magnitude table wide128 bound 39 skip s.now }
+        ensures most { steps.new ≤ steps.old + most_loads table wide128 s.now }
+        ensures least { 0 < length s.now → steps.old < steps.new }
+        ensures least_skipping { IsTrue skip → steps.old + least_loads table s.now ≤ steps.new }
+    {
+        let mut at = 0;
+        let first = loop {
+            let window = Self::window(&s[at..], steps);
+            if !skip || window.zeroes == 0 {
+                break window;
+            }
+            at += window.zeroes as usize;
+        };
+        if first.len < 16 {
+            let len = at + first.len as usize;
+            return if len == 0 {
+                Err(AtoiSimdError::Empty)
+            } else {
+                Ok((u128::from(first.number), len))
+            };
+        }
+        let body = &s[at..];
+        let second = Self::window(&body[16..], steps);
+        if second.len < 16 {
+            let high = u128::from(first.number) * u128::from(power_of_ten(second.len));
+            let len = at + 16 + second.len as usize;
+            return Ok((high + u128::from(second.number), len));
+        }
+        let third = Self::window_8(&body[32..], steps);
+        let len = at + 32 + third.len as usize;
+        if third.len == 8 {
+            return Err(AtoiSimdError::Size(len, body));
+        }
+        match joined_128(bound, first.number, second.number, third) {
+            Some(number) => Ok((number, len)),
+            None => Err(AtoiSimdError::Overflow(body)),
+        }
+    }
 
     /// No digit is worth more than nine.
     ghost below_ten: { IsBelowTen table };

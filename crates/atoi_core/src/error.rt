@@ -13,31 +13,32 @@ use std::str::from_utf8;
 /// Why a parse refused a slice, with the part of the caller's slice that shows it.
 ///
 /// The slice in an error is a suffix of the caller's and is not copied. A sign that was taken is
-/// never in it, and no index or number of digits counts it. Numbers are magnitudes: a refused
-/// negative number is shown without its sign. The variants are ordered as written, those of one
-/// variant by their numbers and then by their slices. Mirrors `atoi_simd::AtoiSimdError`.
+/// never in it, and no index counts it. Numbers are magnitudes: a refused negative number is told
+/// without its sign. Errors are ordered by their variants as written here, then by the numbers and
+/// then by the slice that they carry. Mirrors `atoi_simd::AtoiSimdError`.
 #[derive(Debug, Clone, Copy, PartialOrd, Ord, PartialEq, Eq)]
 pub enum AtoiSimdError<'a> {
-    /// The slice begins with no digit, as an empty one or a lone sign.
+    /// No digit stands where the number should begin: the slice is empty, a lone sign, or begins
+    /// with another byte.
     Empty,
-    /// There are more digits than the widest value of a 64- or 128-bit type has: how many digits,
-    /// of which at most 24 (of 64 bits) or 40 (of 128 bits) count that were not skipped as zeros,
-    /// and the slice behind the skipped zeros.
+    /// There are more digits than the greatest number of a type of 64 or 128 bits has, where zeros
+    /// that are skipped do not count: the number of digits, of which at most 24 (64 bits) or 40
+    /// (128 bits) that count are told, and the slice behind the skipped zeros.
     Size(usize, &'a [u8]),
-    /// The digits write a number that the type cannot hold: the slice from the digits on, without
-    /// the zeros that were skipped before them.
+    /// The digits write a number that the type cannot hold: the slice without the zeros at its
+    /// front that were skipped.
     Overflow(&'a [u8]),
-    /// A byte that is no digit stands in a slice that has to be digits to its end, of a type of up
-    /// to 64 bits: the number that the digits before it write, the index of that byte, and the
-    /// whole slice.
+    /// A slice that has to be digits to its end holds another byte, at a type of up to 64 bits: the
+    /// number that the digits before that byte write, the byte's index, and the whole slice.
     Invalid64(u64, usize, &'a [u8]),
-    /// The same of a type of 128 bits.
+    /// The same at a type of 128 bits.
     Invalid128(u128, usize, &'a [u8]),
 }
 
 impl AtoiSimdError<'_> {
     /// Puts the text that `Display` writes at the front of `out` and answers its length, at most
-    /// 332 bytes. What stands behind the text in `out` is open.
+    /// 332 bytes. It is ASCII, and shows at most the first 48 bytes of the slice, in hexadecimal
+    /// capitals. What stands behind the text in `out` is open.
     pub fn text(&self, out: &mut [u8; 400]) -> usize
         ensures text { take result out.new ≡ error_text (refusal_of self.now) }
         ensures fits { result ≤ 332 }
@@ -90,6 +91,7 @@ impl AtoiSimdError<'_> {
     }
 }
 
+// The width, fill and alignment of the caller's format are not looked at.
 impl fmt::Display for AtoiSimdError<'_> {
     ghost output = { λ error. Some (error_text (refusal_of error)) };
 

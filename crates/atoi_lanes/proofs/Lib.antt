@@ -1,3 +1,4 @@
 pub mod LoadLemmas
 pub mod MaskLemmas
 pub mod SumLemmas
+pub mod WindowLemmas

@@ -1,8 +1,8 @@
 -- The bytes of a short slice as the number that they spell, the lowest first.
-use Rattle.std.proofs.Common.{◌≡◌, ℕ, zero, suc, ◌+◌, ◌-◌, ◌*◌, ◌/◌, ◌%◌, ◌^◌, ◌<◌, ◌≤◌, List, [], ◌∷◌, ◌++◌, length, take, drop, get_or, replicate, Fits, w8, w32, w64, refl, sym, ap, ap₂, ◌∙◌, subst, arith, inl, inr}
+use Rattle.std.proofs.Common.{◌≡◌, ℕ, zero, suc, ◌+◌, ◌-◌, ◌*◌, ◌/◌, ◌%◌, ◌^◌, ◌<◌, ◌≤◌, List, [], ◌∷◌, ◌++◌, length, take, drop, get_or, replicate, Fits, w8, w64, refl, sym, ap, ap₂, ◌∙◌, arith, inl, inr}
 use Rattle.std.specs.Int.{from_le_bytes, byte_worth, sum_through}
-use Rattle.std.proofs.Math.Nat.{pow-suc, pow-zero, mod-eq_of_lt, div-eq_of_lt, zero-div, zero-mod, div-one, div-div-eq-div-mul, mul-zero, mul-le-mul_left, pow-le-pow_right}
-use Rattle.std.proofs.lemmas.List.{take-append-drop, drop-drop, take_all, drop_all, length-drop, length-take-le}
+use Rattle.std.proofs.Math.Nat.{pow-suc, pow-zero, zero-div, zero-mod, div-one, div-div-eq-div-mul}
+use Rattle.std.proofs.lemmas.List.{take-append-drop, drop-drop, take_all, drop_all, length-take-le}
 use Rattle.std.proofs.lemmas.Nat.{mod-mul-add, div-mul-add, pow-add}
 use Rattle.std.proofs.lemmas.Simd.{Each1-from_get_or}
 use Rattle.std.proofs.lemmas.Bool.{cases_lt}
@@ -57,13 +57,6 @@ digits-number p (suc n) m (x ∷ xs) h room =
     let parts = lowest-digit p x (number_l p xs) h.0 in
     ap₂ (λ d ds. d ∷ ds) parts.0 (ap (digits_l p n) parts.1 ∙ digits-number p n m xs h.1 (omega arith))
 
--- a number is below the power of its base with one factor for each digit
-number-lt : (p : ℕ) (xs : List ℕ) → Each1 (λ x. x < p) xs → number_l p xs < p ^ length xs
-number-lt p [] h = omega (arith, pow-zero p)
-number-lt p (x ∷ xs) h =
-    let rest = mul-le-mul_left p (number-lt p xs h.1) in
-    omega (arith, rest, h.0, pow-suc p (length xs))
-
 -- a shift by whole bytes
 byte_shift : (n : ℕ) → 256 ^ n ≡ 2 ^ (8 * n)
 byte_shift zero = refl
@@ -97,12 +90,9 @@ first-and_rest n s le =
 pub bytes : (s : List ℕ) → ((k : ℕ) → Fits w8 (get_or s k 0)) → Each1 (λ x. x < 256) s
 bytes s fits = Each1-from_get_or (λ x. x < 256) s 0 (λ k _. (fits k).fits)
 
--- a word of eight bytes, and of four
+-- a word of eight bytes
 pub word-of_eight : (xs : List ℕ) → length xs ≡ 8 → from_le_bytes w64 xs ≡ number_l 256 xs
 word-of_eight xs long = bytes-number 7 xs ∙ ap (number_l 256) (take_all 8 xs (omega arith))
-
-pub word-of_four : (xs : List ℕ) → length xs ≡ 4 → from_le_bytes w32 xs ≡ number_l 256 xs
-word-of_four xs long = bytes-number 3 xs ∙ ap (number_l 256) (take_all 4 xs (omega arith))
 
 -- what stands behind the first eight of at most fifteen bytes, from the last eight
 pub high_of_last : (s : List ℕ) → Each1 (λ x. x < 256) s → 8 ≤ length s → length s < 16
@@ -112,17 +102,6 @@ high_of_last s h le lt =
     let power : 2 ^ (8 * (15 - length s)) * 256 ≡ 2 ^ (8 * (2 * 8 - length s)) = sym (ap (λ k. 2 ^ k) (omega arith) ∙ pow-add 2 (8 * (15 - length s)) 8) in
     div-div-eq-div-mul last (2 ^ (8 * (15 - length s))) 256 ∙ ap (λ p. last / p) power ∙ rest_of_last 8 s h le (omega arith)
 
--- from the first four and the last four of at most seven bytes to all
-pub joined_halves : (s : List ℕ) → Each1 (λ x. x < 256) s → 4 ≤ length s → length s < 8
-    → number_l 256 (take 4 s) + (number_l 256 (drop (length s - 4) s) / 2 ^ (8 * (8 - length s)) * 2 ^ 32) % 2 ^ 64 ≡ number_l 256 s
-joined_halves s h le lt =
-    let few : length (drop 4 s) ≤ 4 = omega (arith, length-drop 4 s) in
-    let below = number-lt 256 (drop 4 s) (Each1-drop 256 4 s h) in
-    let most : 256 ^ length (drop 4 s) ≤ 256 ^ 4 = pow-le-pow_right (omega arith) few in
-    ap (λ n. number_l 256 (take 4 s) + (n * 2 ^ 32) % 2 ^ 64) (rest_of_last 4 s h le (omega arith))
-    ∙ ap (λ n. number_l 256 (take 4 s) + n) (mod-eq_of_lt (omega (arith, below, most)))
-    ∙ first-and_rest 4 s le
-
 -- sixteen lanes from two words of a short slice
 pub lanes-of_words : (s : List ℕ) → Each1 (λ x. x < 256) s → length s < 16
     → digits_l 256 16 (number_l (2 ^ 64) (number_l 256 (take 8 s) ∷ number_l 256 (drop 8 s) ∷ [])) ≡ take 16 (s ++ replicate 16 0)
@@ -130,8 +109,8 @@ lanes-of_words s h lt =
     let low = number_l 256 (take 8 s) in
     let high = number_l 256 (drop 8 s) in
     let all : low + 2 ^ 64 * (high + 2 ^ 64 * 0) ≡ number_l 256 s =
-      elim (cases_lt (length s) 8) [
-        | inl short ↦ omega (arith, ap (number_l 256) (take_all 8 s (omega arith)), ap (number_l 256) (drop_all 8 s (omega arith)))
-        | inr long ↦ omega (arith, first-and_rest 8 s long)
-      ] in
+    elim (cases_lt (length s) 8) [
+      | inl short ↦ omega (arith, ap (number_l 256) (take_all 8 s (omega arith)), ap (number_l 256) (drop_all 8 s (omega arith)))
+      | inr long ↦ omega (arith, first-and_rest 8 s long)
+    ] in
     ap (digits_l 256 16) all ∙ digits-number 256 16 16 s h (omega arith)

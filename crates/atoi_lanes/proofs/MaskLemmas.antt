@@ -1,5 +1,5 @@
 -- From the mask of a comparison of lanes to the first lanes that pass a test.
-use Rattle.std.proofs.Common.{◌≡◌, ℕ, zero, suc, ◌+◌, ◌-◌, ◌*◌, ◌/◌, ◌%◌, ◌^◌, ◌<◌, ◌≤◌, Bool, true, false, cond, List, [], ◌∷◌, map, length, Fits, w8, w64, refl, sym, ap, ◌∙◌, subst, arith, add-one, pow_pos}
+use Rattle.std.proofs.Common.{◌≡◌, ℕ, zero, suc, ◌+◌, ◌-◌, ◌*◌, ◌/◌, ◌%◌, ◌^◌, ◌<◌, Bool, true, false, cond, List, [], ◌∷◌, map, length, Fits, w8, w64, refl, ap, ◌∙◌, arith, pow_pos}
 use Rattle.std.specs.Int.{trailing_ones}
 use Rattle.std.specs.List.{prefix_len}
 use Rattle.std.proofs.Math.Nat.{pow-suc, lt_of_lt_of_le}

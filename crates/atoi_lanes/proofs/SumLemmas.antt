@@ -1,6 +1,5 @@
 -- From the sum of wrapping products of lanes to the value of digits.
-use Rattle.std.proofs.Common.{◌≡◌, ℕ, zero, suc, ◌+◌, ◌-◌, ◌*◌, ◌%◌, ◌^◌, ◌<◌, ◌≤◌, min, Bool, true, false, cond, List, [], ◌∷◌, ◌++◌, map, length, take, drop, replicate, refl, sym, ap, ap₂, ◌∙◌, subst, arith, zero-add}
-use Rattle.std.specs.List.{prefix_len}
+use Rattle.std.proofs.Common.{◌≡◌, ℕ, zero, suc, ◌+◌, ◌-◌, ◌*◌, ◌%◌, ◌^◌, ◌<◌, ◌≤◌, true, false, cond, List, [], ◌∷◌, ◌++◌, map, length, take, drop, replicate, refl, sym, ap, ap₂, ◌∙◌, arith, zero-add}
 use Rattle.std.proofs.Math.Nat.{pow-suc, pow-le-pow_right, mul-zero, mul-le-mul_right, mod-eq_of_lt}
 use Rattle.std.proofs.Math.Seq.{take-append-add}
 use Rattle.std.proofs.lemmas.List.{length-append, length-take-le, take_all, take-replicate}
@@ -61,7 +60,7 @@ sum-value zero k v h = sum-zeros (map above_zero v) k
 sum-value (suc n) k [] h = absurd (omega arith)
 sum-value (suc n) k (x ∷ xs) h =
     (elim (is_digit decimal_table x) as (λ b. is_digit decimal_table x ≡ b → suc n ≤ cond b (1 + run_len decimal_table xs) 0
-      → above_zero x * 10 ^ n + sum_l (products (map above_zero xs) (places n ++ replicate k 0)) ≡ worth decimal_table x * 10 ^ length (take n xs) + value decimal_table (take n xs)) [
+    → above_zero x * 10 ^ n + sum_l (products (map above_zero xs) (places n ++ replicate k 0)) ≡ worth decimal_table x * 10 ^ length (take n xs) + value decimal_table (take n xs)) [
       | true ↦ λ is inside.
           let within : n ≤ length xs = omega (arith, prefix_len-le-length (is_digit decimal_table) xs) in
           ap₂ (λ a b. a + b) (ap₂ (λ w m. w * 10 ^ m) (above_zero-digit x is) (sym (length-take-le n xs within))) (sum-value n k xs (omega arith))
@@ -92,8 +91,8 @@ table_slice n h =
 -- the sum of the lanes, as the code computes it
 pub lanes_sum : (v : List ℕ) (n : ℕ) → length v ≡ 16 → n ≤ 16 → n ≤ run_len decimal_table v
     → fold_l (λ s x. (s + x) % 2 ^ 64) 0
-      (zip2 (λ x y. (x * y) % 2 ^ 64) (map (λ x. x) (zip2 (λ x y. (x + (2 ^ 8 - y)) % 2 ^ 8) v (replicate 16 48)))
-      (take 16 (take (32 - (16 - n)) (drop (16 - n) (places 16 ++ replicate 16 0)))))
+    (zip2 (λ x y. (x * y) % 2 ^ 64) (map (λ x. x) (zip2 (λ x y. (x + (2 ^ 8 - y)) % 2 ^ 8) v (replicate 16 48)))
+    (take 16 (take (32 - (16 - n)) (drop (16 - n) (places 16 ++ replicate 16 0)))))
     ≡ value decimal_table (take n v)
 lanes_sum v n long few digits =
     let worths = map-map (λ x. x) above_zero v in

@@ -1,4 +1,20 @@
-//! The engine that reads sixteen bytes at a time in vector lanes.
+//! The engine of `atoi_core` on vector lanes, which compares, multiplies and adds sixteen bytes at once, and the ten functions of
+//! `atoi_simd` on it, under the same names, with the same signatures and answers.
 #![tactic(auto)]
 
+mod any_sign;
+mod functions;
 pub mod kernels;
+mod lanes;
+mod negative;
+mod positive;
+mod reader;
+
+pub use crate::any_sign::Parse;
+pub use crate::functions::{
+    parse, parse_any, parse_any_neg, parse_any_pos, parse_neg, parse_pos, parse_prefix,
+    parse_prefix_neg, parse_prefix_pos, parse_skipped,
+};
+pub use crate::lanes::Lanes;
+pub use crate::negative::ParseNeg;
+pub use atoi_core::AtoiSimdError;

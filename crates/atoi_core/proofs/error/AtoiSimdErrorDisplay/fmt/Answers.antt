@@ -1,10 +1,10 @@
-use Rattle.std.proofs.Common.{rules}
+use Rattle.std.proofs.Common.{IsAscii, subst, sym, rules}
 use Rattle.std.proofs.lemmas.Str.{IsUtf8-from_ascii}
 use Rattle.atoi_core.proofs.error.AtoiSimdErrorDisplay.fmt.Goals as goal
 
 -- ASCII is valid text
 pub unwrap-requires : goal.unwrap-requires
 unwrap-requires g c =
-    let ascii = rw (← c.text-length.ensures.text) at c.text-length.ensures.ascii in
+    let ascii = subst IsAscii (sym c.text-length.ensures.text) c.text-length.ensures.ascii in
     let valid = IsUtf8-from_ascii _ ascii in
     search rules

@@ -1,0 +1,241 @@
+-- Answers of one kind: what decides the kind, and that neither the rest behind a run nor zeros
+-- before it change it.
+use Rattle.std.proofs.Common.{◌≡◌, ℕ, ◌+◌, ◌<◌, ◌≤◌, Bool, true, not, eqb, ltb, List, [], ◌++◌, length, take, replicate, Option, Some, None, Result, ℤ, option_map, refl, sym, ap, ◌∙◌, subst₂, arith, take-take, take_at, drop_at, inl, inr, length-append, eq-eqb, ne_eqb}
+use Rattle.std.proofs.lemmas.List.{length-replicate}
+use Rattle.std.proofs.lemmas.Bool.{cases_eq}
+use Rattle.std.proofs.Math.Seq.{take-add}
+use Rattle.atoi_core.specs.Digit.{decimal_table, is_digit, is_zero}
+use Rattle.atoi_core.specs.Run.{run_len, run, zeros, value}
+use Rattle.atoi_core.specs.Refusal.{Refusal, rank}
+use Rattle.atoi_core.specs.Magnitude.{Class, Extent, whole, prefix, seen, counted, is_too_long, leaves_rest, invalid, refusal, unless_refused}
+use Rattle.atoi_core.specs.Kind.{Kind, class_of, bound_of, limit_of}
+use Rattle.atoi_core.specs.Sign.{Sign, number_of}
+use Rattle.atoi_core.specs.Answer.{map_answer, whole_answer, prefix_answer}
+use Rattle.atoi_core.specs.Laws.{SignForm, sign_in, with_more, with_zeros, zero_byte, IsSameKind, RestChangesNothing, ZerosChangeNothing}
+use Rattle.atoi_core.proofs.CutLemmas.{length-run, zeros-run, value-replicate, prefix_len-replicate_append}
+use Rattle.atoi_core.proofs.RefusalLemmas.{refusal-rank, first_rank}
+use Rattle.atoi_core.proofs.SignLemmas.{sign_again}
+use Rattle.atoi_core.proofs.CallLemmas.{whole_call-is, prefix_call-is, seen-le, seen-whole, seen-skipping, with_more-zero}
+
+-- two whole answers are of one kind where the reasons are, and the values are equal
+same_kind : (minus other_minus : Bool) (r q : Option Refusal) (x y : ℕ) → option_map rank r ≡ option_map rank q
+    → number_of minus x ≡ number_of other_minus y
+    → IsSameKind (map_answer (number_of minus) (unless_refused r x)) (map_answer (number_of other_minus) (unless_refused q y))
+same_kind minus other_minus None None x y h e = e
+same_kind minus other_minus (Some reason) (Some other) x y h e = cc h
+same_kind minus other_minus None (Some other) x y h e = absurd (cc h)
+same_kind minus other_minus (Some reason) None x y h e = absurd (cc h)
+
+-- the magnitude with its sign, and how many bytes were read
+abbrev counted_number : Bool → ℕ × ℕ → ℤ × ℕ
+counted_number minus found = (number_of minus found.0, found.1)
+
+-- two prefix answers, of which the first has a count that is less by `more`
+same_prefix_kind : (more taken other_taken : ℕ) (minus other_minus : Bool) (r q : Option Refusal) (x y : ℕ × ℕ) → option_map rank r ≡ option_map rank q
+    → number_of minus x.0 ≡ number_of other_minus y.0 → x.1 + taken + more ≡ y.1 + other_taken
+    → IsSameKind (with_more more (with_more taken (map_answer (counted_number minus) (unless_refused r x))))
+    (with_more other_taken (map_answer (counted_number other_minus) (unless_refused q y)))
+same_prefix_kind more taken other_taken minus other_minus None None x y h e c = λ i. (e i, c i)
+same_prefix_kind more taken other_taken minus other_minus (Some reason) (Some other) x y h e c = cc h
+same_prefix_kind more taken other_taken minus other_minus None (Some other) x y h e c = absurd (cc h)
+same_prefix_kind more taken other_taken minus other_minus (Some reason) None x y h e c = absurd (cc h)
+
+-- the reason to refuse a body behind its sign, and the number that is read there
+abbrev reason_at : Kind → Bool → Extent → Sign → Option Refusal
+reason_at k skip extent g = refusal decimal_table (class_of k) (bound_of k g.minus) (limit_of k) extent skip g.body
+
+-- how many bytes are read there
+abbrev read_at : Kind → Bool → Extent → Sign → ℕ
+read_at k skip extent g = seen (class_of k) extent skip (run_len decimal_table g.body)
+
+-- the number that they write
+abbrev number_at : Kind → Bool → Extent → Sign → ℕ
+number_at k skip extent g = value decimal_table (take (read_at k skip extent g) g.body)
+
+-- what the four tests are of two bodies that are refused for reasons of one kind, or not at all
+record IsAlike (k : Kind) (skip : Bool) (extent : Extent) (g h : Sign) : Type 0 where
+  bound : bound_of k g.minus ≡ bound_of k h.minus
+  is_empty : eqb (run_len decimal_table g.body) 0 ≡ eqb (run_len decimal_table h.body) 0
+  counts : counted skip (run_len decimal_table g.body) (zeros decimal_table g.body) ≡ counted skip (run_len decimal_table h.body) (zeros decimal_table h.body)
+  number : number_at k skip extent g ≡ number_at k skip extent h
+  followed : leaves_rest extent (run_len decimal_table g.body) (length g.body) ≡ leaves_rest extent (run_len decimal_table h.body) (length h.body)
+
+-- bodies that the tests do not tell apart are refused for reasons of one kind
+same_reason : (k : Kind) (skip : Bool) (extent : Extent) (g h : Sign) → IsAlike k skip extent g h
+    → option_map rank (reason_at k skip extent g) ≡ option_map rank (reason_at k skip extent h)
+same_reason k skip extent g h alike =
+    refusal-rank decimal_table (class_of k) (bound_of k g.minus) (limit_of k) extent skip g.body
+    ∙ (λ i. first_rank (alike.is_empty i) (is_too_long (class_of k) (limit_of k) (alike.counts i)) (ltb (alike.bound i) (alike.number i)) (alike.followed i) 0 1 2 (rank (invalid (class_of k) 0 0 [])))
+    ∙ sym (refusal-rank decimal_table (class_of k) (bound_of k h.minus) (limit_of k) extent skip h.body)
+
+-- what a call answers that goes by a sign
+abbrev prefix_at : Kind → Bool → Sign → Result (ℤ × ℕ) Refusal
+prefix_at k skip g = with_more g.taken (prefix_answer decimal_table k g.minus skip g.body)
+
+-- the same for a whole parse
+abbrev whole_at : Kind → Bool → Sign → Result ℤ Refusal
+whole_at k skip g = whole_answer decimal_table k g.minus skip g.body
+
+-- equal runs have equal lengths, zeros and values
+same_len : (s t : List ℕ) → run decimal_table s ≡ run decimal_table t → run_len decimal_table s ≡ run_len decimal_table t
+same_len s t e = sym (length-run decimal_table s) ∙ ap length e ∙ length-run decimal_table t
+
+-- and the same zeros
+same_zeros : (s t : List ℕ) → run decimal_table s ≡ run decimal_table t → zeros decimal_table s ≡ zeros decimal_table t
+same_zeros s t e = sym (zeros-run decimal_table s) ∙ ap (zeros decimal_table) e ∙ zeros-run decimal_table t
+
+-- and the same fronts within the run
+same_front : (n : ℕ) (s t : List ℕ) → run decimal_table s ≡ run decimal_table t → n ≤ run_len decimal_table s → take n s ≡ take n t
+same_front n s t e h =
+    let len = same_len s t e in
+    sym (take-take n (run_len decimal_table s) s h) ∙ ap (take n) e ∙ take-take n (run_len decimal_table t) t (omega arith)
+
+-- two bodies with equal runs, behind the same sign
+same_run : (k : Kind) (skip : Bool) (g h : Sign) → g.minus ≡ h.minus → g.taken ≡ h.taken → run decimal_table g.body ≡ run decimal_table h.body
+    → IsSameKind (with_more 0 (prefix_at k skip g)) (prefix_at k skip h)
+same_run k skip g h minus taken runs =
+    let len = same_len g.body h.body runs in
+    let leading = same_zeros g.body h.body runs in
+    let read : read_at k skip prefix g ≡ read_at k skip prefix h = ap (seen (class_of k) prefix skip) len in
+    let number : number_at k skip prefix g ≡ number_at k skip prefix h =
+    ap (value decimal_table) (same_front (read_at k skip prefix g) g.body h.body runs (seen-le (class_of k) skip (run_len decimal_table g.body))
+    ∙ ap (λ (n : ℕ). take n h.body) read)
+    in
+    same_prefix_kind 0 g.taken h.taken g.minus h.minus (reason_at k skip prefix g) (reason_at k skip prefix h)
+    (number_at k skip prefix g, read_at k skip prefix g) (number_at k skip prefix h, read_at k skip prefix h)
+    (same_reason k skip prefix g h (record {
+      bound = ap (bound_of k) minus;
+      is_empty = ap (λ (n : ℕ). eqb n 0) len;
+      counts = λ i. counted skip (len i) (leading i);
+      number = number;
+      followed = refl;
+    }))
+    (λ i. number_of (minus i) (number i)) (omega arith)
+
+-- the law: what stands behind a run changes nothing
+pub rest_changes_nothing : (k : Kind) → RestChangesNothing k
+rest_changes_nothing k form has skip s t same =
+    subst₂ (λ x y. IsSameKind x y) (with_more-zero (prefix_at k skip (sign_in k form s)) ∙ sym (prefix_call-is k form skip s)) (sym (prefix_call-is k form skip t))
+    (same_run k skip (sign_in k form s) (sign_in k form t) same.minus same.taken same.run)
+
+-- ---- zeros put before a body
+
+-- a body with that many zeros before it
+abbrev padded : ℕ → List ℕ → List ℕ
+padded count body = replicate count zero_byte ++ body
+
+-- its run is longer by the zeros
+run_len-padded : (count : ℕ) (body : List ℕ) → run_len decimal_table (padded count body) ≡ count + run_len decimal_table body
+run_len-padded count body = prefix_len-replicate_append (is_digit decimal_table) zero_byte refl count body
+
+-- it begins with as many zeros more
+zeros-padded : (count : ℕ) (body : List ℕ) → zeros decimal_table (padded count body) ≡ count + zeros decimal_table body
+zeros-padded count body = prefix_len-replicate_append (is_zero decimal_table) zero_byte refl count body
+
+-- it is longer by them
+length-padded : (count : ℕ) (body : List ℕ) → length (padded count body) ≡ count + length body
+length-padded count body = simp (length-append, length-replicate)
+
+-- a front of them is a front of the body behind the zeros
+take-padded : (count n : ℕ) (body : List ℕ) → take (count + n) (padded count body) ≡ padded count (take n body)
+take-padded count n body =
+    let len = length-replicate count zero_byte in
+    take-add count n (padded count body)
+    ∙ (λ i. take_at (replicate count zero_byte) body count len i ++ take n (drop_at (replicate count zero_byte) body count len i))
+
+-- where zeros are skipped, all digits are read
+seen_all : (class : Class) (extent : Extent) (digits : ℕ) → seen class extent true digits ≡ digits
+seen_all class whole digits = seen-whole class true digits
+seen_all class prefix digits = seen-skipping class digits
+
+-- its run writes the same number
+value-padded : (count : ℕ) (body : List ℕ) → value decimal_table (run decimal_table body) ≡ value decimal_table (run decimal_table (padded count body))
+value-padded count body =
+    let n = run_len decimal_table body in
+    sym (value-replicate decimal_table zero_byte refl count (take n body))
+    ∙ ap (value decimal_table) (sym (take-padded count n body))
+    ∙ ap (λ (m : ℕ). value decimal_table (take m (padded count body))) (sym (run_len-padded count body))
+
+-- where zeros are skipped, the number is that of the whole run
+number-all : (k : Kind) (extent : Extent) (g : Sign) → number_at k true extent g ≡ value decimal_table (run decimal_table g.body)
+number-all k extent g = ap (λ (m : ℕ). value decimal_table (take m g.body)) (seen_all (class_of k) extent (run_len decimal_table g.body))
+
+-- the number that is read stays
+number-padded : (k : Kind) (extent : Extent) (count : ℕ) (g : Sign)
+    → number_at k true extent g ≡ number_at k true extent (record { minus = g.minus; taken = g.taken; body = padded count g.body })
+number-padded k extent count g =
+    number-all k extent g ∙ value-padded count g.body
+    ∙ sym (number-all k extent (record { minus = g.minus; taken = g.taken; body = padded count g.body }))
+
+-- a test of two numbers stays where both grow alike
+eqb-add : (more m n : ℕ) → eqb m n ≡ eqb (more + m) (more + n)
+eqb-add more m n =
+    elim (cases_eq m n) [
+      | inl e ↦ eq-eqb m n e ∙ sym (eq-eqb (more + m) (more + n) (omega arith))
+      | inr ne ↦ ne_eqb m n ne ∙ sym (ne_eqb (more + m) (more + n) (λ e. ne (omega arith)))
+    ]
+
+-- a rest behind the digits stays
+followed-padded : (extent : Extent) (count : ℕ) (body : List ℕ)
+    → leaves_rest extent (run_len decimal_table body) (length body) ≡ leaves_rest extent (run_len decimal_table (padded count body)) (length (padded count body))
+followed-padded prefix count body = refl
+followed-padded whole count body =
+    ap not (eqb-add count (run_len decimal_table body) (length body))
+    ∙ rw (run_len-padded count body, length-padded count body) refl
+
+-- the tests do not tell a body from the same with zeros before it
+padded_alike : (k : Kind) (extent : Extent) (count : ℕ) (g : Sign) → 0 < run_len decimal_table g.body
+    → IsAlike k true extent g (record { minus = g.minus; taken = g.taken; body = padded count g.body })
+padded_alike k extent count g some =
+    let longer = run_len-padded count g.body in
+    let leading = zeros-padded count g.body in
+    record {
+      bound = refl;
+      is_empty = ne_eqb (run_len decimal_table g.body) 0 (omega arith) ∙ sym (ne_eqb (run_len decimal_table (padded count g.body)) 0 (omega arith));
+      counts = omega arith;
+      number = number-padded k extent count g;
+      followed = followed-padded extent count g.body;
+    }
+
+-- the sign is taken before the zeros too
+sign_of_padded : (k : Kind) (form : SignForm) (s : List ℕ) (count : ℕ) → 0 < run_len decimal_table (sign_in k form s).body
+    → sign_in k form (with_zeros k form count s)
+    ≡ record { minus = (sign_in k form s).minus; taken = (sign_in k form s).taken; body = padded count (sign_in k form s).body }
+sign_of_padded k form s count some =
+    let longer = run_len-padded count (sign_in k form s).body in
+    sign_again k form s (padded count (sign_in k form s).body) (omega arith)
+
+-- a whole parse and a prefix parse of the body with zeros before it, behind the same sign
+whole_padded : (k : Kind) (g : Sign) (count : ℕ) → 0 < run_len decimal_table g.body
+    → IsSameKind (whole_at k true g) (whole_at k true (record { minus = g.minus; taken = g.taken; body = padded count g.body }))
+whole_padded k g count some =
+    let h = record g { body = padded count g.body } in
+    same_kind g.minus g.minus (reason_at k true whole g) (reason_at k true whole h) (value decimal_table (run decimal_table g.body)) (value decimal_table (run decimal_table h.body))
+    (same_reason k true whole g h (padded_alike k whole count g some))
+    (ap (number_of g.minus) (value-padded count g.body))
+
+-- the same of a prefix parse, whose count grows by the zeros
+prefix_padded : (k : Kind) (g : Sign) (count : ℕ) → 0 < run_len decimal_table g.body
+    → IsSameKind (with_more count (prefix_at k true g)) (prefix_at k true (record { minus = g.minus; taken = g.taken; body = padded count g.body }))
+prefix_padded k g count some =
+    let h = record g { body = padded count g.body } in
+    let shorter = seen-skipping (class_of k) (run_len decimal_table g.body) in
+    let longer = seen-skipping (class_of k) (run_len decimal_table h.body) in
+    let more = run_len-padded count g.body in
+    same_prefix_kind count g.taken g.taken g.minus g.minus (reason_at k true prefix g) (reason_at k true prefix h)
+    (number_at k true prefix g, read_at k true prefix g) (number_at k true prefix h, read_at k true prefix h)
+    (same_reason k true prefix g h (padded_alike k prefix count g some))
+    (ap (number_of g.minus) (number-padded k prefix count g)) (omega arith)
+
+-- the law: zeros before a body change nothing
+pub zeros_change_nothing : (k : Kind) → ZerosChangeNothing k
+zeros_change_nothing k = record {
+  whole = λ form has s count some.
+      subst₂ (λ x y. IsSameKind x y) (sym (whole_call-is k form true s))
+      (ap (whole_at k true) (sym (sign_of_padded k form s count some)) ∙ sym (whole_call-is k form true (with_zeros k form count s)))
+      (whole_padded k (sign_in k form s) count some);
+  prefix = λ form has s count some.
+      subst₂ (λ x y. IsSameKind x y) (ap (with_more count) (sym (prefix_call-is k form true s)))
+      (ap (prefix_at k true) (sym (sign_of_padded k form s count some)) ∙ sym (prefix_call-is k form true (with_zeros k form count s)))
+      (prefix_padded k (sign_in k form s) count some);
+}

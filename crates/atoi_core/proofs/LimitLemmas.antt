@@ -1,0 +1,92 @@
+-- A number in range never has too many digits.
+use Rattle.std.proofs.Common.{◌≡◌, ◌⊎◌, ℕ, ◌+◌, ◌-◌, ◌^◌, ◌<◌, ◌≤◌, Bool, true, false, cond, List, refl, arith, inl, inr, lt_of_le_of_lt, le-ltb, ltb-false}
+use Rattle.std.proofs.Math.Nat.{pow-le-pow_right}
+use Rattle.std.proofs.lemmas.Bool.{cases_lt}
+use Rattle.atoi_core.specs.Digit.{Table}
+use Rattle.atoi_core.specs.Run.{run_len, run, zeros, value}
+use Rattle.atoi_core.specs.Magnitude.{Class, narrow, wide64, wide128, is_too_long, counted}
+use Rattle.atoi_core.specs.Kind.{Kind, IsSized, greatest_of, class_of, bound_of, limit_of}
+use Rattle.atoi_core.proofs.CutLemmas.{value-ge}
+
+-- no class finds a count within the limit too long
+pub short_enough : (class : Class) (limit count : ℕ) → count ≤ limit → is_too_long class limit count ≡ false
+short_enough narrow limit count h = refl
+short_enough wide64 limit count h = le-ltb limit count h
+short_enough wide128 limit count h = le-ltb limit count h
+
+-- a shorter count is not too long where a longer is not
+pub shorter : (class : Class) (limit count less : ℕ) → less ≤ count → is_too_long class limit count ≡ false → is_too_long class limit less ≡ false
+shorter narrow limit count less h e = refl
+shorter wide64 limit count less h e = le-ltb limit less (omega (arith, ltb-false limit count e))
+shorter wide128 limit count less h e = le-ltb limit less (omega (arith, ltb-false limit count e))
+
+-- the greatest magnitudes of 64 bits have 19 and 20 digits
+bound-64 : (signed minus : Bool) → (minus ≡ true → signed ≡ true) → cond minus (greatest_of 64 signed + 1) (greatest_of 64 signed) < 10 ^ cond signed 19 20
+bound-64 true true h = omega arith
+bound-64 true false h = omega arith
+bound-64 false true h = absurd (cc (h refl))
+bound-64 false false h = omega arith
+
+-- those of 128 bits have 39
+bound-128 : (signed minus : Bool) → (minus ≡ true → signed ≡ true) → cond minus (greatest_of 128 signed + 1) (greatest_of 128 signed) < 10 ^ 39
+bound-128 true true h = omega arith
+bound-128 true false h = omega arith
+bound-128 false true h = absurd (cc (h refl))
+bound-128 false false h = omega arith
+
+-- the greatest magnitude of a wide type has no more digits than its limit
+pub bound-limit : (k : Kind) → IsSized k → (minus : Bool) → (minus ≡ true → k.signed ≡ true)
+    → (class_of k ≡ narrow) ⊎ (bound_of k minus < 10 ^ limit_of k)
+bound-limit k sized minus h =
+    elim sized.bits [
+      | inl e ↦ inl (rw e refl)
+      | inr (inl e) ↦ inl (rw e refl)
+      | inr (inr (inl e)) ↦ inl (rw e refl)
+      | inr (inr (inr (inl e))) ↦ inr (rw (sized.greatest, e) (bound-64 k.signed minus h))
+      | inr (inr (inr (inr e))) ↦ inr (rw (sized.greatest, e) (bound-128 k.signed minus h))
+    ]
+
+-- no type has a magnitude of 64 digits
+below-64 : (bits : ℕ) (signed minus : Bool) → ((bits ≡ 8) ⊎ ((bits ≡ 16) ⊎ ((bits ≡ 32) ⊎ ((bits ≡ 64) ⊎ (bits ≡ 128)))))
+    → cond minus (greatest_of bits signed + 1) (greatest_of bits signed) < 10 ^ 64
+below-64 bits signed minus h =
+    elim h [
+      | inl e ↦ rw e (first 8 signed minus (omega arith) (omega arith))
+      | inr (inl e) ↦ rw e (first 16 signed minus (omega arith) (omega arith))
+      | inr (inr (inl e)) ↦ rw e (first 32 signed minus (omega arith) (omega arith))
+      | inr (inr (inr (inl e))) ↦ rw e (first 64 signed minus (omega arith) (omega arith))
+      | inr (inr (inr (inr e))) ↦ rw e (first 128 signed minus (omega arith) (omega arith))
+    ]
+  where
+    first : (bits : ℕ) (signed minus : Bool) → greatest_of bits true + 1 < 10 ^ 64 → greatest_of bits false + 1 < 10 ^ 64
+        → cond minus (greatest_of bits signed + 1) (greatest_of bits signed) < 10 ^ 64
+    first bits true true p q = p
+    first bits true false p q = omega arith
+    first bits false true p q = q
+    first bits false false p q = omega arith
+
+-- each magnitude has far fewer than 64 digits
+pub bound_below-64 : (k : Kind) → IsSized k → (minus : Bool) → bound_of k minus < 10 ^ 64
+bound_below-64 k sized minus = rw sized.greatest (below-64 k.bits k.signed minus sized.bits)
+
+-- digits that write a number below a power of ten have no more places behind their zeros
+pub places-le : (table : Table) (s : List ℕ) (limit : ℕ) → value table (run table s) < 10 ^ limit → run_len table s - zeros table s ≤ limit
+places-le table s limit h =
+    elim (cases_lt limit (run_len table s - zeros table s)) [
+      | inl more ↦
+          let p : 10 ^ limit ≤ 10 ^ (run_len table s - zeros table s - 1) =
+          pow-le-pow_right {n = 10} (omega arith) {i = limit} {j = run_len table s - zeros table s - 1} (omega arith)
+          in
+          absurd (omega (arith, value-ge table s (omega arith)))
+      | inr le ↦ le
+    ]
+
+-- where zeros are skipped, digits that write a number in range are not too many
+pub in_range_short : (table : Table) (k : Kind) → IsSized k → (minus : Bool) → (minus ≡ true → k.signed ≡ true) → (s : List ℕ)
+    → value table (run table s) ≤ bound_of k minus
+    → is_too_long (class_of k) (limit_of k) (counted true (run_len table s) (zeros table s)) ≡ false
+in_range_short table k sized minus h s le =
+    elim (bound-limit k sized minus h) [
+      | inl e ↦ rw e refl
+      | inr lt ↦ short_enough (class_of k) (limit_of k) _ (places-le table s (limit_of k) (lt_of_le_of_lt le lt))
+    ]

@@ -1,0 +1,121 @@
+-- The answers of the narrow class for a front, from the last window behind the zeros that are skipped.
+use Rattle.std.proofs.Common.{◌≡◌, ℕ, ◌+◌, ◌-◌, ◌*◌, ◌/◌, ◌^◌, ◌<◌, ◌≤◌, ◌==◌, ◌⊎◌, min, Bool, true, false, nat_lt, List, length, take, drop, Option, Some, None, Result, Ok, Err, refl, sym, ap, ◌∙◌, ne_eqb, lit<, inl, inr, arith, if◌then◌else◌}
+use Rattle.std.proofs.Math.Nat.{le-mul_of_pos_right, one-le-pow}
+use Rattle.std.proofs.lemmas.Bool.{cases_lt, eq-eqb, lt-ltb, le-ltb}
+use Rattle.atoi_core.specs.Digit.{Table}
+use Rattle.atoi_core.specs.Run.{run_len, run, zeros, value}
+use Rattle.atoi_core.specs.Refusal.{Refusal, empty, overflow}
+use Rattle.atoi_core.specs.Magnitude.{narrow, prefix, seen, dropped, refusal, unless_refused, prefix_magnitude}
+use Rattle.atoi_core.specs.declared.window.Window.{Window}
+use Rattle.atoi_core.proofs.WindowLemmas.{Reads, Shows}
+use Rattle.atoi_core.proofs.SkipLemmas.{Skipped}
+
+-- the reason to refuse n digits, of which those that are read write v
+unfoldable pub narrow_refusal : (bound : ℕ) (skip : Bool) (n z v : ℕ) → List ℕ → Option Refusal
+narrow_refusal bound skip n z v s =
+    if n == 0 then Some empty
+    else (if nat_lt bound v then Some (overflow (drop (dropped narrow prefix skip n z) s)) else None)
+
+-- the answer for a front, without the tests of the other classes
+unfoldable pub narrow_answer : Table → (bound : ℕ) → Bool → List ℕ → Result (ℕ × ℕ) Refusal
+narrow_answer t bound skip s =
+    let read = seen narrow prefix skip (run_len t s) in
+    unless_refused (narrow_refusal bound skip (run_len t s) (zeros t s) (value t (take read s)) s)
+    (value t (take read s), read)
+
+pub narrow_answer_is : (t : Table) (bound limit : ℕ) (skip : Bool) (s : List ℕ) →
+    prefix_magnitude t narrow bound limit skip s ≡ narrow_answer t bound skip s
+unfolding refusal narrow_refusal narrow_answer
+narrow_answer_is t bound limit skip s = refl
+
+-- no digit
+pub narrow_empty : (t : Table) (bound : ℕ) (skip : Bool) (s : List ℕ) (at before now : ℕ) (w : Window) →
+    Skipped t skip s at before now w → at + w.len ≡ 0 →
+    Err empty ≡ narrow_answer t bound skip s
+unfolding narrow_refusal narrow_answer
+narrow_empty t bound skip s at before now w so none =
+    let n : run_len t s ≡ 0 = omega (arith, so.run_is, so.shown.reads.ends (omega arith)) in
+    rw (eq-eqb (run_len t s) 0 n) refl
+
+-- how many zeros the slice of an overflow leaves out
+dropped_is : (t : Table) (skip : Bool) (s : List ℕ) (at before now : ℕ) (w : Window) →
+    Skipped t skip s at before now w → dropped narrow prefix skip (run_len t s) (zeros t s) ≡ at
+dropped_is t false s at before now w so = sym (so.off refl)
+dropped_is t true s at before now w so =
+    elim (cases_lt (zeros t s / 16) (run_len t s / 16)) [
+      | inl h ↦
+          rw (lt-ltb _ _ h)
+          (elim (so.place refl) [
+            | inr k ↦ sym k.0
+            | inl k ↦ sym (so.full refl (omega (arith, so.run_is, so.shown.len_is)))
+          ])
+      | inr h ↦
+          rw (le-ltb _ _ h)
+          (elim (so.place refl) [
+            | inr k ↦ absurd (omega (arith, k.1))
+            | inl k ↦ sym k
+          ])
+    ]
+
+-- where no zeros are skipped, the window is what is read
+unskipped_len : (t : Table) (s : List ℕ) (at before now : ℕ) (w : Window) → Skipped t false s at before now w →
+    w.len ≡ min (run_len t s) 16
+unskipped_len t s at before now w so = omega (arith, so.off refl, so.run_is, so.shown.len_is)
+
+unskipped_number : (t : Table) (s : List ℕ) (at before now : ℕ) (w : Window) → Skipped t false s at before now w →
+    w.number ≡ value t (take (min (run_len t s) 16) s)
+unskipped_number t s at before now w so =
+    so.shown.number_is
+    ∙ ap (λ (k : ℕ). value t (take k (drop at s))) (unskipped_len t s at before now w so)
+    ∙ ap (λ (k : ℕ). value t (take (min (run_len t s) 16) (drop k s))) (so.off refl)
+
+-- the window's number is no more than that of the digits that are read
+number_most : (t : Table) (skip : Bool) (s : List ℕ) (at before now : ℕ) (w : Window) →
+    Skipped t skip s at before now w → w.number ≤ value t (take (seen narrow prefix skip (run_len t s)) s)
+number_most t false s at before now w so = omega (arith, unskipped_number t s at before now w so)
+number_most t true s at before now w so =
+    elim (cases_lt w.len 16) [
+      | inl h ↦ omega (arith, so.value_is, so.shown.reads.value_is h)
+      | inr h ↦
+          let full : w.len ≡ 16 = omega (arith, so.shown.reads.within) in
+          let places : ℕ = run_len t (drop 16 (drop at s)) in
+          let more : w.number ≤ w.number * 10 ^ places =
+          le-mul_of_pos_right w.number (one-le-pow places 10 (lit< tt)) in
+          omega (arith, so.value_is, so.shown.joins full)
+    ]
+
+-- a number above the bound
+pub narrow_overflow : (t : Table) (bound : ℕ) (skip : Bool) (s : List ℕ) (at before now : ℕ) (w : Window) →
+    Skipped t skip s at before now w → 0 < at + w.len → bound < w.number →
+    Err (overflow (drop at s)) ≡ narrow_answer t bound skip s
+unfolding narrow_refusal narrow_answer
+narrow_overflow t bound skip s at before now w so some over =
+    let n : 0 < run_len t s = omega (arith, so.run_is, so.shown.reads.inside) in
+    let most : w.number ≤ value t (take (seen narrow prefix skip (run_len t s)) s) = number_most t skip s at before now w so in
+    rw (ne_eqb (run_len t s) 0 (omega arith), lt-ltb bound (value t (take (seen narrow prefix skip (run_len t s)) s)) (omega arith))
+    (rw (dropped_is t skip s at before now w so) refl)
+
+-- a number within the bound has too few digits to fill a window behind the zeros
+pub narrow_ok : (t : Table) (bound : ℕ) (skip : Bool) (s : List ℕ) (at before now : ℕ) (w : Window) →
+    Skipped t skip s at before now w → bound ≤ 4294967295 → 0 < at + w.len → w.number ≤ bound →
+    Ok (w.number, at + w.len) ≡ narrow_answer t bound skip s
+unfolding narrow_refusal narrow_answer
+narrow_ok t bound false s at before now w so high some within =
+    let n : 0 < run_len t s = omega (arith, so.run_is, so.shown.reads.inside) in
+    let v : w.number ≡ value t (take (min (run_len t s) 16) s) = unskipped_number t s at before now w so in
+    let l : at + w.len ≡ min (run_len t s) 16 = omega (arith, so.off refl, unskipped_len t s at before now w so) in
+    rw (ne_eqb (run_len t s) 0 (omega arith), le-ltb bound (value t (take (min (run_len t s) 16) s)) (omega arith))
+    (ap (λ (e : ℕ). Ok (e, at + w.len)) v ∙ ap (λ (e : ℕ). Ok (value t (take (min (run_len t s) 16) s), e)) l)
+narrow_ok t bound true s at before now w so high some within =
+    let n : 0 < run_len t s = omega (arith, so.run_is, so.shown.reads.inside) in
+    let short : w.len < 16 =
+    elim (cases_lt w.len 16) [
+      | inl h ↦ h
+      | inr h ↦
+          let least : 10 ^ 15 ≤ w.number = so.shown.least (omega (arith, so.shown.reads.within)) (lit< tt) (so.last refl) in
+          absurd (omega arith)
+    ] in
+    let v : w.number ≡ value t (run t s) = sym (so.value_is ∙ so.shown.reads.value_is short) in
+    let l : at + w.len ≡ run_len t s = omega (arith, so.run_is, so.shown.reads.ends short) in
+    rw (ne_eqb (run_len t s) 0 (omega arith), le-ltb bound (value t (run t s)) (omega arith))
+    (ap (λ (e : ℕ). Ok (e, at + w.len)) v ∙ ap (λ (e : ℕ). Ok (value t (run t s), e)) l)

@@ -1,0 +1,138 @@
+-- Where a body is refused, and why: the cases of `refusal`, each as a fact.
+use Rattle.std.proofs.Common.{◌≡◌, ℕ, ◌+◌, ◌-◌, ◌<◌, ◌≤◌, min, Bool, true, false, cond, eqb, ltb, List, [], length, take, drop, subst, Option, Some, None, option_map, refl, sym, ap, ◌∙◌, arith, ltb-false, le-ltb, ne_eqb}
+use Rattle.std.proofs.lemmas.Bool.{eqb-false}
+use Rattle.std.proofs.Math.Seq.{drop-length}
+use Rattle.atoi_core.specs.Digit.{Table}
+use Rattle.atoi_core.specs.Run.{run_len, zeros, value}
+use Rattle.atoi_core.specs.Refusal.{Refusal, empty, size, overflow, rank, input_of}
+use Rattle.atoi_core.specs.Magnitude.{Class, narrow, wide64, wide128, Extent, refusal, counted, seen, dropped, is_too_long, leaves_rest, cap, invalid}
+
+-- the first of four reasons whose test holds
+abbrev first_reason : (a b c d : Bool) → (p q r s : Refusal) → Option Refusal
+first_reason a b c d p q r s = cond a (Some p) (cond b (Some q) (cond c (Some r) (cond d (Some s) None)))
+
+-- there is no reason only where no test holds
+first_none : (a b c d : Bool) (p q r s : Refusal) → first_reason a b c d p q r s ≡ None
+    → (a ≡ false) × (b ≡ false) × (c ≡ false) × (d ≡ false)
+first_none true b c d p q r s h = absurd (cc h)
+first_none false true c d p q r s h = absurd (cc h)
+first_none false false true d p q r s h = absurd (cc h)
+first_none false false false true p q r s h = absurd (cc h)
+first_none false false false false p q r s h = (refl, refl, refl, refl)
+
+-- what holds of each reason holds of the first
+first_some : (P : Refusal → Type 0) (a b c d : Bool) (p q r s : Refusal) → P p → P q → P r → P s
+    → (reason : Refusal) → first_reason a b c d p q r s ≡ Some reason → P reason
+first_some P true b c d p q r s hp hq hr hs reason h = let e : p ≡ reason = cc h in subst P e hp
+first_some P false true c d p q r s hp hq hr hs reason h = let e : q ≡ reason = cc h in subst P e hq
+first_some P false false true d p q r s hp hq hr hs reason h = let e : r ≡ reason = cc h in subst P e hr
+first_some P false false false true p q r s hp hq hr hs reason h = let e : s ≡ reason = cc h in subst P e hs
+first_some P false false false false p q r s hp hq hr hs reason h = absurd (cc h)
+
+-- the same, by the places among the five
+abbrev pub first_rank : (a b c d : Bool) → (p q r s : ℕ) → Option ℕ
+first_rank a b c d p q r s = cond a (Some p) (cond b (Some q) (cond c (Some r) (cond d (Some s) None)))
+
+-- the rank of the first reason is the first rank
+first_map : (a b c d : Bool) (p q r s : Refusal)
+    → option_map rank (first_reason a b c d p q r s) ≡ first_rank a b c d (rank p) (rank q) (rank r) (rank s)
+first_map true b c d p q r s = refl
+first_map false true c d p q r s = refl
+first_map false false true d p q r s = refl
+first_map false false false true p q r s = refl
+first_map false false false false p q r s = refl
+
+-- nothing is to be refused of the body
+pub record IsAccepted (table : Table) (class : Class) (bound limit : ℕ) (extent : Extent) (skip : Bool) (body : List ℕ) : Type 0 where
+  pub some : 0 < run_len table body
+  pub short : is_too_long class limit (counted skip (run_len table body) (zeros table body)) ≡ false
+  pub in_range : value table (take (seen class extent skip (run_len table body)) body) ≤ bound
+  pub ends : leaves_rest extent (run_len table body) (length body) ≡ false
+
+-- the rank of `invalid` is that of its class
+rank-invalid : (class : Class) (number index : ℕ) (body : List ℕ) → rank (invalid class number index body) ≡ rank (invalid class 0 0 [])
+rank-invalid narrow number index body = refl
+rank-invalid wide64 number index body = refl
+rank-invalid wide128 number index body = refl
+
+-- the slice of `invalid` is the body
+input-invalid : (class : Class) (number index : ℕ) (body : List ℕ) → input_of (invalid class number index body) ≡ body
+input-invalid narrow number index body = refl
+input-invalid wide64 number index body = refl
+input-invalid wide128 number index body = refl
+
+module _ (table : Table) (class : Class) (bound limit : ℕ) (extent : Extent) (skip : Bool) (body : List ℕ) where
+  -- the four tests
+  abbrev pub is_empty : Bool
+  is_empty = eqb (run_len table body) 0
+
+  -- too many digits count
+  abbrev pub is_long : Bool
+  is_long = is_too_long class limit (counted skip (run_len table body) (zeros table body))
+
+  -- the value is above the bound
+  abbrev pub is_over : Bool
+  is_over = ltb bound (value table (take (seen class extent skip (run_len table body)) body))
+
+  -- bytes stand behind the digits of a whole slice
+  abbrev pub is_followed : Bool
+  is_followed = leaves_rest extent (run_len table body) (length body)
+
+  -- the reasons that they stand for
+  abbrev digits_left : ℕ
+  digits_left = run_len table body - counted skip (run_len table body) (zeros table body)
+
+  -- too many digits, with how many there are
+  abbrev too_long : Refusal
+  too_long = size (digits_left + min (counted skip (run_len table body) (zeros table body)) (cap class)) (drop digits_left body)
+
+  -- a value above the bound
+  abbrev over : Refusal
+  over = overflow (drop (dropped class extent skip (run_len table body) (zeros table body)) body)
+
+  -- a byte behind the digits
+  abbrev followed : Refusal
+  followed = invalid class (value table (take (seen class extent skip (run_len table body)) body)) (run_len table body) body
+
+  -- the refusal is the first reason whose test holds
+  refusal-is : refusal table class bound limit extent skip body
+      ≡ first_reason is_empty is_long is_over is_followed empty too_long over followed
+  unfolding refusal
+  refusal-is = refl
+
+  -- what is accepted is not refused
+  pub refusal-none : IsAccepted table class bound limit extent skip body → refusal table class bound limit extent skip body ≡ None
+  refusal-none h =
+      let e : is_empty ≡ false = ne_eqb (run_len table body) 0 (omega arith) in
+      let l : is_long ≡ false = h.short in
+      let o : is_over ≡ false = le-ltb bound (value table (take (seen class extent skip (run_len table body)) body)) h.in_range in
+      let f : is_followed ≡ false = h.ends in
+      refusal-is ∙ rw (e, l, o, f) refl
+
+  -- what is not refused is accepted
+  pub accepted : refusal table class bound limit extent skip body ≡ None → IsAccepted table class bound limit extent skip body
+  accepted h =
+      let tests = first_none is_empty is_long is_over is_followed empty too_long over followed (sym refusal-is ∙ h) in
+      record {
+        some = omega (arith, eqb-false (run_len table body) 0 tests.0);
+        short = tests.1;
+        in_range = ltb-false _ _ tests.2;
+        ends = tests.3;
+      }
+
+  -- the slice of a reason is the body, but for some bytes in front
+  pub refusal-input : (reason : Refusal) → refusal table class bound limit extent skip body ≡ Some reason
+      → (n : ℕ) × (input_of reason ≡ drop n body)
+  refusal-input reason h =
+      first_some (λ r. (n : ℕ) × (input_of r ≡ drop n body)) is_empty is_long is_over is_followed empty too_long over followed
+      (length body, sym (drop-length body)) (digits_left, refl)
+      (dropped class extent skip (run_len table body) (zeros table body), refl)
+      (0, input-invalid class _ _ body)
+      reason (sym refusal-is ∙ h)
+
+  -- the kind of a reason is told by the four tests
+  pub refusal-rank : option_map rank (refusal table class bound limit extent skip body)
+      ≡ first_rank is_empty is_long is_over is_followed 0 1 2 (rank (invalid class 0 0 []))
+  refusal-rank =
+      ap (option_map rank) refusal-is ∙ first_map is_empty is_long is_over is_followed empty too_long over followed
+      ∙ ap (first_rank is_empty is_long is_over is_followed 0 1 2) (rank-invalid class _ _ body)

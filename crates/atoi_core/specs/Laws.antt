@@ -1,0 +1,147 @@
+-- Laws of the answers. Each is a statement about the definitions alone, for every slice; nothing
+-- of how a parse works occurs in it.
+use Rattle.std.specs.Prelude.{◌≡◌, ◌⊎◌, ◌↔◌, ℕ, ◌+◌, ◌<◌, ◌≤◌, Bool, true, false, if◌then◌else◌, ⊤, IsFalse, List, ◌++◌, length, take, replicate, slice_index, ℤ, pos, neg_ℤ, ◌≤ℤ◌, Result, Ok, Err, IsOk}
+use Rattle.std.specs.Fmt.{signed_decimal}
+use Rattle.std.specs.declared.cmp.Ordering.TheVariants.{Equal}
+use Rattle.atoi_core.specs.Digit.{decimal_table, is_digit}
+use Rattle.atoi_core.specs.Run.{run_len, run, value}
+use Rattle.atoi_core.specs.Refusal.{Refusal, rank, input_of, refusal_cmp}
+use Rattle.atoi_core.specs.Kind.{Kind}
+use Rattle.atoi_core.specs.Sign.{Sign, sign_of, number_of}
+use Rattle.atoi_core.specs.Answer.{map_answer, whole_answer, prefix_answer, parse_answer, parse_prefix_answer}
+use Rattle.atoi_core.specs.Text.{IsText, is_minus}
+
+-- how a call comes by its sign: it looks for one at the front of its slice, for a plus only where
+-- that is asked for; or it looks for none, and the number is positive, or negative
+pub data SignForm : Type 0 where
+  looked_for : Bool → SignForm
+  positive : SignForm
+  negative : SignForm
+
+-- the calls that a type has: those for negative numbers only where it is signed
+abbrev pub HasForm : Kind → SignForm → Type 0
+HasForm k (looked_for plus) = ⊤
+HasForm k positive = ⊤
+HasForm k negative = k.signed ≡ true
+
+-- the sign that such a call goes by, and the body that it reads
+abbrev pub sign_in : Kind → SignForm → List ℕ → Sign
+sign_in k (looked_for plus) s = sign_of k.signed plus s
+sign_in k positive s = record { minus = false; taken = 0; body = s }
+sign_in k negative s = record { minus = true; taken = 0; body = s }
+
+-- what the whole parse of that form answers
+abbrev pub whole_call : Kind → SignForm → (skip : Bool) → List ℕ → Result ℤ Refusal
+whole_call k (looked_for plus) skip s = parse_answer k skip plus s
+whole_call k positive skip s = whole_answer decimal_table k false skip s
+whole_call k negative skip s = whole_answer decimal_table k true skip s
+
+-- what the parse of a prefix of that form answers
+abbrev pub prefix_call : Kind → SignForm → (skip : Bool) → List ℕ → Result (ℤ × ℕ) Refusal
+prefix_call k (looked_for plus) skip s = parse_prefix_answer k skip plus s
+prefix_call k positive skip s = prefix_answer decimal_table k false skip s
+prefix_call k negative skip s = prefix_answer decimal_table k true skip s
+
+-- the least number of a type: 0, or where it is signed one more below 0 than the greatest is above
+abbrev pub least_of : Kind → ℤ
+least_of k = if k.signed then neg_ℤ (pos (k.greatest + 1)) else pos 0
+
+-- where a prefix reads its whole run of digits: zeros are skipped, or the type has more than 32 bits
+abbrev pub ReadsWholeRun : Kind → Bool → Type 0
+ReadsWholeRun k skip = (skip ≡ true) ⊎ (32 < k.bits)
+
+-- t stands at the end of s
+abbrev pub IsSuffix : List ℕ → List ℕ → Type 0
+IsSuffix t s = (front : List ℕ) × (s ≡ front ++ t)
+
+-- two answers of one kind: equal values, or errors of one variant
+abbrev pub IsSameKind : {A : Type 0} → Result A Refusal → Result A Refusal → Type 0
+IsSameKind (Ok x) (Ok y) = x ≡ y
+IsSameKind (Err reason) (Err other) = rank reason ≡ rank other
+IsSameKind (Ok x) (Err other) = ⊥
+IsSameKind (Err reason) (Ok y) = ⊥
+
+-- a call of that form takes the same sign from both slices, or none from either, and the bodies
+-- begin with equal runs of digits
+pub record HaveSameRun (k : Kind) (form : SignForm) (s t : List ℕ) : Type 0 where
+  pub minus : (sign_in k form s).minus ≡ (sign_in k form t).minus
+  pub taken : (sign_in k form s).taken ≡ (sign_in k form t).taken
+  pub run : run decimal_table (sign_in k form s).body ≡ run decimal_table (sign_in k form t).body
+
+abbrev pub zero_byte : ℕ
+zero_byte = 48
+
+-- s with `count` zeros more before its body, behind the sign that the call takes
+abbrev pub with_zeros : Kind → SignForm → (count : ℕ) → List ℕ → List ℕ
+with_zeros k form count s =
+    let sign = sign_in k form s in
+    take sign.taken s ++ (replicate count zero_byte ++ sign.body)
+
+-- the same answer with a count that is greater by `more`
+abbrev pub with_more : ℕ → Result (ℤ × ℕ) Refusal → Result (ℤ × ℕ) Refusal
+with_more more answer = map_answer (λ (found : ℤ × ℕ). (found.0, found.1 + more)) answer
+
+-- the decimal text of every number of the type is parsed to that number, whatever the flags
+abbrev pub TextOfValue : Kind → Type 0
+TextOfValue k =
+    (skip plus : Bool) (x : ℤ) → least_of k ≤ℤ x → x ≤ℤ pos k.greatest
+    → parse_answer k skip plus (signed_decimal x) ≡ Ok x
+
+-- `parse` with both flags accepts exactly the texts of the type, and answers a text's number
+pub record AcceptedTexts (k : Kind) : Type 0 where
+  pub accepted : (s : List ℕ) → IsOk (parse_answer k true true s) ↔ IsText k s
+  pub number : (s : List ℕ) (text : IsText k s)
+      → parse_answer k true true s ≡ Ok (number_of (is_minus text.sign) (value decimal_table text.digits))
+
+-- a prefix that is read to the slice's end is a whole parse with the same value; and where a prefix
+-- reads its whole run of digits, the other way round
+pub record PrefixIsWhole (k : Kind) : Type 0 where
+  pub whole : (form : SignForm) → HasForm k form → (skip : Bool) (s : List ℕ) (v : ℤ)
+      → prefix_call k form skip s ≡ Ok (v, length s) → whole_call k form skip s ≡ Ok v
+  pub back : (form : SignForm) → HasForm k form → (skip : Bool) (s : List ℕ) (v : ℤ) → ReadsWholeRun k skip
+      → whole_call k form skip s ≡ Ok v → prefix_call k form skip s ≡ Ok (v, length s)
+
+-- a prefix ends within the slice, is not empty, and is answered alike where the slice ends with it
+abbrev pub PrefixOfCut : Kind → Type 0
+PrefixOfCut k =
+    (form : SignForm) → HasForm k form → (skip : Bool) (s : List ℕ) (v : ℤ) (count : ℕ)
+    → prefix_call k form skip s ≡ Ok (v, count)
+    → (1 ≤ count) × (count ≤ length s) × (prefix_call k form skip (take count s) ≡ Ok (v, count))
+
+-- a prefix that reads its whole run of digits stops at the slice's end, or at a byte that is no digit
+abbrev pub PrefixStopsAtRest : Kind → Type 0
+PrefixStopsAtRest k =
+    (form : SignForm) → HasForm k form → (skip : Bool) (s : List ℕ) (v : ℤ) (count : ℕ) → ReadsWholeRun k skip
+    → prefix_call k form skip s ≡ Ok (v, count)
+    → (count ≡ length s) ⊎ ((count < length s) × IsFalse (is_digit decimal_table (slice_index s count)))
+
+-- what stands behind the run of digits changes neither the kind of a prefix's answer, nor its value and count
+abbrev pub RestChangesNothing : Kind → Type 0
+RestChangesNothing k =
+    (form : SignForm) → HasForm k form → (skip : Bool) (s t : List ℕ) → HaveSameRun k form s t
+    → IsSameKind (prefix_call k form skip s) (prefix_call k form skip t)
+
+-- a whole parse that succeeds where zeros count succeeds with the same value where they are skipped
+abbrev pub SkippingAgrees : Kind → Type 0
+SkippingAgrees k =
+    (form : SignForm) → HasForm k form → (s : List ℕ) (v : ℤ)
+    → whole_call k form false s ≡ Ok v → whole_call k form true s ≡ Ok v
+
+-- the order of errors calls two equal exactly where they are; each slice in an error of an answer
+-- stands at the end of the slice that was parsed
+pub record OrderAndSuffix (k : Kind) : Type 0 where
+  pub order : (a b : Refusal) → (refusal_cmp a b ≡ Equal) ↔ (a ≡ b)
+  pub whole : (form : SignForm) → HasForm k form → (skip : Bool) (s : List ℕ) (reason : Refusal)
+      → whole_call k form skip s ≡ Err reason → IsSuffix (input_of reason) s
+  pub prefix : (form : SignForm) → HasForm k form → (skip : Bool) (s : List ℕ) (reason : Refusal)
+      → prefix_call k form skip s ≡ Err reason → IsSuffix (input_of reason) s
+
+-- where zeros are skipped and the body begins with a digit, more zeros before the body change
+-- neither an answer's kind nor its value, and a prefix's count grows by their number
+pub record ZerosChangeNothing (k : Kind) : Type 0 where
+  pub whole : (form : SignForm) → HasForm k form → (s : List ℕ) (count : ℕ)
+      → 0 < run_len decimal_table (sign_in k form s).body
+      → IsSameKind (whole_call k form true s) (whole_call k form true (with_zeros k form count s))
+  pub prefix : (form : SignForm) → HasForm k form → (s : List ℕ) (count : ℕ)
+      → 0 < run_len decimal_table (sign_in k form s).body
+      → IsSameKind (with_more count (prefix_call k form true s)) (prefix_call k form true (with_zeros k form count s))

@@ -1,0 +1,90 @@
+//! Numbers joined from the digits of two windows.
+//! It stands on `window`.
+ghost use Rattle.std.specs.Prelude.{◌≡◌, ◌+◌, ◌*◌, ◌^◌, ◌<◌, ◌≤◌, nat_lt, if◌then◌else◌};
+
+use crate::window::Window;
+
+/// The powers of ten, from the one with no zero to the one with 16.
+const POWERS: [u64; 17] = [
+    1,
+    10,
+    100,
+    1_000,
+    10_000,
+    100_000,
+    1_000_000,
+    10_000_000,
+    100_000_000,
+    1_000_000_000,
+    10_000_000_000,
+    100_000_000_000,
+    1_000_000_000_000,
+    10_000_000_000_000,
+    100_000_000_000_000,
+    1_000_000_000_000_000,
+    10_000_000_000_000_000,
+];
+
+/// The power of ten with 23 zeros.
+const TEN_TO_23: u128 = 100_000_000_000_000_000_000_000;
+
+/// The greatest number that `TEN_TO_23` can be multiplied by in 128 bits.
+const GREATEST_HIGH: u64 = 3_402_823_669_209_384;
+
+/// Ten to the power of a count of digits, at most 16.
+#[inline(always)]
+pub fn power_of_ten(digits: u32) -> u64
+    requires { digits ≤ 16 }
+    ensures { result ≡ 10 ^ digits }
+{
+    POWERS[digits as usize]
+}
+
+/// `high * power + low` where that is at most `bound`; else none.
+#[inline(always)]
+pub fn up_to_64(bound: u64, high: u64, power: u64, low: u64) -> Option<u64>
+    ensures { result ≡ (if nat_lt bound (high * power + low) then None else Some (high * power + low)) }
+{
+    let number = u128::from(high) * u128::from(power) + u128::from(low);
+    if number > u128::from(bound) {
+        None
+    } else {
+        Some(number as u64)
+    }
+}
+
+/// `high * 10^23 + low` where that is at most `bound`; else none.
+#[inline(always)]
+fn up_to_128(bound: u128, high: u64, low: u128) -> Option<u128>
+    ensures { result ≡ (if nat_lt bound (high * 10 ^ 23 + low) then None else Some (high * 10 ^ 23 + low)) }
+{
+    if high > GREATEST_HIGH {
+        return None;
+    }
+    let front = u128::from(high) * TEN_TO_23;
+    if front > bound || low > bound - front {
+        None
+    } else {
+        Some(front + low)
+    }
+}
+
+/// The number of the digits of two full windows and of `back` behind them, where that is at most
+/// `bound`; else none.
+#[inline(always)]
+pub fn joined_128(bound: u128, front: u64, middle: u64, back: Window) -> Option<u128>
+    requires bound_low { 10 ^ 38 ≤ bound }
+    requires front_high { front < 10 ^ 16 }
+    requires middle_high { middle < 10 ^ 16 }
+    requires back_short { back.len < 8 }
+    requires back_high { back.number < 10 ^ back.len }
+    ensures { let number = front * 10 ^ (16 + back.len) + (middle * 10 ^ back.len + back.number) in result ≡ (if nat_lt bound number then None else Some number) }
+{
+    let power = u128::from(power_of_ten(back.len));
+    let last = u128::from(back.number);
+    if back.len == 7 {
+        return up_to_128(bound, front, u128::from(middle) * power + last);
+    }
+    let high = u128::from(front) * u128::from(power_of_ten(16)) + u128::from(middle);
+    Some(high * power + last)
+}

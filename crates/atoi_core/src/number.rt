@@ -1,0 +1,508 @@
+//! The integer types that the parses answer.
+//! It stands on nothing: what a parse has to know of a type are the constants here.
+ghost use Rattle.std.specs.Prelude.{◌≡◌, ◌+◌, ◌≤◌, ◌<ℤ◌, ◌↔◌, ℕ, ℤ, pos, Bool, true, false, IsTrue, refl};
+ghost use Rattle.std.proofs.Common.{inl, inr};
+ghost use Rattle.atoi_core.specs.Kind.{IsSized, kind};
+ghost use Rattle.atoi_core.specs.Sign.{number_of};
+
+/// An integer type that a parse can answer.
+///
+/// A type of at most 32 `BITS` is parsed as a narrow one, the others as of 64 and of 128 bits.
+pub trait Number: Copy {
+    /// How many bits it has: 8, 16, 32, 64 or 128.
+    const BITS: u32;
+
+    ghost BITS: { ℕ };
+
+    /// Whether it has negative numbers.
+    const SIGNED: bool;
+
+    ghost SIGNED: { Bool };
+
+    /// Its greatest number: `2^BITS - 1`, or `2^(BITS - 1) - 1` where it is signed.
+    const GREATEST: u128;
+
+    ghost GREATEST: { ℕ };
+
+    /// The number that a value stands for.
+    ghost number: { Self → ℤ };
+
+    /// The value whose number is `value`, which is at most `GREATEST`.
+    fn from_pos(value: u128) -> Self
+        requires { value ≤ GREATEST }
+        ensures { number result ≡ pos value };
+
+    /// Whether the number is negative, and its magnitude.
+    fn parts(self) -> (bool, u128)
+        ensures number { number_of result.0 result.1 ≡ number self }
+        ensures negative { IsTrue result.0 ↔ (number self <ℤ pos 0) };
+
+    /// The constants fit one another.
+    ghost sized: { IsSized (kind BITS SIGNED GREATEST) };
+}
+
+/// An integer type with negative numbers.
+pub trait Signed: Number {
+    /// The magnitude of its least number: one more than `GREATEST`.
+    const LEAST_MAGNITUDE: u128;
+
+    ghost LEAST_MAGNITUDE: { ℕ };
+
+    /// The value whose number is minus `magnitude`, which is at most `LEAST_MAGNITUDE`.
+    fn from_neg(magnitude: u128) -> Self
+        requires { magnitude ≤ LEAST_MAGNITUDE }
+        ensures { Self.number result ≡ number_of true magnitude };
+
+    /// It has negative numbers.
+    ghost signed: { Self.SIGNED ≡ true };
+
+    /// Its least number lies one further from 0 than its greatest.
+    ghost least: { LEAST_MAGNITUDE ≡ Self.GREATEST + 1 };
+}
+
+impl Number for u8 {
+    const BITS: u32 = 8;
+
+    ghost BITS = { 8 };
+
+    const SIGNED: bool = false;
+
+    ghost SIGNED = { false };
+
+    const GREATEST: u128 = 255;
+
+    ghost GREATEST = { 255 };
+
+    ghost number = { λ x. pos x };
+
+    #[inline(always)]
+    fn from_pos(value: u128) -> u8 {
+        value as u8
+    }
+
+    #[inline(always)]
+    fn parts(self) -> (bool, u128) {
+        (false, u128::from(self))
+    }
+
+    ghost sized = { record { bits = inl refl; greatest = refl } };
+}
+
+impl Number for i8 {
+    const BITS: u32 = 8;
+
+    ghost BITS = { 8 };
+
+    const SIGNED: bool = true;
+
+    ghost SIGNED = { true };
+
+    const GREATEST: u128 = 127;
+
+    ghost GREATEST = { 127 };
+
+    ghost number = { λ x. x };
+
+    #[inline(always)]
+    fn from_pos(value: u128) -> i8 {
+        value as i8
+    }
+
+    #[inline(always)]
+    fn parts(self) -> (bool, u128) {
+        (self < 0, u128::from(self.unsigned_abs()))
+    }
+
+    ghost sized = { record { bits = inl refl; greatest = refl } };
+}
+
+impl Signed for i8 {
+    const LEAST_MAGNITUDE: u128 = 128;
+
+    ghost LEAST_MAGNITUDE = { 128 };
+
+    #[inline(always)]
+    fn from_neg(magnitude: u128) -> i8 {
+        -(magnitude as i64) as i8
+    }
+
+    ghost signed = { refl };
+
+    ghost least = { refl };
+}
+
+impl Number for u16 {
+    const BITS: u32 = 16;
+
+    ghost BITS = { 16 };
+
+    const SIGNED: bool = false;
+
+    ghost SIGNED = { false };
+
+    const GREATEST: u128 = 65535;
+
+    ghost GREATEST = { 65535 };
+
+    ghost number = { λ x. pos x };
+
+    #[inline(always)]
+    fn from_pos(value: u128) -> u16 {
+        value as u16
+    }
+
+    #[inline(always)]
+    fn parts(self) -> (bool, u128) {
+        (false, u128::from(self))
+    }
+
+    ghost sized = { record { bits = inr (inl refl); greatest = refl } };
+}
+
+impl Number for i16 {
+    const BITS: u32 = 16;
+
+    ghost BITS = { 16 };
+
+    const SIGNED: bool = true;
+
+    ghost SIGNED = { true };
+
+    const GREATEST: u128 = 32767;
+
+    ghost GREATEST = { 32767 };
+
+    ghost number = { λ x. x };
+
+    #[inline(always)]
+    fn from_pos(value: u128) -> i16 {
+        value as i16
+    }
+
+    #[inline(always)]
+    fn parts(self) -> (bool, u128) {
+        (self < 0, u128::from(self.unsigned_abs()))
+    }
+
+    ghost sized = { record { bits = inr (inl refl); greatest = refl } };
+}
+
+impl Signed for i16 {
+    const LEAST_MAGNITUDE: u128 = 32768;
+
+    ghost LEAST_MAGNITUDE = { 32768 };
+
+    #[inline(always)]
+    fn from_neg(magnitude: u128) -> i16 {
+        -(magnitude as i64) as i16
+    }
+
+    ghost signed = { refl };
+
+    ghost least = { refl };
+}
+
+impl Number for u32 {
+    const BITS: u32 = 32;
+
+    ghost BITS = { 32 };
+
+    const SIGNED: bool = false;
+
+    ghost SIGNED = { false };
+
+    const GREATEST: u128 = 4294967295;
+
+    ghost GREATEST = { 4294967295 };
+
+    ghost number = { λ x. pos x };
+
+    #[inline(always)]
+    fn from_pos(value: u128) -> u32 {
+        value as u32
+    }
+
+    #[inline(always)]
+    fn parts(self) -> (bool, u128) {
+        (false, u128::from(self))
+    }
+
+    ghost sized = { record { bits = inr (inr (inl refl)); greatest = refl } };
+}
+
+impl Number for i32 {
+    const BITS: u32 = 32;
+
+    ghost BITS = { 32 };
+
+    const SIGNED: bool = true;
+
+    ghost SIGNED = { true };
+
+    const GREATEST: u128 = 2147483647;
+
+    ghost GREATEST = { 2147483647 };
+
+    ghost number = { λ x. x };
+
+    #[inline(always)]
+    fn from_pos(value: u128) -> i32 {
+        value as i32
+    }
+
+    #[inline(always)]
+    fn parts(self) -> (bool, u128) {
+        (self < 0, u128::from(self.unsigned_abs()))
+    }
+
+    ghost sized = { record { bits = inr (inr (inl refl)); greatest = refl } };
+}
+
+impl Signed for i32 {
+    const LEAST_MAGNITUDE: u128 = 2147483648;
+
+    ghost LEAST_MAGNITUDE = { 2147483648 };
+
+    #[inline(always)]
+    fn from_neg(magnitude: u128) -> i32 {
+        -(magnitude as i64) as i32
+    }
+
+    ghost signed = { refl };
+
+    ghost least = { refl };
+}
+
+impl Number for u64 {
+    const BITS: u32 = 64;
+
+    ghost BITS = { 64 };
+
+    const SIGNED: bool = false;
+
+    ghost SIGNED = { false };
+
+    const GREATEST: u128 = 18446744073709551615;
+
+    ghost GREATEST = { 18446744073709551615 };
+
+    ghost number = { λ x. pos x };
+
+    #[inline(always)]
+    fn from_pos(value: u128) -> u64 {
+        value as u64
+    }
+
+    #[inline(always)]
+    fn parts(self) -> (bool, u128) {
+        (false, u128::from(self))
+    }
+
+    ghost sized = { record { bits = inr (inr (inr (inl refl))); greatest = refl } };
+}
+
+impl Number for i64 {
+    const BITS: u32 = 64;
+
+    ghost BITS = { 64 };
+
+    const SIGNED: bool = true;
+
+    ghost SIGNED = { true };
+
+    const GREATEST: u128 = 9223372036854775807;
+
+    ghost GREATEST = { 9223372036854775807 };
+
+    ghost number = { λ x. x };
+
+    #[inline(always)]
+    fn from_pos(value: u128) -> i64 {
+        value as i64
+    }
+
+    #[inline(always)]
+    fn parts(self) -> (bool, u128) {
+        (self < 0, u128::from(self.unsigned_abs()))
+    }
+
+    ghost sized = { record { bits = inr (inr (inr (inl refl))); greatest = refl } };
+}
+
+impl Signed for i64 {
+    const LEAST_MAGNITUDE: u128 = 9223372036854775808;
+
+    ghost LEAST_MAGNITUDE = { 9223372036854775808 };
+
+    #[inline(always)]
+    fn from_neg(magnitude: u128) -> i64 {
+        -(magnitude as i128) as i64
+    }
+
+    ghost signed = { refl };
+
+    ghost least = { refl };
+}
+
+impl Number for u128 {
+    const BITS: u32 = 128;
+
+    ghost BITS = { 128 };
+
+    const SIGNED: bool = false;
+
+    ghost SIGNED = { false };
+
+    const GREATEST: u128 = 340282366920938463463374607431768211455;
+
+    ghost GREATEST = { 340282366920938463463374607431768211455 };
+
+    ghost number = { λ x. pos x };
+
+    #[inline(always)]
+    fn from_pos(value: u128) -> u128 {
+        value
+    }
+
+    #[inline(always)]
+    fn parts(self) -> (bool, u128) {
+        (false, self)
+    }
+
+    ghost sized = { record { bits = inr (inr (inr (inr refl))); greatest = refl } };
+}
+
+impl Number for i128 {
+    const BITS: u32 = 128;
+
+    ghost BITS = { 128 };
+
+    const SIGNED: bool = true;
+
+    ghost SIGNED = { true };
+
+    const GREATEST: u128 = 170141183460469231731687303715884105727;
+
+    ghost GREATEST = { 170141183460469231731687303715884105727 };
+
+    ghost number = { λ x. x };
+
+    #[inline(always)]
+    fn from_pos(value: u128) -> i128 {
+        value as i128
+    }
+
+    #[inline(always)]
+    fn parts(self) -> (bool, u128) {
+        (self < 0, self.unsigned_abs())
+    }
+
+    ghost sized = { record { bits = inr (inr (inr (inr refl))); greatest = refl } };
+}
+
+impl Signed for i128 {
+    const LEAST_MAGNITUDE: u128 = 170141183460469231731687303715884105728;
+
+    ghost LEAST_MAGNITUDE = { 170141183460469231731687303715884105728 };
+
+    #[inline(always)]
+    fn from_neg(magnitude: u128) -> i128 {
+        if magnitude == Self::LEAST_MAGNITUDE {
+            i128::MIN
+        } else {
+            let positive = magnitude as i128;
+            -positive
+        }
+    }
+
+    ghost signed = { refl };
+
+    ghost least = { refl };
+}
+
+impl Number for usize {
+    const BITS: u32 = 64;
+
+    ghost BITS = { 64 };
+
+    const SIGNED: bool = false;
+
+    ghost SIGNED = { false };
+
+    const GREATEST: u128 = 18446744073709551615;
+
+    ghost GREATEST = { 18446744073709551615 };
+
+    ghost number = { λ x. pos x };
+
+    #[inline(always)]
+    fn from_pos(value: u128) -> usize {
+        value as usize
+    }
+
+    #[inline(always)]
+    fn parts(self) -> (bool, u128) {
+        (false, self as u128)
+    }
+
+    ghost sized = { record { bits = inr (inr (inr (inl refl))); greatest = refl } };
+}
+
+impl Number for isize {
+    const BITS: u32 = 64;
+
+    ghost BITS = { 64 };
+
+    const SIGNED: bool = true;
+
+    ghost SIGNED = { true };
+
+    const GREATEST: u128 = 9223372036854775807;
+
+    ghost GREATEST = { 9223372036854775807 };
+
+    ghost number = { λ x. x };
+
+    #[inline(always)]
+    fn from_pos(value: u128) -> isize {
+        value as isize
+    }
+
+    #[inline(always)]
+    fn parts(self) -> (bool, u128) {
+        (self < 0, self.unsigned_abs() as u128)
+    }
+
+    ghost sized = { record { bits = inr (inr (inr (inl refl))); greatest = refl } };
+}
+
+impl Signed for isize {
+    const LEAST_MAGNITUDE: u128 = 9223372036854775808;
+
+    ghost LEAST_MAGNITUDE = { 9223372036854775808 };
+
+    #[inline(always)]
+    fn from_neg(magnitude: u128) -> isize {
+        -(magnitude as i128) as isize
+    }
+
+    ghost signed = { refl };
+
+    ghost least = { refl };
+}
+
+#[cfg(test)]
+mod tests {
+    use super::*;
+
+    #[test]
+    fn the_ends_of_the_signed_types(rt: HostRuntime) {
+        assert_eq!(rt; i8::from_neg(128), -128);
+        assert_eq!(rt; i8::from_neg(128).parts(), (true, 128));
+        assert_eq!(rt; isize::from_neg(9223372036854775808), isize::MIN);
+        assert_eq!(rt; i128::from_neg(i128::LEAST_MAGNITUDE), i128::MIN);
+        assert_eq!(rt; i128::from_neg(1), -1);
+        assert_eq!(rt; i128::from_pos(i128::GREATEST), i128::MAX);
+        assert_eq!(rt; i128::from_neg(0).parts(), (false, 0));
+    }
+}

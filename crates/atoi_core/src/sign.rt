@@ -1,0 +1,57 @@
+//! The sign at the front of a slice, and its byte in the count of a prefix.
+//! It stands on `error` and on `number`.
+ghost use Rattle.std.specs.Prelude.{◌≡◌, ◌+◌, ◌<◌, ◌^◌, length};
+ghost use Rattle.std.specs.Result.{ForOk};
+ghost use Rattle.atoi_core.specs.Answer.{typed_prefix_answer, with_taken};
+ghost use Rattle.atoi_core.specs.Sign.{sign_of};
+
+use crate::error::AtoiSimdError;
+use crate::number::Number;
+
+/// Takes at most one sign from the front of `s`: a `+` where `skip_plus` holds, a `-` where `signed`
+/// does.
+///
+/// It answers whether a minus was taken, and the body that is left. One byte was taken exactly where
+/// the body is shorter than `s`.
+#[inline(always)]
+pub fn take_sign(signed: bool, skip_plus: bool, s: &[u8]) -> (bool, &[u8])
+    ensures minus { result.0 ≡ (sign_of signed skip_plus s.now).minus }
+    ensures body { result.1.now ≡ (sign_of signed skip_plus s.now).body }
+    ensures taken { length result.1.now + (sign_of signed skip_plus s.now).taken ≡ length s.now }
+{
+    match s {
+        [b'+', body @ ..] if skip_plus => (false, body),
+        [b'-', body @ ..] if signed => (true, body),
+        _ => (false, s),
+    }
+}
+
+/// The answer of a prefix of the body, with the bytes of the sign before it counted too.
+#[inline(always)]
+pub fn with_sign<'a, T: Number>(
+    taken: usize,
+    found: Result<(T, usize), AtoiSimdError<'a>>,
+) -> Result<(T, usize), AtoiSimdError<'a>>
+    requires { ForOk found (λ answer. answer.1 + taken < 2 ^ 64) }
+    ensures {
+        typed_prefix_answer T.number result
+        ≡ with_taken taken (typed_prefix_answer T.number found.entry)
+    }
+{
+    match found {
+        Ok((value, len)) => Ok((value, len + taken)),
+        Err(error) => Err(error),
+    }
+}
+
+#[cfg(test)]
+mod tests {
+    use super::*;
+
+    #[test]
+    fn at_most_one_sign_is_taken(rt: HostRuntime) {
+        assert_eq!(rt; take_sign(true, true, b"+-5"), (false, b"-5".as_slice()));
+        assert_eq!(rt; take_sign(false, true, b"-5"), (false, b"-5".as_slice()));
+        assert_eq!(rt; take_sign(true, false, b"+5"), (false, b"+5".as_slice()));
+    }
+}

@@ -1,0 +1,139 @@
+//! The parses of an integer type of 128 bits.
+//! It stands on the loops of `engine` and `wide`, and on `number`.
+ghost use Rattle.std.specs.Prelude.{◌≡◌, ◌+◌, ◌<◌, ◌≤◌, true, false, IfOk, IsTrue, length};
+ghost use Rattle.atoi_core.specs.Answer.{typed_answer, typed_prefix_answer, whole_answer, prefix_answer};
+ghost use Rattle.atoi_core.specs.Kind.{kind, class_of};
+ghost use Rattle.atoi_core.specs.Loads.{most_loads, least_loads};
+ghost use Rattle.atoi_core.specs.Magnitude.{wide128, HasDigits};
+
+use crate::engine::Engine;
+use crate::error::AtoiSimdError;
+use crate::number::{Number, Signed};
+use crate::steps::Steps;
+use crate::wide::whole_128;
+
+// The greatest number of the type.
+#[inline(always)]
+fn greatest_128<T: Number>() -> u128
+    requires { class_of (kind T.BITS T.SIGNED T.GREATEST) ≡ wide128 }
+    ensures value { result ≡ T.GREATEST }
+    ensures digits { HasDigits 39 result }
+{
+    T::GREATEST
+}
+
+// The magnitude of the least number of the type.
+#[inline(always)]
+fn least_128<T: Signed>() -> u128
+    requires { class_of (kind T.BITS T.SIGNED T.GREATEST) ≡ wide128 }
+    ensures value { result ≡ T.GREATEST + 1 }
+    ensures digits { HasDigits 39 result }
+{
+    T::LEAST_MAGNITUDE
+}
+
+/// Reads the whole of `s` as a number of a type of 128 bits.
+///
+/// # Errors
+///
+/// `Empty`, `Size`, `Overflow` and `Invalid128`, as of `whole_128` with the bound of the type.
+#[inline(always)]
+pub fn whole_128_pos<'a, E: Engine, T: Number>(
+    skip: bool,
+    s: &'a [u8],
+    steps: &mut Steps,
+) -> Result<T, AtoiSimdError<'a>>
+    requires { class_of (kind T.BITS T.SIGNED T.GREATEST) ≡ wide128 }
+    ensures answer {
+        typed_answer T.number result
+        ≡ whole_answer E.table (kind T.BITS T.SIGNED T.GREATEST) false skip s.now
+    }
+    ensures most { steps.new ≤ steps.old + most_loads E.table wide128 s.now }
+    ensures least { 0 < length s.now → steps.old < steps.new }
+    ensures least_skipping { IsTrue skip → steps.old + least_loads E.table s.now ≤ steps.new }
+{
+    match whole_128::<E>(greatest_128::<T>(), skip, s, steps) {
+        Ok(value) => Ok(T::from_pos(value)),
+        Err(error) => Err(error),
+    }
+}
+
+/// Reads the whole of `s` as the digits of a negative number of a type of 128 bits.
+///
+/// # Errors
+///
+/// `Empty`, `Size`, `Overflow` and `Invalid128`, as of `whole_128` with the bound of the type.
+#[inline(always)]
+pub fn whole_128_neg<'a, E: Engine, T: Signed>(
+    skip: bool,
+    s: &'a [u8],
+    steps: &mut Steps,
+) -> Result<T, AtoiSimdError<'a>>
+    requires { class_of (kind T.BITS T.SIGNED T.GREATEST) ≡ wide128 }
+    ensures answer {
+        typed_answer T.number result
+        ≡ whole_answer E.table (kind T.BITS T.SIGNED T.GREATEST) true skip s.now
+    }
+    ensures most { steps.new ≤ steps.old + most_loads E.table wide128 s.now }
+    ensures least { 0 < length s.now → steps.old < steps.new }
+    ensures least_skipping { IsTrue skip → steps.old + least_loads E.table s.now ≤ steps.new }
+{
+    match whole_128::<E>(least_128::<T>(), skip, s, steps) {
+        Ok(value) => Ok(T::from_neg(value)),
+        Err(error) => Err(error),
+    }
+}
+
+/// Reads a number of a type of 128 bits from the front of `s`, and tells its length in bytes.
+///
+/// # Errors
+///
+/// `Empty`, `Size` and `Overflow`, as of `Engine::prefix_128` with the bound of the type.
+#[inline(always)]
+pub fn prefix_128_pos<'a, E: Engine, T: Number>(
+    skip: bool,
+    s: &'a [u8],
+    steps: &mut Steps,
+) -> Result<(T, usize), AtoiSimdError<'a>>
+    requires { class_of (kind T.BITS T.SIGNED T.GREATEST) ≡ wide128 }
+    ensures answer {
+        typed_prefix_answer T.number result
+        ≡ prefix_answer E.table (kind T.BITS T.SIGNED T.GREATEST) false skip s.now
+    }
+    ensures within { IfOk result (λ found. found.1 ≤ length s.now) }
+    ensures most { steps.new ≤ steps.old + most_loads E.table wide128 s.now }
+    ensures least { 0 < length s.now → steps.old < steps.new }
+    ensures least_skipping { IsTrue skip → steps.old + least_loads E.table s.now ≤ steps.new }
+{
+    match E::prefix_128(greatest_128::<T>(), skip, s, steps) {
+        Ok((value, len)) => Ok((T::from_pos(value), len)),
+        Err(error) => Err(error),
+    }
+}
+
+/// Reads the digits of a negative number of a type of 128 bits from the front of `s`, and tells its length in bytes.
+///
+/// # Errors
+///
+/// `Empty`, `Size` and `Overflow`, as of `Engine::prefix_128` with the bound of the type.
+#[inline(always)]
+pub fn prefix_128_neg<'a, E: Engine, T: Signed>(
+    skip: bool,
+    s: &'a [u8],
+    steps: &mut Steps,
+) -> Result<(T, usize), AtoiSimdError<'a>>
+    requires { class_of (kind T.BITS T.SIGNED T.GREATEST) ≡ wide128 }
+    ensures answer {
+        typed_prefix_answer T.number result
+        ≡ prefix_answer E.table (kind T.BITS T.SIGNED T.GREATEST) true skip s.now
+    }
+    ensures within { IfOk result (λ found. found.1 ≤ length s.now) }
+    ensures most { steps.new ≤ steps.old + most_loads E.table wide128 s.now }
+    ensures least { 0 < length s.now → steps.old < steps.new }
+    ensures least_skipping { IsTrue skip → steps.old + least_loads E.table s.now ≤ steps.new }
+{
+    match E::prefix_128(least_128::<T>(), skip, s, steps) {
+        Ok((value, len)) => Ok((T::from_neg(value), len)),
+        Err(error) => Err(error),
+    }
+}

@@ -1,0 +1,14 @@
+-- What lanes tell as a window.
+use Rattle.std.specs.Prelude.{ℕ, ◌==◌, if◌then◌else◌, List}
+use Rattle.atoi_core.specs.Digit.{decimal_table}
+use Rattle.atoi_core.specs.Run.{run_len, run, zeros, value}
+use Rattle.atoi_core.specs.declared.window.Window.{Window}
+
+-- the run that the lanes begin with and its value, and the zeros, where the run has `size` digits
+abbrev pub lane_window : ℕ → List ℕ → Window
+lane_window size lanes =
+    record {
+      len = run_len decimal_table lanes;
+      zeroes = if run_len decimal_table lanes == size then zeros decimal_table lanes else 0;
+      number = value decimal_table (run decimal_table lanes);
+    }

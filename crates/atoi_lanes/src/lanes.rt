@@ -1,0 +1,97 @@
+//! The engine that reads a window into sixteen vector lanes at once.
+//! It stands on the four kernels and on `atoi_core`'s trait, window and steps.
+ghost use Rattle.std.specs.Prelude.{◌≡◌, ◌+◌};
+ghost use Rattle.std.proofs.Common.{arith};
+ghost use Rattle.std.proofs.lemmas.Bool.Decides.{nat_tests};
+ghost use Rattle.atoi_core.specs.Digit.{decimal_table};
+ghost use Rattle.atoi_core.specs.Window.{window_of};
+ghost use Rattle.atoi_lanes.specs.LaneWindow.{lane_window};
+
+use crate::kernels::{len_lanes, load_lanes, sum_lanes, zeroes_lanes};
+use atoi_core::{Engine, Steps, Window};
+use std::simd::prelude::*;
+
+/// The engine on vector lanes: its windows answer what those of every decimal engine do.
+pub struct Lanes;
+
+// What the lanes tell of a window of that many bytes.
+#[inline(always)]
+fn lane_window(lanes: u8x16, size: u32) -> Window
+    ensures { result ≡ lane_window size lanes }
+{
+    let len = len_lanes(lanes);
+    Window {
+        len,
+        zeroes: if len == size { zeroes_lanes(lanes) } else { 0 },
+        number: sum_lanes(lanes, len),
+    }
+}
+
+impl Engine for Lanes {
+    ghost table = { decimal_table };
+
+    /// The first 16 bytes, or all where there are fewer: how many digits they begin with, the number
+    /// that these write, and the zeros among them where all 16 are digits. Adds one step.
+    #[inline(always)]
+    fn window(s: &[u8], steps: &mut Steps) -> Window {
+        steps.tick();
+        lane_window(load_lanes(s), 16)
+    }
+
+    /// The same of the first 8 bytes. Adds one step.
+    #[inline(always)]
+    fn window_8(s: &[u8], steps: &mut Steps) -> Window {
+        steps.tick();
+        lane_window(load_lanes(&s[..s.len().min(8)]), 8)
+    }
+
+    ghost below_ten = { λ byte. Prim.grind (arith, nat_tests) };
+}
+
+#[cfg(test)]
+mod tests {
+    use super::*;
+
+    fn first_16(s: &[u8]) -> Window {
+        Lanes::window(s, &mut Steps::new())
+    }
+
+    fn first_8(s: &[u8]) -> Window {
+        Lanes::window_8(s, &mut Steps::new())
+    }
+
+    #[test]
+    fn the_neighbours_of_the_digits_are_no_digits(rt: HostRuntime) {
+        assert_eq!(rt; first_16(b"/0").len, 0);
+        assert_eq!(rt; first_16(b":0").len, 0);
+        let front = first_16(b"9\xFF9");
+        assert_eq!(rt; (front.len, front.number), (1, 9));
+    }
+
+    #[test]
+    fn a_full_window_tells_its_zeros(rt: HostRuntime) {
+        let nines = first_16(b"9999999999999999");
+        assert_eq!(rt;
+            (nines.len, nines.zeroes, nines.number),
+            (16, 0, 9_999_999_999_999_999)
+        );
+        let padded = first_16(b"0000000000000123");
+        assert_eq!(rt; (padded.len, padded.zeroes, padded.number), (16, 13, 123));
+    }
+
+    #[test]
+    fn a_window_that_is_not_full_tells_no_zeros(rt: HostRuntime) {
+        let cut = first_16(b"000000000000123\0");
+        assert_eq!(rt; (cut.len, cut.zeroes, cut.number), (15, 0, 123));
+        let short = first_16(b"123\0\0\0\0\0\0\0\0\0\0\0\0\0");
+        assert_eq!(rt; (short.len, short.zeroes, short.number), (3, 0, 123));
+    }
+
+    #[test]
+    fn eight_bytes(rt: HostRuntime) {
+        assert_eq!(rt; first_8(b"1\0\0\0\0\0\0\0").len, 1);
+        assert_eq!(rt; first_8(b"12\0\0\0\0\0\0").len, 2);
+        let full = first_8(b"12345678");
+        assert_eq!(rt; (full.len, full.zeroes, full.number), (8, 0, 12_345_678));
+    }
+}

@@ -1,0 +1,123 @@
+//! `ParseNeg` and its six types: the digits of a negative number, without a sign.
+//! It stands on the parses of `atoi_core` by class of type, over the crate's reader.
+ghost use Rattle.std.specs.Prelude.{◌≡◌, ◌≤◌, true, IfOk, length};
+ghost use Rattle.atoi_core.specs.Answer.{typed_answer, typed_prefix_answer, whole_answer, prefix_answer};
+ghost use Rattle.atoi_core.specs.Digit.{decimal_table};
+ghost use Rattle.atoi_core.specs.Kind.{kind};
+
+use crate::reader::Reader;
+use atoi_core::{
+    AtoiSimdError, Signed, Steps, narrow_prefix_neg, narrow_whole_neg, prefix_64_neg,
+    prefix_128_neg, whole_64_neg, whole_128_neg,
+};
+
+/// A type that the digits of a negative number are parsed to.
+///
+/// Mirrors `ParseNeg` of the Rust crate: it is implemented for the six signed types. An outside type that implements it proves
+/// the same answers.
+pub trait ParseNeg: Signed {
+    /// The whole of `s` as the magnitude of a negative number. Mirrors `ParseNeg::atoi_simd_parse_neg`.
+    fn atoi_simd_parse_neg(s: &[u8], skip_zeroes: bool) -> Result<Self, AtoiSimdError<'_>>
+        ensures answer { typed_answer Self.number result
+            ≡ whole_answer decimal_table (kind Self.BITS Self.SIGNED Self.GREATEST) true skip_zeroes s.now };
+
+    /// The magnitude of a negative number at the front of `s`, and its length in bytes. Mirrors
+    /// `ParseNeg::atoi_simd_parse_prefix_neg`.
+    fn atoi_simd_parse_prefix_neg(
+        s: &[u8],
+        skip_zeroes: bool,
+    ) -> Result<(Self, usize), AtoiSimdError<'_>>
+        ensures answer { typed_prefix_answer Self.number result
+            ≡ prefix_answer decimal_table (kind Self.BITS Self.SIGNED Self.GREATEST) true skip_zeroes s.now }
+        ensures within { IfOk result (λ found. found.1 ≤ length s.now) };
+}
+
+impl ParseNeg for i8 {
+    #[inline(always)]
+    fn atoi_simd_parse_neg(s: &[u8], skip_zeroes: bool) -> Result<i8, AtoiSimdError<'_>> {
+        narrow_whole_neg::<Reader, i8>(skip_zeroes, s, &mut Steps::new())
+    }
+
+    #[inline(always)]
+    fn atoi_simd_parse_prefix_neg(
+        s: &[u8],
+        skip_zeroes: bool,
+    ) -> Result<(i8, usize), AtoiSimdError<'_>> {
+        narrow_prefix_neg::<Reader, i8>(skip_zeroes, s, &mut Steps::new())
+    }
+}
+
+impl ParseNeg for i16 {
+    #[inline(always)]
+    fn atoi_simd_parse_neg(s: &[u8], skip_zeroes: bool) -> Result<i16, AtoiSimdError<'_>> {
+        narrow_whole_neg::<Reader, i16>(skip_zeroes, s, &mut Steps::new())
+    }
+
+    #[inline(always)]
+    fn atoi_simd_parse_prefix_neg(
+        s: &[u8],
+        skip_zeroes: bool,
+    ) -> Result<(i16, usize), AtoiSimdError<'_>> {
+        narrow_prefix_neg::<Reader, i16>(skip_zeroes, s, &mut Steps::new())
+    }
+}
+
+impl ParseNeg for i32 {
+    #[inline(always)]
+    fn atoi_simd_parse_neg(s: &[u8], skip_zeroes: bool) -> Result<i32, AtoiSimdError<'_>> {
+        narrow_whole_neg::<Reader, i32>(skip_zeroes, s, &mut Steps::new())
+    }
+
+    #[inline(always)]
+    fn atoi_simd_parse_prefix_neg(
+        s: &[u8],
+        skip_zeroes: bool,
+    ) -> Result<(i32, usize), AtoiSimdError<'_>> {
+        narrow_prefix_neg::<Reader, i32>(skip_zeroes, s, &mut Steps::new())
+    }
+}
+
+impl ParseNeg for isize {
+    #[inline(always)]
+    fn atoi_simd_parse_neg(s: &[u8], skip_zeroes: bool) -> Result<isize, AtoiSimdError<'_>> {
+        whole_64_neg::<Reader, isize>(skip_zeroes, s, &mut Steps::new())
+    }
+
+    #[inline(always)]
+    fn atoi_simd_parse_prefix_neg(
+        s: &[u8],
+        skip_zeroes: bool,
+    ) -> Result<(isize, usize), AtoiSimdError<'_>> {
+        prefix_64_neg::<Reader, isize>(skip_zeroes, s, &mut Steps::new())
+    }
+}
+
+impl ParseNeg for i64 {
+    #[inline(always)]
+    fn atoi_simd_parse_neg(s: &[u8], skip_zeroes: bool) -> Result<i64, AtoiSimdError<'_>> {
+        whole_64_neg::<Reader, i64>(skip_zeroes, s, &mut Steps::new())
+    }
+
+    #[inline(always)]
+    fn atoi_simd_parse_prefix_neg(
+        s: &[u8],
+        skip_zeroes: bool,
+    ) -> Result<(i64, usize), AtoiSimdError<'_>> {
+        prefix_64_neg::<Reader, i64>(skip_zeroes, s, &mut Steps::new())
+    }
+}
+
+impl ParseNeg for i128 {
+    #[inline(always)]
+    fn atoi_simd_parse_neg(s: &[u8], skip_zeroes: bool) -> Result<i128, AtoiSimdError<'_>> {
+        whole_128_neg::<Reader, i128>(skip_zeroes, s, &mut Steps::new())
+    }
+
+    #[inline(always)]
+    fn atoi_simd_parse_prefix_neg(
+        s: &[u8],
+        skip_zeroes: bool,
+    ) -> Result<(i128, usize), AtoiSimdError<'_>> {
+        prefix_128_neg::<Reader, i128>(skip_zeroes, s, &mut Steps::new())
+    }
+}

@@ -1,0 +1,371 @@
+//! `Parse` and its twelve types: a number with the sign that may stand before it.
+//! It stands on `ParsePos`, `ParseNeg` and the sign of `atoi_core`.
+ghost use Rattle.std.specs.Prelude.{◌≡◌, ◌≤◌, IfOk, length};
+ghost use Rattle.atoi_core.specs.Answer.{typed_answer, typed_prefix_answer, parse_answer, parse_prefix_answer};
+ghost use Rattle.atoi_core.specs.Kind.{kind};
+
+use crate::negative::ParseNeg;
+use crate::positive::ParsePos;
+use atoi_core::{AtoiSimdError, take_sign, with_sign};
+
+/// A type that a number with a sign before it is parsed to.
+///
+/// Mirrors `Parse` of the Rust crate: it is implemented for the twelve types, and for no others, since no other crate can
+/// name `ParsePos`.
+pub trait Parse: ParsePos {
+    /// The sign, and the rest of `s` as a whole. Mirrors `Parse::atoi_simd_parse`.
+    fn atoi_simd_parse(
+        s: &[u8],
+        skip_zeroes: bool,
+        skip_plus: bool,
+    ) -> Result<Self, AtoiSimdError<'_>>
+        ensures answer { typed_answer Self.number result
+            ≡ parse_answer (kind Self.BITS Self.SIGNED Self.GREATEST) skip_zeroes skip_plus s.now };
+
+    /// The sign, and the number at the front of the rest of `s`; the count is of the sign's byte too. Mirrors
+    /// `Parse::atoi_simd_parse_prefix`.
+    fn atoi_simd_parse_prefix(
+        s: &[u8],
+        skip_zeroes: bool,
+        skip_plus: bool,
+    ) -> Result<(Self, usize), AtoiSimdError<'_>>
+        ensures answer { typed_prefix_answer Self.number result
+            ≡ parse_prefix_answer (kind Self.BITS Self.SIGNED Self.GREATEST) skip_zeroes skip_plus s.now }
+        ensures within { IfOk result (λ found. found.1 ≤ length s.now) };
+}
+
+impl Parse for u8 {
+    #[inline(always)]
+    fn atoi_simd_parse(
+        s: &[u8],
+        skip_zeroes: bool,
+        skip_plus: bool,
+    ) -> Result<u8, AtoiSimdError<'_>> {
+        let (_, body) = take_sign(false, skip_plus, s);
+        u8::atoi_simd_parse_pos(body, skip_zeroes)
+    }
+
+    #[inline(always)]
+    fn atoi_simd_parse_prefix(
+        s: &[u8],
+        skip_zeroes: bool,
+        skip_plus: bool,
+    ) -> Result<(u8, usize), AtoiSimdError<'_>> {
+        let (_, body) = take_sign(false, skip_plus, s);
+        with_sign(
+            s.len() - body.len(),
+            u8::atoi_simd_parse_prefix_pos(body, skip_zeroes),
+        )
+    }
+}
+
+impl Parse for i8 {
+    #[inline(always)]
+    fn atoi_simd_parse(
+        s: &[u8],
+        skip_zeroes: bool,
+        skip_plus: bool,
+    ) -> Result<i8, AtoiSimdError<'_>> {
+        let (minus, body) = take_sign(true, skip_plus, s);
+        if minus {
+            i8::atoi_simd_parse_neg(body, skip_zeroes)
+        } else {
+            i8::atoi_simd_parse_pos(body, skip_zeroes)
+        }
+    }
+
+    #[inline(always)]
+    fn atoi_simd_parse_prefix(
+        s: &[u8],
+        skip_zeroes: bool,
+        skip_plus: bool,
+    ) -> Result<(i8, usize), AtoiSimdError<'_>> {
+        let (minus, body) = take_sign(true, skip_plus, s);
+        let found = if minus {
+            i8::atoi_simd_parse_prefix_neg(body, skip_zeroes)
+        } else {
+            i8::atoi_simd_parse_prefix_pos(body, skip_zeroes)
+        };
+        with_sign(s.len() - body.len(), found)
+    }
+}
+
+impl Parse for u16 {
+    #[inline(always)]
+    fn atoi_simd_parse(
+        s: &[u8],
+        skip_zeroes: bool,
+        skip_plus: bool,
+    ) -> Result<u16, AtoiSimdError<'_>> {
+        let (_, body) = take_sign(false, skip_plus, s);
+        u16::atoi_simd_parse_pos(body, skip_zeroes)
+    }
+
+    #[inline(always)]
+    fn atoi_simd_parse_prefix(
+        s: &[u8],
+        skip_zeroes: bool,
+        skip_plus: bool,
+    ) -> Result<(u16, usize), AtoiSimdError<'_>> {
+        let (_, body) = take_sign(false, skip_plus, s);
+        with_sign(
+            s.len() - body.len(),
+            u16::atoi_simd_parse_prefix_pos(body, skip_zeroes),
+        )
+    }
+}
+
+impl Parse for i16 {
+    #[inline(always)]
+    fn atoi_simd_parse(
+        s: &[u8],
+        skip_zeroes: bool,
+        skip_plus: bool,
+    ) -> Result<i16, AtoiSimdError<'_>> {
+        let (minus, body) = take_sign(true, skip_plus, s);
+        if minus {
+            i16::atoi_simd_parse_neg(body, skip_zeroes)
+        } else {
+            i16::atoi_simd_parse_pos(body, skip_zeroes)
+        }
+    }
+
+    #[inline(always)]
+    fn atoi_simd_parse_prefix(
+        s: &[u8],
+        skip_zeroes: bool,
+        skip_plus: bool,
+    ) -> Result<(i16, usize), AtoiSimdError<'_>> {
+        let (minus, body) = take_sign(true, skip_plus, s);
+        let found = if minus {
+            i16::atoi_simd_parse_prefix_neg(body, skip_zeroes)
+        } else {
+            i16::atoi_simd_parse_prefix_pos(body, skip_zeroes)
+        };
+        with_sign(s.len() - body.len(), found)
+    }
+}
+
+impl Parse for u32 {
+    #[inline(always)]
+    fn atoi_simd_parse(
+        s: &[u8],
+        skip_zeroes: bool,
+        skip_plus: bool,
+    ) -> Result<u32, AtoiSimdError<'_>> {
+        let (_, body) = take_sign(false, skip_plus, s);
+        u32::atoi_simd_parse_pos(body, skip_zeroes)
+    }
+
+    #[inline(always)]
+    fn atoi_simd_parse_prefix(
+        s: &[u8],
+        skip_zeroes: bool,
+        skip_plus: bool,
+    ) -> Result<(u32, usize), AtoiSimdError<'_>> {
+        let (_, body) = take_sign(false, skip_plus, s);
+        with_sign(
+            s.len() - body.len(),
+            u32::atoi_simd_parse_prefix_pos(body, skip_zeroes),
+        )
+    }
+}
+
+impl Parse for i32 {
+    #[inline(always)]
+    fn atoi_simd_parse(
+        s: &[u8],
+        skip_zeroes: bool,
+        skip_plus: bool,
+    ) -> Result<i32, AtoiSimdError<'_>> {
+        let (minus, body) = take_sign(true, skip_plus, s);
+        if minus {
+            i32::atoi_simd_parse_neg(body, skip_zeroes)
+        } else {
+            i32::atoi_simd_parse_pos(body, skip_zeroes)
+        }
+    }
+
+    #[inline(always)]
+    fn atoi_simd_parse_prefix(
+        s: &[u8],
+        skip_zeroes: bool,
+        skip_plus: bool,
+    ) -> Result<(i32, usize), AtoiSimdError<'_>> {
+        let (minus, body) = take_sign(true, skip_plus, s);
+        let found = if minus {
+            i32::atoi_simd_parse_prefix_neg(body, skip_zeroes)
+        } else {
+            i32::atoi_simd_parse_prefix_pos(body, skip_zeroes)
+        };
+        with_sign(s.len() - body.len(), found)
+    }
+}
+
+impl Parse for usize {
+    #[inline(always)]
+    fn atoi_simd_parse(
+        s: &[u8],
+        skip_zeroes: bool,
+        skip_plus: bool,
+    ) -> Result<usize, AtoiSimdError<'_>> {
+        let (_, body) = take_sign(false, skip_plus, s);
+        usize::atoi_simd_parse_pos(body, skip_zeroes)
+    }
+
+    #[inline(always)]
+    fn atoi_simd_parse_prefix(
+        s: &[u8],
+        skip_zeroes: bool,
+        skip_plus: bool,
+    ) -> Result<(usize, usize), AtoiSimdError<'_>> {
+        let (_, body) = take_sign(false, skip_plus, s);
+        with_sign(
+            s.len() - body.len(),
+            usize::atoi_simd_parse_prefix_pos(body, skip_zeroes),
+        )
+    }
+}
+
+impl Parse for isize {
+    #[inline(always)]
+    fn atoi_simd_parse(
+        s: &[u8],
+        skip_zeroes: bool,
+        skip_plus: bool,
+    ) -> Result<isize, AtoiSimdError<'_>> {
+        let (minus, body) = take_sign(true, skip_plus, s);
+        if minus {
+            isize::atoi_simd_parse_neg(body, skip_zeroes)
+        } else {
+            isize::atoi_simd_parse_pos(body, skip_zeroes)
+        }
+    }
+
+    #[inline(always)]
+    fn atoi_simd_parse_prefix(
+        s: &[u8],
+        skip_zeroes: bool,
+        skip_plus: bool,
+    ) -> Result<(isize, usize), AtoiSimdError<'_>> {
+        let (minus, body) = take_sign(true, skip_plus, s);
+        let found = if minus {
+            isize::atoi_simd_parse_prefix_neg(body, skip_zeroes)
+        } else {
+            isize::atoi_simd_parse_prefix_pos(body, skip_zeroes)
+        };
+        with_sign(s.len() - body.len(), found)
+    }
+}
+
+impl Parse for u64 {
+    #[inline(always)]
+    fn atoi_simd_parse(
+        s: &[u8],
+        skip_zeroes: bool,
+        skip_plus: bool,
+    ) -> Result<u64, AtoiSimdError<'_>> {
+        let (_, body) = take_sign(false, skip_plus, s);
+        u64::atoi_simd_parse_pos(body, skip_zeroes)
+    }
+
+    #[inline(always)]
+    fn atoi_simd_parse_prefix(
+        s: &[u8],
+        skip_zeroes: bool,
+        skip_plus: bool,
+    ) -> Result<(u64, usize), AtoiSimdError<'_>> {
+        let (_, body) = take_sign(false, skip_plus, s);
+        with_sign(
+            s.len() - body.len(),
+            u64::atoi_simd_parse_prefix_pos(body, skip_zeroes),
+        )
+    }
+}
+
+impl Parse for i64 {
+    #[inline(always)]
+    fn atoi_simd_parse(
+        s: &[u8],
+        skip_zeroes: bool,
+        skip_plus: bool,
+    ) -> Result<i64, AtoiSimdError<'_>> {
+        let (minus, body) = take_sign(true, skip_plus, s);
+        if minus {
+            i64::atoi_simd_parse_neg(body, skip_zeroes)
+        } else {
+            i64::atoi_simd_parse_pos(body, skip_zeroes)
+        }
+    }
+
+    #[inline(always)]
+    fn atoi_simd_parse_prefix(
+        s: &[u8],
+        skip_zeroes: bool,
+        skip_plus: bool,
+    ) -> Result<(i64, usize), AtoiSimdError<'_>> {
+        let (minus, body) = take_sign(true, skip_plus, s);
+        let found = if minus {
+            i64::atoi_simd_parse_prefix_neg(body, skip_zeroes)
+        } else {
+            i64::atoi_simd_parse_prefix_pos(body, skip_zeroes)
+        };
+        with_sign(s.len() - body.len(), found)
+    }
+}
+
+impl Parse for u128 {
+    #[inline(always)]
+    fn atoi_simd_parse(
+        s: &[u8],
+        skip_zeroes: bool,
+        skip_plus: bool,
+    ) -> Result<u128, AtoiSimdError<'_>> {
+        let (_, body) = take_sign(false, skip_plus, s);
+        u128::atoi_simd_parse_pos(body, skip_zeroes)
+    }
+
+    #[inline(always)]
+    fn atoi_simd_parse_prefix(
+        s: &[u8],
+        skip_zeroes: bool,
+        skip_plus: bool,
+    ) -> Result<(u128, usize), AtoiSimdError<'_>> {
+        let (_, body) = take_sign(false, skip_plus, s);
+        with_sign(
+            s.len() - body.len(),
+            u128::atoi_simd_parse_prefix_pos(body, skip_zeroes),
+        )
+    }
+}
+
+impl Parse for i128 {
+    #[inline(always)]
+    fn atoi_simd_parse(
+        s: &[u8],
+        skip_zeroes: bool,
+        skip_plus: bool,
+    ) -> Result<i128, AtoiSimdError<'_>> {
+        let (minus, body) = take_sign(true, skip_plus, s);
+        if minus {
+            i128::atoi_simd_parse_neg(body, skip_zeroes)
+        } else {
+            i128::atoi_simd_parse_pos(body, skip_zeroes)
+        }
+    }
+
+    #[inline(always)]
+    fn atoi_simd_parse_prefix(
+        s: &[u8],
+        skip_zeroes: bool,
+        skip_plus: bool,
+    ) -> Result<(i128, usize), AtoiSimdError<'_>> {
+        let (minus, body) = take_sign(true, skip_plus, s);
+        let found = if minus {
+            i128::atoi_simd_parse_prefix_neg(body, skip_zeroes)
+        } else {
+            i128::atoi_simd_parse_prefix_pos(body, skip_zeroes)
+        };
+        with_sign(s.len() - body.len(), found)
+    }
+}

@@ -1,0 +1,20 @@
+//! Decimal digits at the front of a byte slice, as integers of twelve types: exact, without allocation.
+//!
+//! The names and answers are those of the Rust crate `atoi_simd` 0.18.1 in its portable configuration. The parses read words of 64
+//! and 128 bits; the module `lanes` has the same functions with the same answers on `std::simd`.
+#![tactic(auto)]
+
+mod any_sign;
+mod functions;
+mod negative;
+mod positive;
+mod reader;
+
+pub use crate::any_sign::Parse;
+pub use crate::functions::{
+    parse, parse_any, parse_any_neg, parse_any_pos, parse_neg, parse_pos, parse_prefix,
+    parse_prefix_neg, parse_prefix_pos, parse_skipped,
+};
+pub use crate::negative::ParseNeg;
+pub use atoi_core::AtoiSimdError;
+pub use atoi_lanes as lanes;

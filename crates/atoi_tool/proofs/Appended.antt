@@ -1,0 +1,69 @@
+-- Appending one part after another.
+use Rattle.std.proofs.Common.{◌≡◌, ℕ, ◌+◌, List, [], ◌++◌, ◌≤◌, length, take, drop, Option, Some, None, refl, sym, ap, ◌∙◌, append_assoc, arith, length-append}
+use Rattle.std.proofs.lemmas.List.{append-nil, take-append-le}
+use Rattle.std.proofs.Math.Seq.{take-add, take-append-add}
+use Rattle.std.specs.Io.KnownBytes.{Appends, Keeps}
+use Rattle.atoi_tool.specs.Failures.{AppendsFront}
+
+-- nothing is appended where nothing changes
+pub Appends-nil : (held : Option (List ℕ)) → Appends held held []
+Appends-nil None = tt
+Appends-nil (Some xs) = sym (append-nil xs)
+
+-- two parts are appended one after the other
+pub Appends-append : (old mid new : Option (List ℕ)) (xs ys : List ℕ) → Appends old mid xs → Appends mid new ys → Appends old new (xs ++ ys)
+Appends-append None mid new xs ys first second = tt
+Appends-append (Some held) None new xs ys first second = absurd first
+Appends-append (Some held) (Some more) None xs ys first second = absurd second
+Appends-append (Some held) (Some more) (Some most) xs ys first second =
+    second ∙ (ap (λ front. front ++ ys) first ∙ append_assoc held xs ys)
+
+-- what stays was appended nothing
+pub Appends-keep : (old mid new : Option (List ℕ)) (xs : List ℕ) → Appends old mid xs → Keeps mid new → Appends old new xs
+Appends-keep None mid new xs first kept = tt
+Appends-keep (Some held) None new xs first kept = absurd first
+Appends-keep (Some held) (Some more) None xs first kept = absurd kept
+Appends-keep (Some held) (Some more) (Some most) xs first kept = kept ∙ first
+
+-- what was put so far is the front of the whole, and the rest is still to be put
+pub record IsPutUpTo (old new : Option (List ℕ)) (whole rest : List ℕ) : Type 0 where
+  pub front : List ℕ
+  pub parts : whole ≡ front ++ rest
+  pub put : Appends old new front
+
+-- at the start nothing is put
+pub IsPutUpTo-start : (held : Option (List ℕ)) (whole : List ℕ) → IsPutUpTo held held whole whole
+IsPutUpTo-start held whole = record { front = []; parts = refl; put = Appends-nil held }
+
+-- one more part is put
+pub IsPutUpTo-more : (old mid new : Option (List ℕ)) (whole part rest : List ℕ) → IsPutUpTo old mid whole (part ++ rest) → Appends mid new part → IsPutUpTo old new whole rest
+IsPutUpTo-more old mid new whole part rest before more = record {
+  front = before.front ++ part;
+  parts = before.parts ∙ sym (append_assoc before.front part rest);
+  put = Appends-append old mid new before.front part before.put more;
+}
+
+-- at the end all is put
+pub IsPutUpTo-end : (old new : Option (List ℕ)) (whole : List ℕ) → IsPutUpTo old new whole [] → Appends old new whole
+IsPutUpTo-end old new whole done = rw (done.parts, append-nil) done.put
+
+-- one more part is put in part
+pub IsPutUpTo-refused : (old mid new : Option (List ℕ)) (whole part rest : List ℕ) → IsPutUpTo old mid whole (part ++ rest) → AppendsFront mid new part → AppendsFront old new whole
+IsPutUpTo-refused old mid new whole part rest before refused =
+    let n = refused.0 in
+    let within : n ≤ length part = omega (arith, refused.1) in
+    let cut : take (length before.front + n) whole ≡ before.front ++ take n part =
+    ap (take (length before.front + n)) before.parts
+    ∙ (take-append-add before.front (part ++ rest) n
+    ∙ ap (λ (back : List ℕ). before.front ++ back) (take-append-le n part rest within)) in
+    let size : length whole ≡ length before.front + (length part + length rest) =
+    ap length before.parts ∙ simp length-append in (
+      length before.front + n,
+      omega (arith, refused.1),
+      rw cut (Appends-append old mid new before.front (take n part) before.put refused.2),
+    )
+
+-- a further part of the same bytes
+pub Appends-take : (old mid new : Option (List ℕ)) (n m : ℕ) (xs : List ℕ) → Appends old mid (take n xs) → Appends mid new (take m (drop n xs)) → Appends old new (take (n + m) xs)
+Appends-take old mid new n m xs first second =
+    rw (take-add n m xs) (Appends-append old mid new (take n xs) (take m (drop n xs)) first second)

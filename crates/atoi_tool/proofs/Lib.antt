@@ -1,0 +1,3 @@
+pub mod LinesLemmas
+pub mod Appended
+pub mod Rows

@@ -1,0 +1,12 @@
+-- How calls that may be refused are counted, and what a refusal leaves.
+use Rattle.std.specs.Prelude.{ℕ, ◌<◌, Option, Result, Ok, Err, List, length, take}
+use Rattle.std.specs.Io.KnownBytes.{Appends}
+
+-- how many failures a call's result stands for: an error is one, a success none
+abbrev pub failures_of : {A E : Type 0} → Result A E → ℕ
+failures_of (Ok value) = 0
+failures_of (Err error) = 1
+
+-- known bytes grow by a front of bs that is not all of it
+abbrev pub AppendsFront : Option (List ℕ) → Option (List ℕ) → List ℕ → Type 0
+AppendsFront old new bs = (n : ℕ) × (n < length bs) × Appends old new (take n bs)

@@ -1,0 +1,33 @@
+-- The output to an input.
+use Rattle.std.specs.Prelude.{Bool, ℕ, ◌==◌, List, [], ◌∷◌, ◌++◌, length, if◌then◌else◌}
+use Rattle.std.specs.List.{flat_map, list_all, slice_split}
+use Rattle.atoi_tool.specs.Answer.{is_good_line, line_answer}
+
+-- the byte that ends a line
+abbrev pub newline : ℕ
+newline = 10
+
+abbrev pub is_newline : ℕ → Bool
+is_newline byte = byte == newline
+
+-- the pieces, but for a last one that is empty
+abbrev pub without_empty_last : List (List ℕ) → List (List ℕ)
+without_empty_last [] = []
+without_empty_last (piece ∷ []) = if length piece == 0 then [] else piece ∷ []
+without_empty_last (piece ∷ next ∷ pieces) = piece ∷ without_empty_last (next ∷ pieces)
+
+-- the lines of an input: it is cut at each newline, and what stands behind the last counts where it isn't empty
+abbrev pub lines_of : List ℕ → List (List ℕ)
+lines_of input = without_empty_last (slice_split is_newline input)
+
+-- the answer to a line, ended by a newline
+abbrev pub line_output : List ℕ → List ℕ
+line_output line = line_answer line ++ newline ∷ []
+
+-- the answers to the lines in order
+abbrev pub output_of : List ℕ → List ℕ
+output_of input = flat_map line_output (lines_of input)
+
+-- no line is bad
+abbrev pub is_good_input : List ℕ → Bool
+is_good_input input = list_all is_good_line (lines_of input)

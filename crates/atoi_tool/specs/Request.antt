@@ -1,0 +1,74 @@
+-- What the words of a row name, and which rows there are.
+use Rattle.std.specs.Prelude.{Option, Some, None, Bool, true, false, List, ℕ, codes, if◌then◌else◌}
+use Rattle.std.specs.Str.{bytes_eq}
+use Rattle.atoi_core.specs.Kind.{Kind, kind}
+use Rattle.atoi_tool.specs.declared.request.Engine.{Engine}
+use Rattle.atoi_tool.specs.declared.request.Engine.TheVariants.{Words, Lanes}
+use Rattle.atoi_tool.specs.declared.request.Call.{Call}
+use Rattle.atoi_tool.specs.declared.request.Call.TheVariants.{Parse, Pos, Neg, Prefix, PrefixPos, PrefixNeg}
+use Rattle.atoi_tool.specs.declared.request.Integer.{Integer}
+use Rattle.atoi_tool.specs.declared.request.Integer.TheVariants.{U8, I8, U16, I16, U32, I32, U64, I64, U128, I128, Usize, Isize}
+use Rattle.atoi_tool.specs.declared.request.Flags.{Flags}
+use Rattle.atoi_tool.specs.declared.request.Request.{Request}
+
+-- the engine of a word
+abbrev pub engine_of : List ℕ → Option Engine
+engine_of word =
+    if bytes_eq word (codes "w") then Some Words else (if bytes_eq word (codes "l") then Some Lanes
+    else None)
+
+-- the call of a word
+abbrev pub call_of : List ℕ → Option Call
+call_of word =
+    if bytes_eq word (codes "parse") then Some Parse else (if bytes_eq word (codes "pos") then Some Pos
+    else (if bytes_eq word (codes "neg") then Some Neg else (if bytes_eq word (codes "prefix") then Some Prefix
+    else (if bytes_eq word (codes "prefix_pos") then Some PrefixPos
+    else (if bytes_eq word (codes "prefix_neg") then Some PrefixNeg else None)))))
+
+-- the integer type of a word
+abbrev pub integer_of : List ℕ → Option Integer
+integer_of word =
+    if bytes_eq word (codes "u8") then Some U8 else (if bytes_eq word (codes "i8") then Some I8
+    else (if bytes_eq word (codes "u16") then Some U16 else (if bytes_eq word (codes "i16") then Some I16
+    else (if bytes_eq word (codes "u32") then Some U32 else (if bytes_eq word (codes "i32") then Some I32
+    else (if bytes_eq word (codes "u64") then Some U64 else (if bytes_eq word (codes "i64") then Some I64
+    else (if bytes_eq word (codes "u128") then Some U128 else (if bytes_eq word (codes "i128") then Some I128
+    else (if bytes_eq word (codes "usize") then Some Usize
+    else (if bytes_eq word (codes "isize") then Some Isize else None)))))))))))
+
+abbrev flags : Bool → Bool → Flags
+flags zeroes plus = record { zeroes = zeroes; plus = plus }
+
+-- the flags of a word: `z` for zeros and `p` for a plus, each a `-` where it is off
+abbrev pub flags_of : List ℕ → Option Flags
+flags_of word =
+    if bytes_eq word (codes "--") then Some (flags false false)
+    else (if bytes_eq word (codes "z-") then Some (flags true false)
+    else (if bytes_eq word (codes "-p") then Some (flags false true)
+    else (if bytes_eq word (codes "zp") then Some (flags true true) else None)))
+
+-- what a parse has to know of a type
+abbrev pub kind_of : Integer → Kind
+kind_of U8 = kind 8 false 255
+kind_of I8 = kind 8 true 127
+kind_of U16 = kind 16 false 65535
+kind_of I16 = kind 16 true 32767
+kind_of U32 = kind 32 false 4294967295
+kind_of I32 = kind 32 true 2147483647
+kind_of U64 = kind 64 false 18446744073709551615
+kind_of I64 = kind 64 true 9223372036854775807
+kind_of U128 = kind 128 false 340282366920938463463374607431768211455
+kind_of I128 = kind 128 true 170141183460469231731687303715884105727
+kind_of Usize = kind 64 false 18446744073709551615
+kind_of Isize = kind 64 true 9223372036854775807
+
+-- the engines, calls and types that are asked for together
+abbrev pub is_asked : Engine → Call → Integer → Bool
+is_asked Words Pos U8 = true
+is_asked Words Pos I8 = true
+is_asked Words Neg I8 = true
+is_asked engine call integer = false
+
+-- there is an answer to such a row: no call that looks for a plus is asked for
+abbrev pub is_known : Request → Bool
+is_known request = if request.flags.plus then false else is_asked request.engine request.call request.integer

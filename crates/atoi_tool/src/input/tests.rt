@@ -1,0 +1,70 @@
+//! Tests of reading all of an input, and of readers that fail.
+
+use super::read_all;
+use crate::source::FromReader;
+use crate::status::{ToolError, status};
+use std::io;
+use std::io::{ErrorKind, Read};
+use std::test::Fail;
+
+// A reader of `rest`, `part` bytes a call, whose call of the number `failing` fails with `error`.
+#[derive(Drop)]
+struct Failing<'a> {
+    rest: &'a [u8],
+    part: usize,
+    failing: usize,
+    error: ErrorKind,
+}
+
+impl Read for Failing<'_> {
+    fn read(&mut self, space: &mut [u8]) -> io::Result<usize> {
+        if self.failing == 1 {
+            self.failing = 0;
+            return Err(io::Error::from(self.error));
+        }
+        self.failing = self.failing.saturating_sub(1);
+        let count = self.part.min(self.rest.len()).min(space.len());
+        space[..count].copy_from_slice(&self.rest[..count]);
+        self.rest = &self.rest[count..];
+        Ok(count)
+    }
+}
+
+#[test]
+fn reads_to_the_end(rt: HostRuntime) -> Result<(), Fail> {
+    let input = vec![in rt.alloc(); b'7'; 10_000]?;
+    for part in [1, 4095, 4096, 4097] {
+        let mut source = FromReader::new(Failing {
+            rest: &input,
+            part,
+            failing: 0,
+            error: ErrorKind::Other,
+        });
+        let bytes = read_all(rt.alloc(), &mut source)?;
+        assert_eq!(rt; bytes.as_slice(), input.as_slice());
+        assert!(rt; source.into_inner().rest.is_empty());
+    }
+    Ok(())
+}
+
+#[test]
+fn tells_a_refused_read(rt: HostRuntime) -> Result<(), Fail> {
+    for failing in 1..=3 {
+        for error in [ErrorKind::Other, ErrorKind::Interrupted] {
+            let mut source = FromReader::new(Failing {
+                rest: b"ab",
+                part: 1,
+                failing,
+                error,
+            });
+            match read_all(rt.alloc(), &mut source) {
+                Ok(_) => assert!(rt; false),
+                Err(error) => {
+                    assert_eq!(rt; error, ToolError::Read);
+                    assert_eq!(rt; status(&Err(error)), 4);
+                }
+            }
+        }
+    }
+    Ok(())
+}

@@ -1,0 +1,10 @@
+//! The place of a byte in a slice. It stands on nothing.
+ghost use Rattle.std.specs.Prelude.{◌≡◌, ◌<◌, ◌==◌, IfSome, length, position};
+
+/// The place of the first `sought` among `bytes`, if there is one.
+pub fn place_of(sought: u8, bytes: &[u8]) -> Option<usize>
+    ensures first { result ≡ position (λ byte. byte == sought) bytes.now }
+    ensures within { IfSome result (λ place. place < length bytes.now) }
+{
+    bytes.iter().position(|byte| *byte == sought)
+}

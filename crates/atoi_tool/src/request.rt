@@ -1,0 +1,140 @@
+//! What a row asks for, but for its text, and the words that say it.
+//! It stands on nothing.
+ghost use Rattle.std.specs.Prelude.{◌≡◌};
+ghost use Rattle.atoi_tool.specs.Request.{engine_of, call_of, integer_of, flags_of, is_known};
+
+/// Which library parses.
+#[derive(Clone, Copy, Debug, PartialEq, Eq)]
+pub enum Engine {
+    /// `w`: on words.
+    Words,
+    /// `l`: on lanes.
+    Lanes,
+}
+
+/// Which function parses.
+#[derive(Clone, Copy, Debug, PartialEq, Eq)]
+pub enum Call {
+    /// `parse`: a sign and a whole text.
+    Parse,
+    /// `pos`: a whole text with no sign.
+    Pos,
+    /// `neg`: a whole text with no sign, read as a negative number.
+    Neg,
+    /// `prefix`: a sign and the number at the front.
+    Prefix,
+    /// `prefix_pos`: the number at the front, with no sign.
+    PrefixPos,
+    /// `prefix_neg`: the number at the front, with no sign, read as a negative number.
+    PrefixNeg,
+}
+
+/// Into which type.
+#[derive(Clone, Copy, Debug, PartialEq, Eq)]
+pub enum Integer {
+    U8,
+    I8,
+    U16,
+    I16,
+    U32,
+    I32,
+    U64,
+    I64,
+    U128,
+    I128,
+    Usize,
+    Isize,
+}
+
+/// What is skipped at the front of a text.
+#[derive(Clone, Copy, Debug, PartialEq, Eq)]
+pub struct Flags {
+    /// Leading zeros do not count as digits of the number.
+    pub zeroes: bool,
+    /// A plus is taken.
+    pub plus: bool,
+}
+
+/// The engine that a word names.
+pub fn engine_of(word: &[u8]) -> Option<Engine>
+    ensures { result ≡ engine_of word.now }
+{
+    match word {
+        b"w" => Some(Engine::Words),
+        b"l" => Some(Engine::Lanes),
+        _ => None,
+    }
+}
+
+/// The call that a word names.
+pub fn call_of(word: &[u8]) -> Option<Call>
+    ensures { result ≡ call_of word.now }
+{
+    match word {
+        b"parse" => Some(Call::Parse),
+        b"pos" => Some(Call::Pos),
+        b"neg" => Some(Call::Neg),
+        b"prefix" => Some(Call::Prefix),
+        b"prefix_pos" => Some(Call::PrefixPos),
+        b"prefix_neg" => Some(Call::PrefixNeg),
+        _ => None,
+    }
+}
+
+/// The integer type that a word names.
+pub fn integer_of(word: &[u8]) -> Option<Integer>
+    ensures { result ≡ integer_of word.now }
+{
+    match word {
+        b"u8" => Some(Integer::U8),
+        b"i8" => Some(Integer::I8),
+        b"u16" => Some(Integer::U16),
+        b"i16" => Some(Integer::I16),
+        b"u32" => Some(Integer::U32),
+        b"i32" => Some(Integer::I32),
+        b"u64" => Some(Integer::U64),
+        b"i64" => Some(Integer::I64),
+        b"u128" => Some(Integer::U128),
+        b"i128" => Some(Integer::I128),
+        b"usize" => Some(Integer::Usize),
+        b"isize" => Some(Integer::Isize),
+        _ => None,
+    }
+}
+
+/// The flags that a word names: `z` for zeros and `p` for a plus, each a `-` where it is off.
+pub fn flags_of(word: &[u8]) -> Option<Flags>
+    ensures { result ≡ flags_of word.now }
+{
+    let (zeroes, plus) = match word {
+        b"--" => (false, false),
+        b"z-" => (true, false),
+        b"-p" => (false, true),
+        b"zp" => (true, true),
+        _ => return None,
+    };
+    Some(Flags { zeroes, plus })
+}
+
+/// What a row asks for, but for its text.
+#[derive(Clone, Copy, Debug, PartialEq, Eq)]
+pub struct Request {
+    pub engine: Engine,
+    pub call: Call,
+    pub integer: Integer,
+    pub flags: Flags,
+}
+
+impl Request {
+    /// Whether there is an answer to such a row.
+    pub fn is_known(&self) -> bool
+        ensures { result ≡ is_known self.now }
+    {
+        let is_asked = matches!(
+            (self.engine, self.call, self.integer),
+            (Engine::Words, Call::Pos, Integer::U8 | Integer::I8)
+                | (Engine::Words, Call::Neg, Integer::I8)
+        );
+        is_asked && !self.flags.plus
+    }
+}
