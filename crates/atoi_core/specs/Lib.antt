@@ -1,5 +1,6 @@
 pub mod Digit
 pub mod Run
+pub mod ClosedValue
 pub mod Refusal
 pub mod ErrorText
 pub mod Magnitude

@@ -12,7 +12,16 @@ use crate::join::{joined_128, power_of_ten, up_to_64};
 use crate::steps::Steps;
 use crate::window::Window;
 
+#[cfg(test)]
+pub(crate) mod alphabets;
+#[cfg(test)]
+mod tests;
+
 /// What reads windows of a slice.
+///
+/// An engine says what each byte is worth as a digit, and reads the digits at the front of 8 or of
+/// 16 bytes. All parses stand on these two functions. An engine may override the two others under
+/// the same clauses.
 pub trait Engine {
     /// What each byte is worth as a digit. No code can read it.
     ghost table: { Table };
@@ -28,6 +37,20 @@ pub trait Engine {
         ensures one_step { steps.new ≡ steps.old + 1 };
 
     /// The number at the front of `s`, and how many bytes it has, for an integer of 64 bits.
+    ///
+    /// `bound` is the greatest number, and has exactly `limit` digits, 17 to 20. With `skip` the
+    /// zeros at the front do not count against `limit`, however many there are. Every digit is
+    /// read, and a byte that is none ends the number.
+    ///
+    /// A turn loads at most two windows: one of 16 bytes, and one of the 8 bytes behind it where the
+    /// digits fill the first. A turn that skips loads one, for at most 16 zeros.
+    ///
+    /// # Errors
+    ///
+    /// - `Empty`: `s` does not begin with a digit.
+    /// - `Size`: more than `limit` digits count. It tells the zeros skipped and at most 24 of the
+    ///   digits that count, and holds `s` behind the zeros skipped.
+    /// - `Overflow`: the number is above `bound`. It holds `s` behind the zeros skipped.
     fn prefix_64<'a>(
         bound: u64,
         limit: u32,
@@ -77,6 +100,21 @@ pub trait Engine {
     }
 
     /// The number at the front of `s`, and how many bytes it has, for an integer of 128 bits.
+    ///
+    /// `bound` is the greatest number, and has exactly 39 digits. With `skip` the zeros at the front
+    /// do not count against these, however many there are. Every digit is read, and a byte that is
+    /// none ends the number.
+    ///
+    /// A turn loads at most three windows: two of 16 bytes and one of the 8 bytes behind them, each
+    /// only where the digits fill the ones before it. A turn that skips loads one, for at most 16
+    /// zeros.
+    ///
+    /// # Errors
+    ///
+    /// - `Empty`: `s` does not begin with a digit.
+    /// - `Size`: more than 39 digits count. It tells the zeros skipped and at most 40 of the digits
+    ///   that count, and holds `s` behind the zeros skipped.
+    /// - `Overflow`: the number is above `bound`. It holds `s` behind the zeros skipped.
     fn prefix_128<'a>(
         bound: u128,
         skip: bool,
@@ -90,36 +128,36 @@ pub trait Engine {
         ensures least_skipping { IsTrue skip → steps.old + least_loads table s.now ≤ steps.new }
     {
         let mut at = 0;
-        let front = loop {
+        let first = loop {
             let window = Self::window(&s[at..], steps);
             if !skip || window.zeroes == 0 {
                 break window;
             }
             at += window.zeroes as usize;
         };
-        if front.len < 16 {
-            let len = at + front.len as usize;
+        if first.len < 16 {
+            let len = at + first.len as usize;
             return if len == 0 {
                 Err(AtoiSimdError::Empty)
             } else {
-                Ok((u128::from(front.number), len))
+                Ok((u128::from(first.number), len))
             };
         }
-        let rest = &s[at..];
-        let middle = Self::window(&rest[16..], steps);
-        if middle.len < 16 {
-            let high = u128::from(front.number) * u128::from(power_of_ten(middle.len));
-            let len = at + 16 + middle.len as usize;
-            return Ok((high + u128::from(middle.number), len));
+        let body = &s[at..];
+        let second = Self::window(&body[16..], steps);
+        if second.len < 16 {
+            let high = u128::from(first.number) * u128::from(power_of_ten(second.len));
+            let len = at + 16 + second.len as usize;
+            return Ok((high + u128::from(second.number), len));
         }
-        let back = Self::window_8(&rest[32..], steps);
-        let len = at + 32 + back.len as usize;
-        if back.len == 8 {
-            return Err(AtoiSimdError::Size(len, rest));
+        let third = Self::window_8(&body[32..], steps);
+        let len = at + 32 + third.len as usize;
+        if third.len == 8 {
+            return Err(AtoiSimdError::Size(len, body));
         }
-        match joined_128(bound, front.number, middle.number, back) {
+        match joined_128(bound, first.number, second.number, third) {
             Some(number) => Ok((number, len)),
-            None => Err(AtoiSimdError::Overflow(rest)),
+            None => Err(AtoiSimdError::Overflow(body)),
         }
     }
 

@@ -9,7 +9,18 @@ use crate::engine::Engine;
 use crate::error::AtoiSimdError;
 use crate::steps::Steps;
 
-/// The number at the front of `s`, and how many bytes it has.
+/// The number at the front of `s`, and how many bytes it has, for an integer of up to 32 bits.
+///
+/// `bound` is the greatest number, from 9 to 4294967295. Without `skip` one window is loaded, and
+/// the answer stops after 16 digits. With `skip` all zeros at the front are passed by, a window for
+/// each 16 of them, and every digit is read. A byte that is no digit ends the number.
+///
+/// # Errors
+///
+/// - `Empty`: `s` does not begin with a digit.
+/// - `Overflow`: the number is above `bound`. Without `skip` it holds `s`. With `skip` it holds `s`
+///   behind the zeros that fill whole windows of 16 bytes, and behind all its zeros where the next
+///   16 bytes are digits.
 pub fn narrow_prefix<'a, E: Engine>(
     bound: u64,
     skip: bool,
@@ -38,5 +49,73 @@ pub fn narrow_prefix<'a, E: Engine>(
         Err(AtoiSimdError::Overflow(&s[at..]))
     } else {
         Ok((window.number, len))
+    }
+}
+
+#[cfg(test)]
+mod tests {
+    use super::*;
+    use crate::engine::alphabets::{BothCases, Letters};
+    use crate::plain::Plain;
+    use std::test::Fail;
+
+    fn prefix<E: Engine>(skip: bool, s: &[u8]) -> Result<(u64, usize), AtoiSimdError<'_>> {
+        narrow_prefix::<E>(255, skip, s, &mut Steps::new())
+    }
+
+    #[test]
+    fn stops_after_sixteen_digits_where_it_does_not_skip(rt: HostRuntime) {
+        assert_eq!(rt; prefix::<Plain>(false, b"00000000000000007"), Ok((0, 16)));
+        assert_eq!(rt;
+            prefix::<Plain>(false, b"00000000000000255999"),
+            Ok((25, 16))
+        );
+    }
+
+    #[test]
+    fn skips_all_zeros(rt: HostRuntime) -> Result<(), Fail> {
+        assert_eq!(rt; prefix::<Plain>(true, b"00000000000000007"), Ok((7, 17)));
+        assert_eq!(rt; prefix::<Plain>(true, b"0000000000000000"), Ok((0, 16)));
+        assert_eq!(rt;
+            prefix::<Plain>(true, b"00000000000000000000000000000000x"),
+            Ok((0, 32))
+        );
+        let mut many = vec![in rt.alloc(); b'0'; 1_000_000]?;
+        many.push(b'7')?;
+        assert_eq!(rt; prefix::<Plain>(true, &many), Ok((7, 1_000_001)));
+        Ok(())
+    }
+
+    #[test]
+    fn drops_the_zeros_of_an_overflow_where_a_window_was_skipped(rt: HostRuntime) {
+        assert_eq!(rt;
+            prefix::<Plain>(true, b"00000000000000255999"),
+            Err(AtoiSimdError::Overflow(b"255999"))
+        );
+        assert_eq!(rt;
+            prefix::<Plain>(true, b"0000000000000999x"),
+            Err(AtoiSimdError::Overflow(b"999x"))
+        );
+        assert_eq!(rt;
+            prefix::<Plain>(true, b"000000000000999x"),
+            Err(AtoiSimdError::Overflow(b"000000000000999x"))
+        );
+    }
+
+    #[test]
+    fn goes_by_the_digits_of_the_engine(rt: HostRuntime) {
+        assert_eq!(rt;
+            prefix::<Letters>(true, b"AAAAAAAAAAAAAAAACFFx"),
+            Ok((255, 19))
+        );
+        assert_eq!(rt; prefix::<Letters>(true, b"007"), Err(AtoiSimdError::Empty));
+        assert_eq!(rt;
+            prefix::<BothCases>(true, b"AaAaAaAaAaAaAaAacFf7"),
+            Ok((255, 19))
+        );
+        assert_eq!(rt;
+            prefix::<BothCases>(false, b"cfG"),
+            Err(AtoiSimdError::Overflow(b"cfG"))
+        );
     }
 }

@@ -77,3 +77,84 @@ pub fn whole_128<'a, E: Engine>(
         Err(AtoiSimdError::Invalid128(number, len, s))
     }
 }
+
+#[cfg(test)]
+mod tests {
+    use super::*;
+    use crate::plain::Plain;
+
+    fn whole_u64(skip: bool, s: &[u8]) -> Result<u64, AtoiSimdError<'_>> {
+        whole_64::<Plain>(u64::MAX, 20, skip, s, &mut Steps::new())
+    }
+
+    fn whole_i64(skip: bool, s: &[u8]) -> Result<u64, AtoiSimdError<'_>> {
+        whole_64::<Plain>(9_223_372_036_854_775_807, 19, skip, s, &mut Steps::new())
+    }
+
+    fn whole_least_i64(s: &[u8]) -> Result<u64, AtoiSimdError<'_>> {
+        whole_64::<Plain>(9_223_372_036_854_775_808, 19, false, s, &mut Steps::new())
+    }
+
+    fn whole_u128(skip: bool, s: &[u8]) -> Result<u128, AtoiSimdError<'_>> {
+        whole_128::<Plain>(u128::MAX, skip, s, &mut Steps::new())
+    }
+
+    #[test]
+    fn counts_zeros_that_are_not_skipped(rt: HostRuntime) {
+        let zeros = [b'0'; 41];
+        assert_eq!(rt;
+            whole_u64(false, &zeros[..21]),
+            Err(AtoiSimdError::Size(21, &zeros[..21]))
+        );
+        assert_eq!(rt; whole_u64(true, &zeros[..21]), Ok(0));
+        assert_eq!(rt; whole_u128(false, &zeros[..39]), Ok(0));
+        assert_eq!(rt;
+            whole_u128(false, &zeros),
+            Err(AtoiSimdError::Size(40, &zeros))
+        );
+        let text = b"09223372036854775807";
+        assert_eq!(rt; whole_i64(false, text), Err(AtoiSimdError::Size(20, text)));
+        assert_eq!(rt; whole_i64(true, text), Ok(9_223_372_036_854_775_807));
+    }
+
+    #[test]
+    fn compares_the_greatest_numbers(rt: HostRuntime) {
+        assert_eq!(rt; whole_u64(false, b"18446744073709551615"), Ok(u64::MAX));
+        let text = b"18446744073709551616";
+        assert_eq!(rt; whole_u64(false, text), Err(AtoiSimdError::Overflow(text)));
+        let text = b"340282366920938463463374607431768211455";
+        assert_eq!(rt; whole_u128(false, text), Ok(u128::MAX));
+        let text = b"340282366920938463463374607431768211456";
+        assert_eq!(rt; whole_u128(false, text), Err(AtoiSimdError::Overflow(text)));
+        assert_eq!(rt;
+            whole_u128(true, b"123456789012345678901234567890123"),
+            Ok(123_456_789_012_345_678_901_234_567_890_123)
+        );
+    }
+
+    #[test]
+    fn tells_the_byte_that_is_no_digit(rt: HostRuntime) {
+        let text = b"9223372036854775808x";
+        assert_eq!(rt;
+            whole_least_i64(text),
+            Err(AtoiSimdError::Invalid64(9_223_372_036_854_775_808, 19, text))
+        );
+        assert_eq!(rt;
+            whole_least_i64(b"9223372036854775808"),
+            Ok(9_223_372_036_854_775_808)
+        );
+        assert_eq!(rt;
+            whole_u64(true, b"007x"),
+            Err(AtoiSimdError::Invalid64(7, 3, b"007x"))
+        );
+        let text = b"0000000000000000000000007x";
+        assert_eq!(rt;
+            whole_u64(true, text),
+            Err(AtoiSimdError::Invalid64(7, 25, text))
+        );
+        assert_eq!(rt;
+            whole_u128(true, b"0000012x"),
+            Err(AtoiSimdError::Invalid128(12, 7, b"0000012x"))
+        );
+    }
+}

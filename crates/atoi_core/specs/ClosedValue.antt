@@ -1,0 +1,54 @@
+-- The number that digits write, as one sum over their places. Each proof is a plain term.
+use Rattle.std.specs.Prelude.{◌≡◌, ℕ, zero, suc, ◌+◌, ◌-◌, ◌*◌, ◌^◌, List, [], ◌∷◌, length, slice_index, refl}
+use Rattle.std.proofs.Common.{sym, ap, ◌∙◌, add_assoc, zero-add, add-zero}
+use Rattle.std.proofs.Math.Nat.{suc-sub-suc, sub-zero, sub-add-eq}
+use Rattle.std.proofs.Math.Numerals.{one-add}
+use Rattle.atoi_core.specs.Digit.{Table, worth}
+use Rattle.atoi_core.specs.Run.{value}
+
+-- f(0) + .. + f(n - 1)
+abbrev pub sum_below : ℕ → (ℕ → ℕ) → ℕ
+sum_below zero f = 0
+sum_below (suc n) f = sum_below n f + f n
+
+-- the sum over i, from 0 to the last place, of the worth of the i-th digit times ten for every digit
+-- behind it
+abbrev pub closed_value : Table → List ℕ → ℕ
+closed_value table s = sum_below (length s) (λ i. worth table (slice_index s i) * 10 ^ (length s - 1 - i))
+
+-- sums of equal terms are equal
+sum_below-equal : (n : ℕ) (f g : ℕ → ℕ) → ((i : ℕ) → f i ≡ g i) → sum_below n f ≡ sum_below n g
+sum_below-equal zero f g same = refl
+sum_below-equal (suc n) f g same =
+    ap (λ (k : ℕ). k + f n) (sum_below-equal n f g same) ∙ ap (λ (k : ℕ). sum_below n g + k) (same n)
+
+-- the first term apart from the others
+sum_below-suc : (n : ℕ) (f : ℕ → ℕ) → sum_below (suc n) f ≡ f 0 + sum_below n (λ i. f (suc i))
+sum_below-suc zero f = zero-add (f 0) ∙ sym (add-zero (f 0))
+sum_below-suc (suc n) f =
+    ap (λ (k : ℕ). k + f (suc n)) (sum_below-suc n f)
+    ∙ add_assoc (f 0) (sum_below n (λ i. f (suc i))) (f (suc n))
+
+-- how many digits stand behind the first of n + 1, and behind the one after i
+behind_first : (n : ℕ) → suc n - 1 - 0 ≡ n
+behind_first n = sub-zero (suc n - 1) ∙ suc-sub-suc n 0 ∙ sub-zero n
+
+behind_next : (n i : ℕ) → suc n - 1 - suc i ≡ n - 1 - i
+behind_next n i =
+    ap (λ (k : ℕ). k - suc i) (suc-sub-suc n 0 ∙ sub-zero n)
+    ∙ ap (λ (k : ℕ). n - k) (sym (one-add i))
+    ∙ sub-add-eq n 1 i
+
+-- the value is that sum
+pub value_is_closed : (table : Table) (s : List ℕ) → value table s ≡ closed_value table s
+value_is_closed table [] = refl
+value_is_closed table (digit ∷ digits) =
+    let n : ℕ = length digits in
+    let term : ℕ → ℕ = λ i. worth table (slice_index (digit ∷ digits) i) * 10 ^ (suc n - 1 - i) in
+    let rest : ℕ → ℕ = λ i. worth table (slice_index digits i) * 10 ^ (n - 1 - i) in
+    ap (λ (k : ℕ). worth table digit * 10 ^ k + value table digits) (sym (behind_first n))
+    ∙ ap (λ (k : ℕ). term 0 + k)
+    (value_is_closed table digits
+    ∙ sym (sum_below-equal n (λ i. term (suc i)) rest
+    (λ i. ap (λ (k : ℕ). worth table (slice_index digits i) * 10 ^ k) (behind_next n i))))
+    ∙ sym (sum_below-suc n term)
