@@ -1,3 +1,2 @@
 pub mod LinesLemmas
 pub mod Appended
-pub mod Rows

@@ -1,5 +1,5 @@
 -- What the words of a row name, and which rows there are.
-use Rattle.std.specs.Prelude.{Option, Some, None, Bool, true, false, List, ℕ, codes, if◌then◌else◌}
+use Rattle.std.specs.Prelude.{Option, Some, None, Bool, true, false, List, ℕ, codes, ◌&&◌, if◌then◌else◌}
 use Rattle.std.specs.Str.{bytes_eq}
 use Rattle.atoi_core.specs.Kind.{Kind, kind}
 use Rattle.atoi_tool.specs.declared.request.Engine.{Engine}
@@ -62,13 +62,21 @@ kind_of I128 = kind 128 true 170141183460469231731687303715884105727
 kind_of Usize = kind 64 false 18446744073709551615
 kind_of Isize = kind 64 true 9223372036854775807
 
--- the engines, calls and types that are asked for together
-abbrev pub is_asked : Engine → Call → Integer → Bool
-is_asked Words Pos U8 = true
-is_asked Words Pos I8 = true
-is_asked Words Neg I8 = true
-is_asked engine call integer = false
+-- the call takes a sign at the front of its text
+abbrev pub takes_sign : Call → Bool
+takes_sign Parse = true
+takes_sign Prefix = true
+takes_sign call = false
 
--- there is an answer to such a row: no call that looks for a plus is asked for
+-- the call reads a negative number, without its sign
+abbrev pub is_negative : Call → Bool
+is_negative Neg = true
+is_negative PrefixNeg = true
+is_negative call = false
+
+-- there is an answer to such a row: a plus is looked for only by a call that takes a sign, and only a signed type has
+-- negative numbers
 abbrev pub is_known : Request → Bool
-is_known request = if request.flags.plus then false else is_asked request.engine request.call request.integer
+is_known request =
+    (if request.flags.plus then takes_sign request.call else true)
+    && (if is_negative request.call then (kind_of request.integer).signed else true)

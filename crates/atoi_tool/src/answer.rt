@@ -1,56 +1,53 @@
 //! The answer to one line.
-//! It stands on `row`, and on the parses of `atoi_core`.
-ghost use Rattle.std.specs.Prelude.{◌≡◌, ◌+◌, ◌≤◌, [], ◌++◌, true, length, Ok, Err};
-ghost use Rattle.std.specs.Fmt.{signed_decimal};
-ghost use Rattle.atoi_core.specs.Refusal.{answer_of, refusal_of};
-ghost use Rattle.atoi_core.specs.Sign.{number_of};
-ghost use Rattle.atoi_core.specs.Answer.{map_answer};
-ghost use Rattle.atoi_tool.specs.Request.{is_known};
-ghost use Rattle.atoi_tool.specs.Answer.{whole_text, refusal_text, row_text, line_answer, is_good_line};
+//! It stands on `row`, `calls` and `printed`.
+ghost use Rattle.std.specs.Prelude.{◌≡◌, ◌≤◌, [], true, false, length};
+ghost use Rattle.atoi_core.specs.Kind.{kind};
+ghost use Rattle.atoi_tool.specs.Request.{is_known, is_negative};
+ghost use Rattle.atoi_tool.specs.Answer.{call_text, row_text, line_answer, is_good_line};
 
+use crate::calls;
 use crate::line::Line;
+use crate::printed::{push_prefix, push_whole};
 use crate::request::{Call, Integer, Request};
 use crate::row::row_of;
-use atoi_core::{AtoiSimdError, decimal, narrow_whole};
+use atoi_simd::lanes;
 
-/// Appends a number in decimal, with a `-` before a negative one.
-fn push_number(minus: bool, magnitude: u128, out: &mut Line)
-    requires { length out.old ≤ 300 }
-    ensures text { out.new ≡ out.old ++ signed_decimal (number_of minus magnitude) }
-    ensures length { length out.new ≤ length out.old + 40 }
+/// Writes the answer to a row of a type that may have no negative numbers.
+fn answer_unsigned<T: atoi_simd::Parse + lanes::Parse>(
+    request: &Request,
+    text: &[u8],
+    out: &mut Line,
+)
+    requires call { is_negative request.now.call ≡ false }
+    requires empty { out.old ≡ [] }
+    ensures text { out.new ≡ call_text request.now.call (kind T.BITS T.SIGNED T.GREATEST) request.now.flags text.now }
+    ensures length { length out.new ≤ 336 }
 {
-    if minus && magnitude > 0 {
-        out.push(b"-");
+    let Request { engine, flags, .. } = *request;
+    match request.call {
+        Call::Parse => push_whole(calls::parse::<T>(engine, flags, text), out),
+        Call::Pos => push_whole(calls::parse_pos::<T>(engine, flags, text), out),
+        Call::Prefix => push_prefix(calls::parse_prefix::<T>(engine, flags, text), out),
+        Call::PrefixPos => push_prefix(calls::parse_prefix_pos::<T>(engine, flags, text), out),
+        Call::Neg | Call::PrefixNeg => unreachable!(),
     }
-    let mut digits = [0; 39];
-    let count = decimal(magnitude, &mut digits);
-    out.push(&digits[..count]);
 }
 
-/// Appends why there is no value.
-fn push_refusal(error: &AtoiSimdError<'_>, out: &mut Line)
-    requires { out.old ≡ [] }
-    ensures text { out.new ≡ refusal_text (refusal_of error.now) }
+/// Writes the answer to a row of a type with negative numbers.
+fn answer_signed<T: atoi_simd::Parse + lanes::Parse + atoi_simd::ParseNeg + lanes::ParseNeg>(
+    request: &Request,
+    text: &[u8],
+    out: &mut Line,
+)
+    requires empty { out.old ≡ [] }
+    ensures text { out.new ≡ call_text request.now.call (kind T.BITS T.SIGNED T.GREATEST) request.now.flags text.now }
     ensures length { length out.new ≤ 336 }
 {
-    out.push(b"err ");
-    let mut text = [0; 400];
-    let count = error.text(&mut text);
-    out.push(&text[..count]);
-}
-
-/// Appends a value of a magnitude, or why there is none.
-fn push_whole(minus: bool, outcome: &Result<u64, AtoiSimdError<'_>>, out: &mut Line)
-    requires { out.old ≡ [] }
-    ensures text { out.new ≡ whole_text (map_answer (number_of minus) (answer_of outcome.now)) }
-    ensures length { length out.new ≤ 336 }
-{
-    match outcome {
-        Ok(magnitude) => {
-            out.push(b"ok ");
-            push_number(minus, u128::from(*magnitude), out);
-        }
-        Err(error) => push_refusal(error, out),
+    let Request { engine, flags, .. } = *request;
+    match request.call {
+        Call::Neg => push_whole(calls::parse_neg::<T>(engine, flags, text), out),
+        Call::PrefixNeg => push_prefix(calls::parse_prefix_neg::<T>(engine, flags, text), out),
+        _ => answer_unsigned::<T>(request, text, out),
     }
 }
 
@@ -61,12 +58,20 @@ fn answer_row(request: &Request, text: &[u8], out: &mut Line)
     ensures text { out.new ≡ row_text request.now text.now }
     ensures length { length out.new ≤ 336 }
 {
-    let (minus, bound) = match (request.call, request.integer) {
-        (Call::Neg, _) => (true, 128),
-        (_, Integer::I8) => (false, 127),
-        _ => (false, 255),
-    };
-    push_whole(minus, &narrow_whole(bound, text), out);
+    match request.integer {
+        Integer::U8 => answer_unsigned::<u8>(request, text, out),
+        Integer::I8 => answer_signed::<i8>(request, text, out),
+        Integer::U16 => answer_unsigned::<u16>(request, text, out),
+        Integer::I16 => answer_signed::<i16>(request, text, out),
+        Integer::U32 => answer_unsigned::<u32>(request, text, out),
+        Integer::I32 => answer_signed::<i32>(request, text, out),
+        Integer::U64 => answer_unsigned::<u64>(request, text, out),
+        Integer::I64 => answer_signed::<i64>(request, text, out),
+        Integer::U128 => answer_unsigned::<u128>(request, text, out),
+        Integer::I128 => answer_signed::<i128>(request, text, out),
+        Integer::Usize => answer_unsigned::<usize>(request, text, out),
+        Integer::Isize => answer_signed::<isize>(request, text, out),
+    }
 }
 
 /// Writes the answer to a line, and answers whether the line is a row that there is an answer to.

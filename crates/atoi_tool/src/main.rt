@@ -11,10 +11,12 @@ use std::io::{Read, Write};
 use std::process::ExitCode;
 
 mod answer;
+mod calls;
 mod input;
 mod line;
 mod output;
 mod place;
+mod printed;
 mod refused;
 mod request;
 mod row;

@@ -1,7 +1,7 @@
 //! What a row asks for, but for its text, and the words that say it.
 //! It stands on nothing.
 ghost use Rattle.std.specs.Prelude.{◌≡◌};
-ghost use Rattle.atoi_tool.specs.Request.{engine_of, call_of, integer_of, flags_of, is_known};
+ghost use Rattle.atoi_tool.specs.Request.{engine_of, call_of, integer_of, flags_of, kind_of, takes_sign, is_negative, is_known};
 
 /// Which library parses.
 #[derive(Clone, Copy, Debug, PartialEq, Eq)]
@@ -29,6 +29,22 @@ pub enum Call {
     PrefixNeg,
 }
 
+impl Call {
+    /// Whether the call takes a sign at the front of its text.
+    pub fn takes_sign(self) -> bool
+        ensures { result ≡ takes_sign self }
+    {
+        matches!(self, Call::Parse | Call::Prefix)
+    }
+
+    /// Whether the call reads a negative number, without its sign.
+    pub fn is_negative(self) -> bool
+        ensures { result ≡ is_negative self }
+    {
+        matches!(self, Call::Neg | Call::PrefixNeg)
+    }
+}
+
 /// Into which type.
 #[derive(Clone, Copy, Debug, PartialEq, Eq)]
 pub enum Integer {
@@ -44,6 +60,23 @@ pub enum Integer {
     I128,
     Usize,
     Isize,
+}
+
+impl Integer {
+    /// Whether the type has negative numbers.
+    pub fn is_signed(self) -> bool
+        ensures { result ≡ (kind_of self).signed }
+    {
+        matches!(
+            self,
+            Integer::I8
+                | Integer::I16
+                | Integer::I32
+                | Integer::I64
+                | Integer::I128
+                | Integer::Isize
+        )
+    }
 }
 
 /// What is skipped at the front of a text.
@@ -126,15 +159,12 @@ pub struct Request {
 }
 
 impl Request {
-    /// Whether there is an answer to such a row.
+    /// Whether there is an answer to such a row: a plus is looked for only by a call that takes a sign,
+    /// and only a signed type has negative numbers.
     pub fn is_known(&self) -> bool
         ensures { result ≡ is_known self.now }
     {
-        let is_asked = matches!(
-            (self.engine, self.call, self.integer),
-            (Engine::Words, Call::Pos, Integer::U8 | Integer::I8)
-                | (Engine::Words, Call::Neg, Integer::I8)
-        );
-        is_asked && !self.flags.plus
+        (!self.flags.plus || self.call.takes_sign())
+            && (!self.call.is_negative() || self.integer.is_signed())
     }
 }

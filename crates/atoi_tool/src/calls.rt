@@ -1,0 +1,121 @@
+//! The calls of both libraries, with the engine and the flags as values.
+//! It stands on the ten functions of `atoi_simd`, and on those of its module `lanes`.
+ghost use Rattle.std.specs.Prelude.{◌≡◌, true, false};
+ghost use Rattle.atoi_core.specs.Answer.{typed_answer, typed_prefix_answer, whole_answer, prefix_answer, parse_answer, parse_prefix_answer};
+ghost use Rattle.atoi_core.specs.Digit.{decimal_table};
+ghost use Rattle.atoi_core.specs.Kind.{kind};
+
+use crate::request::{Engine, Flags};
+use atoi_simd::{AtoiSimdError, lanes};
+
+/// A sign and a whole text.
+pub fn parse<T: atoi_simd::Parse + lanes::Parse>(
+    engine: Engine,
+    flags: Flags,
+    text: &[u8],
+) -> Result<T, AtoiSimdError<'_>>
+    ensures { typed_answer T.number result
+        ≡ parse_answer (kind T.BITS T.SIGNED T.GREATEST) flags.zeroes flags.plus text.now }
+{
+    match (engine, flags.zeroes, flags.plus) {
+        (Engine::Words, false, false) => atoi_simd::parse::<T, false, false>(text),
+        (Engine::Words, false, true) => atoi_simd::parse::<T, false, true>(text),
+        (Engine::Words, true, false) => atoi_simd::parse::<T, true, false>(text),
+        (Engine::Words, true, true) => atoi_simd::parse::<T, true, true>(text),
+        (Engine::Lanes, false, false) => lanes::parse::<T, false, false>(text),
+        (Engine::Lanes, false, true) => lanes::parse::<T, false, true>(text),
+        (Engine::Lanes, true, false) => lanes::parse::<T, true, false>(text),
+        (Engine::Lanes, true, true) => lanes::parse::<T, true, true>(text),
+    }
+}
+
+/// A whole text with no sign. The flag for a plus is not looked at.
+pub fn parse_pos<T: atoi_simd::Parse + lanes::Parse>(
+    engine: Engine,
+    flags: Flags,
+    text: &[u8],
+) -> Result<T, AtoiSimdError<'_>>
+    ensures { typed_answer T.number result
+        ≡ whole_answer decimal_table (kind T.BITS T.SIGNED T.GREATEST) false flags.zeroes text.now }
+{
+    match (engine, flags.zeroes) {
+        (Engine::Words, false) => atoi_simd::parse_pos::<T, false>(text),
+        (Engine::Words, true) => atoi_simd::parse_pos::<T, true>(text),
+        (Engine::Lanes, false) => lanes::parse_pos::<T, false>(text),
+        (Engine::Lanes, true) => lanes::parse_pos::<T, true>(text),
+    }
+}
+
+/// A whole text with no sign, read as a negative number. The flag for a plus is not looked at.
+pub fn parse_neg<T: atoi_simd::ParseNeg + lanes::ParseNeg>(
+    engine: Engine,
+    flags: Flags,
+    text: &[u8],
+) -> Result<T, AtoiSimdError<'_>>
+    ensures { typed_answer T.number result
+        ≡ whole_answer decimal_table (kind T.BITS T.SIGNED T.GREATEST) true flags.zeroes text.now }
+{
+    match (engine, flags.zeroes) {
+        (Engine::Words, false) => atoi_simd::parse_neg::<T, false>(text),
+        (Engine::Words, true) => atoi_simd::parse_neg::<T, true>(text),
+        (Engine::Lanes, false) => lanes::parse_neg::<T, false>(text),
+        (Engine::Lanes, true) => lanes::parse_neg::<T, true>(text),
+    }
+}
+
+/// A sign and the number at the front of a text, and how many bytes these are.
+pub fn parse_prefix<T: atoi_simd::Parse + lanes::Parse>(
+    engine: Engine,
+    flags: Flags,
+    text: &[u8],
+) -> Result<(T, usize), AtoiSimdError<'_>>
+    ensures { typed_prefix_answer T.number result
+        ≡ parse_prefix_answer (kind T.BITS T.SIGNED T.GREATEST) flags.zeroes flags.plus text.now }
+{
+    match (engine, flags.zeroes, flags.plus) {
+        (Engine::Words, false, false) => atoi_simd::parse_prefix::<T, false, false>(text),
+        (Engine::Words, false, true) => atoi_simd::parse_prefix::<T, false, true>(text),
+        (Engine::Words, true, false) => atoi_simd::parse_prefix::<T, true, false>(text),
+        (Engine::Words, true, true) => atoi_simd::parse_prefix::<T, true, true>(text),
+        (Engine::Lanes, false, false) => lanes::parse_prefix::<T, false, false>(text),
+        (Engine::Lanes, false, true) => lanes::parse_prefix::<T, false, true>(text),
+        (Engine::Lanes, true, false) => lanes::parse_prefix::<T, true, false>(text),
+        (Engine::Lanes, true, true) => lanes::parse_prefix::<T, true, true>(text),
+    }
+}
+
+/// The number at the front of a text, with no sign, and how many bytes it is. The flag for a plus is
+/// not looked at.
+pub fn parse_prefix_pos<T: atoi_simd::Parse + lanes::Parse>(
+    engine: Engine,
+    flags: Flags,
+    text: &[u8],
+) -> Result<(T, usize), AtoiSimdError<'_>>
+    ensures { typed_prefix_answer T.number result
+        ≡ prefix_answer decimal_table (kind T.BITS T.SIGNED T.GREATEST) false flags.zeroes text.now }
+{
+    match (engine, flags.zeroes) {
+        (Engine::Words, false) => atoi_simd::parse_prefix_pos::<T, false>(text),
+        (Engine::Words, true) => atoi_simd::parse_prefix_pos::<T, true>(text),
+        (Engine::Lanes, false) => lanes::parse_prefix_pos::<T, false>(text),
+        (Engine::Lanes, true) => lanes::parse_prefix_pos::<T, true>(text),
+    }
+}
+
+/// The number at the front of a text, with no sign, read as a negative number, and how many bytes it
+/// is. The flag for a plus is not looked at.
+pub fn parse_prefix_neg<T: atoi_simd::ParseNeg + lanes::ParseNeg>(
+    engine: Engine,
+    flags: Flags,
+    text: &[u8],
+) -> Result<(T, usize), AtoiSimdError<'_>>
+    ensures { typed_prefix_answer T.number result
+        ≡ prefix_answer decimal_table (kind T.BITS T.SIGNED T.GREATEST) true flags.zeroes text.now }
+{
+    match (engine, flags.zeroes) {
+        (Engine::Words, false) => atoi_simd::parse_prefix_neg::<T, false>(text),
+        (Engine::Words, true) => atoi_simd::parse_prefix_neg::<T, true>(text),
+        (Engine::Lanes, false) => lanes::parse_prefix_neg::<T, false>(text),
+        (Engine::Lanes, true) => lanes::parse_prefix_neg::<T, true>(text),
+    }
+}
