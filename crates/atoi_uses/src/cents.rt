@@ -1,0 +1,85 @@
+//! A type of one's own that a negative number is parsed to.
+//! It stands on `atoi_simd::ParseNeg` of `i64`, and owes the same answers.
+ghost use Rattle.std.specs.Prelude.{true, refl};
+ghost use Rattle.std.proofs.Common.{inl, inr};
+
+use atoi_core::{Number, Signed};
+use atoi_simd::{AtoiSimdError, ParseNeg};
+
+/// An amount of money in cents.
+#[derive(Clone, Copy, Debug, PartialEq, Eq)]
+pub struct Cents(pub i64);
+
+impl Number for Cents {
+    const BITS: u32 = 64;
+
+    ghost BITS = { 64 };
+
+    const SIGNED: bool = true;
+
+    ghost SIGNED = { true };
+
+    const GREATEST: u128 = 9223372036854775807;
+
+    ghost GREATEST = { 9223372036854775807 };
+
+    ghost number = { λ amount. amount.0 };
+
+    fn from_pos(value: u128) -> Cents {
+        Cents(i64::from_pos(value))
+    }
+
+    fn parts(self) -> (bool, u128) {
+        self.0.parts()
+    }
+
+    ghost sized = { record { bits = inr (inr (inr (inl refl))); greatest = refl } };
+}
+
+impl Signed for Cents {
+    const LEAST_MAGNITUDE: u128 = 9223372036854775808;
+
+    ghost LEAST_MAGNITUDE = { 9223372036854775808 };
+
+    fn from_neg(magnitude: u128) -> Cents {
+        Cents(i64::from_neg(magnitude))
+    }
+
+    ghost signed = { refl };
+
+    ghost least = { refl };
+}
+
+impl ParseNeg for Cents {
+    fn atoi_simd_parse_neg(s: &[u8], skip_zeroes: bool) -> Result<Cents, AtoiSimdError<'_>> {
+        match i64::atoi_simd_parse_neg(s, skip_zeroes) {
+            Ok(amount) => Ok(Cents(amount)),
+            Err(error) => Err(error),
+        }
+    }
+
+    fn atoi_simd_parse_prefix_neg(
+        s: &[u8],
+        skip_zeroes: bool,
+    ) -> Result<(Cents, usize), AtoiSimdError<'_>> {
+        match i64::atoi_simd_parse_prefix_neg(s, skip_zeroes) {
+            Ok((amount, len)) => Ok((Cents(amount), len)),
+            Err(error) => Err(error),
+        }
+    }
+}
+
+#[cfg(test)]
+mod tests {
+    use super::*;
+    use atoi_simd::{parse_neg, parse_prefix_neg};
+
+    #[test]
+    fn the_functions_of_negative_numbers_answer_cents(rt: HostRuntime) {
+        assert_eq!(rt; parse_neg::<Cents, false>(b"2345"), Ok(Cents(-2345)));
+        assert_eq!(rt;
+            parse_prefix_neg::<Cents, false>(b"12a"),
+            Ok((Cents(-12), 2))
+        );
+    }
+}
