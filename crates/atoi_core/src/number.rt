@@ -495,8 +495,53 @@ impl Signed for isize {
 mod tests {
     use super::*;
 
+    // What std says of each type: its bits, and its greatest value.
     #[test]
-    fn the_ends_of_the_signed_types(rt: HostRuntime) {
+    fn the_constants_of_the_unsigned_types(rt: HostRuntime) {
+        assert_eq!(rt; (<u8 as Number>::BITS, u8::SIGNED), (u8::BITS, false));
+        assert_eq!(rt; u8::from_pos(u8::GREATEST), u8::MAX);
+        assert_eq!(rt; (<u16 as Number>::BITS, u16::SIGNED), (u16::BITS, false));
+        assert_eq!(rt; u16::from_pos(u16::GREATEST), u16::MAX);
+        assert_eq!(rt; (<u32 as Number>::BITS, u32::SIGNED), (u32::BITS, false));
+        assert_eq!(rt; u32::from_pos(u32::GREATEST), u32::MAX);
+        assert_eq!(rt; (<u64 as Number>::BITS, u64::SIGNED), (u64::BITS, false));
+        assert_eq!(rt; u64::from_pos(u64::GREATEST), u64::MAX);
+        assert_eq!(rt; (<u128 as Number>::BITS, u128::SIGNED), (u128::BITS, false));
+        assert_eq!(rt; u128::from_pos(u128::GREATEST), u128::MAX);
+        assert_eq!(rt;
+            (<usize as Number>::BITS, usize::SIGNED),
+            (usize::BITS, false)
+        );
+        assert_eq!(rt; usize::from_pos(usize::GREATEST), usize::MAX);
+    }
+
+    #[test]
+    fn the_constants_of_the_signed_types(rt: HostRuntime) {
+        assert_eq!(rt; (<i8 as Number>::BITS, i8::SIGNED), (i8::BITS, true));
+        assert_eq!(rt; i8::from_pos(i8::GREATEST), i8::MAX);
+        assert_eq!(rt; i8::from_neg(i8::LEAST_MAGNITUDE), i8::MIN);
+        assert_eq!(rt; (<i16 as Number>::BITS, i16::SIGNED), (i16::BITS, true));
+        assert_eq!(rt; i16::from_pos(i16::GREATEST), i16::MAX);
+        assert_eq!(rt; i16::from_neg(i16::LEAST_MAGNITUDE), i16::MIN);
+        assert_eq!(rt; (<i32 as Number>::BITS, i32::SIGNED), (i32::BITS, true));
+        assert_eq!(rt; i32::from_pos(i32::GREATEST), i32::MAX);
+        assert_eq!(rt; i32::from_neg(i32::LEAST_MAGNITUDE), i32::MIN);
+        assert_eq!(rt; (<i64 as Number>::BITS, i64::SIGNED), (i64::BITS, true));
+        assert_eq!(rt; i64::from_pos(i64::GREATEST), i64::MAX);
+        assert_eq!(rt; i64::from_neg(i64::LEAST_MAGNITUDE), i64::MIN);
+        assert_eq!(rt; (<i128 as Number>::BITS, i128::SIGNED), (i128::BITS, true));
+        assert_eq!(rt; i128::from_pos(i128::GREATEST), i128::MAX);
+        assert_eq!(rt; i128::from_neg(i128::LEAST_MAGNITUDE), i128::MIN);
+        assert_eq!(rt;
+            (<isize as Number>::BITS, isize::SIGNED),
+            (isize::BITS, true)
+        );
+        assert_eq!(rt; isize::from_pos(isize::GREATEST), isize::MAX);
+        assert_eq!(rt; isize::from_neg(isize::LEAST_MAGNITUDE), isize::MIN);
+    }
+
+    #[test]
+    fn signs_and_magnitudes_of_the_ends(rt: HostRuntime) {
         assert_eq!(rt; i8::from_neg(128), -128);
         assert_eq!(rt; i8::from_neg(128).parts(), (true, 128));
         assert_eq!(rt; isize::from_neg(9223372036854775808), isize::MIN);
