@@ -1,0 +1,15 @@
+//! Worked rows of the ten functions and of the engines under them, and comparisons of the three engines and of the two surfaces.
+//! It stands on the three libraries, and has no contract of its own.
+#![tactic(auto)]
+
+#[cfg(test)]
+mod agreement;
+#[cfg(test)]
+mod decimal_texts;
+#[cfg(test)]
+mod loops;
+pub mod original;
+#[cfg(test)]
+mod windows;
+#[cfg(test)]
+mod worked_rows;

@@ -1,0 +1,291 @@
+//! The worked rows of the loops under the ten functions, on each of the three engines.
+//! It stands on `atoi_core` and on `Lanes`.
+
+use atoi_core::AtoiSimdError::{Invalid64, Invalid128, Overflow, Size};
+use atoi_core::{Engine, Plain, Steps, Words, narrow_prefix, whole_64, whole_128};
+use atoi_simd::lanes::Lanes;
+use std::process::Abort;
+use std::test::Fail;
+
+// The greatest numbers, and the magnitude of the least i64.
+const GREATEST_U8: u64 = 255;
+
+const GREATEST_U64: u64 = 18446744073709551615;
+
+const GREATEST_I64: u64 = 9223372036854775807;
+
+const LEAST_I64: u64 = 9223372036854775808;
+
+const GREATEST_U128: u128 = 340282366920938463463374607431768211455;
+
+// Runs one function of rows on each engine.
+macro_rules! on_each_engine {
+    ($rt:expr; $($rows:ident),*) => {
+        $(
+            $rows::<Plain>(&$rt);
+            $rows::<Words>(&$rt);
+            $rows::<Lanes>(&$rt);
+        )*
+    };
+}
+
+fn narrow_prefixes<E: Engine>(rt: &impl Abort) {
+    let mut steps = Steps::new();
+    let seven = b"00000000000000007";
+    let zeros = b"00000000000000000000000000000000x";
+    assert_eq!(rt;
+        narrow_prefix::<E>(GREATEST_U8, false, seven, &mut steps),
+        Ok((0, 16))
+    );
+    assert_eq!(rt;
+        narrow_prefix::<E>(GREATEST_U8, true, seven, &mut steps),
+        Ok((7, 17))
+    );
+    assert_eq!(rt;
+        narrow_prefix::<E>(GREATEST_U8, true, &seven[..16], &mut steps),
+        Ok((0, 16))
+    );
+    assert_eq!(rt;
+        narrow_prefix::<E>(GREATEST_U8, true, zeros, &mut steps),
+        Ok((0, 32))
+    );
+}
+
+fn narrow_overflows<E: Engine>(rt: &impl Abort) {
+    let mut steps = Steps::new();
+    let above = b"00000000000000255999";
+    let cut = b"0000000000000999x";
+    let short = &cut[1..];
+    assert_eq!(rt;
+        narrow_prefix::<E>(GREATEST_U8, false, above, &mut steps),
+        Ok((25, 16))
+    );
+    assert_eq!(rt;
+        narrow_prefix::<E>(GREATEST_U8, true, above, &mut steps),
+        Err(Overflow(b"255999"))
+    );
+    assert_eq!(rt;
+        narrow_prefix::<E>(GREATEST_U8, true, cut, &mut steps),
+        Err(Overflow(b"999x"))
+    );
+    assert_eq!(rt;
+        narrow_prefix::<E>(GREATEST_U8, true, short, &mut steps),
+        Err(Overflow(short))
+    );
+}
+
+#[test]
+fn narrow(rt: HostRuntime) {
+    on_each_engine!(rt; narrow_prefixes, narrow_overflows);
+}
+
+#[test]
+fn a_million_zeros_and_seven(rt: HostRuntime) -> Result<(), Fail> {
+    let mut text = vec![in rt.alloc(); b'0'; 1_000_000]?;
+    text.push(b'7')?;
+    let mut steps = Steps::new();
+    let expected = Ok((7, 1_000_001));
+    assert_eq!(rt;
+        narrow_prefix::<Plain>(GREATEST_U8, true, &text, &mut steps),
+        expected
+    );
+    assert_eq!(rt;
+        narrow_prefix::<Words>(GREATEST_U8, true, &text, &mut steps),
+        expected
+    );
+    assert_eq!(rt;
+        narrow_prefix::<Lanes>(GREATEST_U8, true, &text, &mut steps),
+        expected
+    );
+    Ok(())
+}
+
+fn sizes_of_64_bits<E: Engine>(rt: &impl Abort) {
+    let mut steps = Steps::new();
+    let ones = b"1111111111111111111111111";
+    let padded = b"0001111111111111111111111111";
+    assert_eq!(rt;
+        E::prefix_64(GREATEST_U64, 20, false, &ones[4..], &mut steps),
+        Err(Size(21, &ones[4..]))
+    );
+    assert_eq!(rt;
+        E::prefix_64(GREATEST_U64, 20, false, &ones[1..], &mut steps),
+        Err(Size(24, &ones[1..]))
+    );
+    assert_eq!(rt;
+        E::prefix_64(GREATEST_U64, 20, false, ones, &mut steps),
+        Err(Size(24, ones))
+    );
+    assert_eq!(rt;
+        E::prefix_64(GREATEST_U64, 20, true, padded, &mut steps),
+        Err(Size(27, ones))
+    );
+}
+
+fn limits_of_17_digits<E: Engine>(rt: &impl Abort) {
+    let mut steps = Steps::new();
+    let above = b"50000000000000001";
+    let padded = b"0100000000000000000";
+    assert_eq!(rt;
+        E::prefix_64(50000000000000000, 17, false, above, &mut steps),
+        Err(Overflow(above))
+    );
+    assert_eq!(rt;
+        E::prefix_64(99999999999999999, 17, true, padded, &mut steps),
+        Err(Size(19, &padded[1..]))
+    );
+}
+
+fn zeros_of_64_bits<E: Engine>(rt: &impl Abort) {
+    let mut steps = Steps::new();
+    let zeros = b"000000000000000000000";
+    let greatest = b"09223372036854775807";
+    assert_eq!(rt;
+        whole_64::<E>(GREATEST_U64, 20, false, zeros, &mut steps),
+        Err(Size(21, zeros))
+    );
+    assert_eq!(rt;
+        whole_64::<E>(GREATEST_U64, 20, true, zeros, &mut steps),
+        Ok(0)
+    );
+    assert_eq!(rt;
+        E::prefix_64(GREATEST_U64, 20, true, zeros, &mut steps),
+        Ok((0, 21))
+    );
+    assert_eq!(rt;
+        whole_64::<E>(GREATEST_I64, 19, false, greatest, &mut steps),
+        Err(Size(20, greatest))
+    );
+    assert_eq!(rt;
+        whole_64::<E>(GREATEST_I64, 19, true, greatest, &mut steps),
+        Ok(GREATEST_I64)
+    );
+}
+
+fn ends_of_64_bits<E: Engine>(rt: &impl Abort) {
+    let mut steps = Steps::new();
+    let greatest = b"18446744073709551615";
+    let above = b"18446744073709551616";
+    let least = b"9223372036854775808x";
+    assert_eq!(rt;
+        whole_64::<E>(GREATEST_U64, 20, false, greatest, &mut steps),
+        Ok(GREATEST_U64)
+    );
+    assert_eq!(rt;
+        whole_64::<E>(GREATEST_U64, 20, false, above, &mut steps),
+        Err(Overflow(above))
+    );
+    assert_eq!(rt;
+        whole_64::<E>(LEAST_I64, 19, false, least, &mut steps),
+        Err(Invalid64(LEAST_I64, 19, least))
+    );
+    assert_eq!(rt;
+        whole_64::<E>(LEAST_I64, 19, false, &least[..19], &mut steps),
+        Ok(LEAST_I64)
+    );
+}
+
+fn rests_of_64_bits<E: Engine>(rt: &impl Abort) {
+    let mut steps = Steps::new();
+    let short = b"007x";
+    let long = b"0000000000000000000000007x";
+    assert_eq!(rt;
+        whole_64::<E>(GREATEST_U64, 20, true, short, &mut steps),
+        Err(Invalid64(7, 3, short))
+    );
+    assert_eq!(rt;
+        whole_64::<E>(GREATEST_U64, 20, true, long, &mut steps),
+        Err(Invalid64(7, 25, long))
+    );
+}
+
+#[test]
+fn of_64_bits(rt: HostRuntime) {
+    on_each_engine!(rt; sizes_of_64_bits, limits_of_17_digits, zeros_of_64_bits, ends_of_64_bits, rests_of_64_bits);
+}
+
+#[test]
+fn a_hundred_zeros_and_seven(rt: HostRuntime) -> Result<(), Fail> {
+    let mut text = vec![in rt.alloc(); b'0'; 100]?;
+    text.push(b'7')?;
+    let mut steps = Steps::new();
+    let expected = Ok((7, 101));
+    assert_eq!(rt;
+        Plain::prefix_64(GREATEST_U64, 20, true, &text, &mut steps),
+        expected
+    );
+    assert_eq!(rt;
+        Words::prefix_64(GREATEST_U64, 20, true, &text, &mut steps),
+        expected
+    );
+    assert_eq!(rt;
+        Lanes::prefix_64(GREATEST_U64, 20, true, &text, &mut steps),
+        expected
+    );
+    Ok(())
+}
+
+fn sizes_of_128_bits<E: Engine>(rt: &impl Abort) {
+    let mut steps = Steps::new();
+    let padded = b"0000111111111111111111111111111111111111111111111";
+    let ones = &padded[4..];
+    let zeros = b"00000000000000000000000000000000000000000";
+    assert_eq!(rt;
+        E::prefix_128(GREATEST_U128, false, ones, &mut steps),
+        Err(Size(40, ones))
+    );
+    assert_eq!(rt;
+        E::prefix_128(GREATEST_U128, true, padded, &mut steps),
+        Err(Size(44, ones))
+    );
+    assert_eq!(rt;
+        whole_128::<E>(GREATEST_U128, false, &zeros[..39], &mut steps),
+        Ok(0)
+    );
+    assert_eq!(rt;
+        whole_128::<E>(GREATEST_U128, false, zeros, &mut steps),
+        Err(Size(40, zeros))
+    );
+}
+
+fn ends_of_128_bits<E: Engine>(rt: &impl Abort) {
+    let mut steps = Steps::new();
+    let greatest = b"340282366920938463463374607431768211455";
+    let above = b"340282366920938463463374607431768211456";
+    let padded = b"0000012x";
+    assert_eq!(rt;
+        whole_128::<E>(GREATEST_U128, false, greatest, &mut steps),
+        Ok(GREATEST_U128)
+    );
+    assert_eq!(rt;
+        whole_128::<E>(GREATEST_U128, false, above, &mut steps),
+        Err(Overflow(above))
+    );
+    assert_eq!(rt;
+        whole_128::<E>(GREATEST_U128, true, padded, &mut steps),
+        Err(Invalid128(12, 7, padded))
+    );
+}
+
+fn runs_of_32_digits<E: Engine>(rt: &impl Abort) {
+    let mut steps = Steps::new();
+    let cut = b"12345678901234567890123456789012s";
+    let digits = b"123456789012345678901234567890123";
+    assert_eq!(rt;
+        E::prefix_128(GREATEST_U128, true, cut, &mut steps),
+        Ok((12345678901234567890123456789012, 32))
+    );
+    assert_eq!(rt;
+        whole_128::<E>(GREATEST_U128, true, digits, &mut steps),
+        Ok(123456789012345678901234567890123)
+    );
+    assert_eq!(rt;
+        whole_128::<E>(GREATEST_U128, true, &digits[..32], &mut steps),
+        Ok(12345678901234567890123456789012)
+    );
+}
+
+#[test]
+fn of_128_bits(rt: HostRuntime) {
+    on_each_engine!(rt; sizes_of_128_bits, ends_of_128_bits, runs_of_32_digits);
+}

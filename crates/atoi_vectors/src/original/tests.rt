@@ -1,0 +1,231 @@
+//! Each row of the original crate, answered by the root and by `lanes`.
+//! It stands on the public calls of `atoi_simd`, and on what `atoi_core` prints.
+
+use super::{ANSWERS, ROWS};
+use atoi_core::{AtoiSimdError, Number, decimal};
+use atoi_simd::lanes;
+use std::alloc::AllocError;
+use std::test::Fail;
+
+// A row without its engine.
+#[derive(Clone, Copy)]
+struct Row<'a> {
+    call: &'a [u8],
+    integer: &'a [u8],
+    skip_zeroes: bool,
+    skip_plus: bool,
+    text: &'a [u8],
+}
+
+fn row_of(line: &[u8]) -> Option<Row<'_>> {
+    let mut words = line.splitn(5, |byte| *byte == b' ');
+    let _engine = words.next()?;
+    let call = words.next()?;
+    let integer = words.next()?;
+    let flags = words.next()?;
+    Some(Row {
+        call,
+        integer,
+        skip_zeroes: flags.first() == Some(&b'z'),
+        skip_plus: flags.last() == Some(&b'p'),
+        text: words.next()?,
+    })
+}
+
+fn put_decimal(value: u128, line: &mut Vec<u8>) -> Result<(), AllocError> {
+    let mut digits = [b'?'; 39];
+    let length = decimal(value, &mut digits);
+    line.extend_from_slice(&digits[..length])
+}
+
+fn put_value<T: Number>(value: T, line: &mut Vec<u8>) -> Result<(), AllocError> {
+    let (minus, magnitude) = value.parts();
+    line.extend_from_slice(if minus { b"ok -" } else { b"ok " })?;
+    put_decimal(magnitude, line)
+}
+
+fn put_refusal(error: AtoiSimdError<'_>, line: &mut Vec<u8>) -> Result<(), AllocError> {
+    let mut text = [b'?'; 400];
+    let length = error.text(&mut text);
+    line.extend_from_slice(b"err ")?;
+    line.extend_from_slice(&text[..length])
+}
+
+fn put_whole<T: Number>(
+    answer: Result<T, AtoiSimdError<'_>>,
+    line: &mut Vec<u8>,
+) -> Result<(), AllocError> {
+    match answer {
+        Ok(value) => put_value(value, line),
+        Err(error) => put_refusal(error, line),
+    }
+}
+
+fn put_prefix<T: Number>(
+    answer: Result<(T, usize), AtoiSimdError<'_>>,
+    line: &mut Vec<u8>,
+) -> Result<(), AllocError> {
+    match answer {
+        Ok((value, count)) => {
+            put_value(value, line)?;
+            line.extend_from_slice(b" ")?;
+            put_decimal(count as u128, line)
+        }
+        Err(error) => put_refusal(error, line),
+    }
+}
+
+// A call whose const flags are those of the row.
+macro_rules! by_flag {
+    ($surface:ident::$call:ident, $row:expr) => {
+        if $row.skip_zeroes {
+            $surface::$call::<T, true>($row.text)
+        } else {
+            $surface::$call::<T, false>($row.text)
+        }
+    };
+}
+
+macro_rules! by_flags {
+    ($surface:ident::$call:ident, $row:expr) => {
+        match ($row.skip_zeroes, $row.skip_plus) {
+            (false, false) => $surface::$call::<T, false, false>($row.text),
+            (false, true) => $surface::$call::<T, false, true>($row.text),
+            (true, false) => $surface::$call::<T, true, false>($row.text),
+            (true, true) => $surface::$call::<T, true, true>($row.text),
+        }
+    };
+}
+
+macro_rules! put_answer {
+    ($surface:ident, $row:expr, $line:expr) => {
+        match $row.call {
+            b"parse" => put_whole(by_flags!($surface::parse, $row), $line),
+            b"prefix" => put_prefix(by_flags!($surface::parse_prefix, $row), $line),
+            b"pos" => put_whole(by_flag!($surface::parse_pos, $row), $line),
+            _ => put_prefix(by_flag!($surface::parse_prefix_pos, $row), $line),
+        }
+    };
+}
+
+macro_rules! put_negative_answer {
+    ($surface:ident, $row:expr, $line:expr) => {
+        match $row.call {
+            b"neg" => put_whole(by_flag!($surface::parse_neg, $row), $line),
+            _ => put_prefix(by_flag!($surface::parse_prefix_neg, $row), $line),
+        }
+    };
+}
+
+fn root<T: atoi_simd::Parse>(row: &Row<'_>, line: &mut Vec<u8>) -> Result<(), AllocError> {
+    put_answer!(atoi_simd, row, line)
+}
+
+fn root_negative<T: atoi_simd::ParseNeg>(
+    row: &Row<'_>,
+    line: &mut Vec<u8>,
+) -> Result<(), AllocError> {
+    put_negative_answer!(atoi_simd, row, line)
+}
+
+fn in_lanes<T: lanes::Parse>(row: &Row<'_>, line: &mut Vec<u8>) -> Result<(), AllocError> {
+    put_answer!(lanes, row, line)
+}
+
+fn in_lanes_negative<T: lanes::ParseNeg>(
+    row: &Row<'_>,
+    line: &mut Vec<u8>,
+) -> Result<(), AllocError> {
+    put_negative_answer!(lanes, row, line)
+}
+
+macro_rules! by_type {
+    ($answer:ident, $row:expr, $line:expr) => {
+        match $row.integer {
+            b"u8" => $answer::<u8>($row, $line),
+            b"i8" => $answer::<i8>($row, $line),
+            b"u16" => $answer::<u16>($row, $line),
+            b"i16" => $answer::<i16>($row, $line),
+            b"u32" => $answer::<u32>($row, $line),
+            b"i32" => $answer::<i32>($row, $line),
+            b"u64" => $answer::<u64>($row, $line),
+            b"i64" => $answer::<i64>($row, $line),
+            b"u128" => $answer::<u128>($row, $line),
+            b"i128" => $answer::<i128>($row, $line),
+            b"usize" => $answer::<usize>($row, $line),
+            _ => $answer::<isize>($row, $line),
+        }
+    };
+}
+
+macro_rules! by_signed_type {
+    ($answer:ident, $row:expr, $line:expr) => {
+        match $row.integer {
+            b"i8" => $answer::<i8>($row, $line),
+            b"i16" => $answer::<i16>($row, $line),
+            b"i32" => $answer::<i32>($row, $line),
+            b"i64" => $answer::<i64>($row, $line),
+            b"i128" => $answer::<i128>($row, $line),
+            _ => $answer::<isize>($row, $line),
+        }
+    };
+}
+
+fn put_root(row: &Row<'_>, line: &mut Vec<u8>) -> Result<(), AllocError> {
+    match row.call {
+        b"neg" | b"prefix_neg" => by_signed_type!(root_negative, row, line),
+        _ => by_type!(root, row, line),
+    }
+}
+
+fn put_lanes(row: &Row<'_>, line: &mut Vec<u8>) -> Result<(), AllocError> {
+    match row.call {
+        b"neg" | b"prefix_neg" => by_signed_type!(in_lanes_negative, row, line),
+        _ => by_type!(in_lanes, row, line),
+    }
+}
+
+// How many rows there are.
+const COUNT: usize = 720;
+
+fn is_end(byte: &u8) -> bool {
+    *byte == b'\n'
+}
+
+#[test]
+fn the_root_answers_every_row(rt: HostRuntime) -> Result<(), Fail> {
+    for (place, (text, answer)) in ROWS
+        .split(is_end)
+        .zip(ANSWERS.split(is_end))
+        .take(COUNT)
+        .enumerate()
+    {
+        let row = row_of(text).ok_or("no row")?;
+        let mut line = Vec::new(rt.alloc());
+        put_root(&row, &mut line)?;
+        assert_eq!(rt; line.as_slice(), answer, "the row at {place}");
+    }
+    Ok(())
+}
+
+#[test]
+fn lanes_answers_every_row(rt: HostRuntime) -> Result<(), Fail> {
+    for (place, (text, answer)) in ROWS
+        .split(is_end)
+        .zip(ANSWERS.split(is_end))
+        .take(COUNT)
+        .enumerate()
+    {
+        let row = row_of(text).ok_or("no row")?;
+        let mut line = Vec::new(rt.alloc());
+        put_lanes(&row, &mut line)?;
+        assert_eq!(rt; line.as_slice(), answer, "the row at {place}");
+    }
+    Ok(())
+}
+
+#[test]
+fn no_row_is_missing(rt: HostRuntime) {
+    assert_eq!(rt; ROWS.iter().filter(|byte| is_end(byte)).count(), COUNT);
+    assert_eq!(rt; ANSWERS.iter().filter(|byte| is_end(byte)).count(), COUNT);
+}

@@ -1,0 +1,57 @@
+//! What one window tells, on each of the three engines.
+//! It stands on `agreement` and on the engines.
+
+use crate::agreement::told;
+use atoi_core::{Engine, Plain, Steps, Words};
+use atoi_simd::lanes::Lanes;
+use std::process::Abort;
+
+// The slice, and how many digits its window has, how many zeros, and the number that they write.
+type Row = (&'static [u8], (u32, u32, u64));
+
+fn check_windows<E: Engine>(rt: &impl Abort, rows: &[Row]) {
+    for (text, expected) in rows {
+        let window = E::window(text, &mut Steps::new());
+        assert_eq!(rt; told(window), *expected, "of {text:?}");
+    }
+}
+
+fn check_windows_8<E: Engine>(rt: &impl Abort, rows: &[Row]) {
+    for (text, expected) in rows {
+        let window = E::window_8(text, &mut Steps::new());
+        assert_eq!(rt; told(window), *expected, "of {text:?}");
+    }
+}
+
+#[test]
+fn windows_of_sixteen_bytes(rt: HostRuntime) {
+    let rows: [Row; 9] = [
+        (b"000000000000123\0", (15, 0, 123)),
+        (b"0000000000000123", (16, 13, 123)),
+        (b"123\0\0\0\0\0\0\0\0\0\0\0\0\0", (3, 0, 123)),
+        (b"9999999999999999", (16, 0, 9999999999999999)),
+        (b"", (0, 0, 0)),
+        (b"x1", (0, 0, 0)),
+        (b"/0", (0, 0, 0)),
+        (b":0", (0, 0, 0)),
+        (b"9\xFF9", (1, 0, 9)),
+    ];
+    check_windows::<Plain>(&rt, &rows);
+    check_windows::<Words>(&rt, &rows);
+    check_windows::<Lanes>(&rt, &rows);
+}
+
+#[test]
+fn windows_of_eight_bytes(rt: HostRuntime) {
+    let rows: [Row; 6] = [
+        (b"123456789", (8, 0, 12345678)),
+        (b"12345678", (8, 0, 12345678)),
+        (b"0000000", (7, 0, 0)),
+        (b"00000000", (8, 8, 0)),
+        (b"1\0\0\0\0\0\0\0", (1, 0, 1)),
+        (b"12\0\0\0\0\0\0", (2, 0, 12)),
+    ];
+    check_windows_8::<Plain>(&rt, &rows);
+    check_windows_8::<Words>(&rt, &rows);
+    check_windows_8::<Lanes>(&rt, &rows);
+}

@@ -1,0 +1,170 @@
+//! The worked rows of the ten functions. Each is stated once and runs on the root and on `lanes`.
+//! It stands on the public calls of `atoi_simd` alone.
+
+use atoi_simd::AtoiSimdError::{self, Empty, Invalid64, Overflow, Size};
+use atoi_simd::{lanes, parse};
+use std::process::Abort;
+
+// Each row is a call and its answer, which the root and `lanes` have to give alike.
+macro_rules! on_both {
+    ($rt:expr; $($call:ident::<$($argument:tt),*>($text:expr) => $answer:expr;)*) => {
+        $(
+            assert_eq!($rt; atoi_simd::$call::<$($argument),*>($text), $answer);
+            assert_eq!($rt; lanes::$call::<$($argument),*>($text), $answer);
+        )*
+    };
+}
+
+#[test]
+fn the_examples_of_the_crate(rt: HostRuntime) {
+    on_both!(rt;
+        parse::<u64, false, false>(b"1234") => Ok(1234);
+        parse::<u64, true, true>(b"+000000000000000000001234") => Ok(1234);
+        parse_prefix::<u64, true, true>(b"+000000000000000000001234") => Ok((1234, 25));
+        parse::<i64, false, false>(b"-2345") => Ok(-2345);
+        parse_neg::<i64, false>(b"2345") => Ok(-2345);
+        parse_prefix::<u64, false, false>(b"123something_else") => Ok((123, 3));
+    );
+}
+
+#[test]
+fn the_ends_of_eight_bits(rt: HostRuntime) {
+    on_both!(rt;
+        parse::<u8, false, false>(b"256x") => Err(Overflow(b"256x"));
+        parse::<u8, false, false>(b"255x") => Err(Invalid64(255, 3, b"255x"));
+        parse::<u8, false, false>(b"12a") => Err(Invalid64(12, 2, b"12a"));
+        parse::<i8, false, false>(b"-128") => Ok(-128);
+        parse::<i8, false, false>(b"-129") => Err(Overflow(b"129"));
+    );
+}
+
+fn shows(rt: &impl Abort, refusal: Option<AtoiSimdError<'_>>, text: &[u8]) {
+    let mut out = [b'?'; 400];
+    let length = match refusal {
+        Some(error) => error.text(&mut out),
+        None => 0,
+    };
+    assert_eq!(rt; &out[..length], text);
+}
+
+#[test]
+fn a_refusal_tells_its_reason(rt: HostRuntime) {
+    let text =
+        b"atoi_simd invalid at index: 2 it must contain only digits, starting with: 12  input: [31, 32, 61]";
+    shows(&rt, parse::<u8, false, false>(b"12a").err(), text);
+    shows(&rt, lanes::parse::<u8, false, false>(b"12a").err(), text);
+    let text = b"atoi_simd overflow, input: [31, 32, 39]";
+    shows(&rt, parse::<i8, false, false>(b"-129").err(), text);
+    shows(&rt, lanes::parse::<i8, false, false>(b"-129").err(), text);
+}
+
+#[test]
+fn zeros_before_a_prefix_of_eight_bits(rt: HostRuntime) {
+    let seven = b"00000000000000007";
+    let above = b"00000000000000255999";
+    let cut = b"0000000000000999x";
+    let short = b"000000000000999x";
+    on_both!(rt;
+        parse_prefix::<u8, false, false>(seven) => Ok((0, 16));
+        parse_prefix::<u8, true, false>(seven) => Ok((7, 17));
+        parse_prefix::<u8, true, false>(b"0000000000000000") => Ok((0, 16));
+        parse_prefix::<u8, false, false>(above) => Ok((25, 16));
+        parse_prefix::<u8, true, false>(above) => Err(Overflow(b"255999"));
+        parse_prefix::<u8, true, false>(cut) => Err(Overflow(b"999x"));
+        parse_prefix::<u8, true, false>(short) => Err(Overflow(short));
+    );
+}
+
+#[test]
+fn zeros_before_64_bits(rt: HostRuntime) {
+    let zeros = b"000000000000000000000";
+    let greatest = b"09223372036854775807";
+    let ones = b"1111111111111111111111111";
+    let padded = b"0001111111111111111111111111";
+    on_both!(rt;
+        parse::<u64, false, false>(zeros) => Err(Size(21, zeros));
+        parse::<u64, true, false>(zeros) => Ok(0);
+        parse_prefix::<u64, true, false>(zeros) => Ok((0, 21));
+        parse::<i64, false, false>(greatest) => Err(Size(20, greatest));
+        parse::<i64, true, false>(greatest) => Ok(i64::MAX);
+        parse_prefix::<u64, true, false>(padded) => Err(Size(27, ones));
+    );
+}
+
+#[test]
+fn a_byte_that_is_no_digit_behind_zeros(rt: HostRuntime) {
+    let short = b"007x";
+    let long = b"0000000000000000000000007x";
+    on_both!(rt;
+        parse::<u64, true, false>(short) => Err(Invalid64(7, 3, short));
+        parse::<u64, true, false>(long) => Err(Invalid64(7, 25, long));
+    );
+}
+
+#[test]
+fn the_ends_of_64_bits(rt: HostRuntime) {
+    let greatest = b"18446744073709551615";
+    let above = b"18446744073709551616";
+    let least = b"9223372036854775808";
+    let cut = b"9223372036854775808x";
+    let ones = b"11111111111111111111111111111111x";
+    on_both!(rt;
+        parse::<u64, false, false>(greatest) => Ok(u64::MAX);
+        parse::<u64, false, false>(above) => Err(Overflow(above));
+        parse_neg::<i64, false>(cut) => Err(Invalid64(9223372036854775808, 19, cut));
+        parse_neg::<i64, false>(least) => Ok(i64::MIN);
+        parse_prefix::<u64, false, false>(ones) => Err(Size(24, ones));
+    );
+}
+
+#[test]
+fn the_ends_of_128_bits(rt: HostRuntime) {
+    let greatest = b"340282366920938463463374607431768211455";
+    let above = b"340282366920938463463374607431768211456";
+    let least = b"170141183460469231731687303715884105728,";
+    let zeros = b"00000000000000000000000000000000000000000";
+    on_both!(rt;
+        parse::<u128, false, false>(greatest) => Ok(u128::MAX);
+        parse::<u128, false, false>(above) => Err(Overflow(above));
+        parse_any_neg::<i128>(least) => Ok((i128::MIN, 39));
+        parse::<u128, false, false>(&zeros[..39]) => Ok(0);
+        parse::<u128, false, false>(zeros) => Err(Size(40, zeros));
+    );
+}
+
+#[test]
+fn runs_of_32_digits(rt: HostRuntime) {
+    let digits = b"12345678901234567890123456789012";
+    let one_more = b"123456789012345678901234567890123";
+    let cut = b"12345678901234567890123456789012s";
+    on_both!(rt;
+        parse_prefix_pos::<u128, true>(cut) => Ok((12345678901234567890123456789012, 32));
+        parse_pos::<u128, true>(digits) => Ok(12345678901234567890123456789012);
+        parse_pos::<u128, true>(one_more) => Ok(123456789012345678901234567890123);
+    );
+}
+
+#[test]
+fn a_sign_that_was_taken_is_counted(rt: HostRuntime) {
+    on_both!(rt;
+        parse_prefix::<i32, false, true>(b"+12a") => Ok((12, 3));
+        parse_prefix::<i32, false, false>(b"-12a") => Ok((-12, 3));
+        parse_prefix::<i8, false, false>(b"-0x") => Ok((0, 2));
+        parse::<i16, false, true>(b"+32768") => Err(Overflow(b"32768"));
+        parse_skipped::<isize>(b"+007") => Ok(7);
+        parse_any::<usize>(b"7 ") => Ok((7, 1));
+    );
+}
+
+#[test]
+fn no_digit_behind_the_sign(rt: HostRuntime) {
+    on_both!(rt;
+        parse::<i8, false, true>(b"") => Err(Empty);
+        parse::<i8, false, true>(b"+") => Err(Empty);
+        parse::<i8, false, true>(b"-") => Err(Empty);
+        parse::<i8, false, true>(b"+-5") => Err(Empty);
+        parse::<i8, false, true>(b"--5") => Err(Empty);
+        parse::<u8, false, false>(b"-5") => Err(Empty);
+        parse::<i8, false, false>(b"+5") => Err(Empty);
+    );
+}
