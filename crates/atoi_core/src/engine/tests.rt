@@ -82,7 +82,10 @@ fn compares_seventeen_digits(rt: HostRuntime) {
 #[test]
 fn skips_all_zeros(rt: HostRuntime) -> Result<(), Fail> {
     let hundred_and_seven = repeated(rt.alloc(), b'0', 100, b"7")?;
-    assert_eq!(rt; prefix_u64::<Plain>(true, &hundred_and_seven).ok(), Some((7, 101)));
+    assert_eq!(rt;
+        prefix_u64::<Plain>(true, &hundred_and_seven).ok(),
+        Some((7, 101))
+    );
     let zeros = repeated(rt.alloc(), b'0', 21, b"")?;
     assert_eq!(rt; prefix_u64::<Plain>(true, &zeros).ok(), Some((0, 21)));
     Ok(())
