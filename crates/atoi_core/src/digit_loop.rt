@@ -29,7 +29,7 @@ fn rest_after(len: usize, number: u64, s: &[u8]) -> AtoiSimdError<'_>
     }
 }
 
-/// Reads the whole of `s` as decimal digits, at most `bound`.
+/// Reads the whole of `s` as decimal digits that write a number of at most `bound`.
 ///
 /// It reads digit by digit and accepts any number of leading zeros. `bound` is from 9 to 4294967295.
 ///

@@ -34,6 +34,9 @@ fn least_128<T: Signed>() -> u128
 
 /// Reads the whole of `s` as a number of a type of 128 bits.
 ///
+/// With `skip` leading zeros do not count against the digits that the type has. `steps` counts the
+/// windows that are loaded.
+///
 /// # Errors
 ///
 /// `Empty`, `Size`, `Overflow` and `Invalid128`, as of `whole_128` with the bound of the type.
@@ -44,10 +47,8 @@ pub fn whole_128_pos<'a, E: Engine, T: Number>(
     steps: &mut Steps,
 ) -> Result<T, AtoiSimdError<'a>>
     requires { class_of (kind T.BITS T.SIGNED T.GREATEST) ≡ wide128 }
-    ensures answer {
-        typed_answer T.number result
-        ≡ whole_answer E.table (kind T.BITS T.SIGNED T.GREATEST) false skip s.now
-    }
+    ensures answer { typed_answer T.number result
+        ≡ whole_answer E.table (kind T.BITS T.SIGNED T.GREATEST) false skip s.now }
     ensures most { steps.new ≤ steps.old + most_loads E.table wide128 s.now }
     ensures least { 0 < length s.now → steps.old < steps.new }
     ensures least_skipping { IsTrue skip → steps.old + least_loads E.table s.now ≤ steps.new }
@@ -60,6 +61,9 @@ pub fn whole_128_pos<'a, E: Engine, T: Number>(
 
 /// Reads the whole of `s` as the digits of a negative number of a type of 128 bits.
 ///
+/// With `skip` leading zeros do not count against the digits that the type has. `steps` counts the
+/// windows that are loaded.
+///
 /// # Errors
 ///
 /// `Empty`, `Size`, `Overflow` and `Invalid128`, as of `whole_128` with the bound of the type.
@@ -70,10 +74,8 @@ pub fn whole_128_neg<'a, E: Engine, T: Signed>(
     steps: &mut Steps,
 ) -> Result<T, AtoiSimdError<'a>>
     requires { class_of (kind T.BITS T.SIGNED T.GREATEST) ≡ wide128 }
-    ensures answer {
-        typed_answer T.number result
-        ≡ whole_answer E.table (kind T.BITS T.SIGNED T.GREATEST) true skip s.now
-    }
+    ensures answer { typed_answer T.number result
+        ≡ whole_answer E.table (kind T.BITS T.SIGNED T.GREATEST) true skip s.now }
     ensures most { steps.new ≤ steps.old + most_loads E.table wide128 s.now }
     ensures least { 0 < length s.now → steps.old < steps.new }
     ensures least_skipping { IsTrue skip → steps.old + least_loads E.table s.now ≤ steps.new }
@@ -86,6 +88,9 @@ pub fn whole_128_neg<'a, E: Engine, T: Signed>(
 
 /// Reads a number of a type of 128 bits from the front of `s`, and tells its length in bytes.
 ///
+/// With `skip` leading zeros do not count against the digits that the type has. `steps` counts the
+/// windows that are loaded.
+///
 /// # Errors
 ///
 /// `Empty`, `Size` and `Overflow`, as of `Engine::prefix_128` with the bound of the type.
@@ -96,10 +101,8 @@ pub fn prefix_128_pos<'a, E: Engine, T: Number>(
     steps: &mut Steps,
 ) -> Result<(T, usize), AtoiSimdError<'a>>
     requires { class_of (kind T.BITS T.SIGNED T.GREATEST) ≡ wide128 }
-    ensures answer {
-        typed_prefix_answer T.number result
-        ≡ prefix_answer E.table (kind T.BITS T.SIGNED T.GREATEST) false skip s.now
-    }
+    ensures answer { typed_prefix_answer T.number result
+        ≡ prefix_answer E.table (kind T.BITS T.SIGNED T.GREATEST) false skip s.now }
     ensures most { steps.new ≤ steps.old + most_loads E.table wide128 s.now }
     ensures least { 0 < length s.now → steps.old < steps.new }
     ensures least_skipping { IsTrue skip → steps.old + least_loads E.table s.now ≤ steps.new }
@@ -110,7 +113,11 @@ pub fn prefix_128_pos<'a, E: Engine, T: Number>(
     }
 }
 
-/// Reads the digits of a negative number of a type of 128 bits from the front of `s`, and tells its length in bytes.
+/// Reads the digits of a negative number of a type of 128 bits from the front of `s`, and tells
+/// their length in bytes.
+///
+/// With `skip` leading zeros do not count against the digits that the type has. `steps` counts the
+/// windows that are loaded.
 ///
 /// # Errors
 ///
@@ -122,10 +129,8 @@ pub fn prefix_128_neg<'a, E: Engine, T: Signed>(
     steps: &mut Steps,
 ) -> Result<(T, usize), AtoiSimdError<'a>>
     requires { class_of (kind T.BITS T.SIGNED T.GREATEST) ≡ wide128 }
-    ensures answer {
-        typed_prefix_answer T.number result
-        ≡ prefix_answer E.table (kind T.BITS T.SIGNED T.GREATEST) true skip s.now
-    }
+    ensures answer { typed_prefix_answer T.number result
+        ≡ prefix_answer E.table (kind T.BITS T.SIGNED T.GREATEST) true skip s.now }
     ensures most { steps.new ≤ steps.old + most_loads E.table wide128 s.now }
     ensures least { 0 < length s.now → steps.old < steps.new }
     ensures least_skipping { IsTrue skip → steps.old + least_loads E.table s.now ≤ steps.new }

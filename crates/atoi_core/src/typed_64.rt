@@ -45,6 +45,9 @@ fn limit_64<T: Number>() -> u32
 
 /// Reads the whole of `s` as a number of a type of 64 bits.
 ///
+/// With `skip` leading zeros do not count against the digits that the type has. `steps` counts the
+/// windows that are loaded.
+///
 /// # Errors
 ///
 /// `Empty`, `Size`, `Overflow` and `Invalid64`, as of `whole_64` with the bound of the type.
@@ -55,10 +58,8 @@ pub fn whole_64_pos<'a, E: Engine, T: Number>(
     steps: &mut Steps,
 ) -> Result<T, AtoiSimdError<'a>>
     requires { class_of (kind T.BITS T.SIGNED T.GREATEST) ≡ wide64 }
-    ensures answer {
-        typed_answer T.number result
-        ≡ whole_answer E.table (kind T.BITS T.SIGNED T.GREATEST) false skip s.now
-    }
+    ensures answer { typed_answer T.number result
+        ≡ whole_answer E.table (kind T.BITS T.SIGNED T.GREATEST) false skip s.now }
     ensures most { steps.new ≤ steps.old + most_loads E.table wide64 s.now }
     ensures least { 0 < length s.now → steps.old < steps.new }
     ensures least_skipping { IsTrue skip → steps.old + least_loads E.table s.now ≤ steps.new }
@@ -71,6 +72,9 @@ pub fn whole_64_pos<'a, E: Engine, T: Number>(
 
 /// Reads the whole of `s` as the digits of a negative number of a type of 64 bits.
 ///
+/// With `skip` leading zeros do not count against the digits that the type has. `steps` counts the
+/// windows that are loaded.
+///
 /// # Errors
 ///
 /// `Empty`, `Size`, `Overflow` and `Invalid64`, as of `whole_64` with the bound of the type.
@@ -81,10 +85,8 @@ pub fn whole_64_neg<'a, E: Engine, T: Signed>(
     steps: &mut Steps,
 ) -> Result<T, AtoiSimdError<'a>>
     requires { class_of (kind T.BITS T.SIGNED T.GREATEST) ≡ wide64 }
-    ensures answer {
-        typed_answer T.number result
-        ≡ whole_answer E.table (kind T.BITS T.SIGNED T.GREATEST) true skip s.now
-    }
+    ensures answer { typed_answer T.number result
+        ≡ whole_answer E.table (kind T.BITS T.SIGNED T.GREATEST) true skip s.now }
     ensures most { steps.new ≤ steps.old + most_loads E.table wide64 s.now }
     ensures least { 0 < length s.now → steps.old < steps.new }
     ensures least_skipping { IsTrue skip → steps.old + least_loads E.table s.now ≤ steps.new }
@@ -97,6 +99,9 @@ pub fn whole_64_neg<'a, E: Engine, T: Signed>(
 
 /// Reads a number of a type of 64 bits from the front of `s`, and tells its length in bytes.
 ///
+/// With `skip` leading zeros do not count against the digits that the type has. `steps` counts the
+/// windows that are loaded.
+///
 /// # Errors
 ///
 /// `Empty`, `Size` and `Overflow`, as of `Engine::prefix_64` with the bound of the type.
@@ -107,10 +112,8 @@ pub fn prefix_64_pos<'a, E: Engine, T: Number>(
     steps: &mut Steps,
 ) -> Result<(T, usize), AtoiSimdError<'a>>
     requires { class_of (kind T.BITS T.SIGNED T.GREATEST) ≡ wide64 }
-    ensures answer {
-        typed_prefix_answer T.number result
-        ≡ prefix_answer E.table (kind T.BITS T.SIGNED T.GREATEST) false skip s.now
-    }
+    ensures answer { typed_prefix_answer T.number result
+        ≡ prefix_answer E.table (kind T.BITS T.SIGNED T.GREATEST) false skip s.now }
     ensures most { steps.new ≤ steps.old + most_loads E.table wide64 s.now }
     ensures least { 0 < length s.now → steps.old < steps.new }
     ensures least_skipping { IsTrue skip → steps.old + least_loads E.table s.now ≤ steps.new }
@@ -121,7 +124,11 @@ pub fn prefix_64_pos<'a, E: Engine, T: Number>(
     }
 }
 
-/// Reads the digits of a negative number of a type of 64 bits from the front of `s`, and tells its length in bytes.
+/// Reads the digits of a negative number of a type of 64 bits from the front of `s`, and tells
+/// their length in bytes.
+///
+/// With `skip` leading zeros do not count against the digits that the type has. `steps` counts the
+/// windows that are loaded.
 ///
 /// # Errors
 ///
@@ -133,10 +140,8 @@ pub fn prefix_64_neg<'a, E: Engine, T: Signed>(
     steps: &mut Steps,
 ) -> Result<(T, usize), AtoiSimdError<'a>>
     requires { class_of (kind T.BITS T.SIGNED T.GREATEST) ≡ wide64 }
-    ensures answer {
-        typed_prefix_answer T.number result
-        ≡ prefix_answer E.table (kind T.BITS T.SIGNED T.GREATEST) true skip s.now
-    }
+    ensures answer { typed_prefix_answer T.number result
+        ≡ prefix_answer E.table (kind T.BITS T.SIGNED T.GREATEST) true skip s.now }
     ensures most { steps.new ≤ steps.old + most_loads E.table wide64 s.now }
     ensures least { 0 < length s.now → steps.old < steps.new }
     ensures least_skipping { IsTrue skip → steps.old + least_loads E.table s.now ≤ steps.new }

@@ -38,7 +38,7 @@ fn narrow_least<T: Signed>() -> u64
 
 /// Reads the whole of `s` as a number of a type of at most 32 bits.
 ///
-/// Any number of leading zeros is accepted, whatever `skip` says.
+/// Any number of leading zeros is accepted, whatever the flag says. No window is loaded.
 ///
 /// # Errors
 ///
@@ -51,10 +51,8 @@ pub fn narrow_whole_pos<'a, E: Engine, T: Number>(
     _steps: &mut Steps,
 ) -> Result<T, AtoiSimdError<'a>>
     requires { class_of (kind T.BITS T.SIGNED T.GREATEST) ≡ narrow }
-    ensures answer {
-        typed_answer T.number result
-        ≡ whole_answer decimal_table (kind T.BITS T.SIGNED T.GREATEST) false _skip s.now
-    }
+    ensures answer { typed_answer T.number result
+        ≡ whole_answer decimal_table (kind T.BITS T.SIGNED T.GREATEST) false _skip s.now }
     ensures loads_nothing { _steps.new ≡ _steps.old }
 {
     match narrow_whole(narrow_greatest::<T>(), s) {
@@ -65,7 +63,7 @@ pub fn narrow_whole_pos<'a, E: Engine, T: Number>(
 
 /// Reads the whole of `s` as the digits of a negative number of a type of at most 32 bits.
 ///
-/// Any number of leading zeros is accepted, whatever `skip` says.
+/// Any number of leading zeros is accepted, whatever the flag says. No window is loaded.
 ///
 /// # Errors
 ///
@@ -78,10 +76,8 @@ pub fn narrow_whole_neg<'a, E: Engine, T: Signed>(
     _steps: &mut Steps,
 ) -> Result<T, AtoiSimdError<'a>>
     requires { class_of (kind T.BITS T.SIGNED T.GREATEST) ≡ narrow }
-    ensures answer {
-        typed_answer T.number result
-        ≡ whole_answer decimal_table (kind T.BITS T.SIGNED T.GREATEST) true _skip s.now
-    }
+    ensures answer { typed_answer T.number result
+        ≡ whole_answer decimal_table (kind T.BITS T.SIGNED T.GREATEST) true _skip s.now }
     ensures loads_nothing { _steps.new ≡ _steps.old }
 {
     match narrow_whole(narrow_least::<T>(), s) {
@@ -91,6 +87,9 @@ pub fn narrow_whole_neg<'a, E: Engine, T: Signed>(
 }
 
 /// Reads a number of a type of at most 32 bits from the front of `s`, and tells its length in bytes.
+///
+/// With `skip` any number of leading zeros is read, without it 16 digits at most. `steps` counts the
+/// windows that are loaded.
 ///
 /// # Errors
 ///
@@ -103,10 +102,8 @@ pub fn narrow_prefix_pos<'a, E: Engine, T: Number>(
     steps: &mut Steps,
 ) -> Result<(T, usize), AtoiSimdError<'a>>
     requires { class_of (kind T.BITS T.SIGNED T.GREATEST) ≡ narrow }
-    ensures answer {
-        typed_prefix_answer T.number result
-        ≡ prefix_answer E.table (kind T.BITS T.SIGNED T.GREATEST) false skip s.now
-    }
+    ensures answer { typed_prefix_answer T.number result
+        ≡ prefix_answer E.table (kind T.BITS T.SIGNED T.GREATEST) false skip s.now }
     ensures most { steps.new ≤ steps.old + most_loads E.table narrow s.now }
     ensures least { 0 < length s.now → steps.old < steps.new }
     ensures least_skipping { IsTrue skip → steps.old + least_loads E.table s.now ≤ steps.new }
@@ -117,7 +114,11 @@ pub fn narrow_prefix_pos<'a, E: Engine, T: Number>(
     }
 }
 
-/// Reads the digits of a negative number of a type of at most 32 bits from the front of `s`, and tells its length in bytes.
+/// Reads the digits of a negative number of a type of at most 32 bits from the front of `s`, and tells
+/// their length in bytes.
+///
+/// With `skip` any number of leading zeros is read, without it 16 digits at most. `steps` counts the
+/// windows that are loaded.
 ///
 /// # Errors
 ///
@@ -130,10 +131,8 @@ pub fn narrow_prefix_neg<'a, E: Engine, T: Signed>(
     steps: &mut Steps,
 ) -> Result<(T, usize), AtoiSimdError<'a>>
     requires { class_of (kind T.BITS T.SIGNED T.GREATEST) ≡ narrow }
-    ensures answer {
-        typed_prefix_answer T.number result
-        ≡ prefix_answer E.table (kind T.BITS T.SIGNED T.GREATEST) true skip s.now
-    }
+    ensures answer { typed_prefix_answer T.number result
+        ≡ prefix_answer E.table (kind T.BITS T.SIGNED T.GREATEST) true skip s.now }
     ensures most { steps.new ≤ steps.old + most_loads E.table narrow s.now }
     ensures least { 0 < length s.now → steps.old < steps.new }
     ensures least_skipping { IsTrue skip → steps.old + least_loads E.table s.now ≤ steps.new }
