@@ -22,6 +22,7 @@ narrow_answer t bound skip s =
     unless_refused (narrow_refusal bound skip (run_len t s) (zeros t s) (value t (take read s)) s)
     (value t (take read s), read)
 
+-- the other tests of the definition are idle in the narrow class
 pub narrow_answer_is : (t : Table) (bound limit : ℕ) (skip : Bool) (s : List ℕ) →
     prefix_magnitude t narrow bound limit skip s ≡ narrow_answer t bound skip s
 unfolding refusal narrow_refusal narrow_answer
@@ -61,6 +62,7 @@ unskipped_len : (t : Table) (s : List ℕ) (at before now : ℕ) (w : Window) �
     w.len ≡ min (run_len t s) 16
 unskipped_len t s at before now w so = omega (arith, so.off refl, so.run_is, so.shown.len_is)
 
+-- and its number is theirs
 unskipped_number : (t : Table) (s : List ℕ) (at before now : ℕ) (w : Window) → Skipped t false s at before now w →
     w.number ≡ value t (take (min (run_len t s) 16) s)
 unskipped_number t s at before now w so =
