@@ -1,5 +1,5 @@
 -- The answers of the narrow class for a front, from the last window behind the zeros that are skipped.
-use Rattle.std.proofs.Common.{◌≡◌, ℕ, ◌+◌, ◌-◌, ◌*◌, ◌/◌, ◌^◌, ◌<◌, ◌≤◌, ◌==◌, ◌⊎◌, min, Bool, true, false, nat_lt, List, length, take, drop, Option, Some, None, Result, Ok, Err, refl, sym, ap, ◌∙◌, ne_eqb, lit<, inl, inr, arith, if◌then◌else◌}
+use Rattle.std.proofs.Common.{◌≡◌, ℕ, ◌+◌, ◌*◌, ◌/◌, ◌^◌, ◌<◌, ◌≤◌, ◌==◌, min, Bool, true, false, nat_lt, List, take, drop, Option, Some, None, Result, Ok, Err, refl, sym, ap, ◌∙◌, ne_eqb, lit<, inl, inr, arith, if◌then◌else◌}
 use Rattle.std.proofs.Math.Nat.{le-mul_of_pos_right, one-le-pow}
 use Rattle.std.proofs.lemmas.Bool.{cases_lt, eq-eqb, lt-ltb, le-ltb}
 use Rattle.atoi_core.specs.Digit.{Table}
@@ -7,7 +7,6 @@ use Rattle.atoi_core.specs.Run.{run_len, run, zeros, value}
 use Rattle.atoi_core.specs.Refusal.{Refusal, empty, overflow}
 use Rattle.atoi_core.specs.Magnitude.{narrow, prefix, seen, dropped, refusal, unless_refused, prefix_magnitude}
 use Rattle.atoi_core.specs.declared.window.Window.{Window}
-use Rattle.atoi_core.proofs.WindowLemmas.{Reads, Shows}
 use Rattle.atoi_core.proofs.SkipLemmas.{Skipped}
 
 -- the reason to refuse n digits, of which those that are read write v
@@ -23,6 +22,7 @@ narrow_answer t bound skip s =
     unless_refused (narrow_refusal bound skip (run_len t s) (zeros t s) (value t (take read s)) s)
     (value t (take read s), read)
 
+-- the other tests of the definition are idle in the narrow class
 pub narrow_answer_is : (t : Table) (bound limit : ℕ) (skip : Bool) (s : List ℕ) →
     prefix_magnitude t narrow bound limit skip s ≡ narrow_answer t bound skip s
 unfolding refusal narrow_refusal narrow_answer
@@ -62,6 +62,7 @@ unskipped_len : (t : Table) (s : List ℕ) (at before now : ℕ) (w : Window) �
     w.len ≡ min (run_len t s) 16
 unskipped_len t s at before now w so = omega (arith, so.off refl, so.run_is, so.shown.len_is)
 
+-- and its number is theirs
 unskipped_number : (t : Table) (s : List ℕ) (at before now : ℕ) (w : Window) → Skipped t false s at before now w →
     w.number ≡ value t (take (min (run_len t s) 16) s)
 unskipped_number t s at before now w so =

@@ -1,5 +1,5 @@
 -- The loop that skips zeros by whole windows: how far it comes, and how many windows it loads.
-use Rattle.std.proofs.Common.{◌≡◌, ℕ, ◌+◌, ◌-◌, ◌*◌, ◌/◌, ◌^◌, ◌<◌, ◌≤◌, ◌⊎◌, min, Bool, true, false, List, length, take, drop, IsTrue, refl, sym, ap, ◌∙◌, inl, inr, ⊎_elim, arith}
+use Rattle.std.proofs.Common.{◌≡◌, ℕ, ◌+◌, ◌-◌, ◌*◌, ◌/◌, ◌<◌, ◌≤◌, ◌⊎◌, min, Bool, true, false, List, length, take, drop, IsTrue, refl, sym, ap, ◌∙◌, inl, inr, arith}
 use Rattle.std.proofs.lemmas.Bool.{cases_lt, false≢true}
 use Rattle.std.proofs.lemmas.List.{take_rest}
 use Rattle.std.proofs.lemmas.List.Sums.{prefix_len-le-length}
@@ -9,7 +9,7 @@ use Rattle.atoi_core.specs.Window.{window_of}
 use Rattle.atoi_core.specs.declared.window.Window.{Window}
 use Rattle.atoi_core.proofs.RunLemmas.{prefix_len-drop, zeros-le}
 use Rattle.atoi_core.proofs.ValueLemmas.{value-drop_zeros}
-use Rattle.atoi_core.proofs.WindowLemmas.{Reads, Shows, shows}
+use Rattle.atoi_core.proofs.WindowLemmas.{Shows, shows}
 
 -- before a window is loaded at a place `at`: only zeros stand before it, a window was loaded for
 -- each 16 of them, and one more where it told fewer
@@ -88,6 +88,7 @@ pub record Skipped (t : Table) (skip : Bool) (s : List ℕ) (at before now : ℕ
   pub least : skip ≡ true → zeros t s + 16 * before ≤ 16 * now
   pub place : skip ≡ true → (at ≡ 16 * (zeros t s / 16)) ⊎ ((at ≡ zeros t s) × (zeros t s / 16 < run_len t s / 16))
 
+-- a window that tells no zeros, or a call that does not skip, ends the loop
 pub Skipped-end : (t : Table) → IsBelowTen t → (skip : Bool) (s : List ℕ) (at before now next : ℕ) (w : Window) →
     Skipping t skip s at before now → w ≡ window_of t 16 (take (length s - at) (drop at s)) → next ≡ now + 1 →
     (skip ≡ false) ⊎ ((skip ≡ true) × (w.zeroes ≡ 0)) → Skipped t skip s at before next w
@@ -123,11 +124,6 @@ Skipped-end t below skip s at before now next w so e one stops =
         ])
       ];
     }
-
--- that place is within the slice
-pub Skipping-nearer : (t : Table) (skip : Bool) (s : List ℕ) (at before now k : ℕ) → Skipping t skip s (at + k) before now →
-    0 < k → length s - (at + k) < length s - at
-Skipping-nearer t skip s at before now k so some = omega (arith, so.within)
 
 -- a call that skips has loaded a window for each 32 zeros at least, however many it loads after these
 pub Skipped-loads : (t : Table) (skip : Bool) (s : List ℕ) (at before now last : ℕ) (w : Window) →

@@ -1,5 +1,5 @@
 -- The answer for a whole slice of a wide class, from the answer for its front.
-use Rattle.std.proofs.Common.{◌≡◌, ℕ, ◌+◌, ◌-◌, ◌==◌, min, Bool, true, false, not, nat_lt, List, length, take, drop, Option, Some, None, Result, Ok, Err, refl, if◌then◌else◌}
+use Rattle.std.proofs.Common.{◌≡◌, ℕ, ◌+◌, ◌-◌, ◌==◌, min, Bool, true, false, not, nat_lt, List, length, drop, Some, None, Result, Ok, Err, refl, if◌then◌else◌}
 use Rattle.atoi_core.specs.Digit.{Table}
 use Rattle.atoi_core.specs.Run.{run_len, run, zeros, value}
 use Rattle.atoi_core.specs.Refusal.{Refusal, empty, size, overflow, invalid64, invalid128}
@@ -22,6 +22,7 @@ last_reason invalid s false false false none long over v n =
     elim (n == length s) as (λ d. unless_refused (if not d then Some (invalid v n s) else None) v ≡ (if d then Ok v else Err (invalid v n s)))
     [ true ↦ refl | false ↦ refl ]
 
+-- at 64 bits
 pub whole_64_is : (t : Table) (bound limit : ℕ) (skip : Bool) (s : List ℕ) →
     whole_magnitude t wide64 bound limit skip s ≡ whole_of invalid64 s (prefix_magnitude t wide64 bound limit skip s)
 unfolding refusal
@@ -32,6 +33,7 @@ whole_64_is t bound limit skip s =
     last_reason invalid64 s (n == 0) (nat_lt limit d) (nat_lt bound v)
     empty (size (n - d + min d 24) (drop (n - d) s)) (overflow (drop (n - d) s)) v n
 
+-- at 128 bits
 pub whole_128_is : (t : Table) (bound limit : ℕ) (skip : Bool) (s : List ℕ) →
     whole_magnitude t wide128 bound limit skip s ≡ whole_of invalid128 s (prefix_magnitude t wide128 bound limit skip s)
 unfolding refusal

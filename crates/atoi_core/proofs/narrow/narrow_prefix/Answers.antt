@@ -1,8 +1,8 @@
 -- The loop leaves what `Skipped` says; the answers and the loads follow from it.
-use Rattle.std.proofs.Common.{◌≡◌, ◌+◌, ◌<◌, ◌≤◌, ℕ, ◌∙◌, sym, ap, Err, arith}
+use Rattle.std.proofs.Common.{◌∙◌, sym, ap, Err, arith}
 use Rattle.std.proofs.lemmas.List.{take_rest}
 use Rattle.atoi_core.specs.Refusal.{overflow}
-use Rattle.atoi_core.proofs.SkipLemmas.{Skipping-none, Skipping-more, Skipping-nearer, Skipped, Skipped-end, Skipped-loads}
+use Rattle.atoi_core.proofs.SkipLemmas.{Skipping-none, Skipping-more, Skipped-end, Skipped-loads}
 use Rattle.atoi_core.proofs.NarrowLemmas.{narrow_answer_is, narrow_empty, narrow_overflow, narrow_ok}
 use Rattle.atoi_core.proofs.narrow.narrow_prefix.Goals as goal
 
