@@ -226,7 +226,10 @@ mod tests {
         assert_eq!(rt; parse::<i64, false, false>(b"-2345"), Ok(-2345));
         assert_eq!(rt; parse_pos::<u128, true>(b"0012"), Ok(12));
         assert_eq!(rt; parse_neg::<i8, false>(b"128"), Ok(-128));
-        assert_eq!(rt; parse_prefix::<u64, false, false>(b"123something_else"), Ok((123, 3)));
+        assert_eq!(rt;
+            parse_prefix::<u64, false, false>(b"123something_else"),
+            Ok((123, 3))
+        );
         assert_eq!(rt; parse_prefix_pos::<u16, false>(b"80/tcp"), Ok((80, 2)));
         assert_eq!(rt; parse_prefix_neg::<i32, false>(b"12a"), Ok((-12, 2)));
         assert_eq!(rt; parse_skipped::<isize>(b"+007"), Ok(7));
@@ -240,6 +243,9 @@ mod tests {
         assert_eq!(rt; parse::<u16, false, false>(b"8080"), Ok(8080));
         assert_eq!(rt; parse_prefix::<i32, true, true>(b"+0042,7"), Ok((42, 5)));
         assert_eq!(rt; parse::<i8, false, false>(b"-128"), Ok(-128));
-        assert_eq!(rt; parse::<u8, false, false>(b"256x"), Err(AtoiSimdError::Overflow(b"256x")));
+        assert_eq!(rt;
+            parse::<u8, false, false>(b"256x"),
+            Err(AtoiSimdError::Overflow(b"256x"))
+        );
     }
 }
