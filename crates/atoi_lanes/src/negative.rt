@@ -13,16 +13,36 @@ use atoi_core::{
 
 /// A type that the digits of a negative number are parsed to.
 ///
-/// Mirrors `ParseNeg` of the Rust crate: it is implemented for the six signed types. An outside type that implements it proves
-/// the same answers.
+/// Mirrors `ParseNeg` of the Rust crate, whose functions have the flag as a const parameter. It is implemented for the six
+/// signed types. An outside type that implements it proves the same answers.
 pub trait ParseNeg: Signed {
-    /// The whole of `s` as the magnitude of a negative number. Mirrors `ParseNeg::atoi_simd_parse_neg`.
+    /// The whole of `s`, digits alone, as the magnitude of a number that is not positive.
+    ///
+    /// `i8::atoi_simd_parse_neg(b"128", false)` is `Ok(-128)`. Mirrors `ParseNeg::atoi_simd_parse_neg`.
+    ///
+    /// # Errors
+    ///
+    /// The first that holds of:
+    /// - `Empty` where `s` does not begin with a digit;
+    /// - `Size` for a type of 64 or 128 bits, where more digits count than its greatest number has: the leading zeros count
+    ///   unless `skip_zeroes`;
+    /// - `Overflow` where the digits write a magnitude above that of the least number of the type;
+    /// - `Invalid64`, or `Invalid128` for a type of 128 bits, where another byte stands behind the digits.
+    ///
+    /// The number of an error is a magnitude.
     fn atoi_simd_parse_neg(s: &[u8], skip_zeroes: bool) -> Result<Self, AtoiSimdError<'_>>
         ensures answer { typed_answer Self.number result
             ≡ whole_answer decimal_table (kind Self.BITS Self.SIGNED Self.GREATEST) true skip_zeroes s.now };
 
-    /// The magnitude of a negative number at the front of `s`, and its length in bytes. Mirrors
-    /// `ParseNeg::atoi_simd_parse_prefix_neg`.
+    /// The number whose magnitude stands at the front of `s`, and the length of its digits in bytes, zeros included.
+    ///
+    /// Without `skip_zeroes` a type of at most 32 bits reads 16 digits at most.
+    ///
+    /// `i32::atoi_simd_parse_prefix_neg(b"12a", false)` is `Ok((-12, 2))`. Mirrors `ParseNeg::atoi_simd_parse_prefix_neg`.
+    ///
+    /// # Errors
+    ///
+    /// `Empty`, `Size` and `Overflow`, as of `atoi_simd_parse_neg`.
     fn atoi_simd_parse_prefix_neg(
         s: &[u8],
         skip_zeroes: bool,

@@ -13,14 +13,34 @@ use atoi_core::{
 
 /// A type that the digits of a number without a sign are parsed to.
 ///
-/// Mirrors `ParsePos` of the Rust crate: it is implemented for the twelve types, and no other crate can name it.
+/// Mirrors `ParsePos` of the Rust crate, whose functions have the flag as a const parameter. It is implemented for the twelve
+/// types, and no other crate can name it.
 pub trait ParsePos: Number {
-    /// The whole of `s` as a number that is not negative. Mirrors `ParsePos::atoi_simd_parse_pos`.
+    /// The whole of `s`, digits alone, as a number that is not negative.
+    ///
+    /// `u8::atoi_simd_parse_pos(b"255", false)` is `Ok(255)`. Mirrors `ParsePos::atoi_simd_parse_pos`.
+    ///
+    /// # Errors
+    ///
+    /// The first that holds of:
+    /// - `Empty` where `s` does not begin with a digit;
+    /// - `Size` for a type of 64 or 128 bits, where more digits count than its greatest number has: the leading zeros count
+    ///   unless `skip_zeroes`;
+    /// - `Overflow` where the digits write a number above the greatest of the type;
+    /// - `Invalid64`, or `Invalid128` for a type of 128 bits, where another byte stands behind the digits.
     fn atoi_simd_parse_pos(s: &[u8], skip_zeroes: bool) -> Result<Self, AtoiSimdError<'_>>
         ensures answer { typed_answer Self.number result
             ≡ whole_answer decimal_table (kind Self.BITS Self.SIGNED Self.GREATEST) false skip_zeroes s.now };
 
-    /// The number at the front of `s`, and its length in bytes. Mirrors `ParsePos::atoi_simd_parse_prefix_pos`.
+    /// The number at the front of `s`, and its length in bytes, zeros included.
+    ///
+    /// Without `skip_zeroes` a type of at most 32 bits reads 16 digits at most.
+    ///
+    /// `u16::atoi_simd_parse_prefix_pos(b"80/tcp", false)` is `Ok((80, 2))`. Mirrors `ParsePos::atoi_simd_parse_prefix_pos`.
+    ///
+    /// # Errors
+    ///
+    /// `Empty`, `Size` and `Overflow`, as of `atoi_simd_parse_pos`.
     fn atoi_simd_parse_prefix_pos(
         s: &[u8],
         skip_zeroes: bool,

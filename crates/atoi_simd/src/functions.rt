@@ -10,20 +10,29 @@ use crate::any_sign::Parse;
 use crate::negative::ParseNeg;
 use atoi_core::AtoiSimdError;
 
-/// Parses the whole of `s`: at most one sign, and digits to the end.
+/// Parses the whole of `s`: at most one sign, then digits to the end.
 ///
-/// A first `-` is taken where `T` is signed, a first `+` where `SKIP_PLUS`. With `SKIP_ZEROES` any number of leading zeros is
-/// accepted. With both flags on it succeeds exactly on an optional sign, one or more digits, then nothing, with the number in the
-/// type's range. Mirrors `atoi_simd::parse`.
+/// A first `+` is taken where `SKIP_PLUS` is on, and a first `-` where `T` is signed. The body is what stands behind the sign,
+/// or `s`. With `SKIP_ZEROES` any number of leading zeros is accepted; without it they count as digits of a type of 64 or
+/// 128 bits. With both flags on it succeeds exactly on an optional sign, one or more digits, then nothing, with the number
+/// in the type's range.
+///
+/// `parse::<i64, false, false>(b"-2345")` is `Ok(-2345)`. Mirrors `atoi_simd::parse`.
 ///
 /// # Errors
 ///
-/// - `Empty` where no digit stands behind the sign;
-/// - `Size` for a type of 64 or 128 bits, where more digits count than its greatest number has: zeros count unless `SKIP_ZEROES`;
-/// - `Overflow` where the digits write a number out of the type's range;
-/// - `Invalid64`, or `Invalid128` for a type of 128 bits, where a byte that is no digit stands behind the digits.
+/// The first that holds of:
+/// - `Empty` where the body does not begin with a digit;
+/// - `Size(length, rest)` for a type of 64 or 128 bits, where more digits count than its greatest number has, which are 20
+///   of an unsigned type of 64 bits, 19 of a signed one and 39 of 128 bits: the leading zeros count unless `SKIP_ZEROES`.
+///   `rest` begins with the first digit that counts, and `length` is the number of zeros before it and of digits that
+///   count, of these at most 24, or 40 of 128 bits;
+/// - `Overflow(rest)` where the number is above the greatest of `T`, or below the least. `rest` is the body, and of a type
+///   of 64 or 128 bits it begins with the first digit that counts;
+/// - `Invalid64(number, index, body)`, or `Invalid128` for a type of 128 bits, where another byte stands behind the digits:
+///   the magnitude that they write, and the place of the byte in the body.
 ///
-/// The slice in an error is a suffix of `s` and is not copied; the sign is not in it, and no index counts it.
+/// Each slice in an error is a suffix of `s` and is not copied; the sign is not in it.
 #[inline(always)]
 pub fn parse<T: Parse, const SKIP_ZEROES: bool, const SKIP_PLUS: bool>(
     s: &[u8],
@@ -34,16 +43,22 @@ pub fn parse<T: Parse, const SKIP_ZEROES: bool, const SKIP_PLUS: bool>(
     T::atoi_simd_parse(s, SKIP_ZEROES, SKIP_PLUS)
 }
 
-/// Parses the whole of `s`, digits without a sign. Mirrors `atoi_simd::parse_pos`.
+/// Parses the whole of `s`, digits without a sign, as a number that is not negative.
+///
+/// With `SKIP_ZEROES` any number of leading zeros is accepted; without it they count as digits of a type of 64 or 128 bits.
+///
+/// `parse_pos::<u128, true>(b"0012")` is `Ok(12)`. Mirrors `atoi_simd::parse_pos`.
 ///
 /// # Errors
 ///
-/// - `Empty` where no digit stands first;
-/// - `Size` for a type of 64 or 128 bits, where more digits count than its greatest number has: zeros count unless `SKIP_ZEROES`;
-/// - `Overflow` where the digits write a number out of the type's range;
-/// - `Invalid64`, or `Invalid128` for a type of 128 bits, where a byte that is no digit stands behind the digits.
+/// The first that holds of:
+/// - `Empty` where `s` does not begin with a digit;
+/// - `Size` for a type of 64 or 128 bits, where more digits count than its greatest number has: the leading zeros count
+///   unless `SKIP_ZEROES`;
+/// - `Overflow` where the digits write a number above the greatest of `T`;
+/// - `Invalid64`, or `Invalid128` for a type of 128 bits, where another byte stands behind the digits.
 ///
-/// The slice in an error is a suffix of `s` and is not copied.
+/// What an error carries is told at `parse`; the body is `s`.
 #[inline(always)]
 pub fn parse_pos<T: Parse, const SKIP_ZEROES: bool>(s: &[u8]) -> Result<T, AtoiSimdError<'_>>
     ensures answer { typed_answer T.number result ≡ whole_answer decimal_table (kind T.BITS T.SIGNED T.GREATEST) false SKIP_ZEROES s.now }
@@ -51,16 +66,22 @@ pub fn parse_pos<T: Parse, const SKIP_ZEROES: bool>(s: &[u8]) -> Result<T, AtoiS
     T::atoi_simd_parse_pos(s, SKIP_ZEROES)
 }
 
-/// Parses the whole of `s`, the digits of a negative number without its sign. Mirrors `atoi_simd::parse_neg`.
+/// Parses the whole of `s`, the digits behind a minus that is not in `s`, as a number that is not positive.
+///
+/// With `SKIP_ZEROES` any number of leading zeros is accepted; without it they count as digits of a type of 64 or 128 bits.
+///
+/// `parse_neg::<i8, false>(b"128")` is `Ok(-128)`. Mirrors `atoi_simd::parse_neg`.
 ///
 /// # Errors
 ///
-/// - `Empty` where no digit stands first;
-/// - `Size` for a type of 64 or 128 bits, where more digits count than its greatest number has: zeros count unless `SKIP_ZEROES`;
-/// - `Overflow` where the digits write a number out of the type's range;
-/// - `Invalid64`, or `Invalid128` for a type of 128 bits, where a byte that is no digit stands behind the digits.
+/// The first that holds of:
+/// - `Empty` where `s` does not begin with a digit;
+/// - `Size` for a type of 64 or 128 bits, where more digits count than its greatest number has: the leading zeros count
+///   unless `SKIP_ZEROES`;
+/// - `Overflow` where the digits write a magnitude above that of the least number of `T`;
+/// - `Invalid64`, or `Invalid128` for a type of 128 bits, where another byte stands behind the digits.
 ///
-/// The slice in an error is a suffix of `s` and is not copied; its numbers are magnitudes.
+/// What an error carries is told at `parse`; the body is `s`, and the number of an error is a magnitude.
 #[inline(always)]
 pub fn parse_neg<T: ParseNeg, const SKIP_ZEROES: bool>(s: &[u8]) -> Result<T, AtoiSimdError<'_>>
     ensures answer { typed_answer T.number result ≡ whole_answer decimal_table (kind T.BITS T.SIGNED T.GREATEST) true SKIP_ZEROES s.now }
@@ -68,18 +89,26 @@ pub fn parse_neg<T: ParseNeg, const SKIP_ZEROES: bool>(s: &[u8]) -> Result<T, At
     T::atoi_simd_parse_neg(s, SKIP_ZEROES)
 }
 
-/// Parses the number at the front of `s`, with the sign that may stand before it, and tells its length.
+/// Parses the number at the front of `s`, with at most one sign before it, and tells how many bytes of `s` these are.
 ///
-/// The count is in bytes of `s`: the sign that was taken, the zeros and the digits. A prefix of a type of at most 32 bits without `SKIP_ZEROES` ends after 16 digits.
-/// Mirrors `atoi_simd::parse_prefix`, which leaves a taken `+` out of the count.
+/// A sign is taken as by `parse`, and the count is of its byte, of the zeros and of the other digits: `s[count..]` is the rest.
+/// With `SKIP_ZEROES` any number of leading zeros is read. Without it a type of at most 32 bits reads 16 digits at most,
+/// zeros among them, and of a type of 64 or 128 bits the zeros count as digits.
+///
+/// `parse_prefix::<u64, false, false>(b"123something_else")` is `Ok((123, 3))`. Mirrors `atoi_simd::parse_prefix`, which
+/// leaves a taken `+` out of the count.
 ///
 /// # Errors
 ///
-/// - `Empty` where no digit stands behind the sign;
-/// - `Size` for a type of 64 or 128 bits, where more digits count than its greatest number has: zeros count unless `SKIP_ZEROES`;
-/// - `Overflow` where the digits write a number out of the type's range.
+/// The first that holds of:
+/// - `Empty` where the body does not begin with a digit;
+/// - `Size` for a type of 64 or 128 bits, where more digits count than its greatest number has: the leading zeros count
+///   unless `SKIP_ZEROES`;
+/// - `Overflow` where the number is above the greatest of `T`, or below the least. With `SKIP_ZEROES` the slice
+///   of a type of at most 32 bits leaves out the leading zeros in whole blocks of 16 bytes, and the others too where the
+///   block in which they end is full of digits.
 ///
-/// The slice in an error is a suffix of `s` and is not copied; the sign is not in it, and no index counts it.
+/// What an error carries is told at `parse` otherwise.
 #[inline(always)]
 pub fn parse_prefix<T: Parse, const SKIP_ZEROES: bool, const SKIP_PLUS: bool>(
     s: &[u8],
@@ -90,18 +119,23 @@ pub fn parse_prefix<T: Parse, const SKIP_ZEROES: bool, const SKIP_PLUS: bool>(
     T::atoi_simd_parse_prefix(s, SKIP_ZEROES, SKIP_PLUS)
 }
 
-/// Parses the digits at the front of `s`, without a sign, and tells their length.
+/// Parses the digits at the front of `s`, without a sign, and tells how many bytes of `s` these are.
 ///
-/// The count is in bytes of `s`: the zeros and the digits. A prefix of a type of at most 32 bits without `SKIP_ZEROES` ends after 16 digits.
-/// Mirrors `atoi_simd::parse_prefix_pos`.
+/// The count is of the zeros and of the other digits: `s[count..]` is the rest.
+/// With `SKIP_ZEROES` any number of leading zeros is read. Without it a type of at most 32 bits reads 16 digits at most,
+/// zeros among them, and of a type of 64 or 128 bits the zeros count as digits.
+///
+/// `parse_prefix_pos::<u16, false>(b"80/tcp")` is `Ok((80, 2))`. Mirrors `atoi_simd::parse_prefix_pos`.
 ///
 /// # Errors
 ///
-/// - `Empty` where no digit stands first;
-/// - `Size` for a type of 64 or 128 bits, where more digits count than its greatest number has: zeros count unless `SKIP_ZEROES`;
-/// - `Overflow` where the digits write a number out of the type's range.
+/// The first that holds of:
+/// - `Empty` where `s` does not begin with a digit;
+/// - `Size` for a type of 64 or 128 bits, where more digits count than its greatest number has: the leading zeros count
+///   unless `SKIP_ZEROES`;
+/// - `Overflow` where the digits write a number above the greatest of `T`.
 ///
-/// The slice in an error is a suffix of `s` and is not copied.
+/// What an error carries is told at `parse_prefix`; the body is `s`.
 #[inline(always)]
 pub fn parse_prefix_pos<T: Parse, const SKIP_ZEROES: bool>(
     s: &[u8],
@@ -112,18 +146,24 @@ pub fn parse_prefix_pos<T: Parse, const SKIP_ZEROES: bool>(
     T::atoi_simd_parse_prefix_pos(s, SKIP_ZEROES)
 }
 
-/// Parses the digits of a negative number at the front of `s`, without its sign, and tells their length.
+/// Parses the digits at the front of `s`, behind a minus that is not in `s`, as a number that is not positive, and tells how
+/// many bytes of `s` these are.
 ///
-/// The count is in bytes of `s`: the zeros and the digits. A prefix of a type of at most 32 bits without `SKIP_ZEROES` ends after 16 digits.
-/// Mirrors `atoi_simd::parse_prefix_neg`.
+/// The count is of the zeros and of the other digits: `s[count..]` is the rest.
+/// With `SKIP_ZEROES` any number of leading zeros is read. Without it a type of at most 32 bits reads 16 digits at most,
+/// zeros among them, and of a type of 64 or 128 bits the zeros count as digits.
+///
+/// `parse_prefix_neg::<i32, false>(b"12a")` is `Ok((-12, 2))`. Mirrors `atoi_simd::parse_prefix_neg`.
 ///
 /// # Errors
 ///
-/// - `Empty` where no digit stands first;
-/// - `Size` for a type of 64 or 128 bits, where more digits count than its greatest number has: zeros count unless `SKIP_ZEROES`;
-/// - `Overflow` where the digits write a number out of the type's range.
+/// The first that holds of:
+/// - `Empty` where `s` does not begin with a digit;
+/// - `Size` for a type of 64 or 128 bits, where more digits count than its greatest number has: the leading zeros count
+///   unless `SKIP_ZEROES`;
+/// - `Overflow` where the digits write a magnitude above that of the least number of `T`.
 ///
-/// The slice in an error is a suffix of `s` and is not copied; its numbers are magnitudes.
+/// What an error carries is told at `parse_prefix`; the body is `s`.
 #[inline(always)]
 pub fn parse_prefix_neg<T: ParseNeg, const SKIP_ZEROES: bool>(
     s: &[u8],
@@ -134,7 +174,9 @@ pub fn parse_prefix_neg<T: ParseNeg, const SKIP_ZEROES: bool>(
     T::atoi_simd_parse_prefix_neg(s, SKIP_ZEROES)
 }
 
-/// An old name of `parse::<T, true, true>`, with its answers and errors. Mirrors `atoi_simd::parse_skipped`.
+/// An old name of `parse::<T, true, true>`, with its answers and errors.
+///
+/// `parse_skipped::<isize>(b"+007")` is `Ok(7)`. Mirrors `atoi_simd::parse_skipped`.
 #[inline(always)]
 pub fn parse_skipped<T: Parse>(s: &[u8]) -> Result<T, AtoiSimdError<'_>>
     ensures answer { typed_answer T.number result ≡ parse_answer (kind T.BITS T.SIGNED T.GREATEST) true true s.now }
@@ -142,7 +184,9 @@ pub fn parse_skipped<T: Parse>(s: &[u8]) -> Result<T, AtoiSimdError<'_>>
     parse::<T, true, true>(s)
 }
 
-/// An old name of `parse_prefix::<T, false, false>`, with its answers and errors. Mirrors `atoi_simd::parse_any`.
+/// An old name of `parse_prefix::<T, false, false>`, with its answers and errors.
+///
+/// `parse_any::<usize>(b"7 ")` is `Ok((7, 1))`. Mirrors `atoi_simd::parse_any`.
 #[inline(always)]
 pub fn parse_any<T: Parse>(s: &[u8]) -> Result<(T, usize), AtoiSimdError<'_>>
     ensures answer { typed_prefix_answer T.number result ≡ parse_prefix_answer (kind T.BITS T.SIGNED T.GREATEST) false false s.now }
@@ -151,7 +195,9 @@ pub fn parse_any<T: Parse>(s: &[u8]) -> Result<(T, usize), AtoiSimdError<'_>>
     parse_prefix::<T, false, false>(s)
 }
 
-/// An old name of `parse_prefix_pos::<T, false>`, with its answers and errors. Mirrors `atoi_simd::parse_any_pos`.
+/// An old name of `parse_prefix_pos::<T, false>`, with its answers and errors.
+///
+/// `parse_any_pos::<u8>(b"255.")` is `Ok((255, 3))`. Mirrors `atoi_simd::parse_any_pos`.
 #[inline(always)]
 pub fn parse_any_pos<T: Parse>(s: &[u8]) -> Result<(T, usize), AtoiSimdError<'_>>
     ensures answer { typed_prefix_answer T.number result ≡ prefix_answer decimal_table (kind T.BITS T.SIGNED T.GREATEST) false false s.now }
@@ -160,11 +206,46 @@ pub fn parse_any_pos<T: Parse>(s: &[u8]) -> Result<(T, usize), AtoiSimdError<'_>
     parse_prefix_pos::<T, false>(s)
 }
 
-/// An old name of `parse_prefix_neg::<T, false>`, with its answers and errors. Mirrors `atoi_simd::parse_any_neg`.
+/// An old name of `parse_prefix_neg::<T, false>`, with its answers and errors.
+///
+/// `parse_any_neg::<i16>(b"1-")` is `Ok((-1, 1))`. Mirrors `atoi_simd::parse_any_neg`.
 #[inline(always)]
 pub fn parse_any_neg<T: ParseNeg>(s: &[u8]) -> Result<(T, usize), AtoiSimdError<'_>>
     ensures answer { typed_prefix_answer T.number result ≡ prefix_answer decimal_table (kind T.BITS T.SIGNED T.GREATEST) true false s.now }
     ensures within { IfOk result (λ found. found.1 ≤ length s.now) }
 {
     parse_prefix_neg::<T, false>(s)
+}
+
+#[cfg(test)]
+mod tests {
+    use super::*;
+
+    #[test]
+    fn each_function_answers_its_worked_call(rt: HostRuntime) {
+        assert_eq!(rt; parse::<i64, false, false>(b"-2345"), Ok(-2345));
+        assert_eq!(rt; parse_pos::<u128, true>(b"0012"), Ok(12));
+        assert_eq!(rt; parse_neg::<i8, false>(b"128"), Ok(-128));
+        assert_eq!(rt;
+            parse_prefix::<u64, false, false>(b"123something_else"),
+            Ok((123, 3))
+        );
+        assert_eq!(rt; parse_prefix_pos::<u16, false>(b"80/tcp"), Ok((80, 2)));
+        assert_eq!(rt; parse_prefix_neg::<i32, false>(b"12a"), Ok((-12, 2)));
+        assert_eq!(rt; parse_skipped::<isize>(b"+007"), Ok(7));
+        assert_eq!(rt; parse_any::<usize>(b"7 "), Ok((7, 1)));
+        assert_eq!(rt; parse_any_pos::<u8>(b"255."), Ok((255, 3)));
+        assert_eq!(rt; parse_any_neg::<i16>(b"1-"), Ok((-1, 1)));
+    }
+
+    #[test]
+    fn the_first_calls_of_the_readme(rt: HostRuntime) {
+        assert_eq!(rt; parse::<u16, false, false>(b"8080"), Ok(8080));
+        assert_eq!(rt; parse_prefix::<i32, true, true>(b"+0042,7"), Ok((42, 5)));
+        assert_eq!(rt; parse::<i8, false, false>(b"-128"), Ok(-128));
+        assert_eq!(rt;
+            parse::<u8, false, false>(b"256x"),
+            Err(AtoiSimdError::Overflow(b"256x"))
+        );
+    }
 }
