@@ -1,5 +1,5 @@
 -- The loop that skips zeros by whole windows: how far it comes, and how many windows it loads.
-use Rattle.std.proofs.Common.{◌≡◌, ℕ, ◌+◌, ◌-◌, ◌*◌, ◌/◌, ◌<◌, ◌≤◌, ◌⊎◌, min, Bool, true, false, List, length, take, drop, IsTrue, refl, sym, ap, ◌∙◌, inl, inr, arith}
+use Rattle.std.proofs.Common.{◌≡◌, ℕ, ◌+◌, ◌-◌, ◌*◌, ◌/◌, ◌^◌, ◌<◌, ◌≤◌, ◌⊎◌, min, Bool, true, false, List, length, take, drop, IsTrue, refl, sym, ap, ◌∙◌, inl, inr, subst, arith}
 use Rattle.std.proofs.lemmas.Bool.{cases_lt, false≢true}
 use Rattle.std.proofs.lemmas.List.{take_rest}
 use Rattle.std.proofs.lemmas.List.Sums.{prefix_len-le-length}
@@ -129,3 +129,34 @@ Skipped-end t below skip s at before now next w so e one stops =
 pub Skipped-loads : (t : Table) (skip : Bool) (s : List ℕ) (at before now last : ℕ) (w : Window) →
     Skipped t skip s at before now w → now ≤ last → IsTrue skip → before + zeros t s / 32 ≤ last
 Skipped-loads t skip s at before now last w so more on = omega (arith, so.least on)
+
+-- the zeros that a first window tells are skipped
+pub Skipping-told : (t : Table) → IsBelowTen t → (s : List ℕ) (n zeroes : ℕ) → zeroes ≡ (window_of t 16 s).zeroes → 0 < zeroes →
+    Skipping t true s zeroes n (n + 1)
+Skipping-told t below s n zeroes e some =
+    let w : Window = window_of t 16 s in
+    let more : Skipping t true s (0 + w.zeroes) n (n + 1) =
+    Skipping-more t below true s 0 n n (n + 1) w (Skipping-none t true s n) (ap (window_of t 16) (sym (take_rest s 0))) refl refl (omega arith) in
+    let place : 0 + w.zeroes ≡ zeroes = omega arith in
+    subst (λ (at : ℕ). Skipping t true s at n (n + 1)) place more
+
+-- a first window is the last one where no zeros are skipped
+pub Skipped-at_once : (t : Table) → IsBelowTen t → (skip : Bool) (s : List ℕ) (before next : ℕ) (w : Window) →
+    w ≡ window_of t 16 s → next ≡ before + 1 → (skip ≡ false) ⊎ ((skip ≡ true) × (w.zeroes ≡ 0)) → Skipped t skip s 0 before next w
+Skipped-at_once t below skip s before next w e one stops =
+    Skipped-end t below skip s 0 before before next w (Skipping-none t skip s before)
+    (e ∙ ap (window_of t 16) (sym (take_rest s 0))) one stops
+
+-- one that is not full tells no zeros, and holds the whole run
+pub Skipped-first : (t : Table) → IsBelowTen t → (skip : Bool) (s : List ℕ) (before next : ℕ) (w : Window) →
+    w ≡ window_of t 16 s → next ≡ before + 1 → w.len < 16 → Skipped t skip s 0 before next w
+Skipped-first t below skip s before next w e one short =
+    let tell : Shows t 16 s w = shows t below 16 s w e in
+    let none : w.zeroes ≡ 0 =
+    elim (cases_lt 0 w.zeroes) [
+      | inl h ↦ absurd (omega (arith, tell.full h))
+      | inr h ↦ omega arith
+    ] in
+    let stops : (skip ≡ false) ⊎ ((skip ≡ true) × (w.zeroes ≡ 0)) =
+    elim skip as (λ b. (b ≡ false) ⊎ ((b ≡ true) × (w.zeroes ≡ 0))) [ true ↦ inr (refl, none) | false ↦ inl refl ] in
+    Skipped-at_once t below skip s before next w e one stops

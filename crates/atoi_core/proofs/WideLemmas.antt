@@ -121,6 +121,15 @@ answers_short t told bound limit skip s at before now w so short some long digit
     (omega (arith, counted_most t skip s at before now w so)) (omega arith))
     (ap (λ (e : ℕ). Ok (e, at + w.len)) (sym v) ∙ ap (λ (e : ℕ). Ok (value t (run t s), e)) (sym n))
 
+-- the same of a first window
+pub answers_at_once : (t : Table) (told bound limit : ℕ) (skip : Bool) (s : List ℕ) (before now : ℕ) (w : Window) →
+    Skipped t skip s 0 before now w → w.len < 16 → 0 < w.len → 16 < limit → HasDigits limit bound →
+    Ok (w.number, w.len) ≡ wide_prefix t told bound limit skip s
+answers_at_once t told bound limit skip s before now w so short some long digits =
+    let place : w.len ≡ 0 + w.len = omega arith in
+    ap (λ (n : ℕ). Ok (w.number, n)) place
+    ∙ answers_short t told bound limit skip s 0 before now w so short (omega arith) long digits
+
 -- what was read counts more digits than the bound has
 pub answers_size : (t : Table) (told bound limit : ℕ) (skip : Bool) (s : List ℕ) (at before now : ℕ) (w : Window) (m x : ℕ) →
     Skipped t skip s at before now w → w.len ≡ 16 → Reads t told (drop at s) m x → limit < m →

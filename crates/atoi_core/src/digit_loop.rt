@@ -8,6 +8,7 @@ ghost use Rattle.atoi_core.specs.Magnitude.{narrow, whole_magnitude};
 use crate::error::AtoiSimdError;
 
 // What a byte is worth as a decimal digit.
+#[inline(always)]
 pub(crate) fn digit(byte: u8) -> Option<u64>
     ensures { result ≡ decimal_table byte }
 {
@@ -19,6 +20,7 @@ pub(crate) fn digit(byte: u8) -> Option<u64>
 }
 
 // Why `s` is refused where `len` digits that write `number` are followed by another byte.
+#[inline(always)]
 fn rest_after(len: usize, number: u64, s: &[u8]) -> AtoiSimdError<'_>
     ensures { refusal_of result ≡ (if len == 0 then empty else invalid64 number len s.now) }
 {
@@ -39,6 +41,7 @@ fn rest_after(len: usize, number: u64, s: &[u8]) -> AtoiSimdError<'_>
 /// - `Overflow` with the whole of `s` where the digits that it begins with write a number above `bound`;
 /// - `Invalid64` with that number, the count of these digits and the whole of `s`, where another byte
 ///   stands behind them.
+#[inline(always)]
 pub fn narrow_whole(bound: u64, s: &[u8]) -> Result<u64, AtoiSimdError<'_>>
     requires low { 9 ≤ bound }
     requires high { bound ≤ 4294967295 }

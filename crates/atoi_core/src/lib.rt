@@ -6,6 +6,7 @@ mod digit_loop;
 mod dispatch;
 mod engine;
 mod error;
+mod front;
 mod join;
 pub mod laws;
 mod narrow;

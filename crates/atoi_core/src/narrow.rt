@@ -1,13 +1,15 @@
 //! The parses of integers of up to 32 bits, over any engine.
 //! It stands on `engine`, `steps` and `error`.
-ghost use Rattle.std.specs.Prelude.{◌≡◌, ◌+◌, ◌<◌, ◌≤◌, IsTrue, length};
+ghost use Rattle.std.specs.Prelude.{◌≡◌, ◌+◌, ◌<◌, ◌≤◌, ◌==◌, true, nat_lt, if◌then◌else◌, Ok, Err, IsTrue, length, drop};
 ghost use Rattle.atoi_core.specs.Loads.{most_loads, least_loads};
 ghost use Rattle.atoi_core.specs.Magnitude.{narrow, prefix_magnitude};
-ghost use Rattle.atoi_core.specs.Refusal.{answer_of};
+ghost use Rattle.atoi_core.specs.Refusal.{answer_of, empty, overflow};
+ghost use Rattle.atoi_core.specs.Window.{window_of};
 
 use crate::engine::Engine;
 use crate::error::AtoiSimdError;
 use crate::steps::Steps;
+use crate::window::Window;
 
 /// The number at the front of `s`, and how many bytes it has, for an integer of up to 32 bits.
 ///
@@ -21,6 +23,7 @@ use crate::steps::Steps;
 /// - `Overflow`: the number is above `bound`. Without `skip` it holds `s`. With `skip` it holds `s`
 ///   behind the zeros that fill whole windows of 16 bytes, and behind all its zeros where the next
 ///   16 bytes are digits.
+#[inline(always)]
 pub fn narrow_prefix<'a, E: Engine>(
     bound: u64,
     skip: bool,
@@ -34,14 +37,61 @@ pub fn narrow_prefix<'a, E: Engine>(
     ensures least { 0 < length s.now → steps.old < steps.new }
     ensures least_skipping { IsTrue skip → steps.old + least_loads E.table s.now ≤ steps.new }
 {
-    let mut at = 0;
+    let window = E::window(s, steps);
+    if skip && window.zeroes > 0 {
+        // Not the result itself: that writes the caller's slot on the short way too.
+        return match behind_zeros::<E>(bound, window.zeroes, s, steps) {
+            Ok(found) => Ok(found),
+            Err(error) => Err(error),
+        };
+    }
+    told_at(bound, 0, window, s)
+}
+
+// The same of a slice whose first window told `zeroes`, which are skipped with those behind them.
+#[inline(never)]
+fn behind_zeros<'a, E: Engine>(
+    bound: u64,
+    zeroes: u32,
+    s: &'a [u8],
+    steps: &mut Steps,
+) -> Result<(u64, usize), AtoiSimdError<'a>>
+    requires low { 9 ≤ bound }
+    requires high { bound ≤ 4294967295 }
+    requires some { 0 < zeroes }
+    requires told { zeroes ≡ (window_of E.table 16 s.now).zeroes }
+    ensures answer { answer_of result ≡ prefix_magnitude E.table narrow bound 0 true s.now }
+    ensures most { steps.new < steps.old + most_loads E.table narrow s.now }
+    ensures least { steps.old ≤ steps.new }
+    ensures least_skipping { steps.old + least_loads E.table s.now ≤ steps.new + 1 }
+{
+    let mut at = zeroes as usize;
     let window = loop {
         let window = E::window(&s[at..], steps);
-        if !skip || window.zeroes == 0 {
+        if window.zeroes == 0 {
             break window;
         }
         at += window.zeroes as usize;
     };
+    told_at(bound, at, window, s)
+}
+
+// What the window at the place `at` answers, where only zeros that are skipped stand before it.
+#[inline(always)]
+fn told_at(
+    bound: u64,
+    at: usize,
+    window: Window,
+    s: &[u8],
+) -> Result<(u64, usize), AtoiSimdError<'_>>
+    requires { at ≤ length s.now }
+    ensures {
+        answer_of result
+        ≡ (if at + window.len == 0 then Err empty
+        else (if nat_lt bound window.number then Err (overflow (drop at s.now))
+        else Ok (window.number, at + window.len)))
+    }
+{
     let len = at + window.len as usize;
     if len == 0 {
         Err(AtoiSimdError::Empty)

@@ -1,5 +1,5 @@
 //! The parses of an integer type of 128 bits.
-//! It stands on the loops of `engine` and `wide`, and on `number`.
+//! It stands on the parses of `front` and `wide`, and on `number`.
 ghost use Rattle.std.specs.Prelude.{◌≡◌, ◌+◌, ◌<◌, ◌≤◌, true, false, IfOk, IsTrue, length};
 ghost use Rattle.atoi_core.specs.Answer.{typed_answer, typed_prefix_answer, whole_answer, prefix_answer};
 ghost use Rattle.atoi_core.specs.Kind.{kind, class_of};
@@ -8,6 +8,7 @@ ghost use Rattle.atoi_core.specs.Magnitude.{wide128, HasDigits};
 
 use crate::engine::Engine;
 use crate::error::AtoiSimdError;
+use crate::front::front_128;
 use crate::number::{Number, Signed};
 use crate::steps::Steps;
 use crate::wide::whole_128;
@@ -108,7 +109,7 @@ pub fn prefix_128_pos<'a, E: Engine, T: Number>(
     ensures least { 0 < length s.now → steps.old < steps.new }
     ensures least_skipping { IsTrue skip → steps.old + least_loads E.table s.now ≤ steps.new }
 {
-    match E::prefix_128(greatest_128::<T>(), skip, s, steps) {
+    match front_128::<E>(greatest_128::<T>(), skip, s, steps) {
         Ok((value, len)) => Ok((T::from_pos(value), len)),
         Err(error) => Err(error),
     }
@@ -137,7 +138,7 @@ pub fn prefix_128_neg<'a, E: Engine, T: Signed>(
     ensures least { 0 < length s.now → steps.old < steps.new }
     ensures least_skipping { IsTrue skip → steps.old + least_loads E.table s.now ≤ steps.new }
 {
-    match E::prefix_128(least_128::<T>(), skip, s, steps) {
+    match front_128::<E>(least_128::<T>(), skip, s, steps) {
         Ok((value, len)) => Ok((T::from_neg(value), len)),
         Err(error) => Err(error),
     }

@@ -1,5 +1,5 @@
 //! The parses of an integer type of 64 bits.
-//! It stands on the loops of `engine` and `wide`, and on `number`.
+//! It stands on the parses of `front` and `wide`, and on `number`.
 ghost use Rattle.std.specs.Prelude.{◌≡◌, ◌+◌, ◌<◌, ◌≤◌, true, false, IfOk, IsTrue, length};
 ghost use Rattle.atoi_core.specs.Answer.{typed_answer, typed_prefix_answer, whole_answer, prefix_answer};
 ghost use Rattle.atoi_core.specs.Kind.{kind, class_of, limit_of};
@@ -8,6 +8,7 @@ ghost use Rattle.atoi_core.specs.Magnitude.{wide64, HasDigits};
 
 use crate::engine::Engine;
 use crate::error::AtoiSimdError;
+use crate::front::front_64;
 use crate::number::{Number, Signed};
 use crate::steps::Steps;
 use crate::wide::whole_64;
@@ -119,7 +120,7 @@ pub fn prefix_64_pos<'a, E: Engine, T: Number>(
     ensures least { 0 < length s.now → steps.old < steps.new }
     ensures least_skipping { IsTrue skip → steps.old + least_loads E.table s.now ≤ steps.new }
 {
-    match E::prefix_64(greatest_64::<T>(), limit_64::<T>(), skip, s, steps) {
+    match front_64::<E>(greatest_64::<T>(), limit_64::<T>(), skip, s, steps) {
         Ok((value, len)) => Ok((T::from_pos(u128::from(value)), len)),
         Err(error) => Err(error),
     }
@@ -148,7 +149,7 @@ pub fn prefix_64_neg<'a, E: Engine, T: Signed>(
     ensures least { 0 < length s.now → steps.old < steps.new }
     ensures least_skipping { IsTrue skip → steps.old + least_loads E.table s.now ≤ steps.new }
 {
-    match E::prefix_64(least_64::<T>(), limit_64::<T>(), skip, s, steps) {
+    match front_64::<E>(least_64::<T>(), limit_64::<T>(), skip, s, steps) {
         Ok((value, len)) => Ok((T::from_neg(u128::from(value)), len)),
         Err(error) => Err(error),
     }

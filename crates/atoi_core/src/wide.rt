@@ -1,5 +1,5 @@
 //! The parses of integers of 64 and of 128 bits that read a whole slice, over any engine.
-//! It stands on `engine`, `steps` and `error`.
+//! It stands on `front`, `engine`, `steps` and `error`.
 ghost use Rattle.std.specs.Prelude.{◌≡◌, ◌+◌, ◌<◌, ◌≤◌, IsTrue, length};
 ghost use Rattle.atoi_core.specs.Loads.{most_loads, least_loads};
 ghost use Rattle.atoi_core.specs.Magnitude.{HasDigits, wide64, wide128, whole_magnitude};
@@ -7,6 +7,7 @@ ghost use Rattle.atoi_core.specs.Refusal.{answer_of};
 
 use crate::engine::Engine;
 use crate::error::AtoiSimdError;
+use crate::front::{front_64, front_128};
 use crate::steps::Steps;
 
 /// The number that `s` as a whole is, for an integer of 64 bits.
@@ -22,6 +23,7 @@ use crate::steps::Steps;
 /// - `Overflow`: the number is above `bound`. It holds `s` behind the zeros skipped.
 /// - `Invalid64`: a byte that is no digit stands behind the digits. It holds their number, their
 ///   count and `s`.
+#[inline(always)]
 pub fn whole_64<'a, E: Engine>(
     bound: u64,
     limit: u32,
@@ -37,7 +39,7 @@ pub fn whole_64<'a, E: Engine>(
     ensures least { 0 < length s.now → steps.old < steps.new }
     ensures least_skipping { IsTrue skip → steps.old + least_loads E.table s.now ≤ steps.new }
 {
-    let (number, len) = E::prefix_64(bound, limit, skip, s, steps)?;
+    let (number, len) = front_64::<E>(bound, limit, skip, s, steps)?;
     if len == s.len() {
         Ok(number)
     } else {
@@ -58,6 +60,7 @@ pub fn whole_64<'a, E: Engine>(
 /// - `Overflow`: the number is above `bound`. It holds `s` behind the zeros skipped.
 /// - `Invalid128`: a byte that is no digit stands behind the digits. It holds their number, their
 ///   count and `s`.
+#[inline(always)]
 pub fn whole_128<'a, E: Engine>(
     bound: u128,
     skip: bool,
@@ -70,7 +73,7 @@ pub fn whole_128<'a, E: Engine>(
     ensures least { 0 < length s.now → steps.old < steps.new }
     ensures least_skipping { IsTrue skip → steps.old + least_loads E.table s.now ≤ steps.new }
 {
-    let (number, len) = E::prefix_128(bound, skip, s, steps)?;
+    let (number, len) = front_128::<E>(bound, skip, s, steps)?;
     if len == s.len() {
         Ok(number)
     } else {
