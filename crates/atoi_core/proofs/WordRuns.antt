@@ -11,7 +11,7 @@ use Rattle.atoi_core.specs.Run.{run_len, zeros}
 use Rattle.atoi_core.specs.Words.{low_bytes}
 use Rattle.atoi_core.proofs.ByteCases.{of_each_byte, same, same_answer, same_run}
 use Rattle.atoi_core.proofs.TrailingBytes.{trailing_bytes}
-use Rattle.atoi_core.proofs.Bitwise.{repeated, or_bytes, and_repeated, xor_repeated, upper_halves}
+use Rattle.atoi_core.proofs.Bitwise.{repeated, or_bytes, and_repeated, xor_repeated}
 use Rattle.atoi_core.proofs.Fields.{digits_cut}
 
 prefix_len-map : (p : ℕ → Bool) (f : ℕ → ℕ) (xs : List ℕ) → prefix_len p (map f xs) ≡ prefix_len (λ x. p (f x)) xs
@@ -36,7 +36,7 @@ zeros_counted k word =
 
 -- the mark that the kernel makes of a byte: 0 for a digit
 abbrev mark : ℕ → ℕ → ℕ
-mark raised byte = bit_xor (bit_or (raised / 16) (bit_and byte 240)) 51
+mark raised byte = bit_and (bit_or (bit_xor raised 48) (bit_xor byte 48)) 240
 
 digit_byte : (b : ℕ) → b < 256 → (mark ((b + 6) % 256) b == 0) ≡ is_digit decimal_table b
 digit_byte b h =
@@ -57,14 +57,14 @@ run_goes_on false m n e = refl
 -- THE CARRY: six is added to the whole word. A byte carries into the next only from 250 on, which is
 -- no digit, so the marks are those of the bytes alone up to the first that is no digit.
 carried_run : (k word : ℕ)
-    → prefix_len (λ b. b == 0) (map (λ x. bit_xor x 51) (zip2 bit_or (map (λ x. x / 16) (digits_l 256 k (word + repeated 6 k))) (map (λ x. bit_and x 240) (digits_l 256 k word))))
+    → prefix_len (λ b. b == 0) (map (λ x. bit_and x 240) (zip2 bit_or (map (λ x. bit_xor x 48) (digits_l 256 k (word + repeated 6 k))) (map (λ x. bit_xor x 48) (digits_l 256 k word))))
     ≡ prefix_len (is_digit decimal_table) (digits_l 256 k word)
 carried_run zero word = refl
 carried_run (suc k) word =
     let byte = word % 256 in
     let is_byte : byte < 256 = mod-lt word (zero-lt-suc 255) in
     let raised = word + repeated 6 (suc k) in
-    let run : ℕ → ℕ = λ rest. prefix_len (λ b. b == 0) (map (λ x. bit_xor x 51) (zip2 bit_or (map (λ x. x / 16) (digits_l 256 k rest)) (map (λ x. bit_and x 240) (digits_l 256 k (word / 256))))) in
+    let run : ℕ → ℕ = λ rest. prefix_len (λ b. b == 0) (map (λ x. bit_and x 240) (zip2 bit_or (map (λ x. bit_xor x 48) (digits_l 256 k rest)) (map (λ x. bit_xor x 48) (digits_l 256 k (word / 256))))) in
     let low : raised % 256 ≡ (byte + 6) % 256 = omega arith in
     let carries_nothing : byte < 250 → raised / 256 ≡ word / 256 + repeated 6 k = λ small. omega arith in
     ap (λ r. cond (mark r byte == 0) (1 + run (raised / 256)) 0) low
@@ -73,19 +73,19 @@ carried_run (suc k) word =
     (λ e. ap run (carries_nothing (digit_below byte is_byte e)) ∙ carried_run k (word / 256))
 
 pub digits_counted : (k word : ℕ)
-    → count_trailing_zeros (k * 8) (bit_xor (bit_or (bit_and ((word + repeated 6 k) % 2 ^ (k * 8) / 16) (repeated 15 k)) (bit_and word (repeated 240 k))) (repeated 51 k)) / 8
+    → count_trailing_zeros (k * 8) (bit_and (bit_or (bit_xor ((word + repeated 6 k) % 2 ^ (k * 8)) (repeated 48 k)) (bit_xor word (repeated 48 k))) (repeated 240 k)) / 8
     ≡ run_len decimal_table (low_bytes k word)
 unfolding low_bytes
 digits_counted k word =
     let raised = (word + repeated 6 k) % 2 ^ (k * 8) in
-    let high = bit_and (raised / 16) (repeated 15 k) in
-    let low = bit_and word (repeated 240 k) in
-    trailing_bytes k (bit_xor (bit_or high low) (repeated 51 k))
+    let high = bit_xor raised (repeated 48 k) in
+    let low = bit_xor word (repeated 48 k) in
+    trailing_bytes k (bit_and (bit_or high low) (repeated 240 k))
     ∙ ap (prefix_len (λ b. b == 0))
-    (xor_repeated 51 (lit< tt) k (bit_or high low)
-    ∙ ap (map (λ x. bit_xor x 51))
+    (and_repeated 240 (lit< tt) k (bit_or high low)
+    ∙ ap (map (λ x. bit_and x 240))
     (or_bytes k high low
     ∙ ap₂ (zip2 bit_or)
-    (upper_halves k raised ∙ ap (map (λ x. x / 16)) (digits_cut 8 k (word + repeated 6 k)))
-    (and_repeated 240 (lit< tt) k word)))
+    (xor_repeated 48 (lit< tt) k raised ∙ ap (map (λ x. bit_xor x 48)) (digits_cut 8 k (word + repeated 6 k)))
+    (xor_repeated 48 (lit< tt) k word)))
     ∙ carried_run k word

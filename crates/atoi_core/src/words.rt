@@ -57,9 +57,9 @@ pub fn check_len_8(val: u64) -> u32
 {
     // A digit has the upper half 3, and keeps it when six is added. Above a byte that carries the
     // sum may be wrong, but such a byte is no digit.
-    let high = (val.wrapping_add(0x0606_0606_0606_0606) & 0xF0F0_F0F0_F0F0_F0F0) >> 4;
-    let low = val & 0xF0F0_F0F0_F0F0_F0F0;
-    ((high | low) ^ 0x3333_3333_3333_3333).trailing_zeros() / 8
+    let high = val.wrapping_add(0x0606_0606_0606_0606) ^ 0x3030_3030_3030_3030;
+    let low = val ^ 0x3030_3030_3030_3030;
+    ((high | low) & 0xF0F0_F0F0_F0F0_F0F0).trailing_zeros() / 8
 }
 
 /// The number that the lowest `len` bytes of `val` write, the lowest byte in the highest place: the
