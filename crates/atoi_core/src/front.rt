@@ -1,16 +1,17 @@
 //! The parses of wide integers from the front of a slice: a run that ends in the first window is
-//! answered at once, a longer one by the engine. It stands on `engine`, `steps` and `error`.
-ghost use Rattle.std.specs.Prelude.{◌≡◌, ◌+◌, ◌<◌, ◌≤◌, IsTrue, length};
+//! answered in line, a longer one by the engine. It stands on `engine`, `window`, `steps` and `error`.
+ghost use Rattle.std.specs.Prelude.{◌≡◌, ◌+◌, ◌<◌, ◌≤◌, ◌==◌, if◌then◌else◌, Ok, Err, IsTrue, length};
 ghost use Rattle.atoi_core.specs.Loads.{most_loads, least_loads};
 ghost use Rattle.atoi_core.specs.Magnitude.{HasDigits, wide64, wide128, prefix_magnitude};
-ghost use Rattle.atoi_core.specs.Refusal.{answer_of};
+ghost use Rattle.atoi_core.specs.Refusal.{answer_of, empty};
 
 use crate::engine::Engine;
 use crate::error::AtoiSimdError;
 use crate::steps::Steps;
+use crate::window::Window;
 
-/// What `Engine::prefix_64` answers. Fewer than 16 digits are never above the bound, and are read
-/// from one window in line; for the others the call is made, and loads that window again.
+/// What `Engine::prefix_64` answers, where the first window is read in line. Fewer than 16 digits are
+/// never above the bound; for more of them the engine is called, and loads that window again.
 ///
 /// # Errors
 ///
@@ -32,13 +33,47 @@ pub(crate) fn front_64<'a, E: Engine>(
     ensures least_skipping { IsTrue skip → steps.old + least_loads E.table s.now ≤ steps.new }
 {
     let window = E::window(s, steps);
-    if window.len >= 16 {
-        // Not `?` nor the result itself: these write the caller's slot on the short way too.
-        return match E::prefix_64(bound, limit, skip, s, steps) {
-            Ok(found) => Ok(found),
-            Err(error) => Err(error),
-        };
+    if window.len < 16 {
+        short_64(window)
+    } else {
+        long_64::<E>(bound, limit, skip, s, steps)
     }
+}
+
+/// What `Engine::prefix_64` answers, for a slice that is to be read whole: where it has fewer than 16
+/// bytes, one window is read in line, and else the engine is called at once.
+///
+/// # Errors
+///
+/// `Empty`, `Size` and `Overflow`, as of `Engine::prefix_64`.
+#[inline(always)]
+pub(crate) fn all_64<'a, E: Engine>(
+    bound: u64,
+    limit: u32,
+    skip: bool,
+    s: &'a [u8],
+    steps: &mut Steps,
+) -> Result<(u64, usize), AtoiSimdError<'a>>
+    requires limit_low { 17 ≤ limit }
+    requires limit_high { limit ≤ 20 }
+    requires digits { HasDigits limit bound }
+    ensures answer { answer_of result ≡ prefix_magnitude E.table wide64 bound limit skip s.now }
+    ensures most { steps.new ≤ steps.old + most_loads E.table wide64 s.now }
+    ensures least { 0 < length s.now → steps.old < steps.new }
+    ensures least_skipping { IsTrue skip → steps.old + least_loads E.table s.now ≤ steps.new }
+{
+    if s.len() < 16 {
+        short_64(E::window(s, steps))
+    } else {
+        long_64::<E>(bound, limit, skip, s, steps)
+    }
+}
+
+// What a window that is not full answers.
+#[inline(always)]
+fn short_64<'a>(window: Window) -> Result<(u64, usize), AtoiSimdError<'a>>
+    ensures { answer_of result ≡ (if window.len == 0 then Err empty else Ok (window.number, window.len)) }
+{
     if window.len == 0 {
         Err(AtoiSimdError::Empty)
     } else {
@@ -46,8 +81,31 @@ pub(crate) fn front_64<'a, E: Engine>(
     }
 }
 
-/// What `Engine::prefix_128` answers. Fewer than 16 digits are never above the bound, and are read
-/// from one window in line; for the others the call is made, and loads that window again.
+// What the engine answers. It is taken apart here, or the caller would clear its place on each way.
+#[inline(always)]
+fn long_64<'a, E: Engine>(
+    bound: u64,
+    limit: u32,
+    skip: bool,
+    s: &'a [u8],
+    steps: &mut Steps,
+) -> Result<(u64, usize), AtoiSimdError<'a>>
+    requires limit_low { 17 ≤ limit }
+    requires limit_high { limit ≤ 20 }
+    requires digits { HasDigits limit bound }
+    ensures answer { answer_of result ≡ prefix_magnitude E.table wide64 bound limit skip s.now }
+    ensures most { steps.new < steps.old + most_loads E.table wide64 s.now }
+    ensures least { 0 < length s.now → steps.old < steps.new }
+    ensures least_skipping { IsTrue skip → steps.old + least_loads E.table s.now ≤ steps.new }
+{
+    match E::prefix_64(bound, limit, skip, s, steps) {
+        Ok(found) => Ok(found),
+        Err(error) => Err(error),
+    }
+}
+
+/// What `Engine::prefix_128` answers, where the first window is read in line. Fewer than 16 digits are
+/// never above the bound; for more of them the engine is called, and loads that window again.
 ///
 /// # Errors
 ///
@@ -66,15 +124,67 @@ pub(crate) fn front_128<'a, E: Engine>(
     ensures least_skipping { IsTrue skip → steps.old + least_loads E.table s.now ≤ steps.new }
 {
     let window = E::window(s, steps);
-    if window.len >= 16 {
-        return match E::prefix_128(bound, skip, s, steps) {
-            Ok(found) => Ok(found),
-            Err(error) => Err(error),
-        };
+    if window.len < 16 {
+        short_128(window)
+    } else {
+        long_128::<E>(bound, skip, s, steps)
     }
+}
+
+/// What `Engine::prefix_128` answers, for a slice that is to be read whole: where it has fewer than 16
+/// bytes, one window is read in line, and else the engine is called at once.
+///
+/// # Errors
+///
+/// `Empty`, `Size` and `Overflow`, as of `Engine::prefix_128`.
+#[inline(always)]
+pub(crate) fn all_128<'a, E: Engine>(
+    bound: u128,
+    skip: bool,
+    s: &'a [u8],
+    steps: &mut Steps,
+) -> Result<(u128, usize), AtoiSimdError<'a>>
+    requires digits { HasDigits 39 bound }
+    ensures answer { answer_of result ≡ prefix_magnitude E.table wide128 bound 39 skip s.now }
+    ensures most { steps.new ≤ steps.old + most_loads E.table wide128 s.now }
+    ensures least { 0 < length s.now → steps.old < steps.new }
+    ensures least_skipping { IsTrue skip → steps.old + least_loads E.table s.now ≤ steps.new }
+{
+    if s.len() < 16 {
+        short_128(E::window(s, steps))
+    } else {
+        long_128::<E>(bound, skip, s, steps)
+    }
+}
+
+// What a window that is not full answers.
+#[inline(always)]
+fn short_128<'a>(window: Window) -> Result<(u128, usize), AtoiSimdError<'a>>
+    ensures { answer_of result ≡ (if window.len == 0 then Err empty else Ok (window.number, window.len)) }
+{
     if window.len == 0 {
         Err(AtoiSimdError::Empty)
     } else {
         Ok((u128::from(window.number), window.len as usize))
+    }
+}
+
+// What the engine answers. It is taken apart here, or the caller would clear its place on each way.
+#[inline(always)]
+fn long_128<'a, E: Engine>(
+    bound: u128,
+    skip: bool,
+    s: &'a [u8],
+    steps: &mut Steps,
+) -> Result<(u128, usize), AtoiSimdError<'a>>
+    requires digits { HasDigits 39 bound }
+    ensures answer { answer_of result ≡ prefix_magnitude E.table wide128 bound 39 skip s.now }
+    ensures most { steps.new < steps.old + most_loads E.table wide128 s.now }
+    ensures least { 0 < length s.now → steps.old < steps.new }
+    ensures least_skipping { IsTrue skip → steps.old + least_loads E.table s.now ≤ steps.new }
+{
+    match E::prefix_128(bound, skip, s, steps) {
+        Ok(found) => Ok(found),
+        Err(error) => Err(error),
     }
 }

@@ -1,6 +1,6 @@
 //! The engine that reads a window byte by byte: the reference for the faster ones.
 //! It stands on `engine`, `window`, `steps` and the one decimal digit of `digit_loop`.
-ghost use Rattle.std.specs.Prelude.{◌≡◌, ◌≤◌, length};
+ghost use Rattle.std.specs.Prelude.{◌≡◌, ◌<◌, ◌≤◌, length};
 ghost use Rattle.atoi_core.specs.Digit.{decimal_table};
 ghost use Rattle.atoi_core.specs.Run.{run_len, run, value, zeros};
 ghost use Rattle.atoi_core.specs.Window.{window_of};
@@ -50,7 +50,22 @@ fn front_of(size: usize, s: &[u8]) -> Window
     }
 }
 
+// The window of a slice that does not fill one.
+#[inline(always)]
+pub(crate) fn few_bytes(s: &[u8]) -> Window
+    requires { length s.now < 16 }
+    ensures { result ≡ window_of decimal_table 16 s.now }
+{
+    let (len, number) = read_run(s);
+    Window {
+        len,
+        zeroes: 0,
+        number,
+    }
+}
+
 // How many digits `s` begins with, and the number that they write.
+#[inline(always)]
 fn read_run(s: &[u8]) -> (u32, u64)
     requires { length s.now ≤ 16 }
     ensures { result ≡ (run_len decimal_table s.now, value decimal_table (run decimal_table s.now)) }

@@ -1,5 +1,5 @@
 //! The engine that reads a window as one word of eight bytes, or as two.
-//! It stands on `words`, `engine`, `window` and `steps`.
+//! It stands on `words`, `engine`, `window` and `steps`, and reads a few bytes as `plain` does.
 ghost use Rattle.std.specs.Prelude.{◌≡◌, ◌+◌, ◌^◌, ◌≤◌, ◌++◌, length, take, drop};
 ghost use Rattle.atoi_core.specs.Digit.{decimal_table};
 ghost use Rattle.atoi_core.specs.Run.{run_len, zeros};
@@ -9,6 +9,7 @@ ghost use Rattle.std.proofs.Common.{arith};
 ghost use Rattle.std.proofs.lemmas.Bool.Decides.{nat_tests};
 
 use crate::engine::Engine;
+use crate::plain::few_bytes;
 use crate::steps::Steps;
 use crate::window::Window;
 use crate::words::{check_len_8, len_zeroes, load_8, process_8};
@@ -24,6 +25,9 @@ impl Engine for Words {
     #[inline(always)]
     fn window(s: &[u8], steps: &mut Steps) -> Window {
         steps.tick();
+        if s.len() < 4 {
+            return few_bytes(s);
+        }
         let first = load_8(s);
         let len = check_len_8(first);
         if len == 8 {
