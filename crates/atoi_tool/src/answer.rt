@@ -12,12 +12,8 @@ use crate::request::{Call, Integer, Request};
 use crate::row::row_of;
 use atoi_simd::lanes;
 
-/// Writes the answer to a row of a type that may have no negative numbers.
-fn answer_unsigned<T: atoi_simd::Parse + lanes::Parse>(
-    request: &Request,
-    text: &[u8],
-    out: &mut Line,
-)
+/// Writes the answer to a row of any type, whose call reads no negative number.
+fn answer_any<T: atoi_simd::Parse + lanes::Parse>(request: &Request, text: &[u8], out: &mut Line)
     requires call { is_negative request.now.call ≡ false }
     requires empty { out.old ≡ [] }
     ensures text { out.new ≡ call_text request.now.call (kind T.BITS T.SIGNED T.GREATEST) request.now.flags text.now }
@@ -33,7 +29,7 @@ fn answer_unsigned<T: atoi_simd::Parse + lanes::Parse>(
     }
 }
 
-/// Writes the answer to a row of a type with negative numbers.
+/// Writes the answer to a row of a type with negative numbers, whatever its call.
 fn answer_signed<T: atoi_simd::Parse + lanes::Parse + atoi_simd::ParseNeg + lanes::ParseNeg>(
     request: &Request,
     text: &[u8],
@@ -47,7 +43,7 @@ fn answer_signed<T: atoi_simd::Parse + lanes::Parse + atoi_simd::ParseNeg + lane
     match request.call {
         Call::Neg => push_whole(calls::parse_neg::<T>(engine, flags, text), out),
         Call::PrefixNeg => push_prefix(calls::parse_prefix_neg::<T>(engine, flags, text), out),
-        _ => answer_unsigned::<T>(request, text, out),
+        _ => answer_any::<T>(request, text, out),
     }
 }
 
@@ -59,17 +55,17 @@ fn answer_row(request: &Request, text: &[u8], out: &mut Line)
     ensures length { length out.new ≤ 336 }
 {
     match request.integer {
-        Integer::U8 => answer_unsigned::<u8>(request, text, out),
+        Integer::U8 => answer_any::<u8>(request, text, out),
         Integer::I8 => answer_signed::<i8>(request, text, out),
-        Integer::U16 => answer_unsigned::<u16>(request, text, out),
+        Integer::U16 => answer_any::<u16>(request, text, out),
         Integer::I16 => answer_signed::<i16>(request, text, out),
-        Integer::U32 => answer_unsigned::<u32>(request, text, out),
+        Integer::U32 => answer_any::<u32>(request, text, out),
         Integer::I32 => answer_signed::<i32>(request, text, out),
-        Integer::U64 => answer_unsigned::<u64>(request, text, out),
+        Integer::U64 => answer_any::<u64>(request, text, out),
         Integer::I64 => answer_signed::<i64>(request, text, out),
-        Integer::U128 => answer_unsigned::<u128>(request, text, out),
+        Integer::U128 => answer_any::<u128>(request, text, out),
         Integer::I128 => answer_signed::<i128>(request, text, out),
-        Integer::Usize => answer_unsigned::<usize>(request, text, out),
+        Integer::Usize => answer_any::<usize>(request, text, out),
         Integer::Isize => answer_signed::<isize>(request, text, out),
     }
 }

@@ -1,12 +1,15 @@
 //! Tests of the answers to whole inputs, and of writers that fail.
 //! The expected answers come from the crate `atoi_simd` 0.18.1 of Rust and from its documentation.
 
+mod original_rows;
+
 use super::answer_lines;
 use crate::sink::ToWriter;
 use crate::status::{ToolError, status};
-use std::alloc::Global;
+use std::alloc::{AllocError, Global};
 use std::io;
 use std::io::{ErrorKind, Write};
+use std::process::Abort;
 use std::test::Fail;
 
 // What is written for an input, and whether the input is good.
@@ -16,97 +19,126 @@ fn answered(alloc: Global, input: &[u8]) -> Result<(Vec<u8>, bool), Fail> {
     Ok((sink.into_inner(), good))
 }
 
+// The rows with engine `l` in the place of `w`.
+fn on_lanes(alloc: Global, rows: &[u8]) -> Result<Vec<u8>, AllocError> {
+    let mut lanes = Vec::new(alloc);
+    let mut starts_row = true;
+    for byte in rows {
+        lanes.push(if starts_row && *byte == b'w' {
+            b'l'
+        } else {
+            *byte
+        })?;
+        starts_row = *byte == b'\n';
+    }
+    Ok(lanes)
+}
+
+// Good rows, and their answers. Behind the fourth space any byte but a newline is one like others, a space
+// too.
+const GOOD_ROWS: &[u8] = b"\
+w neg i8 -- 0
+w pos i8 -- 128
+w pos u8 -- 255\r
+w pos u8 --\x20
+w pos u16 -- 5
+l pos u8 -- 5
+w parse i128 zp -170141183460469231731687303715884105728
+w prefix i8 -- -0x
+w parse u64 z- 007x
+w neg i64 -- 9223372036854775808x
+w parse u64 zp +000000000000000000001234
+l prefix u64 -- 123something_else
+l prefix i32 -p +12a
+w prefix_neg i8 -- 128,
+w parse i8 -- -129
+w parse u8 --\x20
+w parse u128 -- 12a
+w parse u64 -- 12a
+w pos u8 -- \x20
+w pos u8 -- 1 2
+w pos u8 -- 7\0
+w pos u8 z- 0\xFF\r
+";
+
+const GOOD_ANSWERS: &[u8] = b"\
+ok 0
+err atoi_simd overflow, input: [31, 32, 38]
+err atoi_simd invalid at index: 3 it must contain only digits, starting with: 255  input: [32, 35, 35, D]
+err atoi_simd string is empty
+ok 5
+ok 5
+ok -170141183460469231731687303715884105728
+ok 0 2
+err atoi_simd invalid at index: 3 it must contain only digits, starting with: 7  input: [30, 30, 37, 78]
+err atoi_simd invalid at index: 19 it must contain only digits, starting with: 9223372036854775808  input: [39, 32, 32, 33, 33, 37, 32, 30, 33, 36, 38, 35, 34, 37, 37, 35, 38, 30, 38, 78]
+ok 1234
+ok 123 3
+ok 12 3
+ok -128 3
+err atoi_simd overflow, input: [31, 32, 39]
+err atoi_simd string is empty
+err atoi_simd invalid at index: 2 it must contain only digits, starting with: 12 input: [31, 32, 61]
+err atoi_simd invalid at index: 2 it must contain only digits, starting with: 12  input: [31, 32, 61]
+err atoi_simd string is empty
+err atoi_simd invalid at index: 1 it must contain only digits, starting with: 1  input: [31, 20, 32]
+err atoi_simd invalid at index: 1 it must contain only digits, starting with: 7  input: [37, 0]
+err atoi_simd invalid at index: 1 it must contain only digits, starting with: 0  input: [30, FF, D]
+";
+
+// The rows have these answers, on words and on lanes.
+fn assert_answers(rt: &impl Abort, alloc: Global, rows: &[u8], answers: &[u8]) -> Result<(), Fail> {
+    let (output, good) = answered(alloc, rows)?;
+    assert!(rt; good);
+    assert_eq!(rt; output.as_slice(), answers);
+    let (output, good) = answered(alloc, &on_lanes(alloc, rows)?)?;
+    assert!(rt; good);
+    assert_eq!(rt; output.as_slice(), answers);
+    Ok(())
+}
+
 #[test]
 fn answers_good_rows(rt: HostRuntime) -> Result<(), Fail> {
-    let rows: [(&[u8], &[u8]); 32] = [
-        (b"w neg i8 -- 0", b"ok 0"),
-        (
-            b"w pos i8 -- 128",
-            b"err atoi_simd overflow, input: [31, 32, 38]",
-        ),
-        (
-            b"w pos u8 -- 255\r",
-            b"err atoi_simd invalid at index: 3 it must contain only digits, starting with: 255  input: [32, 35, 35, D]",
-        ),
-        (b"w pos u8 -- ", b"err atoi_simd string is empty"),
-        // Behind the fourth space any byte but a newline is one like others, a space too.
-        (b"w pos u8 --  ", b"err atoi_simd string is empty"),
-        (
-            b"w pos u8 -- 1 2",
-            b"err atoi_simd invalid at index: 1 it must contain only digits, starting with: 1  input: [31, 20, 32]",
-        ),
-        (
-            b"w pos u8 -- 7\0",
-            b"err atoi_simd invalid at index: 1 it must contain only digits, starting with: 7  input: [37, 0]",
-        ),
-        (
-            b"w pos u8 z- 0\xFF\r",
-            b"err atoi_simd invalid at index: 1 it must contain only digits, starting with: 0  input: [30, FF, D]",
-        ),
-        // Answers of the Rust crate.
-        (
-            b"w pos u8 z- 25:",
-            b"err atoi_simd invalid at index: 2 it must contain only digits, starting with: 25  input: [32, 35, 3A]",
-        ),
-        (
-            b"w pos i8 -- 12:",
-            b"err atoi_simd invalid at index: 2 it must contain only digits, starting with: 12  input: [31, 32, 3A]",
-        ),
-        (
-            b"w neg i8 -- 00000000000000000000128x",
-            b"err atoi_simd invalid at index: 23 it must contain only digits, starting with: 128  input: [30, 30, 30, 30, 30, 30, 30, 30, 30, 30, 30, 30, 30, 30, 30, 30, 30, 30, 30, 30, 31, 32, 38, 78]",
-        ),
-        (b"w pos u8 -- 255", b"ok 255"),
-        (b"w pos u8 -- /255", b"err atoi_simd string is empty"),
-        (
-            b"w pos i8 z- 128",
-            b"err atoi_simd overflow, input: [31, 32, 38]",
-        ),
-        (b"w pos u8 -- 00000000000000000255", b"ok 255"),
-        (b"w pos i8 z- 127", b"ok 127"),
-        (b"w pos u8 z- 000000000000000000000000000000000", b"ok 0"),
-        (b"w pos u8 z- 255", b"ok 255"),
-        (b"w pos i8 z- /127", b"err atoi_simd string is empty"),
-        (
-            b"w pos u8 -- 256",
-            b"err atoi_simd overflow, input: [32, 35, 36]",
-        ),
-        (b"w pos i8 z- 00000000000000000127", b"ok 127"),
-        (b"w pos i8 -- 00000000000000000127", b"ok 127"),
-        (b"w neg i8 -- 128", b"ok -128"),
-        (b"w pos i8 -- 000000000000000000000000000000000", b"ok 0"),
-        (b"w neg i8 z- 128", b"ok -128"),
-        (
-            b"w pos u8 -- 25:",
-            b"err atoi_simd invalid at index: 2 it must contain only digits, starting with: 25  input: [32, 35, 3A]",
-        ),
-        (
-            b"w neg i8 z- 129",
-            b"err atoi_simd overflow, input: [31, 32, 39]",
-        ),
-        (b"w pos i8 z- 000000000000000000000000000000000", b"ok 0"),
-        (b"w pos i8 -- 127", b"ok 127"),
-        (b"w pos u8 z- /255", b"err atoi_simd string is empty"),
-        (
-            b"w neg i8 z- 00000000000000000000128x",
-            b"err atoi_simd invalid at index: 23 it must contain only digits, starting with: 128  input: [30, 30, 30, 30, 30, 30, 30, 30, 30, 30, 30, 30, 30, 30, 30, 30, 30, 30, 30, 30, 31, 32, 38, 78]",
-        ),
-        (
-            b"w neg i8 -- 129",
-            b"err atoi_simd overflow, input: [31, 32, 39]",
-        ),
-    ];
-    for (row, answer) in rows {
-        let (output, good) = answered(rt.alloc(), row)?;
-        assert!(rt; good);
-        assert_eq!(rt; output.as_slice().strip_suffix(b"\n"), Some(answer));
+    assert_answers(&rt, rt.alloc(), GOOD_ROWS, GOOD_ANSWERS)
+}
+
+#[test]
+fn answers_as_the_original(rt: HostRuntime) -> Result<(), Fail> {
+    assert_answers(&rt, rt.alloc(), original_rows::ROWS, original_rows::ANSWERS)
+}
+
+// `start`, a million zeros and `end`.
+fn long_row(alloc: Global, start: &[u8], end: &[u8]) -> Result<Vec<u8>, AllocError> {
+    let mut row = start.to_vec(alloc)?;
+    row.extend_from_slice(&vec![in alloc; b'0'; 1_000_000]?)?;
+    row.extend_from_slice(end)?;
+    Ok(row)
+}
+
+#[test]
+fn answers_long_rows(rt: HostRuntime) -> Result<(), Fail> {
+    let row = long_row(rt.alloc(), b"w parse u8 z- ", b"7")?;
+    let (output, _) = answered(rt.alloc(), &row)?;
+    assert_eq!(rt; output.as_slice(), b"ok 7\n".as_slice());
+
+    let row = long_row(rt.alloc(), b"l prefix u64 z- ", b"7x")?;
+    let (output, _) = answered(rt.alloc(), &row)?;
+    assert_eq!(rt; output.as_slice(), b"ok 7 1000001\n".as_slice());
+
+    let mut shown = b"err atoi_simd wrong size: 24 input: [30".to_vec(rt.alloc())?;
+    for _ in 1..48 {
+        shown.extend_from_slice(b", 30")?;
     }
+    shown.extend_from_slice(b"]\n")?;
+    let row = long_row(rt.alloc(), b"w prefix u64 -- ", b"")?;
+    let (output, _) = answered(rt.alloc(), &row)?;
+    assert_eq!(rt; output.as_slice(), shown.as_slice());
     Ok(())
 }
 
 #[test]
 fn refuses_bad_rows(rt: HostRuntime) -> Result<(), Fail> {
-    let rows: [&[u8]; 22] = [
+    let rows: [&[u8]; 24] = [
         b"",
         b" ",
         b"    ",
@@ -118,13 +150,15 @@ fn refuses_bad_rows(rt: HostRuntime) -> Result<(), Fail> {
         b"w pos u8  -- 5",
         b"W pos u8 -- 5",
         b"x pos u8 -- 5",
-        b"l pos u8 -- 5",
         b"w po u8 -- 5",
         b"w neg u8 -- 5",
+        b"l prefix_neg usize -- 5",
         b"w pos u9 -- 5",
-        b"w pos u16 -- 5",
         b"w pos u8 zz 5",
         b"w pos u8 -p 5",
+        b"l neg i8 -p 5",
+        b"w prefix_pos u8 -p 5",
+        b"w prefix_neg i8 zp 5",
         b"w pos u8 p- 5",
         b"w\0pos u8 -- 5",
         b"w pos\r u8 -- 5",
