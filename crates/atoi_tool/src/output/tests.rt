@@ -1,11 +1,10 @@
 //! Tests of the answers to whole inputs, and of writers that fail.
 //! The expected answers come from the crate `atoi_simd` 0.18.1 of Rust and from its documentation.
 
-mod original_rows;
-
 use super::answer_lines;
 use crate::sink::ToWriter;
 use crate::status::{ToolError, status};
+use atoi_vectors::original;
 use std::alloc::{AllocError, Global};
 use std::io;
 use std::io::{ErrorKind, Write};
@@ -104,7 +103,7 @@ fn answers_good_rows(rt: HostRuntime) -> Result<(), Fail> {
 
 #[test]
 fn answers_as_the_original(rt: HostRuntime) -> Result<(), Fail> {
-    assert_answers(&rt, rt.alloc(), original_rows::ROWS, original_rows::ANSWERS)
+    assert_answers(&rt, rt.alloc(), original::ROWS, original::ANSWERS)
 }
 
 // `start`, a million zeros and `end`.
