@@ -85,12 +85,10 @@ fn told_at(
     s: &[u8],
 ) -> Result<(u64, usize), AtoiSimdError<'_>>
     requires { at ≤ length s.now }
-    ensures {
-        answer_of result
+    ensures { answer_of result
         ≡ (if at + window.len == 0 then Err empty
         else (if nat_lt bound window.number then Err (overflow (drop at s.now))
-        else Ok (window.number, at + window.len)))
-    }
+        else Ok (window.number, at + window.len))) }
 {
     let len = at + window.len as usize;
     if len == 0 {
