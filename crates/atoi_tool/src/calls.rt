@@ -1,4 +1,5 @@
-//! The calls of both libraries, with the engine and the flags as values.
+//! The calls of both libraries, with the engine and the flags as values. Both libraries answer alike, so no clause
+//! tells which one was called.
 //! It stands on the ten functions of `atoi_simd`, and on those of its module `lanes`.
 ghost use Rattle.std.specs.Prelude.{◌≡◌, true, false};
 ghost use Rattle.atoi_core.specs.Answer.{typed_answer, typed_prefix_answer, whole_answer, prefix_answer, parse_answer, parse_prefix_answer};
