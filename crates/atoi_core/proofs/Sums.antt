@@ -1,20 +1,38 @@
--- The sums by places of eight and of sixteen bytes: three rounds, and four.
-use Rattle.std.proofs.Common.{◌≡◌, ℕ, ◌+◌, ◌-◌, ◌*◌, ◌/◌, ◌%◌, ◌^◌, ◌<◌, ◌≤◌, suc, List, [], ◌∷◌, length, sym, ◌∙◌, arith}
+-- The sums by places of four, of eight and of sixteen bytes: two rounds, three, and four.
+use Rattle.std.proofs.Common.{◌≡◌, ℕ, ◌+◌, ◌-◌, ◌*◌, ◌/◌, ◌%◌, ◌^◌, ◌<◌, ◌≤◌, suc, List, [], ◌∷◌, length, refl, sym, ap, ◌∙◌, arith}
 use Rattle.std.proofs.Common.{lit<}
 use Rattle.std.proofs.Math.Nat.{mul-le-mul_right, pow-suc, pow-le-pow_right}
+use Rattle.std.proofs.Math.Pow.{mod-mod-pow}
 use Rattle.std.specs.Simd.Lanes.{digits_l}
 use Rattle.std.specs.Int.Bits.{bit_and}
 use Rattle.atoi_core.specs.Words.{low_bytes, low_value}
 use Rattle.atoi_core.proofs.Rounds.{lows, number_in, round_number}
-use Rattle.atoi_core.proofs.Fields.{shifted_sum, length-digits}
+use Rattle.atoi_core.proofs.Fields.{shifted_sum, length-digits, digits_cut}
 
 -- a sum of eight bytes is the one digit that is left
 one_field_8 : (word : ℕ) → word < 2 ^ 32 → number_in 100000000 (lows 32 1 word) ≡ word
 one_field_8 word below = omega arith
 
--- and so is a sum of sixteen
+-- so is a sum of four
+one_field_4 : (word : ℕ) → word < 2 ^ 16 → number_in 10000 (lows 16 1 word) ≡ word
+one_field_4 word below = omega arith
+
+-- and of sixteen
 one_field_16 : (word : ℕ) → word < 2 ^ 64 → number_in 10000000000000000 (lows 64 1 word) ≡ word
 one_field_16 word below = omega arith
+
+-- two rounds of four bytes
+pub sum_4 : (val len : ℕ) → len ≤ 4
+    → let ones = val * 2 ^ (32 - 8 * len) % 2 ^ 32 in
+    let tens = bit_and ones 0x0F0F_0F0F * 0xA01 % 2 ^ 32 / 2 ^ 8 in
+    bit_and tens 0x00FF_00FF * 0x64_0001 % 2 ^ 32 / 2 ^ 16 ≡ low_value (low_bytes len val)
+sum_4 val len most =
+    let ones = val * 2 ^ (32 - 8 * len) % 2 ^ 32 in
+    let tens = bit_and ones 0x0F0F_0F0F * 0xA01 % 2 ^ 32 / 2 ^ 8 in
+    sym (one_field_4 (bit_and tens 0x00FF_00FF * 0x64_0001 % 2 ^ 32 / 2 ^ 16) (omega arith))
+    ∙ round_number 8 100 (lit< tt) 1 tens
+    ∙ round_number 4 10 (lit< tt) 2 ones
+    ∙ shifted_sum (32 - 8 * len) 4 len val (omega arith) most
 
 -- three rounds of eight bytes
 pub sum_8 : (val len : ℕ) → len ≤ 8
@@ -68,10 +86,22 @@ sum_most count len val most =
     let power : 10 ^ length (digits_l 256 len val) ≤ 10 ^ count = pow-le-pow_right (lit< tt) few in
     omega (arith, places_most (digits_l 256 len val))
 
--- the greatest sum of eight bytes, and of sixteen: each half is 15
+-- the greatest sum of four bytes, of eight, and of sixteen: each half is 15
+pub most_4 : (val len : ℕ) → len ≤ 4 → (result : ℕ) → result ≡ low_value (low_bytes len val) → result ≤ 16665
+most_4 val len most result is = omega (arith, sum_most 4 len val most)
+
 pub most_8 : (val len : ℕ) → len ≤ 8 → (result : ℕ) → result ≡ low_value (low_bytes len val) → result ≤ 166666665
 most_8 val len most result is = omega (arith, sum_most 8 len val most)
 
 -- the same of sixteen
 pub most_16 : (val len : ℕ) → len ≤ 16 → (result : ℕ) → result ≡ low_value (low_bytes len val) → result ≤ 16666666666666665
 most_16 val len most result is = omega (arith, sum_most 16 len val most)
+
+-- the lowest bytes of a word are those of its lower half
+pub low_half : (word len : ℕ) → len ≤ 4 → low_bytes len (word % 2 ^ 32) ≡ low_bytes len word
+unfolding low_bytes
+low_half word len most =
+    let places : 32 - len * 8 + len * 8 ≡ 32 = omega arith in
+    let cut : word % 2 ^ 32 % 2 ^ (len * 8) ≡ word % 2 ^ (len * 8) =
+    ap (λ (k : ℕ). word % 2 ^ k % 2 ^ (len * 8)) (sym places) ∙ mod-mod-pow word (32 - len * 8) (len * 8) in
+    sym (digits_cut 8 len (word % 2 ^ 32)) ∙ ap (digits_l 256 len) cut ∙ digits_cut 8 len word

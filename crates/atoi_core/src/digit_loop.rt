@@ -7,27 +7,18 @@ ghost use Rattle.atoi_core.specs.Magnitude.{narrow, whole_magnitude};
 
 use crate::error::AtoiSimdError;
 
+// The byte of the digit zero.
+const ZERO: u64 = 48;
+
 // What a byte is worth as a decimal digit.
 #[inline(always)]
 pub(crate) fn digit(byte: u8) -> Option<u64>
     ensures { result ≡ decimal_table byte }
 {
     if byte.is_ascii_digit() {
-        Some(u64::from(byte - b'0'))
+        Some(u64::from(byte) - ZERO)
     } else {
         None
-    }
-}
-
-// Why `s` is refused where `len` digits that write `number` are followed by another byte.
-#[inline(always)]
-fn rest_after(len: usize, number: u64, s: &[u8]) -> AtoiSimdError<'_>
-    ensures { refusal_of result ≡ (if len == 0 then empty else invalid64 number len s.now) }
-{
-    if len == 0 {
-        AtoiSimdError::Empty
-    } else {
-        AtoiSimdError::Invalid64(number, len, s)
     }
 }
 
@@ -47,10 +38,15 @@ pub fn narrow_whole(bound: u64, s: &[u8]) -> Result<u64, AtoiSimdError<'_>>
     requires high { bound ≤ 4294967295 }
     ensures answer { answer_of result ≡ whole_magnitude decimal_table narrow bound 0 false s.now }
 {
-    let mut number = 0;
-    for (len, byte) in s.iter().enumerate() {
+    let [first, rest @ ..] = s else {
+        return Err(AtoiSimdError::Empty);
+    };
+    let Some(mut number) = digit(*first) else {
+        return Err(AtoiSimdError::Empty);
+    };
+    for (at, byte) in rest.iter().enumerate() {
         let Some(worth) = digit(*byte) else {
-            return Err(rest_after(len, number, s));
+            return Err(AtoiSimdError::Invalid64(number, at + 1, s));
         };
         let next = number * 10 + worth;
         if next > bound {
@@ -58,11 +54,7 @@ pub fn narrow_whole(bound: u64, s: &[u8]) -> Result<u64, AtoiSimdError<'_>>
         }
         number = next;
     }
-    if s.is_empty() {
-        Err(AtoiSimdError::Empty)
-    } else {
-        Ok(number)
-    }
+    Ok(number)
 }
 
 #[cfg(test)]

@@ -39,13 +39,33 @@ pub fn narrow_prefix<'a, E: Engine>(
 {
     let window = E::window(s, steps);
     if skip && window.zeroes > 0 {
-        // Not the result itself: that writes the caller's slot on the short way too.
-        return match behind_zeros::<E>(bound, window.zeroes, s, steps) {
-            Ok(found) => Ok(found),
-            Err(error) => Err(error),
-        };
+        skip_on::<E>(bound, window.zeroes, s, steps)
+    } else {
+        told_at(bound, 0, window, s)
     }
-    told_at(bound, 0, window, s)
+}
+
+// What `behind_zeros` answers. It is taken apart here, or the caller would clear its place on each way.
+#[inline(always)]
+fn skip_on<'a, E: Engine>(
+    bound: u64,
+    zeroes: u32,
+    s: &'a [u8],
+    steps: &mut Steps,
+) -> Result<(u64, usize), AtoiSimdError<'a>>
+    requires low { 9 ≤ bound }
+    requires high { bound ≤ 4294967295 }
+    requires some { 0 < zeroes }
+    requires told { zeroes ≡ (window_of E.table 16 s.now).zeroes }
+    ensures answer { answer_of result ≡ prefix_magnitude E.table narrow bound 0 true s.now }
+    ensures most { steps.new < steps.old + most_loads E.table narrow s.now }
+    ensures least { steps.old ≤ steps.new }
+    ensures least_skipping { steps.old + least_loads E.table s.now ≤ steps.new + 1 }
+{
+    match behind_zeros::<E>(bound, zeroes, s, steps) {
+        Ok(found) => Ok(found),
+        Err(error) => Err(error),
+    }
 }
 
 // The same of a slice whose first window told `zeroes`, which are skipped with those behind them.

@@ -1,6 +1,6 @@
 //! The engine that reads a window as one word of eight bytes, or as two.
 //! It stands on `words`, `engine`, `window` and `steps`, and reads a few bytes as `plain` does.
-ghost use Rattle.std.specs.Prelude.{◌≡◌, ◌+◌, ◌^◌, ◌≤◌, ◌++◌, length, take, drop};
+ghost use Rattle.std.specs.Prelude.{◌≡◌, ◌+◌, ◌^◌, ◌<◌, ◌≤◌, ◌++◌, length, take, drop};
 ghost use Rattle.atoi_core.specs.Digit.{decimal_table};
 ghost use Rattle.atoi_core.specs.Run.{run_len, zeros};
 ghost use Rattle.atoi_core.specs.Window.{window_of};
@@ -12,7 +12,7 @@ use crate::engine::Engine;
 use crate::plain::few_bytes;
 use crate::steps::Steps;
 use crate::window::Window;
-use crate::words::{check_len_8, len_zeroes, load_8, process_8};
+use crate::words::{check_len_8, len_zeroes, load_8, process_4, process_8};
 
 /// The engine that reads eight bytes at once, as a word. Its digits are the decimal ones.
 pub struct Words;
@@ -25,19 +25,15 @@ impl Engine for Words {
     #[inline(always)]
     fn window(s: &[u8], steps: &mut Steps) -> Window {
         steps.tick();
-        if s.len() < 4 {
-            return few_bytes(s);
+        if s.len() < 8 {
+            return part(s);
         }
         let first = load_8(s);
         let len = check_len_8(first);
         if len == 8 {
             joined(s, first)
         } else {
-            Window {
-                len,
-                zeroes: 0,
-                number: number_of(first, len),
-            }
+            not_full(len, number_of(first, len))
         }
     }
 
@@ -58,6 +54,20 @@ impl Engine for Words {
     ghost below_ten = { λ byte. Prim.grind (arith, nat_tests) };
 }
 
+// The window of fewer than 8 bytes: of fewer than 4 one by one.
+#[inline(always)]
+fn part(s: &[u8]) -> Window
+    requires { length s.now < 8 }
+    ensures { result ≡ window_of decimal_table 16 s.now }
+{
+    if s.len() < 4 {
+        return few_bytes(s);
+    }
+    let word = load_8(s);
+    let len = check_len_8(word);
+    not_full(len, number_of(word, len))
+}
+
 // The window of 16 bytes where the first 8, which `first` holds, are digits.
 #[inline(always)]
 fn joined(s: &[u8], first: u64) -> Window
@@ -67,15 +77,27 @@ fn joined(s: &[u8], first: u64) -> Window
 {
     let next = load_next(s);
     let more = check_len_8(next);
-    let zeroes = if more == 8 {
-        zeroes_of_two(first, next)
+    if more == 8 {
+        Window {
+            len: 16,
+            zeroes: zeroes_of_two(first, next),
+            number: process_8(first, 8) * power_of_ten(8) + process_8(next, 8),
+        }
     } else {
-        0
-    };
+        let high = process_8(first, 8) * power_of_ten(more);
+        not_full(8 + more, high + number_of(next, more))
+    }
+}
+
+// A window that is not full of digits tells no zeros.
+#[inline(always)]
+fn not_full(len: u32, number: u64) -> Window
+    ensures { result ≡ record { len = len; zeroes = 0; number = number } }
+{
     Window {
-        len: 8 + more,
-        zeroes,
-        number: process_8(first, 8) * power_of_ten(more) + number_of(next, more),
+        len,
+        zeroes: 0,
+        number,
     }
 }
 
@@ -91,14 +113,20 @@ fn load_next(s: &[u8]) -> u64
     }
 }
 
-// The number that the first `len` bytes write.
+// The number that the first `len` bytes write. Most have few digits.
 #[inline(always)]
 fn number_of(word: u64, len: u32) -> u64
     requires { len ≤ 8 }
     ensures sum { result ≡ low_value (low_bytes len word) }
     ensures most { result ≤ 166666665 }
 {
-    if len == 0 { 0 } else { process_8(word, len) }
+    if len == 0 {
+        0
+    } else if len <= 4 {
+        u64::from(process_4((word & 0xFFFF_FFFF) as u32, len))
+    } else {
+        process_8(word, len)
+    }
 }
 
 // How many zeros the word begins with. Most begin with none.

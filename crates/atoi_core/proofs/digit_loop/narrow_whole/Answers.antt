@@ -1,56 +1,102 @@
--- What the loop keeps, and what it answers at each end.
-use Rattle.std.proofs.Common.{◌≡◌, ℕ, Bool, true, List, length, drop, Ok, ◌==◌, if◌then◌else◌, ◌<◌, ◌≤◌, ◌+◌, ◌*◌, ap, ◌∙◌, sym, Some, None, get_or, take, Err, false}
+-- What the loop keeps, and what it answers at each end. It goes over the bytes behind the first.
+use Rattle.std.proofs.Common.{◌≡◌, ℕ, List, length, drop, Ok, Err, ◌==◌, if◌then◌else◌, ◌<◌, ◌≤◌, ◌+◌, ◌-◌, ◌*◌, ap, ◌∙◌, sym, refl, Option, Some, None, get_or, take, false, lit≤, arith}
+use Rattle.std.proofs.lemmas.Bool.{eq-eqb, ne_eqb}
+use Rattle.std.proofs.lemmas.List.{take_rest, length-drop, get_or-drop}
 use Rattle.atoi_core.specs.Digit.{decimal_table}
 use Rattle.atoi_core.specs.Run.{value, run_len}
-use Rattle.atoi_core.specs.Refusal.{empty}
+use Rattle.atoi_core.specs.Refusal.{empty, invalid64}
 use Rattle.atoi_core.specs.Magnitude.{narrow, whole_magnitude}
-use Rattle.atoi_core.proofs.Digits.{value_more, run_more}
+use Rattle.atoi_core.proofs.Digits.{value_more, run_more, digit_worth, decimal_below_ten}
 use Rattle.atoi_core.proofs.Magnitudes.{narrow_whole_rest, narrow_whole_over, narrow_whole_end}
 use Rattle.atoi_core.proofs.digit_loop.narrow_whole.Goals as goal
 
-pub loop-len-preserved : goal.loop-len-preserved
-loop-len-preserved c =
-    let digit : decimal_table (get_or c.args.s.now c.loop-len.len 0) ≡ Some c.in-Some.worth = sym c.digit.ensures ∙ c.in-Some.is in
-    record {
-      digits = run_more decimal_table c.args.s.now c.loop-len.len c.in-Some.worth c.loop-len-test.true digit c.loop-len.invariant.digits;
-      number = ap (λ n. n * 10 + c.in-Some.worth) c.loop-len.invariant.number ∙ sym (value_more decimal_table c.args.s.now c.loop-len.len c.in-Some.worth c.loop-len-test.true digit);
-      bound = c.if-next-bound.false;
-    }
+-- a byte of the rest behind the first byte
+rest_byte : (s : List ℕ) (i : ℕ) → get_or (take (length s - 1) (drop 1 s)) i 0 ≡ get_or s (i + 1) 0
+rest_byte s i =
+    let place : 1 + i ≡ i + 1 = omega arith in
+    ap (λ (r : List ℕ). get_or r i 0) (take_rest s 1) ∙ get_or-drop 1 s i 0 ∙ ap (λ (k : ℕ). get_or s k 0) place
+
+-- how many these are
+rest_length : (s : List ℕ) → length (take (length s - 1) (drop 1 s)) ≡ length s - 1
+rest_length s = ap length (take_rest s 1) ∙ length-drop 1 s
 
 pub returns-in_default : goal.returns-in_default
 returns-in_default c =
-    let none : decimal_table (get_or c.args.s.now c.loop-len.len 0) ≡ None = sym c.digit.ensures ∙ c.in_default.is in
+    let s = c.args.s.now in
+    let none : length s ≡ 0 = omega (arith, c.in_default.len_below) in
     record {
-      answer = ap Err c.rest_after.ensures
-          ∙ sym (narrow_whole_rest decimal_table c.args.bound 0 false c.args.s.now c.loop-len.len c.loop-len.number c.loop-len-test.true none
-          c.loop-len.invariant.digits c.loop-len.invariant.number c.loop-len.invariant.bound);
+      answer = ap (λ b. if b then Err empty else Ok 0) (sym (eq-eqb (length s) 0 none))
+          ∙ sym (narrow_whole_end decimal_table c.args.bound 0 false s 0 0 (omega arith) (omega arith) (omega arith) refl (omega arith));
+    }
+
+pub returns-in_default-digit : goal.returns-in_default-digit
+returns-in_default-digit c =
+    let s = c.args.s.now in
+    let none : decimal_table (get_or s 0 0) ≡ None = sym c.digit.ensures ∙ c.in_default-digit.is in
+    record {
+      answer = sym (narrow_whole_rest decimal_table c.args.bound 0 false s 0 0 (omega (arith, c.in-len1-up.len_at_least)) none (omega arith) refl (omega arith));
+    }
+
+pub loop-at-init : goal.loop-at-init
+loop-at-init c =
+    let s = c.args.s.now in
+    let here : 0 < length s = omega (arith, c.in-len1-up.len_at_least) in
+    let digit : decimal_table (get_or s 0 0) ≡ Some c.in-Some.number = sym c.digit.ensures ∙ c.in-Some.is in
+    let small : c.in-Some.number < 10 = digit_worth decimal_table decimal_below_ten (get_or s 0 0) c.in-Some.number digit in
+    let number : value decimal_table (take (0 + 1) s) ≡ 0 * 10 + c.in-Some.number = value_more decimal_table s 0 c.in-Some.number here digit in
+    record {
+      digits = run_more decimal_table s 0 c.in-Some.number here digit (omega arith);
+      number = omega (arith, number);
+      bound = omega (arith, small);
+    }
+
+-- what is read there is read behind the first byte
+byte_behind : (s : List ℕ) (i : ℕ) (read found : Option ℕ) → read ≡ decimal_table (get_or (take (length s - 1) (drop 1 s)) i 0) → read ≡ found
+    → decimal_table (get_or s (i + 1) 0) ≡ found
+byte_behind s i read found is told = ap decimal_table (sym (rest_byte s i)) ∙ sym is ∙ told
+
+pub loop-at-preserved : goal.loop-at-preserved
+loop-at-preserved c =
+    let s = c.args.s.now in
+    let digit = byte_behind s c.loop-at.at _ (Some c.in-Some-digit.worth) c.digit-in-loop-at.ensures c.in-Some-digit.is in
+    let i = c.loop-at.at + 1 in
+    let here : i < length s = omega (arith, c.loop-at-test.true, rest_length s) in
+    record {
+      digits = run_more decimal_table s i c.in-Some-digit.worth here digit c.loop-at.invariant.digits;
+      number = ap (λ n. n * 10 + c.in-Some-digit.worth) c.loop-at.invariant.number ∙ sym (value_more decimal_table s i c.in-Some-digit.worth here digit);
+      bound = c.if-next-bound.false;
+    }
+
+pub returns-in_default-digit-2 : goal.returns-in_default-digit-2
+returns-in_default-digit-2 c =
+    let s = c.args.s.now in
+    let i = c.loop-at.at + 1 in
+    let here : i < length s = omega (arith, c.loop-at-test.true, rest_length s) in
+    let none : decimal_table (get_or s i 0) ≡ None = byte_behind s c.loop-at.at _ None c.digit-in-loop-at.ensures c.in_default-digit-2.is in
+    record {
+      answer = ap (λ b. Err (if b then empty else invalid64 c.loop-at.number i s)) (sym (ne_eqb i 0 (omega arith)))
+          ∙ sym (narrow_whole_rest decimal_table c.args.bound 0 false s i c.loop-at.number here none
+          c.loop-at.invariant.digits c.loop-at.invariant.number c.loop-at.invariant.bound);
     }
 
 pub returns-then-next-bound : goal.returns-then-next-bound
 returns-then-next-bound c =
-    let digit : decimal_table (get_or c.args.s.now c.loop-len.len 0) ≡ Some c.in-Some.worth = sym c.digit.ensures ∙ c.in-Some.is in
-    let over : c.args.bound < value decimal_table (take c.loop-len.len c.args.s.now) * 10 + c.in-Some.worth = rw (← c.loop-len.invariant.number) c.if-next-bound.true in
+    let s = c.args.s.now in
+    let digit = byte_behind s c.loop-at.at _ (Some c.in-Some-digit.worth) c.digit-in-loop-at.ensures c.in-Some-digit.is in
+    let i = c.loop-at.at + 1 in
+    let here : i < length s = omega (arith, c.loop-at-test.true, rest_length s) in
+    let over : c.args.bound < value decimal_table (take i s) * 10 + c.in-Some-digit.worth = rw (← c.loop-at.invariant.number) c.if-next-bound.true in
     record {
-      answer = sym (narrow_whole_over decimal_table c.args.bound 0 false c.args.s.now c.loop-len.len c.in-Some.worth c.loop-len-test.true digit
-          c.loop-len.invariant.digits over);
+      answer = sym (narrow_whole_over decimal_table c.args.bound 0 false s i c.in-Some-digit.worth here digit c.loop-at.invariant.digits over);
     }
 
--- after the last byte, by whether there was one
-ended : (bound number i : ℕ) (s : List ℕ) (is_empty : Bool) → (length s == 0) ≡ is_empty → i ≤ length s → length s ≤ i
-    → i + run_len decimal_table (drop i s) ≡ run_len decimal_table s → number ≡ value decimal_table (take i s) → number ≤ bound
-    → (if is_empty then Err empty else Ok number) ≡ whole_magnitude decimal_table narrow bound 0 false s
-ended bound number i s is_empty told within all so_far is_number fits =
-    ap (λ (b : Bool). if b then Err empty else Ok number) (sym told)
-    ∙ sym (narrow_whole_end decimal_table bound 0 false s i number within all so_far is_number fits)
-
-pub returns-then-is_empty : goal.returns-then-is_empty
-returns-then-is_empty c = record {
-  answer = ended c.args.bound c.loop-len.number c.loop-len.len c.args.s.now true (sym c.is_empty.ensures ∙ c.if-is_empty.true)
-      c.loop-len.auto.len-end c.loop-len-test.false c.loop-len.invariant.digits c.loop-len.invariant.number c.loop-len.invariant.bound;
-}
-
-pub returns-else-is_empty : goal.returns-else-is_empty
-returns-else-is_empty c = record {
-  answer = ended c.args.bound c.loop-len.number c.loop-len.len c.args.s.now false (sym c.is_empty.ensures ∙ c.if-is_empty.false)
-      c.loop-len.auto.len-end c.loop-len-test.false c.loop-len.invariant.digits c.loop-len.invariant.number c.loop-len.invariant.bound;
-}
+pub returns : goal.returns
+returns c =
+    let s = c.args.s.now in
+    let some : 1 ≤ length s = c.in-len1-up.len_at_least in
+    record {
+      answer = ap (λ b. if b then Err empty else Ok c.loop-at.number) (sym (ne_eqb (length s) 0 (omega arith)))
+          ∙ sym (narrow_whole_end decimal_table c.args.bound 0 false s (c.loop-at.at + 1) c.loop-at.number
+          (omega (arith, c.loop-at.auto.at-end, rest_length s)) (omega (arith, c.loop-at-test.false, rest_length s))
+          c.loop-at.invariant.digits c.loop-at.invariant.number c.loop-at.invariant.bound);
+    }

@@ -4,9 +4,9 @@ use Rattle.atoi_core.specs.Digit.{decimal_table}
 use Rattle.atoi_core.specs.Run.{run_len, value}
 use Rattle.atoi_core.proofs.digit_loop.narrow_whole.Given as goal
 
-abbrev pub invariant-loop-len : goal.invariant-loop-len
-invariant-loop-len l = record {
-  digits : l.len + run_len decimal_table (drop l.len l.s) ≡ run_len decimal_table l.s;
-  number : l.number ≡ value decimal_table (take l.len l.s);
+abbrev pub invariant-loop-at : goal.invariant-loop-at
+invariant-loop-at l = record {
+  digits : l.at + 1 + run_len decimal_table (drop (l.at + 1) l.s) ≡ run_len decimal_table l.s;
+  number : l.number ≡ value decimal_table (take (l.at + 1) l.s);
   bound : l.number ≤ l.bound;
 }

@@ -4,16 +4,16 @@ use Rattle.atoi_core.proofs.SkipLemmas.{Skipped-at_once, Skipped-loads}
 use Rattle.atoi_core.proofs.NarrowLemmas.{narrow_answer_is, narrow_told}
 use Rattle.atoi_core.proofs.narrow.narrow_prefix.Goals as goal
 
-pub returns-clause-answer : goal.returns-clause-answer
-returns-clause-answer g c =
+pub returns-else-skip-clause-answer : goal.returns-else-skip-clause-answer
+returns-else-skip-clause-answer g c =
     let stops : (c.args.skip ≡ false) ⊎ ((c.args.skip ≡ true) × (c.window-window.result.zeroes ≡ 0)) =
     elim c.else-skip.either [ inl h ↦ inr (h.0, omega (arith, h.1)) | inr h ↦ inl h ] in
     let so = Skipped-at_once g.E.Engine.table g.met.E.Engine.below_ten c.args.skip c.args.s.now _ _ c.window-window.result
     c.window-window.ensures.window c.window-window.ensures.one_step stops in
     c.told_at.ensures ∙ narrow_told _ _ _ _ _ _ _ _ so c.requires.high ∙ sym (narrow_answer_is _ _ _ _ _)
 
-pub returns-clause-least_skipping : goal.returns-clause-least_skipping
-returns-clause-least_skipping g c =
+pub returns-else-skip-clause-least_skipping : goal.returns-else-skip-clause-least_skipping
+returns-else-skip-clause-least_skipping g c =
     let stops : (c.args.skip ≡ false) ⊎ ((c.args.skip ≡ true) × (c.window-window.result.zeroes ≡ 0)) =
     elim c.else-skip.either [ inl h ↦ inr (h.0, omega (arith, h.1)) | inr h ↦ inl h ] in
     let so = Skipped-at_once g.E.Engine.table g.met.E.Engine.below_ten c.args.skip c.args.s.now _ _ c.window-window.result
