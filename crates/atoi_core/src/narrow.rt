@@ -104,11 +104,11 @@ fn told_at(
     }
 {
     let len = at + window.len as usize;
-    if len == 0 {
-        Err(AtoiSimdError::Empty)
-    } else if window.number > bound {
-        Err(AtoiSimdError::Overflow(&s[at..]))
-    } else {
+    if len > 0 && window.number <= bound {
         Ok((window.number, len))
+    } else if len == 0 {
+        Err(AtoiSimdError::Empty)
+    } else {
+        Err(AtoiSimdError::Overflow(&s[at..]))
     }
 }
