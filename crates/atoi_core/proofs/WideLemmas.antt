@@ -121,19 +121,14 @@ answers_short t told bound limit skip s at before now w so short some long digit
     (omega (arith, counted_most t skip s at before now w so)) (omega arith))
     (ap (λ (e : ℕ). Ok (e, at + w.len)) (sym v) ∙ ap (λ (e : ℕ). Ok (value t (run t s), e)) (sym n))
 
--- both answers of a first window that is not full
+-- the same of a first window
 pub answers_first : (t : Table) (told bound limit : ℕ) (skip : Bool) (s : List ℕ) (before now : ℕ) (w : Window) →
-    Skipped t skip s 0 before now w → w.len < 16 → 16 < limit → HasDigits limit bound →
-    (if w.len == 0 then Err empty else Ok (w.number, w.len)) ≡ wide_prefix t told bound limit skip s
-answers_first t told bound limit skip s before now w so short long digits =
+    Skipped t skip s 0 before now w → w.len < 16 → 0 < w.len → 16 < limit → HasDigits limit bound →
+    Ok (w.number, w.len) ≡ wide_prefix t told bound limit skip s
+answers_first t told bound limit skip s before now w so short some long digits =
     let place : w.len ≡ 0 + w.len = omega arith in
-    elim (cases_lt 0 w.len) [
-      | inr none ↦ rw (eq-eqb w.len 0 (omega arith)) (answers_empty t told bound limit skip s 0 before now w so short (omega arith))
-      | inl some ↦
-          rw (ne_eqb w.len 0 (omega arith))
-          (ap (λ (n : ℕ). Ok (w.number, n)) place
-          ∙ answers_short t told bound limit skip s 0 before now w so short (omega arith) long digits)
-    ]
+    ap (λ (n : ℕ). Ok (w.number, n)) place
+    ∙ answers_short t told bound limit skip s 0 before now w so short (omega arith) long digits
 
 -- what was read counts more digits than the bound has
 pub answers_size : (t : Table) (told bound limit : ℕ) (skip : Bool) (s : List ℕ) (at before now : ℕ) (w : Window) (m x : ℕ) →

@@ -1,7 +1,7 @@
 -- What the word of a slice's first bytes tells of these bytes.
-use Rattle.std.proofs.Common.{◌≡◌, ℕ, zero, suc, ◌+◌, ◌*◌, ◌/◌, ◌%◌, ◌^◌, ◌<◌, ◌≤◌, ◌≢◌, min, Bool, true, false, cond, ◌==◌, not, ◌||◌, inl, inr, List, [], ◌∷◌, length, take, drop, get_or, ◌++◌, mod-lt, zero-lt-suc, if◌then◌else◌, refl, sym, ap, ap₂, ◌∙◌, arith}
+use Rattle.std.proofs.Common.{◌≡◌, ℕ, zero, suc, ◌+◌, ◌-◌, ◌*◌, ◌/◌, ◌%◌, ◌^◌, ◌<◌, ◌≤◌, ◌≢◌, min, Bool, true, false, cond, ◌==◌, not, ◌||◌, ◌⊎◌, inl, inr, List, [], ◌∷◌, length, take, drop, get_or, ◌++◌, mod-lt, zero-lt-suc, if◌then◌else◌, refl, sym, ap, ap₂, ◌∙◌, arith}
 use Rattle.std.proofs.lemmas.Bool.{eqb-true, eq-eqb, ne_eqb, cases_eq}
-use Rattle.std.proofs.lemmas.List.{length-take, length-take-le, get_or-drop, take-take}
+use Rattle.std.proofs.lemmas.List.{length-take, length-take-le, get_or-drop, take-take, take_all, take_rest}
 use Rattle.std.proofs.lemmas.List.Sums.{prefix_len-le-length}
 use Rattle.std.proofs.lemmas.List.Folds.{prefix_len-append}
 use Rattle.std.proofs.lemmas.Nat.{and_mask}
@@ -182,6 +182,18 @@ window_short s len number len_is short number_is =
     let few : run_len decimal_table (take 8 s) ≡ min 8 (run_len decimal_table s) = prefix_len-take (is_digit decimal_table) 8 s in
     let more : run_len decimal_table (take 16 s) ≡ min 16 (run_len decimal_table s) = prefix_len-take (is_digit decimal_table) 16 s in
     window_from 16 s len 0 number (omega arith) (sym (told_none len 16 (zeros decimal_table (take 16 s)) (omega arith))) number_is
+
+-- of fewer than eight bytes a window of eight tells what one of sixteen does
+pub few_in_both : (s : List ℕ) → length s < 8 → window_of decimal_table 16 s ≡ window_of decimal_table 8 s
+few_in_both s few =
+    let within : run_len decimal_table s ≤ length s = prefix_len-le-length (is_digit decimal_table) s in
+    let sixteen : take 16 s ≡ s = take_all 16 s (omega arith) in
+    let eight : s ≡ take 8 s = sym (take_all 8 s (omega arith)) in
+    let none : (if run_len decimal_table s == 16 then zeros decimal_table s else 0) ≡ (if run_len decimal_table s == 8 then zeros decimal_table s else 0) =
+    told_none (run_len decimal_table s) 16 (zeros decimal_table s) (omega arith) ∙ sym (told_none (run_len decimal_table s) 8 (zeros decimal_table s) (omega arith)) in
+    ap (λ (r : List ℕ). let w : Window = record { len = run_len decimal_table r; zeroes = if run_len decimal_table r == 16 then zeros decimal_table r else 0; number = value decimal_table (run decimal_table r) } in w) sixteen
+    ∙ ap (λ (z : ℕ). let w : Window = record { len = run_len decimal_table s; zeroes = z; number = value decimal_table (run decimal_table s) } in w) none
+    ∙ ap (λ (r : List ℕ). let w : Window = record { len = run_len decimal_table r; zeroes = if run_len decimal_table r == 8 then zeros decimal_table r else 0; number = value decimal_table (run decimal_table r) } in w) eight
 
 -- a slice whose first eight bytes are digits has as many
 pub enough_bytes : (s : List ℕ) → run_len decimal_table (take 8 s) ≡ 8 → 8 ≤ length s

@@ -1,14 +1,13 @@
 //! The parses of wide integers from the front of a slice: a run that ends in the first window is
-//! answered in line, a longer one by the engine. It stands on `engine`, `window`, `steps` and `error`.
-ghost use Rattle.std.specs.Prelude.{◌≡◌, ◌+◌, ◌<◌, ◌≤◌, ◌==◌, if◌then◌else◌, Ok, Err, IsTrue, length};
+//! answered in line, a longer one by the engine. It stands on `engine`, `steps` and `error`.
+ghost use Rattle.std.specs.Prelude.{◌≡◌, ◌+◌, ◌<◌, ◌≤◌, IsTrue, length};
 ghost use Rattle.atoi_core.specs.Loads.{most_loads, least_loads};
 ghost use Rattle.atoi_core.specs.Magnitude.{HasDigits, wide64, wide128, prefix_magnitude};
-ghost use Rattle.atoi_core.specs.Refusal.{answer_of, empty};
+ghost use Rattle.atoi_core.specs.Refusal.{answer_of};
 
 use crate::engine::Engine;
 use crate::error::AtoiSimdError;
 use crate::steps::Steps;
-use crate::window::Window;
 
 /// What `Engine::prefix_64` answers, where the first window is read in line. Fewer than 16 digits are
 /// never above the bound; for more of them the engine is called, and loads that window again.
@@ -33,8 +32,10 @@ pub(crate) fn front_64<'a, E: Engine>(
     ensures least_skipping { IsTrue skip → steps.old + least_loads E.table s.now ≤ steps.new }
 {
     let window = E::window(s, steps);
-    if window.len < 16 {
-        short_64(window)
+    if window.len == 0 {
+        Err(AtoiSimdError::Empty)
+    } else if window.len < 16 {
+        Ok((window.number, window.len as usize))
     } else {
         long_64::<E>(bound, limit, skip, s, steps)
     }
@@ -62,18 +63,10 @@ pub(crate) fn all_64<'a, E: Engine>(
     ensures least { 0 < length s.now → steps.old < steps.new }
     ensures least_skipping { IsTrue skip → steps.old + least_loads E.table s.now ≤ steps.new }
 {
-    if s.len() < 16 {
-        short_64(E::window(s, steps))
-    } else {
-        long_64::<E>(bound, limit, skip, s, steps)
+    if s.len() >= 16 {
+        return long_64::<E>(bound, limit, skip, s, steps);
     }
-}
-
-// What a window that is not full answers.
-#[inline(always)]
-fn short_64<'a>(window: Window) -> Result<(u64, usize), AtoiSimdError<'a>>
-    ensures { answer_of result ≡ (if window.len == 0 then Err empty else Ok (window.number, window.len)) }
-{
+    let window = E::window(s, steps);
     if window.len == 0 {
         Err(AtoiSimdError::Empty)
     } else {
@@ -124,8 +117,10 @@ pub(crate) fn front_128<'a, E: Engine>(
     ensures least_skipping { IsTrue skip → steps.old + least_loads E.table s.now ≤ steps.new }
 {
     let window = E::window(s, steps);
-    if window.len < 16 {
-        short_128(window)
+    if window.len == 0 {
+        Err(AtoiSimdError::Empty)
+    } else if window.len < 16 {
+        Ok((u128::from(window.number), window.len as usize))
     } else {
         long_128::<E>(bound, skip, s, steps)
     }
@@ -150,18 +145,10 @@ pub(crate) fn all_128<'a, E: Engine>(
     ensures least { 0 < length s.now → steps.old < steps.new }
     ensures least_skipping { IsTrue skip → steps.old + least_loads E.table s.now ≤ steps.new }
 {
-    if s.len() < 16 {
-        short_128(E::window(s, steps))
-    } else {
-        long_128::<E>(bound, skip, s, steps)
+    if s.len() >= 16 {
+        return long_128::<E>(bound, skip, s, steps);
     }
-}
-
-// What a window that is not full answers.
-#[inline(always)]
-fn short_128<'a>(window: Window) -> Result<(u128, usize), AtoiSimdError<'a>>
-    ensures { answer_of result ≡ (if window.len == 0 then Err empty else Ok (window.number, window.len)) }
-{
+    let window = E::window(s, steps);
     if window.len == 0 {
         Err(AtoiSimdError::Empty)
     } else {

@@ -111,12 +111,12 @@ fn told_at(
         else Ok (window.number, at + window.len))) }
 {
     let len = at + window.len as usize;
-    if len == 0 {
-        Err(AtoiSimdError::Empty)
-    } else if window.number > bound {
-        Err(AtoiSimdError::Overflow(&s[at..]))
-    } else {
+    if len > 0 && window.number <= bound {
         Ok((window.number, len))
+    } else if len == 0 {
+        Err(AtoiSimdError::Empty)
+    } else {
+        Err(AtoiSimdError::Overflow(&s[at..]))
     }
 }
 

@@ -41,6 +41,9 @@ impl Engine for Words {
     #[inline(always)]
     fn window_8(s: &[u8], steps: &mut Steps) -> Window {
         steps.tick();
+        if s.len() < 8 {
+            return part(s);
+        }
         let word = load_8(s);
         let len = check_len_8(word);
         let zeroes = if len == 8 { zeroes_of(word) } else { 0 };
@@ -54,11 +57,12 @@ impl Engine for Words {
     ghost below_ten = { λ byte. Prim.grind (arith, nat_tests) };
 }
 
-// The window of fewer than 8 bytes: of fewer than 4 one by one.
+// The window of fewer than 8 bytes: of fewer than 4 one by one. It is one of 16 bytes and of 8.
 #[inline(always)]
 fn part(s: &[u8]) -> Window
     requires { length s.now < 8 }
-    ensures { result ≡ window_of decimal_table 16 s.now }
+    ensures of_16 { result ≡ window_of decimal_table 16 s.now }
+    ensures of_8 { result ≡ window_of decimal_table 8 s.now }
 {
     if s.len() < 4 {
         return few_bytes(s);

@@ -1,19 +1,27 @@
 -- A window of so few bytes is not full: it is the last one, and no zeros stand before it.
-use Rattle.std.proofs.Common.{◌∙◌, sym, arith, lit<}
+use Rattle.std.proofs.Common.{◌∙◌, sym, arith, lit<, ap, ℕ, Ok}
 use Rattle.atoi_core.proofs.SkipLemmas.{Skipped-first, Skipped-loads, few_bytes_short}
-use Rattle.atoi_core.proofs.WideLemmas.{wide_prefix_128, answers_first}
+use Rattle.atoi_core.proofs.WideLemmas.{wide_prefix_128, answers_empty, answers_first}
 use Rattle.atoi_core.proofs.front.all_128.Goals as goal
 
-pub returns-then-s-lt16-clause-answer : goal.returns-then-s-lt16-clause-answer
-returns-then-s-lt16-clause-answer g c =
-    let short = few_bytes_short g.E.Engine.table g.met.E.Engine.below_ten c.args.s.now c.window.result c.window.ensures.window c.if-s-lt16.true in
-    let so = Skipped-first g.E.Engine.table g.met.E.Engine.below_ten c.args.skip c.args.s.now _ _ c.window.result
-    c.window.ensures.window c.window.ensures.one_step short in
-    c.short_128.ensures ∙ answers_first _ 40 c.args.bound 39 _ _ _ _ _ so short (lit< tt) c.requires.digits ∙ sym (wide_prefix_128 _ _ _ _ _)
+pub returns-then-window-eq0-clause-answer : goal.returns-then-window-eq0-clause-answer
+returns-then-window-eq0-clause-answer g c =
+    let short = few_bytes_short g.E.Engine.table g.met.E.Engine.below_ten c.args.s.now c.window-window.result c.window-window.ensures.window (omega (arith, c.if-s-ge16.false)) in
+    let so = Skipped-first g.E.Engine.table g.met.E.Engine.below_ten c.args.skip c.args.s.now _ _ c.window-window.result
+    c.window-window.ensures.window c.window-window.ensures.one_step short in
+    answers_empty _ 40 _ _ _ _ _ _ _ _ so (omega arith) (omega arith) ∙ sym (wide_prefix_128 _ _ _ _ _)
 
-pub returns-then-s-lt16-clause-least_skipping : goal.returns-then-s-lt16-clause-least_skipping
-returns-then-s-lt16-clause-least_skipping g c =
-    let short = few_bytes_short g.E.Engine.table g.met.E.Engine.below_ten c.args.s.now c.window.result c.window.ensures.window c.if-s-lt16.true in
-    let so = Skipped-first g.E.Engine.table g.met.E.Engine.below_ten c.args.skip c.args.s.now _ _ c.window.result
-    c.window.ensures.window c.window.ensures.one_step short in
+pub returns-else-window-eq0-clause-answer : goal.returns-else-window-eq0-clause-answer
+returns-else-window-eq0-clause-answer g c =
+    let short = few_bytes_short g.E.Engine.table g.met.E.Engine.below_ten c.args.s.now c.window-window.result c.window-window.ensures.window (omega (arith, c.if-s-ge16.false)) in
+    let so = Skipped-first g.E.Engine.table g.met.E.Engine.below_ten c.args.skip c.args.s.now _ _ c.window-window.result
+    c.window-window.ensures.window c.window-window.ensures.one_step short in
+    ap (λ (n : ℕ). Ok (n, c.window-window.result.len)) c.from.ensures
+    ∙ answers_first _ 40 c.args.bound 39 _ _ _ _ _ so short (omega arith) (lit< tt) c.requires.digits ∙ sym (wide_prefix_128 _ _ _ _ _)
+
+pub returns-else-window-eq0-clause-least_skipping : goal.returns-else-window-eq0-clause-least_skipping
+returns-else-window-eq0-clause-least_skipping g c =
+    let short = few_bytes_short g.E.Engine.table g.met.E.Engine.below_ten c.args.s.now c.window-window.result c.window-window.ensures.window (omega (arith, c.if-s-ge16.false)) in
+    let so = Skipped-first g.E.Engine.table g.met.E.Engine.below_ten c.args.skip c.args.s.now _ _ c.window-window.result
+    c.window-window.ensures.window c.window-window.ensures.one_step short in
     Skipped-loads _ _ _ _ _ _ _ _ so (omega arith)
