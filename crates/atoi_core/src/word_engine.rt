@@ -1,5 +1,5 @@
 //! The engine that reads a window as one word of eight bytes, or as two.
-//! It stands on `words`, `engine`, `window` and `steps`, and reads a few bytes as `plain` does.
+//! It stands on `words`, `engine`, `window` and `steps`, and reads fewer than four bytes as `plain` does.
 ghost use Rattle.std.specs.Prelude.{◌≡◌, ◌+◌, ◌^◌, ◌<◌, ◌≤◌, ◌++◌, length, take, drop};
 ghost use Rattle.atoi_core.specs.Digit.{decimal_table};
 ghost use Rattle.atoi_core.specs.Run.{run_len, zeros};
@@ -12,7 +12,7 @@ use crate::engine::Engine;
 use crate::plain::few_bytes;
 use crate::steps::Steps;
 use crate::window::Window;
-use crate::words::{check_len_8, len_zeroes, load_8, process_4, process_8};
+use crate::words::{check_len_8, len_zeroes, load_8, process_8};
 
 /// The engine that reads eight bytes at once, as a word. Its digits are the decimal ones.
 pub struct Words;
@@ -115,6 +115,19 @@ fn load_next(s: &[u8]) -> u64
         Some(last) if s.len() < 16 => (u64::from_le_bytes(*last) >> (120 - 8 * s.len())) >> 8,
         _ => load_8(&s[8..]),
     }
+}
+
+// The number that the lowest `len` bytes write, 1 to 4, as `process_8` makes it of a longer word.
+#[inline(always)]
+fn process_4(val: u32, len: u32) -> u32
+    requires some { 1 ≤ len }
+    requires most { len ≤ 4 }
+    ensures sum { result ≡ low_value (low_bytes len val) }
+    ensures most { result ≤ 16665 }
+{
+    let places = (val << (32 - 8 * len)) & 0x0F0F_0F0F;
+    let pairs = (places.wrapping_mul(0xA01) >> 8) & 0x00FF_00FF;
+    pairs.wrapping_mul(0x64_0001) >> 16
 }
 
 // The number that the first `len` bytes write. Most have few digits.
