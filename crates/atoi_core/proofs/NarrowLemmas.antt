@@ -121,18 +121,12 @@ narrow_ok t bound true s at before now w so high some within =
     rw (ne_eqb (run_len t s) 0 (omega arith), le-ltb bound (value t (run t s)) (omega arith))
     (ap (λ (e : ℕ). Ok (e, at + w.len)) v ∙ ap (λ (e : ℕ). Ok (value t (run t s), e)) l)
 
--- the three answers of the last window
+-- both answers of the last window, where there is a digit
 pub narrow_told : (t : Table) (bound : ℕ) (skip : Bool) (s : List ℕ) (at before now : ℕ) (w : Window) →
-    Skipped t skip s at before now w → bound ≤ 4294967295 →
-    (if at + w.len == 0 then Err empty else (if nat_lt bound w.number then Err (overflow (drop at s)) else Ok (w.number, at + w.len)))
-    ≡ narrow_answer t bound skip s
-narrow_told t bound skip s at before now w so high =
-    elim (cases_lt 0 (at + w.len)) [
-      | inr none ↦ rw (eq-eqb (at + w.len) 0 (omega arith)) (narrow_empty t bound skip s at before now w so (omega arith))
-      | inl some ↦
-          rw (ne_eqb (at + w.len) 0 (omega arith))
-          (elim (cases_lt bound w.number) [
-            | inl over ↦ rw (lt-ltb bound w.number over) (narrow_overflow t bound skip s at before now w so some over)
-            | inr fits ↦ rw (le-ltb bound w.number fits) (narrow_ok t bound skip s at before now w so high some fits)
-          ])
+    Skipped t skip s at before now w → bound ≤ 4294967295 → 0 < at + w.len →
+    (if nat_lt bound w.number then Err (overflow (drop at s)) else Ok (w.number, at + w.len)) ≡ narrow_answer t bound skip s
+narrow_told t bound skip s at before now w so high some =
+    elim (cases_lt bound w.number) [
+      | inl over ↦ rw (lt-ltb bound w.number over) (narrow_overflow t bound skip s at before now w so some over)
+      | inr fits ↦ rw (le-ltb bound w.number fits) (narrow_ok t bound skip s at before now w so high some fits)
     ]

@@ -1,9 +1,9 @@
 //! The parses of integers of up to 32 bits, over any engine.
 //! It stands on `engine`, `steps` and `error`.
-ghost use Rattle.std.specs.Prelude.{◌≡◌, ◌+◌, ◌<◌, ◌≤◌, ◌==◌, true, nat_lt, if◌then◌else◌, Ok, Err, IsTrue, length, drop};
+ghost use Rattle.std.specs.Prelude.{◌≡◌, ◌+◌, ◌<◌, ◌≤◌, true, nat_lt, if◌then◌else◌, Ok, Err, IsTrue, length, drop};
 ghost use Rattle.atoi_core.specs.Loads.{most_loads, least_loads};
 ghost use Rattle.atoi_core.specs.Magnitude.{narrow, prefix_magnitude};
-ghost use Rattle.atoi_core.specs.Refusal.{answer_of, empty, overflow};
+ghost use Rattle.atoi_core.specs.Refusal.{answer_of, overflow};
 ghost use Rattle.atoi_core.specs.Window.{window_of};
 
 use crate::engine::Engine;
@@ -38,7 +38,9 @@ pub fn narrow_prefix<'a, E: Engine>(
     ensures least_skipping { IsTrue skip → steps.old + least_loads E.table s.now ≤ steps.new }
 {
     let window = E::window(s, steps);
-    if skip && window.zeroes > 0 {
+    if window.len == 0 {
+        Err(AtoiSimdError::Empty)
+    } else if skip && window.zeroes > 0 {
         skip_on::<E>(bound, window.zeroes, s, steps)
     } else {
         told_at(bound, 0, window, s)
@@ -96,7 +98,8 @@ fn behind_zeros<'a, E: Engine>(
     told_at(bound, at, window, s)
 }
 
-// What the window at the place `at` answers, where only zeros that are skipped stand before it.
+// What the window at the place `at` answers, where only zeros that are skipped stand before it, and
+// there is a digit.
 #[inline(always)]
 fn told_at(
     bound: u64,
@@ -105,18 +108,16 @@ fn told_at(
     s: &[u8],
 ) -> Result<(u64, usize), AtoiSimdError<'_>>
     requires { at ≤ length s.now }
-    ensures { answer_of result
-        ≡ (if at + window.len == 0 then Err empty
-        else (if nat_lt bound window.number then Err (overflow (drop at s.now))
-        else Ok (window.number, at + window.len))) }
+    ensures {
+        answer_of result
+        ≡ (if nat_lt bound window.number then Err (overflow (drop at s.now))
+        else Ok (window.number, at + window.len))
+    }
 {
-    let len = at + window.len as usize;
-    if len > 0 && window.number <= bound {
-        Ok((window.number, len))
-    } else if len == 0 {
-        Err(AtoiSimdError::Empty)
-    } else {
+    if window.number > bound {
         Err(AtoiSimdError::Overflow(&s[at..]))
+    } else {
+        Ok((window.number, at + window.len as usize))
     }
 }
 

@@ -6,33 +6,39 @@ use Rattle.atoi_core.proofs.narrow.behind_zeros.Goals as goal
 
 pub loop-window-init : goal.loop-window-init
 loop-window-init g c =
-    Skipping-told g.E.Engine.table g.met.E.Engine.below_ten c.args.s.now c.args.steps.now c.args.zeroes c.requires.told c.requires.some
+    record {
+      skipping = Skipping-told g.E.Engine.table g.met.E.Engine.below_ten c.args.s.now c.args.steps.now c.args.zeroes c.requires.told c.requires.some;
+      some = c.requires.some;
+    }
 
 pub loop-window-preserved : goal.loop-window-preserved
 loop-window-preserved g c =
-    Skipping-more g.E.Engine.table g.met.E.Engine.below_ten true c.args.s.now _ _ _ (c.window-window.new.steps + 1) c.window-window.result
-    c.loop-window.invariant c.window-window.ensures.window (omega arith) refl (omega arith)
+    record {
+      skipping = Skipping-more g.E.Engine.table g.met.E.Engine.below_ten true c.args.s.now _ _ _ (c.window-window.new.steps + 1) c.window-window.result
+          c.loop-window.invariant.skipping c.window-window.ensures.window (omega arith) refl (omega arith);
+      some = omega (arith, c.loop-window.invariant.some);
+    }
 
 pub returns-clause-answer : goal.returns-clause-answer
 returns-clause-answer g c =
     let so = Skipped-end g.E.Engine.table g.met.E.Engine.below_ten true c.args.s.now _ _ _ (c.window-window.new.steps + 1) c.window-window.result
-    c.loop-window.invariant c.window-window.ensures.window (omega arith) (inr (refl, c.if-window-eq0.true)) in
-    c.told_at.ensures ∙ narrow_told _ _ _ _ _ _ _ _ so c.requires.high ∙ sym (narrow_answer_is _ _ _ _ _)
+    c.loop-window.invariant.skipping c.window-window.ensures.window (omega arith) (inr (refl, c.if-window-eq0.true)) in
+    c.told_at.ensures ∙ narrow_told _ _ _ _ _ _ _ _ so c.requires.high (omega (arith, c.loop-window.invariant.some)) ∙ sym (narrow_answer_is _ _ _ _ _)
 
 pub returns-clause-least : goal.returns-clause-least
 returns-clause-least g c =
     let so = Skipped-end g.E.Engine.table g.met.E.Engine.below_ten true c.args.s.now _ _ _ (c.window-window.new.steps + 1) c.window-window.result
-    c.loop-window.invariant c.window-window.ensures.window (omega arith) (inr (refl, c.if-window-eq0.true)) in
+    c.loop-window.invariant.skipping c.window-window.ensures.window (omega arith) (inr (refl, c.if-window-eq0.true)) in
     omega (arith, so.more)
 
 pub returns-clause-most : goal.returns-clause-most
 returns-clause-most g c =
     let so = Skipped-end g.E.Engine.table g.met.E.Engine.below_ten true c.args.s.now _ _ _ (c.window-window.new.steps + 1) c.window-window.result
-    c.loop-window.invariant c.window-window.ensures.window (omega arith) (inr (refl, c.if-window-eq0.true)) in
+    c.loop-window.invariant.skipping c.window-window.ensures.window (omega arith) (inr (refl, c.if-window-eq0.true)) in
     omega (arith, so.most)
 
 pub returns-clause-least_skipping : goal.returns-clause-least_skipping
 returns-clause-least_skipping g c =
     let so = Skipped-end g.E.Engine.table g.met.E.Engine.below_ten true c.args.s.now _ _ _ (c.window-window.new.steps + 1) c.window-window.result
-    c.loop-window.invariant c.window-window.ensures.window (omega arith) (inr (refl, c.if-window-eq0.true)) in
+    c.loop-window.invariant.skipping c.window-window.ensures.window (omega arith) (inr (refl, c.if-window-eq0.true)) in
     omega (arith, so.least refl)
