@@ -10,9 +10,11 @@ use crate::engine::Engine;
 use crate::error::AtoiSimdError;
 use crate::number::{Number, Signed};
 use crate::steps::Steps;
-use crate::typed_128::{prefix_128_neg, prefix_128_pos, whole_128_neg, whole_128_pos};
 use crate::typed_64::{prefix_64_neg, prefix_64_pos, whole_64_neg, whole_64_pos};
-use crate::typed_narrow::{narrow_prefix_neg, narrow_prefix_pos, narrow_whole_neg, narrow_whole_pos};
+use crate::typed_128::{prefix_128_neg, prefix_128_pos, whole_128_neg, whole_128_pos};
+use crate::typed_narrow::{
+    narrow_prefix_neg, narrow_prefix_pos, narrow_whole_neg, narrow_whole_pos,
+};
 
 /// Reads the whole of `s`, which has no sign, as a number of `T`.
 ///
@@ -33,22 +35,14 @@ pub fn whole_pos<'a, E: Engine, T: Number>(
     s: &'a [u8],
     steps: &mut Steps,
 ) -> Result<T, AtoiSimdError<'a>>
-    ensures answer {
-        typed_answer T.number result
+    ensures answer { typed_answer T.number result
         ≡ whole_answer (whole_table (class_of (kind T.BITS T.SIGNED T.GREATEST)) E.table)
-          (kind T.BITS T.SIGNED T.GREATEST) false skip s.now
-    }
-    ensures most {
-        steps.new ≤ steps.old + most_loads E.table (class_of (kind T.BITS T.SIGNED T.GREATEST)) s.now
-    }
-    ensures least {
-        class_of (kind T.BITS T.SIGNED T.GREATEST) ≢ narrow
-        → 0 < length s.now → steps.old < steps.new
-    }
-    ensures least_skipping {
-        class_of (kind T.BITS T.SIGNED T.GREATEST) ≢ narrow
-        → IsTrue skip → steps.old + least_loads E.table s.now ≤ steps.new
-    }
+        (kind T.BITS T.SIGNED T.GREATEST) false skip s.now }
+    ensures most { steps.new ≤ steps.old + most_loads E.table (class_of (kind T.BITS T.SIGNED T.GREATEST)) s.now }
+    ensures least { class_of (kind T.BITS T.SIGNED T.GREATEST) ≢ narrow
+        → 0 < length s.now → steps.old < steps.new }
+    ensures least_skipping { class_of (kind T.BITS T.SIGNED T.GREATEST) ≢ narrow
+        → IsTrue skip → steps.old + least_loads E.table s.now ≤ steps.new }
 {
     if T::BITS <= 32 {
         narrow_whole_pos::<E, T>(skip, s, steps)
@@ -72,22 +66,14 @@ pub fn whole_neg<'a, E: Engine, T: Signed>(
     s: &'a [u8],
     steps: &mut Steps,
 ) -> Result<T, AtoiSimdError<'a>>
-    ensures answer {
-        typed_answer T.number result
+    ensures answer { typed_answer T.number result
         ≡ whole_answer (whole_table (class_of (kind T.BITS T.SIGNED T.GREATEST)) E.table)
-          (kind T.BITS T.SIGNED T.GREATEST) true skip s.now
-    }
-    ensures most {
-        steps.new ≤ steps.old + most_loads E.table (class_of (kind T.BITS T.SIGNED T.GREATEST)) s.now
-    }
-    ensures least {
-        class_of (kind T.BITS T.SIGNED T.GREATEST) ≢ narrow
-        → 0 < length s.now → steps.old < steps.new
-    }
-    ensures least_skipping {
-        class_of (kind T.BITS T.SIGNED T.GREATEST) ≢ narrow
-        → IsTrue skip → steps.old + least_loads E.table s.now ≤ steps.new
-    }
+        (kind T.BITS T.SIGNED T.GREATEST) true skip s.now }
+    ensures most { steps.new ≤ steps.old + most_loads E.table (class_of (kind T.BITS T.SIGNED T.GREATEST)) s.now }
+    ensures least { class_of (kind T.BITS T.SIGNED T.GREATEST) ≢ narrow
+        → 0 < length s.now → steps.old < steps.new }
+    ensures least_skipping { class_of (kind T.BITS T.SIGNED T.GREATEST) ≢ narrow
+        → IsTrue skip → steps.old + least_loads E.table s.now ≤ steps.new }
 {
     if T::BITS <= 32 {
         narrow_whole_neg::<E, T>(skip, s, steps)
@@ -112,14 +98,10 @@ pub fn prefix_pos<'a, E: Engine, T: Number>(
     s: &'a [u8],
     steps: &mut Steps,
 ) -> Result<(T, usize), AtoiSimdError<'a>>
-    ensures answer {
-        typed_prefix_answer T.number result
-        ≡ prefix_answer E.table (kind T.BITS T.SIGNED T.GREATEST) false skip s.now
-    }
+    ensures answer { typed_prefix_answer T.number result
+        ≡ prefix_answer E.table (kind T.BITS T.SIGNED T.GREATEST) false skip s.now }
     ensures within { IfOk result (λ found. found.1 ≤ length s.now) }
-    ensures most {
-        steps.new ≤ steps.old + most_loads E.table (class_of (kind T.BITS T.SIGNED T.GREATEST)) s.now
-    }
+    ensures most { steps.new ≤ steps.old + most_loads E.table (class_of (kind T.BITS T.SIGNED T.GREATEST)) s.now }
     ensures least { 0 < length s.now → steps.old < steps.new }
     ensures least_skipping { IsTrue skip → steps.old + least_loads E.table s.now ≤ steps.new }
 {
@@ -146,14 +128,10 @@ pub fn prefix_neg<'a, E: Engine, T: Signed>(
     s: &'a [u8],
     steps: &mut Steps,
 ) -> Result<(T, usize), AtoiSimdError<'a>>
-    ensures answer {
-        typed_prefix_answer T.number result
-        ≡ prefix_answer E.table (kind T.BITS T.SIGNED T.GREATEST) true skip s.now
-    }
+    ensures answer { typed_prefix_answer T.number result
+        ≡ prefix_answer E.table (kind T.BITS T.SIGNED T.GREATEST) true skip s.now }
     ensures within { IfOk result (λ found. found.1 ≤ length s.now) }
-    ensures most {
-        steps.new ≤ steps.old + most_loads E.table (class_of (kind T.BITS T.SIGNED T.GREATEST)) s.now
-    }
+    ensures most { steps.new ≤ steps.old + most_loads E.table (class_of (kind T.BITS T.SIGNED T.GREATEST)) s.now }
     ensures least { 0 < length s.now → steps.old < steps.new }
     ensures least_skipping { IsTrue skip → steps.old + least_loads E.table s.now ≤ steps.new }
 {
@@ -176,11 +154,23 @@ mod tests {
     fn narrow_types(rt: HostRuntime) {
         let mut steps = Steps::new();
         assert_eq!(rt; whole_pos::<Plain, u8>(true, b"255", &mut steps), Ok(255));
-        assert_eq!(rt; whole_pos::<Plain, u8>(false, b"256x", &mut steps), Err(AtoiSimdError::Overflow(b"256x")));
+        assert_eq!(rt;
+            whole_pos::<Plain, u8>(false, b"256x", &mut steps),
+            Err(AtoiSimdError::Overflow(b"256x"))
+        );
         assert_eq!(rt; whole_neg::<Plain, i8>(false, b"128", &mut steps), Ok(-128));
-        assert_eq!(rt; whole_neg::<Plain, i8>(false, b"129", &mut steps), Err(AtoiSimdError::Overflow(b"129")));
-        assert_eq!(rt; prefix_pos::<Plain, u32>(false, b"4294967295,", &mut steps), Ok((4294967295, 10)));
-        assert_eq!(rt; prefix_neg::<Plain, i8>(false, b"0x", &mut steps), Ok((0, 1)));
+        assert_eq!(rt;
+            whole_neg::<Plain, i8>(false, b"129", &mut steps),
+            Err(AtoiSimdError::Overflow(b"129"))
+        );
+        assert_eq!(rt;
+            prefix_pos::<Plain, u32>(false, b"4294967295,", &mut steps),
+            Ok((4294967295, 10))
+        );
+        assert_eq!(rt;
+            prefix_neg::<Plain, i8>(false, b"0x", &mut steps),
+            Ok((0, 1))
+        );
     }
 
     #[test]
@@ -189,14 +179,35 @@ mod tests {
         let zeros = vec![in rt.alloc(); b'0'; 21]?;
         let greatest = b"09223372036854775807";
         let least = b"9223372036854775808x";
-        assert_eq!(rt; whole_pos::<Plain, u64>(false, &zeros, &mut steps), Err(AtoiSimdError::Size(21, &zeros)));
+        assert_eq!(rt;
+            whole_pos::<Plain, u64>(false, &zeros, &mut steps),
+            Err(AtoiSimdError::Size(21, &zeros))
+        );
         assert_eq!(rt; whole_pos::<Plain, u64>(true, &zeros, &mut steps), Ok(0));
-        assert_eq!(rt; prefix_pos::<Plain, u64>(true, &zeros, &mut steps), Ok((0, 21)));
-        assert_eq!(rt; whole_pos::<Plain, i64>(true, greatest, &mut steps), Ok(i64::MAX));
-        assert_eq!(rt; whole_pos::<Plain, i64>(false, greatest, &mut steps), Err(AtoiSimdError::Size(20, greatest)));
-        assert_eq!(rt; whole_neg::<Plain, i64>(false, least, &mut steps), Err(AtoiSimdError::Invalid64(9223372036854775808, 19, least)));
-        assert_eq!(rt; whole_neg::<Plain, isize>(false, &least[..19], &mut steps), Ok(isize::MIN));
-        assert_eq!(rt; prefix_pos::<Plain, usize>(false, b"7 ", &mut steps), Ok((7, 1)));
+        assert_eq!(rt;
+            prefix_pos::<Plain, u64>(true, &zeros, &mut steps),
+            Ok((0, 21))
+        );
+        assert_eq!(rt;
+            whole_pos::<Plain, i64>(true, greatest, &mut steps),
+            Ok(i64::MAX)
+        );
+        assert_eq!(rt;
+            whole_pos::<Plain, i64>(false, greatest, &mut steps),
+            Err(AtoiSimdError::Size(20, greatest))
+        );
+        assert_eq!(rt;
+            whole_neg::<Plain, i64>(false, least, &mut steps),
+            Err(AtoiSimdError::Invalid64(9223372036854775808, 19, least))
+        );
+        assert_eq!(rt;
+            whole_neg::<Plain, isize>(false, &least[..19], &mut steps),
+            Ok(isize::MIN)
+        );
+        assert_eq!(rt;
+            prefix_pos::<Plain, usize>(false, b"7 ", &mut steps),
+            Ok((7, 1))
+        );
         Ok(())
     }
 
@@ -205,9 +216,21 @@ mod tests {
         let mut steps = Steps::new();
         let greatest = b"340282366920938463463374607431768211455";
         let least = b"170141183460469231731687303715884105728,";
-        assert_eq!(rt; whole_pos::<Plain, u128>(false, greatest, &mut steps), Ok(u128::MAX));
-        assert_eq!(rt; prefix_pos::<Plain, i128>(false, greatest, &mut steps), Err(AtoiSimdError::Overflow(greatest)));
-        assert_eq!(rt; prefix_neg::<Plain, i128>(false, least, &mut steps), Ok((i128::MIN, 39)));
-        assert_eq!(rt; whole_neg::<Plain, i128>(false, b"12a", &mut steps), Err(AtoiSimdError::Invalid128(12, 2, b"12a")));
+        assert_eq!(rt;
+            whole_pos::<Plain, u128>(false, greatest, &mut steps),
+            Ok(u128::MAX)
+        );
+        assert_eq!(rt;
+            prefix_pos::<Plain, i128>(false, greatest, &mut steps),
+            Err(AtoiSimdError::Overflow(greatest))
+        );
+        assert_eq!(rt;
+            prefix_neg::<Plain, i128>(false, least, &mut steps),
+            Ok((i128::MIN, 39))
+        );
+        assert_eq!(rt;
+            whole_neg::<Plain, i128>(false, b"12a", &mut steps),
+            Err(AtoiSimdError::Invalid128(12, 2, b"12a"))
+        );
     }
 }

@@ -178,10 +178,7 @@ fn second_128<'a, E: Engine>(
     let second = E::window(&s[16..], steps);
     if second.len < 16 {
         let high = u128::from(first.number) * u128::from(power_of_ten(second.len));
-        Ok((
-            high + u128::from(second.number),
-            16 + second.len as usize,
-        ))
+        Ok((high + u128::from(second.number), 16 + second.len as usize))
     } else {
         long_128::<E>(bound, skip, s, steps)
     }

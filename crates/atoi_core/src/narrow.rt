@@ -99,11 +99,9 @@ fn told_at(
     s: &[u8],
 ) -> Result<(u64, usize), AtoiSimdError<'_>>
     requires { at ≤ length s.now }
-    ensures {
-        answer_of result
+    ensures { answer_of result
         ≡ (if nat_lt bound window.number then Err (overflow (drop at s.now))
-        else Ok (window.number, at + window.len))
-    }
+        else Ok (window.number, at + window.len)) }
 {
     if window.number > bound {
         Err(AtoiSimdError::Overflow(&s[at..]))

@@ -33,10 +33,8 @@ pub fn with_sign<'a, T: Number>(
     found: Result<(T, usize), AtoiSimdError<'a>>,
 ) -> Result<(T, usize), AtoiSimdError<'a>>
     requires { ForOk found (λ answer. answer.1 + taken < 2 ^ 64) }
-    ensures {
-        typed_prefix_answer T.number result
-        ≡ with_taken taken (typed_prefix_answer T.number found.entry)
-    }
+    ensures { typed_prefix_answer T.number result
+        ≡ with_taken taken (typed_prefix_answer T.number found.entry) }
 {
     match found {
         Ok((value, len)) => Ok((value, len + taken)),

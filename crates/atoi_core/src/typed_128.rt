@@ -45,10 +45,8 @@ pub fn whole_128_pos<'a, E: Engine, T: Number>(
     steps: &mut Steps,
 ) -> Result<T, AtoiSimdError<'a>>
     requires { class_of (kind T.BITS T.SIGNED T.GREATEST) ≡ wide128 }
-    ensures answer {
-        typed_answer T.number result
-        ≡ whole_answer E.table (kind T.BITS T.SIGNED T.GREATEST) false skip s.now
-    }
+    ensures answer { typed_answer T.number result
+        ≡ whole_answer E.table (kind T.BITS T.SIGNED T.GREATEST) false skip s.now }
     ensures most { steps.new ≤ steps.old + most_loads E.table wide128 s.now }
     ensures least { 0 < length s.now → steps.old < steps.new }
     ensures least_skipping { IsTrue skip → steps.old + least_loads E.table s.now ≤ steps.new }
@@ -71,10 +69,8 @@ pub fn whole_128_neg<'a, E: Engine, T: Signed>(
     steps: &mut Steps,
 ) -> Result<T, AtoiSimdError<'a>>
     requires { class_of (kind T.BITS T.SIGNED T.GREATEST) ≡ wide128 }
-    ensures answer {
-        typed_answer T.number result
-        ≡ whole_answer E.table (kind T.BITS T.SIGNED T.GREATEST) true skip s.now
-    }
+    ensures answer { typed_answer T.number result
+        ≡ whole_answer E.table (kind T.BITS T.SIGNED T.GREATEST) true skip s.now }
     ensures most { steps.new ≤ steps.old + most_loads E.table wide128 s.now }
     ensures least { 0 < length s.now → steps.old < steps.new }
     ensures least_skipping { IsTrue skip → steps.old + least_loads E.table s.now ≤ steps.new }
@@ -97,10 +93,8 @@ pub fn prefix_128_pos<'a, E: Engine, T: Number>(
     steps: &mut Steps,
 ) -> Result<(T, usize), AtoiSimdError<'a>>
     requires { class_of (kind T.BITS T.SIGNED T.GREATEST) ≡ wide128 }
-    ensures answer {
-        typed_prefix_answer T.number result
-        ≡ prefix_answer E.table (kind T.BITS T.SIGNED T.GREATEST) false skip s.now
-    }
+    ensures answer { typed_prefix_answer T.number result
+        ≡ prefix_answer E.table (kind T.BITS T.SIGNED T.GREATEST) false skip s.now }
     ensures within { IfOk result (λ found. found.1 ≤ length s.now) }
     ensures most { steps.new ≤ steps.old + most_loads E.table wide128 s.now }
     ensures least { 0 < length s.now → steps.old < steps.new }
@@ -124,10 +118,8 @@ pub fn prefix_128_neg<'a, E: Engine, T: Signed>(
     steps: &mut Steps,
 ) -> Result<(T, usize), AtoiSimdError<'a>>
     requires { class_of (kind T.BITS T.SIGNED T.GREATEST) ≡ wide128 }
-    ensures answer {
-        typed_prefix_answer T.number result
-        ≡ prefix_answer E.table (kind T.BITS T.SIGNED T.GREATEST) true skip s.now
-    }
+    ensures answer { typed_prefix_answer T.number result
+        ≡ prefix_answer E.table (kind T.BITS T.SIGNED T.GREATEST) true skip s.now }
     ensures within { IfOk result (λ found. found.1 ≤ length s.now) }
     ensures most { steps.new ≤ steps.old + most_loads E.table wide128 s.now }
     ensures least { 0 < length s.now → steps.old < steps.new }

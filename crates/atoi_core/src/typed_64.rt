@@ -56,10 +56,8 @@ pub fn whole_64_pos<'a, E: Engine, T: Number>(
     steps: &mut Steps,
 ) -> Result<T, AtoiSimdError<'a>>
     requires { class_of (kind T.BITS T.SIGNED T.GREATEST) ≡ wide64 }
-    ensures answer {
-        typed_answer T.number result
-        ≡ whole_answer E.table (kind T.BITS T.SIGNED T.GREATEST) false skip s.now
-    }
+    ensures answer { typed_answer T.number result
+        ≡ whole_answer E.table (kind T.BITS T.SIGNED T.GREATEST) false skip s.now }
     ensures most { steps.new ≤ steps.old + most_loads E.table wide64 s.now }
     ensures least { 0 < length s.now → steps.old < steps.new }
     ensures least_skipping { IsTrue skip → steps.old + least_loads E.table s.now ≤ steps.new }
@@ -82,10 +80,8 @@ pub fn whole_64_neg<'a, E: Engine, T: Signed>(
     steps: &mut Steps,
 ) -> Result<T, AtoiSimdError<'a>>
     requires { class_of (kind T.BITS T.SIGNED T.GREATEST) ≡ wide64 }
-    ensures answer {
-        typed_answer T.number result
-        ≡ whole_answer E.table (kind T.BITS T.SIGNED T.GREATEST) true skip s.now
-    }
+    ensures answer { typed_answer T.number result
+        ≡ whole_answer E.table (kind T.BITS T.SIGNED T.GREATEST) true skip s.now }
     ensures most { steps.new ≤ steps.old + most_loads E.table wide64 s.now }
     ensures least { 0 < length s.now → steps.old < steps.new }
     ensures least_skipping { IsTrue skip → steps.old + least_loads E.table s.now ≤ steps.new }
@@ -108,10 +104,8 @@ pub fn prefix_64_pos<'a, E: Engine, T: Number>(
     steps: &mut Steps,
 ) -> Result<(T, usize), AtoiSimdError<'a>>
     requires { class_of (kind T.BITS T.SIGNED T.GREATEST) ≡ wide64 }
-    ensures answer {
-        typed_prefix_answer T.number result
-        ≡ prefix_answer E.table (kind T.BITS T.SIGNED T.GREATEST) false skip s.now
-    }
+    ensures answer { typed_prefix_answer T.number result
+        ≡ prefix_answer E.table (kind T.BITS T.SIGNED T.GREATEST) false skip s.now }
     ensures within { IfOk result (λ found. found.1 ≤ length s.now) }
     ensures most { steps.new ≤ steps.old + most_loads E.table wide64 s.now }
     ensures least { 0 < length s.now → steps.old < steps.new }
@@ -135,10 +129,8 @@ pub fn prefix_64_neg<'a, E: Engine, T: Signed>(
     steps: &mut Steps,
 ) -> Result<(T, usize), AtoiSimdError<'a>>
     requires { class_of (kind T.BITS T.SIGNED T.GREATEST) ≡ wide64 }
-    ensures answer {
-        typed_prefix_answer T.number result
-        ≡ prefix_answer E.table (kind T.BITS T.SIGNED T.GREATEST) true skip s.now
-    }
+    ensures answer { typed_prefix_answer T.number result
+        ≡ prefix_answer E.table (kind T.BITS T.SIGNED T.GREATEST) true skip s.now }
     ensures within { IfOk result (λ found. found.1 ≤ length s.now) }
     ensures most { steps.new ≤ steps.old + most_loads E.table wide64 s.now }
     ensures least { 0 < length s.now → steps.old < steps.new }

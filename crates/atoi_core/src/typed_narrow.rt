@@ -51,10 +51,8 @@ pub fn narrow_whole_pos<'a, E: Engine, T: Number>(
     _steps: &mut Steps,
 ) -> Result<T, AtoiSimdError<'a>>
     requires { class_of (kind T.BITS T.SIGNED T.GREATEST) ≡ narrow }
-    ensures answer {
-        typed_answer T.number result
-        ≡ whole_answer decimal_table (kind T.BITS T.SIGNED T.GREATEST) false _skip s.now
-    }
+    ensures answer { typed_answer T.number result
+        ≡ whole_answer decimal_table (kind T.BITS T.SIGNED T.GREATEST) false _skip s.now }
     ensures loads_nothing { _steps.new ≡ _steps.old }
 {
     match narrow_whole(narrow_greatest::<T>(), s) {
@@ -78,10 +76,8 @@ pub fn narrow_whole_neg<'a, E: Engine, T: Signed>(
     _steps: &mut Steps,
 ) -> Result<T, AtoiSimdError<'a>>
     requires { class_of (kind T.BITS T.SIGNED T.GREATEST) ≡ narrow }
-    ensures answer {
-        typed_answer T.number result
-        ≡ whole_answer decimal_table (kind T.BITS T.SIGNED T.GREATEST) true _skip s.now
-    }
+    ensures answer { typed_answer T.number result
+        ≡ whole_answer decimal_table (kind T.BITS T.SIGNED T.GREATEST) true _skip s.now }
     ensures loads_nothing { _steps.new ≡ _steps.old }
 {
     match narrow_whole(narrow_least::<T>(), s) {
@@ -103,10 +99,8 @@ pub fn narrow_prefix_pos<'a, E: Engine, T: Number>(
     steps: &mut Steps,
 ) -> Result<(T, usize), AtoiSimdError<'a>>
     requires { class_of (kind T.BITS T.SIGNED T.GREATEST) ≡ narrow }
-    ensures answer {
-        typed_prefix_answer T.number result
-        ≡ prefix_answer E.table (kind T.BITS T.SIGNED T.GREATEST) false skip s.now
-    }
+    ensures answer { typed_prefix_answer T.number result
+        ≡ prefix_answer E.table (kind T.BITS T.SIGNED T.GREATEST) false skip s.now }
     ensures within { IfOk result (λ found. found.1 ≤ length s.now) }
     ensures most { steps.new ≤ steps.old + most_loads E.table narrow s.now }
     ensures least { 0 < length s.now → steps.old < steps.new }
@@ -131,10 +125,8 @@ pub fn narrow_prefix_neg<'a, E: Engine, T: Signed>(
     steps: &mut Steps,
 ) -> Result<(T, usize), AtoiSimdError<'a>>
     requires { class_of (kind T.BITS T.SIGNED T.GREATEST) ≡ narrow }
-    ensures answer {
-        typed_prefix_answer T.number result
-        ≡ prefix_answer E.table (kind T.BITS T.SIGNED T.GREATEST) true skip s.now
-    }
+    ensures answer { typed_prefix_answer T.number result
+        ≡ prefix_answer E.table (kind T.BITS T.SIGNED T.GREATEST) true skip s.now }
     ensures within { IfOk result (λ found. found.1 ≤ length s.now) }
     ensures most { steps.new ≤ steps.old + most_loads E.table narrow s.now }
     ensures least { 0 < length s.now → steps.old < steps.new }
