@@ -123,7 +123,7 @@ pub trait Engine {
     ) -> Result<(u128, usize), AtoiSimdError<'a>>
         requires digits { HasDigits 39 bound }
         ensures answer { answer_of result ≡ prefix_magnitude table wide128 bound 39 skip s.now }
-        ensures most { steps.new < steps.old + most_loads table wide128 s.now }
+        ensures most { steps.new + 1 < steps.old + most_loads table wide128 s.now }
         ensures least { 0 < length s.now → steps.old < steps.new }
         ensures least_skipping { IsTrue skip → steps.old + least_loads table s.now ≤ steps.new }
     {

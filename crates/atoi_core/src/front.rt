@@ -1,13 +1,16 @@
 //! The parses of wide integers from the front of a slice: a run that ends in the first window is
-//! answered in line, a longer one by the engine. It stands on `engine`, `steps` and `error`.
+//! answered in line, a longer one by the engine. It stands on `engine`, `window`, `join`, `steps` and `error`.
 ghost use Rattle.std.specs.Prelude.{◌≡◌, ◌+◌, ◌<◌, ◌≤◌, IsTrue, length};
 ghost use Rattle.atoi_core.specs.Loads.{most_loads, least_loads};
 ghost use Rattle.atoi_core.specs.Magnitude.{HasDigits, wide64, wide128, prefix_magnitude};
 ghost use Rattle.atoi_core.specs.Refusal.{answer_of};
+ghost use Rattle.atoi_core.specs.Window.{window_of};
 
 use crate::engine::Engine;
 use crate::error::AtoiSimdError;
+use crate::join::power_of_ten;
 use crate::steps::Steps;
+use crate::window::Window;
 
 /// What `Engine::prefix_64` answers, where the first window is read in line. Fewer than 16 digits are
 /// never above the bound; for more of them the engine is called, and loads that window again.
@@ -97,8 +100,9 @@ fn long_64<'a, E: Engine>(
     }
 }
 
-/// What `Engine::prefix_128` answers, where the first window is read in line. Fewer than 16 digits are
-/// never above the bound; for more of them the engine is called, and loads that window again.
+/// What `Engine::prefix_128` answers, where the first two windows are read in line. Fewer than 32 digits
+/// are never above the bound; for more of them, and behind zeros that fill the first window's front and
+/// are skipped, the engine is called, and loads these windows again.
 ///
 /// # Errors
 ///
@@ -121,13 +125,15 @@ pub(crate) fn front_128<'a, E: Engine>(
         Err(AtoiSimdError::Empty)
     } else if window.len < 16 {
         Ok((u128::from(window.number), window.len as usize))
-    } else {
+    } else if skip && window.zeroes > 0 {
         long_128::<E>(bound, skip, s, steps)
+    } else {
+        second_128::<E>(bound, skip, window, s, steps)
     }
 }
 
-/// What `Engine::prefix_128` answers, for a slice that is to be read whole: where it has fewer than 16
-/// bytes, one window is read in line, and else the engine is called at once.
+/// What `Engine::prefix_128` answers, for a slice that is to be read whole: where it has fewer than 32
+/// bytes, the windows are read in line, and else the engine is called at once.
 ///
 /// # Errors
 ///
@@ -145,14 +151,36 @@ pub(crate) fn all_128<'a, E: Engine>(
     ensures least { 0 < length s.now → steps.old < steps.new }
     ensures least_skipping { IsTrue skip → steps.old + least_loads E.table s.now ≤ steps.new }
 {
-    if s.len() >= 16 {
+    if s.len() >= 32 {
         return long_128::<E>(bound, skip, s, steps);
     }
-    let window = E::window(s, steps);
-    if window.len == 0 {
-        Err(AtoiSimdError::Empty)
+    front_128::<E>(bound, skip, s, steps)
+}
+
+// The same behind a first window that is full of digits and tells no zeros that are skipped.
+#[inline(always)]
+fn second_128<'a, E: Engine>(
+    bound: u128,
+    skip: bool,
+    first: Window,
+    s: &'a [u8],
+    steps: &mut Steps,
+) -> Result<(u128, usize), AtoiSimdError<'a>>
+    requires digits { HasDigits 39 bound }
+    requires told { first ≡ window_of E.table 16 s.now }
+    requires full { first.len ≡ 16 }
+    requires kept { IsTrue skip → first.zeroes ≡ 0 }
+    ensures answer { answer_of result ≡ prefix_magnitude E.table wide128 bound 39 skip s.now }
+    ensures most { steps.new < steps.old + most_loads E.table wide128 s.now }
+    ensures least { steps.old < steps.new }
+    ensures least_skipping { IsTrue skip → steps.old + least_loads E.table s.now ≤ steps.new }
+{
+    let second = E::window(&s[16..], steps);
+    if second.len < 16 {
+        let high = u128::from(first.number) * u128::from(power_of_ten(second.len));
+        Ok((high + u128::from(second.number), 16 + second.len as usize))
     } else {
-        Ok((u128::from(window.number), window.len as usize))
+        long_128::<E>(bound, skip, s, steps)
     }
 }
 
@@ -166,7 +194,7 @@ fn long_128<'a, E: Engine>(
 ) -> Result<(u128, usize), AtoiSimdError<'a>>
     requires digits { HasDigits 39 bound }
     ensures answer { answer_of result ≡ prefix_magnitude E.table wide128 bound 39 skip s.now }
-    ensures most { steps.new < steps.old + most_loads E.table wide128 s.now }
+    ensures most { steps.new + 1 < steps.old + most_loads E.table wide128 s.now }
     ensures least { 0 < length s.now → steps.old < steps.new }
     ensures least_skipping { IsTrue skip → steps.old + least_loads E.table s.now ≤ steps.new }
 {
