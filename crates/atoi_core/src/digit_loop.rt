@@ -10,16 +10,13 @@ use crate::error::AtoiSimdError;
 // The byte of the digit zero.
 const ZERO: u64 = 48;
 
-// What a byte is worth as a decimal digit.
+// What a byte is worth as a decimal digit. A byte below the digits wraps to a number above nine.
 #[inline(always)]
 pub(crate) fn digit(byte: u8) -> Option<u64>
     ensures { result ≡ decimal_table byte }
 {
-    if byte.is_ascii_digit() {
-        Some(u64::from(byte) - ZERO)
-    } else {
-        None
-    }
+    let worth = u64::from(byte).wrapping_sub(ZERO);
+    if worth <= 9 { Some(worth) } else { None }
 }
 
 /// Reads the whole of `s` as decimal digits that write a number of at most `bound`.
