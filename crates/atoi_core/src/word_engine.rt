@@ -12,7 +12,7 @@ use crate::engine::Engine;
 use crate::plain::few_bytes;
 use crate::steps::Steps;
 use crate::window::Window;
-use crate::words::{check_len_8, len_zeroes, load_8, load_full, process_4, process_8};
+use crate::words::{check_len_8, len_zeroes, load_8, process_4, process_8};
 
 /// The engine that reads eight bytes at once, as a word. Its digits are the decimal ones.
 pub struct Words;
@@ -28,7 +28,7 @@ impl Engine for Words {
         if s.len() < 8 {
             return part(s);
         }
-        let first = load_full(s);
+        let first = load_8(s);
         let len = check_len_8(first);
         if len == 8 {
             joined(s, first)
@@ -44,7 +44,7 @@ impl Engine for Words {
         if s.len() < 8 {
             return part(s);
         }
-        let word = load_full(s);
+        let word = load_8(s);
         let len = check_len_8(word);
         let zeroes = if len == 8 { zeroes_of(word) } else { 0 };
         Window {
@@ -111,12 +111,9 @@ fn load_next(s: &[u8]) -> u64
     requires { 8 ≤ length s.now }
     ensures { result ≡ word_of (take 8 (drop 8 s.now)) }
 {
-    if s.len() >= 16 {
-        return load_full(&s[8..]);
-    }
     match s.last_chunk::<8>() {
-        Some(last) => (u64::from_le_bytes(*last) >> (120 - 8 * s.len())) >> 8,
-        None => 0,
+        Some(last) if s.len() < 16 => (u64::from_le_bytes(*last) >> (120 - 8 * s.len())) >> 8,
+        _ => load_8(&s[8..]),
     }
 }
 

@@ -12,18 +12,9 @@ ghost use Rattle.atoi_core.specs.Words.{low_bytes, word_of, low_value};
 pub fn load_8(s: &[u8]) -> u64
     ensures { result ≡ word_of (take 8 s.now) }
 {
-    if s.len() < 8 { load_part(s) } else { load_full(s) }
-}
-
-/// The first 8 bytes of `s`, which has at least so many, as a word: the first byte is the lowest.
-#[inline(always)]
-pub fn load_full(s: &[u8]) -> u64
-    requires { 8 ≤ length s.now }
-    ensures { result ≡ word_of (take 8 s.now) }
-{
     match s.first_chunk::<8>() {
         Some(bytes) => u64::from_le_bytes(*bytes),
-        None => 0,
+        None => load_part(s),
     }
 }
 

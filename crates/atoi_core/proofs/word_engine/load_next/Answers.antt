@@ -1,5 +1,5 @@
 -- Where the slice ends among the bytes, they are the highest of its last eight.
-use Rattle.std.proofs.Common.{◌∙◌, ap, ◌/◌, ◌-◌, ◌*◌, ◌^◌, length, arith}
+use Rattle.std.proofs.Common.{◌∙◌, ap, ◌/◌, ◌-◌, ◌*◌, ◌^◌, length}
 use Rattle.atoi_core.proofs.LoadedBytes.{last_bytes}
 use Rattle.atoi_core.proofs.word_engine.load_next.Goals as goal
 
@@ -8,4 +8,4 @@ returns-in-Some c =
     let s = c.args.s.now in
     let last = c.in-Some.ensures.cases in
     ap (λ word. word / 2 ^ (120 - 8 * length s) / 2 ^ 8) c.from_le_bytes.ensures
-    ∙ last_bytes s c.in-Some.last.now c.requires (omega (arith, c.if-s-ge16.false)) (λ i. (c.type_inv.s i).fits) last.1.same
+    ∙ last_bytes s c.in-Some.last.now c.requires c.if-s-lt16.true (λ i. (c.type_inv.s i).fits) last.1.same

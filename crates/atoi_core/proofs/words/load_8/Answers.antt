@@ -1,7 +1,10 @@
--- Of fewer bytes the word is that of them all.
+-- Both ways give the word of the first eight bytes.
 use Rattle.std.proofs.Common.{◌∙◌}
-use Rattle.atoi_core.proofs.LoadedBytes.{word_from_bytes}
+use Rattle.atoi_core.proofs.LoadedBytes.{word_from_bytes, word_of_first}
 use Rattle.atoi_core.proofs.words.load_8.Goals as goal
 
-pub returns-then-s-lt8 : goal.returns-then-s-lt8
-returns-then-s-lt8 c = c.load_part.ensures ∙ word_from_bytes c.args.s.now
+pub returns-in-Some : goal.returns-in-Some
+returns-in-Some c = c.from_le_bytes.ensures ∙ word_of_first c.args.s.now c.in-Some.bytes.now c.in-Some.ensures.cases.same
+
+pub returns-in-None : goal.returns-in-None
+returns-in-None c = c.load_part.ensures ∙ word_from_bytes c.args.s.now
