@@ -1,14 +1,11 @@
 -- The answers for an integer type, from those of the loops.
-use Rattle.std.proofs.Common.{IfOk, ◌≡◌, ℕ, ◌≤◌, take, drop, min, ◌+◌, ◌-◌, ◌==◌, if◌then◌else◌, Bool, true, false, List, length, Option, Result, Some, None, Ok, Err, refl, ap, ◌∙◌, sym, arith, ltb, nat_lt, ℤ, subst}
+use Rattle.std.proofs.Common.{◌≡◌, ℕ, ◌≤◌, take, drop, min, ◌+◌, ◌-◌, ◌==◌, if◌then◌else◌, Bool, true, false, List, length, Option, Some, None, Ok, refl, ap, ◌∙◌, sym, arith, ltb, subst}
 use Rattle.std.proofs.lemmas.Bool.Decides.{nat_tests}
 use Rattle.std.proofs.lemmas.List.Sums.{prefix_len-le-length}
 use Rattle.atoi_core.specs.Digit.{Table, is_digit}
-use Rattle.atoi_core.specs.Run.{run_len, run, zeros, value}
+use Rattle.atoi_core.specs.Run.{run_len, zeros, value}
 use Rattle.atoi_core.specs.Refusal.{Refusal, empty, size, overflow}
 use Rattle.atoi_core.specs.Magnitude.{Class, Extent, narrow, wide64, wide128, whole, prefix, seen, counted, is_too_long, leaves_rest, cap, dropped, invalid, refusal, unless_refused, whole_magnitude, prefix_magnitude}
-use Rattle.atoi_core.specs.Kind.{Kind, class_of, bound_of, limit_of}
-use Rattle.atoi_core.specs.Sign.{number_of}
-use Rattle.atoi_core.specs.Answer.{map_answer, whole_answer, prefix_answer, whole_table}
 
 -- where none of four reasons holds, the third does not
 third_fails : (a b c d : Bool) (p q r t : Refusal) → (if a then Some p else (if b then Some q else (if c then Some r else (if d then Some t else None)))) ≡ None → c ≡ false

@@ -1,6 +1,6 @@
 -- The fields of a word under a bitwise operator, and of a word that repeats one field.
-use Rattle.std.proofs.Common.{◌≡◌, ℕ, zero, suc, ◌+◌, ◌-◌, ◌*◌, ◌/◌, ◌%◌, ◌^◌, ◌<◌, List, [], ◌∷◌, map, refl, sym, ap, ap₂, ◌∙◌, arith, zero-lt-suc}
-use Rattle.std.proofs.lemmas.Nat.{and_mask, and_shr, and_mod, or_shr, or_mod, xor_shr, xor_mod, div-mul-add, mod-mul-add}
+use Rattle.std.proofs.Common.{◌≡◌, ℕ, zero, suc, ◌+◌, ◌*◌, ◌/◌, ◌%◌, ◌^◌, ◌<◌, ◌∷◌, map, refl, ap, ap₂, ◌∙◌}
+use Rattle.std.proofs.lemmas.Nat.{and_shr, and_mod, or_shr, or_mod, xor_shr, xor_mod, div-mul-add, mod-mul-add}
 use Rattle.std.specs.Int.Bits.{bit_and, bit_or, bit_xor}
 use Rattle.std.specs.Simd.Lanes.{digits_l, zip2}
 

@@ -1,5 +1,5 @@
 -- Facts of every byte, by computing all 256 cases.
-use Rattle.std.proofs.Common.{◌≡◌, ℕ, zero, suc, ◌+◌, ◌/◌, ◌%◌, ◌<◌, ◌⊎◌, inl, inr, Bool, true, false, ◌&&◌, not, cond, List, [], ◌∷◌, refl, sym, ap, ap₂, subst, ◌∙◌, arith, mod-lt, zero-lt-suc}
+use Rattle.std.proofs.Common.{◌≡◌, ℕ, zero, suc, ◌+◌, ◌/◌, ◌%◌, ◌<◌, inl, inr, Bool, true, false, ◌&&◌, not, cond, refl, sym, ap, ap₂, ◌∙◌, arith, mod-lt, zero-lt-suc}
 use Rattle.std.proofs.Math.Nat.{eq-or-lt_of_le, le_of_suc-le-suc}
 use Rattle.std.specs.List.{prefix_len}
 use Rattle.std.specs.Simd.Lanes.{digits_l}

@@ -1,5 +1,5 @@
 -- Words made of the first bytes of a slice.
-use Rattle.std.proofs.Common.{◌≡◌, ℕ, zero, suc, ◌+◌, ◌-◌, ◌*◌, ◌/◌, ◌%◌, ◌^◌, ◌<◌, ◌≤◌, List, [], ◌∷◌, length, take, drop, get_or, take-take, refl, sym, ap, ◌∙◌, arith}
+use Rattle.std.proofs.Common.{◌≡◌, ℕ, ◌+◌, ◌-◌, ◌*◌, ◌/◌, ◌%◌, ◌^◌, ◌<◌, ◌≤◌, List, [], ◌∷◌, length, take, drop, get_or, take-take, ap, ◌∙◌, arith}
 use Rattle.std.specs.Int.{from_le_bytes, w32, w64}
 use Rattle.atoi_core.specs.Words.{word_of}
 

@@ -1,7 +1,7 @@
 -- One round of a sum by places: a mask, a product by 1 + t * 2 ^ (h + h), its wrap, and a shift.
 use Rattle.std.proofs.Common.{◌≡◌, ℕ, zero, suc, ◌+◌, ◌-◌, ◌*◌, ◌/◌, ◌%◌, ◌^◌, ◌<◌, ◌≤◌, List, [], ◌∷◌, length, refl, sym, ap, ap₂, ◌∙◌, arith}
-use Rattle.std.proofs.Math.Nat.{mod-lt, add-mul-div_right, div-div-eq-div-mul, mul_comm, mod-mod, zero-div, zero-mod, suc-mul, mul-le-mul_right, mul_assoc, pow-zero, pow-suc}
-use Rattle.std.proofs.Math.Pow.{mod-mod-pow, pow-lt, ones_lt, pow_mono}
+use Rattle.std.proofs.Math.Nat.{mod-lt, add-mul-div_right, div-div-eq-div-mul, mul_comm, zero-mod, suc-mul, mul-le-mul_right, mul_assoc, pow-zero, pow-suc}
+use Rattle.std.proofs.Math.Pow.{mod-mod-pow, ones_lt, pow_mono}
 use Rattle.std.proofs.lemmas.Nat.{pow_pos, pow-add, mod-pow-add, field_of, and_mask, and_block, shr_split, div-mul-add, mod-mul-add}
 use Rattle.std.specs.Int.Bits.{bit_and, and_zero_r}
 

@@ -1,9 +1,8 @@
 -- The length of the front of a slice that passes a test, where the slice is cut.
-use Rattle.std.proofs.Common.{◌≡◌, ℕ, zero, suc, ◌+◌, ◌-◌, ◌<◌, ◌≤◌, min, Bool, true, false, cond, List, [], ◌∷◌, length, take, drop, refl, sym, ap, ◌∙◌, arith, ◌&&◌, ◌==◌}
+use Rattle.std.proofs.Common.{◌≡◌, ℕ, zero, suc, ◌+◌, ◌≤◌, min, Bool, true, false, cond, List, [], ◌∷◌, take, drop, arith, ◌&&◌, ◌==◌}
 use Rattle.std.specs.List.{prefix_len}
-use Rattle.std.proofs.lemmas.List.Sums.{prefix_len-le-length}
-use Rattle.atoi_core.specs.Digit.{Table, is_digit, is_zero, worth}
-use Rattle.atoi_core.specs.Run.{run_len, run, zeros}
+use Rattle.atoi_core.specs.Digit.{Table, is_digit, worth}
+use Rattle.atoi_core.specs.Run.{run_len, zeros}
 
 -- the passing front of the first bytes ends with these bytes at the latest
 pub prefix_len-take : (p : ℕ → Bool) (n : ℕ) (s : List ℕ) → prefix_len p (take n s) ≡ min n (prefix_len p s)

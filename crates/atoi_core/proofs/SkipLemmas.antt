@@ -1,5 +1,5 @@
 -- The loop that skips zeros by whole windows: how far it comes, and how many windows it loads.
-use Rattle.std.proofs.Common.{◌≡◌, ℕ, ◌+◌, ◌-◌, ◌*◌, ◌/◌, ◌^◌, ◌<◌, ◌≤◌, ◌⊎◌, min, Bool, true, false, List, length, take, drop, IsTrue, refl, sym, ap, ◌∙◌, inl, inr, subst, arith}
+use Rattle.std.proofs.Common.{◌≡◌, ℕ, ◌+◌, ◌-◌, ◌*◌, ◌/◌, ◌<◌, ◌≤◌, ◌⊎◌, min, Bool, true, false, List, length, take, drop, IsTrue, refl, sym, ap, ◌∙◌, inl, inr, subst, arith}
 use Rattle.std.proofs.lemmas.Bool.{cases_lt, false≢true}
 use Rattle.std.proofs.lemmas.List.{take_rest}
 use Rattle.std.proofs.lemmas.List.Sums.{prefix_len-le-length}
@@ -9,7 +9,7 @@ use Rattle.atoi_core.specs.Window.{window_of}
 use Rattle.atoi_core.specs.declared.window.Window.{Window}
 use Rattle.atoi_core.proofs.RunLemmas.{prefix_len-drop, zeros-le}
 use Rattle.atoi_core.proofs.ValueLemmas.{value-drop_zeros}
-use Rattle.atoi_core.proofs.WindowLemmas.{Reads, Shows, shows}
+use Rattle.atoi_core.proofs.WindowLemmas.{Shows, shows}
 
 -- before a window is loaded at a place `at`: only zeros stand before it, a window was loaded for
 -- each 16 of them, and one more where it told fewer

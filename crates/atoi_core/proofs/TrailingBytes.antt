@@ -1,5 +1,5 @@
 -- Trailing zero bits, and the bytes of 0 that they make.
-use Rattle.std.proofs.Common.{◌≡◌, ℕ, zero, suc, ◌+◌, ◌-◌, ◌*◌, ◌/◌, ◌%◌, ◌^◌, ◌<◌, ◌≤◌, ◌⊎◌, inl, inr, Bool, true, false, cond, ◌==◌, refl, sym, ap, ap₂, ◌∙◌, arith, mod-lt, zero-lt-suc}
+use Rattle.std.proofs.Common.{◌≡◌, ℕ, zero, suc, ◌+◌, ◌*◌, ◌/◌, ◌%◌, ◌^◌, ◌<◌, inl, inr, cond, ◌==◌, refl, sym, ap, ap₂, ◌∙◌, arith, mod-lt}
 use Rattle.std.proofs.Math.Nat.{div-one, zero-add, suc-add, suc-mul, add_comm, div-div-eq-div-mul, pow-suc, mul_comm, eq-zero-or-pos}
 use Rattle.std.proofs.Math.Numerals.{add-one}
 use Rattle.std.proofs.lemmas.Nat.{mod-pow-add, pow_pos}

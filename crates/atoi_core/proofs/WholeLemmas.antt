@@ -1,5 +1,5 @@
 -- The answer for a whole slice of a wide class, from the answer for its front.
-use Rattle.std.proofs.Common.{◌≡◌, ℕ, ◌+◌, ◌-◌, ◌==◌, min, Bool, true, false, not, nat_lt, List, length, take, drop, Option, Some, None, Result, Ok, Err, refl, if◌then◌else◌}
+use Rattle.std.proofs.Common.{◌≡◌, ℕ, ◌+◌, ◌-◌, ◌==◌, min, Bool, true, false, not, nat_lt, List, length, drop, Some, None, Result, Ok, Err, refl, if◌then◌else◌}
 use Rattle.atoi_core.specs.Digit.{Table}
 use Rattle.atoi_core.specs.Run.{run_len, run, zeros, value}
 use Rattle.atoi_core.specs.Refusal.{Refusal, empty, size, overflow, invalid64, invalid128}

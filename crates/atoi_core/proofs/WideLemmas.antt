@@ -1,14 +1,13 @@
 -- The answers of a wide class, from what was read behind the zeros that are skipped.
-use Rattle.std.proofs.Common.{◌≡◌, ℕ, ◌+◌, ◌-◌, ◌*◌, ◌/◌, ◌^◌, ◌<◌, ◌≤◌, ◌==◌, ◌⊎◌, min, Bool, true, false, nat_lt, List, length, take, drop, Option, Some, None, Result, Ok, Err, refl, sym, ap, ◌∙◌, lit<, ne_eqb, inl, inr, arith, if◌then◌else◌}
+use Rattle.std.proofs.Common.{◌≡◌, ℕ, ◌+◌, ◌-◌, ◌^◌, ◌<◌, ◌≤◌, ◌==◌, min, Bool, true, false, nat_lt, List, drop, Option, Some, None, Result, Ok, Err, refl, sym, ap, ◌∙◌, lit<, ne_eqb, inl, inr, arith, if◌then◌else◌}
 use Rattle.std.proofs.Math.Nat.{pow-le-pow_right}
-use Rattle.std.proofs.lemmas.Bool.{cases_lt, eq-eqb, eqb-true, eqb-false, lt-ltb, le-ltb, ltb-true, ltb-false}
+use Rattle.std.proofs.lemmas.Bool.{cases_lt, eq-eqb, lt-ltb, le-ltb, ltb-true, ltb-false}
 use Rattle.atoi_core.specs.Digit.{Table}
 use Rattle.atoi_core.specs.Run.{run_len, run, zeros, value}
 use Rattle.atoi_core.specs.Refusal.{Refusal, empty, size, overflow}
 use Rattle.atoi_core.specs.Magnitude.{wide64, wide128, counted, HasDigits, refusal, unless_refused, prefix_magnitude}
 use Rattle.atoi_core.specs.declared.window.Window.{Window}
-use Rattle.atoi_core.proofs.RunLemmas.{zeros-le}
-use Rattle.atoi_core.proofs.WindowLemmas.{Reads, Shows}
+use Rattle.atoi_core.proofs.WindowLemmas.{Reads}
 use Rattle.atoi_core.proofs.SkipLemmas.{Skipped}
 
 -- the reason to refuse n digits, z of them leading zeros, that write v, of a wide class whose size

@@ -1,7 +1,7 @@
 -- What the word of a slice's first bytes tells of these bytes.
-use Rattle.std.proofs.Common.{◌≡◌, ℕ, zero, suc, ◌+◌, ◌-◌, ◌*◌, ◌/◌, ◌%◌, ◌^◌, ◌<◌, ◌≤◌, ◌≢◌, min, Bool, true, false, cond, ◌==◌, not, ◌||◌, ◌⊎◌, inl, inr, List, [], ◌∷◌, length, take, drop, get_or, ◌++◌, mod-lt, zero-lt-suc, if◌then◌else◌, refl, sym, ap, ap₂, ◌∙◌, arith}
+use Rattle.std.proofs.Common.{◌≡◌, ℕ, zero, suc, ◌+◌, ◌*◌, ◌/◌, ◌%◌, ◌^◌, ◌<◌, ◌≤◌, ◌≢◌, min, Bool, true, false, cond, ◌==◌, not, ◌||◌, inl, inr, List, [], ◌∷◌, length, take, drop, get_or, ◌++◌, mod-lt, zero-lt-suc, if◌then◌else◌, refl, sym, ap, ap₂, ◌∙◌, arith}
 use Rattle.std.proofs.lemmas.Bool.{eqb-true, eq-eqb, ne_eqb, cases_eq}
-use Rattle.std.proofs.lemmas.List.{length-take, length-take-le, get_or-drop, take-take, take_all, take_rest}
+use Rattle.std.proofs.lemmas.List.{length-take, length-take-le, get_or-drop, take-take, take_all}
 use Rattle.std.proofs.lemmas.List.Sums.{prefix_len-le-length}
 use Rattle.std.proofs.lemmas.List.Folds.{prefix_len-append}
 use Rattle.std.proofs.lemmas.Nat.{and_mask}
@@ -9,16 +9,13 @@ use Rattle.std.proofs.Math.Seq.{take-add}
 use Rattle.std.specs.Int.Bits.{bit_and}
 use Rattle.std.specs.List.{prefix_len}
 use Rattle.std.specs.Simd.Lanes.{digits_l, number_l}
-use Rattle.atoi_core.specs.Digit.{decimal_table, IsBelowTen, is_digit, is_zero, worth}
+use Rattle.atoi_core.specs.Digit.{decimal_table, is_digit, is_zero, worth}
 use Rattle.atoi_core.specs.Run.{run_len, run, zeros, value}
 use Rattle.atoi_core.specs.Window.{window_of}
 use Rattle.atoi_core.specs.declared.window.Window.{Window}
 use Rattle.atoi_core.specs.Words.{low_bytes, word_of, low_value}
-use Rattle.std.proofs.Math.Dec.{lit<}
-use Rattle.std.proofs.Math.Nat.{pow-le-pow_right}
-use Rattle.std.proofs.lemmas.Bool.Decides.{nat_tests}
 use Rattle.atoi_core.proofs.RunLemmas.{prefix_len-take, prefix_len-drop}
-use Rattle.atoi_core.proofs.ValueLemmas.{value-below, value-take-add}
+use Rattle.atoi_core.proofs.ValueLemmas.{value-take-add}
 use Rattle.atoi_core.proofs.ByteCases.{of_each_byte, same, same_answer}
 use Rattle.atoi_core.proofs.Fields.{length-digits}
 

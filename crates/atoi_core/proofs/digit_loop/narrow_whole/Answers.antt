@@ -1,11 +1,10 @@
 -- What the loop keeps, and what it answers at each end. It goes over the bytes behind the first.
-use Rattle.std.proofs.Common.{◌≡◌, ℕ, List, length, drop, Ok, Err, ◌==◌, if◌then◌else◌, ◌<◌, ◌≤◌, ◌+◌, ◌-◌, ◌*◌, ap, ◌∙◌, sym, refl, Option, Some, None, get_or, take, false, lit≤, arith}
+use Rattle.std.proofs.Common.{◌≡◌, ℕ, List, length, drop, Ok, Err, if◌then◌else◌, ◌<◌, ◌≤◌, ◌+◌, ◌-◌, ◌*◌, ap, ◌∙◌, sym, refl, Option, Some, None, get_or, take, false, arith}
 use Rattle.std.proofs.lemmas.Bool.{eq-eqb, ne_eqb}
 use Rattle.std.proofs.lemmas.List.{take_rest, length-drop, get_or-drop}
 use Rattle.atoi_core.specs.Digit.{decimal_table}
-use Rattle.atoi_core.specs.Run.{value, run_len}
+use Rattle.atoi_core.specs.Run.{value}
 use Rattle.atoi_core.specs.Refusal.{empty, invalid64}
-use Rattle.atoi_core.specs.Magnitude.{narrow, whole_magnitude}
 use Rattle.atoi_core.proofs.Digits.{value_more, run_more, digit_worth, decimal_below_ten}
 use Rattle.atoi_core.proofs.Magnitudes.{narrow_whole_rest, narrow_whole_over, narrow_whole_end}
 use Rattle.atoi_core.proofs.digit_loop.narrow_whole.Goals as goal

@@ -1,10 +1,9 @@
 -- Two windows are read: the second goes on where the first is full.
-use Rattle.std.proofs.Common.{◌≡◌, ◌⊎◌, ◌+◌, ◌*◌, ◌^◌, ◌-◌, ◌<◌, ◌≤◌, ℕ, Bool, true, false, inl, inr, ◌∙◌, sym, ap, refl, Ok, arith, lit<, length, drop, IsTrue}
+use Rattle.std.proofs.Common.{◌≡◌, ◌+◌, ◌*◌, ◌^◌, ℕ, ◌∙◌, sym, ap, Ok, arith, lit<}
 use Rattle.std.proofs.lemmas.List.Sums.{prefix_len-le-length}
 use Rattle.atoi_core.specs.Digit.{is_digit}
-use Rattle.atoi_core.specs.Run.{run_len}
-use Rattle.atoi_core.proofs.WindowLemmas.{Shows, shows, Reads-join, Reads-widen}
-use Rattle.atoi_core.proofs.SkipLemmas.{shows_rest, Skipped-kept, Skipped-loads}
+use Rattle.atoi_core.proofs.WindowLemmas.{shows, Reads-join, Reads-widen}
+use Rattle.atoi_core.proofs.SkipLemmas.{shows_rest, Skipped-kept}
 use Rattle.atoi_core.proofs.WideLemmas.{wide_prefix_128, answers_ok, below_bound}
 use Rattle.atoi_core.proofs.front.second_128.Goals as goal
 

@@ -1,5 +1,5 @@
 -- A front that is refused is refused; else its length is compared with the slice's.
-use Rattle.std.proofs.Common.{ℕ, ◌==◌, ◌∙◌, sym, ap, Ok, Err, if◌then◌else◌}
+use Rattle.std.proofs.Common.{◌∙◌, sym, ap, Ok, Err, if◌then◌else◌}
 use Rattle.std.proofs.lemmas.Bool.{eq-eqb, ne_eqb}
 use Rattle.std.proofs.lemmas.Result.{err_from_is_err_and}
 use Rattle.atoi_core.specs.Refusal.{invalid64}

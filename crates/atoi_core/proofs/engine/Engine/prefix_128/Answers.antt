@@ -1,10 +1,10 @@
 -- The loop leaves what `Skipped` says; the answers and the loads follow from it.
-use Rattle.std.proofs.Common.{◌≡◌, ◌+◌, ◌*◌, ◌^◌, ◌-◌, ◌<◌, ◌≤◌, ℕ, ◌∙◌, sym, ap, Ok, Err, arith, lit<, length, take, drop}
+use Rattle.std.proofs.Common.{◌≡◌, ◌+◌, ◌*◌, ◌^◌, ◌-◌, ◌≤◌, ℕ, ◌∙◌, sym, ap, Ok, Err, arith, lit<, length, take, drop}
 use Rattle.std.proofs.lemmas.List.{take_rest}
 use Rattle.std.proofs.lemmas.List.Sums.{prefix_len-le-length}
 use Rattle.atoi_core.specs.Refusal.{overflow, size}
 use Rattle.atoi_core.specs.Run.{run_len}
-use Rattle.atoi_core.proofs.WindowLemmas.{Reads, Reads-join, Reads-join_two, Reads-widen}
+use Rattle.atoi_core.proofs.WindowLemmas.{Reads-join, Reads-join_two, Reads-widen}
 use Rattle.atoi_core.proofs.SkipLemmas.{Skipping-none, Skipping-more, Skipped-end, Skipped-loads, shows_behind}
 use Rattle.atoi_core.proofs.WideLemmas.{wide_prefix_128, answers_empty, answers_short, answers_size, answers_overflow, answers_ok, below_bound, some_within, none_above}
 use Rattle.atoi_core.proofs.engine.Engine.prefix_128.Goals as goal

@@ -1,8 +1,8 @@
 -- The loop leaves what `Skipped` says; the answers and the loads follow from it.
-use Rattle.std.proofs.Common.{◌≡◌, ◌+◌, ◌*◌, ◌^◌, ◌-◌, ◌<◌, ◌≤◌, ℕ, ◌∙◌, sym, ap, Ok, Err, arith, lit<, drop}
+use Rattle.std.proofs.Common.{◌≡◌, ◌+◌, ◌*◌, ◌^◌, ◌<◌, ℕ, ◌∙◌, sym, ap, Ok, Err, arith, drop}
 use Rattle.std.proofs.lemmas.List.{take_rest}
 use Rattle.atoi_core.specs.Refusal.{overflow, size}
-use Rattle.atoi_core.proofs.WindowLemmas.{Reads, Reads-join}
+use Rattle.atoi_core.proofs.WindowLemmas.{Reads-join}
 use Rattle.atoi_core.proofs.SkipLemmas.{Skipping-none, Skipping-more, Skipped-end, Skipped-loads, shows_behind}
 use Rattle.atoi_core.proofs.WideLemmas.{wide_prefix_64, answers_empty, answers_short, answers_size, answers_overflow, answers_ok, below_bound, some_within, none_above}
 use Rattle.atoi_core.proofs.engine.Engine.prefix_64.Goals as goal
