@@ -1,6 +1,6 @@
 -- The fields of a word under a bitwise operator, and of a word that repeats one field.
-use Rattle.std.proofs.Common.{◌≡◌, ℕ, zero, suc, ◌+◌, ◌*◌, ◌/◌, ◌%◌, ◌^◌, ◌<◌, ◌∷◌, map, refl, ap, ap₂, ◌∙◌}
-use Rattle.std.proofs.lemmas.Nat.{and_shr, and_mod, or_shr, or_mod, xor_shr, xor_mod, div-mul-add, mod-mul-add}
+use Rattle.std.proofs.Common.{◌≡◌, ℕ, zero, suc, ◌+◌, ◌-◌, ◌*◌, ◌/◌, ◌%◌, ◌^◌, ◌<◌, List, [], ◌∷◌, map, refl, sym, ap, ap₂, ◌∙◌, arith, zero-lt-suc}
+use Rattle.std.proofs.lemmas.Nat.{and_mask, and_shr, and_mod, or_shr, or_mod, xor_shr, xor_mod, div-mul-add, mod-mul-add}
 use Rattle.std.specs.Int.Bits.{bit_and, bit_or, bit_xor}
 use Rattle.std.specs.Simd.Lanes.{digits_l, zip2}
 
@@ -35,3 +35,14 @@ and_repeated = op_repeated bit_and and_shr and_mod
 
 pub xor_repeated : (b : ℕ) → b < 256 → (k a : ℕ) → digits_l 256 k (bit_xor a (repeated b k)) ≡ map (λ x. bit_xor x b) (digits_l 256 k a)
 xor_repeated = op_repeated bit_xor xor_shr xor_mod
+
+-- the upper halves of the bytes, in the lower halves' places
+pub upper_halves : (k a : ℕ) → digits_l 256 k (bit_and (a / 16) (repeated 15 k)) ≡ map (λ x. x / 16) (digits_l 256 k a)
+upper_halves k a = and_repeated 15 (omega arith) k (a / 16) ∙ halves k a
+  where
+    halves : (k a : ℕ) → map (λ x. bit_and x 15) (digits_l 256 k (a / 16)) ≡ map (λ x. x / 16) (digits_l 256 k a)
+    halves zero a = refl
+    halves (suc k) a =
+        let next : a / 16 / 256 ≡ a / 256 / 16 = omega arith in
+        ap₂ (λ x xs. x ∷ xs) (and_mask (a / 16 % 256) 4 ∙ omega arith)
+        (ap (λ x. map (λ y. bit_and y 15) (digits_l 256 k x)) next ∙ halves k (a / 256))

@@ -57,9 +57,9 @@ pub fn check_len_8(val: u64) -> u32
 {
     // A digit has the upper half 3, and keeps it when six is added. Above a byte that carries the
     // sum may be wrong, but such a byte is no digit.
-    let high = val.wrapping_add(0x0606_0606_0606_0606) ^ 0x3030_3030_3030_3030;
-    let low = val ^ 0x3030_3030_3030_3030;
-    ((high | low) & 0xF0F0_F0F0_F0F0_F0F0).trailing_zeros() / 8
+    let high = (val.wrapping_add(0x0606_0606_0606_0606) & 0xF0F0_F0F0_F0F0_F0F0) >> 4;
+    let low = val & 0xF0F0_F0F0_F0F0_F0F0;
+    ((high | low) ^ 0x3333_3333_3333_3333).trailing_zeros() / 8
 }
 
 /// The number that the lowest `len` bytes of `val` write, the lowest byte in the highest place: the
@@ -77,20 +77,6 @@ pub fn process_8(val: u64, len: u32) -> u64
     let tens = (ones.wrapping_mul(0xA01) >> 8) & 0x00FF_00FF_00FF_00FF;
     let hundreds = (tens.wrapping_mul(0x64_0001) >> 16) & 0x0000_FFFF_0000_FFFF;
     hundreds.wrapping_mul(0x2710_0000_0001) >> 32
-}
-
-/// The same sum over the lowest `len` bytes of a word of four. `len` is 1 to 4; the bytes above it do
-/// not matter. The most is 16665, where every bit is set.
-#[inline(always)]
-pub fn process_4(val: u32, len: u32) -> u32
-    requires some { 1 ≤ len }
-    requires most { len ≤ 4 }
-    ensures sum { result ≡ low_value (low_bytes len val) }
-    ensures most { result ≤ 16665 }
-{
-    let places = (val << (32 - 8 * len)) & 0x0F0F_0F0F;
-    let pairs = (places.wrapping_mul(0xA01) >> 8) & 0x00FF_00FF;
-    pairs.wrapping_mul(0x64_0001) >> 16
 }
 
 /// The same sum over the lowest `len` bytes of a word of sixteen. `len` is 1 to 16; the bytes above it
@@ -154,8 +140,6 @@ mod tests {
         assert_eq!(rt; process_8(0x553A_3938_3736_3534, 6), 456789);
         assert_eq!(rt; process_8(0x3837_3635_3433_3231, 1), 1);
         assert_eq!(rt; process_8(u64::MAX, 8), 166666665);
-        assert_eq!(rt; process_4(0x3837_3635, 3), 567);
-        assert_eq!(rt; process_4(u32::MAX, 4), 16665);
         assert_eq!(rt; process_16(u128::MAX, 16), 16666666666666665);
     }
 

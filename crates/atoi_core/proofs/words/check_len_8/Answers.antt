@@ -1,6 +1,14 @@
--- The marks of eight bytes.
+-- The shift of the masked sum is the mask of the shifted sum; the rest is the lemma at eight bytes.
+use Rattle.std.proofs.Common.{◌≡◌, ℕ, ◌+◌, ◌/◌, ◌%◌, ◌^◌, ap, ◌∙◌}
+use Rattle.std.proofs.lemmas.Nat.{and_shr}
+use Rattle.std.specs.Int.Bits.{bit_and, bit_or, bit_xor}
+use Rattle.std.specs.Int.Count.{count_trailing_zeros}
 use Rattle.atoi_core.proofs.WordRuns.{digits_counted}
 use Rattle.atoi_core.proofs.words.check_len_8.Goals as goal
 
 pub returns-clause-len : goal.returns-clause-len
-returns-clause-len c = digits_counted 8 c.args.val
+returns-clause-len c =
+    let low = bit_and c.args.val 0xF0F0_F0F0_F0F0_F0F0 in
+    ap (λ high. count_trailing_zeros 64 (bit_xor (bit_or high low) 0x3333_3333_3333_3333) / 8)
+    (and_shr ((c.args.val + 0x0606_0606_0606_0606) % 2 ^ 64) 0xF0F0_F0F0_F0F0_F0F0 4)
+    ∙ digits_counted 8 c.args.val
