@@ -18,11 +18,11 @@ returns-then-more-eq8 c =
     let rest = drop 8 s in
     let first = c.args.first in
     let next = c.load_next-next.result in
-    let more = c.check_len_8-more.result in
+    let more = c.digits_of-more.result in
     let fits : (i : ℕ) → get_or s i 0 < 256 = λ i. (c.type_inv.s i).fits in
     let behind : (i : ℕ) → get_or rest i 0 < 256 = fits_behind s fits in
     let full : run_len decimal_table (take 8 s) ≡ 8 = sym (loaded_run s fits first c.requires.loaded) ∙ c.requires.full in
-    let more_is : more ≡ run_len decimal_table (take 8 rest) = c.check_len_8-more.ensures.len ∙ loaded_run rest behind next c.load_next-next.ensures in
+    let more_is : more ≡ run_len decimal_table (take 8 rest) = c.digits_of-more.ensures.len ∙ loaded_run rest behind next c.load_next-next.ensures in
     let all_zeros = zeros decimal_table (take 8 s ++ take 8 rest) in
     let eight : 8 ≡ more = sym c.if-more-eq8.true in
     let len : 16 ≡ 8 + more = omega arith in
@@ -36,7 +36,7 @@ returns-then-more-eq8 c =
     (c.zeroes_of_two.ensures ∙ whole ∙ sym (told_full more 8 all_zeros (sym eight)))
     (c.process_8.ensures.sum ∙ loaded_sum s fits first 8 c.requires.loaded (sym c.requires.full))
     (c.process_8-then-more-eq8.ensures.sum ∙ ap (λ (n : ℕ). low_value (low_bytes n next)) eight
-    ∙ loaded_sum rest behind next more c.load_next-next.ensures c.check_len_8-more.ensures.len)
+    ∙ loaded_sum rest behind next more c.load_next-next.ensures c.digits_of-more.ensures.len)
 
 pub returns-else-more-eq8 : goal.returns-else-more-eq8
 returns-else-more-eq8 c =
@@ -44,15 +44,15 @@ returns-else-more-eq8 c =
     let rest = drop 8 s in
     let first = c.args.first in
     let next = c.load_next-next.result in
-    let more = c.check_len_8-more.result in
+    let more = c.digits_of-more.result in
     let fits : (i : ℕ) → get_or s i 0 < 256 = λ i. (c.type_inv.s i).fits in
     let behind : (i : ℕ) → get_or rest i 0 < 256 = fits_behind s fits in
     let full : run_len decimal_table (take 8 s) ≡ 8 = sym (loaded_run s fits first c.requires.loaded) ∙ c.requires.full in
-    let more_is : more ≡ run_len decimal_table (take 8 rest) = c.check_len_8-more.ensures.len ∙ loaded_run rest behind next c.load_next-next.ensures in
+    let more_is : more ≡ run_len decimal_table (take 8 rest) = c.digits_of-more.ensures.len ∙ loaded_run rest behind next c.load_next-next.ensures in
     let all_zeros = zeros decimal_table (take 8 s ++ take 8 rest) in
     c.not_full.ensures
     ∙ ap (λ (p : ℕ). let w : Window = record { len = 8 + more; zeroes = 0; number = c.process_8-else-more-eq8.result * p + c.number_of.result } in w) c.power_of_ten-else-more-eq8.ensures.value
     ∙ window_joined s more 0 c.process_8-else-more-eq8.result c.number_of.result full more_is
     (sym (told_none more 8 all_zeros c.if-more-eq8.false))
     (c.process_8-else-more-eq8.ensures.sum ∙ loaded_sum s fits first 8 c.requires.loaded (sym c.requires.full))
-    (c.number_of.ensures.sum ∙ loaded_sum rest behind next more c.load_next-next.ensures c.check_len_8-more.ensures.len)
+    (c.number_of.ensures.sum ∙ loaded_sum rest behind next more c.load_next-next.ensures c.digits_of-more.ensures.len)

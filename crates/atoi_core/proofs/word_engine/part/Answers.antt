@@ -16,12 +16,12 @@ in_16 c =
     let s = c.args.s.now in
     let fits : (i : ℕ) → get_or s i 0 < 256 = λ i. (c.type_inv.s i).fits in
     let word = c.load_8-word.result in
-    let len = c.check_len_8-len.result in
-    let run = c.check_len_8-len.ensures.len ∙ loaded_run s fits word c.load_8-word.ensures in
+    let len = c.digits_of-len.result in
+    let run = c.digits_of-len.ensures.len ∙ loaded_run s fits word c.load_8-word.ensures in
     c.not_full.ensures
     ∙ window_short s len c.number_of.result run
     (omega (arith, run, prefix_len-le-length (is_digit decimal_table) (take 8 s), length-take 8 s))
-    (c.number_of.ensures.sum ∙ loaded_sum s fits word len c.load_8-word.ensures c.check_len_8-len.ensures.len)
+    (c.number_of.ensures.sum ∙ loaded_sum s fits word len c.load_8-word.ensures c.digits_of-len.ensures.len)
 
 pub returns-clause-of_16 : goal.returns-clause-of_16
 returns-clause-of_16 c = in_16 c
