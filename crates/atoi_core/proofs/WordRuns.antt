@@ -1,5 +1,5 @@
 -- How many lowest bytes of a word are digits, and how many are zeros, as the kernels count them.
-use Rattle.std.proofs.Common.{◌≡◌, ℕ, zero, suc, ◌+◌, ◌-◌, ◌*◌, ◌/◌, ◌%◌, ◌^◌, ◌<◌, Bool, true, false, cond, ◌==◌, nat_lt, not, ◌||◌, List, [], ◌∷◌, map, refl, sym, ap, ap₂, ◌∙◌, arith, mod-lt, zero-lt-suc}
+use Rattle.std.proofs.Common.{◌≡◌, ℕ, zero, suc, ◌+◌, ◌*◌, ◌/◌, ◌%◌, ◌^◌, ◌<◌, Bool, true, false, cond, ◌==◌, not, ◌||◌, List, [], ◌∷◌, map, refl, ap, ap₂, ◌∙◌, arith, mod-lt, zero-lt-suc}
 use Rattle.std.proofs.Math.Dec.{lit<, ltb}
 use Rattle.std.proofs.lemmas.Bool.{ltb-true}
 use Rattle.std.specs.List.{prefix_len}
@@ -79,6 +79,7 @@ module _ (mark : ℕ → ℕ → ℕ) (digit_byte : (b : ℕ) → b < 256 → (m
 abbrev kernel_mark : ℕ → ℕ → ℕ
 kernel_mark raised byte = bit_xor (bit_or (raised / 16) (bit_and byte 240)) 51
 
+-- it is 0 for a digit, and for no other byte
 kernel_byte : (b : ℕ) → b < 256 → (kernel_mark ((b + 6) % 256) b == 0) ≡ is_digit decimal_table b
 kernel_byte b h =
     same_answer (kernel_mark ((b + 6) % 256) b == 0) (is_digit decimal_table b)
@@ -108,11 +109,13 @@ digits_counted k word =
 abbrev engine_mark : ℕ → ℕ → ℕ
 engine_mark raised byte = bit_and (bit_or (bit_xor raised 48) (bit_xor byte 48)) 240
 
+-- it too is 0 for a digit, and for no other byte
 engine_byte : (b : ℕ) → b < 256 → (engine_mark ((b + 6) % 256) b == 0) ≡ is_digit decimal_table b
 engine_byte b h =
     same_answer (engine_mark ((b + 6) % 256) b == 0) (is_digit decimal_table b)
     (of_each_byte (λ x. same (engine_mark ((x + 6) % 256) x == 0) (is_digit decimal_table x)) refl b h)
 
+-- the digits, as the engine counts them
 pub marks_counted : (k word : ℕ)
     → count_trailing_zeros (k * 8) (bit_and (bit_or (bit_xor ((word + repeated 6 k) % 2 ^ (k * 8)) (repeated 48 k)) (bit_xor word (repeated 48 k))) (repeated 240 k)) / 8
     ≡ run_len decimal_table (low_bytes k word)
