@@ -1,4 +1,5 @@
-//! What one load tells of a slice. It stands on nothing.
+//! What one load tells of a slice.
+//! It stands on nothing.
 
 /// What a window of 8 or 16 bytes tells of the front of a slice.
 #[derive(Clone, Copy, PartialEq, Eq)]

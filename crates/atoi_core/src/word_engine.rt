@@ -1,5 +1,5 @@
 //! The engine that reads a window as one word of eight bytes, or as two.
-//! It stands on `words`, `engine`, `window` and `steps`, and reads fewer than four bytes as `plain` does.
+//! It stands on `words`, `engine`, `join`, `window` and `steps`, and reads fewer than four bytes as `plain` does.
 ghost use Rattle.std.specs.Prelude.{◌≡◌, ◌+◌, ◌^◌, ◌<◌, ◌≤◌, ◌++◌, length, take, drop};
 ghost use Rattle.atoi_core.specs.Digit.{decimal_table};
 ghost use Rattle.atoi_core.specs.Run.{run_len, zeros};
@@ -9,6 +9,7 @@ ghost use Rattle.std.proofs.Common.{arith};
 ghost use Rattle.std.proofs.lemmas.Bool.Decides.{nat_tests};
 
 use crate::engine::Engine;
+use crate::join;
 use crate::plain::few_bytes;
 use crate::steps::Steps;
 use crate::window::Window;
@@ -186,28 +187,15 @@ fn zeroes_of_two(first: u64, next: u64) -> u32
 // The byte of the digit zero.
 const ZERO: u64 = 48;
 
-// Ten to the power of `digits`.
+// Ten to the power of the digits of one word.
 #[inline(always)]
 fn power_of_ten(digits: u32) -> u64
     requires { digits ≤ 8 }
     ensures value { result ≡ 10 ^ digits }
     ensures most { result ≤ 100000000 }
 {
-    POWERS[digits as usize]
+    join::power_of_ten(digits)
 }
-
-// The powers of ten from 1 to 10^8.
-const POWERS: [u64; 9] = [
-    1,
-    10,
-    100,
-    1_000,
-    10_000,
-    100_000,
-    1_000_000,
-    10_000_000,
-    100_000_000,
-];
 
 #[cfg(test)]
 mod tests {

@@ -1,4 +1,5 @@
-//! The input as a whole. It stands on the trait `Source`.
+//! The input as a whole.
+//! It stands on the trait `Source`.
 ghost use Rattle.std.specs.Prelude.{◌≡◌, ◌≢◌, IfOk, IfErr, OnOk};
 ghost use Rattle.std.specs.Io.KnownBytes.{Consumes, IsAtEnd};
 ghost use Rattle.atoi_tool.specs.ReadAll.{ReadAllCounts};

@@ -1,4 +1,5 @@
-//! A line of output while it is made. It stands on nothing.
+//! A line of output while it is made.
+//! It stands on nothing.
 ghost use Rattle.std.specs.Prelude.{◌≡◌, ◌+◌, ◌≤◌, ℕ, List, [], ◌++◌, length, take};
 
 use std::marker::Model;

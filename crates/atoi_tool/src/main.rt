@@ -1,4 +1,5 @@
 //! Reads rows of an engine, a call, an integer type, flags and a text, and answers each by a parse.
+//! It joins the input, the answers and the status; every other module stands below it.
 #![tactic(auto)]
 
 use crate::input::read_all;

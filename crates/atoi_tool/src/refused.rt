@@ -1,4 +1,5 @@
-//! The refusal of a read or a write. It stands on nothing.
+//! The refusal of a read or a write.
+//! It stands on nothing.
 
 /// A read or a write was refused, for whatever reason the device had.
 #[derive(Clone, Copy, Debug, PartialEq, Eq)]

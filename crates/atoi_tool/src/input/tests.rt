@@ -1,4 +1,5 @@
 //! Tests of reading all of an input, and of readers that fail.
+//! They stand on readers of their own.
 
 use super::read_all;
 use crate::source::FromReader;
