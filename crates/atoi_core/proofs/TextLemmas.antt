@@ -1,12 +1,11 @@
 -- The texts of a type are exactly what `parse` with both flags accepts.
-use Rattle.std.proofs.Common.{◌≡◌, ◌↔◌, ℕ, ◌<◌, ◌≤◌, Bool, true, eqb, List, [], ◌∷◌, ◌++◌, length, IsOk, is_ok, Result, Ok, Err, ℤ, refl, sym, ap, ◌∙◌, arith, eqb-true}
+use Rattle.std.proofs.Common.{◌≡◌, ◌↔◌, ℕ, ◌<◌, ◌≤◌, Bool, true, eqb, List, [], ◌∷◌, ◌++◌, length, IsOk, Result, Ok, Err, refl, ap, ◌∙◌, arith, eqb-true}
 use Rattle.std.proofs.lemmas.Bool.{and_parts}
 use Rattle.atoi_core.specs.Digit.{decimal_table}
 use Rattle.atoi_core.specs.Run.{run_len, run, value}
 use Rattle.atoi_core.specs.Kind.{Kind, IsSized, bound_of}
 use Rattle.atoi_core.specs.Sign.{Sign, sign_of, number_of, plus_sign, minus_sign}
-use Rattle.atoi_core.specs.Answer.{whole_answer, parse_answer, typed_answer}
-use Rattle.atoi_core.specs.declared.error.AtoiSimdError.{AtoiSimdError}
+use Rattle.atoi_core.specs.Answer.{whole_answer, parse_answer}
 use Rattle.atoi_core.specs.Text.{SignMark, no_sign, plus, minus, sign_bytes, is_minus, IsText}
 use Rattle.atoi_core.specs.Laws.{AcceptedTexts}
 use Rattle.atoi_core.proofs.CutLemmas.{all_digits, digits_all, run_all}
@@ -84,20 +83,6 @@ ok_is_ok r x h = rw h refl
 -- `parse` with both flags accepts exactly the texts of the type
 pub parse_accepts : (k : Kind) → IsSized k → (s : List ℕ) → IsOk (parse_answer k true true s) ↔ IsText k s
 parse_accepts k sized s = (text_of_ok k s, λ text. ok_is_ok _ _ (ok_of_text k sized s text))
-
--- a result has a value where the answer that it stands for has one
-typed-is_ok : {T : Type 0} (number : T → ℤ) (result : Result T AtoiSimdError) → is_ok (typed_answer number result) ≡ is_ok result
-typed-is_ok number (Ok value) = refl
-typed-is_ok number (Err error) = refl
-
--- the same of a result of the type's values where both flags are on
-pub typed_accepts : {T : Type 0} (number : T → ℤ) (result : Result T AtoiSimdError) (k : Kind) → IsSized k → (skip skip_plus : Bool) (s : List ℕ)
-    → typed_answer number result ≡ parse_answer k skip skip_plus s → skip ≡ true → skip_plus ≡ true → IsOk result ↔ IsText k s
-typed_accepts number result k sized skip skip_plus s h skips pluses =
-    let both : parse_answer k skip skip_plus s ≡ parse_answer k true true s = λ i. parse_answer k (skips i) (pluses i) s in
-    let same : is_ok result ≡ is_ok (parse_answer k true true s) = sym (typed-is_ok number result) ∙ ap is_ok (h ∙ both) in
-    let accepts = parse_accepts k sized s in
-    (λ ok. accepts.0 (sym same ∙ ok), λ text. same ∙ accepts.1 text)
 
 -- the law: what is accepted are the texts, and the answer is the number
 pub accepted_texts : (k : Kind) → IsSized k → AcceptedTexts k

@@ -9,6 +9,7 @@ ghost use Rattle.atoi_core.specs.Text.{IsText};
 use crate::any_sign::Parse;
 use crate::negative::ParseNeg;
 use atoi_core::AtoiSimdError;
+use atoi_core::laws::accepted_texts;
 
 /// Parses the whole of `s`: at most one sign, then digits to the end.
 ///
@@ -40,6 +41,8 @@ pub fn parse<T: Parse, const SKIP_ZEROES: bool, const SKIP_PLUS: bool>(
     ensures answer { typed_answer T.number result ≡ parse_answer (kind T.BITS T.SIGNED T.GREATEST) SKIP_ZEROES SKIP_PLUS s.now }
     ensures texts { IsTrue SKIP_ZEROES → IsTrue SKIP_PLUS → (IsOk result ↔ IsText (kind T.BITS T.SIGNED T.GREATEST) s.now) }
 {
+    // The law that `texts` stands on. The call does nothing.
+    accepted_texts::<T>();
     T::atoi_simd_parse(s, SKIP_ZEROES, SKIP_PLUS)
 }
 
@@ -180,6 +183,7 @@ pub fn parse_prefix_neg<T: ParseNeg, const SKIP_ZEROES: bool>(
 #[inline(always)]
 pub fn parse_skipped<T: Parse>(s: &[u8]) -> Result<T, AtoiSimdError<'_>>
     ensures answer { typed_answer T.number result ≡ parse_answer (kind T.BITS T.SIGNED T.GREATEST) true true s.now }
+    ensures texts { IsOk result ↔ IsText (kind T.BITS T.SIGNED T.GREATEST) s.now }
 {
     parse::<T, true, true>(s)
 }
