@@ -2,7 +2,7 @@
 //! It stands on nothing: what a parse has to know of a type are the constants here.
 ghost use Rattle.std.specs.Prelude.{◌≡◌, ◌+◌, ◌≤◌, ◌<ℤ◌, ◌↔◌, ℕ, ℤ, pos, Bool, true, false, IsTrue, refl};
 ghost use Rattle.std.proofs.Common.{inl, inr};
-ghost use Rattle.atoi_core.specs.Kind.{IsSized, kind};
+ghost use Rattle.atoi_core.specs.Kind.{IsSized, kind, bound_of};
 ghost use Rattle.atoi_core.specs.Sign.{number_of};
 
 /// An integer type that a parse can answer.
@@ -32,10 +32,12 @@ pub trait Number: Copy {
         requires { value ≤ GREATEST }
         ensures { number result ≡ pos value };
 
-    /// Whether the number is negative, and its magnitude.
+    /// Whether the number is negative, and its magnitude: at most `GREATEST`, or one more where it is
+    /// negative, so that every value lies in the range that the constants tell.
     fn parts(self) -> (bool, u128)
         ensures number { number_of result.0 result.1 ≡ number self }
-        ensures negative { IsTrue result.0 ↔ (number self <ℤ pos 0) };
+        ensures negative { IsTrue result.0 ↔ (number self <ℤ pos 0) }
+        ensures in_range { result.1 ≤ bound_of (kind BITS SIGNED GREATEST) result.0 };
 
     /// The constants fit one another.
     ghost sized: { IsSized (kind BITS SIGNED GREATEST) };
