@@ -98,12 +98,12 @@ impl Parse for i8 {
         skip_plus: bool,
     ) -> Result<(i8, usize), AtoiSimdError<'_>> {
         let (minus, body) = take_sign(true, skip_plus, s);
-        let found = if minus {
-            i8::atoi_simd_parse_prefix_neg(body, skip_zeroes)
+        let taken = s.len() - body.len();
+        if minus {
+            with_sign(taken, i8::atoi_simd_parse_prefix_neg(body, skip_zeroes))
         } else {
-            i8::atoi_simd_parse_prefix_pos(body, skip_zeroes)
-        };
-        with_sign(s.len() - body.len(), found)
+            with_sign(taken, i8::atoi_simd_parse_prefix_pos(body, skip_zeroes))
+        }
     }
 }
 
@@ -154,12 +154,12 @@ impl Parse for i16 {
         skip_plus: bool,
     ) -> Result<(i16, usize), AtoiSimdError<'_>> {
         let (minus, body) = take_sign(true, skip_plus, s);
-        let found = if minus {
-            i16::atoi_simd_parse_prefix_neg(body, skip_zeroes)
+        let taken = s.len() - body.len();
+        if minus {
+            with_sign(taken, i16::atoi_simd_parse_prefix_neg(body, skip_zeroes))
         } else {
-            i16::atoi_simd_parse_prefix_pos(body, skip_zeroes)
-        };
-        with_sign(s.len() - body.len(), found)
+            with_sign(taken, i16::atoi_simd_parse_prefix_pos(body, skip_zeroes))
+        }
     }
 }
 
@@ -210,12 +210,12 @@ impl Parse for i32 {
         skip_plus: bool,
     ) -> Result<(i32, usize), AtoiSimdError<'_>> {
         let (minus, body) = take_sign(true, skip_plus, s);
-        let found = if minus {
-            i32::atoi_simd_parse_prefix_neg(body, skip_zeroes)
+        let taken = s.len() - body.len();
+        if minus {
+            with_sign(taken, i32::atoi_simd_parse_prefix_neg(body, skip_zeroes))
         } else {
-            i32::atoi_simd_parse_prefix_pos(body, skip_zeroes)
-        };
-        with_sign(s.len() - body.len(), found)
+            with_sign(taken, i32::atoi_simd_parse_prefix_pos(body, skip_zeroes))
+        }
     }
 }
 
@@ -266,12 +266,12 @@ impl Parse for isize {
         skip_plus: bool,
     ) -> Result<(isize, usize), AtoiSimdError<'_>> {
         let (minus, body) = take_sign(true, skip_plus, s);
-        let found = if minus {
-            isize::atoi_simd_parse_prefix_neg(body, skip_zeroes)
+        let taken = s.len() - body.len();
+        if minus {
+            with_sign(taken, isize::atoi_simd_parse_prefix_neg(body, skip_zeroes))
         } else {
-            isize::atoi_simd_parse_prefix_pos(body, skip_zeroes)
-        };
-        with_sign(s.len() - body.len(), found)
+            with_sign(taken, isize::atoi_simd_parse_prefix_pos(body, skip_zeroes))
+        }
     }
 }
 
@@ -322,12 +322,12 @@ impl Parse for i64 {
         skip_plus: bool,
     ) -> Result<(i64, usize), AtoiSimdError<'_>> {
         let (minus, body) = take_sign(true, skip_plus, s);
-        let found = if minus {
-            i64::atoi_simd_parse_prefix_neg(body, skip_zeroes)
+        let taken = s.len() - body.len();
+        if minus {
+            with_sign(taken, i64::atoi_simd_parse_prefix_neg(body, skip_zeroes))
         } else {
-            i64::atoi_simd_parse_prefix_pos(body, skip_zeroes)
-        };
-        with_sign(s.len() - body.len(), found)
+            with_sign(taken, i64::atoi_simd_parse_prefix_pos(body, skip_zeroes))
+        }
     }
 }
 
@@ -378,11 +378,11 @@ impl Parse for i128 {
         skip_plus: bool,
     ) -> Result<(i128, usize), AtoiSimdError<'_>> {
         let (minus, body) = take_sign(true, skip_plus, s);
-        let found = if minus {
-            i128::atoi_simd_parse_prefix_neg(body, skip_zeroes)
+        let taken = s.len() - body.len();
+        if minus {
+            with_sign(taken, i128::atoi_simd_parse_prefix_neg(body, skip_zeroes))
         } else {
-            i128::atoi_simd_parse_prefix_pos(body, skip_zeroes)
-        };
-        with_sign(s.len() - body.len(), found)
+            with_sign(taken, i128::atoi_simd_parse_prefix_pos(body, skip_zeroes))
+        }
     }
 }
