@@ -134,16 +134,16 @@ fn number_of(word: u64, len: u32) -> u64
     }
 }
 
-// What `check_len_8` answers, by marks that take a shift and a mask less. A byte's mark is 0 exactly
-// where it and it with six added both have the upper half 3.
+// What `check_len_8` answers, in fewer steps. A byte's top bit marks that it is no digit: 70 added to the
+// byte, or 48 taken from it, sets that bit; of a digit neither does.
 #[inline(always)]
 fn digits_of(word: u64) -> u32
     ensures len { result ≡ run_len decimal_table (low_bytes 8 word) }
     ensures most { result ≤ 8 }
 {
-    let high = word.wrapping_add(0x0606_0606_0606_0606) ^ 0x3030_3030_3030_3030;
-    let low = word ^ 0x3030_3030_3030_3030;
-    ((high | low) & 0xF0F0_F0F0_F0F0_F0F0).trailing_zeros() / 8
+    let above = word.wrapping_add(0x4646_4646_4646_4646);
+    let below = word.wrapping_sub(0x3030_3030_3030_3030);
+    ((above | below) & 0x8080_8080_8080_8080).trailing_zeros() / 8
 }
 
 // What `process_8` answers of at most 4 bytes, in half the width.
