@@ -143,7 +143,12 @@ fn digits_of(word: u64) -> u32
 {
     let above = word.wrapping_add(0x4646_4646_4646_4646);
     let below = word.wrapping_sub(0x3030_3030_3030_3030);
-    ((above | below) & 0x8080_8080_8080_8080).trailing_zeros() / 8
+    let marks = (above | below) & 0x8080_8080_8080_8080;
+    if marks == 0 {
+        8
+    } else {
+        marks.trailing_zeros() / 8
+    }
 }
 
 // What `process_8` answers of at most 4 bytes, in half the width.
