@@ -25,6 +25,7 @@ pub(crate) fn digit(byte: u8) -> Option<u64>
 ///
 /// # Errors
 ///
+/// The first that holds of:
 /// - `Empty` where `s` does not begin with a digit;
 /// - `Overflow` with the whole of `s` where the digits that it begins with write a number above `bound`;
 /// - `Invalid64` with that number, the count of these digits and the whole of `s`, where another byte

@@ -1,4 +1,4 @@
-//! Numbers joined from the digits of two windows.
+//! Numbers joined from the digits of two windows, or of three.
 //! It stands on `window`.
 ghost use Rattle.std.specs.Prelude.{◌≡◌, ◌+◌, ◌*◌, ◌^◌, ◌<◌, ◌≤◌, nat_lt, if◌then◌else◌};
 

@@ -11,8 +11,9 @@ pub fn text_of_value<T: Number>()
     ensures { TextOfValue (kind T.BITS T.SIGNED T.GREATEST) }
 {}
 
-/// `parse` with both flags on answers `Ok` exactly on the texts of the type: an optional sign, one or
-/// more digits with a value in range, and nothing behind them. The answer is the text's number.
+/// `parse` with both flags on answers `Ok` exactly on the texts of the type: an optional `+`, or `-` where
+/// the type is signed, one or more digits, nothing behind them, and the signed value in the type's
+/// range. The answer is the text's number.
 pub fn accepted_texts<T: Number>()
     ensures { AcceptedTexts (kind T.BITS T.SIGNED T.GREATEST) }
 {}
@@ -35,8 +36,8 @@ pub fn prefix_stops_at_rest<T: Number>()
     ensures { PrefixStopsAtRest (kind T.BITS T.SIGNED T.GREATEST) }
 {}
 
-/// Bytes behind the first byte that is no digit change neither the value nor the count nor the kind
-/// of a prefix's answer.
+/// What stands behind the run of digits changes neither the kind of a prefix's answer, nor its value and
+/// count.
 pub fn rest_changes_nothing<T: Number>()
     ensures { RestChangesNothing (kind T.BITS T.SIGNED T.GREATEST) }
 {}

@@ -12,7 +12,7 @@ use crate::engine::Engine;
 use crate::steps::Steps;
 use crate::window::Window;
 
-/// The engine that reads byte by byte.
+/// The engine that reads byte by byte. Its digits are the decimal ones.
 pub struct Plain;
 
 impl Engine for Plain {

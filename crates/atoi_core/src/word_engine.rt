@@ -106,7 +106,7 @@ fn not_full(len: u32, number: u64) -> Window
     }
 }
 
-// The bytes from 8 on, at most 8. Where the slice ends among them, the last 8 hold them all.
+// The word of the bytes from 8 on, at most 8. Where the slice ends among them, its last 8 hold them all.
 #[inline(always)]
 fn load_next(s: &[u8]) -> u64
     requires { 8 ≤ length s.now }

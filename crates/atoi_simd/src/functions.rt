@@ -1,5 +1,5 @@
 //! The ten functions. Each hands its const flags to the trait of its type.
-//! It stands on the three traits.
+//! It stands on the three traits, and on the law of the accepted texts of `atoi_core`.
 ghost use Rattle.std.specs.Prelude.{◌≡◌, ◌≤◌, ◌↔◌, true, false, IsTrue, IsOk, IfOk, length};
 ghost use Rattle.atoi_core.specs.Answer.{typed_answer, typed_prefix_answer, whole_answer, prefix_answer, parse_answer, parse_prefix_answer};
 ghost use Rattle.atoi_core.specs.Digit.{decimal_table};
@@ -15,8 +15,8 @@ use atoi_core::laws::accepted_texts;
 ///
 /// A first `+` is taken where `SKIP_PLUS` is on, and a first `-` where `T` is signed. The body is what stands behind the sign,
 /// or `s`. With `SKIP_ZEROES` any number of leading zeros is accepted; without it they count as digits of a type of 64 or
-/// 128 bits. With both flags on it succeeds exactly on an optional sign, one or more digits, then nothing, with the number
-/// in the type's range.
+/// 128 bits. With both flags on it succeeds exactly on an optional `+`, or `-` where `T` is signed, then one or more digits,
+/// then nothing, with the signed value in the range of `T`.
 ///
 /// `parse::<i64, false, false>(b"-2345")` is `Ok(-2345)`. Mirrors `atoi_simd::parse`.
 ///

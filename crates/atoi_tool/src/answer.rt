@@ -1,5 +1,5 @@
 //! The answer to one line.
-//! It stands on `row`, `calls` and `printed`.
+//! It stands on `row`, `request`, `calls`, `printed` and `line`.
 ghost use Rattle.std.specs.Prelude.{◌≡◌, ◌≤◌, [], true, false, length};
 ghost use Rattle.atoi_core.specs.Kind.{kind};
 ghost use Rattle.atoi_tool.specs.Request.{is_known, is_negative};

@@ -1,5 +1,5 @@
 //! The answers to all lines of an input, written to a sink.
-//! It stands on the trait `Sink`, and on the answer to one line.
+//! It stands on the trait `Sink`, on the answer to one line, and on `line`, `place`, `refused` and `status`.
 ghost use Rattle.std.specs.Prelude.{◌≡◌, ◌+◌, ◌<◌, [], ◌∷◌, length, IfOk, IfErr, OnOk, OnErr};
 ghost use Rattle.std.specs.Io.KnownBytes.{Appends};
 ghost use Rattle.atoi_tool.specs.Failures.{failures_of, AppendsFront};
