@@ -8,7 +8,7 @@ ghost use Rattle.atoi_core.specs.Magnitude.{narrow, whole_magnitude};
 use crate::error::AtoiSimdError;
 
 // The byte of the digit zero.
-const ZERO: u64 = 48;
+pub(crate) const ZERO: u64 = 48;
 
 // What a byte is worth as a decimal digit. A byte below the digits wraps to a number above nine.
 #[inline(always)]

@@ -39,7 +39,8 @@ pub fn whole_pos<'a, E: Engine, T: Number>(
     ensures answer { typed_answer T.number result
         ≡ whole_answer (whole_table (class_of (kind T.BITS T.SIGNED T.GREATEST)) E.table)
         (kind T.BITS T.SIGNED T.GREATEST) false skip s.now }
-    ensures most { steps.new ≤ steps.old + most_loads E.table (class_of (kind T.BITS T.SIGNED T.GREATEST)) s.now }
+    ensures most { steps.new ≤ steps.old
+        + most_loads E.table (class_of (kind T.BITS T.SIGNED T.GREATEST)) s.now }
     ensures least { class_of (kind T.BITS T.SIGNED T.GREATEST) ≢ narrow
         → 0 < length s.now → steps.old < steps.new }
     ensures least_skipping { class_of (kind T.BITS T.SIGNED T.GREATEST) ≢ narrow
@@ -70,7 +71,8 @@ pub fn whole_neg<'a, E: Engine, T: Signed>(
     ensures answer { typed_answer T.number result
         ≡ whole_answer (whole_table (class_of (kind T.BITS T.SIGNED T.GREATEST)) E.table)
         (kind T.BITS T.SIGNED T.GREATEST) true skip s.now }
-    ensures most { steps.new ≤ steps.old + most_loads E.table (class_of (kind T.BITS T.SIGNED T.GREATEST)) s.now }
+    ensures most { steps.new ≤ steps.old
+        + most_loads E.table (class_of (kind T.BITS T.SIGNED T.GREATEST)) s.now }
     ensures least { class_of (kind T.BITS T.SIGNED T.GREATEST) ≢ narrow
         → 0 < length s.now → steps.old < steps.new }
     ensures least_skipping { class_of (kind T.BITS T.SIGNED T.GREATEST) ≢ narrow
@@ -103,7 +105,8 @@ pub fn prefix_pos<'a, E: Engine, T: Number>(
     ensures answer { typed_prefix_answer T.number result
         ≡ prefix_answer E.table (kind T.BITS T.SIGNED T.GREATEST) false skip s.now }
     ensures within { IfOk result (λ found. found.1 ≤ length s.now) }
-    ensures most { steps.new ≤ steps.old + most_loads E.table (class_of (kind T.BITS T.SIGNED T.GREATEST)) s.now }
+    ensures most { steps.new ≤ steps.old
+        + most_loads E.table (class_of (kind T.BITS T.SIGNED T.GREATEST)) s.now }
     ensures least { 0 < length s.now → steps.old < steps.new }
     ensures least_skipping { IsTrue skip → steps.old + least_loads E.table s.now ≤ steps.new }
 {
@@ -134,7 +137,8 @@ pub fn prefix_neg<'a, E: Engine, T: Signed>(
     ensures answer { typed_prefix_answer T.number result
         ≡ prefix_answer E.table (kind T.BITS T.SIGNED T.GREATEST) true skip s.now }
     ensures within { IfOk result (λ found. found.1 ≤ length s.now) }
-    ensures most { steps.new ≤ steps.old + most_loads E.table (class_of (kind T.BITS T.SIGNED T.GREATEST)) s.now }
+    ensures most { steps.new ≤ steps.old
+        + most_loads E.table (class_of (kind T.BITS T.SIGNED T.GREATEST)) s.now }
     ensures least { 0 < length s.now → steps.old < steps.new }
     ensures least_skipping { IsTrue skip → steps.old + least_loads E.table s.now ≤ steps.new }
 {

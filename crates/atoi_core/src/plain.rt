@@ -68,7 +68,8 @@ pub(crate) fn few_bytes(s: &[u8]) -> Window
 #[inline(always)]
 fn read_run(s: &[u8]) -> (u32, u64)
     requires { length s.now ≤ 16 }
-    ensures { result ≡ (run_len decimal_table s.now, value decimal_table (run decimal_table s.now)) }
+    ensures { result
+        ≡ (run_len decimal_table s.now, value decimal_table (run decimal_table s.now)) }
 {
     let mut number = 0;
     for (len, byte) in s.iter().enumerate() {

@@ -1,5 +1,5 @@
 //! The engine that reads a window as one word of eight bytes, or as two.
-//! It stands on `words`, `engine`, `join`, `window` and `steps`, and reads fewer than four bytes as `plain` does.
+//! It stands on `words`, `engine`, `join`, `window`, `steps` and `digit_loop`, and reads fewer than four bytes as `plain` does.
 ghost use Rattle.std.specs.Prelude.{◌≡◌, ◌+◌, ◌^◌, ◌<◌, ◌≤◌, ◌++◌, length, take, drop};
 ghost use Rattle.atoi_core.specs.Digit.{decimal_table};
 ghost use Rattle.atoi_core.specs.Run.{run_len, zeros};
@@ -8,6 +8,7 @@ ghost use Rattle.atoi_core.specs.Words.{low_bytes, low_value, word_of};
 ghost use Rattle.std.proofs.Common.{arith};
 ghost use Rattle.std.proofs.lemmas.Bool.Decides.{nat_tests};
 
+use crate::digit_loop::ZERO;
 use crate::engine::Engine;
 use crate::join;
 use crate::plain::few_bytes;
@@ -188,9 +189,6 @@ fn zeroes_of_two(first: u64, next: u64) -> u32
         zeroes
     }
 }
-
-// The byte of the digit zero.
-const ZERO: u64 = 48;
 
 // Ten to the power of the digits of one word.
 #[inline(always)]

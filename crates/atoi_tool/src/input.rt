@@ -19,7 +19,8 @@ const PART: usize = 4096;
 /// never ends, at the latest where it cannot be longer. Nothing is handed back then, and what was taken
 /// from the source stays taken.
 pub fn read_all<S: Source>(alloc: Global, input: &mut S) -> Result<Vec<u8>, ToolError>
-    ensures all { IfOk result (λ bytes. Consumes (S.rest input.old) (S.rest input.new) bytes.items) }
+    ensures all { IfOk result
+        (λ bytes. Consumes (S.rest input.old) (S.rest input.new) bytes.items) }
     ensures end { OnOk result (IsAtEnd (S.rest input.new)) }
     ensures reads { ReadAllCounts (S.failures input.old) (S.failures input.new) result }
 {
