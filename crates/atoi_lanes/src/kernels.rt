@@ -88,6 +88,7 @@ pub fn sum_lanes(v: u8x16, len: u32) -> u64
     ensures { result ≡ value decimal_table (take len v) }
 {
     let worths = v - u8x16::splat(b'0');
+    // As few lanes are multiplied as hold the run.
     if len <= 4 {
         u64::from(sum_front(first_quarter(worths), len))
     } else if len <= 8 {

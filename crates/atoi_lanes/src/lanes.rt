@@ -20,10 +20,13 @@ fn lane_window(lanes: u8x16, size: u32) -> Window
     ensures { result ≡ lane_window size lanes }
 {
     let len = len_lanes(lanes);
+    // The number first: a run that its sum finds short needs no comparison with the size.
+    let number = sum_lanes(lanes, len);
+    let zeroes = if len == size { zeroes_lanes(lanes) } else { 0 };
     Window {
         len,
-        zeroes: if len == size { zeroes_lanes(lanes) } else { 0 },
-        number: sum_lanes(lanes, len),
+        zeroes,
+        number,
     }
 }
 
