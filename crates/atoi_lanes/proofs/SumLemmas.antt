@@ -60,7 +60,7 @@ itself-le (x ∷ xs) fits =
     omega (arith, itself-le xs fits.1, mul-le-mul_right (10 ^ length xs) one_less, pow-suc 10 (length xs))
 
 -- at most eight bytes write a number of 32 bits
-pub eight_bytes : (n : ℕ) (worths : List ℕ) → Each1 (Fits w8) worths → n ≤ 8 → value itself (take n worths) ≤ 2833333305
+eight_bytes : (n : ℕ) (worths : List ℕ) → Each1 (Fits w8) worths → n ≤ 8 → value itself (take n worths) ≤ 2833333305
 eight_bytes n worths fits few =
     let count : length (take n worths) ≤ 8 = omega (arith, length-take n worths) in
     let power : 10 ^ length (take n worths) ≤ 10 ^ 8 = pow-le-pow_right (omega arith) count in
