@@ -1,9 +1,10 @@
 //! Sixteen bytes in the lanes of one vector: a load, how many digits or zeros they begin with, and the
 //! number that they write. It stands on `std::simd`, and on `words` for the load of a short slice.
-ghost use Rattle.std.specs.Prelude.{◌≡◌, ◌+◌, ◌≤◌, ◌<◌, length, take, drop};
+ghost use Rattle.std.specs.Prelude.{◌≡◌, ◌+◌, ◌^◌, ◌≤◌, ◌<◌, length, take, drop};
 ghost use Rattle.atoi_core.specs.Digit.{decimal_table};
 ghost use Rattle.atoi_core.specs.Run.{run_len, zeros, value};
 ghost use Rattle.atoi_core.specs.Words.{word_of};
+ghost use Rattle.atoi_lanes.specs.Itself.{itself};
 ghost use Rattle.atoi_lanes.specs.Padded.{padded};
 
 use atoi_core::words::load_8;
@@ -12,17 +13,10 @@ use std::simd::prelude::*;
 // How many bytes a vector holds.
 const LANES: usize = 16;
 
-// What the places of sixteen digits are worth, the highest first, and then zeros. From entry
-// `16 - len` on, the first `len` lanes stand before their places, and each lane behind them before a
-// zero.
-const PLACES: [u64; 32] = [
-    1_000_000_000_000_000,
-    100_000_000_000_000,
-    10_000_000_000_000,
-    1_000_000_000_000,
-    100_000_000_000,
-    10_000_000_000,
-    1_000_000_000,
+// What the places of nine digits are worth, the highest first, and then zeros. From entry `9 - len`
+// on, the first `len` of at most eight lanes stand before their places, and each lane behind them
+// before a zero. The first entry joins two numbers of eight digits.
+const PLACES: [u32; 17] = [
     100_000_000,
     10_000_000,
     1_000_000,
@@ -32,14 +26,6 @@ const PLACES: [u64; 32] = [
     100,
     10,
     1,
-    0,
-    0,
-    0,
-    0,
-    0,
-    0,
-    0,
-    0,
     0,
     0,
     0,
@@ -101,9 +87,73 @@ pub fn sum_lanes(v: u8x16, len: u32) -> u64
     requires digits { len ≤ run_len decimal_table v }
     ensures { result ≡ value decimal_table (take len v) }
 {
-    let worths = (v - u8x16::splat(b'0')).cast::<u64>();
-    let places = u64x16::from_slice(&PLACES[LANES - len as usize..]);
-    (worths * places).reduce_sum()
+    let worths = v - u8x16::splat(b'0');
+    // As few lanes are multiplied as hold the run.
+    if len <= 4 {
+        u64::from(sum_front(first_quarter(worths), len))
+    } else if len <= 8 {
+        u64::from(sum_front(first_half(worths), len))
+    } else {
+        sum_halves(worths, len)
+    }
+}
+
+// The first four lanes.
+#[inline(always)]
+fn first_quarter(v: u8x16) -> u8x4
+    ensures { result ≡ take 4 v }
+{
+    v.extract::<0, 4>()
+}
+
+// The first eight lanes.
+#[inline(always)]
+fn first_half(v: u8x16) -> u8x8
+    ensures { result ≡ take 8 v }
+{
+    v.extract::<0, 8>()
+}
+
+// The last eight lanes.
+#[inline(always)]
+fn second_half(v: u8x16) -> u8x8
+    ensures { result ≡ drop 8 v }
+{
+    v.extract::<8, 8>()
+}
+
+// The number of the first `len` of at most eight lanes, each of which is worth what it holds.
+#[inline(always)]
+fn sum_front<const N: usize>(worths: Simd<u8, N>, len: u32) -> u32
+    requires lanes { N ≤ 8 }
+    requires within { len ≤ N }
+    ensures { result ≡ value itself (take len worths.entry) }
+{
+    let places = Simd::<u32, N>::from_slice(&PLACES[9 - len as usize..]);
+    (worths.cast::<u32>() * places).reduce_sum()
+}
+
+// The number of the first `len` lanes, of more than eight, each of which is worth what it holds.
+#[inline(always)]
+fn sum_halves(worths: u8x16, len: u32) -> u64
+    requires more { 8 < len }
+    requires within { len ≤ 16 }
+    ensures { result ≡ value itself (take len worths) }
+{
+    let behind = len - 8;
+    let high = u64::from(sum_front(first_half(worths), 8));
+    let low = u64::from(sum_front(second_half(worths), behind));
+    high * power_of_ten(behind) + low
+}
+
+// What a digit is worth that many places above the last one.
+#[inline(always)]
+fn power_of_ten(places: u32) -> u64
+    requires { places ≤ 8 }
+    ensures power { result ≡ 10 ^ places }
+    ensures most { result ≤ 100000000 }
+{
+    u64::from(PLACES[8 - places as usize])
 }
 
 #[cfg(test)]
@@ -115,5 +165,15 @@ mod tests {
         let lanes = u8x16::from_array(*b"12\xFF9999999999999");
         assert_eq!(rt; len_lanes(lanes), 2);
         assert_eq!(rt; sum_lanes(lanes, 2), 12);
+    }
+
+    #[test]
+    fn four_eight_and_more_lanes(rt: HostRuntime) {
+        let lanes = u8x16::from_array(*b"1234567890123456");
+        assert_eq!(rt; sum_lanes(lanes, 4), 1_234);
+        assert_eq!(rt; sum_lanes(lanes, 5), 12_345);
+        assert_eq!(rt; sum_lanes(lanes, 8), 12_345_678);
+        assert_eq!(rt; sum_lanes(lanes, 9), 123_456_789);
+        assert_eq!(rt; sum_lanes(lanes, 16), 1_234_567_890_123_456);
     }
 }

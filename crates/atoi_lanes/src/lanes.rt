@@ -20,10 +20,13 @@ fn lane_window(lanes: u8x16, size: u32) -> Window
     ensures { result ≡ lane_window size lanes }
 {
     let len = len_lanes(lanes);
+    // The number first: where its sum finds the run short, LLVM compares it with no size.
+    let number = sum_lanes(lanes, len);
+    let zeroes = if len == size { zeroes_lanes(lanes) } else { 0 };
     Window {
         len,
-        zeroes: if len == size { zeroes_lanes(lanes) } else { 0 },
-        number: sum_lanes(lanes, len),
+        zeroes,
+        number,
     }
 }
 
@@ -42,6 +45,14 @@ impl Engine for Lanes {
     #[inline(always)]
     fn window_8(s: &[u8], steps: &mut Steps) -> Window {
         steps.tick();
+        // An empty slice needs no lanes.
+        if s.is_empty() {
+            return Window {
+                len: 0,
+                zeroes: 0,
+                number: 0,
+            };
+        }
         lane_window(load_lanes(&s[..s.len().min(8)]), 8)
     }
 
