@@ -39,6 +39,7 @@ pub fn whole_pos<'a, E: Engine, T: Number>(
         ≡ whole_answer (whole_table (class_of (kind T.BITS T.SIGNED T.GREATEST)) E.table)
         (kind T.BITS T.SIGNED T.GREATEST) false skip s.now }
     ensures most { steps.new ≤ steps.old + most_loads E.table (class_of (kind T.BITS T.SIGNED T.GREATEST)) s.now }
+    ensures none { class_of (kind T.BITS T.SIGNED T.GREATEST) ≡ narrow → steps.new ≡ steps.old }
     ensures least { class_of (kind T.BITS T.SIGNED T.GREATEST) ≢ narrow
         → 0 < length s.now → steps.old < steps.new }
     ensures least_skipping { class_of (kind T.BITS T.SIGNED T.GREATEST) ≢ narrow
@@ -70,6 +71,7 @@ pub fn whole_neg<'a, E: Engine, T: Signed>(
         ≡ whole_answer (whole_table (class_of (kind T.BITS T.SIGNED T.GREATEST)) E.table)
         (kind T.BITS T.SIGNED T.GREATEST) true skip s.now }
     ensures most { steps.new ≤ steps.old + most_loads E.table (class_of (kind T.BITS T.SIGNED T.GREATEST)) s.now }
+    ensures none { class_of (kind T.BITS T.SIGNED T.GREATEST) ≡ narrow → steps.new ≡ steps.old }
     ensures least { class_of (kind T.BITS T.SIGNED T.GREATEST) ≢ narrow
         → 0 < length s.now → steps.old < steps.new }
     ensures least_skipping { class_of (kind T.BITS T.SIGNED T.GREATEST) ≢ narrow
