@@ -8,7 +8,7 @@ ghost use Rattle.atoi_core.specs.Magnitude.{narrow, whole_magnitude};
 use crate::error::AtoiSimdError;
 
 // The byte of the digit zero.
-const ZERO: u64 = 48;
+pub(crate) const ZERO: u64 = 48;
 
 // What a byte is worth as a decimal digit. A byte below the digits wraps to a number above nine.
 #[inline(always)]
@@ -25,6 +25,7 @@ pub(crate) fn digit(byte: u8) -> Option<u64>
 ///
 /// # Errors
 ///
+/// The first that holds of:
 /// - `Empty` where `s` does not begin with a digit;
 /// - `Overflow` with the whole of `s` where the digits that it begins with write a number above `bound`;
 /// - `Invalid64` with that number, the count of these digits and the whole of `s`, where another byte

@@ -1,5 +1,5 @@
 //! The parses of any integer type: by its class, of at most 32 bits, of 64 or of 128.
-//! It stands on `typed_narrow`, `typed_64` and `typed_128`.
+//! It stands on `typed_narrow`, `typed_64` and `typed_128`, and on what these speak of: `engine`, `number`, `steps` and `error`.
 ghost use Rattle.std.specs.Prelude.{◌≡◌, ◌≢◌, ◌+◌, ◌<◌, ◌≤◌, true, false, IfOk, IsTrue, length};
 ghost use Rattle.atoi_core.specs.Answer.{typed_answer, typed_prefix_answer, whole_answer, prefix_answer, whole_table};
 ghost use Rattle.atoi_core.specs.Kind.{kind, class_of};
@@ -18,8 +18,9 @@ use crate::typed_narrow::{
 
 /// Reads the whole of `s`, which has no sign, as a number of `T`.
 ///
-/// With `skip` any number of leading zeros is accepted. A type of at most 32 bits accepts them always,
-/// is read digit by digit, and loads no window.
+/// With `skip` any number of leading zeros is accepted. A type of at most 32 bits accepts them always and
+/// is read digit by digit, by the decimal digits whatever the engine's are, without a window. `steps`
+/// counts the windows that are loaded.
 ///
 /// # Errors
 ///
@@ -38,7 +39,8 @@ pub fn whole_pos<'a, E: Engine, T: Number>(
     ensures answer { typed_answer T.number result
         ≡ whole_answer (whole_table (class_of (kind T.BITS T.SIGNED T.GREATEST)) E.table)
         (kind T.BITS T.SIGNED T.GREATEST) false skip s.now }
-    ensures most { steps.new ≤ steps.old + most_loads E.table (class_of (kind T.BITS T.SIGNED T.GREATEST)) s.now }
+    ensures most { steps.new ≤ steps.old
+        + most_loads E.table (class_of (kind T.BITS T.SIGNED T.GREATEST)) s.now }
     ensures none { class_of (kind T.BITS T.SIGNED T.GREATEST) ≡ narrow → steps.new ≡ steps.old }
     ensures least { class_of (kind T.BITS T.SIGNED T.GREATEST) ≢ narrow
         → 0 < length s.now → steps.old < steps.new }
@@ -54,9 +56,9 @@ pub fn whole_pos<'a, E: Engine, T: Number>(
     }
 }
 
-/// Reads the whole of `s`, the digits behind a minus, as a negative number of `T`.
+/// Reads the whole of `s`, the digits behind a minus, as a number of `T`.
 ///
-/// As `whole_pos`, but the bound is the magnitude of the least number of `T`.
+/// As `whole_pos`, but the bound is the magnitude of the least number of `T`, and the number is not positive.
 ///
 /// # Errors
 ///
@@ -70,7 +72,8 @@ pub fn whole_neg<'a, E: Engine, T: Signed>(
     ensures answer { typed_answer T.number result
         ≡ whole_answer (whole_table (class_of (kind T.BITS T.SIGNED T.GREATEST)) E.table)
         (kind T.BITS T.SIGNED T.GREATEST) true skip s.now }
-    ensures most { steps.new ≤ steps.old + most_loads E.table (class_of (kind T.BITS T.SIGNED T.GREATEST)) s.now }
+    ensures most { steps.new ≤ steps.old
+        + most_loads E.table (class_of (kind T.BITS T.SIGNED T.GREATEST)) s.now }
     ensures none { class_of (kind T.BITS T.SIGNED T.GREATEST) ≡ narrow → steps.new ≡ steps.old }
     ensures least { class_of (kind T.BITS T.SIGNED T.GREATEST) ≢ narrow
         → 0 < length s.now → steps.old < steps.new }
@@ -89,11 +92,12 @@ pub fn whole_neg<'a, E: Engine, T: Signed>(
 /// Reads a number of `T`, which has no sign, from the front of `s`, and tells its length in bytes.
 ///
 /// With `skip` any number of leading zeros is accepted. Without it a type of at most 32 bits reads 16
-/// digits at most.
+/// digits at most. `steps` counts the windows that are loaded.
 ///
 /// # Errors
 ///
-/// `Empty`, `Size` and `Overflow`, as of `whole_pos`.
+/// `Empty`, `Size` and `Overflow`, as of `whole_pos`. The slice of an `Overflow` of a type of at most 32
+/// bits is told at `narrow_prefix`.
 #[inline(always)]
 pub fn prefix_pos<'a, E: Engine, T: Number>(
     skip: bool,
@@ -103,7 +107,8 @@ pub fn prefix_pos<'a, E: Engine, T: Number>(
     ensures answer { typed_prefix_answer T.number result
         ≡ prefix_answer E.table (kind T.BITS T.SIGNED T.GREATEST) false skip s.now }
     ensures within { IfOk result (λ found. found.1 ≤ length s.now) }
-    ensures most { steps.new ≤ steps.old + most_loads E.table (class_of (kind T.BITS T.SIGNED T.GREATEST)) s.now }
+    ensures most { steps.new ≤ steps.old
+        + most_loads E.table (class_of (kind T.BITS T.SIGNED T.GREATEST)) s.now }
     ensures least { 0 < length s.now → steps.old < steps.new }
     ensures least_skipping { IsTrue skip → steps.old + least_loads E.table s.now ≤ steps.new }
 {
@@ -116,10 +121,11 @@ pub fn prefix_pos<'a, E: Engine, T: Number>(
     }
 }
 
-/// Reads the digits behind a minus from the front of `s` as a negative number of `T`, and tells their
-/// length in bytes.
+/// Reads the digits behind a minus from the front of `s` as a number of `T`, and tells their length in
+/// bytes.
 ///
-/// As `prefix_pos`, but the bound is the magnitude of the least number of `T`.
+/// As `prefix_pos`, but the bound is the magnitude of the least number of `T`, and the number is not
+/// positive.
 ///
 /// # Errors
 ///
@@ -133,7 +139,8 @@ pub fn prefix_neg<'a, E: Engine, T: Signed>(
     ensures answer { typed_prefix_answer T.number result
         ≡ prefix_answer E.table (kind T.BITS T.SIGNED T.GREATEST) true skip s.now }
     ensures within { IfOk result (λ found. found.1 ≤ length s.now) }
-    ensures most { steps.new ≤ steps.old + most_loads E.table (class_of (kind T.BITS T.SIGNED T.GREATEST)) s.now }
+    ensures most { steps.new ≤ steps.old
+        + most_loads E.table (class_of (kind T.BITS T.SIGNED T.GREATEST)) s.now }
     ensures least { 0 < length s.now → steps.old < steps.new }
     ensures least_skipping { IsTrue skip → steps.old + least_loads E.table s.now ≤ steps.new }
 {

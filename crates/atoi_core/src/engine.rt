@@ -1,5 +1,5 @@
 //! What reads windows of a slice, and the parses of wide integers over any such engine.
-//! It stands on `window`, `steps` and `error`, and on no particular engine.
+//! It stands on `window`, `join`, `steps` and `error`, and on no particular engine.
 ghost use Rattle.std.specs.Prelude.{◌≡◌, ◌+◌, ◌<◌, ◌≤◌, ℕ, IsTrue, length};
 ghost use Rattle.atoi_core.specs.Digit.{Table, IsBelowTen};
 ghost use Rattle.atoi_core.specs.Loads.{most_loads, least_loads};
@@ -20,18 +20,18 @@ mod tests;
 /// What reads windows of a slice.
 ///
 /// An engine says what each byte is worth as a digit, and reads the digits at the front of 8 or of
-/// 16 bytes. All parses stand on these two functions. An engine may override the two others under
-/// the same clauses.
+/// 16 bytes. All parses but the whole ones of narrow types stand on these two functions. An engine
+/// may override the two others under the same clauses.
 pub trait Engine {
     /// What each byte is worth as a digit. No code can read it.
     ghost table: { Table };
 
-    /// The first 16 bytes, or all where there are fewer. Adds one step.
+    /// What the first 16 bytes tell, or all where there are fewer. Adds one step.
     fn window(s: &[u8], steps: &mut Steps) -> Window
         ensures window { result ≡ window_of table 16 s.now }
         ensures one_step { steps.new ≡ steps.old + 1 };
 
-    /// The first 8 bytes, or all where there are fewer. Adds one step.
+    /// What the first 8 bytes tell, or all where there are fewer. Adds one step.
     fn window_8(s: &[u8], steps: &mut Steps) -> Window
         ensures window { result ≡ window_of table 8 s.now }
         ensures one_step { steps.new ≡ steps.old + 1 };
@@ -39,14 +39,15 @@ pub trait Engine {
     /// The number at the front of `s`, and how many bytes it has, for an integer of 64 bits.
     ///
     /// `bound` is the greatest number, and has exactly `limit` digits, 17 to 20. With `skip` the
-    /// zeros at the front do not count against `limit`, however many there are. Every digit is
-    /// read, and a byte that is none ends the number.
+    /// zeros at the front do not count against `limit`, however many there are. All digits in a row
+    /// belong to the number, and a byte that is none ends it.
     ///
     /// A turn of this body loads at most two windows: one of 16 bytes, and one of the 8 bytes behind
     /// it where the digits fill the first. A turn that skips loads one, for at most 16 zeros.
     ///
     /// # Errors
     ///
+    /// The first that holds of:
     /// - `Empty`: `s` does not begin with a digit.
     /// - `Size`: more than `limit` digits count. It tells the zeros skipped and at most 24 of the
     ///   digits that count, and holds `s` behind the zeros skipped.
@@ -102,8 +103,8 @@ pub trait Engine {
     /// The number at the front of `s`, and how many bytes it has, for an integer of 128 bits.
     ///
     /// `bound` is the greatest number, and has exactly 39 digits. With `skip` the zeros at the front
-    /// do not count against these, however many there are. Every digit is read, and a byte that is
-    /// none ends the number.
+    /// do not count against these, however many there are. All digits in a row belong to the number,
+    /// and a byte that is none ends it.
     ///
     /// A turn of this body loads at most three windows: two of 16 bytes and one of the 8 bytes behind
     /// them, each only where the digits fill the ones before it. A turn that skips loads one, for at
@@ -111,6 +112,7 @@ pub trait Engine {
     ///
     /// # Errors
     ///
+    /// The first that holds of:
     /// - `Empty`: `s` does not begin with a digit.
     /// - `Size`: more than 39 digits count. It tells the zeros skipped and at most 40 of the digits
     ///   that count, and holds `s` behind the zeros skipped.

@@ -1,5 +1,5 @@
-//! The parses of wide integers from the front of a slice: a run that ends in the first window is
-//! answered in line, a longer one by the engine. It stands on `engine`, `window`, `join`, `steps` and `error`.
+//! The parses of wide integers from the front of a slice: a run that ends in the first window (for 128 bits in the first two)
+//! is answered in line, a longer one by the engine. It stands on `engine`, `window`, `join`, `steps` and `error`.
 ghost use Rattle.std.specs.Prelude.{◌≡◌, ◌+◌, ◌<◌, ◌≤◌, IsTrue, length};
 ghost use Rattle.atoi_core.specs.Loads.{most_loads, least_loads};
 ghost use Rattle.atoi_core.specs.Magnitude.{HasDigits, wide64, wide128, prefix_magnitude};
@@ -133,7 +133,7 @@ pub(crate) fn front_128<'a, E: Engine>(
 }
 
 /// What `Engine::prefix_128` answers, for a slice that is to be read whole: where it has fewer than 32
-/// bytes, the windows are read in line, and else the engine is called at once.
+/// bytes as `front_128` does it, and else the engine is called at once.
 ///
 /// # Errors
 ///
@@ -157,7 +157,7 @@ pub(crate) fn all_128<'a, E: Engine>(
     front_128::<E>(bound, skip, s, steps)
 }
 
-// The same behind a first window that is full of digits and tells no zeros that are skipped.
+// What `front_128` answers behind a first window that is full of digits and tells no zeros that are skipped.
 #[inline(always)]
 fn second_128<'a, E: Engine>(
     bound: u128,

@@ -1,4 +1,4 @@
-//! Numbers joined from the digits of two windows.
+//! Numbers joined from the digits of two windows, or of three.
 //! It stands on `window`.
 ghost use Rattle.std.specs.Prelude.{◌≡◌, ◌+◌, ◌*◌, ◌^◌, ◌<◌, ◌≤◌, nat_lt, if◌then◌else◌};
 
@@ -43,7 +43,8 @@ pub fn power_of_ten(digits: u32) -> u64
 /// `high * power + low` where that is at most `bound`; else none.
 #[inline(always)]
 pub fn up_to_64(bound: u64, high: u64, power: u64, low: u64) -> Option<u64>
-    ensures { result ≡ (if nat_lt bound (high * power + low) then None else Some (high * power + low)) }
+    ensures { result ≡ (if nat_lt bound (high * power + low) then None
+        else Some (high * power + low)) }
 {
     let number = u128::from(high) * u128::from(power) + u128::from(low);
     if number > u128::from(bound) {
@@ -56,7 +57,8 @@ pub fn up_to_64(bound: u64, high: u64, power: u64, low: u64) -> Option<u64>
 /// `high * 10^23 + low` where that is at most `bound`; else none.
 #[inline(always)]
 fn up_to_128(bound: u128, high: u64, low: u128) -> Option<u128>
-    ensures { result ≡ (if nat_lt bound (high * 10 ^ 23 + low) then None else Some (high * 10 ^ 23 + low)) }
+    ensures { result ≡ (if nat_lt bound (high * 10 ^ 23 + low) then None
+        else Some (high * 10 ^ 23 + low)) }
 {
     if high > GREATEST_HIGH {
         return None;
@@ -78,7 +80,8 @@ pub fn joined_128(bound: u128, front: u64, middle: u64, back: Window) -> Option<
     requires middle_high { middle < 10 ^ 16 }
     requires back_short { back.len < 8 }
     requires back_high { back.number < 10 ^ back.len }
-    ensures { let number = front * 10 ^ (16 + back.len) + (middle * 10 ^ back.len + back.number) in result ≡ (if nat_lt bound number then None else Some number) }
+    ensures { let number = front * 10 ^ (16 + back.len) + (middle * 10 ^ back.len + back.number) in
+        result ≡ (if nat_lt bound number then None else Some number) }
 {
     let power = u128::from(power_of_ten(back.len));
     let last = u128::from(back.number);

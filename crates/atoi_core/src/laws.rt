@@ -11,8 +11,9 @@ pub fn text_of_value<T: Number>()
     ensures { TextOfValue (kind T.BITS T.SIGNED T.GREATEST) }
 {}
 
-/// `parse` with both flags on answers `Ok` exactly on the texts of the type: an optional sign, one or
-/// more digits with a value in range, and nothing behind them. The answer is the text's number.
+/// `parse` with both flags on answers `Ok` exactly on the texts of the type: an optional `+`, or `-` where
+/// the type is signed, one or more digits, nothing behind them, and the signed value in the type's
+/// range. The answer is the text's number.
 pub fn accepted_texts<T: Number>()
     ensures { AcceptedTexts (kind T.BITS T.SIGNED T.GREATEST) }
 {}
@@ -35,8 +36,8 @@ pub fn prefix_stops_at_rest<T: Number>()
     ensures { PrefixStopsAtRest (kind T.BITS T.SIGNED T.GREATEST) }
 {}
 
-/// Bytes behind the first byte that is no digit change neither the value nor the count nor the kind
-/// of a prefix's answer.
+/// What stands behind the run of digits changes neither the kind of a prefix's answer, nor its value and
+/// count.
 pub fn rest_changes_nothing<T: Number>()
     ensures { RestChangesNothing (kind T.BITS T.SIGNED T.GREATEST) }
 {}
@@ -61,17 +62,55 @@ pub fn zeros_change_nothing<T: Number>()
 #[cfg(test)]
 mod tests {
     use super::*;
+    use crate::dispatch::{prefix_pos, whole_neg, whole_pos};
+    use crate::error::AtoiSimdError;
+    use crate::plain::Plain;
+    use crate::steps::Steps;
+
+    fn whole(skip: bool, s: &[u8]) -> Result<i64, AtoiSimdError<'_>> {
+        whole_pos::<Plain, i64>(skip, s, &mut Steps::new())
+    }
+
+    fn prefix(skip: bool, s: &[u8]) -> Result<(i64, usize), AtoiSimdError<'_>> {
+        prefix_pos::<Plain, i64>(skip, s, &mut Steps::new())
+    }
 
     #[test]
-    fn each_law_can_be_called(_rt: HostRuntime) {
+    fn laws_of_the_accepted_texts_at_64_bits(rt: HostRuntime) {
+        let least = b"9223372036854775808";
         text_of_value::<i64>();
+        assert_eq!(rt;
+            whole_neg::<Plain, i64>(false, least, &mut Steps::new()),
+            Ok(i64::MIN)
+        );
         accepted_texts::<i64>();
-        prefix_is_whole::<i64>();
-        prefix_of_cut::<i64>();
-        prefix_stops_at_rest::<i64>();
-        rest_changes_nothing::<i64>();
+        assert_eq!(rt; whole(true, b"0007"), Ok(7));
+        assert_eq!(rt; whole(true, b""), Err(AtoiSimdError::Empty));
         skipping_agrees::<i64>();
-        order_and_suffix::<i64>();
+        assert_eq!(rt; whole(false, b"0007"), Ok(7));
+    }
+
+    #[test]
+    fn laws_of_prefixes_at_64_bits(rt: HostRuntime) {
+        prefix_is_whole::<i64>();
+        assert_eq!(rt; prefix(true, b"0007"), Ok((7, 4)));
+        prefix_of_cut::<i64>();
+        rest_changes_nothing::<i64>();
+        assert_eq!(rt; prefix(true, b"0007x8"), Ok((7, 4)));
+        prefix_stops_at_rest::<i64>();
+        assert_eq!(rt; prefix(false, b"7/"), Ok((7, 1)));
         zeros_change_nothing::<i64>();
+        assert_eq!(rt; prefix(true, b"00000007"), Ok((7, 8)));
+    }
+
+    #[test]
+    fn the_law_of_errors_at_64_bits(rt: HostRuntime) {
+        order_and_suffix::<i64>();
+        let number = b"09223372036854775808";
+        assert_eq!(rt;
+            whole(true, number),
+            Err(AtoiSimdError::Overflow(&number[1..]))
+        );
+        assert!(rt; AtoiSimdError::Overflow(&number[1..]) != AtoiSimdError::Overflow(number));
     }
 }

@@ -1,5 +1,5 @@
-//! The parses of integers of up to 32 bits, over any engine.
-//! It stands on `engine`, `steps` and `error`.
+//! The parse of integers of up to 32 bits from the front of a slice, over any engine.
+//! It stands on `engine`, `window`, `steps` and `error`.
 ghost use Rattle.std.specs.Prelude.{◌≡◌, ◌+◌, ◌<◌, ◌≤◌, true, false, nat_lt, if◌then◌else◌, Ok, Err, IsTrue, length, drop};
 ghost use Rattle.atoi_core.specs.Loads.{most_loads, least_loads};
 ghost use Rattle.atoi_core.specs.Magnitude.{narrow, prefix_magnitude};
@@ -19,6 +19,7 @@ use crate::window::Window;
 ///
 /// # Errors
 ///
+/// The first that holds of:
 /// - `Empty`: `s` does not begin with a digit.
 /// - `Overflow`: the number is above `bound`. Without `skip` it holds `s`. With `skip` it holds `s`
 ///   behind the zeros that fill whole windows of 16 bytes, and behind all its zeros where the next

@@ -22,7 +22,7 @@ pub(crate) trait Alphabet {
     ghost below_ten: { IsBelowTen table };
 }
 
-/// The engine that reads byte by byte.
+/// The engine that reads byte by byte. Its digits are the decimal ones.
 pub struct Plain;
 
 impl Alphabet for Plain {

@@ -26,7 +26,8 @@ pub fn take_sign(signed: bool, skip_plus: bool, s: &[u8]) -> (bool, &[u8])
     }
 }
 
-/// The answer of a prefix of the body, with the bytes of the sign before it counted too.
+/// The answer of a prefix of the body, with the bytes of the sign before it counted too. Both counts together
+/// have to stay below 2^64, as those of parts of one slice do.
 #[inline(always)]
 pub fn with_sign<'a, T: Number>(
     taken: usize,

@@ -16,7 +16,7 @@ pub fn decimal(value: u128, out: &mut [u8; 39]) -> usize
     put_decimal(value, out, 0)
 }
 
-// Writes the bytes from `at` on, and answers the place behind them, as each function below does.
+// Writes the bytes from `at` on, and answers the place behind them, as the other functions that put do.
 pub(crate) fn put_bytes(bytes: &[u8], out: &mut [u8], at: usize) -> usize
     requires { at + length bytes.now ≤ length out.old }
     ensures written { take result out.new ≡ take at out.old ++ bytes.now }
@@ -36,7 +36,7 @@ fn put_byte(byte: u8, out: &mut [u8], at: usize) -> usize
     at + 1
 }
 
-// The front of the number, and then its last digit.
+// In decimal, without a leading zero.
 #[tactic(auto, using(std::proofs::lemmas::Fmt::decimal_digit))]
 pub(crate) fn put_decimal(value: u128, out: &mut [u8], at: usize) -> usize
     requires { at + 39 ≤ length out.old }
@@ -80,7 +80,7 @@ fn hex_digit(digit: u8) -> u8
     }
 }
 
-// Each byte in hexadecimal, joined by comma and space: four bytes for each, but two for the last.
+// Each byte in hexadecimal, joined by comma and space: at most four bytes for each, but two for the last.
 pub(crate) fn put_hex_list(bytes: &[u8], out: &mut [u8], at: usize) -> usize
     requires { at + (4 * length bytes.now - 2) ≤ length out.old }
     ensures written { take result out.new ≡ take at out.old ++ hex_list bytes.now }

@@ -17,9 +17,10 @@ use crate::steps::Steps;
 ///
 /// # Errors
 ///
+/// The first that holds of:
 /// - `Empty`: `s` does not begin with a digit.
 /// - `Size`: more than `limit` digits count. It tells the zeros skipped and at most 24 of the
-///   digits that count, and `s` behind the zeros skipped.
+///   digits that count, and holds `s` behind the zeros skipped.
 /// - `Overflow`: the number is above `bound`. It holds `s` behind the zeros skipped.
 /// - `Invalid64`: a byte that is no digit stands behind the digits. It holds their number, their
 ///   count and `s`.
@@ -54,9 +55,10 @@ pub fn whole_64<'a, E: Engine>(
 ///
 /// # Errors
 ///
+/// The first that holds of:
 /// - `Empty`: `s` does not begin with a digit.
 /// - `Size`: more than 39 digits count. It tells the zeros skipped and at most 40 of the digits
-///   that count, and `s` behind the zeros skipped.
+///   that count, and holds `s` behind the zeros skipped.
 /// - `Overflow`: the number is above `bound`. It holds `s` behind the zeros skipped.
 /// - `Invalid128`: a byte that is no digit stands behind the digits. It holds their number, their
 ///   count and `s`.

@@ -1,5 +1,5 @@
 //! The engine that reads a window as one word of eight bytes, or as two.
-//! It stands on `words`, `engine`, `join`, `window` and `steps`, and reads fewer than four bytes as `plain` does.
+//! It stands on `words`, `engine`, `join`, `window`, `steps` and `digit_loop`, and reads fewer than four bytes as `plain` does.
 ghost use Rattle.std.specs.Prelude.{◌≡◌, ◌+◌, ◌^◌, ◌<◌, ◌≤◌, ◌++◌, length, take, drop};
 ghost use Rattle.atoi_core.specs.Digit.{decimal_table};
 ghost use Rattle.atoi_core.specs.Run.{run_len, zeros};
@@ -8,6 +8,7 @@ ghost use Rattle.atoi_core.specs.Words.{low_bytes, low_value, word_of};
 ghost use Rattle.std.proofs.Common.{arith};
 ghost use Rattle.std.proofs.lemmas.Bool.Decides.{nat_tests};
 
+use crate::digit_loop::ZERO;
 use crate::engine::Engine;
 use crate::join;
 use crate::plain::few_bytes;
@@ -106,7 +107,7 @@ fn not_full(len: u32, number: u64) -> Window
     }
 }
 
-// The bytes from 8 on, at most 8. Where the slice ends among them, the last 8 hold them all.
+// The word of the bytes from 8 on, at most 8. Where the slice ends among them, its last 8 hold them all.
 #[inline(always)]
 fn load_next(s: &[u8]) -> u64
     requires { 8 ≤ length s.now }
@@ -143,7 +144,12 @@ fn digits_of(word: u64) -> u32
 {
     let above = word.wrapping_add(0x4646_4646_4646_4646);
     let below = word.wrapping_sub(0x3030_3030_3030_3030);
-    ((above | below) & 0x8080_8080_8080_8080).trailing_zeros() / 8
+    let marks = (above | below) & 0x8080_8080_8080_8080;
+    if marks == 0 {
+        8
+    } else {
+        marks.trailing_zeros() / 8
+    }
 }
 
 // What `process_8` answers of at most 4 bytes, in half the width.
@@ -183,9 +189,6 @@ fn zeroes_of_two(first: u64, next: u64) -> u32
         zeroes
     }
 }
-
-// The byte of the digit zero.
-const ZERO: u64 = 48;
 
 // Ten to the power of the digits of one word.
 #[inline(always)]

@@ -18,7 +18,7 @@ pub fn load_8(s: &[u8]) -> u64
     }
 }
 
-// Fewer than 8 bytes: from 4 on the first 4, and above them those of the last 4 that are left.
+// The word of fewer than 8 bytes.
 #[inline(always)]
 fn load_part(s: &[u8]) -> u64
     requires { length s.now < 8 }
@@ -34,7 +34,7 @@ fn load_part(s: &[u8]) -> u64
     }
 }
 
-// Fewer than 4 bytes.
+// The word of fewer than 4 bytes.
 #[inline(always)]
 fn load_few(s: &[u8]) -> u64
     requires { length s.now < 4 }

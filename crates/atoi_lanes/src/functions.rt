@@ -1,5 +1,5 @@
 //! The ten functions. Each hands its const flags to the trait of its type.
-//! It stands on the three traits.
+//! It stands on the three traits, and on the law of the accepted texts of `atoi_core`.
 ghost use Rattle.std.specs.Prelude.{◌≡◌, ◌≤◌, ◌↔◌, true, false, IsTrue, IsOk, IfOk, length};
 ghost use Rattle.atoi_core.specs.Answer.{typed_answer, typed_prefix_answer, whole_answer, prefix_answer, parse_answer, parse_prefix_answer};
 ghost use Rattle.atoi_core.specs.Digit.{decimal_table};
@@ -15,8 +15,8 @@ use atoi_core::laws::accepted_texts;
 ///
 /// A first `+` is taken where `SKIP_PLUS` is on, and a first `-` where `T` is signed. The body is what stands behind the sign,
 /// or `s`. With `SKIP_ZEROES` any number of leading zeros is accepted; without it they count as digits of a type of 64 or
-/// 128 bits. With both flags on it succeeds exactly on an optional sign, one or more digits, then nothing, with the number
-/// in the type's range.
+/// 128 bits. With both flags on it succeeds exactly on an optional `+`, or `-` where `T` is signed, then one or more digits,
+/// then nothing, with the signed value in the range of `T`.
 ///
 /// `parse::<i64, false, false>(b"-2345")` is `Ok(-2345)`. Mirrors `atoi_simd::parse`.
 ///
@@ -38,8 +38,10 @@ use atoi_core::laws::accepted_texts;
 pub fn parse<T: Parse, const SKIP_ZEROES: bool, const SKIP_PLUS: bool>(
     s: &[u8],
 ) -> Result<T, AtoiSimdError<'_>>
-    ensures answer { typed_answer T.number result ≡ parse_answer (kind T.BITS T.SIGNED T.GREATEST) SKIP_ZEROES SKIP_PLUS s.now }
-    ensures texts { IsTrue SKIP_ZEROES → IsTrue SKIP_PLUS → (IsOk result ↔ IsText (kind T.BITS T.SIGNED T.GREATEST) s.now) }
+    ensures answer { typed_answer T.number result
+        ≡ parse_answer (kind T.BITS T.SIGNED T.GREATEST) SKIP_ZEROES SKIP_PLUS s.now }
+    ensures texts { IsTrue SKIP_ZEROES → IsTrue SKIP_PLUS
+        → (IsOk result ↔ IsText (kind T.BITS T.SIGNED T.GREATEST) s.now) }
 {
     // The law that `texts` stands on. The call does nothing.
     accepted_texts::<T>();
@@ -64,7 +66,8 @@ pub fn parse<T: Parse, const SKIP_ZEROES: bool, const SKIP_PLUS: bool>(
 /// What an error carries is told at `parse`; the body is `s`.
 #[inline(always)]
 pub fn parse_pos<T: Parse, const SKIP_ZEROES: bool>(s: &[u8]) -> Result<T, AtoiSimdError<'_>>
-    ensures answer { typed_answer T.number result ≡ whole_answer decimal_table (kind T.BITS T.SIGNED T.GREATEST) false SKIP_ZEROES s.now }
+    ensures answer { typed_answer T.number result
+        ≡ whole_answer decimal_table (kind T.BITS T.SIGNED T.GREATEST) false SKIP_ZEROES s.now }
 {
     T::atoi_simd_parse_pos(s, SKIP_ZEROES)
 }
@@ -87,7 +90,8 @@ pub fn parse_pos<T: Parse, const SKIP_ZEROES: bool>(s: &[u8]) -> Result<T, AtoiS
 /// What an error carries is told at `parse`; the body is `s`, and the number of an error is a magnitude.
 #[inline(always)]
 pub fn parse_neg<T: ParseNeg, const SKIP_ZEROES: bool>(s: &[u8]) -> Result<T, AtoiSimdError<'_>>
-    ensures answer { typed_answer T.number result ≡ whole_answer decimal_table (kind T.BITS T.SIGNED T.GREATEST) true SKIP_ZEROES s.now }
+    ensures answer { typed_answer T.number result
+        ≡ whole_answer decimal_table (kind T.BITS T.SIGNED T.GREATEST) true SKIP_ZEROES s.now }
 {
     T::atoi_simd_parse_neg(s, SKIP_ZEROES)
 }
@@ -116,7 +120,8 @@ pub fn parse_neg<T: ParseNeg, const SKIP_ZEROES: bool>(s: &[u8]) -> Result<T, At
 pub fn parse_prefix<T: Parse, const SKIP_ZEROES: bool, const SKIP_PLUS: bool>(
     s: &[u8],
 ) -> Result<(T, usize), AtoiSimdError<'_>>
-    ensures answer { typed_prefix_answer T.number result ≡ parse_prefix_answer (kind T.BITS T.SIGNED T.GREATEST) SKIP_ZEROES SKIP_PLUS s.now }
+    ensures answer { typed_prefix_answer T.number result
+        ≡ parse_prefix_answer (kind T.BITS T.SIGNED T.GREATEST) SKIP_ZEROES SKIP_PLUS s.now }
     ensures within { IfOk result (λ found. found.1 ≤ length s.now) }
 {
     T::atoi_simd_parse_prefix(s, SKIP_ZEROES, SKIP_PLUS)
@@ -143,7 +148,8 @@ pub fn parse_prefix<T: Parse, const SKIP_ZEROES: bool, const SKIP_PLUS: bool>(
 pub fn parse_prefix_pos<T: Parse, const SKIP_ZEROES: bool>(
     s: &[u8],
 ) -> Result<(T, usize), AtoiSimdError<'_>>
-    ensures answer { typed_prefix_answer T.number result ≡ prefix_answer decimal_table (kind T.BITS T.SIGNED T.GREATEST) false SKIP_ZEROES s.now }
+    ensures answer { typed_prefix_answer T.number result
+        ≡ prefix_answer decimal_table (kind T.BITS T.SIGNED T.GREATEST) false SKIP_ZEROES s.now }
     ensures within { IfOk result (λ found. found.1 ≤ length s.now) }
 {
     T::atoi_simd_parse_prefix_pos(s, SKIP_ZEROES)
@@ -171,7 +177,8 @@ pub fn parse_prefix_pos<T: Parse, const SKIP_ZEROES: bool>(
 pub fn parse_prefix_neg<T: ParseNeg, const SKIP_ZEROES: bool>(
     s: &[u8],
 ) -> Result<(T, usize), AtoiSimdError<'_>>
-    ensures answer { typed_prefix_answer T.number result ≡ prefix_answer decimal_table (kind T.BITS T.SIGNED T.GREATEST) true SKIP_ZEROES s.now }
+    ensures answer { typed_prefix_answer T.number result
+        ≡ prefix_answer decimal_table (kind T.BITS T.SIGNED T.GREATEST) true SKIP_ZEROES s.now }
     ensures within { IfOk result (λ found. found.1 ≤ length s.now) }
 {
     T::atoi_simd_parse_prefix_neg(s, SKIP_ZEROES)
@@ -182,7 +189,8 @@ pub fn parse_prefix_neg<T: ParseNeg, const SKIP_ZEROES: bool>(
 /// `parse_skipped::<isize>(b"+007")` is `Ok(7)`. Mirrors `atoi_simd::parse_skipped`.
 #[inline(always)]
 pub fn parse_skipped<T: Parse>(s: &[u8]) -> Result<T, AtoiSimdError<'_>>
-    ensures answer { typed_answer T.number result ≡ parse_answer (kind T.BITS T.SIGNED T.GREATEST) true true s.now }
+    ensures answer { typed_answer T.number result
+        ≡ parse_answer (kind T.BITS T.SIGNED T.GREATEST) true true s.now }
     ensures texts { IsOk result ↔ IsText (kind T.BITS T.SIGNED T.GREATEST) s.now }
 {
     parse::<T, true, true>(s)
@@ -193,7 +201,8 @@ pub fn parse_skipped<T: Parse>(s: &[u8]) -> Result<T, AtoiSimdError<'_>>
 /// `parse_any::<usize>(b"7 ")` is `Ok((7, 1))`. Mirrors `atoi_simd::parse_any`.
 #[inline(always)]
 pub fn parse_any<T: Parse>(s: &[u8]) -> Result<(T, usize), AtoiSimdError<'_>>
-    ensures answer { typed_prefix_answer T.number result ≡ parse_prefix_answer (kind T.BITS T.SIGNED T.GREATEST) false false s.now }
+    ensures answer { typed_prefix_answer T.number result
+        ≡ parse_prefix_answer (kind T.BITS T.SIGNED T.GREATEST) false false s.now }
     ensures within { IfOk result (λ found. found.1 ≤ length s.now) }
 {
     parse_prefix::<T, false, false>(s)
@@ -204,7 +213,8 @@ pub fn parse_any<T: Parse>(s: &[u8]) -> Result<(T, usize), AtoiSimdError<'_>>
 /// `parse_any_pos::<u8>(b"255.")` is `Ok((255, 3))`. Mirrors `atoi_simd::parse_any_pos`.
 #[inline(always)]
 pub fn parse_any_pos<T: Parse>(s: &[u8]) -> Result<(T, usize), AtoiSimdError<'_>>
-    ensures answer { typed_prefix_answer T.number result ≡ prefix_answer decimal_table (kind T.BITS T.SIGNED T.GREATEST) false false s.now }
+    ensures answer { typed_prefix_answer T.number result
+        ≡ prefix_answer decimal_table (kind T.BITS T.SIGNED T.GREATEST) false false s.now }
     ensures within { IfOk result (λ found. found.1 ≤ length s.now) }
 {
     parse_prefix_pos::<T, false>(s)
@@ -215,7 +225,8 @@ pub fn parse_any_pos<T: Parse>(s: &[u8]) -> Result<(T, usize), AtoiSimdError<'_>
 /// `parse_any_neg::<i16>(b"1-")` is `Ok((-1, 1))`. Mirrors `atoi_simd::parse_any_neg`.
 #[inline(always)]
 pub fn parse_any_neg<T: ParseNeg>(s: &[u8]) -> Result<(T, usize), AtoiSimdError<'_>>
-    ensures answer { typed_prefix_answer T.number result ≡ prefix_answer decimal_table (kind T.BITS T.SIGNED T.GREATEST) true false s.now }
+    ensures answer { typed_prefix_answer T.number result
+        ≡ prefix_answer decimal_table (kind T.BITS T.SIGNED T.GREATEST) true false s.now }
     ensures within { IfOk result (λ found. found.1 ≤ length s.now) }
 {
     parse_prefix_neg::<T, false>(s)

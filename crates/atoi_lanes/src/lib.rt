@@ -1,5 +1,5 @@
 //! The engine of `atoi_core` on vector lanes, which compares, multiplies and adds sixteen bytes at once, and the ten functions of
-//! `atoi_simd` on it, under the same names, with the same signatures and answers.
+//! `atoi_simd` on it, under the same names, with the same signatures and answers. It stands on `atoi_core`.
 #![tactic(auto)]
 
 mod any_sign;

@@ -1,5 +1,5 @@
 //! `ParseNeg` and its six types: the digits of a negative number, without a sign.
-//! It stands on the parses of `atoi_core` by class of type, over the crate's reader.
+//! It stands on `Signed`, `Steps` and the parses of `atoi_core` by class of type, over the crate's reader.
 ghost use Rattle.std.specs.Prelude.{◌≡◌, ◌≤◌, true, IfOk, length};
 ghost use Rattle.atoi_core.specs.Answer.{typed_answer, typed_prefix_answer, whole_answer, prefix_answer};
 ghost use Rattle.atoi_core.specs.Digit.{decimal_table};
@@ -42,7 +42,7 @@ pub trait ParseNeg: Signed {
     ///
     /// # Errors
     ///
-    /// `Empty`, `Size` and `Overflow`, as of `atoi_simd_parse_neg`.
+    /// `Empty`, `Size` and `Overflow`, as of `atoi_simd_parse_neg`. The slice of an `Overflow` is told at `parse_prefix`.
     fn atoi_simd_parse_prefix_neg(
         s: &[u8],
         skip_zeroes: bool,

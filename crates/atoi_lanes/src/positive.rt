@@ -1,5 +1,5 @@
 //! `ParsePos` and its twelve types: the digits of a number that is not negative, without a sign.
-//! It stands on the parses of `atoi_core` by class of type, over the crate's reader.
+//! It stands on `Number`, `Steps` and the parses of `atoi_core` by class of type, over the crate's reader.
 ghost use Rattle.std.specs.Prelude.{◌≡◌, ◌≤◌, false, IfOk, length};
 ghost use Rattle.atoi_core.specs.Answer.{typed_answer, typed_prefix_answer, whole_answer, prefix_answer};
 ghost use Rattle.atoi_core.specs.Digit.{decimal_table};
@@ -40,7 +40,7 @@ pub trait ParsePos: Number {
     ///
     /// # Errors
     ///
-    /// `Empty`, `Size` and `Overflow`, as of `atoi_simd_parse_pos`.
+    /// `Empty`, `Size` and `Overflow`, as of `atoi_simd_parse_pos`. The slice of an `Overflow` is told at `parse_prefix`.
     fn atoi_simd_parse_prefix_pos(
         s: &[u8],
         skip_zeroes: bool,

@@ -1,4 +1,4 @@
 //! The engine that the crate's parses read by: lanes of `std::simd`.
-//! No other file of the crate names it.
+//! It stands on that engine alone, and no parse of the crate names the engine itself.
 
 pub(crate) type Reader = crate::lanes::Lanes;

@@ -40,7 +40,7 @@ pub trait Parse: ParsePos {
     ///
     /// # Errors
     ///
-    /// `Empty`, `Size` and `Overflow`, as of `atoi_simd_parse`.
+    /// `Empty`, `Size` and `Overflow`, as of `atoi_simd_parse`. The slice of an `Overflow` is told at `parse_prefix`.
     fn atoi_simd_parse_prefix(
         s: &[u8],
         skip_zeroes: bool,

@@ -1,5 +1,5 @@
 //! The answer to one line.
-//! It stands on `row`, `calls` and `printed`.
+//! It stands on `row`, `request`, `calls`, `printed` and `line`.
 ghost use Rattle.std.specs.Prelude.{◌≡◌, ◌≤◌, [], true, false, length};
 ghost use Rattle.atoi_core.specs.Kind.{kind};
 ghost use Rattle.atoi_tool.specs.Request.{is_known, is_negative};
@@ -16,7 +16,8 @@ use atoi_simd::lanes;
 fn answer_any<T: atoi_simd::Parse + lanes::Parse>(request: &Request, text: &[u8], out: &mut Line)
     requires call { is_negative request.now.call ≡ false }
     requires empty { out.old ≡ [] }
-    ensures text { out.new ≡ call_text request.now.call (kind T.BITS T.SIGNED T.GREATEST) request.now.flags text.now }
+    ensures text { out.new
+        ≡ call_text request.now.call (kind T.BITS T.SIGNED T.GREATEST) request.now.flags text.now }
     ensures length { length out.new ≤ 336 }
 {
     let Request { engine, flags, .. } = *request;
@@ -36,7 +37,8 @@ fn answer_signed<T: atoi_simd::Parse + lanes::Parse + atoi_simd::ParseNeg + lane
     out: &mut Line,
 )
     requires empty { out.old ≡ [] }
-    ensures text { out.new ≡ call_text request.now.call (kind T.BITS T.SIGNED T.GREATEST) request.now.flags text.now }
+    ensures text { out.new
+        ≡ call_text request.now.call (kind T.BITS T.SIGNED T.GREATEST) request.now.flags text.now }
     ensures length { length out.new ≤ 336 }
 {
     let Request { engine, flags, .. } = *request;

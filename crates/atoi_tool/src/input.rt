@@ -1,5 +1,5 @@
 //! The input as a whole.
-//! It stands on the trait `Source`.
+//! It stands on the trait `Source`, and on `status` for what stops it.
 ghost use Rattle.std.specs.Prelude.{◌≡◌, ◌≢◌, IfOk, IfErr, OnOk};
 ghost use Rattle.std.specs.Io.KnownBytes.{Consumes, IsAtEnd};
 ghost use Rattle.atoi_tool.specs.ReadAll.{ReadAllCounts};
@@ -13,10 +13,14 @@ const PART: usize = 4096;
 
 /// All bytes of `input` up to its end.
 ///
-/// Answers `Read` where a `take` was refused, and `Memory` where the vector could not grow. Nothing is
-/// handed back then, and what was taken from the source stays taken.
+/// # Errors
+///
+/// `Read` where a `take` was refused, and `Memory` where the vector could not grow: for a source that
+/// never ends, at the latest where it cannot be longer. Nothing is handed back then, and what was taken
+/// from the source stays taken.
 pub fn read_all<S: Source>(alloc: Global, input: &mut S) -> Result<Vec<u8>, ToolError>
-    ensures all { IfOk result (λ bytes. Consumes (S.rest input.old) (S.rest input.new) bytes.items) }
+    ensures all { IfOk result
+        (λ bytes. Consumes (S.rest input.old) (S.rest input.new) bytes.items) }
     ensures end { OnOk result (IsAtEnd (S.rest input.new)) }
     ensures reads { ReadAllCounts (S.failures input.old) (S.failures input.new) result }
 {

@@ -1,5 +1,5 @@
 //! The answers to all lines of an input, written to a sink.
-//! It stands on the trait `Sink`, and on the answer to one line.
+//! It stands on the trait `Sink`, on the answer to one line, and on `line`, `place`, `refused` and `status`.
 ghost use Rattle.std.specs.Prelude.{◌≡◌, ◌+◌, ◌<◌, [], ◌∷◌, length, IfOk, IfErr, OnOk, OnErr};
 ghost use Rattle.std.specs.Io.KnownBytes.{Appends};
 ghost use Rattle.atoi_tool.specs.Failures.{failures_of, AppendsFront};
@@ -40,9 +40,11 @@ fn put_all<S: Sink>(bytes: &[u8], output: &mut S) -> Result<(), Refused>
 
 /// Writes the answer to one line, and answers whether the line is good.
 fn put_answer<S: Sink>(line: &[u8], output: &mut S) -> Result<bool, Refused>
-    ensures ok { OnOk result (Appends (S.held output.old) (S.held output.new) (line_output line.now)) }
+    ensures ok { OnOk result
+        (Appends (S.held output.old) (S.held output.new) (line_output line.now)) }
     ensures good { IfOk result (λ good. good ≡ is_good_line line.now) }
-    ensures err { OnErr result (AppendsFront (S.held output.old) (S.held output.new) (line_output line.now)) }
+    ensures err { OnErr result
+        (AppendsFront (S.held output.old) (S.held output.new) (line_output line.now)) }
     ensures failures { S.failures output.new ≡ S.failures output.old + failures_of result }
 {
     let mut text = Line::new();
@@ -59,9 +61,11 @@ fn put_answer<S: Sink>(line: &[u8], output: &mut S) -> Result<bool, Refused>
 /// `Write` where a put was refused, and then a beginning of the whole output was written. It takes no
 /// memory of its own and reads nothing, so it answers no other error.
 pub fn answer_lines<S: Sink>(input: &[u8], output: &mut S) -> Result<bool, ToolError>
-    ensures output { OnOk result (Appends (S.held output.old) (S.held output.new) (output_of input.now)) }
+    ensures output { OnOk result
+        (Appends (S.held output.old) (S.held output.new) (output_of input.now)) }
     ensures good { IfOk result (λ good. good ≡ is_good_input input.now) }
-    ensures front { OnErr result (AppendsFront (S.held output.old) (S.held output.new) (output_of input.now)) }
+    ensures front { OnErr result
+        (AppendsFront (S.held output.old) (S.held output.new) (output_of input.now)) }
     ensures write { IfErr result (λ error. error ≡ ToolError.Write) }
     ensures failures { S.failures output.new ≡ S.failures output.old + failures_of result }
 {

@@ -15,17 +15,17 @@ pub enum Engine {
 /// Which function parses.
 #[derive(Clone, Copy, Debug, PartialEq, Eq)]
 pub enum Call {
-    /// `parse`: a sign and a whole text.
+    /// `parse`: at most one sign and a whole text.
     Parse,
     /// `pos`: a whole text with no sign.
     Pos,
-    /// `neg`: a whole text with no sign, read as a negative number.
+    /// `neg`: a whole text with no sign, the magnitude of a number that is not positive.
     Neg,
-    /// `prefix`: a sign and the number at the front.
+    /// `prefix`: at most one sign and the number at the front.
     Prefix,
     /// `prefix_pos`: the number at the front, with no sign.
     PrefixPos,
-    /// `prefix_neg`: the number at the front, with no sign, read as a negative number.
+    /// `prefix_neg`: the number at the front, with no sign, the magnitude of one that is not positive.
     PrefixNeg,
 }
 

@@ -1,5 +1,5 @@
 //! Worked rows of the wide loops, on `Plain` and on two other alphabets.
-//! They stand on the engines alone.
+//! They stand on `engine`, `steps`, `error` and these engines.
 ghost use Rattle.atoi_core.specs.Magnitude.{HasDigits};
 
 use super::alphabets::{BothCases, Letters};

@@ -1,6 +1,13 @@
--- The marks of eight bytes.
+-- The marks of eight bytes: none is set, or the trailing bytes of 0 are counted.
+use Rattle.std.proofs.Common.{◌/◌, sym, ap, ◌∙◌}
+use Rattle.std.specs.Int.Count.{count_trailing_zeros}
 use Rattle.atoi_core.proofs.WordRuns.{marks_counted}
 use Rattle.atoi_core.proofs.word_engine.digits_of.Goals as goal
 
-pub returns-clause-len : goal.returns-clause-len
-returns-clause-len c = marks_counted 8 c.args.word
+pub returns-then-marks-eq0-clause-len : goal.returns-then-marks-eq0-clause-len
+unfolding count_trailing_zeros
+returns-then-marks-eq0-clause-len c =
+    ap (λ marks. count_trailing_zeros 64 marks / 8) (sym c.if-marks-eq0.true) ∙ marks_counted 8 c.args.word
+
+pub returns-else-marks-eq0-clause-len : goal.returns-else-marks-eq0-clause-len
+returns-else-marks-eq0-clause-len c = marks_counted 8 c.args.word
