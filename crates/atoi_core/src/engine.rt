@@ -42,8 +42,8 @@ pub trait Engine {
     /// zeros at the front do not count against `limit`, however many there are. All digits in a row
     /// belong to the number, and a byte that is none ends it.
     ///
-    /// A turn loads at most two windows: one of 16 bytes, and one of the 8 bytes behind it where the
-    /// digits fill the first. A turn that skips loads one, for at most 16 zeros.
+    /// A turn of this body loads at most two windows: one of 16 bytes, and one of the 8 bytes behind
+    /// it where the digits fill the first. A turn that skips loads one, for at most 16 zeros.
     ///
     /// # Errors
     ///
@@ -106,9 +106,9 @@ pub trait Engine {
     /// do not count against these, however many there are. All digits in a row belong to the number,
     /// and a byte that is none ends it.
     ///
-    /// A turn loads at most three windows: two of 16 bytes and one of the 8 bytes behind them, each
-    /// only where the digits fill the ones before it. A turn that skips loads one, for at most 16
-    /// zeros.
+    /// A turn of this body loads at most three windows: two of 16 bytes and one of the 8 bytes behind
+    /// them, each only where the digits fill the ones before it. A turn that skips loads one, for at
+    /// most 16 zeros.
     ///
     /// # Errors
     ///

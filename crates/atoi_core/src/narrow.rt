@@ -1,6 +1,6 @@
 //! The parse of integers of up to 32 bits from the front of a slice, over any engine.
 //! It stands on `engine`, `window`, `steps` and `error`.
-ghost use Rattle.std.specs.Prelude.{◌≡◌, ◌+◌, ◌<◌, ◌≤◌, true, nat_lt, if◌then◌else◌, Ok, Err, IsTrue, length, drop};
+ghost use Rattle.std.specs.Prelude.{◌≡◌, ◌+◌, ◌<◌, ◌≤◌, true, false, nat_lt, if◌then◌else◌, Ok, Err, IsTrue, length, drop};
 ghost use Rattle.atoi_core.specs.Loads.{most_loads, least_loads};
 ghost use Rattle.atoi_core.specs.Magnitude.{narrow, prefix_magnitude};
 ghost use Rattle.atoi_core.specs.Refusal.{answer_of, overflow};
@@ -35,6 +35,7 @@ pub fn narrow_prefix<'a, E: Engine>(
     requires high { bound ≤ 4294967295 }
     ensures answer { answer_of result ≡ prefix_magnitude E.table narrow bound 0 skip s.now }
     ensures most { steps.new ≤ steps.old + most_loads E.table narrow s.now }
+    ensures one { skip ≡ false → steps.new ≡ steps.old + 1 }
     ensures least { 0 < length s.now → steps.old < steps.new }
     ensures least_skipping { IsTrue skip → steps.old + least_loads E.table s.now ≤ steps.new }
 {

@@ -1,7 +1,7 @@
 //! The engine that reads a window byte by byte: the reference for the faster ones.
 //! It stands on `engine`, `window`, `steps` and the one decimal digit of `digit_loop`.
 ghost use Rattle.std.specs.Prelude.{◌≡◌, ◌<◌, ◌≤◌, length};
-ghost use Rattle.atoi_core.specs.Digit.{decimal_table};
+ghost use Rattle.atoi_core.specs.Digit.{Table, IsBelowTen, decimal_table};
 ghost use Rattle.atoi_core.specs.Run.{run_len, run, value, zeros};
 ghost use Rattle.atoi_core.specs.Window.{window_of};
 ghost use Rattle.std.proofs.Common.{arith};
@@ -12,34 +12,55 @@ use crate::engine::Engine;
 use crate::steps::Steps;
 use crate::window::Window;
 
+/// What each byte is worth, as code can ask. The tests have engines of other digits.
+pub(crate) trait Alphabet {
+    ghost table: { Table };
+
+    fn worth(byte: u8) -> Option<u64>
+        ensures { result ≡ table byte };
+
+    ghost below_ten: { IsBelowTen table };
+}
+
 /// The engine that reads byte by byte. Its digits are the decimal ones.
 pub struct Plain;
+
+impl Alphabet for Plain {
+    ghost table = { decimal_table };
+
+    #[inline(always)]
+    fn worth(byte: u8) -> Option<u64> {
+        digit(byte)
+    }
+
+    ghost below_ten = { λ byte. Prim.grind (arith, nat_tests) };
+}
 
 impl Engine for Plain {
     ghost table = { decimal_table };
 
     fn window(s: &[u8], steps: &mut Steps) -> Window {
         steps.tick();
-        front_of(16, s)
+        front_of::<Plain>(16, s)
     }
 
     fn window_8(s: &[u8], steps: &mut Steps) -> Window {
         steps.tick();
-        front_of(8, s)
+        front_of::<Plain>(8, s)
     }
 
     ghost below_ten = { λ byte. Prim.grind (arith, nat_tests) };
 }
 
 // The window of `size` bytes.
-fn front_of(size: usize, s: &[u8]) -> Window
+pub(crate) fn front_of<A: Alphabet>(size: usize, s: &[u8]) -> Window
     requires { size ≤ 16 }
-    ensures { result ≡ window_of decimal_table size s.now }
+    ensures { result ≡ window_of A.table size s.now }
 {
     let front = &s[..size.min(s.len())];
-    let (len, number) = read_run(front);
+    let (len, number) = read_run::<A>(front);
     let zeroes = if len as usize == size {
-        count_zeros(front)
+        count_zeros::<A>(front)
     } else {
         0
     };
@@ -56,7 +77,7 @@ pub(crate) fn few_bytes(s: &[u8]) -> Window
     requires { length s.now < 16 }
     ensures { result ≡ window_of decimal_table 16 s.now }
 {
-    let (len, number) = read_run(s);
+    let (len, number) = read_run::<Plain>(s);
     Window {
         len,
         zeroes: 0,
@@ -66,14 +87,13 @@ pub(crate) fn few_bytes(s: &[u8]) -> Window
 
 // How many digits `s` begins with, and the number that they write.
 #[inline(always)]
-fn read_run(s: &[u8]) -> (u32, u64)
+fn read_run<A: Alphabet>(s: &[u8]) -> (u32, u64)
     requires { length s.now ≤ 16 }
-    ensures { result
-        ≡ (run_len decimal_table s.now, value decimal_table (run decimal_table s.now)) }
+    ensures { result ≡ (run_len A.table s.now, value A.table (run A.table s.now)) }
 {
     let mut number = 0;
     for (len, byte) in s.iter().enumerate() {
-        let Some(worth) = digit(*byte) else {
+        let Some(worth) = A::worth(*byte) else {
             return (len as u32, number);
         };
         number = number * 10 + worth;
@@ -82,12 +102,12 @@ fn read_run(s: &[u8]) -> (u32, u64)
 }
 
 // How many zeros `s` begins with.
-fn count_zeros(s: &[u8]) -> u32
+fn count_zeros<A: Alphabet>(s: &[u8]) -> u32
     requires { length s.now ≤ 16 }
-    ensures { result ≡ zeros decimal_table s.now }
+    ensures { result ≡ zeros A.table s.now }
 {
     for (at, byte) in s.iter().enumerate() {
-        if digit(*byte) != Some(0) {
+        if A::worth(*byte) != Some(0) {
             return at as u32;
         }
     }

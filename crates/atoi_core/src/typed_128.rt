@@ -42,6 +42,7 @@ fn least_128<T: Signed>() -> u128
 ///
 /// `Empty`, `Size`, `Overflow` and `Invalid128`, as of `whole_128` with the bound of the type.
 #[inline(always)]
+#[tactic(auto, using(crate::proofs::AnswerLemmas::whole_in_bounds))]
 pub fn whole_128_pos<'a, E: Engine, T: Number>(
     skip: bool,
     s: &'a [u8],
@@ -69,6 +70,7 @@ pub fn whole_128_pos<'a, E: Engine, T: Number>(
 ///
 /// `Empty`, `Size`, `Overflow` and `Invalid128`, as of `whole_128` with the bound of the type.
 #[inline(always)]
+#[tactic(auto, using(crate::proofs::AnswerLemmas::whole_in_bounds))]
 pub fn whole_128_neg<'a, E: Engine, T: Signed>(
     skip: bool,
     s: &'a [u8],

@@ -53,6 +53,7 @@ fn limit_64<T: Number>() -> u32
 ///
 /// `Empty`, `Size`, `Overflow` and `Invalid64`, as of `whole_64` with the bound of the type.
 #[inline(always)]
+#[tactic(auto, using(crate::proofs::AnswerLemmas::whole_in_bounds))]
 pub fn whole_64_pos<'a, E: Engine, T: Number>(
     skip: bool,
     s: &'a [u8],
@@ -80,6 +81,7 @@ pub fn whole_64_pos<'a, E: Engine, T: Number>(
 ///
 /// `Empty`, `Size`, `Overflow` and `Invalid64`, as of `whole_64` with the bound of the type.
 #[inline(always)]
+#[tactic(auto, using(crate::proofs::AnswerLemmas::whole_in_bounds))]
 pub fn whole_64_neg<'a, E: Engine, T: Signed>(
     skip: bool,
     s: &'a [u8],

@@ -45,7 +45,7 @@ fn narrow_least<T: Signed>() -> u64
 ///
 /// `Empty`, `Overflow` and `Invalid64`, as of `narrow_whole` with the bound of the type.
 #[inline(always)]
-#[tactic(auto, using(crate::proofs::AnswerLemmas::narrow_whole_limit))]
+#[tactic(auto, using(crate::proofs::AnswerLemmas::narrow_whole_limit, crate::proofs::AnswerLemmas::whole_in_bounds))]
 pub fn narrow_whole_pos<'a, E: Engine, T: Number>(
     _skip: bool,
     s: &'a [u8],
@@ -71,7 +71,7 @@ pub fn narrow_whole_pos<'a, E: Engine, T: Number>(
 ///
 /// `Empty`, `Overflow` and `Invalid64`, as of `narrow_whole` with the bound of the type.
 #[inline(always)]
-#[tactic(auto, using(crate::proofs::AnswerLemmas::narrow_whole_limit))]
+#[tactic(auto, using(crate::proofs::AnswerLemmas::narrow_whole_limit, crate::proofs::AnswerLemmas::whole_in_bounds))]
 pub fn narrow_whole_neg<'a, E: Engine, T: Signed>(
     _skip: bool,
     s: &'a [u8],

@@ -4,20 +4,23 @@ ghost use Rattle.std.specs.Prelude.{◌≤◌};
 
 use atoi_core::decimal;
 use atoi_simd::{lanes, parse};
+use std::fmt::Debug;
 use std::process::Abort;
 
-fn check_u8(rt: &impl Abort, text: &[u8], value: u8) {
-    assert_eq!(rt; parse::<u8, false, false>(text), Ok(value));
-    assert_eq!(rt; parse::<u8, false, true>(text), Ok(value));
-    assert_eq!(rt; parse::<u8, true, false>(text), Ok(value));
-    assert_eq!(rt; parse::<u8, true, true>(text), Ok(value));
-}
-
-fn check_u8_in_lanes(rt: &impl Abort, text: &[u8], value: u8) {
-    assert_eq!(rt; lanes::parse::<u8, false, false>(text), Ok(value));
-    assert_eq!(rt; lanes::parse::<u8, false, true>(text), Ok(value));
-    assert_eq!(rt; lanes::parse::<u8, true, false>(text), Ok(value));
-    assert_eq!(rt; lanes::parse::<u8, true, true>(text), Ok(value));
+// Both crates parse the text to the value, whatever the flags.
+fn check<T: atoi_simd::Parse + lanes::Parse + Debug + PartialEq>(
+    rt: &impl Abort,
+    text: &[u8],
+    value: T,
+) {
+    assert_eq!(rt; parse::<T, false, false>(text), Ok(value));
+    assert_eq!(rt; parse::<T, false, true>(text), Ok(value));
+    assert_eq!(rt; parse::<T, true, false>(text), Ok(value));
+    assert_eq!(rt; parse::<T, true, true>(text), Ok(value));
+    assert_eq!(rt; lanes::parse::<T, false, false>(text), Ok(value));
+    assert_eq!(rt; lanes::parse::<T, false, true>(text), Ok(value));
+    assert_eq!(rt; lanes::parse::<T, true, false>(text), Ok(value));
+    assert_eq!(rt; lanes::parse::<T, true, true>(text), Ok(value));
 }
 
 #[test]
@@ -25,23 +28,8 @@ fn every_u8(rt: HostRuntime) {
     for value in 0..=255u8 {
         let mut digits = [b'?'; 39];
         let length = decimal(u128::from(value), &mut digits);
-        check_u8(&rt, &digits[..length], value);
-        check_u8_in_lanes(&rt, &digits[..length], value);
+        check(&rt, &digits[..length], value);
     }
-}
-
-fn check_i8(rt: &impl Abort, text: &[u8], value: i8) {
-    assert_eq!(rt; parse::<i8, false, false>(text), Ok(value));
-    assert_eq!(rt; parse::<i8, false, true>(text), Ok(value));
-    assert_eq!(rt; parse::<i8, true, false>(text), Ok(value));
-    assert_eq!(rt; parse::<i8, true, true>(text), Ok(value));
-}
-
-fn check_i8_in_lanes(rt: &impl Abort, text: &[u8], value: i8) {
-    assert_eq!(rt; lanes::parse::<i8, false, false>(text), Ok(value));
-    assert_eq!(rt; lanes::parse::<i8, false, true>(text), Ok(value));
-    assert_eq!(rt; lanes::parse::<i8, true, false>(text), Ok(value));
-    assert_eq!(rt; lanes::parse::<i8, true, true>(text), Ok(value));
 }
 
 // Puts the decimal text of the magnitude of `value` behind the first byte of `out`, and answers its length.
@@ -60,7 +48,6 @@ fn every_i8(rt: HostRuntime) {
         let mut text = [b'-'; 40];
         let length = put_magnitude(value, &mut text);
         let start = if value < 0 { 0 } else { 1 };
-        check_i8(&rt, &text[start..=length], value);
-        check_i8_in_lanes(&rt, &text[start..=length], value);
+        check(&rt, &text[start..=length], value);
     }
 }

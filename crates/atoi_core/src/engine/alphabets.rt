@@ -1,25 +1,13 @@
 //! Two engines of other digits, for tests: what is generic over engines goes by any table.
-//! It stands on `engine`, `window` and `steps`.
+//! It stands on `plain`, which reads byte by byte by any of them.
 ghost use Rattle.std.proofs.Common.{arith};
 ghost use Rattle.std.proofs.lemmas.Bool.Decides.{nat_tests};
-ghost use Rattle.std.specs.Prelude.{◌≡◌, ◌≤◌, ◌-◌, ◌&&◌, nat_le, length, Some, None, if◌then◌else◌};
-ghost use Rattle.atoi_core.specs.Digit.{Table, IsBelowTen};
-ghost use Rattle.atoi_core.specs.Run.{run_len, run, value, zeros};
-ghost use Rattle.atoi_core.specs.Window.{window_of};
+ghost use Rattle.std.specs.Prelude.{◌-◌, ◌&&◌, nat_le, Some, None, if◌then◌else◌};
 
 use crate::engine::Engine;
+use crate::plain::{Alphabet, front_of};
 use crate::steps::Steps;
 use crate::window::Window;
-
-// What each byte is worth.
-trait Alphabet {
-    ghost table: { Table };
-
-    fn worth(byte: u8) -> Option<u64>
-        ensures { result ≡ table byte };
-
-    ghost below_ten: { IsBelowTen table };
-}
 
 /// The letters `A` to `J`, worth 0 to 9.
 pub(crate) struct Letters;
@@ -84,51 +72,4 @@ impl Engine for BothCases {
     }
 
     ghost below_ten = { λ byte. Prim.grind (arith, nat_tests) };
-}
-
-// The window of `size` bytes.
-fn front_of<A: Alphabet>(size: usize, s: &[u8]) -> Window
-    requires { size ≤ 16 }
-    ensures { result ≡ window_of A.table size s.now }
-{
-    let front = &s[..size.min(s.len())];
-    let (len, number) = read_run::<A>(front);
-    let zeroes = if len as usize == size {
-        count_zeros::<A>(front)
-    } else {
-        0
-    };
-    Window {
-        len,
-        zeroes,
-        number,
-    }
-}
-
-// How many digits `s` begins with, and the number that they write.
-fn read_run<A: Alphabet>(s: &[u8]) -> (u32, u64)
-    requires { length s.now ≤ 16 }
-    ensures { result ≡ (run_len A.table s.now, value A.table (run A.table s.now)) }
-{
-    let mut number = 0;
-    for (len, byte) in s.iter().enumerate() {
-        let Some(worth) = A::worth(*byte) else {
-            return (len as u32, number);
-        };
-        number = number * 10 + worth;
-    }
-    (s.len() as u32, number)
-}
-
-// How many zeros `s` begins with.
-fn count_zeros<A: Alphabet>(s: &[u8]) -> u32
-    requires { length s.now ≤ 16 }
-    ensures { result ≡ zeros A.table s.now }
-{
-    for (at, byte) in s.iter().enumerate() {
-        if A::worth(*byte) != Some(0) {
-            return at as u32;
-        }
-    }
-    s.len() as u32
 }
