@@ -4,7 +4,7 @@ use Rattle.std.proofs.lemmas.Bool.{not-false, lt-leb}
 use Rattle.atoi_core.specs.Digit.{decimal_table}
 use Rattle.atoi_core.specs.Run.{run_len, run, zeros, value}
 use Rattle.atoi_core.specs.Refusal.{Refusal}
-use Rattle.atoi_core.specs.Magnitude.{Class, narrow, wide64, wide128, whole, prefix, seen, counted, is_too_long, leaves_rest, unless_refused}
+use Rattle.atoi_core.specs.Magnitude.{Class, narrow, wide64, wide128, whole, prefix, digits_read, counting_digits, is_too_long, leaves_rest, unless_refused}
 use Rattle.atoi_core.specs.Kind.{Kind, class_of, bound_of, limit_of}
 use Rattle.atoi_core.specs.Sign.{Sign, number_of}
 use Rattle.atoi_core.specs.Answer.{map_answer, whole_answer, prefix_answer}
@@ -48,10 +48,10 @@ map_unless_none : {A B : Type 0} (f : A → B) (r : Option Refusal) (x : A) → 
 map_unless_none f r x h = rw h refl
 
 -- a whole slice is read to the end of its run
-pub seen-whole : (class : Class) (skip : Bool) (digits : ℕ) → seen class whole skip digits ≡ digits
-seen-whole narrow skip digits = refl
-seen-whole wide64 skip digits = refl
-seen-whole wide128 skip digits = refl
+pub digits_read-whole : (class : Class) (skip : Bool) (digits : ℕ) → digits_read class whole skip digits ≡ digits
+digits_read-whole narrow skip digits = refl
+digits_read-whole wide64 skip digits = refl
+digits_read-whole wide128 skip digits = refl
 
 -- what is read as a whole is digits to its end
 pub whole_is_run : (digits length : ℕ) → leaves_rest whole digits length ≡ false → digits ≡ length
@@ -62,42 +62,42 @@ pub run_is_whole : (digits length : ℕ) → digits ≡ length → leaves_rest w
 run_is_whole digits length h = rw (eq-eqb digits length h) refl
 
 -- how much of a run is read: none of it is left where zeros are skipped, or in a wide class; else at most 16
-pub seen-le : (class : Class) (skip : Bool) (digits : ℕ) → seen class prefix skip digits ≤ digits
-seen-le narrow true digits = omega arith
-seen-le narrow false digits = omega arith
-seen-le wide64 skip digits = omega arith
-seen-le wide128 skip digits = omega arith
+pub digits_read-le : (class : Class) (skip : Bool) (digits : ℕ) → digits_read class prefix skip digits ≤ digits
+digits_read-le narrow true digits = omega arith
+digits_read-le narrow false digits = omega arith
+digits_read-le wide64 skip digits = omega arith
+digits_read-le wide128 skip digits = omega arith
 
 -- some digits are read where there are some
-pub seen-pos : (class : Class) (skip : Bool) (digits : ℕ) → 0 < digits → 0 < seen class prefix skip digits
-seen-pos narrow true digits h = h
-seen-pos narrow false digits h = omega arith
-seen-pos wide64 skip digits h = h
-seen-pos wide128 skip digits h = h
+pub digits_read-pos : (class : Class) (skip : Bool) (digits : ℕ) → 0 < digits → 0 < digits_read class prefix skip digits
+digits_read-pos narrow true digits h = h
+digits_read-pos narrow false digits h = omega arith
+digits_read-pos wide64 skip digits h = h
+digits_read-pos wide128 skip digits h = h
 
 -- as many are read of those that were read
-pub seen-seen : (class : Class) (skip : Bool) (digits : ℕ)
-    → seen class prefix skip (seen class prefix skip digits) ≡ seen class prefix skip digits
-seen-seen narrow true digits = refl
-seen-seen narrow false digits = omega arith
-seen-seen wide64 skip digits = refl
-seen-seen wide128 skip digits = refl
+pub digits_read-digits_read : (class : Class) (skip : Bool) (digits : ℕ)
+    → digits_read class prefix skip (digits_read class prefix skip digits) ≡ digits_read class prefix skip digits
+digits_read-digits_read narrow true digits = refl
+digits_read-digits_read narrow false digits = omega arith
+digits_read-digits_read wide64 skip digits = refl
+digits_read-digits_read wide128 skip digits = refl
 
 -- all are read where zeros are skipped
-pub seen-skipping : (class : Class) (digits : ℕ) → seen class prefix true digits ≡ digits
-seen-skipping narrow digits = refl
-seen-skipping wide64 digits = refl
-seen-skipping wide128 digits = refl
+pub digits_read-skipping : (class : Class) (digits : ℕ) → digits_read class prefix true digits ≡ digits
+digits_read-skipping narrow digits = refl
+digits_read-skipping wide64 digits = refl
+digits_read-skipping wide128 digits = refl
 
 -- all are read where a prefix reads its whole run
-pub seen-all : (k : Kind) (skip : Bool) (digits : ℕ) → ReadsWholeRun k skip → seen (class_of k) prefix skip digits ≡ digits
-seen-all k skip digits h =
+pub digits_read-all : (k : Kind) (skip : Bool) (digits : ℕ) → ReadsWholeRun k skip → digits_read (class_of k) prefix skip digits ≡ digits
+digits_read-all k skip digits h =
     elim h [
-      | inl e ↦ rw e (seen-skipping (class_of k) digits)
+      | inl e ↦ rw e (digits_read-skipping (class_of k) digits)
       | inr lt ↦ rw (lt-leb k.bits 32 lt) (wide (eqb k.bits 64))
     ]
   where
-    wide : (b : Bool) → seen (cond b wide64 wide128) prefix skip digits ≡ digits
+    wide : (b : Bool) → digits_read (cond b wide64 wide128) prefix skip digits ≡ digits
     wide true = refl
     wide false = refl
 
@@ -120,7 +120,7 @@ module _ (k : Kind) (minus skip : Bool) (body : List ℕ) where
 
   -- how many bytes of it are read
   abbrev pub read_len : ℕ
-  read_len = seen (class_of k) prefix skip (run_len decimal_table body)
+  read_len = digits_read (class_of k) prefix skip (run_len decimal_table body)
 
   -- a whole body that is answered `Ok` is accepted, and the answer is its number
   pub from_whole : (v : ℤ) → whole_answer decimal_table k minus skip body ≡ Ok v
@@ -148,16 +148,16 @@ module _ (k : Kind) (minus skip : Bool) (body : List ℕ) where
 
   -- the body as a whole, by its run
   pub whole_in_range : IsWhole → value decimal_table (run decimal_table body) ≤ bound_of k minus
-  whole_in_range h = rw seen-whole at h.in_range
+  whole_in_range h = rw digits_read-whole at h.in_range
 
   -- what makes a whole body accepted
   pub is_whole : 0 < run_len decimal_table body
-      → is_too_long (class_of k) (limit_of k) (counted skip (run_len decimal_table body) (zeros decimal_table body)) ≡ false
+      → is_too_long (class_of k) (limit_of k) (counting_digits skip (run_len decimal_table body) (zeros decimal_table body)) ≡ false
       → value decimal_table (run decimal_table body) ≤ bound_of k minus
       → run_len decimal_table body ≡ length body
       → IsWhole
   is_whole some short in_range all =
-      record { some = some; short = short; in_range = rw seen-whole in_range; ends = run_is_whole (run_len decimal_table body) (length body) all }
+      record { some = some; short = short; in_range = rw digits_read-whole in_range; ends = run_is_whole (run_len decimal_table body) (length body) all }
 
 -- what a prefix that is `Ok` tells: how many bytes of its body are read, that these are not refused,
 -- and that they give the value and the count

@@ -5,7 +5,7 @@ use Rattle.std.proofs.lemmas.Str.Parse.{IsNumeralModel, numerals_by_weight, tell
 use Rattle.std.proofs.lemmas.Fmt.{decimal_is_IsNumeral_wide, length-decimal-le_wide}
 use Rattle.atoi_core.specs.Digit.{decimal_table, worth}
 use Rattle.atoi_core.specs.Run.{run_len, run, zeros, value}
-use Rattle.atoi_core.specs.Magnitude.{is_too_long, counted}
+use Rattle.atoi_core.specs.Magnitude.{is_too_long, counting_digits}
 use Rattle.atoi_core.specs.Kind.{Kind, IsSized, class_of, bound_of, limit_of}
 use Rattle.atoi_core.specs.Sign.{Sign, sign_of, number_of}
 use Rattle.atoi_core.specs.Answer.{whole_answer}
@@ -94,7 +94,7 @@ counting_text k sized minus h n le =
     let text = decimal_text n (lt_of_le_of_lt le (bound_below-64 k sized minus)) in
     let is_run = run_all decimal_table (decimal n) text.all in
     let some : 0 < run_len decimal_table (decimal n) = omega (arith, text.all, text.some) in
-    let short : is_too_long (class_of k) (limit_of k) (counted false (run_len decimal_table (decimal n)) (zeros decimal_table (decimal n))) ≡ false =
+    let short : is_too_long (class_of k) (limit_of k) (counting_digits false (run_len decimal_table (decimal n)) (zeros decimal_table (decimal n))) ≡ false =
     rw text.all (decimal_short k sized minus h n le)
     in
     let in_range : value decimal_table (run decimal_table (decimal n)) ≤ bound_of k minus = rw (is_run, text.is) le in

@@ -7,7 +7,7 @@ use Rattle.std.proofs.Math.Seq.{take-add}
 use Rattle.atoi_core.specs.Digit.{decimal_table, is_digit, is_zero}
 use Rattle.atoi_core.specs.Run.{run_len, run, zeros, value}
 use Rattle.atoi_core.specs.Refusal.{Refusal, rank}
-use Rattle.atoi_core.specs.Magnitude.{Class, Extent, whole, prefix, seen, counted, is_too_long, leaves_rest, invalid, refusal, unless_refused}
+use Rattle.atoi_core.specs.Magnitude.{Class, Extent, whole, prefix, digits_read, counting_digits, is_too_long, leaves_rest, invalid, refusal, unless_refused}
 use Rattle.atoi_core.specs.Kind.{Kind, class_of, bound_of, limit_of}
 use Rattle.atoi_core.specs.Sign.{Sign, number_of}
 use Rattle.atoi_core.specs.Answer.{map_answer, whole_answer, prefix_answer}
@@ -15,7 +15,7 @@ use Rattle.atoi_core.specs.Laws.{SignForm, sign_in, with_more, with_zeros, zero_
 use Rattle.atoi_core.proofs.CutLemmas.{length-run, zeros-run, value-replicate, prefix_len-replicate_append}
 use Rattle.atoi_core.proofs.RefusalLemmas.{refusal-rank, first_rank}
 use Rattle.atoi_core.proofs.SignLemmas.{sign_again}
-use Rattle.atoi_core.proofs.CallLemmas.{whole_call-is, prefix_call-is, seen-le, seen-whole, seen-skipping, with_more-zero}
+use Rattle.atoi_core.proofs.CallLemmas.{whole_call-is, prefix_call-is, digits_read-le, digits_read-whole, digits_read-skipping, with_more-zero}
 
 -- two whole answers are of one kind where the reasons are, and the values are equal
 same_kind : (minus other_minus : Bool) (r q : Option Refusal) (x y : ℕ) → option_map rank r ≡ option_map rank q
@@ -46,7 +46,7 @@ reason_at k skip extent g = refusal decimal_table (class_of k) (bound_of k g.min
 
 -- how many bytes are read there
 abbrev read_at : Kind → Bool → Extent → Sign → ℕ
-read_at k skip extent g = seen (class_of k) extent skip (run_len decimal_table g.body)
+read_at k skip extent g = digits_read (class_of k) extent skip (run_len decimal_table g.body)
 
 -- the number that they write
 abbrev number_at : Kind → Bool → Extent → Sign → ℕ
@@ -56,7 +56,7 @@ number_at k skip extent g = value decimal_table (take (read_at k skip extent g) 
 record IsAlike (k : Kind) (skip : Bool) (extent : Extent) (g h : Sign) : Type 0 where
   bound : bound_of k g.minus ≡ bound_of k h.minus
   is_empty : eqb (run_len decimal_table g.body) 0 ≡ eqb (run_len decimal_table h.body) 0
-  counts : counted skip (run_len decimal_table g.body) (zeros decimal_table g.body) ≡ counted skip (run_len decimal_table h.body) (zeros decimal_table h.body)
+  counts : counting_digits skip (run_len decimal_table g.body) (zeros decimal_table g.body) ≡ counting_digits skip (run_len decimal_table h.body) (zeros decimal_table h.body)
   number : number_at k skip extent g ≡ number_at k skip extent h
   followed : leaves_rest extent (run_len decimal_table g.body) (length g.body) ≡ leaves_rest extent (run_len decimal_table h.body) (length h.body)
 
@@ -96,9 +96,9 @@ same_run : (k : Kind) (skip : Bool) (g h : Sign) → g.minus ≡ h.minus → g.t
 same_run k skip g h minus taken runs =
     let len = same_len g.body h.body runs in
     let leading = same_zeros g.body h.body runs in
-    let read : read_at k skip prefix g ≡ read_at k skip prefix h = ap (seen (class_of k) prefix skip) len in
+    let read : read_at k skip prefix g ≡ read_at k skip prefix h = ap (digits_read (class_of k) prefix skip) len in
     let number : number_at k skip prefix g ≡ number_at k skip prefix h =
-    ap (value decimal_table) (same_front (read_at k skip prefix g) g.body h.body runs (seen-le (class_of k) skip (run_len decimal_table g.body))
+    ap (value decimal_table) (same_front (read_at k skip prefix g) g.body h.body runs (digits_read-le (class_of k) skip (run_len decimal_table g.body))
     ∙ ap (λ (n : ℕ). take n h.body) read)
     in
     same_prefix_kind 0 g.taken h.taken g.minus h.minus (reason_at k skip prefix g) (reason_at k skip prefix h)
@@ -106,7 +106,7 @@ same_run k skip g h minus taken runs =
     (same_reason k skip prefix g h (record {
       bound = ap (bound_of k) minus;
       is_empty = ap (λ (n : ℕ). eqb n 0) len;
-      counts = λ i. counted skip (len i) (leading i);
+      counts = λ i. counting_digits skip (len i) (leading i);
       number = number;
       followed = refl;
     }))
@@ -144,9 +144,9 @@ take-padded count n body =
     ∙ (λ i. take_at (replicate count zero_byte) body count len i ++ take n (drop_at (replicate count zero_byte) body count len i))
 
 -- where zeros are skipped, all digits are read
-seen_all : (class : Class) (extent : Extent) (digits : ℕ) → seen class extent true digits ≡ digits
-seen_all class whole digits = seen-whole class true digits
-seen_all class prefix digits = seen-skipping class digits
+seen_all : (class : Class) (extent : Extent) (digits : ℕ) → digits_read class extent true digits ≡ digits
+seen_all class whole digits = digits_read-whole class true digits
+seen_all class prefix digits = digits_read-skipping class digits
 
 -- its run writes the same number
 value-padded : (count : ℕ) (body : List ℕ) → value decimal_table (run decimal_table body) ≡ value decimal_table (run decimal_table (padded count body))
@@ -219,8 +219,8 @@ prefix_padded : (k : Kind) (g : Sign) (count : ℕ) → 0 < run_len decimal_tabl
     → IsSameKind (with_more count (prefix_at k true g)) (prefix_at k true (record { minus = g.minus; taken = g.taken; body = padded count g.body }))
 prefix_padded k g count some =
     let h = record g { body = padded count g.body } in
-    let shorter = seen-skipping (class_of k) (run_len decimal_table g.body) in
-    let longer = seen-skipping (class_of k) (run_len decimal_table h.body) in
+    let shorter = digits_read-skipping (class_of k) (run_len decimal_table g.body) in
+    let longer = digits_read-skipping (class_of k) (run_len decimal_table h.body) in
     let more = run_len-padded count g.body in
     same_prefix_kind count g.taken g.taken g.minus g.minus (reason_at k true prefix g) (reason_at k true prefix h)
     (number_at k true prefix g, read_at k true prefix g) (number_at k true prefix h, read_at k true prefix h)

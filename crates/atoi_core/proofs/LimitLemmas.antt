@@ -4,7 +4,7 @@ use Rattle.std.proofs.Math.Nat.{pow-le-pow_right}
 use Rattle.std.proofs.lemmas.Bool.{cases_lt}
 use Rattle.atoi_core.specs.Digit.{Table}
 use Rattle.atoi_core.specs.Run.{run_len, run, zeros, value}
-use Rattle.atoi_core.specs.Magnitude.{Class, narrow, wide64, wide128, is_too_long, counted}
+use Rattle.atoi_core.specs.Magnitude.{Class, narrow, wide64, wide128, is_too_long, counting_digits}
 use Rattle.atoi_core.specs.Kind.{Kind, IsSized, greatest_of, class_of, bound_of, limit_of}
 use Rattle.atoi_core.proofs.CutLemmas.{value-ge}
 
@@ -84,7 +84,7 @@ places-le table s limit h =
 -- where zeros are skipped, digits that write a number in range are not too many
 pub in_range_short : (table : Table) (k : Kind) → IsSized k → (minus : Bool) → (minus ≡ true → k.signed ≡ true) → (s : List ℕ)
     → value table (run table s) ≤ bound_of k minus
-    → is_too_long (class_of k) (limit_of k) (counted true (run_len table s) (zeros table s)) ≡ false
+    → is_too_long (class_of k) (limit_of k) (counting_digits true (run_len table s) (zeros table s)) ≡ false
 in_range_short table k sized minus h s le =
     elim (bound-limit k sized minus h) [
       | inl e ↦ rw e refl

@@ -5,7 +5,7 @@ use Rattle.std.proofs.lemmas.Bool.{cases_lt, eq-eqb, lt-ltb, le-ltb}
 use Rattle.atoi_core.specs.Digit.{Table}
 use Rattle.atoi_core.specs.Run.{run_len, run, zeros, value}
 use Rattle.atoi_core.specs.Refusal.{Refusal, empty, overflow}
-use Rattle.atoi_core.specs.Magnitude.{narrow, prefix, seen, dropped, refusal, unless_refused, prefix_magnitude}
+use Rattle.atoi_core.specs.Magnitude.{narrow, prefix, digits_read, dropped_zeros, refusal, unless_refused, prefix_magnitude}
 use Rattle.atoi_core.specs.declared.window.Window.{Window}
 use Rattle.atoi_core.proofs.SkipLemmas.{Skipped}
 
@@ -13,12 +13,12 @@ use Rattle.atoi_core.proofs.SkipLemmas.{Skipped}
 unfoldable pub narrow_refusal : (bound : ℕ) (skip : Bool) (n z v : ℕ) → List ℕ → Option Refusal
 narrow_refusal bound skip n z v s =
     if n == 0 then Some empty
-    else (if nat_lt bound v then Some (overflow (drop (dropped narrow prefix skip n z) s)) else None)
+    else (if nat_lt bound v then Some (overflow (drop (dropped_zeros narrow prefix skip n z) s)) else None)
 
 -- the answer for a front, without the tests of the other classes
 unfoldable pub narrow_answer : Table → (bound : ℕ) → Bool → List ℕ → Result (ℕ × ℕ) Refusal
 narrow_answer t bound skip s =
-    let read = seen narrow prefix skip (run_len t s) in
+    let read = digits_read narrow prefix skip (run_len t s) in
     unless_refused (narrow_refusal bound skip (run_len t s) (zeros t s) (value t (take read s)) s)
     (value t (take read s), read)
 
@@ -39,7 +39,7 @@ narrow_empty t bound skip s at before now w so none =
 
 -- how many zeros the slice of an overflow leaves out
 dropped_is : (t : Table) (skip : Bool) (s : List ℕ) (at before now : ℕ) (w : Window) →
-    Skipped t skip s at before now w → dropped narrow prefix skip (run_len t s) (zeros t s) ≡ at
+    Skipped t skip s at before now w → dropped_zeros narrow prefix skip (run_len t s) (zeros t s) ≡ at
 dropped_is t false s at before now w so = sym (so.off refl)
 dropped_is t true s at before now w so =
     elim (cases_lt (zeros t s / 16) (run_len t s / 16)) [
@@ -72,7 +72,7 @@ unskipped_number t s at before now w so =
 
 -- the window's number is no more than that of the digits that are read
 number_most : (t : Table) (skip : Bool) (s : List ℕ) (at before now : ℕ) (w : Window) →
-    Skipped t skip s at before now w → w.number ≤ value t (take (seen narrow prefix skip (run_len t s)) s)
+    Skipped t skip s at before now w → w.number ≤ value t (take (digits_read narrow prefix skip (run_len t s)) s)
 number_most t false s at before now w so = omega (arith, unskipped_number t s at before now w so)
 number_most t true s at before now w so =
     elim (cases_lt w.len 16) [
@@ -92,8 +92,8 @@ pub narrow_overflow : (t : Table) (bound : ℕ) (skip : Bool) (s : List ℕ) (at
 unfolding narrow_refusal narrow_answer
 narrow_overflow t bound skip s at before now w so some over =
     let n : 0 < run_len t s = omega (arith, so.run_is, so.shown.reads.inside) in
-    let most : w.number ≤ value t (take (seen narrow prefix skip (run_len t s)) s) = number_most t skip s at before now w so in
-    rw (ne_eqb (run_len t s) 0 (omega arith), lt-ltb bound (value t (take (seen narrow prefix skip (run_len t s)) s)) (omega arith))
+    let most : w.number ≤ value t (take (digits_read narrow prefix skip (run_len t s)) s) = number_most t skip s at before now w so in
+    rw (ne_eqb (run_len t s) 0 (omega arith), lt-ltb bound (value t (take (digits_read narrow prefix skip (run_len t s)) s)) (omega arith))
     (rw (dropped_is t skip s at before now w so) refl)
 
 -- a number within the bound has too few digits to fill a window behind the zeros

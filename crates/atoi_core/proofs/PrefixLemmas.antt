@@ -4,13 +4,13 @@ use Rattle.std.proofs.Common.{◌≡◌, ℕ, ◌+◌, ◌≤◌, min, Bool, tru
 use Rattle.std.proofs.lemmas.Bool.{cases_lt}
 use Rattle.atoi_core.specs.Digit.{decimal_table}
 use Rattle.atoi_core.specs.Run.{run_len, run, zeros, value}
-use Rattle.atoi_core.specs.Magnitude.{prefix, seen, counted}
+use Rattle.atoi_core.specs.Magnitude.{prefix, digits_read, counting_digits}
 use Rattle.atoi_core.specs.Kind.{Kind, class_of, bound_of, limit_of}
 use Rattle.atoi_core.specs.Sign.{Sign, number_of}
 use Rattle.atoi_core.specs.Laws.{SignForm, sign_in, whole_call, prefix_call, ReadsWholeRun, PrefixIsWhole, PrefixOfCut, PrefixStopsAtRest}
 use Rattle.atoi_core.proofs.CutLemmas.{run_len-le, run_stops, run_len-take, zeros-take}
 use Rattle.atoi_core.proofs.SignLemmas.{drop-taken, length-taken, sign_again}
-use Rattle.atoi_core.proofs.CallLemmas.{whole_call-is, from_whole, to_whole, is_whole, whole_is_run, whole_in_range, IsFound, found_prefix, ok_prefix, seen-le, seen-pos, seen-seen, seen-all}
+use Rattle.atoi_core.proofs.CallLemmas.{whole_call-is, from_whole, to_whole, is_whole, whole_is_run, whole_in_range, IsFound, found_prefix, ok_prefix, digits_read-le, digits_read-pos, digits_read-digits_read, digits_read-all}
 use Rattle.atoi_core.proofs.LimitLemmas.{shorter}
 
 -- the law: a prefix that reads its whole run stops at the end or before a byte that is no digit
@@ -19,7 +19,7 @@ prefix_stops_at_rest k form has skip s v count all h =
     let found = found_prefix k form skip s v count h in
     let g = sign_in k form s in
     let n = run_len decimal_table g.body in
-    let reads : found.0 ≡ n = found.1.as_far ∙ seen-all k skip n all in
+    let reads : found.0 ≡ n = found.1.as_far ∙ digits_read-all k skip n all in
     let counts : count ≡ n + g.taken = rw (← reads) found.1.counted in
     let parts = length-taken k form s in
     elim (cases_lt n (length g.body)) [
@@ -40,7 +40,7 @@ reached k form skip s v read h =
     let n = run_len decimal_table g.body in
     let most = run_len-le decimal_table g.body in
     let parts = length-taken k form s in
-    let far = seen-le (class_of k) skip n in
+    let far = digits_read-le (class_of k) skip n in
     let as_far = h.as_far in
     let counted = h.counted in
     (omega arith, omega arith)
@@ -69,7 +69,7 @@ prefix_of_whole k form skip s v all h =
     let found = from_whole k g.minus skip g.body v (sym (whole_call-is k form skip s) ∙ h) in
     let body_is = found.0 in
     let to_end = whole_is_run n (length g.body) body_is.ends in
-    let reads = seen-all k skip n all in
+    let reads = digits_read-all k skip n all in
     let parts = length-taken k form s in
     ok_prefix k form skip s v (length s) n (record {
       front = record { some = body_is.some; short = body_is.short; in_range = rw reads (whole_in_range k g.minus skip g.body body_is); ends = refl };
@@ -92,20 +92,20 @@ found_again k g skip v count read h =
     let n = run_len decimal_table g.body in
     let z = zeros decimal_table g.body in
     let class = class_of k in
-    let as_far : read ≡ seen class prefix skip n = h.as_far in
-    let far = seen-le class skip n in
-    let some = seen-pos class skip n h.front.some in
+    let as_far : read ≡ digits_read class prefix skip n = h.as_far in
+    let far = digits_read-le class skip n in
+    let some = digits_read-pos class skip n h.front.some in
     let run_is : run_len decimal_table (take read g.body) ≡ read = run_len-take decimal_table read g.body (omega arith) in
     let zeros_are : zeros decimal_table (take read g.body) ≡ min read z = zeros-take decimal_table read g.body in
-    let reads : seen class prefix skip (run_len decimal_table (take read g.body)) ≡ read =
-    ap (seen class prefix skip) (run_is ∙ as_far) ∙ seen-seen class skip n ∙ sym as_far
+    let reads : digits_read class prefix skip (run_len decimal_table (take read g.body)) ≡ read =
+    ap (digits_read class prefix skip) (run_is ∙ as_far) ∙ digits_read-digits_read class skip n ∙ sym as_far
     in
-    let fewer : counted skip read (min read z) ≤ counted skip n z = counted-le skip read n z (omega arith) in
+    let fewer : counting_digits skip read (min read z) ≤ counting_digits skip n z = counting_digits-le skip read n z (omega arith) in
     let same : take read (take read g.body) ≡ take read g.body = take-take read read g.body (omega arith) in
     record {
       front = record {
         some = omega arith;
-        short = rw (run_is, zeros_are) (shorter class (limit_of k) (counted skip n z) (counted skip read (min read z)) fewer h.front.short);
+        short = rw (run_is, zeros_are) (shorter class (limit_of k) (counting_digits skip n z) (counting_digits skip read (min read z)) fewer h.front.short);
         in_range = rw (reads, same) (rw (← as_far) at h.front.in_range);
         ends = refl;
       };
@@ -114,9 +114,9 @@ found_again k g skip v count read h =
       counted = h.counted;
     }
   where
-    counted-le : (skip : Bool) (read n z : ℕ) → read ≤ n → counted skip read (min read z) ≤ counted skip n z
-    counted-le true read n z h = omega arith
-    counted-le false read n z h = h
+    counting_digits-le : (skip : Bool) (read n z : ℕ) → read ≤ n → counting_digits skip read (min read z) ≤ counting_digits skip n z
+    counting_digits-le true read n z h = omega arith
+    counting_digits-le false read n z h = h
 
 -- the law: a prefix is answered alike where the slice ends with it
 pub prefix_of_cut : (k : Kind) → PrefixOfCut k
@@ -125,12 +125,12 @@ prefix_of_cut k form has skip s v count h =
     let g = sign_in k form s in
     let n = run_len decimal_table g.body in
     let read = found.0 in
-    let some = seen-pos (class_of k) skip n found.1.front.some in
-    let far = seen-le (class_of k) skip n in
+    let some = digits_read-pos (class_of k) skip n found.1.front.some in
+    let far = digits_read-le (class_of k) skip n in
     let most = run_len-le decimal_table g.body in
     let parts = length-taken k form s in
     let counted = found.1.counted in
-    let as_far : read ≡ seen (class_of k) prefix skip n = found.1.as_far in
+    let as_far : read ≡ digits_read (class_of k) prefix skip n = found.1.as_far in
     let run_is = run_len-take decimal_table read g.body (omega arith) in
     let cut : take count s ≡ take g.taken s ++ take read g.body =
     ap (λ (m : ℕ). take m s) (counted ∙ add_comm read g.taken) ∙ take-add g.taken read s ∙ ap (λ body. take g.taken s ++ take read body) (drop-taken k form s)

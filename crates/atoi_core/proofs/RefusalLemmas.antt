@@ -5,7 +5,7 @@ use Rattle.std.proofs.Math.Seq.{drop-length}
 use Rattle.atoi_core.specs.Digit.{Table}
 use Rattle.atoi_core.specs.Run.{run_len, zeros, value}
 use Rattle.atoi_core.specs.Refusal.{Refusal, empty, size, overflow, rank, input_of}
-use Rattle.atoi_core.specs.Magnitude.{Class, narrow, wide64, wide128, Extent, refusal, counted, seen, dropped, is_too_long, leaves_rest, cap, invalid}
+use Rattle.atoi_core.specs.Magnitude.{Class, narrow, wide64, wide128, Extent, refusal, counting_digits, digits_read, dropped_zeros, is_too_long, leaves_rest, cap, invalid}
 
 -- the first of four reasons whose test holds
 abbrev first_reason : (a b c d : Bool) → (p q r s : Refusal) → Option Refusal
@@ -45,8 +45,8 @@ first_map false false false false p q r s = refl
 -- nothing is to be refused of the body
 pub record IsAccepted (table : Table) (class : Class) (bound limit : ℕ) (extent : Extent) (skip : Bool) (body : List ℕ) : Type 0 where
   pub some : 0 < run_len table body
-  pub short : is_too_long class limit (counted skip (run_len table body) (zeros table body)) ≡ false
-  pub in_range : value table (take (seen class extent skip (run_len table body)) body) ≤ bound
+  pub short : is_too_long class limit (counting_digits skip (run_len table body) (zeros table body)) ≡ false
+  pub in_range : value table (take (digits_read class extent skip (run_len table body)) body) ≤ bound
   pub ends : leaves_rest extent (run_len table body) (length body) ≡ false
 
 -- the rank of `invalid` is that of its class
@@ -68,11 +68,11 @@ module _ (table : Table) (class : Class) (bound limit : ℕ) (extent : Extent) (
 
   -- too many digits count
   abbrev pub is_long : Bool
-  is_long = is_too_long class limit (counted skip (run_len table body) (zeros table body))
+  is_long = is_too_long class limit (counting_digits skip (run_len table body) (zeros table body))
 
   -- the value is above the bound
   abbrev pub is_over : Bool
-  is_over = ltb bound (value table (take (seen class extent skip (run_len table body)) body))
+  is_over = ltb bound (value table (take (digits_read class extent skip (run_len table body)) body))
 
   -- bytes stand behind the digits of a whole slice
   abbrev pub is_followed : Bool
@@ -80,19 +80,19 @@ module _ (table : Table) (class : Class) (bound limit : ℕ) (extent : Extent) (
 
   -- the reasons that they stand for
   abbrev digits_left : ℕ
-  digits_left = run_len table body - counted skip (run_len table body) (zeros table body)
+  digits_left = run_len table body - counting_digits skip (run_len table body) (zeros table body)
 
   -- too many digits, with how many there are
   abbrev too_long : Refusal
-  too_long = size (digits_left + min (counted skip (run_len table body) (zeros table body)) (cap class)) (drop digits_left body)
+  too_long = size (digits_left + min (counting_digits skip (run_len table body) (zeros table body)) (cap class)) (drop digits_left body)
 
   -- a value above the bound
   abbrev over : Refusal
-  over = overflow (drop (dropped class extent skip (run_len table body) (zeros table body)) body)
+  over = overflow (drop (dropped_zeros class extent skip (run_len table body) (zeros table body)) body)
 
   -- a byte behind the digits
   abbrev followed : Refusal
-  followed = invalid class (value table (take (seen class extent skip (run_len table body)) body)) (run_len table body) body
+  followed = invalid class (value table (take (digits_read class extent skip (run_len table body)) body)) (run_len table body) body
 
   -- the refusal is the first reason whose test holds
   refusal-is : refusal table class bound limit extent skip body
@@ -105,7 +105,7 @@ module _ (table : Table) (class : Class) (bound limit : ℕ) (extent : Extent) (
   refusal-none h =
       let e : is_empty ≡ false = ne_eqb (run_len table body) 0 (omega arith) in
       let l : is_long ≡ false = h.short in
-      let o : is_over ≡ false = le-ltb bound (value table (take (seen class extent skip (run_len table body)) body)) h.in_range in
+      let o : is_over ≡ false = le-ltb bound (value table (take (digits_read class extent skip (run_len table body)) body)) h.in_range in
       let f : is_followed ≡ false = h.ends in
       refusal-is ∙ rw (e, l, o, f) refl
 
@@ -126,7 +126,7 @@ module _ (table : Table) (class : Class) (bound limit : ℕ) (extent : Extent) (
   refusal-input reason h =
       first_some (λ r. (n : ℕ) × (input_of r ≡ drop n body)) is_empty is_long is_over is_followed empty too_long over followed
       (length body, sym (drop-length body)) (digits_left, refl)
-      (dropped class extent skip (run_len table body) (zeros table body), refl)
+      (dropped_zeros class extent skip (run_len table body) (zeros table body), refl)
       (0, input-invalid class _ _ body)
       reason (sym refusal-is ∙ h)
 

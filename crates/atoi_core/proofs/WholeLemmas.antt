@@ -3,7 +3,7 @@ use Rattle.std.proofs.Common.{◌≡◌, ℕ, ◌+◌, ◌-◌, ◌==◌, min, B
 use Rattle.atoi_core.specs.Digit.{Table}
 use Rattle.atoi_core.specs.Run.{run_len, run, zeros, value}
 use Rattle.atoi_core.specs.Refusal.{Refusal, empty, size, overflow, invalid64, invalid128}
-use Rattle.atoi_core.specs.Magnitude.{wide64, wide128, counted, refusal, unless_refused, whole_magnitude, prefix_magnitude}
+use Rattle.atoi_core.specs.Magnitude.{wide64, wide128, counting_digits, refusal, unless_refused, whole_magnitude, prefix_magnitude}
 
 -- a front that is refused is refused, and one that ends before the slice is invalid
 abbrev pub whole_of : (ℕ → ℕ → List ℕ → Refusal) → List ℕ → Result (ℕ × ℕ) Refusal → Result ℕ Refusal
@@ -28,7 +28,7 @@ pub whole_64_is : (t : Table) (bound limit : ℕ) (skip : Bool) (s : List ℕ) �
 unfolding refusal
 whole_64_is t bound limit skip s =
     let n : ℕ = run_len t s in
-    let d : ℕ = counted skip n (zeros t s) in
+    let d : ℕ = counting_digits skip n (zeros t s) in
     let v : ℕ = value t (run t s) in
     last_reason invalid64 s (n == 0) (nat_lt limit d) (nat_lt bound v)
     empty (size (n - d + min d 24) (drop (n - d) s)) (overflow (drop (n - d) s)) v n
@@ -39,7 +39,7 @@ pub whole_128_is : (t : Table) (bound limit : ℕ) (skip : Bool) (s : List ℕ) 
 unfolding refusal
 whole_128_is t bound limit skip s =
     let n : ℕ = run_len t s in
-    let d : ℕ = counted skip n (zeros t s) in
+    let d : ℕ = counting_digits skip n (zeros t s) in
     let v : ℕ = value t (run t s) in
     last_reason invalid128 s (n == 0) (nat_lt limit d) (nat_lt bound v)
     empty (size (n - d + min d 40) (drop (n - d) s)) (overflow (drop (n - d) s)) v n

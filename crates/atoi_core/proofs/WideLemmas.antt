@@ -5,7 +5,7 @@ use Rattle.std.proofs.lemmas.Bool.{cases_lt, eq-eqb, lt-ltb, le-ltb, ltb-true, l
 use Rattle.atoi_core.specs.Digit.{Table}
 use Rattle.atoi_core.specs.Run.{run_len, run, zeros, value}
 use Rattle.atoi_core.specs.Refusal.{Refusal, empty, size, overflow}
-use Rattle.atoi_core.specs.Magnitude.{wide64, wide128, counted, HasDigits, refusal, unless_refused, prefix_magnitude}
+use Rattle.atoi_core.specs.Magnitude.{wide64, wide128, counting_digits, HasDigits, refusal, unless_refused, prefix_magnitude}
 use Rattle.atoi_core.specs.declared.window.Window.{Window}
 use Rattle.atoi_core.proofs.WindowLemmas.{Reads}
 use Rattle.atoi_core.proofs.SkipLemmas.{Skipped}
@@ -14,7 +14,7 @@ use Rattle.atoi_core.proofs.SkipLemmas.{Skipped}
 -- tells at most `told` digits
 unfoldable pub wide_refusal : (told bound limit : ℕ) (skip : Bool) (n z v : ℕ) → List ℕ → Option Refusal
 wide_refusal told bound limit skip n z v s =
-    let d = counted skip n z in
+    let d = counting_digits skip n z in
     if n == 0 then Some empty
     else (if nat_lt limit d then Some (size (n - d + min d told) (drop (n - d) s))
     else (if nat_lt bound v then Some (overflow (drop (n - d) s)) else None))
@@ -44,25 +44,25 @@ unfolding wide_refusal
 refused_empty told bound limit skip n z v s e = rw (eq-eqb n 0 e) refl
 
 -- too many digits
-refused_size : (told bound limit : ℕ) (skip : Bool) (n z v : ℕ) (s : List ℕ) → 0 < n → limit < counted skip n z →
-    wide_refusal told bound limit skip n z v s ≡ Some (size (n - counted skip n z + min (counted skip n z) told) (drop (n - counted skip n z) s))
+refused_size : (told bound limit : ℕ) (skip : Bool) (n z v : ℕ) (s : List ℕ) → 0 < n → limit < counting_digits skip n z →
+    wide_refusal told bound limit skip n z v s ≡ Some (size (n - counting_digits skip n z + min (counting_digits skip n z) told) (drop (n - counting_digits skip n z) s))
 unfolding wide_refusal
 refused_size told bound limit skip n z v s some long =
-    rw (ne_eqb n 0 (omega arith), lt-ltb limit (counted skip n z) long) refl
+    rw (ne_eqb n 0 (omega arith), lt-ltb limit (counting_digits skip n z) long) refl
 
 -- a value above the bound
-refused_overflow : (told bound limit : ℕ) (skip : Bool) (n z v : ℕ) (s : List ℕ) → 0 < n → counted skip n z ≤ limit → bound < v →
-    wide_refusal told bound limit skip n z v s ≡ Some (overflow (drop (n - counted skip n z) s))
+refused_overflow : (told bound limit : ℕ) (skip : Bool) (n z v : ℕ) (s : List ℕ) → 0 < n → counting_digits skip n z ≤ limit → bound < v →
+    wide_refusal told bound limit skip n z v s ≡ Some (overflow (drop (n - counting_digits skip n z) s))
 unfolding wide_refusal
 refused_overflow told bound limit skip n z v s some fits over =
-    rw (ne_eqb n 0 (omega arith), le-ltb limit (counted skip n z) fits, lt-ltb bound v over) refl
+    rw (ne_eqb n 0 (omega arith), le-ltb limit (counting_digits skip n z) fits, lt-ltb bound v over) refl
 
 -- no reason
-not_refused : (told bound limit : ℕ) (skip : Bool) (n z v : ℕ) (s : List ℕ) → 0 < n → counted skip n z ≤ limit → v ≤ bound →
+not_refused : (told bound limit : ℕ) (skip : Bool) (n z v : ℕ) (s : List ℕ) → 0 < n → counting_digits skip n z ≤ limit → v ≤ bound →
     wide_refusal told bound limit skip n z v s ≡ None
 unfolding wide_refusal
 not_refused told bound limit skip n z v s some fits within =
-    rw (ne_eqb n 0 (omega arith), le-ltb limit (counted skip n z) fits, le-ltb bound v within) refl
+    rw (ne_eqb n 0 (omega arith), le-ltb limit (counting_digits skip n z) fits, le-ltb bound v within) refl
 
 -- a number that is there where it is within the bound
 pub some_within : (bound x n : ℕ) → Some n ≡ (if nat_lt bound x then None else Some x) → (n ≡ x) × (x ≤ bound)
@@ -87,14 +87,14 @@ below_bound limit bound m x digits short below =
     omega (arith, digits.0)
 
 -- without zeros that could be skipped, all digits from there on count
-counted_is : (t : Table) (skip : Bool) (s : List ℕ) (at before now : ℕ) (w : Window) → Skipped t skip s at before now w →
-    w.len ≡ 16 → counted skip (run_len t s) (zeros t s) ≡ run_len t (drop at s)
-counted_is t true s at before now w so full = omega (arith, so.full refl full, so.run_is)
-counted_is t false s at before now w so full = omega (arith, so.off refl, so.run_is)
+counting_digits-is : (t : Table) (skip : Bool) (s : List ℕ) (at before now : ℕ) (w : Window) → Skipped t skip s at before now w →
+    w.len ≡ 16 → counting_digits skip (run_len t s) (zeros t s) ≡ run_len t (drop at s)
+counting_digits-is t true s at before now w so full = omega (arith, so.full refl full, so.run_is)
+counting_digits-is t false s at before now w so full = omega (arith, so.off refl, so.run_is)
 
 -- fewer than 16 count where the last window is not full
 counted_most : (t : Table) (skip : Bool) (s : List ℕ) (at before now : ℕ) (w : Window) → Skipped t skip s at before now w →
-    counted skip (run_len t s) (zeros t s) ≤ run_len t (drop at s)
+    counting_digits skip (run_len t s) (zeros t s) ≤ run_len t (drop at s)
 counted_most t true s at before now w so = omega (arith, so.run_is, so.zeros_are)
 counted_most t false s at before now w so = omega (arith, so.off refl, so.run_is)
 
@@ -136,9 +136,9 @@ pub answers_size : (t : Table) (told bound limit : ℕ) (skip : Bool) (s : List 
     Err (size (at + m) (drop at s)) ≡ wide_prefix t told bound limit skip s
 unfolding wide_prefix
 answers_size t told bound limit skip s at before now w m x so full reads long =
-    let d : counted skip (run_len t s) (zeros t s) ≡ run_len t (drop at s) = counted_is t skip s at before now w so full in
-    let e : run_len t s - counted skip (run_len t s) (zeros t s) ≡ at = omega (arith, so.run_is) in
-    let k : min (counted skip (run_len t s) (zeros t s)) told ≡ m =
+    let d : counting_digits skip (run_len t s) (zeros t s) ≡ run_len t (drop at s) = counting_digits-is t skip s at before now w so full in
+    let e : run_len t s - counting_digits skip (run_len t s) (zeros t s) ≡ at = omega (arith, so.run_is) in
+    let k : min (counting_digits skip (run_len t s) (zeros t s)) told ≡ m =
     elim (cases_lt m told) [
       | inl h ↦ omega (arith, reads.ends h)
       | inr h ↦ omega (arith, reads.inside, reads.within)
@@ -153,8 +153,8 @@ pub answers_overflow : (t : Table) (told bound limit : ℕ) (skip : Bool) (s : L
     Err (overflow (drop at s)) ≡ wide_prefix t told bound limit skip s
 unfolding wide_prefix
 answers_overflow t told bound limit skip s at before now w m x so full reads some short less over =
-    let d : counted skip (run_len t s) (zeros t s) ≡ run_len t (drop at s) = counted_is t skip s at before now w so full in
-    let e : run_len t s - counted skip (run_len t s) (zeros t s) ≡ at = omega (arith, so.run_is) in
+    let d : counting_digits skip (run_len t s) (zeros t s) ≡ run_len t (drop at s) = counting_digits-is t skip s at before now w so full in
+    let e : run_len t s - counting_digits skip (run_len t s) (zeros t s) ≡ at = omega (arith, so.run_is) in
     let ends : m < told = omega arith in
     let rest : run_len t (drop at s) ≡ m = reads.ends ends in
     let v : value t (run t s) ≡ x = so.value_is ∙ reads.value_is ends in
@@ -168,7 +168,7 @@ pub answers_ok : (t : Table) (told bound limit : ℕ) (skip : Bool) (s : List �
     Ok (x, at + m) ≡ wide_prefix t told bound limit skip s
 unfolding wide_prefix
 answers_ok t told bound limit skip s at before now w m x so full reads some short less within =
-    let d : counted skip (run_len t s) (zeros t s) ≡ run_len t (drop at s) = counted_is t skip s at before now w so full in
+    let d : counting_digits skip (run_len t s) (zeros t s) ≡ run_len t (drop at s) = counting_digits-is t skip s at before now w so full in
     let ends : m < told = omega arith in
     let rest : run_len t (drop at s) ≡ m = reads.ends ends in
     let n : run_len t s ≡ at + m = omega (arith, so.run_is) in

@@ -20,26 +20,26 @@ abbrev pub HasDigits : ℕ → ℕ → Type 0
 HasDigits limit number = (10 ^ (limit - 1) ≤ number) × (number < 10 ^ limit)
 
 -- how many digits count against the limit of a wide class: zeros that are skipped do not
-abbrev pub counted : Bool → ℕ → ℕ → ℕ
-counted true digits leading = digits - leading
-counted false digits leading = digits
+abbrev pub counting_digits : Bool → ℕ → ℕ → ℕ
+counting_digits true digits leading = digits - leading
+counting_digits false digits leading = digits
 
 -- how many digits are read: a narrow prefix that skips no zeros stops after 16
-abbrev pub seen : Class → Extent → Bool → ℕ → ℕ
-seen narrow prefix false digits = min digits 16
-seen narrow prefix true digits = digits
-seen narrow whole skip digits = digits
-seen wide64 extent skip digits = digits
-seen wide128 extent skip digits = digits
+abbrev pub digits_read : Class → Extent → Bool → ℕ → ℕ
+digits_read narrow prefix false digits = min digits 16
+digits_read narrow prefix true digits = digits
+digits_read narrow whole skip digits = digits
+digits_read wide64 extent skip digits = digits
+digits_read wide128 extent skip digits = digits
 
 -- how many zeros the slice of an overflow leaves out
-abbrev pub dropped : Class → Extent → Bool → ℕ → ℕ → ℕ
-dropped narrow whole skip digits leading = 0
-dropped narrow prefix false digits leading = 0
-dropped narrow prefix true digits leading =
+abbrev pub dropped_zeros : Class → Extent → Bool → ℕ → ℕ → ℕ
+dropped_zeros narrow whole skip digits leading = 0
+dropped_zeros narrow prefix false digits leading = 0
+dropped_zeros narrow prefix true digits leading =
     if nat_lt (leading / 16) (digits / 16) then leading else 16 * (leading / 16)
-dropped wide64 extent skip digits leading = digits - counted skip digits leading
-dropped wide128 extent skip digits leading = digits - counted skip digits leading
+dropped_zeros wide64 extent skip digits leading = digits - counting_digits skip digits leading
+dropped_zeros wide128 extent skip digits leading = digits - counting_digits skip digits leading
 
 -- more digits count than the greatest number of a wide class has
 abbrev pub is_too_long : Class → ℕ → ℕ → Bool
@@ -70,13 +70,13 @@ unfoldable pub refusal : Table → Class → (bound limit : ℕ) → Extent → 
 refusal table class bound limit extent skip body =
     let digits = run_len table body in
     let leading = zeros table body in
-    let counting = counted skip digits leading in
-    let number = value table (take (seen class extent skip digits) body) in
+    let counting = counting_digits skip digits leading in
+    let number = value table (take (digits_read class extent skip digits) body) in
     if digits == 0 then Some empty
     else (if is_too_long class limit counting
     then Some (size (digits - counting + min counting (cap class)) (drop (digits - counting) body))
     else (if nat_lt bound number
-    then Some (overflow (drop (dropped class extent skip digits leading) body))
+    then Some (overflow (drop (dropped_zeros class extent skip digits leading) body))
     else (if leaves_rest extent digits (length body)
     then Some (invalid class number digits body)
     else None)))
@@ -94,5 +94,5 @@ whole_magnitude table class bound limit skip body =
 -- the answer for a front: the value of the digits that are read, and how many these are
 abbrev pub prefix_magnitude : Table → Class → (bound limit : ℕ) → Bool → List ℕ → Result (ℕ × ℕ) Refusal
 prefix_magnitude table class bound limit skip body =
-    let read = seen class prefix skip (run_len table body) in
+    let read = digits_read class prefix skip (run_len table body) in
     unless_refused (refusal table class bound limit prefix skip body) (value table (take read body), read)

@@ -8,7 +8,7 @@ use Rattle.atoi_core.specs.Run.{run_len, run, zeros, value}
 use Rattle.atoi_core.specs.Window.{window_of}
 use Rattle.atoi_core.specs.declared.window.Window.{Window}
 use Rattle.atoi_lanes.specs.LaneWindow.{lane_window}
-use Rattle.atoi_lanes.specs.Padded.{padded}
+use Rattle.atoi_lanes.specs.Padded.{padded_front}
 
 -- a zero that fails the test ends the front, as the end does
 prefix_len-padded : (p : ℕ → Bool) → p 0 ≡ false → (n m : ℕ) (s : List ℕ) → prefix_len p (take n (s ++ replicate m 0)) ≡ prefix_len p (take n s)
@@ -38,20 +38,20 @@ take-min n s =
     ]
 
 -- the lanes tell what the bytes in them do
-lanes_tell : (size : ℕ) (s : List ℕ) → lane_window size (padded 16 s) ≡ lane_window size (take 16 s)
+lanes_tell : (size : ℕ) (s : List ℕ) → lane_window size (padded_front 16 s) ≡ lane_window size (take 16 s)
 lanes_tell size s =
     let len = prefix_len-padded (is_digit decimal_table) refl 16 16 s in
     let leading = prefix_len-padded (is_zero decimal_table) refl 16 16 s in
-    let front : run decimal_table (padded 16 s) ≡ run decimal_table (take 16 s) =
-    ap (λ n. take n (padded 16 s)) len ∙ front-padded (is_digit decimal_table) 16 s (replicate 16 0) in
+    let front : run decimal_table (padded_front 16 s) ≡ run decimal_table (take 16 s) =
+    ap (λ n. take n (padded_front 16 s)) len ∙ front-padded (is_digit decimal_table) 16 s (replicate 16 0) in
     let window : (ℕ → ℕ → List ℕ → Window) = λ n z r. record { len = n; zeroes = if n == size then z else 0; number = value decimal_table r } in
-    ap₂ (λ n z. window n z (run decimal_table (padded 16 s))) len leading
+    ap₂ (λ n z. window n z (run decimal_table (padded_front 16 s))) len leading
     ∙ ap (window (run_len decimal_table (take 16 s)) (zeros decimal_table (take 16 s))) front
 
 -- sixteen bytes in sixteen lanes are a window
-pub window-of_lanes : (s : List ℕ) → lane_window 16 (padded 16 s) ≡ window_of decimal_table 16 s
+pub window-of_lanes : (s : List ℕ) → lane_window 16 (padded_front 16 s) ≡ window_of decimal_table 16 s
 window-of_lanes s = lanes_tell 16 s
 
 -- and so are eight
-pub window-of_half_the_lanes : (s : List ℕ) → lane_window 8 (padded 16 (take 8 s)) ≡ window_of decimal_table 8 s
+pub window-of_half_the_lanes : (s : List ℕ) → lane_window 8 (padded_front 16 (take 8 s)) ≡ window_of decimal_table 8 s
 window-of_half_the_lanes s = lanes_tell 8 (take 8 s) ∙ ap (lane_window 8) (take_all 16 (take 8 s) (omega (arith, length-take 8 s)))

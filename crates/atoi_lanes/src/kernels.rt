@@ -5,7 +5,7 @@ ghost use Rattle.atoi_core.specs.Digit.{decimal_table};
 ghost use Rattle.atoi_core.specs.Run.{run_len, zeros, value};
 ghost use Rattle.atoi_core.specs.Words.{word_of};
 ghost use Rattle.atoi_lanes.specs.Itself.{itself};
-ghost use Rattle.atoi_lanes.specs.Padded.{padded};
+ghost use Rattle.atoi_lanes.specs.Padded.{padded_front};
 
 use atoi_core::words::load_8;
 use std::simd::prelude::*;
@@ -40,7 +40,7 @@ const PLACES: [u32; 17] = [
 /// is missing is 0.
 #[inline(always)]
 pub fn load_lanes(s: &[u8]) -> u8x16
-    ensures { result ≡ padded 16 s.now }
+    ensures { result ≡ padded_front 16 s.now }
 {
     match s.first_chunk::<LANES>() {
         Some(bytes) => u8x16::from_array(*bytes),

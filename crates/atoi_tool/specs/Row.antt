@@ -12,22 +12,22 @@ abbrev pub cut : List ℕ → Option (List ℕ × List ℕ)
 cut line = option_map (λ place. (take place line, drop (place + 1) line)) (position (λ byte. byte == space) line)
 
 -- what four words ask for, where each of them names something
-abbrev pub named_request : (engine call integer flags : List ℕ) → Option Request
-named_request engine call integer flags =
-    option_and_then (λ e. option_and_then (λ c. option_and_then (λ i. option_map
-    (λ f. record { engine = e; call = c; integer = i; flags = f })
-    (flags_of flags)) (integer_of integer)) (call_of call)) (engine_of engine)
+abbrev pub named_request : (engine_word call_word integer_word flags_word : List ℕ) → Option Request
+named_request engine_word call_word integer_word flags_word =
+    option_and_then (λ engine. option_and_then (λ call. option_and_then (λ integer. option_map
+    (λ flags. record { engine = engine; call = call; integer = integer; flags = flags })
+    (flags_of flags_word)) (integer_of integer_word)) (call_of call_word)) (engine_of engine_word)
 
 -- the same, where there is an answer to such a row
-abbrev pub request_of : (engine call integer flags : List ℕ) → Option Request
-request_of engine call integer flags =
+abbrev pub request_of : (engine_word call_word integer_word flags_word : List ℕ) → Option Request
+request_of engine_word call_word integer_word flags_word =
     option_and_then (λ request. if is_known request then Some request else None)
-    (named_request engine call integer flags)
+    (named_request engine_word call_word integer_word flags_word)
 
 -- what a line asks for, and the text behind its fourth space, which may hold more of them; none where the
 -- line is a bad row
 abbrev pub row_of : List ℕ → Option (Request × List ℕ)
 row_of line =
-    option_and_then (λ a. option_and_then (λ b. option_and_then (λ c. option_and_then
-    (λ d. option_map (λ request. (request, d.1)) (request_of a.0 b.0 c.0 d.0))
-    (cut c.1)) (cut b.1)) (cut a.1)) (cut line)
+    option_and_then (λ engine. option_and_then (λ call. option_and_then (λ integer. option_and_then
+    (λ flags. option_map (λ request. (request, flags.1)) (request_of engine.0 call.0 integer.0 flags.0))
+    (cut integer.1)) (cut call.1)) (cut engine.1)) (cut line)
