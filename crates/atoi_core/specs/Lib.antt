@@ -5,6 +5,7 @@ pub mod Refusal
 pub mod ErrorText
 pub mod Magnitude
 pub mod Kind
+pub mod Kinds
 pub mod Sign
 pub mod Answer
 pub mod Text

@@ -47,7 +47,8 @@ pub trait Parse: ParsePos {
         skip_plus: bool,
     ) -> Result<(Self, usize), AtoiSimdError<'_>>
         ensures answer { typed_prefix_answer Self.number result
-            ≡ parse_prefix_answer (kind Self.BITS Self.SIGNED Self.GREATEST) skip_zeroes skip_plus s.now }
+            ≡ parse_prefix_answer (kind Self.BITS Self.SIGNED Self.GREATEST)
+            skip_zeroes skip_plus s.now }
         ensures within { IfOk result (λ found. found.1 ≤ length s.now) };
 }
 

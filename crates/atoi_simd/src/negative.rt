@@ -32,7 +32,8 @@ pub trait ParseNeg: Signed {
     /// The number of an error is a magnitude.
     fn atoi_simd_parse_neg(s: &[u8], skip_zeroes: bool) -> Result<Self, AtoiSimdError<'_>>
         ensures answer { typed_answer Self.number result
-            ≡ whole_answer decimal_table (kind Self.BITS Self.SIGNED Self.GREATEST) true skip_zeroes s.now };
+            ≡ whole_answer decimal_table (kind Self.BITS Self.SIGNED Self.GREATEST)
+            true skip_zeroes s.now };
 
     /// The number whose magnitude stands at the front of `s`, and the length of its digits in bytes, zeros included.
     ///
@@ -48,7 +49,8 @@ pub trait ParseNeg: Signed {
         skip_zeroes: bool,
     ) -> Result<(Self, usize), AtoiSimdError<'_>>
         ensures answer { typed_prefix_answer Self.number result
-            ≡ prefix_answer decimal_table (kind Self.BITS Self.SIGNED Self.GREATEST) true skip_zeroes s.now }
+            ≡ prefix_answer decimal_table (kind Self.BITS Self.SIGNED Self.GREATEST)
+            true skip_zeroes s.now }
         ensures within { IfOk result (λ found. found.1 ≤ length s.now) };
 }
 

@@ -30,7 +30,8 @@ pub trait ParsePos: Number {
     /// - `Invalid64`, or `Invalid128` for a type of 128 bits, where another byte stands behind the digits.
     fn atoi_simd_parse_pos(s: &[u8], skip_zeroes: bool) -> Result<Self, AtoiSimdError<'_>>
         ensures answer { typed_answer Self.number result
-            ≡ whole_answer decimal_table (kind Self.BITS Self.SIGNED Self.GREATEST) false skip_zeroes s.now };
+            ≡ whole_answer decimal_table (kind Self.BITS Self.SIGNED Self.GREATEST)
+            false skip_zeroes s.now };
 
     /// The number at the front of `s`, and its length in bytes, zeros included.
     ///
@@ -46,7 +47,8 @@ pub trait ParsePos: Number {
         skip_zeroes: bool,
     ) -> Result<(Self, usize), AtoiSimdError<'_>>
         ensures answer { typed_prefix_answer Self.number result
-            ≡ prefix_answer decimal_table (kind Self.BITS Self.SIGNED Self.GREATEST) false skip_zeroes s.now }
+            ≡ prefix_answer decimal_table (kind Self.BITS Self.SIGNED Self.GREATEST)
+            false skip_zeroes s.now }
         ensures within { IfOk result (λ found. found.1 ≤ length s.now) };
 }
 

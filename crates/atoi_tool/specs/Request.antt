@@ -1,7 +1,8 @@
 -- What the words of a row name, and which rows there are.
 use Rattle.std.specs.Prelude.{Option, Some, None, Bool, true, false, List, ℕ, codes, ◌&&◌, if◌then◌else◌}
 use Rattle.std.specs.Str.{bytes_eq}
-use Rattle.atoi_core.specs.Kind.{Kind, kind}
+use Rattle.atoi_core.specs.Kind.{Kind}
+use Rattle.atoi_core.specs.Kinds.{u8_kind, i8_kind, u16_kind, i16_kind, u32_kind, i32_kind, u64_kind, i64_kind, u128_kind, i128_kind, usize_kind, isize_kind}
 use Rattle.atoi_tool.specs.declared.request.Engine.{Engine}
 use Rattle.atoi_tool.specs.declared.request.Engine.TheVariants.{Words, Lanes}
 use Rattle.atoi_tool.specs.declared.request.Call.{Call}
@@ -49,18 +50,18 @@ flags_of word =
 
 -- what a parse has to know of a type
 abbrev pub kind_of : Integer → Kind
-kind_of U8 = kind 8 false 255
-kind_of I8 = kind 8 true 127
-kind_of U16 = kind 16 false 65535
-kind_of I16 = kind 16 true 32767
-kind_of U32 = kind 32 false 4294967295
-kind_of I32 = kind 32 true 2147483647
-kind_of U64 = kind 64 false 18446744073709551615
-kind_of I64 = kind 64 true 9223372036854775807
-kind_of U128 = kind 128 false 340282366920938463463374607431768211455
-kind_of I128 = kind 128 true 170141183460469231731687303715884105727
-kind_of Usize = kind 64 false 18446744073709551615
-kind_of Isize = kind 64 true 9223372036854775807
+kind_of U8 = u8_kind
+kind_of I8 = i8_kind
+kind_of U16 = u16_kind
+kind_of I16 = i16_kind
+kind_of U32 = u32_kind
+kind_of I32 = i32_kind
+kind_of U64 = u64_kind
+kind_of I64 = i64_kind
+kind_of U128 = u128_kind
+kind_of I128 = i128_kind
+kind_of Usize = usize_kind
+kind_of Isize = isize_kind
 
 -- the call takes a sign at the front of its text
 abbrev pub takes_sign : Call → Bool

@@ -92,7 +92,8 @@ pub fn parse_prefix_pos<T: atoi_simd::Parse + lanes::Parse>(
     text: &[u8],
 ) -> Result<(T, usize), AtoiSimdError<'_>>
     ensures { typed_prefix_answer T.number result
-        ≡ prefix_answer decimal_table (kind T.BITS T.SIGNED T.GREATEST) false flags.zeroes text.now }
+        ≡ prefix_answer decimal_table (kind T.BITS T.SIGNED T.GREATEST)
+        false flags.zeroes text.now }
 {
     match (engine, flags.zeroes) {
         (Engine::Words, false) => atoi_simd::parse_prefix_pos::<T, false>(text),

@@ -45,7 +45,9 @@ impl Engine for Letters {
 pub(crate) struct BothCases;
 
 impl Alphabet for BothCases {
-    ghost table = { λ byte. if nat_le 65 byte && nat_le byte 74 then Some (byte - 65) else (if nat_le 97 byte && nat_le byte 106 then Some (byte - 97) else None) };
+    ghost table = { λ byte.
+        if nat_le 65 byte && nat_le byte 74 then Some (byte - 65)
+        else (if nat_le 97 byte && nat_le byte 106 then Some (byte - 97) else None) };
 
     fn worth(byte: u8) -> Option<u64> {
         match byte {
