@@ -252,21 +252,25 @@ fn writes_a_byte_at_a_time(rt: HostRuntime) -> Result<(), Fail> {
     Ok(())
 }
 
+// That a writer with room for `room` bytes gets these, and that the refusal behind them is told.
+fn check_refused_write(rt: &impl Abort, alloc: Global, room: usize, full: Full) {
+    let mut sink = ToWriter::new(Narrow {
+        held: Vec::new(alloc),
+        part: 5,
+        room,
+        full,
+    });
+    let outcome = answer_lines(LINES, &mut sink);
+    assert_eq!(rt; outcome, Err(ToolError::Write));
+    assert_eq!(rt; status(&outcome), 5);
+    assert_eq!(rt; sink.into_inner().held.as_slice(), &ANSWERS[..room]);
+}
+
 #[test]
-fn tells_a_refused_write(rt: HostRuntime) -> Result<(), Fail> {
+fn tells_a_refused_write(rt: HostRuntime) {
     for room in 0..ANSWERS.len() {
-        for full in [Full::Fails, Full::IsInterrupted, Full::TakesNone] {
-            let mut sink = ToWriter::new(Narrow {
-                held: Vec::new(rt.alloc()),
-                part: 5,
-                room,
-                full,
-            });
-            let outcome = answer_lines(LINES, &mut sink);
-            assert_eq!(rt; outcome, Err(ToolError::Write));
-            assert_eq!(rt; status(&outcome), 5);
-            assert_eq!(rt; sink.into_inner().held.as_slice(), &ANSWERS[..room]);
-        }
+        check_refused_write(&rt, rt.alloc(), room, Full::Fails);
+        check_refused_write(&rt, rt.alloc(), room, Full::IsInterrupted);
+        check_refused_write(&rt, rt.alloc(), room, Full::TakesNone);
     }
-    Ok(())
 }
