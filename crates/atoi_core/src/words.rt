@@ -26,8 +26,8 @@ fn load_part(s: &[u8]) -> u64
 {
     match (s.first_chunk::<4>(), s.last_chunk::<4>()) {
         (Some(first), Some(last)) => {
-            let low = u32::from_le_bytes(*first) as u64;
-            let high = u32::from_le_bytes(*last) as u64;
+            let low = u64::from(u32::from_le_bytes(*first));
+            let high = u64::from(u32::from_le_bytes(*last));
             low + ((high >> (64 - 8 * s.len())) << 32)
         }
         _ => load_few(s),
@@ -42,9 +42,9 @@ fn load_few(s: &[u8]) -> u64
 {
     match s {
         [] => 0,
-        [a] => *a as u64,
-        [a, b] => *a as u64 + ((*b as u64) << 8),
-        [a, b, c, ..] => *a as u64 + ((*b as u64) << 8) + ((*c as u64) << 16),
+        [a] => u64::from(*a),
+        [a, b] => u64::from(*a) + (u64::from(*b) << 8),
+        [a, b, c, ..] => u64::from(*a) + (u64::from(*b) << 8) + (u64::from(*c) << 16),
     }
 }
 

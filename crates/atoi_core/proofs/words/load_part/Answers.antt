@@ -10,6 +10,6 @@ returns-in-Some-Some c =
     let first = c.in-Some-Some.ensures.cases in
     let last = c.in-Some-Some.ensures'.cases in
     ap₂ (λ low high. low + high / 2 ^ (64 - 8 * length s) * 2 ^ 32 % 2 ^ 64)
-    (c.from_le_bytes-low.ensures ∙ ap (from_le_bytes w32) first.same)
-    (c.from_le_bytes-high.ensures ∙ ap (from_le_bytes w32) last.1.same)
+    (c.from-low.ensures ∙ c.from_le_bytes.ensures ∙ ap (from_le_bytes w32) first.same)
+    (c.from-high.ensures ∙ c.from_le_bytes-in-Some-Some.ensures ∙ ap (from_le_bytes w32) last.1.same)
     ∙ joined_halves s last.0 c.requires (λ i. (c.type_inv.s i).fits)
