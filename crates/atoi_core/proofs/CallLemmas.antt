@@ -7,8 +7,8 @@ use Rattle.atoi_core.specs.Refusal.{Refusal}
 use Rattle.atoi_core.specs.Magnitude.{Class, narrow, wide64, wide128, whole, prefix, digits_read, counting_digits, is_too_long, leaves_rest, unless_refused}
 use Rattle.atoi_core.specs.Kind.{Kind, class_of, bound_of, limit_of}
 use Rattle.atoi_core.specs.Sign.{Sign, number_of}
-use Rattle.atoi_core.specs.Answer.{map_answer, whole_answer, prefix_answer}
-use Rattle.atoi_core.specs.Laws.{SignForm, looked_for, positive, negative, sign_in, whole_call, prefix_call, with_more, ReadsWholeRun}
+use Rattle.atoi_core.specs.Answer.{map_answer, whole_answer, prefix_answer, with_more}
+use Rattle.atoi_core.specs.Laws.{SignForm, looked_for, positive, negative, sign_in, whole_call, prefix_call, ReadsWholeRun}
 use Rattle.atoi_core.proofs.RefusalLemmas.{IsAccepted, accepted, refusal-none}
 
 -- a count that grows by 0 stays

@@ -10,8 +10,8 @@ use Rattle.atoi_core.specs.Refusal.{Refusal, rank}
 use Rattle.atoi_core.specs.Magnitude.{Class, Extent, whole, prefix, digits_read, counting_digits, is_too_long, leaves_rest, invalid, refusal, unless_refused}
 use Rattle.atoi_core.specs.Kind.{Kind, class_of, bound_of, limit_of}
 use Rattle.atoi_core.specs.Sign.{Sign, number_of}
-use Rattle.atoi_core.specs.Answer.{map_answer, whole_answer, prefix_answer}
-use Rattle.atoi_core.specs.Laws.{SignForm, sign_in, with_more, with_zeros, zero_byte, IsSameKind, RestChangesNothing, ZerosChangeNothing}
+use Rattle.atoi_core.specs.Answer.{map_answer, whole_answer, prefix_answer, with_more}
+use Rattle.atoi_core.specs.Laws.{SignForm, sign_in, with_zeros, zero_byte, IsSameKind, RestChangesNothing, ZerosChangeNothing}
 use Rattle.atoi_core.proofs.CutLemmas.{length-run, zeros-run, value-replicate, prefix_len-replicate_append}
 use Rattle.atoi_core.proofs.RefusalLemmas.{refusal-rank, first_rank}
 use Rattle.atoi_core.proofs.SignLemmas.{sign_again}

@@ -5,8 +5,8 @@ use Rattle.atoi_core.specs.Refusal.{Refusal, input_of}
 use Rattle.atoi_core.specs.Magnitude.{whole, prefix}
 use Rattle.atoi_core.specs.Kind.{Kind, class_of, bound_of, limit_of}
 use Rattle.atoi_core.specs.Sign.{number_of}
-use Rattle.atoi_core.specs.Answer.{prefix_answer}
-use Rattle.atoi_core.specs.Laws.{SignForm, sign_in, whole_call, prefix_call, with_more, IsSuffix, OrderAndSuffix}
+use Rattle.atoi_core.specs.Answer.{prefix_answer, with_more}
+use Rattle.atoi_core.specs.Laws.{SignForm, sign_in, whole_call, prefix_call, IsSuffix, OrderAndSuffix}
 use Rattle.atoi_core.proofs.ErrorOrder.{refusal_cmp-Equal}
 use Rattle.atoi_core.proofs.RefusalLemmas.{refusal-input}
 use Rattle.atoi_core.proofs.SignLemmas.{drop-taken}

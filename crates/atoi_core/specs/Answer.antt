@@ -1,8 +1,7 @@
 -- The answers of the parses, for an integer type.
 use Rattle.std.specs.Prelude.{ℕ, ◌+◌, Bool, List, ℤ, Result, Ok, Err}
 use Rattle.atoi_core.specs.Digit.{Table, decimal_table}
-use Rattle.atoi_core.specs.Refusal.{Refusal}
-use Rattle.atoi_core.specs.Refusal.{answer_of}
+use Rattle.atoi_core.specs.Refusal.{Refusal, answer_of}
 use Rattle.atoi_core.specs.declared.error.AtoiSimdError.{AtoiSimdError}
 use Rattle.atoi_core.specs.Magnitude.{Class, narrow, wide64, wide128, whole_magnitude, prefix_magnitude}
 use Rattle.atoi_core.specs.Kind.{Kind, class_of, bound_of, limit_of}
@@ -46,12 +45,12 @@ parse_answer k skip plus s =
     let sign = sign_of k.signed plus s in
     whole_answer decimal_table k sign.minus skip sign.body
 
--- a prefix's answer with the bytes of the sign counted too
-abbrev pub with_taken : ℕ → Result (ℤ × ℕ) Refusal → Result (ℤ × ℕ) Refusal
-with_taken taken answer = map_answer (λ (found : ℤ × ℕ). (found.0, found.1 + taken)) answer
+-- a prefix's answer with a count that is greater by `more`
+abbrev pub with_more : ℕ → Result (ℤ × ℕ) Refusal → Result (ℤ × ℕ) Refusal
+with_more more answer = map_answer (λ (found : ℤ × ℕ). (found.0, found.1 + more)) answer
 
 -- what `parse_prefix` answers: the count is of the sign's byte too
 abbrev pub parse_prefix_answer : Kind → (skip plus : Bool) → List ℕ → Result (ℤ × ℕ) Refusal
 parse_prefix_answer k skip plus s =
     let sign = sign_of k.signed plus s in
-    with_taken sign.taken (prefix_answer decimal_table k sign.minus skip sign.body)
+    with_more sign.taken (prefix_answer decimal_table k sign.minus skip sign.body)

@@ -218,22 +218,18 @@ text_of_fifty = refl
 
 -- the variant decides first
 pub variant_first : refusal_cmp (size 9 (codes "b")) (overflow (codes "a")) ≡ Less
-unfolding digits
 variant_first = refl
 
 -- a proper front comes first
 pub front_first : refusal_cmp (overflow (codes "1")) (overflow (codes "11")) ≡ Less
-unfolding digits
 front_first = refl
 
 -- the left number decides first
 pub left_number_first : refusal_cmp (invalid64 1 2 (codes "a")) (invalid64 2 1 (codes "a")) ≡ Less
-unfolding digits
 left_number_first = refl
 
 -- the body begins with the second sign
 pub second_sign_stays : sign_of true true (codes "+-5") ≡ record { minus = false; taken = 1; body = codes "-5" }
-unfolding digits
 second_sign_stays = refl
 
 -- each wide type's limit is the count of digits of its greatest magnitude

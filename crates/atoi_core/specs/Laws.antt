@@ -8,7 +8,7 @@ use Rattle.atoi_core.specs.Run.{run_len, run, value}
 use Rattle.atoi_core.specs.Refusal.{Refusal, rank, input_of, refusal_cmp}
 use Rattle.atoi_core.specs.Kind.{Kind}
 use Rattle.atoi_core.specs.Sign.{Sign, sign_of, number_of}
-use Rattle.atoi_core.specs.Answer.{map_answer, whole_answer, prefix_answer, parse_answer, parse_prefix_answer}
+use Rattle.atoi_core.specs.Answer.{whole_answer, prefix_answer, with_more, parse_answer, parse_prefix_answer}
 use Rattle.atoi_core.specs.Text.{IsText, is_minus}
 
 -- how a call comes by its sign: it looks for one at the front of its slice, for a plus only where
@@ -76,10 +76,6 @@ abbrev pub with_zeros : Kind → SignForm → (count : ℕ) → List ℕ → Lis
 with_zeros k form count s =
     let sign = sign_in k form s in
     take sign.taken s ++ (replicate count zero_byte ++ sign.body)
-
--- the same answer with a count that is greater by `more`
-abbrev pub with_more : ℕ → Result (ℤ × ℕ) Refusal → Result (ℤ × ℕ) Refusal
-with_more more answer = map_answer (λ (found : ℤ × ℕ). (found.0, found.1 + more)) answer
 
 -- the decimal text of every number of the type is parsed to that number, whatever the flags
 abbrev pub TextOfValue : Kind → Type 0

@@ -41,7 +41,7 @@ pub fn whole_pos<'a, E: Engine, T: Number>(
         (kind T.BITS T.SIGNED T.GREATEST) false skip s.now }
     ensures most { steps.new ≤ steps.old
         + most_loads E.table (class_of (kind T.BITS T.SIGNED T.GREATEST)) s.now }
-    ensures none { class_of (kind T.BITS T.SIGNED T.GREATEST) ≡ narrow → steps.new ≡ steps.old }
+    ensures loads_nothing { class_of (kind T.BITS T.SIGNED T.GREATEST) ≡ narrow → steps.new ≡ steps.old }
     ensures least { class_of (kind T.BITS T.SIGNED T.GREATEST) ≢ narrow
         → 0 < length s.now → steps.old < steps.new }
     ensures least_skipping { class_of (kind T.BITS T.SIGNED T.GREATEST) ≢ narrow
@@ -74,7 +74,7 @@ pub fn whole_neg<'a, E: Engine, T: Signed>(
         (kind T.BITS T.SIGNED T.GREATEST) true skip s.now }
     ensures most { steps.new ≤ steps.old
         + most_loads E.table (class_of (kind T.BITS T.SIGNED T.GREATEST)) s.now }
-    ensures none { class_of (kind T.BITS T.SIGNED T.GREATEST) ≡ narrow → steps.new ≡ steps.old }
+    ensures loads_nothing { class_of (kind T.BITS T.SIGNED T.GREATEST) ≡ narrow → steps.new ≡ steps.old }
     ensures least { class_of (kind T.BITS T.SIGNED T.GREATEST) ≢ narrow
         → 0 < length s.now → steps.old < steps.new }
     ensures least_skipping { class_of (kind T.BITS T.SIGNED T.GREATEST) ≢ narrow

@@ -35,7 +35,7 @@ pub fn narrow_prefix<'a, E: Engine>(
     requires high { bound ≤ 4294967295 }
     ensures answer { answer_of result ≡ prefix_magnitude E.table narrow bound 0 skip s.now }
     ensures most { steps.new ≤ steps.old + most_loads E.table narrow s.now }
-    ensures one { skip ≡ false → steps.new ≡ steps.old + 1 }
+    ensures loads_one { skip ≡ false → steps.new ≡ steps.old + 1 }
     ensures least { 0 < length s.now → steps.old < steps.new }
     ensures least_skipping { IsTrue skip → steps.old + least_loads E.table s.now ≤ steps.new }
 {

@@ -2,7 +2,7 @@
 //! It stands on `error` and on `number`.
 ghost use Rattle.std.specs.Prelude.{◌≡◌, ◌+◌, ◌<◌, ◌^◌, length};
 ghost use Rattle.std.specs.Result.{ForOk};
-ghost use Rattle.atoi_core.specs.Answer.{typed_prefix_answer, with_taken};
+ghost use Rattle.atoi_core.specs.Answer.{typed_prefix_answer, with_more};
 ghost use Rattle.atoi_core.specs.Sign.{sign_of};
 
 use crate::error::AtoiSimdError;
@@ -35,7 +35,7 @@ pub fn with_sign<'a, T: Number>(
 ) -> Result<(T, usize), AtoiSimdError<'a>>
     requires { ForOk found (λ answer. answer.1 + taken < 2 ^ 64) }
     ensures { typed_prefix_answer T.number result
-        ≡ with_taken taken (typed_prefix_answer T.number found.entry) }
+        ≡ with_more taken (typed_prefix_answer T.number found.entry) }
 {
     match found {
         Ok((value, len)) => Ok((value, len + taken)),

@@ -155,8 +155,8 @@ fn digits_of(word: u64) -> u32
 // What `process_8` answers of at most 4 bytes, in half the width.
 #[inline(always)]
 fn process_4(word: u32, len: u32) -> u32
-    requires some { 1 ≤ len }
-    requires most { len ≤ 4 }
+    requires low { 1 ≤ len }
+    requires high { len ≤ 4 }
     ensures sum { result ≡ low_value (low_bytes len word) }
     ensures most { result ≤ 16665 }
 {

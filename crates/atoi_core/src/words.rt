@@ -67,8 +67,8 @@ pub fn check_len_8(val: u64) -> u32
 /// the bytes above it do not matter. The most is 166666665, where every bit is set.
 #[inline(always)]
 pub fn process_8(val: u64, len: u32) -> u64
-    requires some { 1 ≤ len }
-    requires most { len ≤ 8 }
+    requires low { 1 ≤ len }
+    requires high { len ≤ 8 }
     ensures sum { result ≡ low_value (low_bytes len val) }
     ensures most { result ≤ 166666665 }
 {
@@ -83,8 +83,8 @@ pub fn process_8(val: u64, len: u32) -> u64
 /// do not matter. The most is 16666666666666665, where every bit is set.
 #[inline(always)]
 pub fn process_16(val: u128, len: u32) -> u64
-    requires some { 1 ≤ len }
-    requires most { len ≤ 16 }
+    requires low { 1 ≤ len }
+    requires high { len ≤ 16 }
     ensures sum { result ≡ low_value (low_bytes len val) }
     ensures most { result ≤ 16666666666666665 }
 {
@@ -99,7 +99,7 @@ pub fn process_16(val: u128, len: u32) -> u64
 /// How many lowest bytes of `val` in a row are zeros, the byte 48: 0 to 8.
 #[inline(always)]
 pub fn len_zeroes(val: u64) -> u32
-    ensures len { result ≡ zeros decimal_table (low_bytes 8 val) }
+    ensures zeroes { result ≡ zeros decimal_table (low_bytes 8 val) }
     ensures most { result ≤ 8 }
 {
     (val ^ 0x3030_3030_3030_3030).trailing_zeros() / 8
@@ -108,7 +108,7 @@ pub fn len_zeroes(val: u64) -> u32
 /// How many lowest bytes of `val` in a row are zeros, the byte 48: 0 to 16.
 #[inline(always)]
 pub fn len_zeroes_128(val: u128) -> u32
-    ensures len { result ≡ zeros decimal_table (low_bytes 16 val) }
+    ensures zeroes { result ≡ zeros decimal_table (low_bytes 16 val) }
     ensures most { result ≤ 16 }
 {
     (val ^ 0x3030_3030_3030_3030_3030_3030_3030_3030).trailing_zeros() / 8

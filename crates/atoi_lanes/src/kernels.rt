@@ -73,7 +73,7 @@ pub fn len_lanes(v: u8x16) -> u32
 /// How many first lanes in a row are zeros, the byte 48: 0 to 16.
 #[inline(always)]
 pub fn zeroes_lanes(v: u8x16) -> u32
-    ensures len { result ≡ zeros decimal_table v }
+    ensures zeroes { result ≡ zeros decimal_table v }
     ensures most { result ≤ 16 }
 {
     v.simd_eq(u8x16::splat(b'0')).to_bitmask().trailing_ones()

@@ -7,6 +7,6 @@ abbrev pub failures_of : {A E : Type 0} → Result A E → ℕ
 failures_of (Ok value) = 0
 failures_of (Err error) = 1
 
--- known bytes grow by a front of bs that is not all of it
+-- known bytes grow by a front of `bytes` that is not all of them
 abbrev pub AppendsFront : Option (List ℕ) → Option (List ℕ) → List ℕ → Type 0
-AppendsFront old new bs = (n : ℕ) × (n < length bs) × Appends old new (take n bs)
+AppendsFront old new bytes = (count : ℕ) × (count < length bytes) × Appends old new (take count bytes)

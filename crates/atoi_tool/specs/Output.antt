@@ -16,7 +16,7 @@ without_empty_last [] = []
 without_empty_last (piece ∷ []) = if length piece == 0 then [] else piece ∷ []
 without_empty_last (piece ∷ next ∷ pieces) = piece ∷ without_empty_last (next ∷ pieces)
 
--- the lines of an input: it is cut at each newline, and what stands behind the last counts where it isn't empty
+-- the lines of an input: it is cut at each newline, and what stands behind the last counts where it is not empty
 abbrev pub lines_of : List ℕ → List (List ℕ)
 lines_of input = without_empty_last (slice_split is_newline input)
 

@@ -5,7 +5,7 @@ use Rattle.atoi_core.proofs.word_engine.zeroes_of_two.Goals as goal
 
 pub returns-then-zeroes-eq8 : goal.returns-then-zeroes-eq8
 returns-then-zeroes-eq8 c =
-    ap (λ n. 8 + n) c.len_zeroes.ensures.len ∙ zeros_when_all c.args.first c.args.next (sym c.zeroes_of-zeroes.ensures ∙ c.if-zeroes-eq8.true)
+    ap (λ n. 8 + n) c.len_zeroes.ensures.zeroes ∙ zeros_when_all c.args.first c.args.next (sym c.zeroes_of-zeroes.ensures ∙ c.if-zeroes-eq8.true)
 
 pub returns-else-zeroes-eq8 : goal.returns-else-zeroes-eq8
 returns-else-zeroes-eq8 c =

@@ -2,5 +2,5 @@
 use Rattle.atoi_core.proofs.WordRuns.{zeros_counted}
 use Rattle.atoi_core.proofs.words.len_zeroes.Goals as goal
 
-pub returns-clause-len : goal.returns-clause-len
-returns-clause-len c = zeros_counted 8 c.args.val
+pub returns-clause-zeroes : goal.returns-clause-zeroes
+returns-clause-zeroes c = zeros_counted 8 c.args.val

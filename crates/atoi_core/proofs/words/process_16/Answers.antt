@@ -3,7 +3,7 @@ use Rattle.atoi_core.proofs.Sums.{sum_16, most_16}
 use Rattle.atoi_core.proofs.words.process_16.Goals as goal
 
 pub returns-clause-sum : goal.returns-clause-sum
-returns-clause-sum c = sum_16 c.args.val c.args.len c.requires.most
+returns-clause-sum c = sum_16 c.args.val c.args.len c.requires.high
 
 pub returns-clause-most : goal.returns-clause-most
-returns-clause-most c = most_16 c.args.val c.args.len c.requires.most _ (sum_16 c.args.val c.args.len c.requires.most)
+returns-clause-most c = most_16 c.args.val c.args.len c.requires.high _ (sum_16 c.args.val c.args.len c.requires.high)
