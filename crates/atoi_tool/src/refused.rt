@@ -2,5 +2,5 @@
 //! It stands on nothing.
 
 /// A read or a write was refused, for whatever reason the device had.
-#[derive(Clone, Copy, Debug, PartialEq, Eq)]
+#[derive(Drop)]
 pub struct Refused;

@@ -6,7 +6,7 @@ ghost use Rattle.atoi_tool.specs.Status.{status_of, tool_error_text};
 use std::fmt;
 
 /// What stopped the program.
-#[derive(Clone, Copy, Debug, PartialEq, Eq)]
+#[derive(Debug, Drop, PartialEq)]
 pub enum ToolError {
     /// No memory for the input.
     Memory,
