@@ -21,15 +21,17 @@ pub(crate) fn digit(byte: u8) -> Option<u64>
 
 /// Reads the whole of `s` as decimal digits that write a number of at most `bound`.
 ///
-/// It reads digit by digit and accepts any number of leading zeros. `bound` is from 9 to 4294967295.
+/// It reads digit by digit and accepts any number of leading zeros. `bound` is from 9 to
+/// 4294967295.
 ///
 /// # Errors
 ///
 /// The first that holds of:
 /// - `Empty` where `s` does not begin with a digit;
-/// - `Overflow` with the whole of `s` where the digits that it begins with write a number above `bound`;
-/// - `Invalid64` with that number, the count of these digits and the whole of `s`, where another byte
-///   stands behind them.
+/// - `Overflow` with the whole of `s` where the digits that it begins with write a number above
+///   `bound`;
+/// - `Invalid64` with that number, the count of these digits and the whole of `s`, where another
+///   byte stands behind them.
 #[inline(always)]
 pub fn narrow_whole(bound: u64, s: &[u8]) -> Result<u64, AtoiSimdError<'_>>
     requires low { 9 ≤ bound }

@@ -1,5 +1,6 @@
-//! The parses of any integer type: by its class, of at most 32 bits, of 64 or of 128.
-//! It stands on `typed_narrow`, `typed_64` and `typed_128`, and on what these speak of: `engine`, `number`, `steps` and `error`.
+//! The parses of any integer type: by its class, of at most 32 bits, of 64 or of 128. It stands on
+//! `typed_narrow`, `typed_64` and `typed_128`, and on what these speak of: `engine`, `number`,
+//! `steps` and `error`.
 ghost use Rattle.std.specs.Prelude.{◌≡◌, ◌≢◌, ◌+◌, ◌<◌, ◌≤◌, true, false, IfOk, IsTrue, length};
 ghost use Rattle.atoi_core.specs.Answer.{typed_answer, typed_prefix_answer, whole_answer, prefix_answer, whole_table};
 ghost use Rattle.atoi_core.specs.Kind.{kind, class_of};
@@ -18,16 +19,16 @@ use crate::typed_narrow::{
 
 /// Reads the whole of `s`, which has no sign, as a number of `T`.
 ///
-/// With `skip` any number of leading zeros is accepted. A type of at most 32 bits accepts them always and
-/// is read digit by digit, by the decimal digits whatever the engine's are, without a window. `steps`
-/// counts the windows that are loaded.
+/// With `skip` any number of leading zeros is accepted. A type of at most 32 bits accepts them
+/// always and is read digit by digit, by the decimal digits whatever the engine's are, without a
+/// window. `steps` counts the windows that are loaded.
 ///
 /// # Errors
 ///
 /// The first that holds of:
 /// - `Empty` where `s` does not begin with a digit;
-/// - `Size` where `T` has 64 or 128 bits and more digits count than its greatest number has: all that `s`
-///   begins with, but the leading zeros with `skip`;
+/// - `Size` where `T` has 64 or 128 bits and more digits count than its greatest number has: all
+///   that `s` begins with, but the leading zeros with `skip`;
 /// - `Overflow` where the number is above the greatest of `T`;
 /// - `Invalid64`, or of 128 bits `Invalid128`, where another byte stands behind the digits.
 #[inline(always)]
@@ -58,7 +59,8 @@ pub fn whole_pos<'a, E: Engine, T: Number>(
 
 /// Reads the whole of `s`, the digits behind a minus, as a number of `T`.
 ///
-/// As `whole_pos`, but the bound is the magnitude of the least number of `T`, and the number is not positive.
+/// As `whole_pos`, but the bound is the magnitude of the least number of `T`, and the number is not
+/// positive.
 ///
 /// # Errors
 ///
@@ -91,13 +93,13 @@ pub fn whole_neg<'a, E: Engine, T: Signed>(
 
 /// Reads a number of `T`, which has no sign, from the front of `s`, and tells its length in bytes.
 ///
-/// With `skip` any number of leading zeros is accepted. Without it a type of at most 32 bits reads 16
-/// digits at most. `steps` counts the windows that are loaded.
+/// With `skip` any number of leading zeros is accepted. Without it a type of at most 32 bits reads
+/// 16 digits at most. `steps` counts the windows that are loaded.
 ///
 /// # Errors
 ///
-/// `Empty`, `Size` and `Overflow`, as of `whole_pos`. The slice of an `Overflow` of a type of at most 32
-/// bits is told at `narrow_prefix`.
+/// `Empty`, `Size` and `Overflow`, as of `whole_pos`. The slice of an `Overflow` of a type of at
+/// most 32 bits is told at `narrow_prefix`.
 #[inline(always)]
 pub fn prefix_pos<'a, E: Engine, T: Number>(
     skip: bool,
@@ -121,11 +123,11 @@ pub fn prefix_pos<'a, E: Engine, T: Number>(
     }
 }
 
-/// Reads the digits behind a minus from the front of `s` as a number of `T`, and tells their length in
-/// bytes.
+/// Reads the digits behind a minus from the front of `s` as a number of `T`, and tells their length
+/// in bytes.
 ///
-/// As `prefix_pos`, but the bound is the magnitude of the least number of `T`, and the number is not
-/// positive.
+/// As `prefix_pos`, but the bound is the magnitude of the least number of `T`, and the number is
+/// not positive.
 ///
 /// # Errors
 ///

@@ -42,8 +42,9 @@ pub trait Engine {
     /// zeros at the front do not count against `limit`, however many there are. All digits in a row
     /// belong to the number, and a byte that is none ends it.
     ///
-    /// A turn of this body loads at most two windows: one of 16 bytes, and one of the 8 bytes behind
-    /// it where the digits fill the first. A turn that skips loads one, for at most 16 zeros.
+    /// A turn of this body loads at most two windows: one of 16 bytes, and one of the 8 bytes
+    /// behind it where the digits fill the first. A turn that skips loads one, for at most 16
+    /// zeros.
     ///
     /// # Errors
     ///
@@ -102,13 +103,13 @@ pub trait Engine {
 
     /// The number at the front of `s`, and how many bytes it has, for an integer of 128 bits.
     ///
-    /// `bound` is the greatest number, and has exactly 39 digits. With `skip` the zeros at the front
-    /// do not count against these, however many there are. All digits in a row belong to the number,
-    /// and a byte that is none ends it.
+    /// `bound` is the greatest number, and has exactly 39 digits. With `skip` the zeros at the
+    /// front do not count against these, however many there are. All digits in a row belong to the
+    /// number, and a byte that is none ends it.
     ///
-    /// A turn of this body loads at most three windows: two of 16 bytes and one of the 8 bytes behind
-    /// them, each only where the digits fill the ones before it. A turn that skips loads one, for at
-    /// most 16 zeros.
+    /// A turn of this body loads at most three windows: two of 16 bytes and one of the 8 bytes
+    /// behind them, each only where the digits fill the ones before it. A turn that skips loads
+    /// one, for at most 16 zeros.
     ///
     /// # Errors
     ///

@@ -25,10 +25,10 @@ pub enum AtoiSimdError<'a> {
     /// that are skipped do not count: how many zeros were skipped and, of the digits that count, at
     /// most 24 (64 bits) or 40 (128 bits) more; and the slice behind the skipped zeros.
     Size(usize, &'a [u8]),
-    /// The digits write a number that the type cannot hold: the body. Of a type of 64 or 128 bits it
-    /// is without the zeros that were skipped. Of a prefix of a narrower type that skips zeros it is
-    /// without those in whole blocks of 16 bytes, and without the others too where the block in
-    /// which they end is full of digits.
+    /// The digits write a number that the type cannot hold: the body. Of a type of 64 or 128 bits
+    /// it is without the zeros that were skipped. Of a prefix of a narrower type that skips zeros
+    /// it is without those in whole blocks of 16 bytes, and without the others too where the block
+    /// in which they end is full of digits.
     Overflow(&'a [u8]),
     /// A slice that has to be digits to its end holds another byte, at a type of up to 64 bits: the
     /// number that the digits before that byte write, the byte's index in the body, and the body.

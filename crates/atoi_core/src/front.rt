@@ -1,5 +1,6 @@
-//! The parses of wide integers from the front of a slice: a run that ends in the first window (for 128 bits in the first two)
-//! is answered in line, a longer one by the engine. It stands on `engine`, `window`, `join`, `steps` and `error`.
+//! The parses of wide integers from the front of a slice: a run that ends in the first window (for
+//! 128 bits in the first two) is answered in line, a longer one by the engine. It stands on
+//! `engine`, `window`, `join`, `steps` and `error`.
 ghost use Rattle.std.specs.Prelude.{◌≡◌, ◌+◌, ◌<◌, ◌≤◌, IsTrue, length};
 ghost use Rattle.atoi_core.specs.Loads.{most_loads, least_loads};
 ghost use Rattle.atoi_core.specs.Magnitude.{HasDigits, wide64, wide128, prefix_magnitude};
@@ -12,8 +13,8 @@ use crate::join::power_of_ten;
 use crate::steps::Steps;
 use crate::window::Window;
 
-/// What `Engine::prefix_64` answers, where the first window is read in line. Fewer than 16 digits are
-/// never above the bound; for more of them the engine is called, and loads that window again.
+/// What `Engine::prefix_64` answers, where the first window is read in line. Fewer than 16 digits
+/// are never above the bound; for more of them the engine is called, and loads that window again.
 ///
 /// # Errors
 ///
@@ -44,8 +45,8 @@ pub(crate) fn front_64<'a, E: Engine>(
     }
 }
 
-/// What `Engine::prefix_64` answers, for a slice that is to be read whole: where it has fewer than 16
-/// bytes, one window is read in line, and else the engine is called at once.
+/// What `Engine::prefix_64` answers, for a slice that is to be read whole: where it has fewer than
+/// 16 bytes, one window is read in line, and else the engine is called at once.
 ///
 /// # Errors
 ///
@@ -77,7 +78,8 @@ pub(crate) fn all_64<'a, E: Engine>(
     }
 }
 
-// What the engine answers. It is taken apart here, or the caller would clear its place on each way.
+// What the engine answers. It is matched here, so that the caller need not clear the place of the
+// result on the way that does not call it.
 #[inline(always)]
 fn long_64<'a, E: Engine>(
     bound: u64,
@@ -100,9 +102,9 @@ fn long_64<'a, E: Engine>(
     }
 }
 
-/// What `Engine::prefix_128` answers, where the first two windows are read in line. Fewer than 32 digits
-/// are never above the bound; for more of them, and behind zeros that fill the first window's front and
-/// are skipped, the engine is called, and loads these windows again.
+/// What `Engine::prefix_128` answers, where the first two windows are read in line. Fewer than 32
+/// digits are never above the bound; for more of them, and where the first window begins with zeros
+/// that are skipped, the engine is called, and loads these windows again.
 ///
 /// # Errors
 ///
@@ -132,8 +134,8 @@ pub(crate) fn front_128<'a, E: Engine>(
     }
 }
 
-/// What `Engine::prefix_128` answers, for a slice that is to be read whole: where it has fewer than 32
-/// bytes as `front_128` does it, and else the engine is called at once.
+/// What `Engine::prefix_128` answers, for a slice that is to be read whole: where it has fewer than
+/// 32 bytes as `front_128` does it, and else the engine is called at once.
 ///
 /// # Errors
 ///
@@ -157,7 +159,8 @@ pub(crate) fn all_128<'a, E: Engine>(
     front_128::<E>(bound, skip, s, steps)
 }
 
-// What `front_128` answers behind a first window that is full of digits and tells no zeros that are skipped.
+// What `front_128` answers behind a first window that is full of digits and tells no zeros that are
+// skipped.
 #[inline(always)]
 fn second_128<'a, E: Engine>(
     bound: u128,
@@ -184,7 +187,8 @@ fn second_128<'a, E: Engine>(
     }
 }
 
-// What the engine answers. It is taken apart here, or the caller would clear its place on each way.
+// What the engine answers. It is matched here, so that the caller need not clear the place of the
+// result on the way that does not call it.
 #[inline(always)]
 fn long_128<'a, E: Engine>(
     bound: u128,

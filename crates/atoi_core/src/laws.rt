@@ -11,15 +11,15 @@ pub fn text_of_value<T: Number>()
     ensures { TextOfValue (kind T.BITS T.SIGNED T.GREATEST) }
 {}
 
-/// `parse` with both flags on answers `Ok` exactly on the texts of the type: an optional `+`, or `-` where
-/// the type is signed, one or more digits, nothing behind them, and the signed value in the type's
-/// range. The answer is the text's number.
+/// `parse` with both flags on answers `Ok` exactly on the texts of the type: an optional `+`, or
+/// `-` where the type is signed, one or more digits, nothing behind them, and the signed value in
+/// the type's range. The answer is the text's number.
 pub fn accepted_texts<T: Number>()
     ensures { AcceptedTexts (kind T.BITS T.SIGNED T.GREATEST) }
 {}
 
-/// A prefix that succeeds with the slice's length is a whole parse that succeeds with the same value.
-/// Where zeros are skipped, or the type has more than 32 bits, the other way round too.
+/// A prefix that succeeds with the slice's length is a whole parse that succeeds with the same
+/// value. Where zeros are skipped, or the type has more than 32 bits, the other way round too.
 pub fn prefix_is_whole<T: Number>()
     ensures { PrefixIsWhole (kind T.BITS T.SIGNED T.GREATEST) }
 {}
@@ -36,13 +36,14 @@ pub fn prefix_stops_at_rest<T: Number>()
     ensures { PrefixStopsAtRest (kind T.BITS T.SIGNED T.GREATEST) }
 {}
 
-/// What stands behind the run of digits changes neither the kind of a prefix's answer, nor its value and
-/// count.
+/// What stands behind the run of digits changes neither the kind of a prefix's answer, nor its
+/// value and count.
 pub fn rest_changes_nothing<T: Number>()
     ensures { RestChangesNothing (kind T.BITS T.SIGNED T.GREATEST) }
 {}
 
-/// A whole parse that succeeds where zeros are not skipped succeeds where they are, with the same value.
+/// A whole parse that succeeds where zeros are not skipped succeeds where they are, with the same
+/// value.
 pub fn skipping_agrees<T: Number>()
     ensures { SkippingAgrees (kind T.BITS T.SIGNED T.GREATEST) }
 {}

@@ -49,7 +49,8 @@ pub fn narrow_prefix<'a, E: Engine>(
     }
 }
 
-// What `behind_zeros` answers. It is taken apart here, or the caller would clear its place on each way.
+// What `behind_zeros` answers. It is matched here, so that the caller need not clear the place of
+// the result on the way that does not call it.
 #[inline(always)]
 fn skip_on<'a, E: Engine>(
     bound: u64,
@@ -72,7 +73,8 @@ fn skip_on<'a, E: Engine>(
     }
 }
 
-// The same of a slice whose first window told `zeroes`, which are skipped with those behind them.
+// What `narrow_prefix` with `skip` answers, where the first window told `zeroes`: these and those
+// behind them are skipped.
 #[inline(never)]
 fn behind_zeros<'a, E: Engine>(
     bound: u64,

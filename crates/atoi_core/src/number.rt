@@ -32,8 +32,8 @@ pub trait Number: Copy {
         requires { value ≤ GREATEST }
         ensures { number result ≡ pos value };
 
-    /// Whether the number is negative, and its magnitude: at most `GREATEST`, or one more where it is
-    /// negative, so that every value lies in the range that the constants tell.
+    /// Whether the number is negative, and its magnitude: at most `GREATEST`, or one more where it
+    /// is negative, so that every value lies in the range that the constants tell.
     fn parts(self) -> (bool, u128)
         ensures number { number_of result.0 result.1 ≡ number self }
         ensures negative { IsTrue result.0 ↔ (number self <ℤ pos 0) }

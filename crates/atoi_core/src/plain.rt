@@ -14,11 +14,14 @@ use crate::window::Window;
 
 /// What each byte is worth, as code can ask. The tests have engines of other digits.
 pub(crate) trait Alphabet {
+    /// What each byte is worth as a digit.
     ghost table: { Table };
 
+    /// What `byte` is worth, or that it is no digit.
     fn worth(byte: u8) -> Option<u64>
         ensures { result ≡ table byte };
 
+    /// No digit is worth more than nine.
     ghost below_ten: { IsBelowTen table };
 }
 

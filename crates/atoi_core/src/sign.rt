@@ -8,11 +8,11 @@ ghost use Rattle.atoi_core.specs.Sign.{sign_of};
 use crate::error::AtoiSimdError;
 use crate::number::Number;
 
-/// Takes at most one sign from the front of `s`: a `+` where `skip_plus` holds, a `-` where `signed`
-/// does.
+/// Takes at most one sign from the front of `s`: a `+` where `skip_plus` holds, a `-` where
+/// `signed` does.
 ///
-/// It answers whether a minus was taken, and the body that is left. One byte was taken exactly where
-/// the body is shorter than `s`.
+/// It answers whether a minus was taken, and the body that is left. One byte was taken exactly
+/// where the body is shorter than `s`.
 #[inline(always)]
 pub fn take_sign(signed: bool, skip_plus: bool, s: &[u8]) -> (bool, &[u8])
     ensures minus { result.0 ≡ (sign_of signed skip_plus s.now).minus }
@@ -26,8 +26,8 @@ pub fn take_sign(signed: bool, skip_plus: bool, s: &[u8]) -> (bool, &[u8])
     }
 }
 
-/// The answer of a prefix of the body, with the bytes of the sign before it counted too. Both counts together
-/// have to stay below 2^64, as those of parts of one slice do.
+/// The answer of a prefix of the body, with the bytes of the sign before it counted too. Both
+/// counts together have to stay below 2^64, as those of parts of one slice do.
 #[inline(always)]
 pub fn with_sign<'a, T: Number>(
     taken: usize,

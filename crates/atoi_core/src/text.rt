@@ -5,8 +5,8 @@ ghost use Rattle.std.specs.Fmt.{digit_glyph};
 ghost use Rattle.atoi_core.specs.ErrorText.{hex_text, hex_list};
 
 /// Puts the decimal digits of `value` at the front of `out` and answers how many they are, from 1
-/// to 39 bytes. There is no leading zero, and zero is one digit. What stands behind them in `out` is
-/// open.
+/// to 39 bytes. There is no leading zero, and zero is one digit. What stands behind them in `out`
+/// is open.
 pub fn decimal(value: u128, out: &mut [u8; 39]) -> usize
     ensures digits { take result out.new ≡ decimal value }
     ensures length { result ≡ length (decimal value) }
@@ -16,7 +16,8 @@ pub fn decimal(value: u128, out: &mut [u8; 39]) -> usize
     put_decimal(value, out, 0)
 }
 
-// Writes the bytes from `at` on, and answers the place behind them, as the other functions that put do.
+// Writes the bytes from `at` on, and answers the place behind them, as the other functions that put
+// do.
 pub(crate) fn put_bytes(bytes: &[u8], out: &mut [u8], at: usize) -> usize
     requires { at + length bytes.now ≤ length out.old }
     ensures written { take result out.new ≡ take at out.old ++ bytes.now }
@@ -80,7 +81,8 @@ fn hex_digit(digit: u8) -> u8
     }
 }
 
-// Each byte in hexadecimal, joined by comma and space: at most four bytes for each, but two for the last.
+// Each byte in hexadecimal, joined by comma and space: at most four bytes for each, but two for the
+// last.
 pub(crate) fn put_hex_list(bytes: &[u8], out: &mut [u8], at: usize) -> usize
     requires { at + (4 * length bytes.now - 2) ≤ length out.old }
     ensures written { take result out.new ≡ take at out.old ++ hex_list bytes.now }

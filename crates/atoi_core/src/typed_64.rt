@@ -1,5 +1,5 @@
-//! The parses of an integer type of 64 bits.
-//! It stands on `front`, `wide` and `number`, and on what these speak of: `engine`, `steps` and `error`.
+//! The parses of an integer type of 64 bits. It stands on `front`, `wide` and `number`, and on what
+//! these speak of: `engine`, `steps` and `error`.
 ghost use Rattle.std.specs.Prelude.{◌≡◌, ◌+◌, ◌<◌, ◌≤◌, true, false, IfOk, IsTrue, length};
 ghost use Rattle.atoi_core.specs.Answer.{typed_answer, typed_prefix_answer, whole_answer, prefix_answer};
 ghost use Rattle.atoi_core.specs.Kind.{kind, class_of, limit_of};
@@ -128,8 +128,8 @@ pub fn prefix_64_pos<'a, E: Engine, T: Number>(
     }
 }
 
-/// Reads the magnitude of a number of a type of 64 bits that is not positive from the front of `s`, and tells
-/// its length in bytes.
+/// Reads the magnitude of a number of a type of 64 bits that is not positive from the front of `s`,
+/// and tells its length in bytes.
 ///
 /// With `skip` leading zeros do not count against the digits that the type has. `steps` counts the
 /// windows that are loaded.

@@ -1,5 +1,5 @@
-//! The parses of an integer type of at most 32 bits.
-//! It stands on `digit_loop`, `narrow` and `number`, and on what these speak of: `engine`, `steps` and `error`.
+//! The parses of an integer type of at most 32 bits. It stands on `digit_loop`, `narrow` and
+//! `number`, and on what these speak of: `engine`, `steps` and `error`.
 ghost use Rattle.std.specs.Prelude.{◌≡◌, ◌+◌, ◌<◌, ◌≤◌, true, false, IfOk, IsTrue, length};
 ghost use Rattle.atoi_core.specs.Answer.{typed_answer, typed_prefix_answer, whole_answer, prefix_answer};
 ghost use Rattle.atoi_core.specs.Kind.{kind, class_of};
@@ -38,8 +38,8 @@ fn narrow_least<T: Signed>() -> u64
 
 /// Reads the whole of `s` as a number of a type of at most 32 bits.
 ///
-/// Any number of leading zeros is accepted, whatever the flag says. The digits are the decimal ones,
-/// whatever the engine's are. No window is loaded.
+/// Any number of leading zeros is accepted, whatever the flag says. The digits are the decimal
+/// ones, whatever the engine's are. No window is loaded.
 ///
 /// # Errors
 ///
@@ -62,10 +62,11 @@ pub fn narrow_whole_pos<'a, E: Engine, T: Number>(
     }
 }
 
-/// Reads the whole of `s` as the magnitude of a number of a type of at most 32 bits that is not positive.
+/// Reads the whole of `s` as the magnitude of a number of a type of at most 32 bits that is not
+/// positive.
 ///
-/// Any number of leading zeros is accepted, whatever the flag says. The digits are the decimal ones,
-/// whatever the engine's are. No window is loaded.
+/// Any number of leading zeros is accepted, whatever the flag says. The digits are the decimal
+/// ones, whatever the engine's are. No window is loaded.
 ///
 /// # Errors
 ///
@@ -88,10 +89,11 @@ pub fn narrow_whole_neg<'a, E: Engine, T: Signed>(
     }
 }
 
-/// Reads a number of a type of at most 32 bits from the front of `s`, and tells its length in bytes.
+/// Reads a number of a type of at most 32 bits from the front of `s`, and tells its length in
+/// bytes.
 ///
-/// With `skip` any number of leading zeros is read, without it 16 digits at most. `steps` counts the
-/// windows that are loaded.
+/// With `skip` any number of leading zeros is read, without it 16 digits at most. `steps` counts
+/// the windows that are loaded.
 ///
 /// # Errors
 ///
@@ -117,11 +119,11 @@ pub fn narrow_prefix_pos<'a, E: Engine, T: Number>(
     }
 }
 
-/// Reads the magnitude of a number of a type of at most 32 bits that is not positive from the front of `s`,
-/// and tells its length in bytes.
+/// Reads the magnitude of a number of a type of at most 32 bits that is not positive from the front
+/// of `s`, and tells its length in bytes.
 ///
-/// With `skip` any number of leading zeros is read, without it 16 digits at most. `steps` counts the
-/// windows that are loaded.
+/// With `skip` any number of leading zeros is read, without it 16 digits at most. `steps` counts
+/// the windows that are loaded.
 ///
 /// # Errors
 ///

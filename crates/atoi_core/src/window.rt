@@ -6,7 +6,8 @@
 pub struct Window {
     /// How many digits the window begins with.
     pub len: u32,
-    /// How many zeros it begins with, where it has all its 8 or 16 bytes and each is a digit; else 0.
+    /// How many zeros it begins with, where it has all its 8 or 16 bytes and each is a digit; else
+    /// 0.
     pub zeroes: u32,
     /// The number that its first `len` digits write.
     pub number: u64,

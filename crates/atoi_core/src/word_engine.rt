@@ -1,5 +1,6 @@
-//! The engine that reads a window as one word of eight bytes, or as two.
-//! It stands on `words`, `engine`, `join`, `window`, `steps` and `digit_loop`, and reads fewer than four bytes as `plain` does.
+//! The engine that reads a window as one word of eight bytes, or as two. It stands on `words`,
+//! `engine`, `join`, `window`, `steps` and `digit_loop`, and reads fewer than four bytes as `plain`
+//! does.
 ghost use Rattle.std.specs.Prelude.{◌≡◌, ◌+◌, ◌^◌, ◌<◌, ◌≤◌, ◌++◌, length, take, drop};
 ghost use Rattle.atoi_core.specs.Digit.{decimal_table};
 ghost use Rattle.atoi_core.specs.Run.{run_len, zeros};
@@ -22,8 +23,8 @@ pub struct Words;
 impl Engine for Words {
     ghost table = { decimal_table };
 
-    /// The first 16 bytes, or all where there are fewer: how many digits they begin with, the number
-    /// that these write, and the zeros among them where all 16 are digits. Adds one step.
+    /// The first 16 bytes, or all where there are fewer: how many digits they begin with, the
+    /// number that these write, and the zeros among them where all 16 are digits. Adds one step.
     #[inline(always)]
     fn window(s: &[u8], steps: &mut Steps) -> Window {
         steps.tick();
@@ -59,7 +60,8 @@ impl Engine for Words {
     ghost below_ten = { λ byte. Prim.grind (arith, nat_tests) };
 }
 
-// The window of fewer than 8 bytes: of fewer than 4 one by one. It is one of 16 bytes and of 8.
+// The window of fewer than 8 bytes: of fewer than 4 one by one. It is the same whether 16 bytes or
+// 8 were asked for.
 #[inline(always)]
 fn part(s: &[u8]) -> Window
     requires { length s.now < 8 }
@@ -107,7 +109,8 @@ fn not_full(len: u32, number: u64) -> Window
     }
 }
 
-// The word of the bytes from 8 on, at most 8. Where the slice ends among them, its last 8 hold them all.
+// The word of the bytes from 8 on, at most 8. Where the slice ends among them, its last 8 hold them
+// all, and are shifted twice: by 64 bits at once, where none is left, a word cannot be.
 #[inline(always)]
 fn load_next(s: &[u8]) -> u64
     requires { 8 ≤ length s.now }
@@ -135,8 +138,8 @@ fn number_of(word: u64, len: u32) -> u64
     }
 }
 
-// What `check_len_8` answers, in fewer steps. A byte's top bit marks that it is no digit: 70 added to the
-// byte, or 48 taken from it, sets that bit; of a digit neither does.
+// What `check_len_8` answers, in fewer steps. A byte's top bit marks that it is no digit: 70 added
+// to the byte, or 48 taken from it, sets that bit; of a digit neither does.
 #[inline(always)]
 fn digits_of(word: u64) -> u32
     ensures len { result ≡ run_len decimal_table (low_bytes 8 word) }

@@ -1,5 +1,5 @@
-//! Eight or sixteen bytes in one word, the first the lowest: a load, the digits or zeros that a word
-//! begins with, and the number that its bytes write. It stands on nothing.
+//! Eight or sixteen bytes in one word, the first the lowest: a load, the digits or zeros that a
+//! word begins with, and the number that its bytes write. It stands on nothing.
 ghost use Rattle.std.specs.Prelude.{◌≡◌, ℕ, ◌<◌, ◌≤◌, length, take};
 ghost use Rattle.std.specs.Int.{from_le_bytes, w64};
 ghost use Rattle.atoi_core.specs.Digit.{decimal_table};
@@ -48,8 +48,8 @@ fn load_few(s: &[u8]) -> u64
     }
 }
 
-/// How many lowest bytes of `val` in a row are digits, the bytes 48 to 57: 0 to 8. It holds for every
-/// `val`, whatever stands above the first byte that is no digit.
+/// How many lowest bytes of `val` in a row are digits, the bytes 48 to 57: 0 to 8. It holds for
+/// every `val`, whatever stands above the first byte that is no digit.
 #[inline(always)]
 pub fn check_len_8(val: u64) -> u32
     ensures len { result ≡ run_len decimal_table (low_bytes 8 val) }
@@ -63,8 +63,8 @@ pub fn check_len_8(val: u64) -> u32
 }
 
 /// The number that the lowest `len` bytes of `val` write, the lowest byte in the highest place: the
-/// sum of each byte modulo 16 times its power of ten, whether it is a digit or not. `len` is 1 to 8;
-/// the bytes above it do not matter. The most is 166666665, where every bit is set.
+/// sum of each byte modulo 16 times its power of ten, whether it is a digit or not. `len` is 1 to
+/// 8; the bytes above it do not matter. The most is 166666665, where every bit is set.
 #[inline(always)]
 pub fn process_8(val: u64, len: u32) -> u64
     requires low { 1 ≤ len }
@@ -79,8 +79,8 @@ pub fn process_8(val: u64, len: u32) -> u64
     hundreds.wrapping_mul(0x2710_0000_0001) >> 32
 }
 
-/// The same sum over the lowest `len` bytes of a word of sixteen. `len` is 1 to 16; the bytes above it
-/// do not matter. The most is 16666666666666665, where every bit is set.
+/// The same sum over the lowest `len` bytes of a word of sixteen. `len` is 1 to 16; the bytes above
+/// it do not matter. The most is 16666666666666665, where every bit is set.
 #[inline(always)]
 pub fn process_16(val: u128, len: u32) -> u64
     requires low { 1 ≤ len }

@@ -10,19 +10,20 @@ use atoi_core::{AtoiSimdError, take_sign, with_sign};
 
 /// A type that a number with a sign before it is parsed to.
 ///
-/// Mirrors `Parse` of the Rust crate, whose functions have the flags as const parameters. It is implemented for the twelve types,
-/// and for no others, since no other crate can name `ParsePos`.
+/// Mirrors `Parse` of the Rust crate, whose functions have the flags as const parameters. It is
+/// implemented for the twelve types, and for no others, since no other crate can name `ParsePos`.
 pub trait Parse: ParsePos {
     /// At most one sign, and behind it digits to the end of `s`.
     ///
     /// A first `+` is taken where `skip_plus` is on, and a first `-` where the type is signed.
     ///
-    /// `i64::atoi_simd_parse(b"-2345", false, false)` is `Ok(-2345)`. Mirrors `Parse::atoi_simd_parse`.
+    /// `i64::atoi_simd_parse(b"-2345", false, false)` is `Ok(-2345)`. Mirrors
+    /// `Parse::atoi_simd_parse`.
     ///
     /// # Errors
     ///
-    /// Those of `ParseNeg::atoi_simd_parse_neg` where a `-` was taken, else of `ParsePos::atoi_simd_parse_pos`, on what stands
-    /// behind the sign.
+    /// Those of `ParseNeg::atoi_simd_parse_neg` where a `-` was taken, else of
+    /// `ParsePos::atoi_simd_parse_pos`, on what stands behind the sign.
     fn atoi_simd_parse(
         s: &[u8],
         skip_zeroes: bool,
@@ -31,16 +32,18 @@ pub trait Parse: ParsePos {
         ensures answer { typed_answer Self.number result
             ≡ parse_answer (kind Self.BITS Self.SIGNED Self.GREATEST) skip_zeroes skip_plus s.now };
 
-    /// At most one sign, taken as by `atoi_simd_parse`, and the number at the front of what stands behind it.
+    /// At most one sign, taken as by `atoi_simd_parse`, and the number at the front of what stands
+    /// behind it.
     ///
     /// The count is in bytes of `s`: the sign, the zeros and the other digits.
     ///
-    /// `i32::atoi_simd_parse_prefix(b"+12a", false, true)` is `Ok((12, 3))`. Mirrors `Parse::atoi_simd_parse_prefix`, which leaves
-    /// the `+` out of the count.
+    /// `i32::atoi_simd_parse_prefix(b"+12a", false, true)` is `Ok((12, 3))`. Mirrors
+    /// `Parse::atoi_simd_parse_prefix`, which leaves the `+` out of the count.
     ///
     /// # Errors
     ///
-    /// `Empty`, `Size` and `Overflow`, as of `atoi_simd_parse`. The slice of an `Overflow` is told at `parse_prefix`.
+    /// `Empty`, `Size` and `Overflow`, as of `atoi_simd_parse`. The slice of an `Overflow` is told
+    /// at `parse_prefix`.
     fn atoi_simd_parse_prefix(
         s: &[u8],
         skip_zeroes: bool,

@@ -1,5 +1,6 @@
-//! Sixteen bytes in the lanes of one vector: a load, how many digits or zeros they begin with, and the
-//! number that they write. It stands on `std::simd`, and on `words` for the load of a short slice.
+//! Sixteen bytes in the lanes of one vector: a load, how many digits or zeros they begin with, and
+//! the number that they write. It stands on `std::simd`, and on `words` for the load of a short
+//! slice.
 ghost use Rattle.std.specs.Prelude.{◌≡◌, ◌+◌, ◌^◌, ◌≤◌, ◌<◌, length, take, drop};
 ghost use Rattle.atoi_core.specs.Digit.{decimal_table};
 ghost use Rattle.atoi_core.specs.Run.{run_len, zeros, value};
@@ -14,8 +15,8 @@ use std::simd::prelude::*;
 const LANES: usize = 16;
 
 // What the places of nine digits are worth, the highest first, and then zeros. From entry `9 - len`
-// on, the first `len` of at most eight lanes stand before their places, and each lane behind them
-// before a zero. The first entry joins two numbers of eight digits.
+// on it gives the first `len` of at most eight lanes the worth of their places, and each lane
+// behind them 0. The first entry joins two numbers of eight digits.
 const PLACES: [u32; 17] = [
     100_000_000,
     10_000_000,
@@ -48,7 +49,8 @@ pub fn load_lanes(s: &[u8]) -> u8x16
     }
 }
 
-// The bytes behind the first 8, of fewer than 16: they are those of the last 8 that are left.
+// The bytes behind the first 8, of fewer than 16: they are those of the last 8 that are left. These
+// are shifted twice: by 64 bits at once, where none is left, a word cannot be.
 #[inline(always)]
 fn load_behind_8(s: &[u8]) -> u64
     requires { length s.now < LANES }
@@ -79,8 +81,8 @@ pub fn zeroes_lanes(v: u8x16) -> u32
     v.simd_eq(u8x16::splat(b'0')).to_bitmask().trailing_ones()
 }
 
-/// The number that the first `len` lanes write in decimal, whatever stands in the lanes behind them.
-/// For a `len` of at most 16 where these lanes are digits.
+/// The number that the first `len` lanes write in decimal, whatever stands in the lanes behind
+/// them. For a `len` of at most 16 where these lanes are digits.
 #[inline(always)]
 pub fn sum_lanes(v: u8x16, len: u32) -> u64
     requires within { len ≤ 16 }

@@ -11,7 +11,7 @@ use crate::kernels::{len_lanes, load_lanes, sum_lanes, zeroes_lanes};
 use atoi_core::{Engine, Steps, Window};
 use std::simd::prelude::*;
 
-/// The engine on vector lanes: its windows answer what those of every decimal engine do.
+/// The engine that reads sixteen bytes at once, in vector lanes. Its digits are the decimal ones.
 pub struct Lanes;
 
 // What the lanes tell of a window of that many bytes.
@@ -20,7 +20,7 @@ fn lane_window(lanes: u8x16, size: u32) -> Window
     ensures { result ≡ lane_window size lanes }
 {
     let len = len_lanes(lanes);
-    // The number first: where its sum finds the run short, LLVM compares it with no size.
+    // `sum_lanes` first: where it finds the run short, LLVM drops the comparison with `size`.
     let number = sum_lanes(lanes, len);
     let zeroes = if len == size { zeroes_lanes(lanes) } else { 0 };
     Window {
@@ -33,8 +33,8 @@ fn lane_window(lanes: u8x16, size: u32) -> Window
 impl Engine for Lanes {
     ghost table = { decimal_table };
 
-    /// The first 16 bytes, or all where there are fewer: how many digits they begin with, the number
-    /// that these write, and the zeros among them where all 16 are digits. Adds one step.
+    /// The first 16 bytes, or all where there are fewer: how many digits they begin with, the
+    /// number that these write, and the zeros among them where all 16 are digits. Adds one step.
     #[inline(always)]
     fn window(s: &[u8], steps: &mut Steps) -> Window {
         steps.tick();

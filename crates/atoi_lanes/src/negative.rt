@@ -1,5 +1,5 @@
-//! `ParseNeg` and its six types: the digits of a negative number, without a sign.
-//! It stands on `Signed`, `Steps` and the parses of `atoi_core` by class of type, over the crate's reader.
+//! `ParseNeg` and its six types: the digits of a negative number, without a sign. It stands on
+//! `Signed`, `Steps` and the parses of `atoi_core` by class of type, over the crate's reader.
 ghost use Rattle.std.specs.Prelude.{◌≡◌, ◌≤◌, true, IfOk, length};
 ghost use Rattle.atoi_core.specs.Answer.{typed_answer, typed_prefix_answer, whole_answer, prefix_answer};
 ghost use Rattle.atoi_core.specs.Digit.{decimal_table};
@@ -13,21 +13,24 @@ use atoi_core::{
 
 /// A type that the digits of a negative number are parsed to.
 ///
-/// Mirrors `ParseNeg` of the Rust crate, whose functions have the flag as a const parameter. It is implemented for the six
-/// signed types. An outside type that implements it proves the same answers.
+/// Mirrors `ParseNeg` of the Rust crate, whose functions have the flag as a const parameter. It is
+/// implemented for the six signed types. An outside type that implements it proves the same
+/// answers.
 pub trait ParseNeg: Signed {
     /// The whole of `s`, digits alone, as the magnitude of a number that is not positive.
     ///
-    /// `i8::atoi_simd_parse_neg(b"128", false)` is `Ok(-128)`. Mirrors `ParseNeg::atoi_simd_parse_neg`.
+    /// `i8::atoi_simd_parse_neg(b"128", false)` is `Ok(-128)`. Mirrors
+    /// `ParseNeg::atoi_simd_parse_neg`.
     ///
     /// # Errors
     ///
     /// The first that holds of:
     /// - `Empty` where `s` does not begin with a digit;
-    /// - `Size` for a type of 64 or 128 bits, where more digits count than its greatest number has: the leading zeros count
-    ///   unless `skip_zeroes`;
+    /// - `Size` for a type of 64 or 128 bits, where more digits count than its greatest number has:
+    ///   the leading zeros count unless `skip_zeroes`;
     /// - `Overflow` where the digits write a magnitude above that of the least number of the type;
-    /// - `Invalid64`, or `Invalid128` for a type of 128 bits, where another byte stands behind the digits.
+    /// - `Invalid64`, or `Invalid128` for a type of 128 bits, where another byte stands behind the
+    ///   digits.
     ///
     /// The number of an error is a magnitude.
     fn atoi_simd_parse_neg(s: &[u8], skip_zeroes: bool) -> Result<Self, AtoiSimdError<'_>>
@@ -35,15 +38,18 @@ pub trait ParseNeg: Signed {
             ≡ whole_answer decimal_table (kind Self.BITS Self.SIGNED Self.GREATEST)
             true skip_zeroes s.now };
 
-    /// The number whose magnitude stands at the front of `s`, and the length of its digits in bytes, zeros included.
+    /// The number whose magnitude stands at the front of `s`, and the length of its digits in
+    /// bytes, zeros included.
     ///
     /// Without `skip_zeroes` a type of at most 32 bits reads 16 digits at most.
     ///
-    /// `i32::atoi_simd_parse_prefix_neg(b"12a", false)` is `Ok((-12, 2))`. Mirrors `ParseNeg::atoi_simd_parse_prefix_neg`.
+    /// `i32::atoi_simd_parse_prefix_neg(b"12a", false)` is `Ok((-12, 2))`. Mirrors
+    /// `ParseNeg::atoi_simd_parse_prefix_neg`.
     ///
     /// # Errors
     ///
-    /// `Empty`, `Size` and `Overflow`, as of `atoi_simd_parse_neg`. The slice of an `Overflow` is told at `parse_prefix`.
+    /// `Empty`, `Size` and `Overflow`, as of `atoi_simd_parse_neg`. The slice of an `Overflow` is
+    /// told at `parse_prefix`.
     fn atoi_simd_parse_prefix_neg(
         s: &[u8],
         skip_zeroes: bool,

@@ -13,10 +13,11 @@ use atoi_core::laws::accepted_texts;
 
 /// Parses the whole of `s`: at most one sign, then digits to the end.
 ///
-/// A first `+` is taken where `SKIP_PLUS` is on, and a first `-` where `T` is signed. The body is what stands behind the sign,
-/// or `s`. With `SKIP_ZEROES` any number of leading zeros is accepted; without it they count as digits of a type of 64 or
-/// 128 bits. With both flags on it succeeds exactly on an optional `+`, or `-` where `T` is signed, then one or more digits,
-/// then nothing, with the signed value in the range of `T`.
+/// A first `+` is taken where `SKIP_PLUS` is on, and a first `-` where `T` is signed. The body is
+/// what stands behind the sign, or `s`. With `SKIP_ZEROES` any number of leading zeros is accepted;
+/// without it they count as digits of a type of 64 or 128 bits. With both flags on it succeeds
+/// exactly on an optional `+`, or `-` where `T` is signed, then one or more digits, then nothing,
+/// with the signed value in the range of `T`.
 ///
 /// `parse::<i64, false, false>(b"-2345")` is `Ok(-2345)`. Mirrors `atoi_simd::parse`.
 ///
@@ -24,14 +25,16 @@ use atoi_core::laws::accepted_texts;
 ///
 /// The first that holds of:
 /// - `Empty` where the body does not begin with a digit;
-/// - `Size(length, rest)` for a type of 64 or 128 bits, where more digits count than its greatest number has, which are 20
-///   of an unsigned type of 64 bits, 19 of a signed one and 39 of 128 bits: the leading zeros count unless `SKIP_ZEROES`.
-///   `rest` begins with the first digit that counts, and `length` is the number of zeros before it and of digits that
-///   count, of these at most 24, or 40 of 128 bits;
-/// - `Overflow(rest)` where the number is above the greatest of `T`, or below the least. `rest` is the body, and of a type
-///   of 64 or 128 bits it begins with the first digit that counts;
-/// - `Invalid64(number, index, body)`, or `Invalid128` for a type of 128 bits, where another byte stands behind the digits:
-///   the magnitude that they write, and the place of the byte in the body.
+/// - `Size(length, rest)` for a type of 64 or 128 bits, where more digits count than its greatest
+///   number has, which are 20 of an unsigned type of 64 bits, 19 of a signed one and 39 of 128
+///   bits: the leading zeros count unless `SKIP_ZEROES`. `rest` begins with the first digit that
+///   counts, and `length` is the number of zeros before it and of digits that count, of these at
+///   most 24, or 40 of 128 bits;
+/// - `Overflow(rest)` where the number is above the greatest of `T`, or below the least. `rest` is
+///   the body, and of a type of 64 or 128 bits it begins with the first digit that counts;
+/// - `Invalid64(number, index, body)`, or `Invalid128` for a type of 128 bits, where another byte
+///   stands behind the digits: the magnitude that they write, and the place of the byte in the
+///   body.
 ///
 /// Each slice in an error is a suffix of `s` and is not copied; the sign is not in it.
 #[inline(always)]
@@ -50,7 +53,8 @@ pub fn parse<T: Parse, const SKIP_ZEROES: bool, const SKIP_PLUS: bool>(
 
 /// Parses the whole of `s`, digits without a sign, as a number that is not negative.
 ///
-/// With `SKIP_ZEROES` any number of leading zeros is accepted; without it they count as digits of a type of 64 or 128 bits.
+/// With `SKIP_ZEROES` any number of leading zeros is accepted; without it they count as digits of a
+/// type of 64 or 128 bits.
 ///
 /// `parse_pos::<u128, true>(b"0012")` is `Ok(12)`. Mirrors `atoi_simd::parse_pos`.
 ///
@@ -58,10 +62,11 @@ pub fn parse<T: Parse, const SKIP_ZEROES: bool, const SKIP_PLUS: bool>(
 ///
 /// The first that holds of:
 /// - `Empty` where `s` does not begin with a digit;
-/// - `Size` for a type of 64 or 128 bits, where more digits count than its greatest number has: the leading zeros count
-///   unless `SKIP_ZEROES`;
+/// - `Size` for a type of 64 or 128 bits, where more digits count than its greatest number has: the
+///   leading zeros count unless `SKIP_ZEROES`;
 /// - `Overflow` where the digits write a number above the greatest of `T`;
-/// - `Invalid64`, or `Invalid128` for a type of 128 bits, where another byte stands behind the digits.
+/// - `Invalid64`, or `Invalid128` for a type of 128 bits, where another byte stands behind the
+///   digits.
 ///
 /// What an error carries is told at `parse`; the body is `s`.
 #[inline(always)]
@@ -72,9 +77,11 @@ pub fn parse_pos<T: Parse, const SKIP_ZEROES: bool>(s: &[u8]) -> Result<T, AtoiS
     T::atoi_simd_parse_pos(s, SKIP_ZEROES)
 }
 
-/// Parses the whole of `s`, the digits behind a minus that is not in `s`, as a number that is not positive.
+/// Parses the whole of `s`, the digits behind a minus that is not in `s`, as a number that is not
+/// positive.
 ///
-/// With `SKIP_ZEROES` any number of leading zeros is accepted; without it they count as digits of a type of 64 or 128 bits.
+/// With `SKIP_ZEROES` any number of leading zeros is accepted; without it they count as digits of a
+/// type of 64 or 128 bits.
 ///
 /// `parse_neg::<i8, false>(b"128")` is `Ok(-128)`. Mirrors `atoi_simd::parse_neg`.
 ///
@@ -82,12 +89,14 @@ pub fn parse_pos<T: Parse, const SKIP_ZEROES: bool>(s: &[u8]) -> Result<T, AtoiS
 ///
 /// The first that holds of:
 /// - `Empty` where `s` does not begin with a digit;
-/// - `Size` for a type of 64 or 128 bits, where more digits count than its greatest number has: the leading zeros count
-///   unless `SKIP_ZEROES`;
+/// - `Size` for a type of 64 or 128 bits, where more digits count than its greatest number has: the
+///   leading zeros count unless `SKIP_ZEROES`;
 /// - `Overflow` where the digits write a magnitude above that of the least number of `T`;
-/// - `Invalid64`, or `Invalid128` for a type of 128 bits, where another byte stands behind the digits.
+/// - `Invalid64`, or `Invalid128` for a type of 128 bits, where another byte stands behind the
+///   digits.
 ///
-/// What an error carries is told at `parse`; the body is `s`, and the number of an error is a magnitude.
+/// What an error carries is told at `parse`; the body is `s`, and the number of an error is a
+/// magnitude.
 #[inline(always)]
 pub fn parse_neg<T: ParseNeg, const SKIP_ZEROES: bool>(s: &[u8]) -> Result<T, AtoiSimdError<'_>>
     ensures answer { typed_answer T.number result
@@ -96,26 +105,28 @@ pub fn parse_neg<T: ParseNeg, const SKIP_ZEROES: bool>(s: &[u8]) -> Result<T, At
     T::atoi_simd_parse_neg(s, SKIP_ZEROES)
 }
 
-/// Parses the number at the front of `s`, with at most one sign before it, and tells how many bytes of `s` these are.
+/// Parses the number at the front of `s`, with at most one sign before it, and tells how many bytes
+/// of `s` it takes.
 ///
-/// A sign is taken as by `parse`, and the count is of its byte, of the zeros and of the other digits: `s[count..]` is the rest.
-/// With `SKIP_ZEROES` any number of leading zeros is read. Without it a type of at most 32 bits reads 16 digits at most,
-/// zeros among them, and of a type of 64 or 128 bits the zeros count as digits.
+/// A sign is taken as by `parse`, and the count is of its byte, of the zeros and of the other
+/// digits: `s[count..]` is the rest. With `SKIP_ZEROES` any number of leading zeros is read.
+/// Without it a type of at most 32 bits reads 16 digits at most, zeros among them, and of a type of
+/// 64 or 128 bits the zeros count as digits.
 ///
-/// `parse_prefix::<u64, false, false>(b"123something_else")` is `Ok((123, 3))`. Mirrors `atoi_simd::parse_prefix`, which
-/// leaves a taken `+` out of the count.
+/// `parse_prefix::<u64, false, false>(b"123something_else")` is `Ok((123, 3))`. Mirrors
+/// `atoi_simd::parse_prefix`, which leaves a taken `+` out of the count.
 ///
 /// # Errors
 ///
 /// The first that holds of:
 /// - `Empty` where the body does not begin with a digit;
-/// - `Size` for a type of 64 or 128 bits, where more digits count than its greatest number has: the leading zeros count
-///   unless `SKIP_ZEROES`;
-/// - `Overflow` where the number is above the greatest of `T`, or below the least. With `SKIP_ZEROES` the slice
-///   of a type of at most 32 bits leaves out the leading zeros in whole blocks of 16 bytes, and the others too where the
-///   block in which they end is full of digits.
+/// - `Size` for a type of 64 or 128 bits, where more digits count than its greatest number has: the
+///   leading zeros count unless `SKIP_ZEROES`;
+/// - `Overflow` where the number is above the greatest of `T`, or below the least. With
+///   `SKIP_ZEROES` the slice of a type of at most 32 bits leaves out the leading zeros in whole
+///   blocks of 16 bytes, and the others too where the block in which they end is full of digits.
 ///
-/// What an error carries is told at `parse` otherwise.
+/// Everything else that an error carries is told at `parse`.
 #[inline(always)]
 pub fn parse_prefix<T: Parse, const SKIP_ZEROES: bool, const SKIP_PLUS: bool>(
     s: &[u8],
@@ -127,20 +138,21 @@ pub fn parse_prefix<T: Parse, const SKIP_ZEROES: bool, const SKIP_PLUS: bool>(
     T::atoi_simd_parse_prefix(s, SKIP_ZEROES, SKIP_PLUS)
 }
 
-/// Parses the digits at the front of `s`, without a sign, and tells how many bytes of `s` these are.
+/// Parses the digits at the front of `s`, without a sign, and tells how many bytes of `s` they are.
 ///
-/// The count is of the zeros and of the other digits: `s[count..]` is the rest.
-/// With `SKIP_ZEROES` any number of leading zeros is read. Without it a type of at most 32 bits reads 16 digits at most,
-/// zeros among them, and of a type of 64 or 128 bits the zeros count as digits.
+/// The count is of the zeros and of the other digits: `s[count..]` is the rest. With `SKIP_ZEROES`
+/// any number of leading zeros is read. Without it a type of at most 32 bits reads 16 digits at
+/// most, zeros among them, and of a type of 64 or 128 bits the zeros count as digits.
 ///
-/// `parse_prefix_pos::<u16, false>(b"80/tcp")` is `Ok((80, 2))`. Mirrors `atoi_simd::parse_prefix_pos`.
+/// `parse_prefix_pos::<u16, false>(b"80/tcp")` is `Ok((80, 2))`. Mirrors
+/// `atoi_simd::parse_prefix_pos`.
 ///
 /// # Errors
 ///
 /// The first that holds of:
 /// - `Empty` where `s` does not begin with a digit;
-/// - `Size` for a type of 64 or 128 bits, where more digits count than its greatest number has: the leading zeros count
-///   unless `SKIP_ZEROES`;
+/// - `Size` for a type of 64 or 128 bits, where more digits count than its greatest number has: the
+///   leading zeros count unless `SKIP_ZEROES`;
 /// - `Overflow` where the digits write a number above the greatest of `T`.
 ///
 /// What an error carries is told at `parse_prefix`; the body is `s`.
@@ -155,21 +167,22 @@ pub fn parse_prefix_pos<T: Parse, const SKIP_ZEROES: bool>(
     T::atoi_simd_parse_prefix_pos(s, SKIP_ZEROES)
 }
 
-/// Parses the digits at the front of `s`, behind a minus that is not in `s`, as a number that is not positive, and tells how
-/// many bytes of `s` these are.
+/// Parses the digits at the front of `s`, behind a minus that is not in `s`, as a number that is
+/// not positive, and tells how many bytes of `s` they are.
 ///
-/// The count is of the zeros and of the other digits: `s[count..]` is the rest.
-/// With `SKIP_ZEROES` any number of leading zeros is read. Without it a type of at most 32 bits reads 16 digits at most,
-/// zeros among them, and of a type of 64 or 128 bits the zeros count as digits.
+/// The count is of the zeros and of the other digits: `s[count..]` is the rest. With `SKIP_ZEROES`
+/// any number of leading zeros is read. Without it a type of at most 32 bits reads 16 digits at
+/// most, zeros among them, and of a type of 64 or 128 bits the zeros count as digits.
 ///
-/// `parse_prefix_neg::<i32, false>(b"12a")` is `Ok((-12, 2))`. Mirrors `atoi_simd::parse_prefix_neg`.
+/// `parse_prefix_neg::<i32, false>(b"12a")` is `Ok((-12, 2))`. Mirrors
+/// `atoi_simd::parse_prefix_neg`.
 ///
 /// # Errors
 ///
 /// The first that holds of:
 /// - `Empty` where `s` does not begin with a digit;
-/// - `Size` for a type of 64 or 128 bits, where more digits count than its greatest number has: the leading zeros count
-///   unless `SKIP_ZEROES`;
+/// - `Size` for a type of 64 or 128 bits, where more digits count than its greatest number has: the
+///   leading zeros count unless `SKIP_ZEROES`;
 /// - `Overflow` where the digits write a magnitude above that of the least number of `T`.
 ///
 /// What an error carries is told at `parse_prefix`; the body is `s`.

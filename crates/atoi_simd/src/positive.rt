@@ -1,5 +1,6 @@
-//! `ParsePos` and its twelve types: the digits of a number that is not negative, without a sign.
-//! It stands on `Number`, `Steps` and the parses of `atoi_core` by class of type, over the crate's reader.
+//! `ParsePos` and its twelve types: the digits of a number that is not negative, without a sign. It
+//! stands on `Number`, `Steps` and the parses of `atoi_core` by class of type, over the crate's
+//! reader.
 ghost use Rattle.std.specs.Prelude.{◌≡◌, ◌≤◌, false, IfOk, length};
 ghost use Rattle.atoi_core.specs.Answer.{typed_answer, typed_prefix_answer, whole_answer, prefix_answer};
 ghost use Rattle.atoi_core.specs.Digit.{decimal_table};
@@ -13,21 +14,23 @@ use atoi_core::{
 
 /// A type that the digits of a number without a sign are parsed to.
 ///
-/// Mirrors `ParsePos` of the Rust crate, whose functions have the flag as a const parameter. It is implemented for the twelve
-/// types, and no other crate can name it.
+/// Mirrors `ParsePos` of the Rust crate, whose functions have the flag as a const parameter. It is
+/// implemented for the twelve types, and no other crate can name it.
 pub trait ParsePos: Number {
     /// The whole of `s`, digits alone, as a number that is not negative.
     ///
-    /// `u8::atoi_simd_parse_pos(b"255", false)` is `Ok(255)`. Mirrors `ParsePos::atoi_simd_parse_pos`.
+    /// `u8::atoi_simd_parse_pos(b"255", false)` is `Ok(255)`. Mirrors
+    /// `ParsePos::atoi_simd_parse_pos`.
     ///
     /// # Errors
     ///
     /// The first that holds of:
     /// - `Empty` where `s` does not begin with a digit;
-    /// - `Size` for a type of 64 or 128 bits, where more digits count than its greatest number has: the leading zeros count
-    ///   unless `skip_zeroes`;
+    /// - `Size` for a type of 64 or 128 bits, where more digits count than its greatest number has:
+    ///   the leading zeros count unless `skip_zeroes`;
     /// - `Overflow` where the digits write a number above the greatest of the type;
-    /// - `Invalid64`, or `Invalid128` for a type of 128 bits, where another byte stands behind the digits.
+    /// - `Invalid64`, or `Invalid128` for a type of 128 bits, where another byte stands behind the
+    ///   digits.
     fn atoi_simd_parse_pos(s: &[u8], skip_zeroes: bool) -> Result<Self, AtoiSimdError<'_>>
         ensures answer { typed_answer Self.number result
             ≡ whole_answer decimal_table (kind Self.BITS Self.SIGNED Self.GREATEST)
@@ -37,11 +40,13 @@ pub trait ParsePos: Number {
     ///
     /// Without `skip_zeroes` a type of at most 32 bits reads 16 digits at most.
     ///
-    /// `u16::atoi_simd_parse_prefix_pos(b"80/tcp", false)` is `Ok((80, 2))`. Mirrors `ParsePos::atoi_simd_parse_prefix_pos`.
+    /// `u16::atoi_simd_parse_prefix_pos(b"80/tcp", false)` is `Ok((80, 2))`. Mirrors
+    /// `ParsePos::atoi_simd_parse_prefix_pos`.
     ///
     /// # Errors
     ///
-    /// `Empty`, `Size` and `Overflow`, as of `atoi_simd_parse_pos`. The slice of an `Overflow` is told at `parse_prefix`.
+    /// `Empty`, `Size` and `Overflow`, as of `atoi_simd_parse_pos`. The slice of an `Overflow` is
+    /// told at `parse_prefix`.
     fn atoi_simd_parse_prefix_pos(
         s: &[u8],
         skip_zeroes: bool,

@@ -1,5 +1,6 @@
-//! The calls of both libraries, with the engine and the flags as values. Both answer alike, so no clause tells which was called.
-//! It stands on `request`, on six functions of `atoi_simd`, and on those of its module `lanes`.
+//! The calls of both libraries, with the engine and the flags as values. Both answer alike, so no
+//! clause tells which was called. It stands on `request`, on six functions of `atoi_simd`, and on
+//! those of its module `lanes`.
 ghost use Rattle.std.specs.Prelude.{◌≡◌, true, false};
 ghost use Rattle.atoi_core.specs.Answer.{typed_answer, typed_prefix_answer, whole_answer, prefix_answer, parse_answer, parse_prefix_answer};
 ghost use Rattle.atoi_core.specs.Digit.{decimal_table};
@@ -46,7 +47,8 @@ pub fn parse_pos<T: atoi_simd::Parse + lanes::Parse>(
     }
 }
 
-/// A whole text with no sign, read as the magnitude of a number that is not positive. The flag for a plus is not looked at.
+/// A whole text with no sign, read as the magnitude of a number that is not positive. The flag for
+/// a plus is not looked at.
 pub fn parse_neg<T: atoi_simd::ParseNeg + lanes::ParseNeg>(
     engine: Engine,
     flags: Flags,
@@ -84,8 +86,8 @@ pub fn parse_prefix<T: atoi_simd::Parse + lanes::Parse>(
     }
 }
 
-/// The number at the front of a text, with no sign, and how many bytes it is. The flag for a plus is
-/// not looked at.
+/// The number at the front of a text, with no sign, and how many bytes it is. The flag for a plus
+/// is not looked at.
 pub fn parse_prefix_pos<T: atoi_simd::Parse + lanes::Parse>(
     engine: Engine,
     flags: Flags,
@@ -103,8 +105,8 @@ pub fn parse_prefix_pos<T: atoi_simd::Parse + lanes::Parse>(
     }
 }
 
-/// The magnitude at the front of a text, with no sign, of a number that is not positive, and how many
-/// bytes it is. The flag for a plus is not looked at.
+/// The magnitude at the front of a text, with no sign, of a number that is not positive, and how
+/// many bytes it is. The flag for a plus is not looked at.
 pub fn parse_prefix_neg<T: atoi_simd::ParseNeg + lanes::ParseNeg>(
     engine: Engine,
     flags: Flags,

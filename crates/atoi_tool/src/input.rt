@@ -15,9 +15,9 @@ const PART: usize = 4096;
 ///
 /// # Errors
 ///
-/// `Read` where a `take` was refused, and `Memory` where the vector could not grow: for a source that
-/// never ends, at the latest where it cannot be longer. Nothing is handed back then, and what was taken
-/// from the source stays taken.
+/// `Read` where a `take` was refused, and `Memory` where the vector could not grow: for a source
+/// that never ends, at the latest where it cannot be longer. Nothing is handed back then, and what
+/// was taken from the source stays taken.
 pub fn read_all<S: Source>(alloc: Global, input: &mut S) -> Result<Vec<u8>, ToolError>
     ensures all { IfOk result
         (λ bytes. Consumes (S.rest input.old) (S.rest input.new) bytes.items) }

@@ -1,5 +1,5 @@
-//! The answers to all lines of an input, written to a sink.
-//! It stands on the trait `Sink`, on the answer to one line, and on `line`, `place`, `refused` and `status`.
+//! The answers to all lines of an input, written to a sink. It stands on the trait `Sink`, on the
+//! answer to one line, and on `line`, `place`, `refused` and `status`.
 ghost use Rattle.std.specs.Prelude.{◌≡◌, ◌+◌, ◌<◌, [], ◌∷◌, length, IfOk, IfErr, OnOk, OnErr};
 ghost use Rattle.std.specs.Io.KnownBytes.{Appends};
 ghost use Rattle.atoi_tool.specs.Failures.{failures_of, AppendsFront};
@@ -58,8 +58,8 @@ fn put_answer<S: Sink>(line: &[u8], output: &mut S) -> Result<bool, Refused>
 ///
 /// # Errors
 ///
-/// `Write` where a put was refused, and then a beginning of the whole output was written. It takes no
-/// memory of its own and reads nothing, so it answers no other error.
+/// `Write` where a put was refused, and then a beginning of the whole output was written. It takes
+/// no memory of its own and reads nothing, so it answers no other error.
 pub fn answer_lines<S: Sink>(input: &[u8], output: &mut S) -> Result<bool, ToolError>
     ensures output { OnOk result
         (Appends (S.held output.old) (S.held output.new) (output_of input.now)) }

@@ -25,7 +25,8 @@ pub enum Call {
     Prefix,
     /// `prefix_pos`: the number at the front, with no sign.
     PrefixPos,
-    /// `prefix_neg`: the number at the front, with no sign, the magnitude of one that is not positive.
+    /// `prefix_neg`: the number at the front, with no sign, the magnitude of one that is not
+    /// positive.
     PrefixNeg,
 }
 
@@ -48,17 +49,29 @@ impl Call {
 /// Into which type.
 #[derive(Clone, Copy, Debug, PartialEq, Eq)]
 pub enum Integer {
+    /// `u8`.
     U8,
+    /// `i8`.
     I8,
+    /// `u16`.
     U16,
+    /// `i16`.
     I16,
+    /// `u32`.
     U32,
+    /// `i32`.
     I32,
+    /// `u64`.
     U64,
+    /// `i64`.
     I64,
+    /// `u128`.
     U128,
+    /// `i128`.
     I128,
+    /// `usize`.
     Usize,
+    /// `isize`.
     Isize,
 }
 
@@ -152,15 +165,19 @@ pub fn flags_of(word: &[u8]) -> Option<Flags>
 /// What a row asks for, but for its text.
 #[derive(Clone, Copy, Debug, PartialEq, Eq)]
 pub struct Request {
+    /// Which library parses.
     pub engine: Engine,
+    /// Which function parses.
     pub call: Call,
+    /// Into which type.
     pub integer: Integer,
+    /// What is skipped at the front of the text.
     pub flags: Flags,
 }
 
 impl Request {
-    /// Whether there is an answer to such a row: a plus is looked for only by a call that takes a sign,
-    /// and only a signed type has negative numbers.
+    /// Whether there is an answer to such a row: a plus is looked for only by a call that takes a
+    /// sign, and only a signed type has negative numbers.
     pub fn is_known(&self) -> bool
         ensures { result ≡ is_known self.now }
     {

@@ -18,7 +18,8 @@ pub trait Sink {
 
     /// Appends a front of `bytes` and answers its length, at least one byte.
     ///
-    /// A refused put appends nothing and adds one to the count of failures, which changes only then.
+    /// A refused put appends nothing and adds one to the count of failures, which changes only
+    /// then.
     fn put(&mut self, bytes: &[u8]) -> Result<usize, Refused>
         requires { 0 < length bytes.now }
         ensures some { IfOk result (λ k. 0 < k) }
@@ -63,7 +64,8 @@ impl<W: Write> Sink for ToWriter<W> {
 
     ghost failures = { to_writer_failures };
 
-    /// Calls `write` once. An error of it, an interruption too, and a write that takes no byte are refusals.
+    /// Calls `write` once. An error of it, an interruption too, and a write that takes no byte are
+    /// refusals.
     fn put(&mut self, bytes: &[u8]) -> Result<usize, Refused> {
         match self.inner.write(bytes) {
             Ok(0) | Err(_) => {

@@ -18,8 +18,8 @@ pub trait Source {
 
     /// Puts the next bytes at the front of `space` and answers how many: 0 only at the end.
     ///
-    /// What else stands in `space` is left open. A refused take gives no byte and adds one to the count
-    /// of failures, which changes only then.
+    /// What else stands in `space` is left open. A refused take gives no byte and adds one to the
+    /// count of failures, which changes only then.
     fn take(&mut self, space: &mut [u8]) -> Result<usize, Refused>
         requires { 0 < length space.old }
         ensures within { IfOk result (λ k. k ≤ length space.new) }

@@ -7,7 +7,8 @@ ghost use Rattle.atoi_core.specs.Refusal.{refusal_of};
 
 use atoi_simd::{AtoiSimdError, parse_prefix};
 
-/// The number at the front of `text`, with its sign and any number of zeros, and what stands behind it.
+/// The number at the front of `text`, with its sign and any number of zeros, and what stands behind
+/// it.
 ///
 /// # Errors
 ///
@@ -23,8 +24,8 @@ pub fn number_and_rest(text: &[u8]) -> Result<(i64, &[u8]), AtoiSimdError<'_>>
     Ok((number, &text[count..]))
 }
 
-/// The letter and the number of the setting that `line` begins with, and what stands behind it: of `w=+12px` these are
-/// `w`, 12 and `px`.
+/// The letter and the number of the setting that `line` begins with, and what stands behind it: of
+/// `w=+12px` these are `w`, 12 and `px`.
 pub fn setting(line: &[u8]) -> Option<(u8, i64, &[u8])>
     ensures some { IfSome result (λ found. (count : ℕ)
         × (take 2 line.now ≡ found.0 ∷ codes "=")

@@ -32,7 +32,8 @@ fn every_u8(rt: HostRuntime) {
     }
 }
 
-// Puts the decimal text of the magnitude of `value` behind the first byte of `out`, and answers its length.
+// Puts the decimal text of the magnitude of `value` behind the first byte of `out`, and answers its
+// length.
 fn put_magnitude(value: i8, out: &mut [u8; 40]) -> usize
     ensures { result ≤ 39 }
 {

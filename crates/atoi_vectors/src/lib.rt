@@ -1,5 +1,6 @@
-//! Worked rows of the ten functions and of the engines under them, and comparisons of the three engines and of the two surfaces.
-//! It stands on the three libraries, and has no contract of its own.
+//! Worked rows of the ten functions and of the engines under them, and comparisons of the three
+//! engines and of the two surfaces. It stands on the three libraries, and has no contract of its
+//! own.
 #![tactic(auto)]
 
 #[cfg(test)]

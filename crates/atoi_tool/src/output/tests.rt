@@ -33,8 +33,8 @@ fn on_lanes(alloc: Global, rows: &[u8]) -> Result<Vec<u8>, AllocError> {
     Ok(lanes)
 }
 
-// Good rows, and their answers. Behind the fourth space any byte but a newline is one like others, a space
-// too.
+// Good rows, and their answers. Behind the fourth space any byte but a newline is one like others,
+// a space too.
 const GOOD_ROWS: &[u8] = b"\
 w neg i8 -- 0
 w pos i8 -- 128
