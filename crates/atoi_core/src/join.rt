@@ -4,7 +4,7 @@ ghost use Rattle.std.specs.Prelude.{◌≡◌, ◌+◌, ◌*◌, ◌^◌, ◌<�
 
 use crate::window::Window;
 
-/// The powers of ten, from the one with no zero to the one with 16.
+// The powers of ten, from the one with no zero to the one with 16.
 const POWERS: [u64; 17] = [
     1,
     10,
@@ -25,15 +25,15 @@ const POWERS: [u64; 17] = [
     10_000_000_000_000_000,
 ];
 
-/// The power of ten with 23 zeros.
+// The power of ten with 23 zeros.
 const TEN_TO_23: u128 = 100_000_000_000_000_000_000_000;
 
-/// The greatest number that `TEN_TO_23` can be multiplied by in 128 bits.
+// The greatest number that `TEN_TO_23` can be multiplied by in 128 bits.
 const GREATEST_HIGH: u64 = 3_402_823_669_209_384;
 
 /// Ten to the power of a count of digits, at most 16.
 #[inline(always)]
-pub fn power_of_ten(digits: u32) -> u64
+pub(crate) fn power_of_ten(digits: u32) -> u64
     requires { digits ≤ 16 }
     ensures { result ≡ 10 ^ digits }
 {
@@ -42,7 +42,7 @@ pub fn power_of_ten(digits: u32) -> u64
 
 /// `high * power + low` where that is at most `bound`; else none.
 #[inline(always)]
-pub fn up_to_64(bound: u64, high: u64, power: u64, low: u64) -> Option<u64>
+pub(crate) fn up_to_64(bound: u64, high: u64, power: u64, low: u64) -> Option<u64>
     ensures { result ≡ (if nat_lt bound (high * power + low) then None
         else Some (high * power + low)) }
 {
@@ -54,7 +54,7 @@ pub fn up_to_64(bound: u64, high: u64, power: u64, low: u64) -> Option<u64>
     }
 }
 
-/// `high * 10^23 + low` where that is at most `bound`; else none.
+// `high * 10^23 + low` where that is at most `bound`; else none.
 #[inline(always)]
 fn up_to_128(bound: u128, high: u64, low: u128) -> Option<u128>
     ensures { result ≡ (if nat_lt bound (high * 10 ^ 23 + low) then None
@@ -74,7 +74,7 @@ fn up_to_128(bound: u128, high: u64, low: u128) -> Option<u128>
 /// The number of the digits of two full windows and of `back` behind them, where that is at most
 /// `bound`; else none.
 #[inline(always)]
-pub fn joined_128(bound: u128, front: u64, middle: u64, back: Window) -> Option<u128>
+pub(crate) fn joined_128(bound: u128, front: u64, middle: u64, back: Window) -> Option<u128>
     requires bound_low { 10 ^ 38 ≤ bound }
     requires front_high { front < 10 ^ 16 }
     requires middle_high { middle < 10 ^ 16 }

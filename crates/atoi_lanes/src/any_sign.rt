@@ -73,10 +73,8 @@ impl Parse for u8 {
         skip_plus: bool,
     ) -> Result<(u8, usize), AtoiSimdError<'_>> {
         let (_, body) = take_sign(false, skip_plus, s);
-        with_sign(
-            s.len() - body.len(),
-            u8::atoi_simd_parse_prefix_pos(body, skip_zeroes),
-        )
+        let taken = s.len() - body.len();
+        with_sign(taken, u8::atoi_simd_parse_prefix_pos(body, skip_zeroes))
     }
 }
 
@@ -129,10 +127,8 @@ impl Parse for u16 {
         skip_plus: bool,
     ) -> Result<(u16, usize), AtoiSimdError<'_>> {
         let (_, body) = take_sign(false, skip_plus, s);
-        with_sign(
-            s.len() - body.len(),
-            u16::atoi_simd_parse_prefix_pos(body, skip_zeroes),
-        )
+        let taken = s.len() - body.len();
+        with_sign(taken, u16::atoi_simd_parse_prefix_pos(body, skip_zeroes))
     }
 }
 
@@ -185,10 +181,8 @@ impl Parse for u32 {
         skip_plus: bool,
     ) -> Result<(u32, usize), AtoiSimdError<'_>> {
         let (_, body) = take_sign(false, skip_plus, s);
-        with_sign(
-            s.len() - body.len(),
-            u32::atoi_simd_parse_prefix_pos(body, skip_zeroes),
-        )
+        let taken = s.len() - body.len();
+        with_sign(taken, u32::atoi_simd_parse_prefix_pos(body, skip_zeroes))
     }
 }
 
@@ -241,10 +235,8 @@ impl Parse for usize {
         skip_plus: bool,
     ) -> Result<(usize, usize), AtoiSimdError<'_>> {
         let (_, body) = take_sign(false, skip_plus, s);
-        with_sign(
-            s.len() - body.len(),
-            usize::atoi_simd_parse_prefix_pos(body, skip_zeroes),
-        )
+        let taken = s.len() - body.len();
+        with_sign(taken, usize::atoi_simd_parse_prefix_pos(body, skip_zeroes))
     }
 }
 
@@ -297,10 +289,8 @@ impl Parse for u64 {
         skip_plus: bool,
     ) -> Result<(u64, usize), AtoiSimdError<'_>> {
         let (_, body) = take_sign(false, skip_plus, s);
-        with_sign(
-            s.len() - body.len(),
-            u64::atoi_simd_parse_prefix_pos(body, skip_zeroes),
-        )
+        let taken = s.len() - body.len();
+        with_sign(taken, u64::atoi_simd_parse_prefix_pos(body, skip_zeroes))
     }
 }
 
@@ -353,10 +343,8 @@ impl Parse for u128 {
         skip_plus: bool,
     ) -> Result<(u128, usize), AtoiSimdError<'_>> {
         let (_, body) = take_sign(false, skip_plus, s);
-        with_sign(
-            s.len() - body.len(),
-            u128::atoi_simd_parse_prefix_pos(body, skip_zeroes),
-        )
+        let taken = s.len() - body.len();
+        with_sign(taken, u128::atoi_simd_parse_prefix_pos(body, skip_zeroes))
     }
 }
 

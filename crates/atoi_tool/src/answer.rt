@@ -7,18 +7,18 @@ ghost use Rattle.atoi_tool.specs.Answer.{call_text, row_text, line_answer, is_go
 
 use crate::calls;
 use crate::line::Line;
-use crate::printed::{push_prefix, push_whole};
+use crate::printed::{LONGEST, push_prefix, push_whole};
 use crate::request::{Call, Integer, Request};
 use crate::row::row_of;
 use atoi_simd::lanes;
 
-/// Writes the answer to a row of any type, whose call reads no negative number.
+// Writes the answer to a row of any type, whose call reads no negative number.
 fn answer_any<T: atoi_simd::Parse + lanes::Parse>(request: &Request, text: &[u8], out: &mut Line)
     requires call { is_negative request.now.call ≡ false }
     requires empty { out.old ≡ [] }
     ensures text { out.new
         ≡ call_text request.now.call (kind T.BITS T.SIGNED T.GREATEST) request.now.flags text.now }
-    ensures length { length out.new ≤ 336 }
+    ensures length { length out.new ≤ LONGEST }
 {
     let Request { engine, flags, .. } = *request;
     match request.call {
@@ -30,7 +30,7 @@ fn answer_any<T: atoi_simd::Parse + lanes::Parse>(request: &Request, text: &[u8]
     }
 }
 
-/// Writes the answer to a row of a type with negative numbers, whatever its call.
+// Writes the answer to a row of a type with negative numbers, whatever its call.
 fn answer_signed<T: atoi_simd::Parse + lanes::Parse + atoi_simd::ParseNeg + lanes::ParseNeg>(
     request: &Request,
     text: &[u8],
@@ -39,7 +39,7 @@ fn answer_signed<T: atoi_simd::Parse + lanes::Parse + atoi_simd::ParseNeg + lane
     requires empty { out.old ≡ [] }
     ensures text { out.new
         ≡ call_text request.now.call (kind T.BITS T.SIGNED T.GREATEST) request.now.flags text.now }
-    ensures length { length out.new ≤ 336 }
+    ensures length { length out.new ≤ LONGEST }
 {
     let Request { engine, flags, .. } = *request;
     match request.call {
@@ -49,12 +49,12 @@ fn answer_signed<T: atoi_simd::Parse + lanes::Parse + atoi_simd::ParseNeg + lane
     }
 }
 
-/// Writes the answer to a row that there is an answer to.
+// Writes the answer to a row that there is an answer to.
 fn answer_row(request: &Request, text: &[u8], out: &mut Line)
     requires known { is_known request.now ≡ true }
     requires empty { out.old ≡ [] }
     ensures text { out.new ≡ row_text request.now text.now }
-    ensures length { length out.new ≤ 336 }
+    ensures length { length out.new ≤ LONGEST }
 {
     match request.integer {
         Integer::U8 => answer_any::<u8>(request, text, out),
@@ -77,7 +77,7 @@ pub fn answer(line: &[u8], out: &mut Line) -> bool
     requires { out.old ≡ [] }
     ensures text { out.new ≡ line_answer line.now }
     ensures good { result ≡ is_good_line line.now }
-    ensures length { length out.new ≤ 336 }
+    ensures length { length out.new ≤ LONGEST }
 {
     match row_of(line) {
         Some((request, text)) => {

@@ -8,7 +8,7 @@ use crate::source::Source;
 use crate::status::ToolError;
 use std::alloc::Global;
 
-/// How many bytes are asked for at once.
+// How many bytes are asked for at once.
 const PART: usize = 4096;
 
 /// All bytes of `input` up to its end.

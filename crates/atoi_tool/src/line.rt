@@ -4,10 +4,10 @@ ghost use Rattle.std.specs.Prelude.{◌≡◌, ◌+◌, ◌≤◌, ℕ, List, []
 
 use std::marker::Model;
 
-/// More bytes than any answer has.
-const ROOM: usize = 400;
+/// How many bytes a line can hold: more than any answer has.
+pub const ROOM: usize = 400;
 
-/// The bytes of a line so far, at most 400.
+/// The bytes of a line so far, at most `ROOM`.
 #[derive(Drop)]
 pub struct Line {
     bytes: [u8; ROOM],
@@ -42,7 +42,7 @@ impl Line {
 
     /// Appends `bytes`, for which there has to be room.
     pub fn push(&mut self, bytes: &[u8])
-        requires { length self.old + length bytes.now ≤ 400 }
+        requires { length self.old + length bytes.now ≤ ROOM }
         ensures { self.new ≡ self.old ++ bytes.now }
     {
         let end = self.len + bytes.len();

@@ -13,7 +13,7 @@ use crate::refused::Refused;
 use crate::sink::Sink;
 use crate::status::ToolError;
 
-/// The first line of an input that has one, and what stands behind it.
+// The first line of an input that has one, and what stands behind it.
 fn first_line(input: &[u8]) -> (&[u8], &[u8])
     requires { 0 < length input.now }
     ensures lines { lines_of input.now ≡ result.0.now ∷ lines_of result.1.now }
@@ -25,7 +25,7 @@ fn first_line(input: &[u8]) -> (&[u8], &[u8])
     }
 }
 
-/// Puts all of `bytes`, by as many puts as it takes.
+// Puts all of `bytes`, by as many puts as it takes.
 fn put_all<S: Sink>(bytes: &[u8], output: &mut S) -> Result<(), Refused>
     ensures ok { OnOk result (Appends (S.held output.old) (S.held output.new) bytes.now) }
     ensures err { OnErr result (AppendsFront (S.held output.old) (S.held output.new) bytes.now) }
@@ -38,7 +38,7 @@ fn put_all<S: Sink>(bytes: &[u8], output: &mut S) -> Result<(), Refused>
     Ok(())
 }
 
-/// Writes the answer to one line, and answers whether the line is good.
+// Writes the answer to one line, and answers whether the line is good.
 fn put_answer<S: Sink>(line: &[u8], output: &mut S) -> Result<bool, Refused>
     ensures ok { OnOk result
         (Appends (S.held output.old) (S.held output.new) (line_output line.now)) }

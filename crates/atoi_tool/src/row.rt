@@ -8,7 +8,7 @@ ghost use Rattle.atoi_tool.specs.Row.{cut, request_of, row_of};
 use crate::place::place_of;
 use crate::request::{Request, call_of, engine_of, flags_of, integer_of};
 
-/// What stands before the first space of `line`, and what stands behind it.
+// What stands before the first space of `line`, and what stands behind it.
 fn cut(line: &[u8]) -> Option<(&[u8], &[u8])>
     ensures { option_map (λ parts. (parts.0.now, parts.1.now)) result ≡ cut line.now }
 {
@@ -16,8 +16,8 @@ fn cut(line: &[u8]) -> Option<(&[u8], &[u8])>
     Some((&line[..space], &line[space + 1..]))
 }
 
-/// What four words ask for; none where a word names nothing, or where there is no answer to such a
-/// row.
+// What four words ask for; none where a word names nothing, or where there is no answer to such a
+// row.
 fn request_of(engine: &[u8], call: &[u8], integer: &[u8], flags: &[u8]) -> Option<Request>
     ensures request { result ≡ request_of engine.now call.now integer.now flags.now }
     ensures known { IfSome result (λ request. is_known request ≡ true) }
