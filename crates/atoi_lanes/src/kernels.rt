@@ -163,6 +163,19 @@ mod tests {
     use super::*;
 
     #[test]
+    fn a_missing_lane_is_zero(rt: HostRuntime) {
+        assert_eq!(rt; load_lanes(b"").to_array(), [0; LANES]);
+        assert_eq!(rt;
+            load_lanes(b"1234567").to_array(),
+            *b"1234567\0\0\0\0\0\0\0\0\0"
+        );
+        assert_eq!(rt;
+            load_lanes(b"123456789").to_array(),
+            *b"123456789\0\0\0\0\0\0\0"
+        );
+    }
+
+    #[test]
     fn lanes_behind_the_run_are_not_added(rt: HostRuntime) {
         let lanes = u8x16::from_array(*b"12\xFF9999999999999");
         assert_eq!(rt; len_lanes(lanes), 2);
