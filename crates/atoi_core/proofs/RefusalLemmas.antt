@@ -7,12 +7,12 @@ use Rattle.atoi_core.specs.Run.{run_len, zeros, value}
 use Rattle.atoi_core.specs.Refusal.{Refusal, empty, size, overflow, rank, input_of}
 use Rattle.atoi_core.specs.Magnitude.{Class, narrow, wide64, wide128, Extent, refusal, counting_digits, digits_read, dropped_zeros, is_too_long, leaves_rest, cap, invalid}
 
--- the first of four reasons whose test holds
-abbrev first_reason : (a b c d : Bool) → (p q r s : Refusal) → Option Refusal
-first_reason a b c d p q r s = cond a (Some p) (cond b (Some q) (cond c (Some r) (cond d (Some s) None)))
+-- the first of four whose test holds
+abbrev pub first_of : {A : Type 0} → (a b c d : Bool) → (p q r s : A) → Option A
+first_of a b c d p q r s = cond a (Some p) (cond b (Some q) (cond c (Some r) (cond d (Some s) None)))
 
 -- there is no reason only where no test holds
-first_none : (a b c d : Bool) (p q r s : Refusal) → first_reason a b c d p q r s ≡ None
+first_none : (a b c d : Bool) (p q r s : Refusal) → first_of a b c d p q r s ≡ None
     → (a ≡ false) × (b ≡ false) × (c ≡ false) × (d ≡ false)
 first_none true b c d p q r s h = absurd (cc h)
 first_none false true c d p q r s h = absurd (cc h)
@@ -22,20 +22,16 @@ first_none false false false false p q r s h = (refl, refl, refl, refl)
 
 -- what holds of each reason holds of the first
 first_some : (P : Refusal → Type 0) (a b c d : Bool) (p q r s : Refusal) → P p → P q → P r → P s
-    → (reason : Refusal) → first_reason a b c d p q r s ≡ Some reason → P reason
+    → (reason : Refusal) → first_of a b c d p q r s ≡ Some reason → P reason
 first_some P true b c d p q r s hp hq hr hs reason h = let e : p ≡ reason = cc h in subst P e hp
 first_some P false true c d p q r s hp hq hr hs reason h = let e : q ≡ reason = cc h in subst P e hq
 first_some P false false true d p q r s hp hq hr hs reason h = let e : r ≡ reason = cc h in subst P e hr
 first_some P false false false true p q r s hp hq hr hs reason h = let e : s ≡ reason = cc h in subst P e hs
 first_some P false false false false p q r s hp hq hr hs reason h = absurd (cc h)
 
--- the same, by the places among the five
-abbrev pub first_rank : (a b c d : Bool) → (p q r s : ℕ) → Option ℕ
-first_rank a b c d p q r s = cond a (Some p) (cond b (Some q) (cond c (Some r) (cond d (Some s) None)))
-
 -- the rank of the first reason is the first rank
 first_map : (a b c d : Bool) (p q r s : Refusal)
-    → option_map rank (first_reason a b c d p q r s) ≡ first_rank a b c d (rank p) (rank q) (rank r) (rank s)
+    → option_map rank (first_of a b c d p q r s) ≡ first_of a b c d (rank p) (rank q) (rank r) (rank s)
 first_map true b c d p q r s = refl
 first_map false true c d p q r s = refl
 first_map false false true d p q r s = refl
@@ -96,7 +92,7 @@ module _ (table : Table) (class : Class) (bound limit : ℕ) (extent : Extent) (
 
   -- the refusal is the first reason whose test holds
   refusal-is : refusal table class bound limit extent skip body
-      ≡ first_reason is_empty is_long is_over is_followed empty too_long over followed
+      ≡ first_of is_empty is_long is_over is_followed empty too_long over followed
   unfolding refusal
   refusal-is = refl
 
@@ -132,7 +128,7 @@ module _ (table : Table) (class : Class) (bound limit : ℕ) (extent : Extent) (
 
   -- the kind of a reason is told by the four tests
   pub refusal-rank : option_map rank (refusal table class bound limit extent skip body)
-      ≡ first_rank is_empty is_long is_over is_followed 0 1 2 (rank (invalid class 0 0 []))
+      ≡ first_of is_empty is_long is_over is_followed 0 1 2 (rank (invalid class 0 0 []))
   refusal-rank =
       ap (option_map rank) refusal-is ∙ first_map is_empty is_long is_over is_followed empty too_long over followed
-      ∙ ap (first_rank is_empty is_long is_over is_followed 0 1 2) (rank-invalid class _ _ body)
+      ∙ ap (first_of is_empty is_long is_over is_followed 0 1 2) (rank-invalid class _ _ body)
