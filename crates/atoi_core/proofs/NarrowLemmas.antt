@@ -15,25 +15,19 @@ narrow_refusal bound skip n z v s =
     if n == 0 then Some empty
     else (if nat_lt bound v then Some (overflow (drop (dropped_zeros narrow prefix skip n z) s)) else None)
 
--- the answer for a front, without the tests of the other classes
+-- the answer for a front, without the tests of the other classes, which are idle in this one
 unfoldable pub narrow_answer : Table → (bound : ℕ) → Bool → List ℕ → Result (ℕ × ℕ) Refusal
 narrow_answer t bound skip s =
     let read = digits_read narrow prefix skip (run_len t s) in
     unless_refused (narrow_refusal bound skip (run_len t s) (zeros t s) (value t (take read s)) s)
     (value t (take read s), read)
 
--- the other tests of the definition are idle in the narrow class
-pub narrow_answer_is : (t : Table) (bound limit : ℕ) (skip : Bool) (s : List ℕ) →
-    prefix_magnitude t narrow bound limit skip s ≡ narrow_answer t bound skip s
-unfolding refusal narrow_refusal narrow_answer
-narrow_answer_is t bound limit skip s = refl
-
 -- no digit
-pub narrow_empty : (t : Table) (bound : ℕ) (skip : Bool) (s : List ℕ) (at before now : ℕ) (w : Window) →
+pub narrow_empty : (t : Table) (bound limit : ℕ) (skip : Bool) (s : List ℕ) (at before now : ℕ) (w : Window) →
     Skipped t skip s at before now w → at + w.len ≡ 0 →
-    Err empty ≡ narrow_answer t bound skip s
-unfolding narrow_refusal narrow_answer
-narrow_empty t bound skip s at before now w so none =
+    Err empty ≡ prefix_magnitude t narrow bound limit skip s
+unfolding refusal
+narrow_empty t bound limit skip s at before now w so none =
     let n : run_len t s ≡ 0 = omega (arith, so.run_is, so.shown.reads.ends (omega arith)) in
     rw (eq-eqb (run_len t s) 0 n) refl
 
@@ -122,10 +116,11 @@ narrow_ok t bound true s at before now w so high some within =
     (ap (λ (e : ℕ). Ok (e, at + w.len)) v ∙ ap (λ (e : ℕ). Ok (value t (run t s), e)) l)
 
 -- both answers of the last window, where there is a digit
-pub narrow_told : (t : Table) (bound : ℕ) (skip : Bool) (s : List ℕ) (at before now : ℕ) (w : Window) →
+pub narrow_told : (t : Table) (bound limit : ℕ) (skip : Bool) (s : List ℕ) (at before now : ℕ) (w : Window) →
     Skipped t skip s at before now w → bound ≤ 4294967295 → 0 < at + w.len →
-    (if nat_lt bound w.number then Err (overflow (drop at s)) else Ok (w.number, at + w.len)) ≡ narrow_answer t bound skip s
-narrow_told t bound skip s at before now w so high some =
+    (if nat_lt bound w.number then Err (overflow (drop at s)) else Ok (w.number, at + w.len)) ≡ prefix_magnitude t narrow bound limit skip s
+unfolding refusal narrow_refusal narrow_answer
+narrow_told t bound limit skip s at before now w so high some =
     elim (cases_lt bound w.number) [
       | inl over ↦ rw (lt-ltb bound w.number over) (narrow_overflow t bound skip s at before now w so some over)
       | inr fits ↦ rw (le-ltb bound w.number fits) (narrow_ok t bound skip s at before now w so high some fits)

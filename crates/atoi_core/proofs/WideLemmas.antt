@@ -88,8 +88,8 @@ below_bound limit bound m x digits short below =
 
 -- without zeros that could be skipped, all digits from there on count
 counting_digits-is : (t : Table) (skip : Bool) (s : List ℕ) (at before now : ℕ) (w : Window) → Skipped t skip s at before now w →
-    w.len ≡ 16 → counting_digits skip (run_len t s) (zeros t s) ≡ run_len t (drop at s)
-counting_digits-is t true s at before now w so full = omega (arith, so.full refl full, so.run_is)
+    16 ≤ w.len → counting_digits skip (run_len t s) (zeros t s) ≡ run_len t (drop at s)
+counting_digits-is t true s at before now w so full = omega (arith, so.full refl (omega (arith, so.shown.reads.within)), so.run_is)
 counting_digits-is t false s at before now w so full = omega (arith, so.off refl, so.run_is)
 
 -- fewer than 16 count where the last window is not full
@@ -132,7 +132,7 @@ answers_first t told bound limit skip s before now w so short some long digits =
 
 -- what was read counts more digits than the bound has
 pub answers_size : (t : Table) (told bound limit : ℕ) (skip : Bool) (s : List ℕ) (at before now : ℕ) (w : Window) (m x : ℕ) →
-    Skipped t skip s at before now w → w.len ≡ 16 → Reads t told (drop at s) m x → limit < m →
+    Skipped t skip s at before now w → 16 ≤ w.len → Reads t told (drop at s) m x → limit < m →
     Err (size (at + m) (drop at s)) ≡ wide_prefix t told bound limit skip s
 unfolding wide_prefix
 answers_size t told bound limit skip s at before now w m x so full reads long =
@@ -149,7 +149,7 @@ answers_size t told bound limit skip s at before now w m x so full reads long =
 
 -- what was read is the run, and its number is above the bound
 pub answers_overflow : (t : Table) (told bound limit : ℕ) (skip : Bool) (s : List ℕ) (at before now : ℕ) (w : Window) (m x : ℕ) →
-    Skipped t skip s at before now w → w.len ≡ 16 → Reads t told (drop at s) m x → 0 < m → m ≤ limit → limit < told → bound < x →
+    Skipped t skip s at before now w → 16 ≤ w.len → Reads t told (drop at s) m x → 0 < m → m ≤ limit → limit < told → bound < x →
     Err (overflow (drop at s)) ≡ wide_prefix t told bound limit skip s
 unfolding wide_prefix
 answers_overflow t told bound limit skip s at before now w m x so full reads some short less over =
@@ -164,7 +164,7 @@ answers_overflow t told bound limit skip s at before now w m x so full reads som
 
 -- what was read is the run, and its number is within the bound
 pub answers_ok : (t : Table) (told bound limit : ℕ) (skip : Bool) (s : List ℕ) (at before now : ℕ) (w : Window) (m x : ℕ) →
-    Skipped t skip s at before now w → w.len ≡ 16 → Reads t told (drop at s) m x → 0 < m → m ≤ limit → limit < told → x ≤ bound →
+    Skipped t skip s at before now w → 16 ≤ w.len → Reads t told (drop at s) m x → 0 < m → m ≤ limit → limit < told → x ≤ bound →
     Ok (x, at + m) ≡ wide_prefix t told bound limit skip s
 unfolding wide_prefix
 answers_ok t told bound limit skip s at before now w m x so full reads some short less within =

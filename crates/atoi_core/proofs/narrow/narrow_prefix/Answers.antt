@@ -1,14 +1,14 @@
 -- Where no zeros are skipped, the first window is the last one.
 use Rattle.std.proofs.Common.{◌≡◌, ◌⊎◌, true, false, inl, inr, ◌∙◌, sym, arith}
 use Rattle.atoi_core.proofs.SkipLemmas.{Skipped-at_once, Skipped-first, Skipped-loads}
-use Rattle.atoi_core.proofs.NarrowLemmas.{narrow_answer_is, narrow_empty, narrow_told}
+use Rattle.atoi_core.proofs.NarrowLemmas.{narrow_empty, narrow_told}
 use Rattle.atoi_core.proofs.narrow.narrow_prefix.Goals as goal
 
 pub returns-then-window-eq0-clause-answer : goal.returns-then-window-eq0-clause-answer
 returns-then-window-eq0-clause-answer g c =
     let so = Skipped-first g.E.Engine.table g.met.E.Engine.below_ten c.args.skip c.args.s.now _ _ c.window-window.result
     c.window-window.ensures.window c.window-window.ensures.one_step (omega arith) in
-    narrow_empty _ _ _ _ _ _ _ _ so (omega arith) ∙ sym (narrow_answer_is _ _ _ _ _)
+    narrow_empty _ _ _ _ _ _ _ _ _ so (omega arith)
 
 pub returns-else-skip-clause-answer : goal.returns-else-skip-clause-answer
 returns-else-skip-clause-answer g c =
@@ -16,7 +16,7 @@ returns-else-skip-clause-answer g c =
     elim c.else-skip.either [ inl h ↦ inr (h.0, omega (arith, h.1)) | inr h ↦ inl h ] in
     let so = Skipped-at_once g.E.Engine.table g.met.E.Engine.below_ten c.args.skip c.args.s.now _ _ c.window-window.result
     c.window-window.ensures.window c.window-window.ensures.one_step stops in
-    c.told_at.ensures ∙ narrow_told _ _ _ _ _ _ _ _ so c.requires.high (omega arith) ∙ sym (narrow_answer_is _ _ _ _ _)
+    c.told_at.ensures ∙ narrow_told _ _ _ _ _ _ _ _ _ so c.requires.high (omega arith)
 
 pub returns-else-skip-clause-least_skipping : goal.returns-else-skip-clause-least_skipping
 returns-else-skip-clause-least_skipping g c =
