@@ -1,6 +1,7 @@
 -- What the word of a slice's first bytes tells of these bytes.
-use Rattle.std.proofs.Common.{◌≡◌, ℕ, zero, suc, ◌+◌, ◌*◌, ◌/◌, ◌%◌, ◌^◌, ◌<◌, ◌≤◌, ◌≢◌, min, Bool, true, false, cond, ◌==◌, not, ◌||◌, inl, inr, List, [], ◌∷◌, length, take, drop, get_or, ◌++◌, mod-lt, zero-lt-suc, if◌then◌else◌, refl, sym, ap, ap₂, ◌∙◌, arith}
-use Rattle.std.proofs.lemmas.Bool.{eqb-true, eq-eqb, ne_eqb, cases_eq}
+use Rattle.std.proofs.Common.{◌≡◌, ℕ, zero, suc, ◌+◌, ◌*◌, ◌/◌, ◌%◌, ◌^◌, ◌<◌, ◌≤◌, ◌≢◌, min, Bool, true, false, cond, ◌==◌, inl, inr, List, [], ◌∷◌, length, take, drop, get_or, ◌++◌, mod-lt, zero-lt-suc, if◌then◌else◌, refl, sym, ap, ap₂, ◌∙◌, arith}
+use Rattle.std.proofs.lemmas.Bool.{agree_below_at, eq-eqb, ne_eqb, cases_eq}
+use Rattle.std.proofs.lemmas.Bool.Decides.{nat_tests}
 use Rattle.std.proofs.lemmas.List.{length-take, length-take-le, get_or-drop, take-take, take_all}
 use Rattle.std.proofs.lemmas.List.Sums.{prefix_len-le-length}
 use Rattle.std.proofs.lemmas.List.Folds.{prefix_len-append}
@@ -16,7 +17,6 @@ use Rattle.atoi_core.specs.declared.window.Window.{Window}
 use Rattle.atoi_core.specs.Words.{low_bytes, word_of, low_value}
 use Rattle.atoi_core.proofs.RunLemmas.{prefix_len-take, prefix_len-drop}
 use Rattle.atoi_core.proofs.ValueLemmas.{value-take-add}
-use Rattle.atoi_core.proofs.ByteCases.{of_each_byte, same, same_answer}
 use Rattle.atoi_core.proofs.Fields.{length-digits}
 
 -- a word of bytes, read in bytes again: what passes a test that fails at 0 is the same front
@@ -44,12 +44,8 @@ loaded_whole (suc k) (b ∷ bs) enough fits =
     ap₂ (λ x xs. x ∷ xs) low (ap (digits_l 256 k) high ∙ loaded_whole k bs (omega arith) (λ i. fits (suc i)))
 
 -- the lower half of a digit is its worth
-digit_half : (b : ℕ) → b < 256 → (not (is_digit decimal_table b) || (b % 16 == worth decimal_table b)) ≡ true
-digit_half = of_each_byte (λ x. not (is_digit decimal_table x) || (x % 16 == worth decimal_table x)) refl
-
--- the same as an equation
-half_is_worth : (b : ℕ) → b < 256 → is_digit decimal_table b ≡ true → b % 16 ≡ worth decimal_table b
-half_is_worth b h e = eqb-true (b % 16) (worth decimal_table b) (rw e at (digit_half b h))
+half_is_worth : (b : ℕ) → is_digit decimal_table b ≡ true → b % 16 ≡ worth decimal_table b
+half_is_worth b digit = grind (arith, nat_tests)
 
 -- a front that passes n + 1 elements passes the first of them, and n behind it
 first_passes : (t : Bool) (n m : ℕ) → suc n ≤ cond t (1 + m) 0 → (t ≡ true) × (n ≤ m)
@@ -71,7 +67,7 @@ loaded_value (suc n) (suc k) (b ∷ bs) fits digits =
     let places : length (digits_l 256 n word) ≡ length (take n (take k bs)) =
     length-digits 256 n word ∙ sym (length-take-le n (take k bs) (omega (arith, passes.1, prefix_len-le-length (is_digit decimal_table) (take k bs)))) in
     ap₂ (λ x y. (x % 16) * 10 ^ length (digits_l 256 n y) + low_value (digits_l 256 n y)) low high
-    ∙ ap₂ (λ x e. x * 10 ^ e + low_value (digits_l 256 n word)) (half_is_worth b small passes.0) places
+    ∙ ap₂ (λ x e. x * 10 ^ e + low_value (digits_l 256 n word)) (half_is_worth b passes.0) places
     ∙ ap (λ v. worth decimal_table b * 10 ^ length (take n (take k bs)) + v) (loaded_value n k bs (λ i. fits (suc i)) passes.1)
 
 -- ---- the same in the words of the kernels
@@ -114,7 +110,7 @@ sum_of_none word len e = ap (λ l. low_value (low_bytes l word)) (sym e)
 
 -- the only zero is the byte 48
 is_zero_byte : (b : ℕ) → b < 256 → is_zero decimal_table b ≡ (b == 48)
-is_zero_byte b h = same_answer (is_zero decimal_table b) (b == 48) (of_each_byte (λ x. same (is_zero decimal_table x) (x == 48)) refl b h)
+is_zero_byte b h = agree_below_at (is_zero decimal_table) (λ x. x == 48) 256 b refl h
 
 -- a word whose lowest byte is no zero begins with none
 pub no_zero_first : (word : ℕ) → bit_and word 255 ≢ 48 → 0 ≡ zeros decimal_table (low_bytes 8 word)
