@@ -2,7 +2,7 @@
 -- before it change it.
 use Rattle.std.proofs.Common.{◌≡◌, ℕ, ◌+◌, ◌<◌, ◌≤◌, Bool, true, not, eqb, ltb, List, [], ◌++◌, length, take, replicate, Option, Some, None, Result, ℤ, option_map, refl, sym, ap, ◌∙◌, subst₂, arith, take-take, take_at, drop_at, inl, inr, length-append, eq-eqb, ne_eqb}
 use Rattle.std.proofs.lemmas.List.{length-replicate}
-use Rattle.std.proofs.lemmas.Bool.{cases_eq}
+use Rattle.std.proofs.lemmas.Bool.Decides.{nat_tests}
 use Rattle.std.proofs.Math.Seq.{take-add}
 use Rattle.atoi_core.specs.Digit.{decimal_table, is_digit, is_zero}
 use Rattle.atoi_core.specs.Run.{run_len, run, zeros, value}
@@ -160,11 +160,7 @@ number-padded k extent count g =
 
 -- a test of two numbers stays where both grow alike
 eqb-add : (more m n : ℕ) → eqb m n ≡ eqb (more + m) (more + n)
-eqb-add more m n =
-    elim (cases_eq m n) [
-      | inl e ↦ eq-eqb m n e ∙ sym (eq-eqb (more + m) (more + n) (omega arith))
-      | inr ne ↦ ne_eqb m n ne ∙ sym (ne_eqb (more + m) (more + n) (λ e. ne (omega arith)))
-    ]
+eqb-add more m n = grind (arith, nat_tests)
 
 -- a rest behind the digits stays
 followed-padded : (extent : Extent) (count : ℕ) (body : List ℕ)

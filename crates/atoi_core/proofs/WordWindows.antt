@@ -140,14 +140,6 @@ zeros_when_some first next ne =
 
 -- ---- windows
 
--- eight more behind eight are sixteen
-same_test : (more : ℕ) → (more == 8) ≡ (8 + more == 16)
-same_test more =
-    elim (cases_eq more 8) [
-      | inl e ↦ eq-eqb more 8 e ∙ sym (eq-eqb (8 + more) 16 (omega arith))
-      | inr ne ↦ ne_eqb more 8 ne ∙ sym (ne_eqb (8 + more) 16 (omega arith))
-    ]
-
 -- zeros are told of a full window alone
 pub told_full : (n c z : ℕ) → n ≡ c → (if n == c then z else 0) ≡ z
 told_full n c z e = ap (λ t. cond t z 0) (eq-eqb n c e)
@@ -210,8 +202,9 @@ window_joined s more leading first next full more_is leading_is first_is next_is
     let goes_on : run_len decimal_table s ≡ 8 + run_len decimal_table (drop 8 s) = prefix_len-drop (is_digit decimal_table) 8 s (omega arith) in
     let within : run_len decimal_table s ≤ length s = prefix_len-le-length (is_digit decimal_table) s in
     let sixteen : take 8 s ++ take 8 (drop 8 s) ≡ take 16 s = sym (take-add 8 8 s) in
+    let same_test : (more == 8) ≡ (8 + more == 16) = grind (arith, nat_tests) in
     let same_leading : leading ≡ (if 8 + more == 16 then zeros decimal_table (take 16 s) else 0) =
-    leading_is ∙ ap₂ (λ t z. cond t z 0) (same_test more) (ap (zeros decimal_table) sixteen) in
+    leading_is ∙ ap₂ (λ t z. cond t z 0) same_test (ap (zeros decimal_table) sixteen) in
     let same_number : first * 10 ^ more + next ≡ value decimal_table (take (8 + more) s) =
     ap₂ (λ x y. x * 10 ^ more + y) first_is next_is ∙ sym (value-take-add decimal_table 8 more s (omega arith)) in
     window_from 16 s (8 + more) leading (first * 10 ^ more + next) (omega arith) same_leading same_number
