@@ -29,14 +29,6 @@ front-padded p (suc n) (x ∷ xs) zs =
       | false ↦ refl
     ]
 
--- the first n of a slice that may be shorter
-pub take-min : (n : ℕ) (s : List ℕ) → take (min (length s) n) s ≡ take n s
-take-min n s =
-    elim (cases_lt (length s) n) [
-      | inl short ↦ take_all (min (length s) n) s (omega arith) ∙ sym (take_all n s (omega arith))
-      | inr long ↦ let least : min (length s) n ≡ n = omega arith in rw least
-    ]
-
 -- the lanes tell what the bytes in them do
 lanes_tell : (size : ℕ) (s : List ℕ) → lane_window size (padded_front 16 s) ≡ lane_window size (take 16 s)
 lanes_tell size s =
