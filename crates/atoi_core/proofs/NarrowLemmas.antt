@@ -9,15 +9,6 @@ use Rattle.atoi_core.specs.Magnitude.{narrow, prefix, digits_read, dropped_zeros
 use Rattle.atoi_core.specs.declared.window.Window.{Window}
 use Rattle.atoi_core.proofs.SkipLemmas.{Skipped}
 
--- no digit
-pub narrow_empty : (t : Table) (bound limit : ℕ) (skip : Bool) (s : List ℕ) (at before now : ℕ) (w : Window) →
-    Skipped t skip s at before now w → at + w.len ≡ 0 →
-    Err empty ≡ prefix_magnitude t narrow bound limit skip s
-unfolding refusal
-narrow_empty t bound limit skip s at before now w so none =
-    let n : run_len t s ≡ 0 = omega (arith, so.run_is, so.shown.reads.ends (omega arith)) in
-    rw (eq-eqb (run_len t s) 0 n) refl
-
 -- how many zeros the slice of an overflow leaves out
 dropped_is : (t : Table) (skip : Bool) (s : List ℕ) (at before now : ℕ) (w : Window) →
     Skipped t skip s at before now w → dropped_zeros narrow prefix skip (run_len t s) (zeros t s) ≡ at
@@ -67,7 +58,7 @@ number_most t true s at before now w so =
     ]
 
 -- a number above the bound
-pub narrow_overflow : (t : Table) (bound limit : ℕ) (skip : Bool) (s : List ℕ) (at before now : ℕ) (w : Window) →
+narrow_overflow : (t : Table) (bound limit : ℕ) (skip : Bool) (s : List ℕ) (at before now : ℕ) (w : Window) →
     Skipped t skip s at before now w → 0 < at + w.len → bound < w.number →
     Err (overflow (drop at s)) ≡ prefix_magnitude t narrow bound limit skip s
 unfolding refusal
@@ -78,7 +69,7 @@ narrow_overflow t bound limit skip s at before now w so some over =
     (rw (dropped_is t skip s at before now w so) refl)
 
 -- a number within the bound has too few digits to fill a window behind the zeros
-pub narrow_ok : (t : Table) (bound limit : ℕ) (skip : Bool) (s : List ℕ) (at before now : ℕ) (w : Window) →
+narrow_ok : (t : Table) (bound limit : ℕ) (skip : Bool) (s : List ℕ) (at before now : ℕ) (w : Window) →
     Skipped t skip s at before now w → bound ≤ 4294967295 → 0 < at + w.len → w.number ≤ bound →
     Ok (w.number, at + w.len) ≡ prefix_magnitude t narrow bound limit skip s
 unfolding refusal

@@ -1,6 +1,6 @@
 -- Where a body is refused, and why: the cases of `refusal`, each as a fact.
 use Rattle.std.proofs.Common.{◌≡◌, ℕ, ◌+◌, ◌-◌, ◌<◌, ◌≤◌, min, Bool, true, false, cond, eqb, ltb, List, [], length, take, drop, subst, Option, Some, None, option_map, refl, sym, ap, ◌∙◌, arith, ltb-false, le-ltb, ne_eqb}
-use Rattle.std.proofs.lemmas.Bool.{eqb-false}
+use Rattle.std.proofs.lemmas.Bool.{eqb-false, eq-eqb, lt-ltb}
 use Rattle.std.proofs.Math.Seq.{drop-length}
 use Rattle.atoi_core.specs.Digit.{Table}
 use Rattle.atoi_core.specs.Run.{run_len, zeros, value}
@@ -75,15 +75,15 @@ module _ (table : Table) (class : Class) (bound limit : ℕ) (extent : Extent) (
   is_followed = leaves_rest extent (run_len table body) (length body)
 
   -- the reasons that they stand for
-  abbrev digits_left : ℕ
+  abbrev pub digits_left : ℕ
   digits_left = run_len table body - counting_digits skip (run_len table body) (zeros table body)
 
   -- too many digits, with how many there are
-  abbrev too_long : Refusal
+  abbrev pub too_long : Refusal
   too_long = size (digits_left + min (counting_digits skip (run_len table body) (zeros table body)) (cap class)) (drop digits_left body)
 
   -- a value above the bound
-  abbrev over : Refusal
+  abbrev pub over : Refusal
   over = overflow (drop (dropped_zeros class extent skip (run_len table body) (zeros table body)) body)
 
   -- a byte behind the digits
@@ -95,6 +95,27 @@ module _ (table : Table) (class : Class) (bound limit : ℕ) (extent : Extent) (
       ≡ first_of is_empty is_long is_over is_followed empty too_long over followed
   unfolding refusal
   refusal-is = refl
+
+  -- no digit
+  pub refused_empty : run_len table body ≡ 0 → refusal table class bound limit extent skip body ≡ Some empty
+  refused_empty none =
+      let e : is_empty ≡ true = eq-eqb (run_len table body) 0 none in
+      refusal-is ∙ rw e refl
+
+  -- too many digits
+  pub refused_size : 0 < run_len table body → is_long ≡ true → refusal table class bound limit extent skip body ≡ Some too_long
+  refused_size some long =
+      let e : is_empty ≡ false = ne_eqb (run_len table body) 0 (omega arith) in
+      refusal-is ∙ rw (e, long) refl
+
+  -- a value above the bound
+  pub refused_overflow : 0 < run_len table body → is_long ≡ false
+      → bound < value table (take (digits_read class extent skip (run_len table body)) body)
+      → refusal table class bound limit extent skip body ≡ Some over
+  refused_overflow some short above =
+      let e : is_empty ≡ false = ne_eqb (run_len table body) 0 (omega arith) in
+      let o : is_over ≡ true = lt-ltb bound (value table (take (digits_read class extent skip (run_len table body)) body)) above in
+      refusal-is ∙ rw (e, short, o) refl
 
   -- what is accepted is not refused
   pub refusal-none : IsAccepted table class bound limit extent skip body → refusal table class bound limit extent skip body ≡ None

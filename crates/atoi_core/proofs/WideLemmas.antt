@@ -5,64 +5,27 @@ use Rattle.std.proofs.lemmas.Bool.{cases_lt, eq-eqb, lt-ltb, le-ltb, ltb-true, l
 use Rattle.atoi_core.specs.Digit.{Table}
 use Rattle.atoi_core.specs.Run.{run_len, run, zeros, value}
 use Rattle.atoi_core.specs.Refusal.{Refusal, empty, size, overflow}
-use Rattle.atoi_core.specs.Magnitude.{wide64, wide128, counting_digits, HasDigits, refusal, unless_refused, prefix_magnitude}
+use Rattle.atoi_core.specs.Magnitude.{Class, wide64, wide128, prefix, counting_digits, digits_read, dropped_zeros, is_too_long, cap, HasDigits, unless_refused, prefix_magnitude}
 use Rattle.atoi_core.specs.declared.window.Window.{Window}
+use Rattle.atoi_core.proofs.RefusalLemmas.{IsAccepted, refusal-none, refused_empty, refused_size, refused_overflow}
+use Rattle.atoi_core.proofs.LimitLemmas.{short_enough}
 use Rattle.atoi_core.proofs.WindowLemmas.{Reads}
 use Rattle.atoi_core.proofs.SkipLemmas.{Skipped}
 
--- the reason to refuse n digits, z of them leading zeros, that write v, of a wide class whose size
--- tells at most `told` digits
-unfoldable pub wide_refusal : (told bound limit : ℕ) (skip : Bool) (n z v : ℕ) → List ℕ → Option Refusal
-wide_refusal told bound limit skip n z v s =
-    let d = counting_digits skip n z in
-    if n == 0 then Some empty
-    else (if nat_lt limit d then Some (size (n - d + min d told) (drop (n - d) s))
-    else (if nat_lt bound v then Some (overflow (drop (n - d) s)) else None))
+-- what the two wide classes have in common: all digits are read, and zeros that are skipped count
+-- neither against the limit nor for the slice
+pub record IsWide (class : Class) : Type 0 where
+  pub reads : (skip : Bool) (n : ℕ) → digits_read class prefix skip n ≡ n
+  pub long : (limit n : ℕ) → is_too_long class limit n ≡ nat_lt limit n
+  pub drops : (skip : Bool) (n z : ℕ) → dropped_zeros class prefix skip n z ≡ n - counting_digits skip n z
 
--- the answer of a wide class for a front
-unfoldable pub wide_prefix : Table → (told bound limit : ℕ) → Bool → List ℕ → Result (ℕ × ℕ) Refusal
-wide_prefix t told bound limit skip s =
-    unless_refused (wide_refusal told bound limit skip (run_len t s) (zeros t s) (value t (run t s)) s)
-    (value t (run t s), run_len t s)
+-- the class of 64 bits
+pub wide_64 : IsWide wide64
+wide_64 = record { reads = λ skip n. refl; long = λ limit n. refl; drops = λ skip n z. refl }
 
--- at 64 bits a size tells 24 digits
-pub wide_prefix_64 : (t : Table) (bound limit : ℕ) (skip : Bool) (s : List ℕ) →
-    prefix_magnitude t wide64 bound limit skip s ≡ wide_prefix t 24 bound limit skip s
-unfolding refusal wide_refusal wide_prefix
-wide_prefix_64 t bound limit skip s = refl
-
--- at 128 bits a size tells 40 digits
-pub wide_prefix_128 : (t : Table) (bound limit : ℕ) (skip : Bool) (s : List ℕ) →
-    prefix_magnitude t wide128 bound limit skip s ≡ wide_prefix t 40 bound limit skip s
-unfolding refusal wide_refusal wide_prefix
-wide_prefix_128 t bound limit skip s = refl
-
--- no digit
-refused_empty : (told bound limit : ℕ) (skip : Bool) (n z v : ℕ) (s : List ℕ) → n ≡ 0 →
-    wide_refusal told bound limit skip n z v s ≡ Some empty
-unfolding wide_refusal
-refused_empty told bound limit skip n z v s e = rw (eq-eqb n 0 e) refl
-
--- too many digits
-refused_size : (told bound limit : ℕ) (skip : Bool) (n z v : ℕ) (s : List ℕ) → 0 < n → limit < counting_digits skip n z →
-    wide_refusal told bound limit skip n z v s ≡ Some (size (n - counting_digits skip n z + min (counting_digits skip n z) told) (drop (n - counting_digits skip n z) s))
-unfolding wide_refusal
-refused_size told bound limit skip n z v s some long =
-    rw (ne_eqb n 0 (omega arith), lt-ltb limit (counting_digits skip n z) long) refl
-
--- a value above the bound
-refused_overflow : (told bound limit : ℕ) (skip : Bool) (n z v : ℕ) (s : List ℕ) → 0 < n → counting_digits skip n z ≤ limit → bound < v →
-    wide_refusal told bound limit skip n z v s ≡ Some (overflow (drop (n - counting_digits skip n z) s))
-unfolding wide_refusal
-refused_overflow told bound limit skip n z v s some fits over =
-    rw (ne_eqb n 0 (omega arith), le-ltb limit (counting_digits skip n z) fits, lt-ltb bound v over) refl
-
--- no reason
-not_refused : (told bound limit : ℕ) (skip : Bool) (n z v : ℕ) (s : List ℕ) → 0 < n → counting_digits skip n z ≤ limit → v ≤ bound →
-    wide_refusal told bound limit skip n z v s ≡ None
-unfolding wide_refusal
-not_refused told bound limit skip n z v s some fits within =
-    rw (ne_eqb n 0 (omega arith), le-ltb limit (counting_digits skip n z) fits, le-ltb bound v within) refl
+-- the class of 128 bits
+pub wide_128 : IsWide wide128
+wide_128 = record { reads = λ skip n. refl; long = λ limit n. refl; drops = λ skip n z. refl }
 
 -- a number that is there where it is within the bound
 pub some_within : (bound x n : ℕ) → Some n ≡ (if nat_lt bound x then None else Some x) → (n ≡ x) × (x ≤ bound)
@@ -98,81 +61,78 @@ counted_most : (t : Table) (skip : Bool) (s : List ℕ) (at before now : ℕ) (w
 counted_most t true s at before now w so = omega (arith, so.run_is, so.zeros_are)
 counted_most t false s at before now w so = omega (arith, so.off refl, so.run_is)
 
--- the last window is not full: no digit at all
-pub answers_empty : (t : Table) (told bound limit : ℕ) (skip : Bool) (s : List ℕ) (at before now : ℕ) (w : Window) →
-    Skipped t skip s at before now w → w.len < 16 → at + w.len ≡ 0 →
-    Err empty ≡ wide_prefix t told bound limit skip s
-unfolding wide_prefix
-answers_empty t told bound limit skip s at before now w so short none =
-    let n : run_len t s ≡ 0 = omega (arith, so.run_is, so.shown.reads.ends short) in
-    rw (refused_empty told bound limit skip _ (zeros t s) (value t (run t s)) s n) refl
+-- no digit at all, in any class
+pub answers_empty : (t : Table) (class : Class) (bound limit : ℕ) (skip : Bool) (s : List ℕ) (at before now : ℕ) (w : Window) →
+    Skipped t skip s at before now w → at + w.len ≡ 0 → Err empty ≡ prefix_magnitude t class bound limit skip s
+answers_empty t class bound limit skip s at before now w so none =
+    rw (refused_empty t class bound limit prefix skip s (omega (arith, so.run_is, so.shown.reads.ends (omega arith)))) refl
+
+-- a number that is neither too long nor above the bound
+answers_value : (t : Table) (class : Class) (bound limit : ℕ) (skip : Bool) (s : List ℕ) (n v : ℕ) → IsWide class →
+    run_len t s ≡ n → value t (run t s) ≡ v → 0 < n → counting_digits skip (run_len t s) (zeros t s) ≤ limit → v ≤ bound →
+    Ok (v, n) ≡ prefix_magnitude t class bound limit skip s
+answers_value t class bound limit skip s n v wide n_is v_is some fits within =
+    let all = wide.reads skip (run_len t s) in
+    let accepted : IsAccepted t class bound limit prefix skip s =
+    record { some = omega arith; short = short_enough class limit _ fits; in_range = rw all (omega arith); ends = refl } in
+    rw (refusal-none t class bound limit prefix skip s accepted, all, v_is, n_is) refl
 
 -- the last window is not full: it holds the rest of the run, which is too short to pass the bound
-pub answers_short : (t : Table) (told bound limit : ℕ) (skip : Bool) (s : List ℕ) (at before now : ℕ) (w : Window) →
+pub answers_short : (t : Table) (class : Class) (bound limit : ℕ) (skip : Bool) (s : List ℕ) (at before now : ℕ) (w : Window) → IsWide class →
     Skipped t skip s at before now w → w.len < 16 → 0 < at + w.len → 16 < limit → HasDigits limit bound →
-    Ok (w.number, at + w.len) ≡ wide_prefix t told bound limit skip s
-unfolding wide_prefix
-answers_short t told bound limit skip s at before now w so short some long digits =
+    Ok (w.number, at + w.len) ≡ prefix_magnitude t class bound limit skip s
+answers_short t class bound limit skip s at before now w wide so short some long digits =
     let rest : run_len t (drop at s) ≡ w.len = so.shown.reads.ends short in
-    let n : run_len t s ≡ at + w.len = omega (arith, so.run_is) in
-    let v : value t (run t s) ≡ w.number = so.value_is ∙ so.shown.reads.value_is short in
     let least : w.number < bound = below_bound limit bound w.len w.number digits (omega arith) so.shown.reads.below in
-    rw (not_refused told bound limit skip (run_len t s) (zeros t s) (value t (run t s)) s (omega arith)
-    (omega (arith, counted_most t skip s at before now w so)) (omega arith))
-    (ap (λ (e : ℕ). Ok (e, at + w.len)) (sym v) ∙ ap (λ (e : ℕ). Ok (value t (run t s), e)) (sym n))
+    answers_value t class bound limit skip s (at + w.len) w.number wide (omega (arith, so.run_is)) (so.value_is ∙ so.shown.reads.value_is short)
+    some (omega (arith, counted_most t skip s at before now w so)) (omega arith)
 
 -- the same of a first window
-pub answers_first : (t : Table) (told bound limit : ℕ) (skip : Bool) (s : List ℕ) (before now : ℕ) (w : Window) →
+pub answers_first : (t : Table) (class : Class) (bound limit : ℕ) (skip : Bool) (s : List ℕ) (before now : ℕ) (w : Window) → IsWide class →
     Skipped t skip s 0 before now w → w.len < 16 → 0 < w.len → 16 < limit → HasDigits limit bound →
-    Ok (w.number, w.len) ≡ wide_prefix t told bound limit skip s
-answers_first t told bound limit skip s before now w so short some long digits =
+    Ok (w.number, w.len) ≡ prefix_magnitude t class bound limit skip s
+answers_first t class bound limit skip s before now w wide so short some long digits =
     let place : w.len ≡ 0 + w.len = omega arith in
     ap (λ (n : ℕ). Ok (w.number, n)) place
-    ∙ answers_short t told bound limit skip s 0 before now w so short (omega arith) long digits
+    ∙ answers_short t class bound limit skip s 0 before now w wide so short (omega arith) long digits
 
 -- what was read counts more digits than the bound has
-pub answers_size : (t : Table) (told bound limit : ℕ) (skip : Bool) (s : List ℕ) (at before now : ℕ) (w : Window) (m x : ℕ) →
-    Skipped t skip s at before now w → 16 ≤ w.len → Reads t told (drop at s) m x → limit < m →
-    Err (size (at + m) (drop at s)) ≡ wide_prefix t told bound limit skip s
-unfolding wide_prefix
-answers_size t told bound limit skip s at before now w m x so full reads long =
+pub answers_size : (t : Table) (class : Class) (bound limit : ℕ) (skip : Bool) (s : List ℕ) (at before now : ℕ) (w : Window) (m x : ℕ) → IsWide class →
+    Skipped t skip s at before now w → 16 ≤ w.len → Reads t (cap class) (drop at s) m x → limit < m →
+    Err (size (at + m) (drop at s)) ≡ prefix_magnitude t class bound limit skip s
+answers_size t class bound limit skip s at before now w m x wide so full reads long =
     let d : counting_digits skip (run_len t s) (zeros t s) ≡ run_len t (drop at s) = counting_digits-is t skip s at before now w so full in
     let e : run_len t s - counting_digits skip (run_len t s) (zeros t s) ≡ at = omega (arith, so.run_is) in
-    let k : min (counting_digits skip (run_len t s) (zeros t s)) told ≡ m =
-    elim (cases_lt m told) [
+    let k : min (counting_digits skip (run_len t s) (zeros t s)) (cap class) ≡ m =
+    elim (cases_lt m (cap class)) [
       | inl h ↦ omega (arith, reads.ends h)
       | inr h ↦ omega (arith, reads.inside, reads.within)
     ] in
-    rw (refused_size told bound limit skip (run_len t s) (zeros t s) (value t (run t s)) s
-    (omega (arith, so.run_is, reads.inside)) (omega (arith, reads.inside)))
+    rw (refused_size t class bound limit prefix skip s (omega (arith, so.run_is, reads.inside))
+    (wide.long limit _ ∙ lt-ltb limit (counting_digits skip (run_len t s) (zeros t s)) (omega (arith, reads.inside))))
     (rw (e, k) refl)
 
 -- what was read is the run, and its number is above the bound
-pub answers_overflow : (t : Table) (told bound limit : ℕ) (skip : Bool) (s : List ℕ) (at before now : ℕ) (w : Window) (m x : ℕ) →
-    Skipped t skip s at before now w → 16 ≤ w.len → Reads t told (drop at s) m x → 0 < m → m ≤ limit → limit < told → bound < x →
-    Err (overflow (drop at s)) ≡ wide_prefix t told bound limit skip s
-unfolding wide_prefix
-answers_overflow t told bound limit skip s at before now w m x so full reads some short less over =
+pub answers_overflow : (t : Table) (class : Class) (bound limit : ℕ) (skip : Bool) (s : List ℕ) (at before now : ℕ) (w : Window) (m x : ℕ) → IsWide class →
+    Skipped t skip s at before now w → 16 ≤ w.len → Reads t (cap class) (drop at s) m x → 0 < m → m ≤ limit → limit < cap class → bound < x →
+    Err (overflow (drop at s)) ≡ prefix_magnitude t class bound limit skip s
+answers_overflow t class bound limit skip s at before now w m x wide so full reads some short less over =
     let d : counting_digits skip (run_len t s) (zeros t s) ≡ run_len t (drop at s) = counting_digits-is t skip s at before now w so full in
     let e : run_len t s - counting_digits skip (run_len t s) (zeros t s) ≡ at = omega (arith, so.run_is) in
-    let ends : m < told = omega arith in
+    let ends : m < cap class = omega arith in
     let rest : run_len t (drop at s) ≡ m = reads.ends ends in
     let v : value t (run t s) ≡ x = so.value_is ∙ reads.value_is ends in
-    rw (refused_overflow told bound limit skip (run_len t s) (zeros t s) (value t (run t s)) s
-    (omega (arith, so.run_is)) (omega arith) (omega arith))
-    (rw e refl)
+    rw (refused_overflow t class bound limit prefix skip s (omega (arith, so.run_is)) (short_enough class limit _ (omega arith))
+    (rw (wide.reads skip (run_len t s)) (omega arith)))
+    (rw (wide.drops skip (run_len t s) (zeros t s), e) refl)
 
 -- what was read is the run, and its number is within the bound
-pub answers_ok : (t : Table) (told bound limit : ℕ) (skip : Bool) (s : List ℕ) (at before now : ℕ) (w : Window) (m x : ℕ) →
-    Skipped t skip s at before now w → 16 ≤ w.len → Reads t told (drop at s) m x → 0 < m → m ≤ limit → limit < told → x ≤ bound →
-    Ok (x, at + m) ≡ wide_prefix t told bound limit skip s
-unfolding wide_prefix
-answers_ok t told bound limit skip s at before now w m x so full reads some short less within =
+pub answers_ok : (t : Table) (class : Class) (bound limit : ℕ) (skip : Bool) (s : List ℕ) (at before now : ℕ) (w : Window) (m x : ℕ) → IsWide class →
+    Skipped t skip s at before now w → 16 ≤ w.len → Reads t (cap class) (drop at s) m x → 0 < m → m ≤ limit → limit < cap class → x ≤ bound →
+    Ok (x, at + m) ≡ prefix_magnitude t class bound limit skip s
+answers_ok t class bound limit skip s at before now w m x wide so full reads some short less within =
     let d : counting_digits skip (run_len t s) (zeros t s) ≡ run_len t (drop at s) = counting_digits-is t skip s at before now w so full in
-    let ends : m < told = omega arith in
+    let ends : m < cap class = omega arith in
     let rest : run_len t (drop at s) ≡ m = reads.ends ends in
-    let n : run_len t s ≡ at + m = omega (arith, so.run_is) in
-    let v : value t (run t s) ≡ x = so.value_is ∙ reads.value_is ends in
-    rw (not_refused told bound limit skip (run_len t s) (zeros t s) (value t (run t s)) s
-    (omega arith) (omega arith) (omega arith))
-    (ap (λ (e : ℕ). Ok (e, at + m)) (sym v) ∙ ap (λ (e : ℕ). Ok (value t (run t s), e)) (sym n))
+    answers_value t class bound limit skip s (at + m) x wide (omega (arith, so.run_is)) (so.value_is ∙ reads.value_is ends)
+    (omega arith) (omega arith) within

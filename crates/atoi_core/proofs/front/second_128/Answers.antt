@@ -4,7 +4,7 @@ use Rattle.std.proofs.lemmas.List.Sums.{prefix_len-le-length}
 use Rattle.atoi_core.specs.Digit.{is_digit}
 use Rattle.atoi_core.proofs.WindowLemmas.{shows, Reads-join, Reads-widen}
 use Rattle.atoi_core.proofs.SkipLemmas.{shows_rest, Skipped-kept}
-use Rattle.atoi_core.proofs.WideLemmas.{wide_prefix_128, answers_ok, below_bound}
+use Rattle.atoi_core.proofs.WideLemmas.{wide_128, answers_ok, below_bound}
 use Rattle.atoi_core.proofs.front.second_128.Goals as goal
 
 pub slice_bounds-window-start : goal.slice_bounds-window-start
@@ -25,5 +25,4 @@ returns-then-second-lt16-clause-answer g c =
     let place : 16 + c.window-second.result.len ≡ 0 + (16 + c.window-second.result.len) = omega arith in
     ap (λ (n : ℕ). Ok (n, 16 + c.window-second.result.len)) number
     ∙ ap (λ (n : ℕ). Ok (c.args.first.number * 10 ^ c.window-second.result.len + c.window-second.result.number, n)) place
-    ∙ answers_ok _ 40 c.args.bound 39 _ _ 0 _ _ _ _ _ so full wide (omega arith) (omega arith) (lit< tt) (omega (arith, less))
-    ∙ sym (wide_prefix_128 _ _ _ _ _)
+    ∙ answers_ok _ _ c.args.bound 39 _ _ 0 _ _ _ _ _ wide_128 so full wide (omega arith) (omega arith) (lit< tt) (omega (arith, less))

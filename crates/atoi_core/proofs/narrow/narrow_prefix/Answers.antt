@@ -1,7 +1,8 @@
 -- Where no zeros are skipped, the first window is the last one.
 use Rattle.std.proofs.Common.{inl, inr, ◌∙◌, arith}
 use Rattle.atoi_core.proofs.SkipLemmas.{Skipped, Skipped-at_once, Skipped-first, Skipped-loads}
-use Rattle.atoi_core.proofs.NarrowLemmas.{narrow_empty, narrow_told}
+use Rattle.atoi_core.proofs.NarrowLemmas.{narrow_told}
+use Rattle.atoi_core.proofs.WideLemmas.{answers_empty}
 use Rattle.atoi_core.proofs.narrow.narrow_prefix.Goals as goal
 use Rattle.atoi_core.proofs.narrow.narrow_prefix.Goals.{After-told_at}
 
@@ -9,7 +10,7 @@ pub returns-then-window-eq0-clause-answer : goal.returns-then-window-eq0-clause-
 returns-then-window-eq0-clause-answer g c =
     let so = Skipped-first g.E.Engine.table g.met.E.Engine.below_ten c.args.skip c.args.s.now _ _ c.window-window.result
     c.window-window.ensures.window c.window-window.ensures.one_step (omega arith) in
-    narrow_empty _ _ _ _ _ _ _ _ _ so (omega arith)
+    answers_empty _ _ _ _ _ _ _ _ _ _ so (omega arith)
 
 -- where no zeros are told, or none are skipped
 last : (g : _) (c : After-told_at g)

@@ -7,7 +7,7 @@ use Rattle.atoi_core.specs.Digit.{is_digit}
 use Rattle.atoi_core.specs.declared.window.Window.{Window}
 use Rattle.atoi_core.proofs.WindowLemmas.{Reads, Shows, Shows-below, Reads-join, Reads-join_two, Reads-widen}
 use Rattle.atoi_core.proofs.SkipLemmas.{Skipping-none, Skipping-more, Skipped, Skipped-end, Skipped-loads, shows_behind}
-use Rattle.atoi_core.proofs.WideLemmas.{wide_prefix_128, answers_empty, answers_short, answers_size, answers_overflow, answers_ok, below_bound, some_within, none_above}
+use Rattle.atoi_core.proofs.WideLemmas.{wide_128, answers_empty, answers_short, answers_size, answers_overflow, answers_ok, below_bound, some_within, none_above}
 use Rattle.atoi_core.proofs.engine.Engine.prefix_128.Goals as goal
 use Rattle.atoi_core.proofs.engine.Engine.prefix_128.Goals.{After-window-second, After-window_8-third}
 
@@ -27,15 +27,14 @@ pub returns-then-len-eq0-clause-answer : goal.returns-then-len-eq0-clause-answer
 returns-then-len-eq0-clause-answer g c =
     let so = Skipped-end _ g.met.Self.Engine.below_ten _ _ _ _ _ _ c.window-window.result
     c.loop-window.invariant c.window-window.ensures.window c.window-window.ensures.one_step c.then-not-skip.either in
-    answers_empty _ 40 _ _ _ _ _ _ _ _ so c.if-first-lt16.true c.if-len-eq0.true ∙ sym (wide_prefix_128 _ _ _ _ _)
+    answers_empty _ _ _ _ _ _ _ _ _ _ so c.if-len-eq0.true
 
 pub returns-else-len-eq0-clause-answer : goal.returns-else-len-eq0-clause-answer
 returns-else-len-eq0-clause-answer g c =
     let so = Skipped-end _ g.met.Self.Engine.below_ten _ _ _ _ _ _ c.window-window.result
     c.loop-window.invariant c.window-window.ensures.window c.window-window.ensures.one_step c.then-not-skip.either in
     ap (λ (n : ℕ). Ok (n, c.loop-window.at + c.window-window.result.len)) c.from.ensures
-    ∙ answers_short _ 40 _ _ _ _ _ _ _ _ so c.if-first-lt16.true (omega arith) (lit< tt) c.requires.digits
-    ∙ sym (wide_prefix_128 _ _ _ _ _)
+    ∙ answers_short _ _ _ _ _ _ _ _ _ _ wide_128 so c.if-first-lt16.true (omega arith) (lit< tt) c.requires.digits
 
 pub returns-else-len-eq0-clause-least_skipping : goal.returns-else-len-eq0-clause-least_skipping
 returns-else-len-eq0-clause-least_skipping g c =
@@ -87,8 +86,7 @@ returns-then-second-lt16-clause-answer g c =
     let place : c.loop-window.at + 16 + c.window-second.result.len ≡ c.loop-window.at + (16 + c.window-second.result.len) = omega arith in
     ap (λ (n : ℕ). Ok (n, c.loop-window.at + 16 + c.window-second.result.len)) number
     ∙ ap (λ (n : ℕ). Ok (c.window-window.result.number * 10 ^ c.window-second.result.len + c.window-second.result.number, n)) place
-    ∙ answers_ok _ 40 _ 39 _ _ _ _ _ _ _ _ (ended g two) c.if-first-lt16.false wide (omega arith) (omega arith) (lit< tt) (omega (arith, less))
-    ∙ sym (wide_prefix_128 _ _ _ _ _)
+    ∙ answers_ok _ _ _ 39 _ _ _ _ _ _ _ _ wide_128 (ended g two) c.if-first-lt16.false wide (omega arith) (omega arith) (lit< tt) (omega (arith, less))
 
 pub returns-then-second-lt16-clause-least_skipping : goal.returns-then-second-lt16-clause-least_skipping
 returns-then-second-lt16-clause-least_skipping g c =
@@ -118,8 +116,7 @@ returns-then-third-eq8-clause-answer g c =
     let place : c.loop-window.at + 32 + c.window_8-third.result.len ≡ c.loop-window.at + (32 + c.window_8-third.result.len) = omega arith in
     ap (λ r. Err (size (c.loop-window.at + 32 + c.window_8-third.result.len) r)) (take_rest c.args.s.now c.loop-window.at)
     ∙ ap (λ (n : ℕ). Err (size n (drop c.loop-window.at c.args.s.now))) place
-    ∙ answers_size _ 40 c.args.bound 39 _ _ _ _ _ _ _ _ (ended g two) c.if-first-lt16.false reads (omega arith)
-    ∙ sym (wide_prefix_128 _ _ _ _ _)
+    ∙ answers_size _ _ c.args.bound 39 _ _ _ _ _ _ _ _ wide_128 (ended g two) c.if-first-lt16.false reads (omega arith)
 
 pub returns-then-third-eq8-clause-least_skipping : goal.returns-then-third-eq8-clause-least_skipping
 returns-then-third-eq8-clause-least_skipping g c =
@@ -153,8 +150,7 @@ returns-in-Some-clause-answer g c =
     let told = some_within c.args.bound number c.in-Some.number (sym c.in-Some.is ∙ c.joined_128.ensures) in
     ap (λ (n : ℕ). Ok (n, c.loop-window.at + 32 + c.window_8-third.result.len)) told.0
     ∙ ap (λ (n : ℕ). Ok (number, n)) place
-    ∙ answers_ok _ 40 _ 39 _ _ _ _ _ _ _ _ (ended g two) c.if-first-lt16.false reads (omega arith) (omega (arith, back.reads.within)) (lit< tt) told.1
-    ∙ sym (wide_prefix_128 _ _ _ _ _)
+    ∙ answers_ok _ _ _ 39 _ _ _ _ _ _ _ _ wide_128 (ended g two) c.if-first-lt16.false reads (omega arith) (omega (arith, back.reads.within)) (lit< tt) told.1
 
 pub returns-in-Some-clause-least_skipping : goal.returns-in-Some-clause-least_skipping
 returns-in-Some-clause-least_skipping g c =
@@ -169,8 +165,7 @@ returns-in-None-clause-answer g c =
     let reads = read_three g two c.if-second-lt16.false c.window_8-third.result back in
     let over = none_above c.args.bound _ (sym c.in-None.is ∙ c.joined_128.ensures) in
     ap (λ r. Err (overflow r)) (take_rest c.args.s.now c.loop-window.at)
-    ∙ answers_overflow _ 40 _ 39 _ _ _ _ _ _ _ _ (ended g two) c.if-first-lt16.false reads (omega arith) (omega (arith, back.reads.within)) (lit< tt) over
-    ∙ sym (wide_prefix_128 _ _ _ _ _)
+    ∙ answers_overflow _ _ _ 39 _ _ _ _ _ _ _ _ wide_128 (ended g two) c.if-first-lt16.false reads (omega arith) (omega (arith, back.reads.within)) (lit< tt) over
 
 pub returns-in-None-clause-least_skipping : goal.returns-in-None-clause-least_skipping
 returns-in-None-clause-least_skipping g c =

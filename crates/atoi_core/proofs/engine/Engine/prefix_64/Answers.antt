@@ -5,7 +5,7 @@ use Rattle.atoi_core.specs.Refusal.{overflow, size}
 use Rattle.atoi_core.specs.Run.{zeros}
 use Rattle.atoi_core.proofs.WindowLemmas.{Reads, Shows, Reads-join}
 use Rattle.atoi_core.proofs.SkipLemmas.{Skipping-none, Skipping-more, Skipped, Skipped-end, Skipped-loads, shows_behind}
-use Rattle.atoi_core.proofs.WideLemmas.{wide_prefix_64, answers_empty, answers_short, answers_size, answers_overflow, answers_ok, below_bound, some_within, none_above}
+use Rattle.atoi_core.proofs.WideLemmas.{wide_64, answers_empty, answers_short, answers_size, answers_overflow, answers_ok, below_bound, some_within, none_above}
 use Rattle.atoi_core.proofs.engine.Engine.prefix_64.Goals as goal
 use Rattle.atoi_core.proofs.engine.Engine.prefix_64.Goals.{After-window_8-back, After-power_of_ten-power}
 
@@ -25,14 +25,13 @@ pub returns-then-len-eq0-clause-answer : goal.returns-then-len-eq0-clause-answer
 returns-then-len-eq0-clause-answer g c =
     let so = Skipped-end _ g.met.Self.Engine.below_ten _ _ _ _ _ _ c.window-window.result
     c.loop-window.invariant c.window-window.ensures.window c.window-window.ensures.one_step c.then-not-skip.either in
-    answers_empty _ 24 _ _ _ _ _ _ _ _ so c.if-front-lt16.true c.if-len-eq0.true ∙ sym (wide_prefix_64 _ _ _ _ _)
+    answers_empty _ _ _ _ _ _ _ _ _ _ so c.if-len-eq0.true
 
 pub returns-else-len-eq0-clause-answer : goal.returns-else-len-eq0-clause-answer
 returns-else-len-eq0-clause-answer g c =
     let so = Skipped-end _ g.met.Self.Engine.below_ten _ _ _ _ _ _ c.window-window.result
     c.loop-window.invariant c.window-window.ensures.window c.window-window.ensures.one_step c.then-not-skip.either in
-    answers_short _ 24 _ _ _ _ _ _ _ _ so c.if-front-lt16.true (omega arith) (omega arith) c.requires.digits
-    ∙ sym (wide_prefix_64 _ _ _ _ _)
+    answers_short _ _ _ _ _ _ _ _ _ _ wide_64 so c.if-front-lt16.true (omega arith) (omega arith) c.requires.digits
 
 pub returns-else-len-eq0-clause-least_skipping : goal.returns-else-len-eq0-clause-least_skipping
 returns-else-len-eq0-clause-least_skipping g c =
@@ -71,8 +70,7 @@ pub returns-then-digits-limit-clause-answer : goal.returns-then-digits-limit-cla
 returns-then-digits-limit-clause-answer g c =
     let both = (goal.at.returns-then-digits-limit-clause-answer g c).After-window_8-back in
     ap (λ r. Err (size (c.loop-window.at + (16 + c.window_8-back.result.len)) r)) (take_rest c.args.s.now c.loop-window.at)
-    ∙ answers_size _ 24 _ _ _ _ _ _ _ _ _ _ (ended g both) c.if-front-lt16.false (read g both) c.if-digits-limit.true
-    ∙ sym (wide_prefix_64 _ _ _ _ _)
+    ∙ answers_size _ _ _ _ _ _ _ _ _ _ _ _ wide_64 (ended g both) c.if-front-lt16.false (read g both) c.if-digits-limit.true
 
 pub returns-then-digits-limit-clause-least_skipping : goal.returns-then-digits-limit-clause-least_skipping
 returns-then-digits-limit-clause-least_skipping g c = loads g (goal.at.returns-then-digits-limit-clause-least_skipping g c).After-window_8-back
@@ -112,8 +110,7 @@ returns-then-digits-limit-2-clause-answer g c =
     let power = product g (goal.at.returns-then-digits-limit-2-clause-answer g c).After-power_of_ten-power in
     let within = less g both c.if-digits-limit-2.true in
     ap (λ (e : ℕ). Ok (e + c.window_8-back.result.number, c.loop-window.at + (16 + c.window_8-back.result.len))) power
-    ∙ answers_ok _ 24 _ _ _ _ _ _ _ _ _ _ (ended g both) c.if-front-lt16.false (read g both) (omega arith) (omega arith) (omega arith) (omega arith)
-    ∙ sym (wide_prefix_64 _ _ _ _ _)
+    ∙ answers_ok _ _ _ _ _ _ _ _ _ _ _ _ wide_64 (ended g both) c.if-front-lt16.false (read g both) (omega arith) (omega arith) (omega arith) (omega arith)
 
 pub returns-in-Some-clause-answer : goal.returns-in-Some-clause-answer
 returns-in-Some-clause-answer g c =
@@ -123,8 +120,7 @@ returns-in-Some-clause-answer g c =
     let number : c.in-Some.number ≡ c.window-window.result.number * 10 ^ c.window_8-back.result.len + c.window_8-back.result.number =
     omega (arith, told.0) in
     ap (λ (e : ℕ). Ok (e, c.loop-window.at + (16 + c.window_8-back.result.len))) number
-    ∙ answers_ok _ 24 _ _ _ _ _ _ _ _ _ _ (ended g both) c.if-front-lt16.false (read g both) (omega arith) (omega arith) (omega arith) (omega (arith, told.1))
-    ∙ sym (wide_prefix_64 _ _ _ _ _)
+    ∙ answers_ok _ _ _ _ _ _ _ _ _ _ _ _ wide_64 (ended g both) c.if-front-lt16.false (read g both) (omega arith) (omega arith) (omega arith) (omega (arith, told.1))
 
 pub returns-in-None-clause-answer : goal.returns-in-None-clause-answer
 returns-in-None-clause-answer g c =
@@ -132,5 +128,4 @@ returns-in-None-clause-answer g c =
     let power = product g (goal.at.returns-in-None-clause-answer g c).After-power_of_ten-power in
     let over = none_above c.args.bound _ (sym c.in-None.is ∙ c.up_to_64.ensures) in
     ap (λ r. Err (overflow r)) (take_rest c.args.s.now c.loop-window.at)
-    ∙ answers_overflow _ 24 _ _ _ _ _ _ _ _ _ _ (ended g both) c.if-front-lt16.false (read g both) (omega arith) (omega arith) (omega arith) (omega (arith, over))
-    ∙ sym (wide_prefix_64 _ _ _ _ _)
+    ∙ answers_overflow _ _ _ _ _ _ _ _ _ _ _ _ wide_64 (ended g both) c.if-front-lt16.false (read g both) (omega arith) (omega arith) (omega arith) (omega (arith, over))
