@@ -1,5 +1,5 @@
 -- The answers of a wide class, from what was read behind the zeros that are skipped.
-use Rattle.std.proofs.Common.{◌≡◌, ℕ, ◌+◌, ◌-◌, ◌^◌, ◌<◌, ◌≤◌, ◌==◌, min, Bool, true, false, nat_lt, List, drop, Option, Some, None, Result, Ok, Err, refl, sym, ap, ◌∙◌, lit<, ne_eqb, inl, inr, arith, if◌then◌else◌}
+use Rattle.std.proofs.Common.{◌≡◌, ℕ, ◌+◌, ◌-◌, ◌*◌, ◌^◌, ◌<◌, ◌≤◌, ◌==◌, min, Bool, true, false, nat_lt, List, drop, Option, Some, None, Result, Ok, Err, refl, sym, ap, ◌∙◌, lit<, ne_eqb, inl, inr, arith, if◌then◌else◌}
 use Rattle.std.proofs.Math.Nat.{pow-le-pow_right}
 use Rattle.std.proofs.lemmas.Bool.{cases_lt, eq-eqb, lt-ltb, le-ltb, ltb-true, ltb-false}
 use Rattle.atoi_core.specs.Digit.{Table}
@@ -9,7 +9,7 @@ use Rattle.atoi_core.specs.Magnitude.{Class, wide64, wide128, prefix, counting_d
 use Rattle.atoi_core.specs.declared.window.Window.{Window}
 use Rattle.atoi_core.proofs.RefusalLemmas.{IsAccepted, refusal-none, refused_empty, refused_size, refused_overflow}
 use Rattle.atoi_core.proofs.LimitLemmas.{short_enough}
-use Rattle.atoi_core.proofs.WindowLemmas.{Reads}
+use Rattle.atoi_core.proofs.WindowLemmas.{Reads, Shows, Reads-join, Reads-widen}
 use Rattle.atoi_core.proofs.SkipLemmas.{Skipped}
 
 -- what the two wide classes have in common: all digits are read, and zeros that are skipped count
@@ -28,20 +28,20 @@ pub wide_128 : IsWide wide128
 wide_128 = record { reads = λ skip n. refl; long = λ limit n. refl; drops = λ skip n z. refl }
 
 -- a number that is there where it is within the bound
-pub some_within : (bound x n : ℕ) → Some n ≡ (if nat_lt bound x then None else Some x) → (n ≡ x) × (x ≤ bound)
-some_within bound x n =
+pub some_within : (bound x n : ℕ) (found : Option ℕ) → found ≡ Some n → found ≡ (if nat_lt bound x then None else Some x) → (n ≡ x) × (x ≤ bound)
+some_within bound x n found is told =
     (elim (nat_lt bound x) as (λ v. nat_lt bound x ≡ v → Some n ≡ (if v then None else Some x) → (n ≡ x) × (x ≤ bound)) [
       | true ↦ λ e h. cc
       | false ↦ λ e h. (cc, ltb-false bound x e)
-    ]) refl
+    ]) refl (sym is ∙ told)
 
 -- and is not there where it is above
-pub none_above : (bound x : ℕ) → None ≡ (if nat_lt bound x then None else Some x) → bound < x
-none_above bound x =
+pub none_above : (bound x : ℕ) (found : Option ℕ) → found ≡ None → found ≡ (if nat_lt bound x then None else Some x) → bound < x
+none_above bound x found is told =
     (elim (nat_lt bound x) as (λ v. nat_lt bound x ≡ v → None ≡ (if v then None else Some x) → bound < x) [
       | true ↦ λ e h. ltb-true bound x e
       | false ↦ λ e h. cc
-    ]) refl
+    ]) refl (sym is ∙ told)
 
 -- fewer digits than the bound has write no more than it
 pub below_bound : (limit bound m x : ℕ) → HasDigits limit bound → m < limit → x < 10 ^ m → x < bound
@@ -78,29 +78,20 @@ answers_value t class bound limit skip s n v wide n_is v_is some fits within =
     rw (refusal-none t class bound limit prefix skip s accepted, all, v_is, n_is) refl
 
 -- the last window is not full: it holds the rest of the run, which is too short to pass the bound
-pub answers_short : (t : Table) (class : Class) (bound limit : ℕ) (skip : Bool) (s : List ℕ) (at before now : ℕ) (w : Window) → IsWide class →
-    Skipped t skip s at before now w → w.len < 16 → 0 < at + w.len → 16 < limit → HasDigits limit bound →
-    Ok (w.number, at + w.len) ≡ prefix_magnitude t class bound limit skip s
-answers_short t class bound limit skip s at before now w wide so short some long digits =
+pub answers_short : (t : Table) (class : Class) (bound limit : ℕ) (skip : Bool) (s : List ℕ) (at before now : ℕ) (w : Window) (number len : ℕ) →
+    IsWide class → Skipped t skip s at before now w → w.len < 16 → 0 < at + w.len → 16 < limit → HasDigits limit bound →
+    number ≡ w.number → len ≡ at + w.len → Ok (number, len) ≡ prefix_magnitude t class bound limit skip s
+answers_short t class bound limit skip s at before now w number len wide so short some long digits number_is len_is =
     let rest : run_len t (drop at s) ≡ w.len = so.shown.reads.ends short in
     let least : w.number < bound = below_bound limit bound w.len w.number digits (omega arith) so.shown.reads.below in
-    answers_value t class bound limit skip s (at + w.len) w.number wide (omega (arith, so.run_is)) (so.value_is ∙ so.shown.reads.value_is short)
-    some (omega (arith, counted_most t skip s at before now w so)) (omega arith)
-
--- the same of a first window
-pub answers_first : (t : Table) (class : Class) (bound limit : ℕ) (skip : Bool) (s : List ℕ) (before now : ℕ) (w : Window) → IsWide class →
-    Skipped t skip s 0 before now w → w.len < 16 → 0 < w.len → 16 < limit → HasDigits limit bound →
-    Ok (w.number, w.len) ≡ prefix_magnitude t class bound limit skip s
-answers_first t class bound limit skip s before now w wide so short some long digits =
-    let place : w.len ≡ 0 + w.len = omega arith in
-    ap (λ (n : ℕ). Ok (w.number, n)) place
-    ∙ answers_short t class bound limit skip s 0 before now w wide so short (omega arith) long digits
+    answers_value t class bound limit skip s len number wide (omega (arith, so.run_is)) (so.value_is ∙ so.shown.reads.value_is short ∙ sym number_is)
+    (omega arith) (omega (arith, counted_most t skip s at before now w so)) (omega arith)
 
 -- what was read counts more digits than the bound has
-pub answers_size : (t : Table) (class : Class) (bound limit : ℕ) (skip : Bool) (s : List ℕ) (at before now : ℕ) (w : Window) (m x : ℕ) → IsWide class →
-    Skipped t skip s at before now w → 16 ≤ w.len → Reads t (cap class) (drop at s) m x → limit < m →
-    Err (size (at + m) (drop at s)) ≡ prefix_magnitude t class bound limit skip s
-answers_size t class bound limit skip s at before now w m x wide so full reads long =
+pub answers_size : (t : Table) (class : Class) (bound limit : ℕ) (skip : Bool) (s : List ℕ) (at before now : ℕ) (w : Window) (m x len : ℕ) (rest : List ℕ) →
+    IsWide class → Skipped t skip s at before now w → 16 ≤ w.len → Reads t (cap class) (drop at s) m x → limit < m →
+    len ≡ at + m → rest ≡ drop at s → Err (size len rest) ≡ prefix_magnitude t class bound limit skip s
+answers_size t class bound limit skip s at before now w m x len rest wide so full reads long len_is rest_is =
     let d : counting_digits skip (run_len t s) (zeros t s) ≡ run_len t (drop at s) = counting_digits-is t skip s at before now w so full in
     let e : run_len t s - counting_digits skip (run_len t s) (zeros t s) ≡ at = omega (arith, so.run_is) in
     let k : min (counting_digits skip (run_len t s) (zeros t s)) (cap class) ≡ m =
@@ -108,31 +99,42 @@ answers_size t class bound limit skip s at before now w m x wide so full reads l
       | inl h ↦ omega (arith, reads.ends h)
       | inr h ↦ omega (arith, reads.inside, reads.within)
     ] in
-    rw (refused_size t class bound limit prefix skip s (omega (arith, so.run_is, reads.inside))
+    rw (len_is, rest_is, refused_size t class bound limit prefix skip s (omega (arith, so.run_is, reads.inside))
     (wide.long limit _ ∙ lt-ltb limit (counting_digits skip (run_len t s) (zeros t s)) (omega (arith, reads.inside))))
     (rw (e, k) refl)
 
 -- what was read is the run, and its number is above the bound
-pub answers_overflow : (t : Table) (class : Class) (bound limit : ℕ) (skip : Bool) (s : List ℕ) (at before now : ℕ) (w : Window) (m x : ℕ) → IsWide class →
-    Skipped t skip s at before now w → 16 ≤ w.len → Reads t (cap class) (drop at s) m x → 0 < m → m ≤ limit → limit < cap class → bound < x →
-    Err (overflow (drop at s)) ≡ prefix_magnitude t class bound limit skip s
-answers_overflow t class bound limit skip s at before now w m x wide so full reads some short less over =
+pub answers_overflow : (t : Table) (class : Class) (bound limit : ℕ) (skip : Bool) (s : List ℕ) (at before now : ℕ) (w : Window) (m x : ℕ) (rest : List ℕ) →
+    IsWide class → Skipped t skip s at before now w → 16 ≤ w.len → Reads t (cap class) (drop at s) m x → m ≤ limit → limit < cap class → bound < x →
+    rest ≡ drop at s → Err (overflow rest) ≡ prefix_magnitude t class bound limit skip s
+answers_overflow t class bound limit skip s at before now w m x rest wide so full reads short less over rest_is =
     let d : counting_digits skip (run_len t s) (zeros t s) ≡ run_len t (drop at s) = counting_digits-is t skip s at before now w so full in
     let e : run_len t s - counting_digits skip (run_len t s) (zeros t s) ≡ at = omega (arith, so.run_is) in
     let ends : m < cap class = omega arith in
-    let rest : run_len t (drop at s) ≡ m = reads.ends ends in
+    let all : run_len t (drop at s) ≡ m = reads.ends ends in
     let v : value t (run t s) ≡ x = so.value_is ∙ reads.value_is ends in
-    rw (refused_overflow t class bound limit prefix skip s (omega (arith, so.run_is)) (short_enough class limit _ (omega arith))
+    rw (rest_is, refused_overflow t class bound limit prefix skip s (omega (arith, so.run_is, so.shown.reads.inside)) (short_enough class limit _ (omega arith))
     (rw (wide.reads skip (run_len t s)) (omega arith)))
     (rw (wide.drops skip (run_len t s) (zeros t s), e) refl)
 
 -- what was read is the run, and its number is within the bound
-pub answers_ok : (t : Table) (class : Class) (bound limit : ℕ) (skip : Bool) (s : List ℕ) (at before now : ℕ) (w : Window) (m x : ℕ) → IsWide class →
-    Skipped t skip s at before now w → 16 ≤ w.len → Reads t (cap class) (drop at s) m x → 0 < m → m ≤ limit → limit < cap class → x ≤ bound →
-    Ok (x, at + m) ≡ prefix_magnitude t class bound limit skip s
-answers_ok t class bound limit skip s at before now w m x wide so full reads some short less within =
+pub answers_ok : (t : Table) (class : Class) (bound limit : ℕ) (skip : Bool) (s : List ℕ) (at before now : ℕ) (w : Window) (m x number len : ℕ) →
+    IsWide class → Skipped t skip s at before now w → 16 ≤ w.len → Reads t (cap class) (drop at s) m x → m ≤ limit → limit < cap class → x ≤ bound →
+    number ≡ x → len ≡ at + m → Ok (number, len) ≡ prefix_magnitude t class bound limit skip s
+answers_ok t class bound limit skip s at before now w m x number len wide so full reads short less within number_is len_is =
     let d : counting_digits skip (run_len t s) (zeros t s) ≡ run_len t (drop at s) = counting_digits-is t skip s at before now w so full in
     let ends : m < cap class = omega arith in
-    let rest : run_len t (drop at s) ≡ m = reads.ends ends in
-    answers_value t class bound limit skip s (at + m) x wide (omega (arith, so.run_is)) (so.value_is ∙ reads.value_is ends)
-    (omega arith) (omega arith) within
+    let all : run_len t (drop at s) ≡ m = reads.ends ends in
+    answers_value t class bound limit skip s len number wide (omega (arith, so.run_is)) (so.value_is ∙ reads.value_is ends ∙ sym number_is)
+    (omega (arith, so.run_is, so.shown.reads.inside)) (omega arith) (omega arith)
+
+-- a full window, and behind it one that is not full
+pub answers_two : (t : Table) (bound : ℕ) (skip : Bool) (s : List ℕ) (at before now : ℕ) (first second : Window) (number len : ℕ) →
+    Skipped t skip s at before now first → 16 ≤ first.len → Shows t 16 (drop 16 (drop at s)) second → second.len < 16 → HasDigits 39 bound →
+    number ≡ first.number * 10 ^ second.len + second.number → len ≡ at + (16 + second.len) →
+    Ok (number, len) ≡ prefix_magnitude t wide128 bound 39 skip s
+answers_two t bound skip s at before now first second number len so full behind short digits number_is len_is =
+    let reads = Reads-join t 16 16 (drop at s) first second.len second.number so.shown full behind.reads in
+    let wide = Reads-widen t 32 40 (drop at s) (16 + second.len) _ reads (omega arith) (omega arith) in
+    let less = below_bound 39 bound (16 + second.len) _ digits (omega arith) reads.below in
+    answers_ok t wide128 bound 39 skip s at before now first _ _ number len wide_128 so full wide (omega arith) (lit< tt) (omega (arith, less)) number_is len_is

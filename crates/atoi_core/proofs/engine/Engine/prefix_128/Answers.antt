@@ -1,5 +1,5 @@
 -- The loop leaves what `Skipped` says; the answers and the loads follow from it.
-use Rattle.std.proofs.Common.{◌≡◌, ◌+◌, ◌*◌, ◌^◌, ◌≤◌, ℕ, ◌∙◌, sym, ap, Ok, Err, arith, lit<, length, take, drop}
+use Rattle.std.proofs.Common.{◌≡◌, ◌+◌, ◌*◌, ◌^◌, ◌≤◌, ℕ, ◌∙◌, sym, ap, refl, arith, lit<, length, take, drop}
 use Rattle.std.proofs.lemmas.List.{take_rest}
 use Rattle.std.proofs.lemmas.List.Sums.{prefix_len-le-length}
 use Rattle.atoi_core.specs.Refusal.{overflow, size}
@@ -7,7 +7,7 @@ use Rattle.atoi_core.specs.Digit.{is_digit}
 use Rattle.atoi_core.specs.declared.window.Window.{Window}
 use Rattle.atoi_core.proofs.WindowLemmas.{Reads, Shows, Shows-below, Reads-join, Reads-join_two, Reads-widen}
 use Rattle.atoi_core.proofs.SkipLemmas.{Skipping-none, Skipping-more, Skipped, Skipped-end, Skipped-loads, shows_behind}
-use Rattle.atoi_core.proofs.WideLemmas.{wide_128, answers_empty, answers_short, answers_size, answers_overflow, answers_ok, below_bound, some_within, none_above}
+use Rattle.atoi_core.proofs.WideLemmas.{wide_128, answers_empty, answers_short, answers_size, answers_overflow, answers_ok, answers_two, some_within, none_above}
 use Rattle.atoi_core.proofs.engine.Engine.prefix_128.Goals as goal
 use Rattle.atoi_core.proofs.engine.Engine.prefix_128.Goals.{After-window-second, After-window_8-third}
 
@@ -33,8 +33,7 @@ pub returns-else-len-eq0-clause-answer : goal.returns-else-len-eq0-clause-answer
 returns-else-len-eq0-clause-answer g c =
     let so = Skipped-end _ g.met.Self.Engine.below_ten _ _ _ _ _ _ c.window-window.result
     c.loop-window.invariant c.window-window.ensures.window c.window-window.ensures.one_step c.then-not-skip.either in
-    ap (λ (n : ℕ). Ok (n, c.loop-window.at + c.window-window.result.len)) c.from.ensures
-    ∙ answers_short _ _ _ _ _ _ _ _ _ _ wide_128 so c.if-first-lt16.true (omega arith) (lit< tt) c.requires.digits
+    answers_short _ _ _ _ _ _ _ _ _ _ _ _ wide_128 so c.if-first-lt16.true (omega arith) (lit< tt) c.requires.digits c.from.ensures refl
 
 pub returns-else-len-eq0-clause-least_skipping : goal.returns-else-len-eq0-clause-least_skipping
 returns-else-len-eq0-clause-least_skipping g c =
@@ -59,15 +58,7 @@ third : (g : _) (c : After-window_8-third g) → Shows g.Self.Engine.table 8 (dr
 third g c =
     shows_behind g.Self.Engine.table g.met.Self.Engine.below_ten 8 32 c.args.s.now c.loop-window.at c.window_8-third.result c.window_8-third.ensures.window
 
--- what two windows read together
-read_two : (g : _) (c : After-window-second g)
-    → Reads g.Self.Engine.table 32 (drop c.loop-window.at c.args.s.now) (16 + c.window-second.result.len)
-    (c.window-window.result.number * 10 ^ c.window-second.result.len + c.window-second.result.number)
-read_two g c =
-    Reads-join g.Self.Engine.table 16 16 (drop c.loop-window.at c.args.s.now) c.window-window.result c.window-second.result.len c.window-second.result.number
-    (ended g c).shown c.if-first-lt16.false (middle g c).reads
-
--- what all three do
+-- what three windows read together
 read_three : (g : _) (c : After-window-second g) → 16 ≤ c.window-second.result.len
     → (last : Window) → Shows g.Self.Engine.table 8 (drop 32 (drop c.loop-window.at c.args.s.now)) last
     → Reads g.Self.Engine.table 40 (drop c.loop-window.at c.args.s.now) (32 + last.len)
@@ -79,14 +70,7 @@ read_three g c more last back =
 pub returns-then-second-lt16-clause-answer : goal.returns-then-second-lt16-clause-answer
 returns-then-second-lt16-clause-answer g c =
     let two = (goal.at.returns-then-second-lt16-clause-answer g c).After-window-second in
-    let reads = read_two g two in
-    let wide = Reads-widen g.Self.Engine.table 32 40 (drop c.loop-window.at c.args.s.now) (16 + c.window-second.result.len) _ reads (omega arith) (omega arith) in
-    let less = below_bound 39 c.args.bound (16 + c.window-second.result.len) _ c.requires.digits (omega arith) reads.below in
-    let number : c.from-then-second-lt16.result * c.from-then-second-lt16-2.result + c.from-then-second-lt16-3.result ≡ c.window-window.result.number * 10 ^ c.window-second.result.len + c.window-second.result.number = cc in
-    let place : c.loop-window.at + 16 + c.window-second.result.len ≡ c.loop-window.at + (16 + c.window-second.result.len) = omega arith in
-    ap (λ (n : ℕ). Ok (n, c.loop-window.at + 16 + c.window-second.result.len)) number
-    ∙ ap (λ (n : ℕ). Ok (c.window-window.result.number * 10 ^ c.window-second.result.len + c.window-second.result.number, n)) place
-    ∙ answers_ok _ _ _ 39 _ _ _ _ _ _ _ _ wide_128 (ended g two) c.if-first-lt16.false wide (omega arith) (omega arith) (lit< tt) (omega (arith, less))
+    answers_two _ _ _ _ _ _ _ _ _ _ _ (ended g two) c.if-first-lt16.false (middle g two) c.if-second-lt16.true c.requires.digits (cc) (omega arith)
 
 pub returns-then-second-lt16-clause-least_skipping : goal.returns-then-second-lt16-clause-least_skipping
 returns-then-second-lt16-clause-least_skipping g c =
@@ -96,7 +80,9 @@ returns-then-second-lt16-clause-least_skipping g c =
 -- two full windows stand within the slice
 two_long : (g : _) (c : After-window-second g) → 16 ≤ c.window-second.result.len → 32 ≤ length (drop c.loop-window.at c.args.s.now)
 two_long g c more =
-    omega (arith, (read_two g c).inside, prefix_len-le-length (is_digit g.Self.Engine.table) (drop c.loop-window.at c.args.s.now))
+    let front = (ended g c).shown in
+    let on = front.goes_on (omega (arith, front.reads.within)) in
+    omega (arith, on, (middle g c).reads.inside, prefix_len-le-length (is_digit g.Self.Engine.table) (drop c.loop-window.at c.args.s.now))
 
 pub slice_bounds-window_8-count : goal.slice_bounds-window_8-count
 slice_bounds-window_8-count g c =
@@ -113,10 +99,8 @@ returns-then-third-eq8-clause-answer g c =
     let at = goal.at.returns-then-third-eq8-clause-answer g c in
     let two = at.After-window-second in
     let reads = read_three g two c.if-second-lt16.false c.window_8-third.result (third g at.After-window_8-third) in
-    let place : c.loop-window.at + 32 + c.window_8-third.result.len ≡ c.loop-window.at + (32 + c.window_8-third.result.len) = omega arith in
-    ap (λ r. Err (size (c.loop-window.at + 32 + c.window_8-third.result.len) r)) (take_rest c.args.s.now c.loop-window.at)
-    ∙ ap (λ (n : ℕ). Err (size n (drop c.loop-window.at c.args.s.now))) place
-    ∙ answers_size _ _ c.args.bound 39 _ _ _ _ _ _ _ _ wide_128 (ended g two) c.if-first-lt16.false reads (omega arith)
+    answers_size _ _ c.args.bound 39 _ _ _ _ _ _ _ _ _ _ wide_128 (ended g two) c.if-first-lt16.false reads (omega arith)
+    (omega arith) (take_rest c.args.s.now c.loop-window.at)
 
 pub returns-then-third-eq8-clause-least_skipping : goal.returns-then-third-eq8-clause-least_skipping
 returns-then-third-eq8-clause-least_skipping g c =
@@ -145,12 +129,10 @@ returns-in-Some-clause-answer g c =
     let two = at.After-window-second in
     let back = third g at.After-window_8-third in
     let reads = read_three g two c.if-second-lt16.false c.window_8-third.result back in
-    let place : c.loop-window.at + 32 + c.window_8-third.result.len ≡ c.loop-window.at + (32 + c.window_8-third.result.len) = omega arith in
     let number : ℕ = c.window-window.result.number * 10 ^ (16 + c.window_8-third.result.len) + (c.window-second.result.number * 10 ^ c.window_8-third.result.len + c.window_8-third.result.number) in
-    let told = some_within c.args.bound number c.in-Some.number (sym c.in-Some.is ∙ c.joined_128.ensures) in
-    ap (λ (n : ℕ). Ok (n, c.loop-window.at + 32 + c.window_8-third.result.len)) told.0
-    ∙ ap (λ (n : ℕ). Ok (number, n)) place
-    ∙ answers_ok _ _ _ 39 _ _ _ _ _ _ _ _ wide_128 (ended g two) c.if-first-lt16.false reads (omega arith) (omega (arith, back.reads.within)) (lit< tt) told.1
+    let told = some_within c.args.bound number c.in-Some.number _ c.in-Some.is c.joined_128.ensures in
+    answers_ok _ _ _ 39 _ _ _ _ _ _ _ _ _ _ wide_128 (ended g two) c.if-first-lt16.false reads (omega (arith, back.reads.within)) (lit< tt) told.1
+    told.0 (omega arith)
 
 pub returns-in-Some-clause-least_skipping : goal.returns-in-Some-clause-least_skipping
 returns-in-Some-clause-least_skipping g c =
@@ -163,9 +145,9 @@ returns-in-None-clause-answer g c =
     let two = at.After-window-second in
     let back = third g at.After-window_8-third in
     let reads = read_three g two c.if-second-lt16.false c.window_8-third.result back in
-    let over = none_above c.args.bound _ (sym c.in-None.is ∙ c.joined_128.ensures) in
-    ap (λ r. Err (overflow r)) (take_rest c.args.s.now c.loop-window.at)
-    ∙ answers_overflow _ _ _ 39 _ _ _ _ _ _ _ _ wide_128 (ended g two) c.if-first-lt16.false reads (omega arith) (omega (arith, back.reads.within)) (lit< tt) over
+    let over = none_above c.args.bound _ _ c.in-None.is c.joined_128.ensures in
+    answers_overflow _ _ _ 39 _ _ _ _ _ _ _ _ _ wide_128 (ended g two) c.if-first-lt16.false reads (omega (arith, back.reads.within)) (lit< tt) over
+    (take_rest c.args.s.now c.loop-window.at)
 
 pub returns-in-None-clause-least_skipping : goal.returns-in-None-clause-least_skipping
 returns-in-None-clause-least_skipping g c =

@@ -1,5 +1,5 @@
 -- The loop leaves what `Skipped` says; the answers and the loads follow from it.
-use Rattle.std.proofs.Common.{◌≡◌, ◌+◌, ◌*◌, ◌/◌, ◌^◌, ◌<◌, ◌≤◌, ℕ, IsTrue, ◌∙◌, sym, ap, Ok, Err, arith, drop}
+use Rattle.std.proofs.Common.{◌≡◌, ◌+◌, ◌*◌, ◌/◌, ◌^◌, ◌<◌, ◌≤◌, ℕ, IsTrue, ◌∙◌, sym, ap, refl, arith, drop}
 use Rattle.std.proofs.lemmas.List.{take_rest}
 use Rattle.atoi_core.specs.Refusal.{overflow, size}
 use Rattle.atoi_core.specs.Run.{zeros}
@@ -31,7 +31,7 @@ pub returns-else-len-eq0-clause-answer : goal.returns-else-len-eq0-clause-answer
 returns-else-len-eq0-clause-answer g c =
     let so = Skipped-end _ g.met.Self.Engine.below_ten _ _ _ _ _ _ c.window-window.result
     c.loop-window.invariant c.window-window.ensures.window c.window-window.ensures.one_step c.then-not-skip.either in
-    answers_short _ _ _ _ _ _ _ _ _ _ wide_64 so c.if-front-lt16.true (omega arith) (omega arith) c.requires.digits
+    answers_short _ _ _ _ _ _ _ _ _ _ _ _ wide_64 so c.if-front-lt16.true (omega arith) (omega arith) c.requires.digits refl refl
 
 pub returns-else-len-eq0-clause-least_skipping : goal.returns-else-len-eq0-clause-least_skipping
 returns-else-len-eq0-clause-least_skipping g c =
@@ -69,8 +69,8 @@ overflow_add-digits g c = omega (arith, (behind g (goal.at.overflow_add-digits g
 pub returns-then-digits-limit-clause-answer : goal.returns-then-digits-limit-clause-answer
 returns-then-digits-limit-clause-answer g c =
     let both = (goal.at.returns-then-digits-limit-clause-answer g c).After-window_8-back in
-    ap (λ r. Err (size (c.loop-window.at + (16 + c.window_8-back.result.len)) r)) (take_rest c.args.s.now c.loop-window.at)
-    ∙ answers_size _ _ _ _ _ _ _ _ _ _ _ _ wide_64 (ended g both) c.if-front-lt16.false (read g both) c.if-digits-limit.true
+    answers_size _ _ _ _ _ _ _ _ _ _ _ _ _ _ wide_64 (ended g both) c.if-front-lt16.false (read g both) c.if-digits-limit.true
+    refl (take_rest c.args.s.now c.loop-window.at)
 
 pub returns-then-digits-limit-clause-least_skipping : goal.returns-then-digits-limit-clause-least_skipping
 returns-then-digits-limit-clause-least_skipping g c = loads g (goal.at.returns-then-digits-limit-clause-least_skipping g c).After-window_8-back
@@ -109,23 +109,21 @@ returns-then-digits-limit-2-clause-answer g c =
     let both = (goal.at.returns-then-digits-limit-2-clause-answer g c).After-window_8-back in
     let power = product g (goal.at.returns-then-digits-limit-2-clause-answer g c).After-power_of_ten-power in
     let within = less g both c.if-digits-limit-2.true in
-    ap (λ (e : ℕ). Ok (e + c.window_8-back.result.number, c.loop-window.at + (16 + c.window_8-back.result.len))) power
-    ∙ answers_ok _ _ _ _ _ _ _ _ _ _ _ _ wide_64 (ended g both) c.if-front-lt16.false (read g both) (omega arith) (omega arith) (omega arith) (omega arith)
+    answers_ok _ _ _ _ _ _ _ _ _ _ _ _ _ _ wide_64 (ended g both) c.if-front-lt16.false (read g both) (omega arith) (omega arith) (omega arith)
+    (omega arith) refl
 
 pub returns-in-Some-clause-answer : goal.returns-in-Some-clause-answer
 returns-in-Some-clause-answer g c =
     let both = (goal.at.returns-in-Some-clause-answer g c).After-window_8-back in
     let power = product g (goal.at.returns-in-Some-clause-answer g c).After-power_of_ten-power in
-    let told = some_within c.args.bound _ c.in-Some.number (sym c.in-Some.is ∙ c.up_to_64.ensures) in
-    let number : c.in-Some.number ≡ c.window-window.result.number * 10 ^ c.window_8-back.result.len + c.window_8-back.result.number =
-    omega (arith, told.0) in
-    ap (λ (e : ℕ). Ok (e, c.loop-window.at + (16 + c.window_8-back.result.len))) number
-    ∙ answers_ok _ _ _ _ _ _ _ _ _ _ _ _ wide_64 (ended g both) c.if-front-lt16.false (read g both) (omega arith) (omega arith) (omega arith) (omega (arith, told.1))
+    let told = some_within c.args.bound _ c.in-Some.number _ c.in-Some.is c.up_to_64.ensures in
+    answers_ok _ _ _ _ _ _ _ _ _ _ _ _ _ _ wide_64 (ended g both) c.if-front-lt16.false (read g both) (omega arith) (omega arith) (omega (arith, told.1))
+    (omega (arith, told.0)) refl
 
 pub returns-in-None-clause-answer : goal.returns-in-None-clause-answer
 returns-in-None-clause-answer g c =
     let both = (goal.at.returns-in-None-clause-answer g c).After-window_8-back in
     let power = product g (goal.at.returns-in-None-clause-answer g c).After-power_of_ten-power in
-    let over = none_above c.args.bound _ (sym c.in-None.is ∙ c.up_to_64.ensures) in
-    ap (λ r. Err (overflow r)) (take_rest c.args.s.now c.loop-window.at)
-    ∙ answers_overflow _ _ _ _ _ _ _ _ _ _ _ _ wide_64 (ended g both) c.if-front-lt16.false (read g both) (omega arith) (omega arith) (omega arith) (omega (arith, over))
+    let over = none_above c.args.bound _ _ c.in-None.is c.up_to_64.ensures in
+    answers_overflow _ _ _ _ _ _ _ _ _ _ _ _ _ wide_64 (ended g both) c.if-front-lt16.false (read g both) (omega arith) (omega arith) (omega (arith, over))
+    (take_rest c.args.s.now c.loop-window.at)
