@@ -6,19 +6,15 @@ use Rattle.atoi_core.specs.Digit.{Table, is_digit}
 use Rattle.atoi_core.specs.Run.{run_len, zeros, value}
 use Rattle.atoi_core.specs.Refusal.{Refusal, empty, size, overflow}
 use Rattle.atoi_core.specs.Magnitude.{Class, Extent, narrow, wide64, wide128, whole, prefix, digits_read, counting_digits, is_too_long, leaves_rest, cap, dropped_zeros, invalid, refusal, unless_refused, whole_magnitude, prefix_magnitude}
+use Rattle.atoi_core.specs.Answer.{map_answer}
 use Rattle.atoi_core.proofs.RefusalLemmas.{accepted}
-use Rattle.atoi_core.proofs.CallLemmas.{digits_read-whole, digits_read-le}
-
--- an answer that is no refusal
-unless_ok : {A : Type 0} (reason : Option Refusal) (answer found : A) → Ok found ≡ unless_refused reason answer → (reason ≡ None) × (found ≡ answer)
-unless_ok None answer found same = (refl, cc)
-unless_ok (Some reason) answer found same = cc
+use Rattle.atoi_core.proofs.CallLemmas.{map_unless_ok, digits_read-whole, digits_read-le}
 
 -- a prefix that is not refused is in bounds
 pub prefix_in_bounds : (table : Table) (class : Class) (bound limit : ℕ) (skip : Bool) (s : List ℕ) (number len : ℕ)
     → Ok (number, len) ≡ prefix_magnitude table class bound limit skip s → number ≤ bound
 prefix_in_bounds table class bound limit skip s number len found =
-    let both = unless_ok _ _ _ found in
+    let both = map_unless_ok (λ x. x) _ _ _ (ap (map_answer (λ x. x)) (sym found)) in
     let P : ℕ → Type 0 = λ n. n ≤ bound in
     subst P (ap (λ (pair : ℕ × ℕ). pair.0) (sym both.1)) (accepted table class bound limit prefix skip s both.0).in_range
 
@@ -26,7 +22,7 @@ prefix_in_bounds table class bound limit skip s number len found =
 pub whole_in_bounds : (table : Table) (class : Class) (bound limit : ℕ) (skip : Bool) (s : List ℕ) (number : ℕ)
     → Ok number ≡ whole_magnitude table class bound limit skip s → number ≤ bound
 whole_in_bounds table class bound limit skip s number found =
-    let both = unless_ok _ _ _ found in
+    let both = map_unless_ok (λ x. x) _ _ _ (ap (map_answer (λ x. x)) (sym found)) in
     let P : ℕ → Type 0 = λ n. n ≤ bound in
     subst P (ap (λ n. value table (take n s)) (digits_read-whole class skip (run_len table s)) ∙ sym both.1)
     (accepted table class bound limit whole skip s both.0).in_range
@@ -47,6 +43,6 @@ narrow_whole_limit table bound limit skip s = refl
 pub prefix_within : (table : Table) (class : Class) (bound limit : ℕ) (skip : Bool) (s : List ℕ) (number len : ℕ)
     → Ok (number, len) ≡ prefix_magnitude table class bound limit skip s → len ≤ length s
 prefix_within table class bound limit skip s number len found =
-    let both = unless_ok _ _ _ found in
+    let both = map_unless_ok (λ x. x) _ _ _ (ap (map_answer (λ x. x)) (sym found)) in
     let count : len ≡ digits_read class prefix skip (run_len table s) = ap (λ (pair : ℕ × ℕ). pair.1) both.1 in
     omega (arith, digits_read-le class prefix skip (run_len table s), prefix_len-le-length (is_digit table) s)

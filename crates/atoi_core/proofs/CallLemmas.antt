@@ -36,7 +36,7 @@ abbrev pub counted_number : Bool → ℕ × ℕ → ℤ × ℕ
 counted_number minus found = (number_of minus found.0, found.1)
 
 -- an answer of one value, unless there is a reason
-map_unless_ok : {A B : Type 0} (f : A → B) (r : Option Refusal) (x : A) (y : B)
+pub map_unless_ok : {A B : Type 0} (f : A → B) (r : Option Refusal) (x : A) (y : B)
     → map_answer f (unless_refused r x) ≡ Ok y → (r ≡ None) × (y ≡ f x)
 map_unless_ok f None x y h = (refl, cc)
 map_unless_ok f (Some reason) x y h = absurd (cc h)

@@ -153,10 +153,10 @@ number-all k extent g = ap (λ (m : ℕ). value decimal_table (take m g.body)) (
 
 -- the number that is read stays
 number-padded : (k : Kind) (extent : Extent) (count : ℕ) (g : Sign)
-    → number_at k true extent g ≡ number_at k true extent (record { minus = g.minus; taken = g.taken; body = padded count g.body })
+    → number_at k true extent g ≡ number_at k true extent (record g { body = padded count g.body })
 number-padded k extent count g =
     number-all k extent g ∙ value-padded count g.body
-    ∙ sym (number-all k extent (record { minus = g.minus; taken = g.taken; body = padded count g.body }))
+    ∙ sym (number-all k extent (record g { body = padded count g.body }))
 
 -- a test of two numbers stays where both grow alike
 eqb-add : (more m n : ℕ) → eqb m n ≡ eqb (more + m) (more + n)
@@ -172,7 +172,7 @@ followed-padded whole count body =
 
 -- the tests do not tell a body from the same with zeros before it
 padded_alike : (k : Kind) (extent : Extent) (count : ℕ) (g : Sign) → 0 < run_len decimal_table g.body
-    → IsAlike k true extent g (record { minus = g.minus; taken = g.taken; body = padded count g.body })
+    → IsAlike k true extent g (record g { body = padded count g.body })
 padded_alike k extent count g some =
     let longer = run_len-padded count g.body in
     let leading = zeros-padded count g.body in
@@ -194,7 +194,7 @@ sign_of_padded k form s count some =
 
 -- a whole parse and a prefix parse of the body with zeros before it, behind the same sign
 whole_padded : (k : Kind) (g : Sign) (count : ℕ) → 0 < run_len decimal_table g.body
-    → IsSameKind (whole_at k true g) (whole_at k true (record { minus = g.minus; taken = g.taken; body = padded count g.body }))
+    → IsSameKind (whole_at k true g) (whole_at k true (record g { body = padded count g.body }))
 whole_padded k g count some =
     let h = record g { body = padded count g.body } in
     same_kind g.minus g.minus (reason_at k true whole g) (reason_at k true whole h) (value decimal_table (run decimal_table g.body)) (value decimal_table (run decimal_table h.body))
@@ -203,7 +203,7 @@ whole_padded k g count some =
 
 -- the same of a prefix parse, whose count grows by the zeros
 prefix_padded : (k : Kind) (g : Sign) (count : ℕ) → 0 < run_len decimal_table g.body
-    → IsSameKind (with_more count (prefix_at k true g)) (prefix_at k true (record { minus = g.minus; taken = g.taken; body = padded count g.body }))
+    → IsSameKind (with_more count (prefix_at k true g)) (prefix_at k true (record g { body = padded count g.body }))
 prefix_padded k g count some =
     let h = record g { body = padded count g.body } in
     let shorter = digits_read-skipping (class_of k) prefix (run_len decimal_table g.body) in

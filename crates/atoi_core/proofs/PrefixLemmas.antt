@@ -88,7 +88,7 @@ prefix_is_whole k = record {
 
 -- the front that was read is read again where the body ends with it
 found_again : (k : Kind) (g : Sign) (skip : Bool) (v : ℤ) (count read : ℕ) → IsFound k g skip v count read
-    → IsFound k (record { minus = g.minus; taken = g.taken; body = take read g.body }) skip v count read
+    → IsFound k (record g { body = take read g.body }) skip v count read
 found_again k g skip v count read h =
     let n = run_len decimal_table g.body in
     let z = zeros decimal_table g.body in
@@ -136,7 +136,7 @@ prefix_of_cut k form has skip s v count h =
     let cut : take count s ≡ take g.taken s ++ take read g.body =
     ap (λ (m : ℕ). take m s) (counted ∙ add_comm read g.taken) ∙ take-add g.taken read s ∙ ap (λ body. take g.taken s ++ take read body) (drop-taken k form s)
     in
-    let again : sign_in k form (take count s) ≡ record { minus = g.minus; taken = g.taken; body = take read g.body } =
+    let again : sign_in k form (take count s) ≡ record g { body = take read g.body } =
     ap (sign_in k form) cut ∙ sign_again k form s (take read g.body) (omega arith)
     in (
       omega arith,
