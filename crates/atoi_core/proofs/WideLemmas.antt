@@ -1,6 +1,7 @@
 -- The answers of a wide class, from what was read behind the zeros that are skipped.
 use Rattle.std.proofs.Common.{◌≡◌, ℕ, ◌+◌, ◌-◌, ◌*◌, ◌^◌, ◌<◌, ◌≤◌, ◌==◌, min, Bool, true, false, nat_lt, List, drop, Option, Some, None, Result, Ok, Err, refl, sym, ap, ◌∙◌, lit<, ne_eqb, inl, inr, arith, if◌then◌else◌}
 use Rattle.std.proofs.Math.Nat.{pow-le-pow_right}
+use Rattle.std.proofs.lemmas.Bool.Decides.{nat_tests}
 use Rattle.std.proofs.lemmas.Bool.{cases_lt, eq-eqb, lt-ltb, le-ltb, ltb-true, ltb-false}
 use Rattle.atoi_core.specs.Digit.{Table}
 use Rattle.atoi_core.specs.Run.{run_len, run, zeros, value}
@@ -29,19 +30,11 @@ wide_128 = record { reads = λ skip n. refl; long = λ limit n. refl; drops = λ
 
 -- a number that is there where it is within the bound
 pub some_within : (bound x n : ℕ) (found : Option ℕ) → found ≡ Some n → found ≡ (if nat_lt bound x then None else Some x) → (n ≡ x) × (x ≤ bound)
-some_within bound x n found is told =
-    (elim (nat_lt bound x) as (λ v. nat_lt bound x ≡ v → Some n ≡ (if v then None else Some x) → (n ≡ x) × (x ≤ bound)) [
-      | true ↦ λ e h. cc
-      | false ↦ λ e h. (cc, ltb-false bound x e)
-    ]) refl (sym is ∙ told)
+some_within bound x n found is told = (grind (arith, nat_tests), grind (arith, nat_tests))
 
 -- and is not there where it is above
 pub none_above : (bound x : ℕ) (found : Option ℕ) → found ≡ None → found ≡ (if nat_lt bound x then None else Some x) → bound < x
-none_above bound x found is told =
-    (elim (nat_lt bound x) as (λ v. nat_lt bound x ≡ v → None ≡ (if v then None else Some x) → bound < x) [
-      | true ↦ λ e h. ltb-true bound x e
-      | false ↦ λ e h. cc
-    ]) refl (sym is ∙ told)
+none_above bound x found is told = grind (arith, nat_tests)
 
 -- fewer digits than the bound has write no more than it
 pub below_bound : (limit bound m x : ℕ) → HasDigits limit bound → m < limit → x < 10 ^ m → x < bound

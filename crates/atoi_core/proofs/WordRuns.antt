@@ -22,8 +22,8 @@ prefix_len-map p f (x ∷ xs) = ap (λ n. cond (p (f x)) (1 + n) 0) (prefix_len-
 -- ---- zeros
 
 -- a byte combined with 48 is 0 exactly where it is the zero
-zero_byte : (b : ℕ) → b < 256 → (bit_xor b 48 == 0) ≡ is_zero decimal_table b
-zero_byte b h = agree_below_at (λ x. bit_xor x 48 == 0) (is_zero decimal_table) 256 b refl h
+combined_is_zero : (b : ℕ) → b < 256 → (bit_xor b 48 == 0) ≡ is_zero decimal_table b
+combined_is_zero b h = agree_below_at (λ x. bit_xor x 48 == 0) (is_zero decimal_table) 256 b refl h
 
 -- two tests that agree on each byte agree on the run that they pass at the front of a word's bytes
 prefix_len-agree : (p q : ℕ → Bool) → ((b : ℕ) → b < 256 → p b ≡ q b) → (k word : ℕ) → prefix_len p (digits_l 256 k word) ≡ prefix_len q (digits_l 256 k word)
@@ -38,7 +38,7 @@ zeros_counted k word =
     trailing_bytes k (bit_xor word (repeated 48 k))
     ∙ ap (prefix_len (λ b. b == 0)) (xor_repeated 48 (lit< tt) k word)
     ∙ prefix_len-map (λ b. b == 0) (λ x. bit_xor x 48) (digits_l 256 k word)
-    ∙ prefix_len-agree (λ x. bit_xor x 48 == 0) (is_zero decimal_table) zero_byte k word
+    ∙ prefix_len-agree (λ x. bit_xor x 48 == 0) (is_zero decimal_table) combined_is_zero k word
 
 -- ---- digits
 
