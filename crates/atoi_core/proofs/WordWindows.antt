@@ -19,6 +19,10 @@ use Rattle.atoi_core.proofs.RunLemmas.{prefix_len-take, prefix_len-drop}
 use Rattle.atoi_core.proofs.ValueLemmas.{value-take-add}
 use Rattle.atoi_core.proofs.Fields.{length-digits}
 
+-- the lowest byte of a word, and the word of those above it
+low_and_high : (b word : ℕ) → b < 256 → ((b + 256 * word) % 256 ≡ b) × ((b + 256 * word) / 256 ≡ word)
+low_and_high b word small = (omega arith, omega arith)
+
 -- a word of bytes, read in bytes again: what passes a test that fails at 0 is the same front
 loaded_front : (p : ℕ → Bool) → p 0 ≡ false → (k : ℕ) (s : List ℕ) → ((i : ℕ) → get_or s i 0 < 256)
     → prefix_len p (digits_l 256 k (number_l 256 (take k s))) ≡ prefix_len p (take k s)
@@ -26,10 +30,8 @@ loaded_front p stops zero s fits = refl
 loaded_front p stops (suc k) [] fits = ap (λ t. cond t (1 + prefix_len p (digits_l 256 k (0 / 256))) 0) stops
 loaded_front p stops (suc k) (b ∷ bs) fits =
     let word = number_l 256 (take k bs) in
-    let small : b < 256 = fits 0 in
-    let low : (b + 256 * word) % 256 ≡ b = omega arith in
-    let high : (b + 256 * word) / 256 ≡ word = omega arith in
-    ap₂ (λ x y. cond (p x) (1 + prefix_len p (digits_l 256 k y)) 0) low high
+    let parts = low_and_high b word (fits 0) in
+    ap₂ (λ x y. cond (p x) (1 + prefix_len p (digits_l 256 k y)) 0) parts.0 parts.1
     ∙ ap (λ n. cond (p b) (1 + n) 0) (loaded_front p stops k bs (λ i. fits (suc i)))
 
 -- where enough bytes are there, the word's are theirs
@@ -38,10 +40,8 @@ loaded_whole zero s enough fits = refl
 loaded_whole (suc k) [] enough fits = absurd (omega arith)
 loaded_whole (suc k) (b ∷ bs) enough fits =
     let word = number_l 256 (take k bs) in
-    let small : b < 256 = fits 0 in
-    let low : (b + 256 * word) % 256 ≡ b = omega arith in
-    let high : (b + 256 * word) / 256 ≡ word = omega arith in
-    ap₂ (λ x xs. x ∷ xs) low (ap (digits_l 256 k) high ∙ loaded_whole k bs (omega arith) (λ i. fits (suc i)))
+    let parts = low_and_high b word (fits 0) in
+    ap₂ (λ x xs. x ∷ xs) parts.0 (ap (digits_l 256 k) parts.1 ∙ loaded_whole k bs (omega arith) (λ i. fits (suc i)))
 
 -- the lower half of a digit is its worth
 half_is_worth : (b : ℕ) → is_digit decimal_table b ≡ true → b % 16 ≡ worth decimal_table b
@@ -60,13 +60,11 @@ loaded_value (suc n) zero s fits digits = absurd (omega arith)
 loaded_value (suc n) (suc k) [] fits digits = absurd (omega arith)
 loaded_value (suc n) (suc k) (b ∷ bs) fits digits =
     let word = number_l 256 (take k bs) in
-    let small : b < 256 = fits 0 in
+    let parts = low_and_high b word (fits 0) in
     let passes = first_passes (is_digit decimal_table b) n (run_len decimal_table (take k bs)) digits in
-    let low : (b + 256 * word) % 256 ≡ b = omega arith in
-    let high : (b + 256 * word) / 256 ≡ word = omega arith in
     let places : length (digits_l 256 n word) ≡ length (take n (take k bs)) =
     length-digits 256 n word ∙ sym (length-take-le n (take k bs) (omega (arith, passes.1, prefix_len-le-length (is_digit decimal_table) (take k bs)))) in
-    ap₂ (λ x y. (x % 16) * 10 ^ length (digits_l 256 n y) + low_value (digits_l 256 n y)) low high
+    ap₂ (λ x y. (x % 16) * 10 ^ length (digits_l 256 n y) + low_value (digits_l 256 n y)) parts.0 parts.1
     ∙ ap₂ (λ x e. x * 10 ^ e + low_value (digits_l 256 n word)) (half_is_worth b passes.0) places
     ∙ ap (λ v. worth decimal_table b * 10 ^ length (take n (take k bs)) + v) (loaded_value n k bs (λ i. fits (suc i)) passes.1)
 
@@ -123,20 +121,10 @@ no_zero_first word other =
     (is_zero_byte byte (mod-lt word (zero-lt-suc 255)) ∙ ne_eqb byte 48 differs))
 
 -- the zeros of two words go on from the first to the next where the first holds zeros only
-pub zeros_when_all : (first next : ℕ) → zeros decimal_table (low_bytes 8 first) ≡ 8
-    → 8 + zeros decimal_table (low_bytes 8 next) ≡ zeros decimal_table (low_bytes 8 first ++ low_bytes 8 next)
+pub zeros_of_two : (first next : ℕ) → zeros decimal_table (low_bytes 8 first ++ low_bytes 8 next)
+    ≡ (if zeros decimal_table (low_bytes 8 first) == 8 then 8 + zeros decimal_table (low_bytes 8 next) else zeros decimal_table (low_bytes 8 first))
 unfolding low_bytes
-zeros_when_all first next e =
-    sym (prefix_len-append (is_zero decimal_table) (digits_l 256 8 first) (digits_l 256 8 next)
-    ∙ ap (λ t. cond t (8 + zeros decimal_table (digits_l 256 8 next)) (zeros decimal_table (digits_l 256 8 first))) (eq-eqb (zeros decimal_table (digits_l 256 8 first)) 8 e))
-
--- and stop in the first where it holds another byte
-pub zeros_when_some : (first next : ℕ) → zeros decimal_table (low_bytes 8 first) ≢ 8
-    → zeros decimal_table (low_bytes 8 first) ≡ zeros decimal_table (low_bytes 8 first ++ low_bytes 8 next)
-unfolding low_bytes
-zeros_when_some first next ne =
-    sym (prefix_len-append (is_zero decimal_table) (digits_l 256 8 first) (digits_l 256 8 next)
-    ∙ ap (λ t. cond t (8 + zeros decimal_table (digits_l 256 8 next)) (zeros decimal_table (digits_l 256 8 first))) (ne_eqb (zeros decimal_table (digits_l 256 8 first)) 8 ne))
+zeros_of_two first next = prefix_len-append (is_zero decimal_table) (digits_l 256 8 first) (digits_l 256 8 next)
 
 -- ---- windows
 

@@ -59,13 +59,13 @@ third g c =
     shows_behind g.Self.Engine.table g.met.Self.Engine.below_ten 8 32 c.args.s.now c.loop-window.at c.window_8-third.result c.window_8-third.ensures.window
 
 -- the number of two full windows and a third
-abbrev joined : (front middle back : Window) → ℕ
-joined front middle back = front.number * 10 ^ (16 + back.len) + (middle.number * 10 ^ back.len + back.number)
+abbrev joined_number : (front middle back : Window) → ℕ
+joined_number front middle back = front.number * 10 ^ (16 + back.len) + (middle.number * 10 ^ back.len + back.number)
 
 -- what three windows read together
 read_three : (g : _) (c : After-window-second g) → 16 ≤ c.window-second.result.len
     → (last : Window) → Shows g.Self.Engine.table 8 (drop 32 (drop c.loop-window.at c.args.s.now)) last
-    → Reads g.Self.Engine.table 40 (drop c.loop-window.at c.args.s.now) (32 + last.len) (joined c.window-window.result c.window-second.result last)
+    → Reads g.Self.Engine.table 40 (drop c.loop-window.at c.args.s.now) (32 + last.len) (joined_number c.window-window.result c.window-second.result last)
 read_three g c more last back =
     Reads-join_two g.Self.Engine.table (drop c.loop-window.at c.args.s.now) c.window-window.result c.window-second.result last.len last.number
     (ended g c).shown c.if-first-lt16.false (middle g c) more back.reads
@@ -132,7 +132,7 @@ returns-in-Some-clause-answer g c =
     let two = at.After-window-second in
     let back = third g at.After-window_8-third in
     let reads = read_three g two c.if-second-lt16.false c.window_8-third.result back in
-    let told = some_within c.args.bound (joined c.window-window.result c.window-second.result c.window_8-third.result) c.in-Some.number _ c.in-Some.is c.joined_128.ensures in
+    let told = some_within c.args.bound (joined_number c.window-window.result c.window-second.result c.window_8-third.result) c.in-Some.number _ c.in-Some.is c.joined_128.ensures in
     answers_ok _ _ _ 39 _ _ _ _ _ _ _ _ _ _ wide_128 (ended g two) c.if-first-lt16.false reads (omega (arith, back.reads.within)) (lit< tt) told.1
     told.0 (omega arith)
 
@@ -147,7 +147,7 @@ returns-in-None-clause-answer g c =
     let two = at.After-window-second in
     let back = third g at.After-window_8-third in
     let reads = read_three g two c.if-second-lt16.false c.window_8-third.result back in
-    let over = none_above c.args.bound (joined c.window-window.result c.window-second.result c.window_8-third.result) _ c.in-None.is c.joined_128.ensures in
+    let over = none_above c.args.bound (joined_number c.window-window.result c.window-second.result c.window_8-third.result) _ c.in-None.is c.joined_128.ensures in
     answers_overflow _ _ _ 39 _ _ _ _ _ _ _ _ _ wide_128 (ended g two) c.if-first-lt16.false reads (omega (arith, back.reads.within)) (lit< tt) over
     (take_rest c.args.s.now c.loop-window.at)
 
