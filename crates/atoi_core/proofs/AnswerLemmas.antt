@@ -1,11 +1,9 @@
 -- The answers for an integer type, from those of the loops.
-use Rattle.std.proofs.Common.{◌≡◌, ℕ, ◌≤◌, take, drop, min, ◌+◌, ◌-◌, ◌==◌, if◌then◌else◌, Bool, true, false, List, length, Option, Some, None, Ok, refl, ap, ◌∙◌, sym, arith, ltb, subst}
-use Rattle.std.proofs.lemmas.Bool.Decides.{nat_tests}
+use Rattle.std.proofs.Common.{◌≡◌, ℕ, ◌≤◌, take, Bool, false, List, length, Ok, refl, ap, ◌∙◌, sym, arith, subst}
 use Rattle.std.proofs.lemmas.List.Sums.{prefix_len-le-length}
 use Rattle.atoi_core.specs.Digit.{Table, is_digit}
-use Rattle.atoi_core.specs.Run.{run_len, zeros, value}
-use Rattle.atoi_core.specs.Refusal.{Refusal, empty, size, overflow}
-use Rattle.atoi_core.specs.Magnitude.{Class, Extent, narrow, wide64, wide128, whole, prefix, digits_read, counting_digits, is_too_long, leaves_rest, cap, dropped_zeros, invalid, refusal, unless_refused, whole_magnitude, prefix_magnitude}
+use Rattle.atoi_core.specs.Run.{run_len, value}
+use Rattle.atoi_core.specs.Magnitude.{Class, narrow, whole, prefix, digits_read, refusal, whole_magnitude, prefix_magnitude}
 use Rattle.atoi_core.specs.Answer.{map_answer}
 use Rattle.atoi_core.proofs.RefusalLemmas.{accepted}
 use Rattle.atoi_core.proofs.CallLemmas.{map_unless_ok, digits_read-whole, digits_read-le}

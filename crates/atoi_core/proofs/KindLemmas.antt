@@ -1,13 +1,13 @@
 -- Answers of one kind: what decides the kind, and that neither the rest behind a run nor zeros
 -- before it change it.
-use Rattle.std.proofs.Common.{◌≡◌, ℕ, ◌+◌, ◌<◌, ◌≤◌, Bool, true, not, eqb, ltb, List, [], ◌++◌, length, take, replicate, Option, Some, None, Result, ℤ, option_map, refl, sym, ap, ◌∙◌, subst₂, arith, take-take, take_at, drop_at, inl, inr, length-append, eq-eqb, ne_eqb}
+use Rattle.std.proofs.Common.{◌≡◌, ℕ, ◌+◌, ◌<◌, ◌≤◌, Bool, true, not, eqb, ltb, List, [], ◌++◌, length, take, replicate, Option, Some, None, Result, ℤ, option_map, refl, sym, ap, ◌∙◌, subst₂, arith, take-take, take_at, drop_at, length-append, ne_eqb}
 use Rattle.std.proofs.lemmas.List.{length-replicate}
 use Rattle.std.proofs.lemmas.Bool.Decides.{nat_tests}
 use Rattle.std.proofs.Math.Seq.{take-add}
 use Rattle.atoi_core.specs.Digit.{decimal_table, is_digit, is_zero}
 use Rattle.atoi_core.specs.Run.{run_len, run, zeros, value}
 use Rattle.atoi_core.specs.Refusal.{Refusal, rank}
-use Rattle.atoi_core.specs.Magnitude.{Class, Extent, whole, prefix, digits_read, counting_digits, is_too_long, leaves_rest, invalid, refusal, unless_refused}
+use Rattle.atoi_core.specs.Magnitude.{Extent, whole, prefix, digits_read, counting_digits, is_too_long, leaves_rest, invalid, refusal, unless_refused}
 use Rattle.atoi_core.specs.Kind.{Kind, class_of, bound_of, limit_of}
 use Rattle.atoi_core.specs.Sign.{Sign, number_of}
 use Rattle.atoi_core.specs.Answer.{map_answer, whole_answer, prefix_answer}

@@ -1,11 +1,11 @@
 -- The answers of the narrow class for a front, from the last window behind the zeros that are skipped.
-use Rattle.std.proofs.Common.{◌≡◌, ℕ, ◌+◌, ◌*◌, ◌/◌, ◌^◌, ◌<◌, ◌≤◌, ◌==◌, min, Bool, true, false, nat_lt, List, take, drop, Option, Some, None, Result, Ok, Err, refl, sym, ap, ◌∙◌, ne_eqb, lit<, inl, inr, arith, if◌then◌else◌}
+use Rattle.std.proofs.Common.{◌≡◌, ℕ, ◌+◌, ◌*◌, ◌/◌, ◌^◌, ◌<◌, ◌≤◌, min, Bool, true, false, nat_lt, List, take, drop, Ok, Err, refl, sym, ap, ◌∙◌, ne_eqb, lit<, inl, inr, arith, if◌then◌else◌}
 use Rattle.std.proofs.Math.Nat.{le-mul_of_pos_right, one-le-pow}
-use Rattle.std.proofs.lemmas.Bool.{cases_lt, eq-eqb, lt-ltb, le-ltb}
+use Rattle.std.proofs.lemmas.Bool.{cases_lt, lt-ltb, le-ltb}
 use Rattle.atoi_core.specs.Digit.{Table}
 use Rattle.atoi_core.specs.Run.{run_len, run, zeros, value}
-use Rattle.atoi_core.specs.Refusal.{Refusal, empty, overflow}
-use Rattle.atoi_core.specs.Magnitude.{narrow, prefix, digits_read, dropped_zeros, refusal, unless_refused, prefix_magnitude}
+use Rattle.atoi_core.specs.Refusal.{overflow}
+use Rattle.atoi_core.specs.Magnitude.{narrow, prefix, digits_read, dropped_zeros, refusal, prefix_magnitude}
 use Rattle.atoi_core.specs.declared.window.Window.{Window}
 use Rattle.atoi_core.proofs.SkipLemmas.{Skipped}
 

@@ -1,12 +1,12 @@
 -- The answers of a wide class, from what was read behind the zeros that are skipped.
-use Rattle.std.proofs.Common.{◌≡◌, ℕ, ◌+◌, ◌-◌, ◌*◌, ◌^◌, ◌<◌, ◌≤◌, ◌==◌, min, Bool, true, false, nat_lt, List, drop, Option, Some, None, Result, Ok, Err, refl, sym, ap, ◌∙◌, lit<, ne_eqb, inl, inr, arith, if◌then◌else◌}
+use Rattle.std.proofs.Common.{◌≡◌, ℕ, ◌+◌, ◌-◌, ◌*◌, ◌^◌, ◌<◌, ◌≤◌, min, Bool, true, false, nat_lt, List, drop, Option, Some, None, Ok, Err, refl, sym, ◌∙◌, lit<, inl, inr, arith, if◌then◌else◌}
 use Rattle.std.proofs.Math.Nat.{pow-le-pow_right}
 use Rattle.std.proofs.lemmas.Bool.Decides.{nat_tests}
-use Rattle.std.proofs.lemmas.Bool.{cases_lt, eq-eqb, lt-ltb, le-ltb, ltb-true, ltb-false}
+use Rattle.std.proofs.lemmas.Bool.{cases_lt, lt-ltb}
 use Rattle.atoi_core.specs.Digit.{Table}
 use Rattle.atoi_core.specs.Run.{run_len, run, zeros, value}
-use Rattle.atoi_core.specs.Refusal.{Refusal, empty, size, overflow}
-use Rattle.atoi_core.specs.Magnitude.{Class, wide64, wide128, prefix, counting_digits, digits_read, dropped_zeros, is_too_long, cap, HasDigits, unless_refused, prefix_magnitude}
+use Rattle.atoi_core.specs.Refusal.{empty, size, overflow}
+use Rattle.atoi_core.specs.Magnitude.{Class, wide64, wide128, prefix, counting_digits, digits_read, dropped_zeros, is_too_long, cap, HasDigits, prefix_magnitude}
 use Rattle.atoi_core.specs.declared.window.Window.{Window}
 use Rattle.atoi_core.proofs.RefusalLemmas.{IsAccepted, refusal-none, refused_empty, refused_size, refused_overflow}
 use Rattle.atoi_core.proofs.LimitLemmas.{short_enough}
@@ -92,8 +92,12 @@ answers_size t class bound limit skip s at before now w m x len rest wide so ful
       | inl h ↦ omega (arith, reads.ends h)
       | inr h ↦ omega (arith, reads.inside, reads.within)
     ] in
-    rw (len_is, rest_is, refused_size t class bound limit prefix skip s (omega (arith, so.run_is, reads.inside))
-    (wide.long limit _ ∙ lt-ltb limit (counting_digits skip (run_len t s) (zeros t s)) (omega (arith, reads.inside))))
+    rw (
+      len_is,
+      rest_is,
+      refused_size t class bound limit prefix skip s (omega (arith, so.run_is, reads.inside))
+          (wide.long limit _ ∙ lt-ltb limit (counting_digits skip (run_len t s) (zeros t s)) (omega (arith, reads.inside))),
+    )
     (rw (e, k) refl)
 
 -- what was read is the run, and its number is above the bound
@@ -106,8 +110,11 @@ answers_overflow t class bound limit skip s at before now w m x rest wide so ful
     let ends : m < cap class = omega arith in
     let all : run_len t (drop at s) ≡ m = reads.ends ends in
     let v : value t (run t s) ≡ x = so.value_is ∙ reads.value_is ends in
-    rw (rest_is, refused_overflow t class bound limit prefix skip s (omega (arith, so.run_is, so.shown.reads.inside)) (short_enough class limit _ (omega arith))
-    (rw (wide.reads skip (run_len t s)) (omega arith)))
+    rw (
+      rest_is,
+      refused_overflow t class bound limit prefix skip s (omega (arith, so.run_is, so.shown.reads.inside)) (short_enough class limit _ (omega arith))
+          (rw (wide.reads skip (run_len t s)) (omega arith)),
+    )
     (rw (wide.drops skip (run_len t s) (zeros t s), e) refl)
 
 -- what was read is the run, and its number is within the bound

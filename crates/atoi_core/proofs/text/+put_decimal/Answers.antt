@@ -1,4 +1,4 @@
-use Rattle.std.proofs.Common.{◌^◌, ◌≤◌, ◌<◌, arith, append_assoc}
+use Rattle.std.proofs.Common.{arith, append_assoc}
 use Rattle.std.proofs.lemmas.Fmt.{IsAscii-decimal_wide}
 use Rattle.atoi_core.proofs.DigitText.{decimal_more, length_decimal_more, length_decimal_of_128_bits, length_decimal_of_64_bits}
 use Rattle.atoi_core.proofs.text.+put_decimal.Goals as goal

@@ -1,4 +1,4 @@
-use Rattle.std.proofs.Common.{◌≤◌, ◌<◌, arith, append_assoc}
+use Rattle.std.proofs.Common.{arith, append_assoc}
 use Rattle.atoi_core.proofs.DigitText.{hex_text_of_two_digits}
 use Rattle.atoi_core.proofs.text.put_hex.Goals as goal
 

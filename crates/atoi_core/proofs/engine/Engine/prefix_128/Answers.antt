@@ -1,11 +1,10 @@
 -- The loop leaves what `Skipped` says; the answers and the loads follow from it.
-use Rattle.std.proofs.Common.{◌≡◌, ◌+◌, ◌*◌, ◌^◌, ◌≤◌, ℕ, ◌∙◌, sym, ap, refl, arith, lit<, length, take, drop}
+use Rattle.std.proofs.Common.{◌+◌, ◌*◌, ◌^◌, ◌≤◌, ℕ, ap, refl, arith, lit<, length, drop}
 use Rattle.std.proofs.lemmas.List.{take_rest}
 use Rattle.std.proofs.lemmas.List.Sums.{prefix_len-le-length}
-use Rattle.atoi_core.specs.Refusal.{overflow, size}
 use Rattle.atoi_core.specs.Digit.{is_digit}
 use Rattle.atoi_core.specs.declared.window.Window.{Window}
-use Rattle.atoi_core.proofs.WindowLemmas.{Reads, Shows, Shows-below, Reads-join, Reads-join_two, Reads-widen}
+use Rattle.atoi_core.proofs.WindowLemmas.{Reads, Shows, Shows-below, Reads-join_two}
 use Rattle.atoi_core.proofs.SkipLemmas.{Skipping-none, Skipping-more, Skipped, Skipped-end, Skipped-loads, shows_behind}
 use Rattle.atoi_core.proofs.WideLemmas.{wide_128, answers_empty, answers_short, answers_size, answers_overflow, answers_ok, answers_two, some_within, none_above}
 use Rattle.atoi_core.proofs.engine.Engine.prefix_128.Goals as goal

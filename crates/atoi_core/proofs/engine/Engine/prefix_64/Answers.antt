@@ -1,7 +1,6 @@
 -- The loop leaves what `Skipped` says; the answers and the loads follow from it.
-use Rattle.std.proofs.Common.{◌≡◌, ◌+◌, ◌*◌, ◌/◌, ◌^◌, ◌<◌, ◌≤◌, ℕ, IsTrue, ◌∙◌, sym, ap, refl, arith, drop}
+use Rattle.std.proofs.Common.{◌≡◌, ◌+◌, ◌*◌, ◌/◌, ◌^◌, ◌<◌, ◌≤◌, ℕ, IsTrue, ap, refl, arith, drop}
 use Rattle.std.proofs.lemmas.List.{take_rest}
-use Rattle.atoi_core.specs.Refusal.{overflow, size}
 use Rattle.atoi_core.specs.Run.{zeros}
 use Rattle.atoi_core.proofs.WindowLemmas.{Reads, Shows, Reads-join}
 use Rattle.atoi_core.proofs.SkipLemmas.{Skipping-none, Skipping-more, Skipped, Skipped-end, Skipped-loads, shows_behind}
