@@ -1,5 +1,5 @@
 -- The answers of a wide class, from what was read behind the zeros that are skipped.
-use Rattle.std.proofs.Common.{◌≡◌, ℕ, ◌+◌, ◌-◌, ◌*◌, ◌^◌, ◌<◌, ◌≤◌, min, Bool, true, false, nat_lt, List, drop, Option, Some, None, Ok, Err, refl, sym, ◌∙◌, lit<, inl, inr, arith, if◌then◌else◌}
+use Rattle.std.proofs.Common.{◌≡◌, ℕ, ◌+◌, ◌-◌, ◌*◌, ◌^◌, ◌<◌, ◌≤◌, min, Bool, true, false, nat_lt, List, take, drop, Option, Some, None, Ok, Err, refl, sym, ◌∙◌, lit<, inl, inr, arith, if◌then◌else◌}
 use Rattle.std.proofs.Math.Nat.{pow-le-pow_right}
 use Rattle.std.proofs.lemmas.Bool.Decides.{nat_tests}
 use Rattle.std.proofs.lemmas.Bool.{cases_lt, lt-ltb}
@@ -92,13 +92,8 @@ answers_size t class bound limit skip s at before now w m x len rest wide so ful
       | inl h ↦ omega (arith, reads.ends h)
       | inr h ↦ omega (arith, reads.inside, reads.within)
     ] in
-    rw (
-      len_is,
-      rest_is,
-      refused_size t class bound limit prefix skip s (omega (arith, so.run_is, reads.inside))
-          (wide.long limit _ ∙ lt-ltb limit (counting_digits skip (run_len t s) (zeros t s)) (omega (arith, reads.inside))),
-    )
-    (rw (e, k) refl)
+    let too_long = wide.long limit _ ∙ lt-ltb limit (counting_digits skip (run_len t s) (zeros t s)) (omega (arith, reads.inside)) in
+    rw (len_is, rest_is, refused_size t class bound limit prefix skip s (omega (arith, so.run_is, reads.inside)) too_long) (rw (e, k) refl)
 
 -- what was read is the run, and its number is above the bound
 pub answers_overflow : (t : Table) (class : Class) (bound limit : ℕ) (skip : Bool) (s : List ℕ) (at before now : ℕ) (w : Window) (m x : ℕ) (rest : List ℕ) →
@@ -110,12 +105,10 @@ answers_overflow t class bound limit skip s at before now w m x rest wide so ful
     let ends : m < cap class = omega arith in
     let all : run_len t (drop at s) ≡ m = reads.ends ends in
     let v : value t (run t s) ≡ x = so.value_is ∙ reads.value_is ends in
-    rw (
-      rest_is,
-      refused_overflow t class bound limit prefix skip s (omega (arith, so.run_is, so.shown.reads.inside)) (short_enough class limit _ (omega arith))
-          (rw (wide.reads skip (run_len t s)) (omega arith)),
-    )
-    (rw (wide.drops skip (run_len t s) (zeros t s), e) refl)
+    let some : 0 < run_len t s = omega (arith, so.run_is, so.shown.reads.inside) in
+    let fits = short_enough class limit (counting_digits skip (run_len t s) (zeros t s)) (omega arith) in
+    let above : bound < value t (take (digits_read class prefix skip (run_len t s)) s) = rw (wide.reads skip (run_len t s)) (omega arith) in
+    rw (rest_is, refused_overflow t class bound limit prefix skip s some fits above) (rw (wide.drops skip (run_len t s) (zeros t s), e) refl)
 
 -- what was read is the run, and its number is within the bound
 pub answers_ok : (t : Table) (class : Class) (bound limit : ℕ) (skip : Bool) (s : List ℕ) (at before now : ℕ) (w : Window) (m x number len : ℕ) →
