@@ -4,7 +4,7 @@ use Rattle.std.proofs.lemmas.Bool.{not-false, lt-leb}
 use Rattle.atoi_core.specs.Digit.{decimal_table}
 use Rattle.atoi_core.specs.Run.{run_len, run, zeros, value}
 use Rattle.atoi_core.specs.Refusal.{Refusal}
-use Rattle.atoi_core.specs.Magnitude.{Class, narrow, wide64, wide128, whole, prefix, digits_read, counting_digits, is_too_long, leaves_rest, unless_refused}
+use Rattle.atoi_core.specs.Magnitude.{Class, Extent, narrow, wide64, wide128, whole, prefix, digits_read, counting_digits, is_too_long, leaves_rest, unless_refused}
 use Rattle.atoi_core.specs.Kind.{Kind, class_of, bound_of, limit_of}
 use Rattle.atoi_core.specs.Sign.{Sign, number_of}
 use Rattle.atoi_core.specs.Answer.{map_answer, whole_answer, prefix_answer, with_more}
@@ -31,8 +31,12 @@ prefix_call-is k (looked_for plus) skip s = refl
 prefix_call-is k positive skip s = sym (with_more-zero (prefix_answer decimal_table k false skip s))
 prefix_call-is k negative skip s = sym (with_more-zero (prefix_answer decimal_table k true skip s))
 
+-- the magnitude with its sign, and how many bytes were read
+abbrev pub counted_number : Bool → ℕ × ℕ → ℤ × ℕ
+counted_number minus found = (number_of minus found.0, found.1)
+
 -- an answer of one value, unless there is a reason
-map_unless_ok : {A B : Type 0} (f : A → B) (r : Option Refusal) (x : A) (y : B)
+pub map_unless_ok : {A B : Type 0} (f : A → B) (r : Option Refusal) (x : A) (y : B)
     → map_answer f (unless_refused r x) ≡ Ok y → (r ≡ None) × (y ≡ f x)
 map_unless_ok f None x y h = (refl, cc)
 map_unless_ok f (Some reason) x y h = absurd (cc h)
@@ -61,12 +65,13 @@ whole_is_run digits length h = eqb-true digits length (not-false (eqb digits len
 pub run_is_whole : (digits length : ℕ) → digits ≡ length → leaves_rest whole digits length ≡ false
 run_is_whole digits length h = rw (eq-eqb digits length h) refl
 
--- how much of a run is read: none of it is left where zeros are skipped, or in a wide class; else at most 16
-pub digits_read-le : (class : Class) (skip : Bool) (digits : ℕ) → digits_read class prefix skip digits ≤ digits
-digits_read-le narrow true digits = omega arith
-digits_read-le narrow false digits = omega arith
-digits_read-le wide64 skip digits = omega arith
-digits_read-le wide128 skip digits = omega arith
+-- no more digits are read than there are
+pub digits_read-le : (class : Class) (extent : Extent) (skip : Bool) (digits : ℕ) → digits_read class extent skip digits ≤ digits
+digits_read-le narrow whole skip digits = omega arith
+digits_read-le narrow prefix true digits = omega arith
+digits_read-le narrow prefix false digits = omega arith
+digits_read-le wide64 extent skip digits = omega arith
+digits_read-le wide128 extent skip digits = omega arith
 
 -- some digits are read where there are some
 pub digits_read-pos : (class : Class) (skip : Bool) (digits : ℕ) → 0 < digits → 0 < digits_read class prefix skip digits
@@ -84,16 +89,17 @@ digits_read-digits_read wide64 skip digits = refl
 digits_read-digits_read wide128 skip digits = refl
 
 -- all are read where zeros are skipped
-pub digits_read-skipping : (class : Class) (digits : ℕ) → digits_read class prefix true digits ≡ digits
-digits_read-skipping narrow digits = refl
-digits_read-skipping wide64 digits = refl
-digits_read-skipping wide128 digits = refl
+pub digits_read-skipping : (class : Class) (extent : Extent) (digits : ℕ) → digits_read class extent true digits ≡ digits
+digits_read-skipping narrow whole digits = refl
+digits_read-skipping narrow prefix digits = refl
+digits_read-skipping wide64 extent digits = refl
+digits_read-skipping wide128 extent digits = refl
 
 -- all are read where a prefix reads its whole run
 pub digits_read-all : (k : Kind) (skip : Bool) (digits : ℕ) → ReadsWholeRun k skip → digits_read (class_of k) prefix skip digits ≡ digits
 digits_read-all k skip digits h =
     elim h [
-      | inl e ↦ rw e (digits_read-skipping (class_of k) digits)
+      | inl e ↦ rw e (digits_read-skipping (class_of k) prefix digits)
       | inr lt ↦ rw (lt-leb k.bits 32 lt) (wide (eqb k.bits 64))
     ]
   where
@@ -138,13 +144,13 @@ module _ (k : Kind) (minus skip : Bool) (body : List ℕ) where
   pub from_prefix : (v : ℤ) (count : ℕ) → prefix_answer decimal_table k minus skip body ≡ Ok (v, count)
       → IsFront × (v ≡ number_of minus (value decimal_table (take read_len body))) × (count ≡ read_len)
   from_prefix v count h =
-      let found = map_unless_ok (λ (found : ℕ × ℕ). (number_of minus found.0, found.1)) _ _ (v, count) h in
+      let found = map_unless_ok (counted_number minus) _ _ (v, count) h in
       (accepted decimal_table (class_of k) (bound_of k minus) (limit_of k) prefix skip body found.0, ap (λ (p : ℤ × ℕ). p.0) found.1, ap (λ (p : ℤ × ℕ). p.1) found.1)
 
   -- a front that is accepted is answered with its number and length
   pub to_prefix : IsFront → prefix_answer decimal_table k minus skip body ≡ Ok (number_of minus (value decimal_table (take read_len body)), read_len)
   to_prefix h =
-      map_unless_none (λ (found : ℕ × ℕ). (number_of minus found.0, found.1)) _ _ (refusal-none decimal_table (class_of k) (bound_of k minus) (limit_of k) prefix skip body h)
+      map_unless_none (counted_number minus) _ _ (refusal-none decimal_table (class_of k) (bound_of k minus) (limit_of k) prefix skip body h)
 
   -- the body as a whole, by its run
   pub whole_in_range : IsWhole → value decimal_table (run decimal_table body) ≤ bound_of k minus

@@ -1,8 +1,8 @@
 -- Runs, zeros and values under `take`, under `++`, and under zeros put before them.
-use Rattle.std.proofs.Common.{◌≡◌, ℕ, zero, suc, ◌+◌, ◌-◌, ◌^◌, ◌<◌, ◌≤◌, min, Bool, true, false, List, ◌++◌, length, take, drop, replicate, get_or, All, IsTrue, refl, arith, subst}
+use Rattle.std.proofs.Common.{◌≡◌, ℕ, zero, suc, ◌+◌, ◌-◌, ◌^◌, ◌<◌, ◌≤◌, min, Bool, true, List, ◌++◌, length, take, drop, replicate, All, IsTrue, refl, arith, subst}
 use Rattle.std.proofs.lemmas.Bool.Decides.{eqb_tells}
 use Rattle.std.proofs.lemmas.List.{take_all}
-use Rattle.std.proofs.lemmas.List.Sums.{prefix_len-le-length, prefix_len_stops, prefix_len_passes, prefix_len_is}
+use Rattle.std.proofs.lemmas.List.Sums.{prefix_len_passes, prefix_len_is}
 use Rattle.std.proofs.lemmas.List.Folds.{length-prefix_len}
 use Rattle.std.specs.List.{prefix_len}
 use Rattle.atoi_core.specs.Digit.{Table, is_digit, worth, is_zero}
@@ -18,10 +18,6 @@ prefix_len-replicate_append p x h (suc n) xs =
     rw h (omega (arith, prefix_len-replicate_append p x h n xs))
 
 module _ (table : Table) where
-  -- a run is no longer than its slice
-  pub run_len-le : (s : List ℕ) → run_len table s ≤ length s
-  run_len-le s = prefix_len-le-length (is_digit table) s
-
   -- the run is as long as its length says
   pub length-run : (s : List ℕ) → length (run table s) ≡ run_len table s
   length-run s = length-prefix_len (is_digit table) s
@@ -50,10 +46,6 @@ module _ (table : Table) where
   -- the zeros are those of the run
   pub zeros-run : (s : List ℕ) → zeros table (run table s) ≡ zeros table s
   zeros-run s = omega (arith, zeros-take (run_len table s) s, zeros-le table s)
-
-  -- the byte behind the run is no digit
-  pub run_stops : (s : List ℕ) → run_len table s < length s → is_digit table (get_or s (run_len table s) 0) ≡ false
-  run_stops s h = prefix_len_stops (is_digit table) s 0 h
 
   -- a zero is worth 0
   zero_worth : (byte : ℕ) → is_zero table byte ≡ true → worth table byte ≡ 0

@@ -1,8 +1,8 @@
 -- The run of a slice and its value, digit by digit.
-use Rattle.std.proofs.Common.{subst, Option, lit<, lit≤, zero, suc, ◌≡◌, ℕ, ◌+◌, ◌*◌, ◌^◌, ◌<◌, ◌≤◌, List, [], ◌∷◌, ◌++◌, length, take, drop, get_or, Some, None, is_some, unwrap_or, arith, ap}
+use Rattle.std.proofs.Common.{subst, Option, lit<, lit≤, ◌≡◌, ℕ, ◌+◌, ◌*◌, ◌^◌, ◌<◌, ◌≤◌, List, [], ◌∷◌, ◌++◌, length, take, drop, get_or, Some, None, is_some, unwrap_or, arith, ap}
 use Rattle.std.proofs.lemmas.Bool.Decides.{nat_tests}
 use Rattle.std.proofs.lemmas.Nat.{pow-add}
-use Rattle.std.proofs.Math.Nat.{mul-le-mul_left, pow-le-pow_right}
+use Rattle.std.proofs.Math.Nat.{mul-le-mul_left, one-le-pow, pow-le-pow_right}
 use Rattle.std.proofs.lemmas.List.{take_more, take-take, take-append-drop}
 use Rattle.std.proofs.lemmas.List.Sums.{prefix_len-drop_yes, prefix_len-drop_no}
 use Rattle.atoi_core.proofs.ValueLemmas.{value-append}
@@ -15,15 +15,10 @@ value_more t s i w here digit =
     let e : worth t (get_or s i 0) ≡ w = ap (λ (o : Option ℕ). unwrap_or o 0) digit in
     rw (take_more s i 0 here, value-append t (take i s) (get_or s i 0 ∷ []), ← e) (grind arith)
 
--- a power of ten is not 0
-pub one-le-ten_pow : (k : ℕ) → 1 ≤ 10 ^ k
-one-le-ten_pow zero = omega arith
-one-le-ten_pow (suc k) = let h : 1 ≤ 10 ^ k = one-le-ten_pow k in grind arith
-
 -- a number that goes on with digits is no less
 pub value-append-le : (t : Table) (xs ys : List ℕ) → value t xs ≤ value t (xs ++ ys)
 value-append-le t xs ys =
-    let power : 1 ≤ 10 ^ length ys = one-le-ten_pow (length ys) in
+    let power : 1 ≤ 10 ^ length ys = one-le-pow (length ys) 10 (lit< tt) in
     omega (arith, value-append t xs ys, mul-le-mul_left (value t xs) power)
 
 -- a longer front is worth no less

@@ -1,21 +1,21 @@
 -- Answers of one kind: what decides the kind, and that neither the rest behind a run nor zeros
 -- before it change it.
-use Rattle.std.proofs.Common.{◌≡◌, ℕ, ◌+◌, ◌<◌, ◌≤◌, Bool, true, not, eqb, ltb, List, [], ◌++◌, length, take, replicate, Option, Some, None, Result, ℤ, option_map, refl, sym, ap, ◌∙◌, subst₂, arith, take-take, take_at, drop_at, inl, inr, length-append, eq-eqb, ne_eqb}
+use Rattle.std.proofs.Common.{◌≡◌, ℕ, ◌+◌, ◌<◌, ◌≤◌, Bool, true, not, eqb, ltb, List, [], ◌++◌, length, take, replicate, Option, Some, None, Result, ℤ, option_map, refl, sym, ap, ◌∙◌, subst₂, arith, take-take, take_at, drop_at, length-append, ne_eqb}
 use Rattle.std.proofs.lemmas.List.{length-replicate}
-use Rattle.std.proofs.lemmas.Bool.{cases_eq}
+use Rattle.std.proofs.lemmas.Bool.Decides.{nat_tests}
 use Rattle.std.proofs.Math.Seq.{take-add}
 use Rattle.atoi_core.specs.Digit.{decimal_table, is_digit, is_zero}
 use Rattle.atoi_core.specs.Run.{run_len, run, zeros, value}
 use Rattle.atoi_core.specs.Refusal.{Refusal, rank}
-use Rattle.atoi_core.specs.Magnitude.{Class, Extent, whole, prefix, digits_read, counting_digits, is_too_long, leaves_rest, invalid, refusal, unless_refused}
+use Rattle.atoi_core.specs.Magnitude.{Extent, whole, prefix, digits_read, counting_digits, is_too_long, leaves_rest, invalid, refusal, unless_refused}
 use Rattle.atoi_core.specs.Kind.{Kind, class_of, bound_of, limit_of}
 use Rattle.atoi_core.specs.Sign.{Sign, number_of}
 use Rattle.atoi_core.specs.Answer.{map_answer, whole_answer, prefix_answer, with_more}
 use Rattle.atoi_core.specs.Laws.{SignForm, sign_in, with_zeros, zero_byte, IsSameKind, RestChangesNothing, ZerosChangeNothing}
 use Rattle.atoi_core.proofs.CutLemmas.{length-run, zeros-run, value-replicate, prefix_len-replicate_append}
-use Rattle.atoi_core.proofs.RefusalLemmas.{refusal-rank, first_rank}
+use Rattle.atoi_core.proofs.RefusalLemmas.{refusal-rank, first_of}
 use Rattle.atoi_core.proofs.SignLemmas.{sign_again}
-use Rattle.atoi_core.proofs.CallLemmas.{whole_call-is, prefix_call-is, digits_read-le, digits_read-whole, digits_read-skipping, with_more-zero}
+use Rattle.atoi_core.proofs.CallLemmas.{whole_call-is, prefix_call-is, counted_number, digits_read-le, digits_read-skipping, with_more-zero}
 
 -- two whole answers are of one kind where the reasons are, and the values are equal
 same_kind : (minus other_minus : Bool) (r q : Option Refusal) (x y : ℕ) → option_map rank r ≡ option_map rank q
@@ -25,10 +25,6 @@ same_kind minus other_minus None None x y h e = e
 same_kind minus other_minus (Some reason) (Some other) x y h e = cc h
 same_kind minus other_minus None (Some other) x y h e = absurd (cc h)
 same_kind minus other_minus (Some reason) None x y h e = absurd (cc h)
-
--- the magnitude with its sign, and how many bytes were read
-abbrev counted_number : Bool → ℕ × ℕ → ℤ × ℕ
-counted_number minus found = (number_of minus found.0, found.1)
 
 -- two prefix answers, of which the first has a count that is less by `more`
 same_prefix_kind : (more taken other_taken : ℕ) (minus other_minus : Bool) (r q : Option Refusal) (x y : ℕ × ℕ) → option_map rank r ≡ option_map rank q
@@ -65,7 +61,7 @@ same_reason : (k : Kind) (skip : Bool) (extent : Extent) (g h : Sign) → IsAlik
     → option_map rank (reason_at k skip extent g) ≡ option_map rank (reason_at k skip extent h)
 same_reason k skip extent g h alike =
     refusal-rank decimal_table (class_of k) (bound_of k g.minus) (limit_of k) extent skip g.body
-    ∙ (λ i. first_rank (alike.is_empty i) (is_too_long (class_of k) (limit_of k) (alike.counts i)) (ltb (alike.bound i) (alike.number i)) (alike.followed i) 0 1 2 (rank (invalid (class_of k) 0 0 [])))
+    ∙ (λ i. first_of (alike.is_empty i) (is_too_long (class_of k) (limit_of k) (alike.counts i)) (ltb (alike.bound i) (alike.number i)) (alike.followed i) 0 1 2 (rank (invalid (class_of k) 0 0 [])))
     ∙ sym (refusal-rank decimal_table (class_of k) (bound_of k h.minus) (limit_of k) extent skip h.body)
 
 -- what a call answers that goes by a sign
@@ -98,7 +94,7 @@ same_run k skip g h minus taken runs =
     let leading = same_zeros g.body h.body runs in
     let read : read_at k skip prefix g ≡ read_at k skip prefix h = ap (digits_read (class_of k) prefix skip) len in
     let number : number_at k skip prefix g ≡ number_at k skip prefix h =
-    ap (value decimal_table) (same_front (read_at k skip prefix g) g.body h.body runs (digits_read-le (class_of k) skip (run_len decimal_table g.body))
+    ap (value decimal_table) (same_front (read_at k skip prefix g) g.body h.body runs (digits_read-le (class_of k) prefix skip (run_len decimal_table g.body))
     ∙ ap (λ (n : ℕ). take n h.body) read)
     in
     same_prefix_kind 0 g.taken h.taken g.minus h.minus (reason_at k skip prefix g) (reason_at k skip prefix h)
@@ -143,11 +139,6 @@ take-padded count n body =
     take-add count n (padded count body)
     ∙ (λ i. take_at (replicate count zero_byte) body count len i ++ take n (drop_at (replicate count zero_byte) body count len i))
 
--- where zeros are skipped, all digits are read
-seen_all : (class : Class) (extent : Extent) (digits : ℕ) → digits_read class extent true digits ≡ digits
-seen_all class whole digits = digits_read-whole class true digits
-seen_all class prefix digits = digits_read-skipping class digits
-
 -- its run writes the same number
 value-padded : (count : ℕ) (body : List ℕ) → value decimal_table (run decimal_table body) ≡ value decimal_table (run decimal_table (padded count body))
 value-padded count body =
@@ -158,22 +149,18 @@ value-padded count body =
 
 -- where zeros are skipped, the number is that of the whole run
 number-all : (k : Kind) (extent : Extent) (g : Sign) → number_at k true extent g ≡ value decimal_table (run decimal_table g.body)
-number-all k extent g = ap (λ (m : ℕ). value decimal_table (take m g.body)) (seen_all (class_of k) extent (run_len decimal_table g.body))
+number-all k extent g = ap (λ (m : ℕ). value decimal_table (take m g.body)) (digits_read-skipping (class_of k) extent (run_len decimal_table g.body))
 
 -- the number that is read stays
 number-padded : (k : Kind) (extent : Extent) (count : ℕ) (g : Sign)
-    → number_at k true extent g ≡ number_at k true extent (record { minus = g.minus; taken = g.taken; body = padded count g.body })
+    → number_at k true extent g ≡ number_at k true extent (record g { body = padded count g.body })
 number-padded k extent count g =
     number-all k extent g ∙ value-padded count g.body
-    ∙ sym (number-all k extent (record { minus = g.minus; taken = g.taken; body = padded count g.body }))
+    ∙ sym (number-all k extent (record g { body = padded count g.body }))
 
 -- a test of two numbers stays where both grow alike
 eqb-add : (more m n : ℕ) → eqb m n ≡ eqb (more + m) (more + n)
-eqb-add more m n =
-    elim (cases_eq m n) [
-      | inl e ↦ eq-eqb m n e ∙ sym (eq-eqb (more + m) (more + n) (omega arith))
-      | inr ne ↦ ne_eqb m n ne ∙ sym (ne_eqb (more + m) (more + n) (λ e. ne (omega arith)))
-    ]
+eqb-add more m n = grind (arith, nat_tests)
 
 -- a rest behind the digits stays
 followed-padded : (extent : Extent) (count : ℕ) (body : List ℕ)
@@ -185,7 +172,7 @@ followed-padded whole count body =
 
 -- the tests do not tell a body from the same with zeros before it
 padded_alike : (k : Kind) (extent : Extent) (count : ℕ) (g : Sign) → 0 < run_len decimal_table g.body
-    → IsAlike k true extent g (record { minus = g.minus; taken = g.taken; body = padded count g.body })
+    → IsAlike k true extent g (record g { body = padded count g.body })
 padded_alike k extent count g some =
     let longer = run_len-padded count g.body in
     let leading = zeros-padded count g.body in
@@ -207,7 +194,7 @@ sign_of_padded k form s count some =
 
 -- a whole parse and a prefix parse of the body with zeros before it, behind the same sign
 whole_padded : (k : Kind) (g : Sign) (count : ℕ) → 0 < run_len decimal_table g.body
-    → IsSameKind (whole_at k true g) (whole_at k true (record { minus = g.minus; taken = g.taken; body = padded count g.body }))
+    → IsSameKind (whole_at k true g) (whole_at k true (record g { body = padded count g.body }))
 whole_padded k g count some =
     let h = record g { body = padded count g.body } in
     same_kind g.minus g.minus (reason_at k true whole g) (reason_at k true whole h) (value decimal_table (run decimal_table g.body)) (value decimal_table (run decimal_table h.body))
@@ -216,11 +203,11 @@ whole_padded k g count some =
 
 -- the same of a prefix parse, whose count grows by the zeros
 prefix_padded : (k : Kind) (g : Sign) (count : ℕ) → 0 < run_len decimal_table g.body
-    → IsSameKind (with_more count (prefix_at k true g)) (prefix_at k true (record { minus = g.minus; taken = g.taken; body = padded count g.body }))
+    → IsSameKind (with_more count (prefix_at k true g)) (prefix_at k true (record g { body = padded count g.body }))
 prefix_padded k g count some =
     let h = record g { body = padded count g.body } in
-    let shorter = digits_read-skipping (class_of k) (run_len decimal_table g.body) in
-    let longer = digits_read-skipping (class_of k) (run_len decimal_table h.body) in
+    let shorter = digits_read-skipping (class_of k) prefix (run_len decimal_table g.body) in
+    let longer = digits_read-skipping (class_of k) prefix (run_len decimal_table h.body) in
     let more = run_len-padded count g.body in
     same_prefix_kind count g.taken g.taken g.minus g.minus (reason_at k true prefix g) (reason_at k true prefix h)
     (number_at k true prefix g, read_at k true prefix g) (number_at k true prefix h, read_at k true prefix h)

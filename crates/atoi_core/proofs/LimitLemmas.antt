@@ -20,19 +20,20 @@ shorter narrow limit count less h e = refl
 shorter wide64 limit count less h e = le-ltb limit less (omega (arith, ltb-false limit count e))
 shorter wide128 limit count less h e = le-ltb limit less (omega (arith, ltb-false limit count e))
 
+-- a magnitude of that many bits is the greatest of the signed numbers or of the others, or one more
+magnitude_below : (limit bits : ℕ) (signed minus : Bool) → greatest_of bits true + 1 < 10 ^ limit → greatest_of bits false + 1 < 10 ^ limit
+    → cond minus (greatest_of bits signed + 1) (greatest_of bits signed) < 10 ^ limit
+magnitude_below limit bits true true p q = p
+magnitude_below limit bits true false p q = omega arith
+magnitude_below limit bits false true p q = q
+magnitude_below limit bits false false p q = omega arith
+
 -- the greatest magnitudes of 64 bits have 19 and 20 digits
 bound-64 : (signed minus : Bool) → (minus ≡ true → signed ≡ true) → cond minus (greatest_of 64 signed + 1) (greatest_of 64 signed) < 10 ^ cond signed 19 20
 bound-64 true true h = omega arith
 bound-64 true false h = omega arith
 bound-64 false true h = absurd (cc (h refl))
 bound-64 false false h = omega arith
-
--- those of 128 bits have 39
-bound-128 : (signed minus : Bool) → (minus ≡ true → signed ≡ true) → cond minus (greatest_of 128 signed + 1) (greatest_of 128 signed) < 10 ^ 39
-bound-128 true true h = omega arith
-bound-128 true false h = omega arith
-bound-128 false true h = absurd (cc (h refl))
-bound-128 false false h = omega arith
 
 -- the greatest magnitude of a wide type has no more digits than its limit
 pub bound-limit : (k : Kind) → IsSized k → (minus : Bool) → (minus ≡ true → k.signed ≡ true)
@@ -43,7 +44,7 @@ bound-limit k sized minus h =
       | inr (inl e) ↦ inl (rw e refl)
       | inr (inr (inl e)) ↦ inl (rw e refl)
       | inr (inr (inr (inl e))) ↦ inr (rw (sized.greatest, e) (bound-64 k.signed minus h))
-      | inr (inr (inr (inr e))) ↦ inr (rw (sized.greatest, e) (bound-128 k.signed minus h))
+      | inr (inr (inr (inr e))) ↦ inr (rw (sized.greatest, e) (magnitude_below 39 128 k.signed minus (omega arith) (omega arith)))
     ]
 
 -- no type has a magnitude of 64 digits
@@ -51,19 +52,12 @@ below-64 : (bits : ℕ) (signed minus : Bool) → ((bits ≡ 8) ⊎ ((bits ≡ 1
     → cond minus (greatest_of bits signed + 1) (greatest_of bits signed) < 10 ^ 64
 below-64 bits signed minus h =
     elim h [
-      | inl e ↦ rw e (first 8 signed minus (omega arith) (omega arith))
-      | inr (inl e) ↦ rw e (first 16 signed minus (omega arith) (omega arith))
-      | inr (inr (inl e)) ↦ rw e (first 32 signed minus (omega arith) (omega arith))
-      | inr (inr (inr (inl e))) ↦ rw e (first 64 signed minus (omega arith) (omega arith))
-      | inr (inr (inr (inr e))) ↦ rw e (first 128 signed minus (omega arith) (omega arith))
+      | inl e ↦ rw e (magnitude_below 64 8 signed minus (omega arith) (omega arith))
+      | inr (inl e) ↦ rw e (magnitude_below 64 16 signed minus (omega arith) (omega arith))
+      | inr (inr (inl e)) ↦ rw e (magnitude_below 64 32 signed minus (omega arith) (omega arith))
+      | inr (inr (inr (inl e))) ↦ rw e (magnitude_below 64 64 signed minus (omega arith) (omega arith))
+      | inr (inr (inr (inr e))) ↦ rw e (magnitude_below 64 128 signed minus (omega arith) (omega arith))
     ]
-  where
-    first : (bits : ℕ) (signed minus : Bool) → greatest_of bits true + 1 < 10 ^ 64 → greatest_of bits false + 1 < 10 ^ 64
-        → cond minus (greatest_of bits signed + 1) (greatest_of bits signed) < 10 ^ 64
-    first bits true true p q = p
-    first bits true false p q = omega arith
-    first bits false true p q = q
-    first bits false false p q = omega arith
 
 -- each magnitude has far fewer than 64 digits
 pub bound_below-64 : (k : Kind) → IsSized k → (minus : Bool) → bound_of k minus < 10 ^ 64

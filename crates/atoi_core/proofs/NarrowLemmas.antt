@@ -1,41 +1,13 @@
 -- The answers of the narrow class for a front, from the last window behind the zeros that are skipped.
-use Rattle.std.proofs.Common.{◌≡◌, ℕ, ◌+◌, ◌*◌, ◌/◌, ◌^◌, ◌<◌, ◌≤◌, ◌==◌, min, Bool, true, false, nat_lt, List, take, drop, Option, Some, None, Result, Ok, Err, refl, sym, ap, ◌∙◌, ne_eqb, lit<, inl, inr, arith, if◌then◌else◌}
+use Rattle.std.proofs.Common.{◌≡◌, ℕ, ◌+◌, ◌*◌, ◌/◌, ◌^◌, ◌<◌, ◌≤◌, min, Bool, true, false, nat_lt, List, take, drop, Ok, Err, refl, sym, ap, ◌∙◌, ne_eqb, lit<, inl, inr, arith, if◌then◌else◌}
 use Rattle.std.proofs.Math.Nat.{le-mul_of_pos_right, one-le-pow}
-use Rattle.std.proofs.lemmas.Bool.{cases_lt, eq-eqb, lt-ltb, le-ltb}
+use Rattle.std.proofs.lemmas.Bool.{cases_lt, lt-ltb, le-ltb}
 use Rattle.atoi_core.specs.Digit.{Table}
 use Rattle.atoi_core.specs.Run.{run_len, run, zeros, value}
-use Rattle.atoi_core.specs.Refusal.{Refusal, empty, overflow}
-use Rattle.atoi_core.specs.Magnitude.{narrow, prefix, digits_read, dropped_zeros, refusal, unless_refused, prefix_magnitude}
+use Rattle.atoi_core.specs.Refusal.{overflow}
+use Rattle.atoi_core.specs.Magnitude.{narrow, prefix, digits_read, dropped_zeros, refusal, prefix_magnitude}
 use Rattle.atoi_core.specs.declared.window.Window.{Window}
 use Rattle.atoi_core.proofs.SkipLemmas.{Skipped}
-
--- the reason to refuse n digits, of which those that are read write v
-unfoldable pub narrow_refusal : (bound : ℕ) (skip : Bool) (n z v : ℕ) → List ℕ → Option Refusal
-narrow_refusal bound skip n z v s =
-    if n == 0 then Some empty
-    else (if nat_lt bound v then Some (overflow (drop (dropped_zeros narrow prefix skip n z) s)) else None)
-
--- the answer for a front, without the tests of the other classes
-unfoldable pub narrow_answer : Table → (bound : ℕ) → Bool → List ℕ → Result (ℕ × ℕ) Refusal
-narrow_answer t bound skip s =
-    let read = digits_read narrow prefix skip (run_len t s) in
-    unless_refused (narrow_refusal bound skip (run_len t s) (zeros t s) (value t (take read s)) s)
-    (value t (take read s), read)
-
--- the other tests of the definition are idle in the narrow class
-pub narrow_answer_is : (t : Table) (bound limit : ℕ) (skip : Bool) (s : List ℕ) →
-    prefix_magnitude t narrow bound limit skip s ≡ narrow_answer t bound skip s
-unfolding refusal narrow_refusal narrow_answer
-narrow_answer_is t bound limit skip s = refl
-
--- no digit
-pub narrow_empty : (t : Table) (bound : ℕ) (skip : Bool) (s : List ℕ) (at before now : ℕ) (w : Window) →
-    Skipped t skip s at before now w → at + w.len ≡ 0 →
-    Err empty ≡ narrow_answer t bound skip s
-unfolding narrow_refusal narrow_answer
-narrow_empty t bound skip s at before now w so none =
-    let n : run_len t s ≡ 0 = omega (arith, so.run_is, so.shown.reads.ends (omega arith)) in
-    rw (eq-eqb (run_len t s) 0 n) refl
 
 -- how many zeros the slice of an overflow leaves out
 dropped_is : (t : Table) (skip : Bool) (s : List ℕ) (at before now : ℕ) (w : Window) →
@@ -86,28 +58,28 @@ number_most t true s at before now w so =
     ]
 
 -- a number above the bound
-pub narrow_overflow : (t : Table) (bound : ℕ) (skip : Bool) (s : List ℕ) (at before now : ℕ) (w : Window) →
+narrow_overflow : (t : Table) (bound limit : ℕ) (skip : Bool) (s : List ℕ) (at before now : ℕ) (w : Window) →
     Skipped t skip s at before now w → 0 < at + w.len → bound < w.number →
-    Err (overflow (drop at s)) ≡ narrow_answer t bound skip s
-unfolding narrow_refusal narrow_answer
-narrow_overflow t bound skip s at before now w so some over =
+    Err (overflow (drop at s)) ≡ prefix_magnitude t narrow bound limit skip s
+unfolding refusal
+narrow_overflow t bound limit skip s at before now w so some over =
     let n : 0 < run_len t s = omega (arith, so.run_is, so.shown.reads.inside) in
     let most : w.number ≤ value t (take (digits_read narrow prefix skip (run_len t s)) s) = number_most t skip s at before now w so in
     rw (ne_eqb (run_len t s) 0 (omega arith), lt-ltb bound (value t (take (digits_read narrow prefix skip (run_len t s)) s)) (omega arith))
     (rw (dropped_is t skip s at before now w so) refl)
 
 -- a number within the bound has too few digits to fill a window behind the zeros
-pub narrow_ok : (t : Table) (bound : ℕ) (skip : Bool) (s : List ℕ) (at before now : ℕ) (w : Window) →
+narrow_ok : (t : Table) (bound limit : ℕ) (skip : Bool) (s : List ℕ) (at before now : ℕ) (w : Window) →
     Skipped t skip s at before now w → bound ≤ 4294967295 → 0 < at + w.len → w.number ≤ bound →
-    Ok (w.number, at + w.len) ≡ narrow_answer t bound skip s
-unfolding narrow_refusal narrow_answer
-narrow_ok t bound false s at before now w so high some within =
+    Ok (w.number, at + w.len) ≡ prefix_magnitude t narrow bound limit skip s
+unfolding refusal
+narrow_ok t bound limit false s at before now w so high some within =
     let n : 0 < run_len t s = omega (arith, so.run_is, so.shown.reads.inside) in
     let v : w.number ≡ value t (take (min (run_len t s) 16) s) = unskipped_number t s at before now w so in
     let l : at + w.len ≡ min (run_len t s) 16 = omega (arith, so.off refl, unskipped_len t s at before now w so) in
     rw (ne_eqb (run_len t s) 0 (omega arith), le-ltb bound (value t (take (min (run_len t s) 16) s)) (omega arith))
     (ap (λ (e : ℕ). Ok (e, at + w.len)) v ∙ ap (λ (e : ℕ). Ok (value t (take (min (run_len t s) 16) s), e)) l)
-narrow_ok t bound true s at before now w so high some within =
+narrow_ok t bound limit true s at before now w so high some within =
     let n : 0 < run_len t s = omega (arith, so.run_is, so.shown.reads.inside) in
     let short : w.len < 16 =
     elim (cases_lt w.len 16) [
@@ -122,11 +94,11 @@ narrow_ok t bound true s at before now w so high some within =
     (ap (λ (e : ℕ). Ok (e, at + w.len)) v ∙ ap (λ (e : ℕ). Ok (value t (run t s), e)) l)
 
 -- both answers of the last window, where there is a digit
-pub narrow_told : (t : Table) (bound : ℕ) (skip : Bool) (s : List ℕ) (at before now : ℕ) (w : Window) →
+pub narrow_told : (t : Table) (bound limit : ℕ) (skip : Bool) (s : List ℕ) (at before now : ℕ) (w : Window) →
     Skipped t skip s at before now w → bound ≤ 4294967295 → 0 < at + w.len →
-    (if nat_lt bound w.number then Err (overflow (drop at s)) else Ok (w.number, at + w.len)) ≡ narrow_answer t bound skip s
-narrow_told t bound skip s at before now w so high some =
+    (if nat_lt bound w.number then Err (overflow (drop at s)) else Ok (w.number, at + w.len)) ≡ prefix_magnitude t narrow bound limit skip s
+narrow_told t bound limit skip s at before now w so high some =
     elim (cases_lt bound w.number) [
-      | inl over ↦ rw (lt-ltb bound w.number over) (narrow_overflow t bound skip s at before now w so some over)
-      | inr fits ↦ rw (le-ltb bound w.number fits) (narrow_ok t bound skip s at before now w so high some fits)
+      | inl over ↦ rw (lt-ltb bound w.number over) (narrow_overflow t bound limit skip s at before now w so some over)
+      | inr fits ↦ rw (le-ltb bound w.number fits) (narrow_ok t bound limit skip s at before now w so high some fits)
     ]

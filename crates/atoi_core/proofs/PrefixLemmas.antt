@@ -2,13 +2,14 @@
 -- reaches the end is a whole parse.
 use Rattle.std.proofs.Common.{◌≡◌, ℕ, ◌+◌, ◌≤◌, min, Bool, true, false, List, ◌++◌, length, take, get_or, Ok, ℤ, refl, sym, ap, ◌∙◌, subst, arith, inl, inr, get_or-drop, take-add, take-take, add_comm}
 use Rattle.std.proofs.lemmas.Bool.{cases_lt}
-use Rattle.atoi_core.specs.Digit.{decimal_table}
+use Rattle.std.proofs.lemmas.List.Sums.{prefix_len-le-length, prefix_len_stops}
+use Rattle.atoi_core.specs.Digit.{decimal_table, is_digit}
 use Rattle.atoi_core.specs.Run.{run_len, run, zeros, value}
 use Rattle.atoi_core.specs.Magnitude.{prefix, digits_read, counting_digits}
 use Rattle.atoi_core.specs.Kind.{Kind, class_of, bound_of, limit_of}
 use Rattle.atoi_core.specs.Sign.{Sign, number_of}
 use Rattle.atoi_core.specs.Laws.{SignForm, sign_in, whole_call, prefix_call, ReadsWholeRun, PrefixIsWhole, PrefixOfCut, PrefixStopsAtRest}
-use Rattle.atoi_core.proofs.CutLemmas.{run_len-le, run_stops, run_len-take, zeros-take}
+use Rattle.atoi_core.proofs.CutLemmas.{run_len-take, zeros-take}
 use Rattle.atoi_core.proofs.SignLemmas.{drop-taken, length-taken, sign_again}
 use Rattle.atoi_core.proofs.CallLemmas.{whole_call-is, from_whole, to_whole, is_whole, whole_is_run, whole_in_range, IsFound, found_prefix, ok_prefix, digits_read-le, digits_read-pos, digits_read-digits_read, digits_read-all}
 use Rattle.atoi_core.proofs.LimitLemmas.{shorter}
@@ -24,12 +25,12 @@ prefix_stops_at_rest k form has skip s v count all h =
     let parts = length-taken k form s in
     elim (cases_lt n (length g.body)) [
       | inl lt ↦
-          let stops = run_stops decimal_table g.body lt in
+          let stops = prefix_len_stops (is_digit decimal_table) g.body 0 lt in
           let here : get_or g.body n 0 ≡ get_or s count 0 =
           ap (λ (body : List ℕ). get_or body n 0) (sym (drop-taken k form s)) ∙ get_or-drop g.taken s n 0 ∙ ap (λ (at : ℕ). get_or s at 0) (add_comm g.taken n ∙ sym counts)
           in
           inr (omega arith, rw here at stops)
-      | inr le ↦ inl (omega (arith, run_len-le decimal_table g.body))
+      | inr le ↦ inl (omega (arith, prefix_len-le-length (is_digit decimal_table) g.body))
     ]
 
 -- a prefix that reaches the end reads its whole run, to the body's end
@@ -38,9 +39,9 @@ reached : (k : Kind) (form : SignForm) (skip : Bool) (s : List ℕ) (v : ℤ) (r
 reached k form skip s v read h =
     let g = sign_in k form s in
     let n = run_len decimal_table g.body in
-    let most = run_len-le decimal_table g.body in
+    let most = prefix_len-le-length (is_digit decimal_table) g.body in
     let parts = length-taken k form s in
-    let far = digits_read-le (class_of k) skip n in
+    let far = digits_read-le (class_of k) prefix skip n in
     let as_far = h.as_far in
     let counted = h.counted in
     (omega arith, omega arith)
@@ -87,13 +88,13 @@ prefix_is_whole k = record {
 
 -- the front that was read is read again where the body ends with it
 found_again : (k : Kind) (g : Sign) (skip : Bool) (v : ℤ) (count read : ℕ) → IsFound k g skip v count read
-    → IsFound k (record { minus = g.minus; taken = g.taken; body = take read g.body }) skip v count read
+    → IsFound k (record g { body = take read g.body }) skip v count read
 found_again k g skip v count read h =
     let n = run_len decimal_table g.body in
     let z = zeros decimal_table g.body in
     let class = class_of k in
     let as_far : read ≡ digits_read class prefix skip n = h.as_far in
-    let far = digits_read-le class skip n in
+    let far = digits_read-le class prefix skip n in
     let some = digits_read-pos class skip n h.front.some in
     let run_is : run_len decimal_table (take read g.body) ≡ read = run_len-take decimal_table read g.body (omega arith) in
     let zeros_are : zeros decimal_table (take read g.body) ≡ min read z = zeros-take decimal_table read g.body in
@@ -126,8 +127,8 @@ prefix_of_cut k form has skip s v count h =
     let n = run_len decimal_table g.body in
     let read = found.0 in
     let some = digits_read-pos (class_of k) skip n found.1.front.some in
-    let far = digits_read-le (class_of k) skip n in
-    let most = run_len-le decimal_table g.body in
+    let far = digits_read-le (class_of k) prefix skip n in
+    let most = prefix_len-le-length (is_digit decimal_table) g.body in
     let parts = length-taken k form s in
     let counted = found.1.counted in
     let as_far : read ≡ digits_read (class_of k) prefix skip n = found.1.as_far in
@@ -135,7 +136,7 @@ prefix_of_cut k form has skip s v count h =
     let cut : take count s ≡ take g.taken s ++ take read g.body =
     ap (λ (m : ℕ). take m s) (counted ∙ add_comm read g.taken) ∙ take-add g.taken read s ∙ ap (λ body. take g.taken s ++ take read body) (drop-taken k form s)
     in
-    let again : sign_in k form (take count s) ≡ record { minus = g.minus; taken = g.taken; body = take read g.body } =
+    let again : sign_in k form (take count s) ≡ record g { body = take read g.body } =
     ap (sign_in k form) cut ∙ sign_again k form s (take read g.body) (omega arith)
     in (
       omega arith,

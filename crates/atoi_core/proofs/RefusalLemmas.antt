@@ -1,18 +1,18 @@
 -- Where a body is refused, and why: the cases of `refusal`, each as a fact.
 use Rattle.std.proofs.Common.{◌≡◌, ℕ, ◌+◌, ◌-◌, ◌<◌, ◌≤◌, min, Bool, true, false, cond, eqb, ltb, List, [], length, take, drop, subst, Option, Some, None, option_map, refl, sym, ap, ◌∙◌, arith, ltb-false, le-ltb, ne_eqb}
-use Rattle.std.proofs.lemmas.Bool.{eqb-false}
+use Rattle.std.proofs.lemmas.Bool.{eqb-false, eq-eqb, lt-ltb}
 use Rattle.std.proofs.Math.Seq.{drop-length}
 use Rattle.atoi_core.specs.Digit.{Table}
 use Rattle.atoi_core.specs.Run.{run_len, zeros, value}
 use Rattle.atoi_core.specs.Refusal.{Refusal, empty, size, overflow, rank, input_of}
 use Rattle.atoi_core.specs.Magnitude.{Class, narrow, wide64, wide128, Extent, refusal, counting_digits, digits_read, dropped_zeros, is_too_long, leaves_rest, cap, invalid}
 
--- the first of four reasons whose test holds
-abbrev first_reason : (a b c d : Bool) → (p q r s : Refusal) → Option Refusal
-first_reason a b c d p q r s = cond a (Some p) (cond b (Some q) (cond c (Some r) (cond d (Some s) None)))
+-- the first of four whose test holds
+abbrev pub first_of : {A : Type 0} → (a b c d : Bool) → (p q r s : A) → Option A
+first_of a b c d p q r s = cond a (Some p) (cond b (Some q) (cond c (Some r) (cond d (Some s) None)))
 
 -- there is no reason only where no test holds
-first_none : (a b c d : Bool) (p q r s : Refusal) → first_reason a b c d p q r s ≡ None
+first_none : (a b c d : Bool) (p q r s : Refusal) → first_of a b c d p q r s ≡ None
     → (a ≡ false) × (b ≡ false) × (c ≡ false) × (d ≡ false)
 first_none true b c d p q r s h = absurd (cc h)
 first_none false true c d p q r s h = absurd (cc h)
@@ -22,20 +22,16 @@ first_none false false false false p q r s h = (refl, refl, refl, refl)
 
 -- what holds of each reason holds of the first
 first_some : (P : Refusal → Type 0) (a b c d : Bool) (p q r s : Refusal) → P p → P q → P r → P s
-    → (reason : Refusal) → first_reason a b c d p q r s ≡ Some reason → P reason
+    → (reason : Refusal) → first_of a b c d p q r s ≡ Some reason → P reason
 first_some P true b c d p q r s hp hq hr hs reason h = let e : p ≡ reason = cc h in subst P e hp
 first_some P false true c d p q r s hp hq hr hs reason h = let e : q ≡ reason = cc h in subst P e hq
 first_some P false false true d p q r s hp hq hr hs reason h = let e : r ≡ reason = cc h in subst P e hr
 first_some P false false false true p q r s hp hq hr hs reason h = let e : s ≡ reason = cc h in subst P e hs
 first_some P false false false false p q r s hp hq hr hs reason h = absurd (cc h)
 
--- the same, by the places among the five
-abbrev pub first_rank : (a b c d : Bool) → (p q r s : ℕ) → Option ℕ
-first_rank a b c d p q r s = cond a (Some p) (cond b (Some q) (cond c (Some r) (cond d (Some s) None)))
-
 -- the rank of the first reason is the first rank
 first_map : (a b c d : Bool) (p q r s : Refusal)
-    → option_map rank (first_reason a b c d p q r s) ≡ first_rank a b c d (rank p) (rank q) (rank r) (rank s)
+    → option_map rank (first_of a b c d p q r s) ≡ first_of a b c d (rank p) (rank q) (rank r) (rank s)
 first_map true b c d p q r s = refl
 first_map false true c d p q r s = refl
 first_map false false true d p q r s = refl
@@ -79,15 +75,15 @@ module _ (table : Table) (class : Class) (bound limit : ℕ) (extent : Extent) (
   is_followed = leaves_rest extent (run_len table body) (length body)
 
   -- the reasons that they stand for
-  abbrev digits_left : ℕ
+  abbrev pub digits_left : ℕ
   digits_left = run_len table body - counting_digits skip (run_len table body) (zeros table body)
 
   -- too many digits, with how many there are
-  abbrev too_long : Refusal
+  abbrev pub too_long : Refusal
   too_long = size (digits_left + min (counting_digits skip (run_len table body) (zeros table body)) (cap class)) (drop digits_left body)
 
   -- a value above the bound
-  abbrev over : Refusal
+  abbrev pub over : Refusal
   over = overflow (drop (dropped_zeros class extent skip (run_len table body) (zeros table body)) body)
 
   -- a byte behind the digits
@@ -96,9 +92,30 @@ module _ (table : Table) (class : Class) (bound limit : ℕ) (extent : Extent) (
 
   -- the refusal is the first reason whose test holds
   refusal-is : refusal table class bound limit extent skip body
-      ≡ first_reason is_empty is_long is_over is_followed empty too_long over followed
+      ≡ first_of is_empty is_long is_over is_followed empty too_long over followed
   unfolding refusal
   refusal-is = refl
+
+  -- no digit
+  pub refused_empty : run_len table body ≡ 0 → refusal table class bound limit extent skip body ≡ Some empty
+  refused_empty none =
+      let e : is_empty ≡ true = eq-eqb (run_len table body) 0 none in
+      refusal-is ∙ rw e refl
+
+  -- too many digits
+  pub refused_size : 0 < run_len table body → is_long ≡ true → refusal table class bound limit extent skip body ≡ Some too_long
+  refused_size some long =
+      let e : is_empty ≡ false = ne_eqb (run_len table body) 0 (omega arith) in
+      refusal-is ∙ rw (e, long) refl
+
+  -- a value above the bound
+  pub refused_overflow : 0 < run_len table body → is_long ≡ false
+      → bound < value table (take (digits_read class extent skip (run_len table body)) body)
+      → refusal table class bound limit extent skip body ≡ Some over
+  refused_overflow some short above =
+      let e : is_empty ≡ false = ne_eqb (run_len table body) 0 (omega arith) in
+      let o : is_over ≡ true = lt-ltb bound (value table (take (digits_read class extent skip (run_len table body)) body)) above in
+      refusal-is ∙ rw (e, short, o) refl
 
   -- what is accepted is not refused
   pub refusal-none : IsAccepted table class bound limit extent skip body → refusal table class bound limit extent skip body ≡ None
@@ -132,7 +149,7 @@ module _ (table : Table) (class : Class) (bound limit : ℕ) (extent : Extent) (
 
   -- the kind of a reason is told by the four tests
   pub refusal-rank : option_map rank (refusal table class bound limit extent skip body)
-      ≡ first_rank is_empty is_long is_over is_followed 0 1 2 (rank (invalid class 0 0 []))
+      ≡ first_of is_empty is_long is_over is_followed 0 1 2 (rank (invalid class 0 0 []))
   refusal-rank =
       ap (option_map rank) refusal-is ∙ first_map is_empty is_long is_over is_followed empty too_long over followed
-      ∙ ap (first_rank is_empty is_long is_over is_followed 0 1 2) (rank-invalid class _ _ body)
+      ∙ ap (first_of is_empty is_long is_over is_followed 0 1 2) (rank-invalid class _ _ body)

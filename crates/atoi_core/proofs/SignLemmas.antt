@@ -1,6 +1,7 @@
 -- The sign at the front of a slice: what it leaves, and when it is taken again.
-use Rattle.std.proofs.Common.{◌≡◌, ℕ, ◌+◌, ◌-◌, ◌<◌, ◌≤◌, Bool, true, false, cond, ◌&&◌, eqb, leb, List, [], ◌∷◌, ◌++◌, length, take, drop, refl, arith, leb-true, ne_eqb, is_some, Some, None}
+use Rattle.std.proofs.Common.{◌≡◌, ℕ, ◌+◌, ◌<◌, ◌≤◌, Bool, true, false, cond, ◌&&◌, eqb, List, [], ◌∷◌, ◌++◌, length, take, drop, refl, arith, ne_eqb}
 use Rattle.std.proofs.lemmas.Bool.{and_parts, and_right}
+use Rattle.std.proofs.lemmas.Bool.Decides.{nat_tests}
 use Rattle.atoi_core.specs.Digit.{decimal_table, is_digit}
 use Rattle.atoi_core.specs.Run.{run_len}
 use Rattle.atoi_core.specs.Kind.{Kind}
@@ -56,17 +57,9 @@ minus_is_signed k (looked_for plus) has s h = minus_of k.signed plus s h
 minus_is_signed k positive has s h = absurd (cc h)
 minus_is_signed k negative has s h = has
 
--- where such a test gives a worth, both its parts hold
-both_parts : (a b : Bool) (x : ℕ) → is_some (cond (a && b) (Some x) None) ≡ true → (a ≡ true) × (b ≡ true)
-both_parts true true x h = (refl, refl)
-both_parts true false x h = absurd (cc h)
-both_parts false b x h = absurd (cc h)
-
 -- a digit is a byte from 48 to 57
 pub digit_in_range : (byte : ℕ) → is_digit decimal_table byte ≡ true → (48 ≤ byte) × (byte ≤ 57)
-digit_in_range byte h =
-    let parts = both_parts (leb 48 byte) (leb byte 57) (byte - 48) h in
-    (leb-true 48 byte parts.0, leb-true byte 57 parts.1)
+digit_in_range byte h = (grind (arith, nat_tests), grind (arith, nat_tests))
 
 -- a slice that begins with digits begins with a digit
 first_digit : (byte : ℕ) (bytes : List ℕ) → 0 < run_len decimal_table (byte ∷ bytes) → is_digit decimal_table byte ≡ true

@@ -10,7 +10,7 @@ use Rattle.atoi_core.specs.Laws.{SignForm, sign_in, whole_call, prefix_call, IsS
 use Rattle.atoi_core.proofs.ErrorOrder.{refusal_cmp-Equal}
 use Rattle.atoi_core.proofs.RefusalLemmas.{refusal-input}
 use Rattle.atoi_core.proofs.SignLemmas.{drop-taken}
-use Rattle.atoi_core.proofs.CallLemmas.{map_unless_err, whole_call-is, prefix_call-is}
+use Rattle.atoi_core.proofs.CallLemmas.{counted_number, map_unless_err, whole_call-is, prefix_call-is}
 
 -- what stands at the end of the body stands at the end of the slice
 suffix_of_body : (k : Kind) (form : SignForm) (s t : List ℕ) → (n : ℕ) × (t ≡ drop n (sign_in k form s).body) → IsSuffix t s
@@ -41,7 +41,7 @@ prefix_suffix k form skip s reason h =
     let refused = with_more_err g.taken (prefix_answer decimal_table k g.minus skip g.body) reason (sym (prefix_call-is k form skip s) ∙ h) in
     suffix_of_body k form s (input_of reason)
     (refusal-input decimal_table (class_of k) (bound_of k g.minus) (limit_of k) prefix skip g.body reason
-    (map_unless_err (λ (found : ℕ × ℕ). (number_of g.minus found.0, found.1)) _ _ reason refused))
+    (map_unless_err (counted_number g.minus) _ _ reason refused))
 
 -- the law: the order of errors, and where their slices stand
 pub order_and_suffix : (k : Kind) → OrderAndSuffix k

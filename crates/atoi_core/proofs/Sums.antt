@@ -1,7 +1,7 @@
 -- The sums by places of four, of eight and of sixteen bytes: two rounds, three, and four.
 use Rattle.std.proofs.Common.{◌≡◌, ℕ, ◌+◌, ◌-◌, ◌*◌, ◌/◌, ◌%◌, ◌^◌, ◌<◌, ◌≤◌, suc, List, [], ◌∷◌, length, sym, ap, ◌∙◌, arith}
 use Rattle.std.proofs.Common.{lit<}
-use Rattle.std.proofs.Math.Nat.{mul-le-mul_right, pow-suc, pow-le-pow_right}
+use Rattle.std.proofs.Math.Nat.{mod-eq_of_lt, mul-le-mul_right, pow-zero, pow-suc, pow-le-pow_right}
 use Rattle.std.proofs.Math.Pow.{mod-mod-pow}
 use Rattle.std.specs.Simd.Lanes.{digits_l}
 use Rattle.std.specs.Int.Bits.{bit_and}
@@ -9,17 +9,9 @@ use Rattle.atoi_core.specs.Words.{low_bytes, low_value}
 use Rattle.atoi_core.proofs.Rounds.{lows, number_in, round_number}
 use Rattle.atoi_core.proofs.Fields.{shifted_sum, length-digits, digits_cut}
 
--- a sum of eight bytes is the one digit that is left
-one_field_8 : (word : ℕ) → word < 2 ^ 32 → number_in 100000000 (lows 32 1 word) ≡ word
-one_field_8 word below = omega arith
-
--- so is a sum of four
-one_field_4 : (word : ℕ) → word < 2 ^ 16 → number_in 10000 (lows 16 1 word) ≡ word
-one_field_4 word below = omega arith
-
--- and of sixteen
-one_field_16 : (word : ℕ) → word < 2 ^ 64 → number_in 10000000000000000 (lows 64 1 word) ≡ word
-one_field_16 word below = omega arith
+-- a sum that fits one field is the one digit that is left
+one_field : (base half word : ℕ) → word < 2 ^ half → number_in base (lows half 1 word) ≡ word
+one_field base half word below = omega (arith, mod-eq_of_lt below, ap (λ p. word % 2 ^ half * p) (pow-zero base))
 
 -- two rounds of four bytes
 pub sum_4 : (val len : ℕ) → len ≤ 4
@@ -29,7 +21,7 @@ pub sum_4 : (val len : ℕ) → len ≤ 4
 sum_4 val len most =
     let ones = val * 2 ^ (32 - 8 * len) % 2 ^ 32 in
     let tens = bit_and ones 0x0F0F_0F0F * 0xA01 % 2 ^ 32 / 2 ^ 8 in
-    sym (one_field_4 (bit_and tens 0x00FF_00FF * 0x64_0001 % 2 ^ 32 / 2 ^ 16) (omega arith))
+    sym (one_field 10000 16 (bit_and tens 0x00FF_00FF * 0x64_0001 % 2 ^ 32 / 2 ^ 16) (omega arith))
     ∙ round_number 8 100 (lit< tt) 1 tens
     ∙ round_number 4 10 (lit< tt) 2 ones
     ∙ shifted_sum (32 - 8 * len) 4 len val (omega arith) most
@@ -44,7 +36,7 @@ sum_8 val len most =
     let ones = val * 2 ^ (64 - 8 * len) % 2 ^ 64 in
     let tens = bit_and ones 0x0F0F_0F0F_0F0F_0F0F * 0xA01 % 2 ^ 64 / 2 ^ 8 in
     let hundreds = bit_and tens 0x00FF_00FF_00FF_00FF * 0x64_0001 % 2 ^ 64 / 2 ^ 16 in
-    sym (one_field_8 (bit_and hundreds 0x0000_FFFF_0000_FFFF * 0x2710_0000_0001 % 2 ^ 64 / 2 ^ 32) (omega arith))
+    sym (one_field 100000000 32 (bit_and hundreds 0x0000_FFFF_0000_FFFF * 0x2710_0000_0001 % 2 ^ 64 / 2 ^ 32) (omega arith))
     ∙ round_number 16 10000 (lit< tt) 1 hundreds
     ∙ round_number 8 100 (lit< tt) 2 tens
     ∙ round_number 4 10 (lit< tt) 4 ones
@@ -62,7 +54,7 @@ sum_16 val len most =
     let tens = bit_and ones 0x0F0F_0F0F_0F0F_0F0F_0F0F_0F0F_0F0F_0F0F * 0xA01 % 2 ^ 128 / 2 ^ 8 in
     let hundreds = bit_and tens 0x00FF_00FF_00FF_00FF_00FF_00FF_00FF_00FF * 0x64_0001 % 2 ^ 128 / 2 ^ 16 in
     let ten_thousands = bit_and hundreds 0x0000_FFFF_0000_FFFF_0000_FFFF_0000_FFFF * 0x2710_0000_0001 % 2 ^ 128 / 2 ^ 32 in
-    sym (one_field_16 (bit_and ten_thousands 0x0000_0000_FFFF_FFFF_0000_0000_FFFF_FFFF * 0x5F5_E100_0000_0000_0000_0001 % 2 ^ 128 / 2 ^ 64) (omega arith))
+    sym (one_field 10000000000000000 64 (bit_and ten_thousands 0x0000_0000_FFFF_FFFF_0000_0000_FFFF_FFFF * 0x5F5_E100_0000_0000_0000_0001 % 2 ^ 128 / 2 ^ 64) (omega arith))
     ∙ round_number 32 100000000 (lit< tt) 1 ten_thousands
     ∙ round_number 16 10000 (lit< tt) 2 hundreds
     ∙ round_number 8 100 (lit< tt) 4 tens
@@ -78,24 +70,13 @@ places_most (byte ∷ bytes) =
     omega (arith, places_most bytes)
 
 -- so the sum of the lowest bytes is bounded by how many they may be
-sum_most : (count len val : ℕ) → len ≤ count → 9 * low_value (low_bytes len val) + 15 ≤ 15 * 10 ^ count
+pub sum_most : (count len val : ℕ) → len ≤ count → 9 * low_value (low_bytes len val) + 15 ≤ 15 * 10 ^ count
 unfolding low_bytes
 sum_most count len val most =
     let places : length (digits_l 256 len val) ≡ len = length-digits 256 len val in
     let few : length (digits_l 256 len val) ≤ count = omega arith in
     let power : 10 ^ length (digits_l 256 len val) ≤ 10 ^ count = pow-le-pow_right (lit< tt) few in
     omega (arith, places_most (digits_l 256 len val))
-
--- the greatest sum of four bytes, of eight, and of sixteen: each half is 15
-pub most_4 : (val len : ℕ) → len ≤ 4 → (result : ℕ) → result ≡ low_value (low_bytes len val) → result ≤ 16665
-most_4 val len most result is = omega (arith, sum_most 4 len val most)
-
-pub most_8 : (val len : ℕ) → len ≤ 8 → (result : ℕ) → result ≡ low_value (low_bytes len val) → result ≤ 166666665
-most_8 val len most result is = omega (arith, sum_most 8 len val most)
-
--- the same of sixteen
-pub most_16 : (val len : ℕ) → len ≤ 16 → (result : ℕ) → result ≡ low_value (low_bytes len val) → result ≤ 16666666666666665
-most_16 val len most result is = omega (arith, sum_most 16 len val most)
 
 -- the lowest bytes of a word are those of its lower half
 pub low_half : (word len : ℕ) → len ≤ 4 → low_bytes len (word % 2 ^ 32) ≡ low_bytes len word

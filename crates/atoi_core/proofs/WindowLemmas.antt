@@ -1,6 +1,6 @@
 -- What a window tells of the slice that it was loaded from.
-use Rattle.std.proofs.Common.{◌≡◌, ℕ, suc, ◌+◌, ◌-◌, ◌*◌, ◌^◌, ◌<◌, ◌≤◌, ◌==◌, min, true, false, cond, List, length, take, drop, refl, sym, ap, ◌∙◌, subst, arith}
-use Rattle.std.proofs.Math.Nat.{mul-le-mul_right}
+use Rattle.std.proofs.Common.{◌≡◌, ℕ, suc, ◌+◌, ◌-◌, ◌*◌, ◌^◌, ◌<◌, ◌≤◌, ◌==◌, min, true, false, cond, List, length, take, drop, refl, sym, ap, ◌∙◌, subst, lit<, arith}
+use Rattle.std.proofs.Math.Nat.{mul-le-mul_right, lt_of_lt_of_le, pow-le-pow_right}
 use Rattle.std.proofs.lemmas.Nat.{pow-add}
 use Rattle.std.proofs.lemmas.Bool.{eqb-true, eqb-false}
 use Rattle.std.proofs.lemmas.List.{drop-drop, take-take, length-take-le}
@@ -94,10 +94,15 @@ shows_of t below c s =
 pub shows : (t : Table) → IsBelowTen t → (c : ℕ) (s : List ℕ) (w : Window) → w ≡ window_of t c s → Shows t c s w
 shows t below c s w e = let P : Window → Type 0 = λ v. Shows t c s v in subst P (sym e) (shows_of t below c s)
 
+-- the number of a window has no more digits than the window has bytes
+pub Shows-below : (t : Table) (c : ℕ) (s : List ℕ) (w : Window) → Shows t c s w → w.number < 10 ^ c
+Shows-below t c s w tell = lt_of_lt_of_le tell.reads.below (pow-le-pow_right {n = 10} (lit< tt) tell.reads.within)
+
 -- a full window, and what was read behind it, are read together
 pub Reads-join : (t : Table) (c d : ℕ) (s : List ℕ) (w : Window) (m x : ℕ) →
-    Shows t c s w → w.len ≡ c → Reads t d (drop c s) m x → Reads t (c + d) s (c + m) (w.number * 10 ^ m + x)
-Reads-join t c d s w m x front full back =
+    Shows t c s w → c ≤ w.len → Reads t d (drop c s) m x → Reads t (c + d) s (c + m) (w.number * 10 ^ m + x)
+Reads-join t c d s w m x front more back =
+    let full : w.len ≡ c = omega (arith, front.reads.within) in
     let ends : c + m < c + d → run_len t (drop c s) ≡ m = λ h. back.ends (omega arith) in
     let most : (w.number + 1) * 10 ^ m ≤ 10 ^ c * 10 ^ m =
     mul-le-mul_right (10 ^ m) (omega (arith, front.reads.below, ap (λ (e : ℕ). 10 ^ e) full)) in
@@ -124,7 +129,7 @@ Reads-widen t c d s m x reads ends more = record {
 
 -- two full windows, and what was read behind them
 pub Reads-join_two : (t : Table) (s : List ℕ) (front middle : Window) (m x : ℕ) →
-    Shows t 16 s front → front.len ≡ 16 → Shows t 16 (drop 16 s) middle → middle.len ≡ 16 → Reads t 8 (drop 32 s) m x →
+    Shows t 16 s front → 16 ≤ front.len → Shows t 16 (drop 16 s) middle → 16 ≤ middle.len → Reads t 8 (drop 32 s) m x →
     Reads t 40 s (32 + m) (front.number * 10 ^ (16 + m) + (middle.number * 10 ^ m + x))
 Reads-join_two t s front middle m x first full second more back =
     let P : List ℕ → Type 0 = λ r. Reads t 8 r m x in

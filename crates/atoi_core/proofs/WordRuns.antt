@@ -1,7 +1,7 @@
 -- How many lowest bytes of a word are digits, and how many are zeros, as the kernels count them.
-use Rattle.std.proofs.Common.{◌≡◌, ℕ, zero, suc, ◌+◌, ◌*◌, ◌/◌, ◌%◌, ◌^◌, ◌<◌, ◌≤◌, ◌-◌, Bool, true, false, cond, ◌==◌, not, ◌||◌, List, [], ◌∷◌, map, refl, ap, ap₂, ◌∙◌, arith, mod-lt, zero-lt-suc}
-use Rattle.std.proofs.Math.Dec.{lit<, ltb}
-use Rattle.std.proofs.lemmas.Bool.{ltb-true}
+use Rattle.std.proofs.Common.{◌≡◌, ℕ, zero, suc, ◌+◌, ◌*◌, ◌/◌, ◌%◌, ◌^◌, ◌<◌, ◌≤◌, ◌-◌, Bool, true, false, cond, ◌==◌, List, [], ◌∷◌, map, refl, ap, ap₂, ◌∙◌, arith, mod-lt, zero-lt-suc}
+use Rattle.std.proofs.Math.Dec.{lit<}
+use Rattle.std.proofs.lemmas.Bool.{agree_below_at}
 use Rattle.std.specs.List.{prefix_len}
 use Rattle.std.specs.Int.Bits.{bit_and, bit_or, bit_xor}
 use Rattle.std.specs.Int.Count.{count_trailing_zeros}
@@ -9,7 +9,7 @@ use Rattle.std.specs.Simd.Lanes.{digits_l, zip2}
 use Rattle.atoi_core.specs.Digit.{decimal_table, is_digit, is_zero}
 use Rattle.atoi_core.specs.Run.{run_len, zeros}
 use Rattle.atoi_core.specs.Words.{low_bytes}
-use Rattle.atoi_core.proofs.ByteCases.{of_each_byte, same, same_answer, same_run}
+use Rattle.atoi_core.proofs.SignLemmas.{digit_in_range}
 use Rattle.atoi_core.proofs.TrailingBytes.{trailing_bytes}
 use Rattle.atoi_core.proofs.Bitwise.{repeated, or_bytes, and_repeated, xor_repeated, upper_halves}
 use Rattle.atoi_core.proofs.Fields.{digits_cut}
@@ -22,8 +22,14 @@ prefix_len-map p f (x ∷ xs) = ap (λ n. cond (p (f x)) (1 + n) 0) (prefix_len-
 -- ---- zeros
 
 -- a byte combined with 48 is 0 exactly where it is the zero
-zero_byte : (b : ℕ) → b < 256 → (bit_xor b 48 == 0) ≡ is_zero decimal_table b
-zero_byte b h = same_answer (bit_xor b 48 == 0) (is_zero decimal_table b) (of_each_byte (λ x. same (bit_xor x 48 == 0) (is_zero decimal_table x)) refl b h)
+combined_is_zero : (b : ℕ) → b < 256 → (bit_xor b 48 == 0) ≡ is_zero decimal_table b
+combined_is_zero b h = agree_below_at (λ x. bit_xor x 48 == 0) (is_zero decimal_table) 256 b refl h
+
+-- two tests that agree on each byte agree on the run that they pass at the front of a word's bytes
+prefix_len-agree : (p q : ℕ → Bool) → ((b : ℕ) → b < 256 → p b ≡ q b) → (k word : ℕ) → prefix_len p (digits_l 256 k word) ≡ prefix_len q (digits_l 256 k word)
+prefix_len-agree p q agree zero word = refl
+prefix_len-agree p q agree (suc k) word =
+    ap₂ (λ b n. cond b (1 + n) 0) (agree (word % 256) (mod-lt word (zero-lt-suc 255))) (prefix_len-agree p q agree k (word / 256))
 
 -- the bytes of 48, by the trailing bytes of 0 once 48 is taken from each
 pub zeros_counted : (k word : ℕ) → count_trailing_zeros (k * 8) (bit_xor word (repeated 48 k)) / 8 ≡ zeros decimal_table (low_bytes k word)
@@ -32,23 +38,9 @@ zeros_counted k word =
     trailing_bytes k (bit_xor word (repeated 48 k))
     ∙ ap (prefix_len (λ b. b == 0)) (xor_repeated 48 (lit< tt) k word)
     ∙ prefix_len-map (λ b. b == 0) (λ x. bit_xor x 48) (digits_l 256 k word)
-    ∙ same_run (λ x. bit_xor x 48 == 0) (is_zero decimal_table) zero_byte k word
+    ∙ prefix_len-agree (λ x. bit_xor x 48 == 0) (is_zero decimal_table) combined_is_zero k word
 
 -- ---- digits
-
--- a digit lies from 48 to 57
-digit_low : (b : ℕ) → b < 256 → (not (is_digit decimal_table b) || ltb 47 b) ≡ true
-digit_low = of_each_byte (λ x. not (is_digit decimal_table x) || ltb 47 x) refl
-
-digit_high : (b : ℕ) → b < 256 → (not (is_digit decimal_table b) || ltb b 58) ≡ true
-digit_high = of_each_byte (λ x. not (is_digit decimal_table x) || ltb x 58) refl
-
--- the same as orders
-digit_above : (b : ℕ) → b < 256 → is_digit decimal_table b ≡ true → 47 < b
-digit_above b h e = ltb-true 47 b (rw e at (digit_low b h))
-
-digit_below : (b : ℕ) → b < 256 → is_digit decimal_table b ≡ true → b < 58
-digit_below b h e = ltb-true b 58 (rw e at (digit_high b h))
 
 -- two runs behind one test have to agree only where the test passes
 run_goes_on : (t : Bool) (m n : ℕ) → (t ≡ true → m ≡ n) → cond t (1 + m) 0 ≡ cond t (1 + n) 0
@@ -86,7 +78,7 @@ added c h =
       of_word = λ k word. word + repeated c k;
       of_byte = λ b. (b + c) % 256;
       low = λ k word. omega arith;
-      rest = λ k word e. let small = digit_below (word % 256) (mod-lt word (zero-lt-suc 255)) e in omega arith;
+      rest = λ k word e. let digit = digit_in_range (word % 256) e in omega arith;
     }
 
 -- what takes 48 from each byte when it is added, where words wrap
@@ -107,7 +99,7 @@ lowered =
       low = λ k word. let some = without_48-some k in omega arith;
       rest = λ k word e.
           let some = without_48-some k in
-          let great = digit_above (word % 256) (mod-lt word (zero-lt-suc 255)) e in
+          let digit = digit_in_range (word % 256) e in
           omega arith;
     }
 
@@ -134,9 +126,7 @@ kernel_mark raised byte = bit_xor (bit_or (raised / 16) (bit_and byte 240)) 51
 
 -- it is 0 for a digit, and for no other byte
 kernel_byte : (b : ℕ) → b < 256 → (kernel_mark ((b + 6) % 256) b == 0) ≡ is_digit decimal_table b
-kernel_byte b h =
-    same_answer (kernel_mark ((b + 6) % 256) b == 0) (is_digit decimal_table b)
-    (of_each_byte (λ x. same (kernel_mark ((x + 6) % 256) x == 0) (is_digit decimal_table x)) refl b h)
+kernel_byte b h = agree_below_at (λ x. kernel_mark ((x + 6) % 256) x == 0) (is_digit decimal_table) 256 b refl h
 
 -- the digits, by the trailing bytes of 0 among the marks
 pub digits_counted : (k word : ℕ)
@@ -166,8 +156,7 @@ engine_mark above below = bit_and (bit_or above below) 128
 -- it too is 0 for a digit, and for no other byte
 engine_byte : (b : ℕ) → b < 256 → (engine_mark ((b + 70) % 256) ((b + 208) % 256) == 0) ≡ is_digit decimal_table b
 engine_byte b h =
-    same_answer (engine_mark ((b + 70) % 256) ((b + 208) % 256) == 0) (is_digit decimal_table b)
-    (of_each_byte (λ x. same (engine_mark ((x + 70) % 256) ((x + 208) % 256) == 0) (is_digit decimal_table x)) refl b h)
+    agree_below_at (λ x. engine_mark ((x + 70) % 256) ((x + 208) % 256) == 0) (is_digit decimal_table) 256 b refl h
 
 -- the digits, as the engine counts them
 pub marks_counted : (k word : ℕ)

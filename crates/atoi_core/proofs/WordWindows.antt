@@ -1,6 +1,7 @@
 -- What the word of a slice's first bytes tells of these bytes.
-use Rattle.std.proofs.Common.{◌≡◌, ℕ, zero, suc, ◌+◌, ◌*◌, ◌/◌, ◌%◌, ◌^◌, ◌<◌, ◌≤◌, ◌≢◌, min, Bool, true, false, cond, ◌==◌, not, ◌||◌, inl, inr, List, [], ◌∷◌, length, take, drop, get_or, ◌++◌, mod-lt, zero-lt-suc, if◌then◌else◌, refl, sym, ap, ap₂, ◌∙◌, arith}
-use Rattle.std.proofs.lemmas.Bool.{eqb-true, eq-eqb, ne_eqb, cases_eq}
+use Rattle.std.proofs.Common.{◌≡◌, ℕ, zero, suc, ◌+◌, ◌*◌, ◌/◌, ◌%◌, ◌^◌, ◌<◌, ◌≤◌, ◌≢◌, min, Bool, true, false, cond, ◌==◌, List, [], ◌∷◌, length, take, drop, get_or, ◌++◌, mod-lt, zero-lt-suc, if◌then◌else◌, refl, sym, ap, ap₂, ◌∙◌, arith}
+use Rattle.std.proofs.lemmas.Bool.{agree_below_at, eq-eqb, ne_eqb}
+use Rattle.std.proofs.lemmas.Bool.Decides.{nat_tests}
 use Rattle.std.proofs.lemmas.List.{length-take, length-take-le, get_or-drop, take-take, take_all}
 use Rattle.std.proofs.lemmas.List.Sums.{prefix_len-le-length}
 use Rattle.std.proofs.lemmas.List.Folds.{prefix_len-append}
@@ -16,8 +17,11 @@ use Rattle.atoi_core.specs.declared.window.Window.{Window}
 use Rattle.atoi_core.specs.Words.{low_bytes, word_of, low_value}
 use Rattle.atoi_core.proofs.RunLemmas.{prefix_len-take, prefix_len-drop}
 use Rattle.atoi_core.proofs.ValueLemmas.{value-take-add}
-use Rattle.atoi_core.proofs.ByteCases.{of_each_byte, same, same_answer}
 use Rattle.atoi_core.proofs.Fields.{length-digits}
+
+-- the lowest byte of a word, and the word of those above it
+low_and_high : (b word : ℕ) → b < 256 → ((b + 256 * word) % 256 ≡ b) × ((b + 256 * word) / 256 ≡ word)
+low_and_high b word small = (omega arith, omega arith)
 
 -- a word of bytes, read in bytes again: what passes a test that fails at 0 is the same front
 loaded_front : (p : ℕ → Bool) → p 0 ≡ false → (k : ℕ) (s : List ℕ) → ((i : ℕ) → get_or s i 0 < 256)
@@ -26,10 +30,8 @@ loaded_front p stops zero s fits = refl
 loaded_front p stops (suc k) [] fits = ap (λ t. cond t (1 + prefix_len p (digits_l 256 k (0 / 256))) 0) stops
 loaded_front p stops (suc k) (b ∷ bs) fits =
     let word = number_l 256 (take k bs) in
-    let small : b < 256 = fits 0 in
-    let low : (b + 256 * word) % 256 ≡ b = omega arith in
-    let high : (b + 256 * word) / 256 ≡ word = omega arith in
-    ap₂ (λ x y. cond (p x) (1 + prefix_len p (digits_l 256 k y)) 0) low high
+    let parts = low_and_high b word (fits 0) in
+    ap₂ (λ x y. cond (p x) (1 + prefix_len p (digits_l 256 k y)) 0) parts.0 parts.1
     ∙ ap (λ n. cond (p b) (1 + n) 0) (loaded_front p stops k bs (λ i. fits (suc i)))
 
 -- where enough bytes are there, the word's are theirs
@@ -38,18 +40,12 @@ loaded_whole zero s enough fits = refl
 loaded_whole (suc k) [] enough fits = absurd (omega arith)
 loaded_whole (suc k) (b ∷ bs) enough fits =
     let word = number_l 256 (take k bs) in
-    let small : b < 256 = fits 0 in
-    let low : (b + 256 * word) % 256 ≡ b = omega arith in
-    let high : (b + 256 * word) / 256 ≡ word = omega arith in
-    ap₂ (λ x xs. x ∷ xs) low (ap (digits_l 256 k) high ∙ loaded_whole k bs (omega arith) (λ i. fits (suc i)))
+    let parts = low_and_high b word (fits 0) in
+    ap₂ (λ x xs. x ∷ xs) parts.0 (ap (digits_l 256 k) parts.1 ∙ loaded_whole k bs (omega arith) (λ i. fits (suc i)))
 
 -- the lower half of a digit is its worth
-digit_half : (b : ℕ) → b < 256 → (not (is_digit decimal_table b) || (b % 16 == worth decimal_table b)) ≡ true
-digit_half = of_each_byte (λ x. not (is_digit decimal_table x) || (x % 16 == worth decimal_table x)) refl
-
--- the same as an equation
-half_is_worth : (b : ℕ) → b < 256 → is_digit decimal_table b ≡ true → b % 16 ≡ worth decimal_table b
-half_is_worth b h e = eqb-true (b % 16) (worth decimal_table b) (rw e at (digit_half b h))
+half_is_worth : (b : ℕ) → is_digit decimal_table b ≡ true → b % 16 ≡ worth decimal_table b
+half_is_worth b digit = grind (arith, nat_tests)
 
 -- a front that passes n + 1 elements passes the first of them, and n behind it
 first_passes : (t : Bool) (n m : ℕ) → suc n ≤ cond t (1 + m) 0 → (t ≡ true) × (n ≤ m)
@@ -64,14 +60,12 @@ loaded_value (suc n) zero s fits digits = absurd (omega arith)
 loaded_value (suc n) (suc k) [] fits digits = absurd (omega arith)
 loaded_value (suc n) (suc k) (b ∷ bs) fits digits =
     let word = number_l 256 (take k bs) in
-    let small : b < 256 = fits 0 in
+    let parts = low_and_high b word (fits 0) in
     let passes = first_passes (is_digit decimal_table b) n (run_len decimal_table (take k bs)) digits in
-    let low : (b + 256 * word) % 256 ≡ b = omega arith in
-    let high : (b + 256 * word) / 256 ≡ word = omega arith in
     let places : length (digits_l 256 n word) ≡ length (take n (take k bs)) =
     length-digits 256 n word ∙ sym (length-take-le n (take k bs) (omega (arith, passes.1, prefix_len-le-length (is_digit decimal_table) (take k bs)))) in
-    ap₂ (λ x y. (x % 16) * 10 ^ length (digits_l 256 n y) + low_value (digits_l 256 n y)) low high
-    ∙ ap₂ (λ x e. x * 10 ^ e + low_value (digits_l 256 n word)) (half_is_worth b small passes.0) places
+    ap₂ (λ x y. (x % 16) * 10 ^ length (digits_l 256 n y) + low_value (digits_l 256 n y)) parts.0 parts.1
+    ∙ ap₂ (λ x e. x * 10 ^ e + low_value (digits_l 256 n word)) (half_is_worth b passes.0) places
     ∙ ap (λ v. worth decimal_table b * 10 ^ length (take n (take k bs)) + v) (loaded_value n k bs (λ i. fits (suc i)) passes.1)
 
 -- ---- the same in the words of the kernels
@@ -114,7 +108,7 @@ sum_of_none word len e = ap (λ l. low_value (low_bytes l word)) (sym e)
 
 -- the only zero is the byte 48
 is_zero_byte : (b : ℕ) → b < 256 → is_zero decimal_table b ≡ (b == 48)
-is_zero_byte b h = same_answer (is_zero decimal_table b) (b == 48) (of_each_byte (λ x. same (is_zero decimal_table x) (x == 48)) refl b h)
+is_zero_byte b h = agree_below_at (is_zero decimal_table) (λ x. x == 48) 256 b refl h
 
 -- a word whose lowest byte is no zero begins with none
 pub no_zero_first : (word : ℕ) → bit_and word 255 ≢ 48 → 0 ≡ zeros decimal_table (low_bytes 8 word)
@@ -127,30 +121,12 @@ no_zero_first word other =
     (is_zero_byte byte (mod-lt word (zero-lt-suc 255)) ∙ ne_eqb byte 48 differs))
 
 -- the zeros of two words go on from the first to the next where the first holds zeros only
-pub zeros_when_all : (first next : ℕ) → zeros decimal_table (low_bytes 8 first) ≡ 8
-    → 8 + zeros decimal_table (low_bytes 8 next) ≡ zeros decimal_table (low_bytes 8 first ++ low_bytes 8 next)
+pub zeros_of_two : (first next : ℕ) → zeros decimal_table (low_bytes 8 first ++ low_bytes 8 next)
+    ≡ (if zeros decimal_table (low_bytes 8 first) == 8 then 8 + zeros decimal_table (low_bytes 8 next) else zeros decimal_table (low_bytes 8 first))
 unfolding low_bytes
-zeros_when_all first next e =
-    sym (prefix_len-append (is_zero decimal_table) (digits_l 256 8 first) (digits_l 256 8 next)
-    ∙ ap (λ t. cond t (8 + zeros decimal_table (digits_l 256 8 next)) (zeros decimal_table (digits_l 256 8 first))) (eq-eqb (zeros decimal_table (digits_l 256 8 first)) 8 e))
-
--- and stop in the first where it holds another byte
-pub zeros_when_some : (first next : ℕ) → zeros decimal_table (low_bytes 8 first) ≢ 8
-    → zeros decimal_table (low_bytes 8 first) ≡ zeros decimal_table (low_bytes 8 first ++ low_bytes 8 next)
-unfolding low_bytes
-zeros_when_some first next ne =
-    sym (prefix_len-append (is_zero decimal_table) (digits_l 256 8 first) (digits_l 256 8 next)
-    ∙ ap (λ t. cond t (8 + zeros decimal_table (digits_l 256 8 next)) (zeros decimal_table (digits_l 256 8 first))) (ne_eqb (zeros decimal_table (digits_l 256 8 first)) 8 ne))
+zeros_of_two first next = prefix_len-append (is_zero decimal_table) (digits_l 256 8 first) (digits_l 256 8 next)
 
 -- ---- windows
-
--- eight more behind eight are sixteen
-same_test : (more : ℕ) → (more == 8) ≡ (8 + more == 16)
-same_test more =
-    elim (cases_eq more 8) [
-      | inl e ↦ eq-eqb more 8 e ∙ sym (eq-eqb (8 + more) 16 (omega arith))
-      | inr ne ↦ ne_eqb more 8 ne ∙ sym (ne_eqb (8 + more) 16 (omega arith))
-    ]
 
 -- zeros are told of a full window alone
 pub told_full : (n c z : ℕ) → n ≡ c → (if n == c then z else 0) ≡ z
@@ -214,8 +190,9 @@ window_joined s more leading first next full more_is leading_is first_is next_is
     let goes_on : run_len decimal_table s ≡ 8 + run_len decimal_table (drop 8 s) = prefix_len-drop (is_digit decimal_table) 8 s (omega arith) in
     let within : run_len decimal_table s ≤ length s = prefix_len-le-length (is_digit decimal_table) s in
     let sixteen : take 8 s ++ take 8 (drop 8 s) ≡ take 16 s = sym (take-add 8 8 s) in
+    let same_test : (more == 8) ≡ (8 + more == 16) = grind (arith, nat_tests) in
     let same_leading : leading ≡ (if 8 + more == 16 then zeros decimal_table (take 16 s) else 0) =
-    leading_is ∙ ap₂ (λ t z. cond t z 0) (same_test more) (ap (zeros decimal_table) sixteen) in
+    leading_is ∙ ap₂ (λ t z. cond t z 0) same_test (ap (zeros decimal_table) sixteen) in
     let same_number : first * 10 ^ more + next ≡ value decimal_table (take (8 + more) s) =
     ap₂ (λ x y. x * 10 ^ more + y) first_is next_is ∙ sym (value-take-add decimal_table 8 more s (omega arith)) in
     window_from 16 s (8 + more) leading (first * 10 ^ more + next) (omega arith) same_leading same_number

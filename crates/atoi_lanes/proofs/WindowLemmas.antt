@@ -1,7 +1,6 @@
 -- Zeros in the lanes behind a slice do not show in what the lanes tell.
-use Rattle.std.proofs.Common.{◌≡◌, ℕ, zero, suc, ◌+◌, ◌==◌, Bool, true, false, cond, List, [], ◌∷◌, ◌++◌, take, length, replicate, min, refl, sym, inl, inr, ap, ap₂, ◌∙◌, arith, if◌then◌else◌}
+use Rattle.std.proofs.Common.{◌≡◌, ℕ, zero, suc, ◌+◌, ◌==◌, Bool, true, false, cond, List, [], ◌∷◌, ◌++◌, take, replicate, refl, ap, ap₂, ◌∙◌, arith, if◌then◌else◌}
 use Rattle.std.specs.List.{prefix_len}
-use Rattle.std.proofs.lemmas.Bool.{cases_lt}
 use Rattle.std.proofs.lemmas.List.{take_all, length-take}
 use Rattle.atoi_core.specs.Digit.{decimal_table, is_digit, is_zero}
 use Rattle.atoi_core.specs.Run.{run_len, run, zeros, value}
@@ -27,14 +26,6 @@ front-padded p (suc n) (x ∷ xs) zs =
           let more : 1 + prefix_len p (take n xs) ≡ suc (prefix_len p (take n xs)) = omega arith in
           rw more (ap (λ r. x ∷ r) (front-padded p n xs zs))
       | false ↦ refl
-    ]
-
--- the first n of a slice that may be shorter
-pub take-min : (n : ℕ) (s : List ℕ) → take (min (length s) n) s ≡ take n s
-take-min n s =
-    elim (cases_lt (length s) n) [
-      | inl short ↦ take_all (min (length s) n) s (omega arith) ∙ sym (take_all n s (omega arith))
-      | inr long ↦ let least : min (length s) n ≡ n = omega arith in rw least
     ]
 
 -- the lanes tell what the bytes in them do

@@ -1,21 +1,20 @@
 -- A first window that is not full is the last one, and no zeros stand before it.
-use Rattle.std.proofs.Common.{◌∙◌, sym, arith, lit<, ap, ℕ, Ok}
+use Rattle.std.proofs.Common.{arith, lit<}
 use Rattle.atoi_core.proofs.SkipLemmas.{Skipped-first, Skipped-loads}
-use Rattle.atoi_core.proofs.WideLemmas.{wide_prefix_128, answers_empty, answers_first}
+use Rattle.atoi_core.proofs.WideLemmas.{wide_128, answers_empty, answers_short}
 use Rattle.atoi_core.proofs.front.front_128.Goals as goal
 
 pub returns-then-window-eq0-clause-answer : goal.returns-then-window-eq0-clause-answer
 returns-then-window-eq0-clause-answer g c =
     let so = Skipped-first g.E.Engine.table g.met.E.Engine.below_ten c.args.skip c.args.s.now _ _ c.window-window.result
     c.window-window.ensures.window c.window-window.ensures.one_step (omega arith) in
-    answers_empty _ 40 _ _ _ _ _ _ _ _ so (omega arith) (omega arith) ∙ sym (wide_prefix_128 _ _ _ _ _)
+    answers_empty _ _ _ _ _ _ _ _ _ _ so (omega arith)
 
 pub returns-then-window-lt16-clause-answer : goal.returns-then-window-lt16-clause-answer
 returns-then-window-lt16-clause-answer g c =
     let so = Skipped-first g.E.Engine.table g.met.E.Engine.below_ten c.args.skip c.args.s.now _ _ c.window-window.result
     c.window-window.ensures.window c.window-window.ensures.one_step (omega arith) in
-    ap (λ (n : ℕ). Ok (n, c.window-window.result.len)) c.from.ensures
-    ∙ answers_first _ 40 c.args.bound 39 _ _ _ _ _ so (omega arith) (omega arith) (lit< tt) c.requires.digits ∙ sym (wide_prefix_128 _ _ _ _ _)
+    answers_short _ _ c.args.bound 39 _ _ 0 _ _ _ _ _ wide_128 so (omega arith) (omega arith) (lit< tt) c.requires.digits c.from.ensures (omega arith)
 
 pub returns-then-window-lt16-clause-least_skipping : goal.returns-then-window-lt16-clause-least_skipping
 returns-then-window-lt16-clause-least_skipping g c =

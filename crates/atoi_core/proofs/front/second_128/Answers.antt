@@ -1,10 +1,10 @@
 -- Two windows are read: the second goes on where the first is full.
-use Rattle.std.proofs.Common.{◌≡◌, ◌+◌, ◌*◌, ◌^◌, ℕ, ◌∙◌, sym, ap, Ok, arith, lit<}
+use Rattle.std.proofs.Common.{arith}
 use Rattle.std.proofs.lemmas.List.Sums.{prefix_len-le-length}
 use Rattle.atoi_core.specs.Digit.{is_digit}
-use Rattle.atoi_core.proofs.WindowLemmas.{shows, Reads-join, Reads-widen}
+use Rattle.atoi_core.proofs.WindowLemmas.{shows}
 use Rattle.atoi_core.proofs.SkipLemmas.{shows_rest, Skipped-kept}
-use Rattle.atoi_core.proofs.WideLemmas.{wide_prefix_128, answers_ok, below_bound}
+use Rattle.atoi_core.proofs.WideLemmas.{answers_two}
 use Rattle.atoi_core.proofs.front.second_128.Goals as goal
 
 pub slice_bounds-window-start : goal.slice_bounds-window-start
@@ -17,12 +17,4 @@ returns-then-second-lt16-clause-answer g c =
     let s = c.args.s.now in
     let so = Skipped-kept g.E.Engine.table g.met.E.Engine.below_ten c.args.skip s 0 c.args.first c.requires.told c.requires.kept in
     let second = shows_rest g.E.Engine.table g.met.E.Engine.below_ten 16 s 16 c.window-second.result c.window-second.ensures.window in
-    let reads = Reads-join g.E.Engine.table 16 16 s c.args.first c.window-second.result.len c.window-second.result.number so.shown c.requires.full second.reads in
-    let wide = Reads-widen g.E.Engine.table 32 40 s (16 + c.window-second.result.len) _ reads (omega arith) (omega arith) in
-    let less = below_bound 39 c.args.bound (16 + c.window-second.result.len) _ c.requires.digits (omega arith) reads.below in
-    let number : c.from.result * c.from-then-second-lt16.result + c.from-then-second-lt16-2.result ≡ c.args.first.number * 10 ^ c.window-second.result.len + c.window-second.result.number = cc in
-    let place : 16 + c.window-second.result.len ≡ 0 + (16 + c.window-second.result.len) = omega arith in
-    ap (λ (n : ℕ). Ok (n, 16 + c.window-second.result.len)) number
-    ∙ ap (λ (n : ℕ). Ok (c.args.first.number * 10 ^ c.window-second.result.len + c.window-second.result.number, n)) place
-    ∙ answers_ok _ 40 c.args.bound 39 _ _ 0 _ _ _ _ _ so c.requires.full wide (omega arith) (omega arith) (lit< tt) (omega (arith, less))
-    ∙ sym (wide_prefix_128 _ _ _ _ _)
+    answers_two _ c.args.bound _ _ 0 _ _ _ _ _ _ so (omega arith) second (omega arith) c.requires.digits (cc) (omega arith)

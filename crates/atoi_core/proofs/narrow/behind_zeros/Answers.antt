@@ -1,8 +1,9 @@
 -- The loop goes on behind the zeros of the first window; the answer and the loads follow from where it ends.
-use Rattle.std.proofs.Common.{◌+◌, true, inr, refl, ◌∙◌, sym, arith}
-use Rattle.atoi_core.proofs.SkipLemmas.{Skipping-told, Skipping-more, Skipped-end}
-use Rattle.atoi_core.proofs.NarrowLemmas.{narrow_answer_is, narrow_told}
+use Rattle.std.proofs.Common.{◌+◌, true, inr, refl, ◌∙◌, arith}
+use Rattle.atoi_core.proofs.SkipLemmas.{Skipping-told, Skipping-more, Skipped, Skipped-end}
+use Rattle.atoi_core.proofs.NarrowLemmas.{narrow_told}
 use Rattle.atoi_core.proofs.narrow.behind_zeros.Goals as goal
+use Rattle.atoi_core.proofs.narrow.behind_zeros.Goals.{After-told_at}
 
 pub loop-window-init : goal.loop-window-init
 loop-window-init g c =
@@ -19,26 +20,22 @@ loop-window-preserved g c =
       some = omega (arith, c.loop-window.invariant.some);
     }
 
+-- where the loop ends
+ended : (g : _) (c : After-told_at g)
+    → Skipped g.E.Engine.table true c.args.s.now c.loop-window.at c.args.steps.now (c.window-window.new.steps + 1) c.window-window.result
+ended g c =
+    Skipped-end g.E.Engine.table g.met.E.Engine.below_ten true c.args.s.now _ _ _ (c.window-window.new.steps + 1) c.window-window.result
+    c.loop-window.invariant.skipping c.window-window.ensures.window (omega arith) (inr (refl, c.if-window-eq0.true))
+
 pub returns-clause-answer : goal.returns-clause-answer
 returns-clause-answer g c =
-    let so = Skipped-end g.E.Engine.table g.met.E.Engine.below_ten true c.args.s.now _ _ _ (c.window-window.new.steps + 1) c.window-window.result
-    c.loop-window.invariant.skipping c.window-window.ensures.window (omega arith) (inr (refl, c.if-window-eq0.true)) in
-    c.told_at.ensures ∙ narrow_told _ _ _ _ _ _ _ _ so c.requires.high (omega (arith, c.loop-window.invariant.some)) ∙ sym (narrow_answer_is _ _ _ _ _)
+    c.told_at.ensures ∙ narrow_told _ _ _ _ _ _ _ _ _ (ended g c) c.requires.high (omega (arith, c.loop-window.invariant.some))
 
 pub returns-clause-least : goal.returns-clause-least
-returns-clause-least g c =
-    let so = Skipped-end g.E.Engine.table g.met.E.Engine.below_ten true c.args.s.now _ _ _ (c.window-window.new.steps + 1) c.window-window.result
-    c.loop-window.invariant.skipping c.window-window.ensures.window (omega arith) (inr (refl, c.if-window-eq0.true)) in
-    omega (arith, so.more)
+returns-clause-least g c = omega (arith, (ended g c).more)
 
 pub returns-clause-most : goal.returns-clause-most
-returns-clause-most g c =
-    let so = Skipped-end g.E.Engine.table g.met.E.Engine.below_ten true c.args.s.now _ _ _ (c.window-window.new.steps + 1) c.window-window.result
-    c.loop-window.invariant.skipping c.window-window.ensures.window (omega arith) (inr (refl, c.if-window-eq0.true)) in
-    omega (arith, so.most)
+returns-clause-most g c = omega (arith, (ended g c).most)
 
 pub returns-clause-least_skipping : goal.returns-clause-least_skipping
-returns-clause-least_skipping g c =
-    let so = Skipped-end g.E.Engine.table g.met.E.Engine.below_ten true c.args.s.now _ _ _ (c.window-window.new.steps + 1) c.window-window.result
-    c.loop-window.invariant.skipping c.window-window.ensures.window (omega arith) (inr (refl, c.if-window-eq0.true)) in
-    omega (arith, so.least refl)
+returns-clause-least_skipping g c = omega (arith, (ended g c).least refl)

@@ -1,27 +1,27 @@
 -- Where no zeros are skipped, the first window is the last one.
-use Rattle.std.proofs.Common.{◌≡◌, ◌⊎◌, true, false, inl, inr, ◌∙◌, sym, arith}
-use Rattle.atoi_core.proofs.SkipLemmas.{Skipped-at_once, Skipped-first, Skipped-loads}
-use Rattle.atoi_core.proofs.NarrowLemmas.{narrow_answer_is, narrow_empty, narrow_told}
+use Rattle.std.proofs.Common.{inl, inr, ◌∙◌, arith}
+use Rattle.atoi_core.proofs.SkipLemmas.{Skipped, Skipped-at_once, Skipped-first, Skipped-loads}
+use Rattle.atoi_core.proofs.NarrowLemmas.{narrow_told}
+use Rattle.atoi_core.proofs.WideLemmas.{answers_empty}
 use Rattle.atoi_core.proofs.narrow.narrow_prefix.Goals as goal
+use Rattle.atoi_core.proofs.narrow.narrow_prefix.Goals.{After-told_at}
 
 pub returns-then-window-eq0-clause-answer : goal.returns-then-window-eq0-clause-answer
 returns-then-window-eq0-clause-answer g c =
     let so = Skipped-first g.E.Engine.table g.met.E.Engine.below_ten c.args.skip c.args.s.now _ _ c.window-window.result
     c.window-window.ensures.window c.window-window.ensures.one_step (omega arith) in
-    narrow_empty _ _ _ _ _ _ _ _ so (omega arith) ∙ sym (narrow_answer_is _ _ _ _ _)
+    answers_empty _ _ _ _ _ _ _ _ _ _ so (omega arith)
+
+-- where no zeros are told, or none are skipped
+last : (g : _) (c : After-told_at g)
+    → Skipped g.E.Engine.table c.args.skip c.args.s.now 0 c.args.steps.now c.window-window.new.steps c.window-window.result
+last g c =
+    Skipped-at_once g.E.Engine.table g.met.E.Engine.below_ten c.args.skip c.args.s.now _ _ c.window-window.result
+    c.window-window.ensures.window c.window-window.ensures.one_step
+    (elim c.else-skip.either [ inl h ↦ inr (h.0, omega (arith, h.1)) | inr h ↦ inl h ])
 
 pub returns-else-skip-clause-answer : goal.returns-else-skip-clause-answer
-returns-else-skip-clause-answer g c =
-    let stops : (c.args.skip ≡ false) ⊎ ((c.args.skip ≡ true) × (c.window-window.result.zeroes ≡ 0)) =
-    elim c.else-skip.either [ inl h ↦ inr (h.0, omega (arith, h.1)) | inr h ↦ inl h ] in
-    let so = Skipped-at_once g.E.Engine.table g.met.E.Engine.below_ten c.args.skip c.args.s.now _ _ c.window-window.result
-    c.window-window.ensures.window c.window-window.ensures.one_step stops in
-    c.told_at.ensures ∙ narrow_told _ _ _ _ _ _ _ _ so c.requires.high (omega arith) ∙ sym (narrow_answer_is _ _ _ _ _)
+returns-else-skip-clause-answer g c = c.told_at.ensures ∙ narrow_told _ _ _ _ _ _ _ _ _ (last g c) c.requires.high (omega arith)
 
 pub returns-else-skip-clause-least_skipping : goal.returns-else-skip-clause-least_skipping
-returns-else-skip-clause-least_skipping g c =
-    let stops : (c.args.skip ≡ false) ⊎ ((c.args.skip ≡ true) × (c.window-window.result.zeroes ≡ 0)) =
-    elim c.else-skip.either [ inl h ↦ inr (h.0, omega (arith, h.1)) | inr h ↦ inl h ] in
-    let so = Skipped-at_once g.E.Engine.table g.met.E.Engine.below_ten c.args.skip c.args.s.now _ _ c.window-window.result
-    c.window-window.ensures.window c.window-window.ensures.one_step stops in
-    Skipped-loads _ _ _ _ _ _ _ _ so (omega arith)
+returns-else-skip-clause-least_skipping g c = Skipped-loads _ _ _ _ _ _ _ _ (last g c) (omega arith)

@@ -1,9 +1,10 @@
 -- The rounds make the sum of the bytes that the shift leaves, whose places bound it.
-use Rattle.atoi_core.proofs.Sums.{sum_16, most_16}
+use Rattle.std.proofs.Common.{arith}
+use Rattle.atoi_core.proofs.Sums.{sum_16, sum_most}
 use Rattle.atoi_core.proofs.words.process_16.Goals as goal
 
 pub returns-clause-sum : goal.returns-clause-sum
 returns-clause-sum c = sum_16 c.args.val c.args.len c.requires.high
 
 pub returns-clause-most : goal.returns-clause-most
-returns-clause-most c = most_16 c.args.val c.args.len c.requires.high _ (sum_16 c.args.val c.args.len c.requires.high)
+returns-clause-most c = omega (arith, sum_16 c.args.val c.args.len c.requires.high, sum_most 16 c.args.len c.args.val c.requires.high)

@@ -1,9 +1,10 @@
 -- The rounds make the sum of the bytes that the shift leaves, whose places bound it.
-use Rattle.atoi_core.proofs.Sums.{sum_8, most_8}
+use Rattle.std.proofs.Common.{arith}
+use Rattle.atoi_core.proofs.Sums.{sum_8, sum_most}
 use Rattle.atoi_core.proofs.words.process_8.Goals as goal
 
 pub returns-clause-sum : goal.returns-clause-sum
 returns-clause-sum c = sum_8 c.args.val c.args.len c.requires.high
 
 pub returns-clause-most : goal.returns-clause-most
-returns-clause-most c = most_8 c.args.val c.args.len c.requires.high _ (sum_8 c.args.val c.args.len c.requires.high)
+returns-clause-most c = omega (arith, sum_8 c.args.val c.args.len c.requires.high, sum_most 8 c.args.len c.args.val c.requires.high)

@@ -1,21 +1,12 @@
-use Rattle.std.proofs.Common.{rules, ◌≡◌, codes}
+use Rattle.std.proofs.Common.{rules, codes}
 use Rattle.std.proofs.lemmas.Slice.Eq.{text_from_reads}
 use Rattle.atoi_tool.proofs.request.call_of.Goals as goal
 
 pub returns-in-prefix : goal.returns-in-prefix
-returns-in-prefix c =
-    let read : c.args.word.now ≡ codes "prefix" =
-    text_from_reads c.args.word.now (codes "prefix") (search rules) (search rules) in
-    rw read
+returns-in-prefix c = rw (text_from_reads c.args.word.now (codes "prefix") (search rules) (search rules))
 
 pub returns-in-112 : goal.returns-in-112
-returns-in-112 c =
-    let read : c.args.word.now ≡ codes "prefix_pos" =
-    text_from_reads c.args.word.now (codes "prefix_pos") (search rules) (search rules) in
-    rw read
+returns-in-112 c = rw (text_from_reads c.args.word.now (codes "prefix_pos") (search rules) (search rules))
 
 pub returns-in-112-2 : goal.returns-in-112-2
-returns-in-112-2 c =
-    let read : c.args.word.now ≡ codes "prefix_neg" =
-    text_from_reads c.args.word.now (codes "prefix_neg") (search rules) (search rules) in
-    rw read
+returns-in-112-2 c = rw (text_from_reads c.args.word.now (codes "prefix_neg") (search rules) (search rules))

@@ -1,21 +1,20 @@
 -- The loop leaves what `Skipped` says; the answers and the loads follow from it.
-use Rattle.std.proofs.Common.{◌≡◌, ◌+◌, ◌*◌, ◌^◌, ◌-◌, ◌≤◌, ℕ, ◌∙◌, sym, ap, Ok, Err, arith, lit<, length, take, drop}
+use Rattle.std.proofs.Common.{◌+◌, ◌*◌, ◌^◌, ◌≤◌, ℕ, ap, refl, arith, lit<, length, drop}
 use Rattle.std.proofs.lemmas.List.{take_rest}
 use Rattle.std.proofs.lemmas.List.Sums.{prefix_len-le-length}
-use Rattle.atoi_core.specs.Refusal.{overflow, size}
-use Rattle.atoi_core.specs.Run.{run_len}
-use Rattle.atoi_core.proofs.WindowLemmas.{Reads-join, Reads-join_two, Reads-widen}
-use Rattle.atoi_core.proofs.SkipLemmas.{Skipping-none, Skipping-more, Skipped-end, Skipped-loads, shows_behind}
-use Rattle.atoi_core.proofs.WideLemmas.{wide_prefix_128, answers_empty, answers_short, answers_size, answers_overflow, answers_ok, below_bound, some_within, none_above}
+use Rattle.atoi_core.specs.Digit.{is_digit}
+use Rattle.atoi_core.specs.declared.window.Window.{Window}
+use Rattle.atoi_core.proofs.WindowLemmas.{Reads, Shows, Shows-below, Reads-join_two}
+use Rattle.atoi_core.proofs.SkipLemmas.{Skipping-none, Skipping-more, Skipped, Skipped-end, Skipped-loads, shows_behind}
+use Rattle.atoi_core.proofs.WideLemmas.{wide_128, answers_empty, answers_short, answers_size, answers_overflow, answers_ok, answers_two, some_within, none_above}
 use Rattle.atoi_core.proofs.engine.Engine.prefix_128.Goals as goal
+use Rattle.atoi_core.proofs.engine.Engine.prefix_128.Goals.{After-window-second, After-window_8-third}
 
 pub loop-window-init : goal.loop-window-init
-loop-window-init g c =
-    Skipping-none _ c.args.skip c.args.s.now c.args.steps.now
+loop-window-init g c = Skipping-none _ c.args.skip c.args.s.now c.args.steps.now
 
 pub slice_bounds-window-count : goal.slice_bounds-window-count
-slice_bounds-window-count g c =
-    c.loop-window.invariant.within
+slice_bounds-window-count g c = c.loop-window.invariant.within
 
 pub loop-window-preserved : goal.loop-window-preserved
 loop-window-preserved g c =
@@ -27,16 +26,13 @@ pub returns-then-len-eq0-clause-answer : goal.returns-then-len-eq0-clause-answer
 returns-then-len-eq0-clause-answer g c =
     let so = Skipped-end _ g.met.Self.Engine.below_ten _ _ _ _ _ _ c.window-window.result
     c.loop-window.invariant c.window-window.ensures.window c.window-window.ensures.one_step c.then-not-skip.either in
-    answers_empty _ 40 _ _ _ _ _ _ _ _ so c.if-first-lt16.true c.if-len-eq0.true
-    ∙ sym (wide_prefix_128 _ _ _ _ _)
+    answers_empty _ _ _ _ _ _ _ _ _ _ so c.if-len-eq0.true
 
 pub returns-else-len-eq0-clause-answer : goal.returns-else-len-eq0-clause-answer
 returns-else-len-eq0-clause-answer g c =
     let so = Skipped-end _ g.met.Self.Engine.below_ten _ _ _ _ _ _ c.window-window.result
     c.loop-window.invariant c.window-window.ensures.window c.window-window.ensures.one_step c.then-not-skip.either in
-    ap (λ (n : ℕ). Ok (n, c.loop-window.at + c.window-window.result.len)) c.from.ensures
-    ∙ answers_short _ 40 _ _ _ _ _ _ _ _ so c.if-first-lt16.true (omega arith) (lit< tt) c.requires.digits
-    ∙ sym (wide_prefix_128 _ _ _ _ _)
+    answers_short _ _ _ _ _ _ _ _ _ _ _ _ wide_128 so c.if-first-lt16.true (omega arith) (lit< tt) c.requires.digits c.from.ensures refl
 
 pub returns-else-len-eq0-clause-least_skipping : goal.returns-else-len-eq0-clause-least_skipping
 returns-else-len-eq0-clause-least_skipping g c =
@@ -44,136 +40,117 @@ returns-else-len-eq0-clause-least_skipping g c =
     c.loop-window.invariant c.window-window.ensures.window c.window-window.ensures.one_step c.then-not-skip.either in
     Skipped-loads _ _ _ _ _ _ _ _ so (omega arith)
 
+-- where the loop ends, at a full window
+ended : (g : _) (c : After-window-second g)
+    → Skipped g.Self.Engine.table c.args.skip c.args.s.now c.loop-window.at c.args.steps.now c.window-window.new.steps c.window-window.result
+ended g c =
+    Skipped-end _ g.met.Self.Engine.below_ten _ _ _ _ _ _ c.window-window.result
+    c.loop-window.invariant c.window-window.ensures.window c.window-window.ensures.one_step c.then-not-skip.either
+
+-- the window behind it
+middle : (g : _) (c : After-window-second g) → Shows g.Self.Engine.table 16 (drop 16 (drop c.loop-window.at c.args.s.now)) c.window-second.result
+middle g c =
+    shows_behind g.Self.Engine.table g.met.Self.Engine.below_ten 16 16 c.args.s.now c.loop-window.at c.window-second.result c.window-second.ensures.window
+
+-- the eight bytes behind both
+third : (g : _) (c : After-window_8-third g) → Shows g.Self.Engine.table 8 (drop 32 (drop c.loop-window.at c.args.s.now)) c.window_8-third.result
+third g c =
+    shows_behind g.Self.Engine.table g.met.Self.Engine.below_ten 8 32 c.args.s.now c.loop-window.at c.window_8-third.result c.window_8-third.ensures.window
+
+-- the number of two full windows and a third
+abbrev joined_number : (front middle back : Window) → ℕ
+joined_number front middle back = front.number * 10 ^ (16 + back.len) + (middle.number * 10 ^ back.len + back.number)
+
+-- what three windows read together
+read_three : (g : _) (c : After-window-second g) → 16 ≤ c.window-second.result.len
+    → (last : Window) → Shows g.Self.Engine.table 8 (drop 32 (drop c.loop-window.at c.args.s.now)) last
+    → Reads g.Self.Engine.table 40 (drop c.loop-window.at c.args.s.now) (32 + last.len) (joined_number c.window-window.result c.window-second.result last)
+read_three g c more last back =
+    Reads-join_two g.Self.Engine.table (drop c.loop-window.at c.args.s.now) c.window-window.result c.window-second.result last.len last.number
+    (ended g c).shown c.if-first-lt16.false (middle g c) more back.reads
+
 pub returns-then-second-lt16-clause-answer : goal.returns-then-second-lt16-clause-answer
 returns-then-second-lt16-clause-answer g c =
-    let so = Skipped-end _ g.met.Self.Engine.below_ten _ _ _ _ _ _ c.window-window.result
-    c.loop-window.invariant c.window-window.ensures.window c.window-window.ensures.one_step c.then-not-skip.either in
-    let full : c.window-window.result.len ≡ 16 = omega (arith, so.shown.reads.within) in
-    let middle = shows_behind g.Self.Engine.table g.met.Self.Engine.below_ten 16 16 c.args.s.now c.loop-window.at c.window-second.result c.window-second.ensures.window in
-    let reads = Reads-join g.Self.Engine.table 16 16 (drop c.loop-window.at c.args.s.now) c.window-window.result c.window-second.result.len c.window-second.result.number so.shown full middle.reads in
-    let wide = Reads-widen g.Self.Engine.table 32 40 (drop c.loop-window.at c.args.s.now) (16 + c.window-second.result.len) _ reads (omega arith) (omega arith) in
-    let less = below_bound 39 c.args.bound (16 + c.window-second.result.len) _ c.requires.digits (omega arith) reads.below in
-    let number : c.from-then-second-lt16.result * c.from-then-second-lt16-2.result + c.from-then-second-lt16-3.result ≡ c.window-window.result.number * 10 ^ c.window-second.result.len + c.window-second.result.number = cc in
-    let place : c.loop-window.at + 16 + c.window-second.result.len ≡ c.loop-window.at + (16 + c.window-second.result.len) = omega arith in
-    ap (λ (n : ℕ). Ok (n, c.loop-window.at + 16 + c.window-second.result.len)) number
-    ∙ ap (λ (n : ℕ). Ok (c.window-window.result.number * 10 ^ c.window-second.result.len + c.window-second.result.number, n)) place
-    ∙ answers_ok _ 40 _ 39 _ _ _ _ _ _ _ _ so full wide (omega arith) (omega arith) (lit< tt) (omega (arith, less))
-    ∙ sym (wide_prefix_128 _ _ _ _ _)
+    let two = (goal.at.returns-then-second-lt16-clause-answer g c).After-window-second in
+    answers_two _ _ _ _ _ _ _ _ _ _ _ (ended g two) c.if-first-lt16.false (middle g two) c.if-second-lt16.true c.requires.digits (cc) (omega arith)
 
 pub returns-then-second-lt16-clause-least_skipping : goal.returns-then-second-lt16-clause-least_skipping
 returns-then-second-lt16-clause-least_skipping g c =
-    let so = Skipped-end _ g.met.Self.Engine.below_ten _ _ _ _ _ _ c.window-window.result
-    c.loop-window.invariant c.window-window.ensures.window c.window-window.ensures.one_step c.then-not-skip.either in
-    Skipped-loads _ _ _ _ _ _ _ _ so (omega (arith, c.window-second.ensures.one_step))
+    Skipped-loads _ _ _ _ _ _ _ _ (ended g (goal.at.returns-then-second-lt16-clause-least_skipping g c).After-window-second)
+    (omega (arith, c.window-second.ensures.one_step))
+
+-- two full windows stand within the slice
+two_long : (g : _) (c : After-window-second g) → 16 ≤ c.window-second.result.len → 32 ≤ length (drop c.loop-window.at c.args.s.now)
+two_long g c more =
+    let front = (ended g c).shown in
+    let on = front.goes_on (omega (arith, front.reads.within)) in
+    omega (arith, on, (middle g c).reads.inside, prefix_len-le-length (is_digit g.Self.Engine.table) (drop c.loop-window.at c.args.s.now))
 
 pub slice_bounds-window_8-count : goal.slice_bounds-window_8-count
 slice_bounds-window_8-count g c =
-    let so = Skipped-end _ g.met.Self.Engine.below_ten _ _ _ _ _ _ c.window-window.result
-    c.loop-window.invariant c.window-window.ensures.window c.window-window.ensures.one_step c.then-not-skip.either in
-    let full : c.window-window.result.len ≡ 16 = omega (arith, so.shown.reads.within) in
-    let middle = shows_behind g.Self.Engine.table g.met.Self.Engine.below_ten 16 16 c.args.s.now c.loop-window.at c.window-second.result c.window-second.ensures.window in
-    let full_too : c.window-second.result.len ≡ 16 = omega (arith, middle.reads.within) in
-    let reads = Reads-join g.Self.Engine.table 16 16 (drop c.loop-window.at c.args.s.now) c.window-window.result c.window-second.result.len c.window-second.result.number so.shown full middle.reads in
-    let within : run_len g.Self.Engine.table (drop c.loop-window.at c.args.s.now) ≤ length (drop c.loop-window.at c.args.s.now) = prefix_len-le-length _ _ in
-    omega (arith, ap length (take_rest c.args.s.now c.loop-window.at), reads.inside)
+    let long = two_long g (goal.at.slice_bounds-window_8-count g c).After-window-second c.if-second-lt16.false in
+    omega (arith, ap length (take_rest c.args.s.now c.loop-window.at), long)
 
 pub slice_bounds-window_8-start : goal.slice_bounds-window_8-start
 slice_bounds-window_8-start g c =
-    let so = Skipped-end _ g.met.Self.Engine.below_ten _ _ _ _ _ _ c.window-window.result
-    c.loop-window.invariant c.window-window.ensures.window c.window-window.ensures.one_step c.then-not-skip.either in
-    let full : c.window-window.result.len ≡ 16 = omega (arith, so.shown.reads.within) in
-    let middle = shows_behind g.Self.Engine.table g.met.Self.Engine.below_ten 16 16 c.args.s.now c.loop-window.at c.window-second.result c.window-second.ensures.window in
-    let full_too : c.window-second.result.len ≡ 16 = omega (arith, middle.reads.within) in
-    let reads = Reads-join g.Self.Engine.table 16 16 (drop c.loop-window.at c.args.s.now) c.window-window.result c.window-second.result.len c.window-second.result.number so.shown full middle.reads in
-    let within : run_len g.Self.Engine.table (drop c.loop-window.at c.args.s.now) ≤ length (drop c.loop-window.at c.args.s.now) = prefix_len-le-length _ _ in
-    let long : 32 ≤ length (drop c.loop-window.at c.args.s.now) = omega (arith, reads.inside) in
-    let same = ap length (take_rest c.args.s.now c.loop-window.at) in
-    let fits : 32 ≤ length (take (length c.args.s.now - c.loop-window.at) (drop c.loop-window.at c.args.s.now)) = omega (arith, same, long) in
-    fits
+    let long = two_long g (goal.at.slice_bounds-window_8-start g c).After-window-second c.if-second-lt16.false in
+    rw (take_rest c.args.s.now c.loop-window.at) long
 
 pub returns-then-third-eq8-clause-answer : goal.returns-then-third-eq8-clause-answer
 returns-then-third-eq8-clause-answer g c =
-    let so = Skipped-end _ g.met.Self.Engine.below_ten _ _ _ _ _ _ c.window-window.result
-    c.loop-window.invariant c.window-window.ensures.window c.window-window.ensures.one_step c.then-not-skip.either in
-    let full : c.window-window.result.len ≡ 16 = omega (arith, so.shown.reads.within) in
-    let middle = shows_behind g.Self.Engine.table g.met.Self.Engine.below_ten 16 16 c.args.s.now c.loop-window.at c.window-second.result c.window-second.ensures.window in
-    let full_too : c.window-second.result.len ≡ 16 = omega (arith, middle.reads.within) in
-    let back = shows_behind g.Self.Engine.table g.met.Self.Engine.below_ten 8 32 c.args.s.now c.loop-window.at c.window_8-third.result c.window_8-third.ensures.window in
-    let reads = Reads-join_two g.Self.Engine.table (drop c.loop-window.at c.args.s.now) c.window-window.result c.window-second.result c.window_8-third.result.len c.window_8-third.result.number so.shown full middle full_too back.reads in
-    let place : c.loop-window.at + 32 + c.window_8-third.result.len ≡ c.loop-window.at + (32 + c.window_8-third.result.len) = omega arith in
-    ap (λ r. Err (size (c.loop-window.at + 32 + c.window_8-third.result.len) r)) (take_rest c.args.s.now c.loop-window.at)
-    ∙ ap (λ (n : ℕ). Err (size n (drop c.loop-window.at c.args.s.now))) place
-    ∙ answers_size _ 40 c.args.bound 39 _ _ _ _ _ _ _ _ so full reads (omega arith)
-    ∙ sym (wide_prefix_128 _ _ _ _ _)
+    let at = goal.at.returns-then-third-eq8-clause-answer g c in
+    let two = at.After-window-second in
+    let reads = read_three g two c.if-second-lt16.false c.window_8-third.result (third g at.After-window_8-third) in
+    answers_size _ _ c.args.bound 39 _ _ _ _ _ _ _ _ _ _ wide_128 (ended g two) c.if-first-lt16.false reads (omega arith)
+    (omega arith) (take_rest c.args.s.now c.loop-window.at)
 
 pub returns-then-third-eq8-clause-least_skipping : goal.returns-then-third-eq8-clause-least_skipping
 returns-then-third-eq8-clause-least_skipping g c =
-    let so = Skipped-end _ g.met.Self.Engine.below_ten _ _ _ _ _ _ c.window-window.result
-    c.loop-window.invariant c.window-window.ensures.window c.window-window.ensures.one_step c.then-not-skip.either in
-    Skipped-loads _ _ _ _ _ _ _ _ so (omega (arith, c.window-second.ensures.one_step, c.window_8-third.ensures.one_step))
+    Skipped-loads _ _ _ _ _ _ _ _ (ended g (goal.at.returns-then-third-eq8-clause-least_skipping g c).After-window-second)
+    (omega (arith, c.window-second.ensures.one_step, c.window_8-third.ensures.one_step))
 
 pub joined_128-requires-clause-front_high : goal.joined_128-requires-clause-front_high
 joined_128-requires-clause-front_high g c =
-    let so = Skipped-end _ g.met.Self.Engine.below_ten _ _ _ _ _ _ c.window-window.result
-    c.loop-window.invariant c.window-window.ensures.window c.window-window.ensures.one_step c.then-not-skip.either in
-    let full : c.window-window.result.len ≡ 16 = omega (arith, so.shown.reads.within) in
-    omega (arith, so.shown.reads.below, ap (λ (n : ℕ). 10 ^ n) full)
+    Shows-below _ _ _ _ (ended g (goal.at.joined_128-requires-clause-front_high g c).After-window-second).shown
 
 pub joined_128-requires-clause-middle_high : goal.joined_128-requires-clause-middle_high
 joined_128-requires-clause-middle_high g c =
-    let middle = shows_behind g.Self.Engine.table g.met.Self.Engine.below_ten 16 16 c.args.s.now c.loop-window.at c.window-second.result c.window-second.ensures.window in
-    let full_too : c.window-second.result.len ≡ 16 = omega (arith, middle.reads.within) in
-    omega (arith, middle.reads.below, ap (λ (n : ℕ). 10 ^ n) full_too)
+    Shows-below _ _ _ _ (middle g (goal.at.joined_128-requires-clause-middle_high g c).After-window-second)
 
 pub joined_128-requires-clause-back_short : goal.joined_128-requires-clause-back_short
 joined_128-requires-clause-back_short g c =
-    let back = shows_behind g.Self.Engine.table g.met.Self.Engine.below_ten 8 32 c.args.s.now c.loop-window.at c.window_8-third.result c.window_8-third.ensures.window in
-    omega (arith, back.reads.within)
+    omega (arith, (third g (goal.at.joined_128-requires-clause-back_short g c).After-window_8-third).reads.within)
 
 pub joined_128-requires-clause-back_high : goal.joined_128-requires-clause-back_high
 joined_128-requires-clause-back_high g c =
-    let back = shows_behind g.Self.Engine.table g.met.Self.Engine.below_ten 8 32 c.args.s.now c.loop-window.at c.window_8-third.result c.window_8-third.ensures.window in
-    back.reads.below
+    (third g (goal.at.joined_128-requires-clause-back_high g c).After-window_8-third).reads.below
 
 pub returns-in-Some-clause-answer : goal.returns-in-Some-clause-answer
 returns-in-Some-clause-answer g c =
-    let so = Skipped-end _ g.met.Self.Engine.below_ten _ _ _ _ _ _ c.window-window.result
-    c.loop-window.invariant c.window-window.ensures.window c.window-window.ensures.one_step c.then-not-skip.either in
-    let full : c.window-window.result.len ≡ 16 = omega (arith, so.shown.reads.within) in
-    let middle = shows_behind g.Self.Engine.table g.met.Self.Engine.below_ten 16 16 c.args.s.now c.loop-window.at c.window-second.result c.window-second.ensures.window in
-    let full_too : c.window-second.result.len ≡ 16 = omega (arith, middle.reads.within) in
-    let back = shows_behind g.Self.Engine.table g.met.Self.Engine.below_ten 8 32 c.args.s.now c.loop-window.at c.window_8-third.result c.window_8-third.ensures.window in
-    let reads = Reads-join_two g.Self.Engine.table (drop c.loop-window.at c.args.s.now) c.window-window.result c.window-second.result c.window_8-third.result.len c.window_8-third.result.number so.shown full middle full_too back.reads in
-    let place : c.loop-window.at + 32 + c.window_8-third.result.len ≡ c.loop-window.at + (32 + c.window_8-third.result.len) = omega arith in
-    let number : ℕ = c.window-window.result.number * 10 ^ (16 + c.window_8-third.result.len) + (c.window-second.result.number * 10 ^ c.window_8-third.result.len + c.window_8-third.result.number) in
-    let told = some_within c.args.bound number c.in-Some.number (sym c.in-Some.is ∙ c.joined_128.ensures) in
-    ap (λ (n : ℕ). Ok (n, c.loop-window.at + 32 + c.window_8-third.result.len)) told.0
-    ∙ ap (λ (n : ℕ). Ok (number, n)) place
-    ∙ answers_ok _ 40 _ 39 _ _ _ _ _ _ _ _ so full reads (omega arith) (omega (arith, back.reads.within)) (lit< tt) told.1
-    ∙ sym (wide_prefix_128 _ _ _ _ _)
+    let at = goal.at.returns-in-Some-clause-answer g c in
+    let two = at.After-window-second in
+    let back = third g at.After-window_8-third in
+    let reads = read_three g two c.if-second-lt16.false c.window_8-third.result back in
+    let told = some_within c.args.bound (joined_number c.window-window.result c.window-second.result c.window_8-third.result) c.in-Some.number _ c.in-Some.is c.joined_128.ensures in
+    answers_ok _ _ _ 39 _ _ _ _ _ _ _ _ _ _ wide_128 (ended g two) c.if-first-lt16.false reads (omega (arith, back.reads.within)) (lit< tt) told.1
+    told.0 (omega arith)
 
 pub returns-in-Some-clause-least_skipping : goal.returns-in-Some-clause-least_skipping
 returns-in-Some-clause-least_skipping g c =
-    let so = Skipped-end _ g.met.Self.Engine.below_ten _ _ _ _ _ _ c.window-window.result
-    c.loop-window.invariant c.window-window.ensures.window c.window-window.ensures.one_step c.then-not-skip.either in
-    Skipped-loads _ _ _ _ _ _ _ _ so (omega (arith, c.window-second.ensures.one_step, c.window_8-third.ensures.one_step))
+    Skipped-loads _ _ _ _ _ _ _ _ (ended g (goal.at.returns-in-Some-clause-least_skipping g c).After-window-second)
+    (omega (arith, c.window-second.ensures.one_step, c.window_8-third.ensures.one_step))
 
 pub returns-in-None-clause-answer : goal.returns-in-None-clause-answer
 returns-in-None-clause-answer g c =
-    let so = Skipped-end _ g.met.Self.Engine.below_ten _ _ _ _ _ _ c.window-window.result
-    c.loop-window.invariant c.window-window.ensures.window c.window-window.ensures.one_step c.then-not-skip.either in
-    let full : c.window-window.result.len ≡ 16 = omega (arith, so.shown.reads.within) in
-    let middle = shows_behind g.Self.Engine.table g.met.Self.Engine.below_ten 16 16 c.args.s.now c.loop-window.at c.window-second.result c.window-second.ensures.window in
-    let full_too : c.window-second.result.len ≡ 16 = omega (arith, middle.reads.within) in
-    let back = shows_behind g.Self.Engine.table g.met.Self.Engine.below_ten 8 32 c.args.s.now c.loop-window.at c.window_8-third.result c.window_8-third.ensures.window in
-    let reads = Reads-join_two g.Self.Engine.table (drop c.loop-window.at c.args.s.now) c.window-window.result c.window-second.result c.window_8-third.result.len c.window_8-third.result.number so.shown full middle full_too back.reads in
-    let over = none_above c.args.bound _ (sym c.in-None.is ∙ c.joined_128.ensures) in
-    ap (λ r. Err (overflow r)) (take_rest c.args.s.now c.loop-window.at)
-    ∙ answers_overflow _ 40 _ 39 _ _ _ _ _ _ _ _ so full reads (omega arith) (omega (arith, back.reads.within)) (lit< tt) over
-    ∙ sym (wide_prefix_128 _ _ _ _ _)
+    let at = goal.at.returns-in-None-clause-answer g c in
+    let two = at.After-window-second in
+    let back = third g at.After-window_8-third in
+    let reads = read_three g two c.if-second-lt16.false c.window_8-third.result back in
+    let over = none_above c.args.bound (joined_number c.window-window.result c.window-second.result c.window_8-third.result) _ c.in-None.is c.joined_128.ensures in
+    answers_overflow _ _ _ 39 _ _ _ _ _ _ _ _ _ wide_128 (ended g two) c.if-first-lt16.false reads (omega (arith, back.reads.within)) (lit< tt) over
+    (take_rest c.args.s.now c.loop-window.at)
 
 pub returns-in-None-clause-least_skipping : goal.returns-in-None-clause-least_skipping
 returns-in-None-clause-least_skipping g c =
-    let so = Skipped-end _ g.met.Self.Engine.below_ten _ _ _ _ _ _ c.window-window.result
-    c.loop-window.invariant c.window-window.ensures.window c.window-window.ensures.one_step c.then-not-skip.either in
-    Skipped-loads _ _ _ _ _ _ _ _ so (omega (arith, c.window-second.ensures.one_step, c.window_8-third.ensures.one_step))
+    Skipped-loads _ _ _ _ _ _ _ _ (ended g (goal.at.returns-in-None-clause-least_skipping g c).After-window-second)
+    (omega (arith, c.window-second.ensures.one_step, c.window_8-third.ensures.one_step))
