@@ -253,25 +253,27 @@ fn writes_in_parts_of_any_size(rt: HostRuntime) -> Result<(), Fail> {
     Ok(())
 }
 
-// That a writer with room for `room` bytes gets these, and that the refusal behind them is told.
-fn check_refused_write(rt: &impl Abort, alloc: Global, room: usize, full: Full) {
+// That a writer with room for the bytes of `written` gets these, and that the refusal behind them
+// is told.
+fn check_refused_write(rt: &impl Abort, alloc: Global, written: &[u8], full: Full) {
     let mut sink = ToWriter::new(LimitedWriter {
         held: Vec::new(alloc),
         part: 5,
-        room,
+        room: written.len(),
         full,
     });
     let outcome = answer_lines(LINES, &mut sink);
     assert_eq!(rt; outcome, Err(ToolError::Write));
     assert_eq!(rt; status(&outcome), 5);
-    assert_eq!(rt; sink.into_inner().held.as_slice(), &ANSWERS[..room]);
+    assert_eq!(rt; sink.into_inner().held.as_slice(), written);
 }
 
 #[test]
 fn tells_a_refused_write(rt: HostRuntime) {
     for room in 0..ANSWERS.len() {
-        check_refused_write(&rt, rt.alloc(), room, Full::Fails);
-        check_refused_write(&rt, rt.alloc(), room, Full::IsInterrupted);
-        check_refused_write(&rt, rt.alloc(), room, Full::TakesNone);
+        let written = &ANSWERS[..room];
+        check_refused_write(&rt, rt.alloc(), written, Full::Fails);
+        check_refused_write(&rt, rt.alloc(), written, Full::IsInterrupted);
+        check_refused_write(&rt, rt.alloc(), written, Full::TakesNone);
     }
 }
