@@ -150,6 +150,7 @@ fn put_invalid(number: u128, index: usize, out: &mut [u8; 400]) -> usize
 #[cfg(test)]
 mod tests {
     use super::*;
+    use std::alloc::{AllocError, Global};
     use std::process::Abort;
     use std::test::Fail;
 
@@ -207,6 +208,28 @@ mod tests {
         assert!(rt; AtoiSimdError::Size(9, b"b") < AtoiSimdError::Overflow(b"a"));
         assert!(rt; AtoiSimdError::Overflow(b"1") < AtoiSimdError::Overflow(b"11"));
         assert!(rt; AtoiSimdError::Invalid64(1, 2, b"a") < AtoiSimdError::Invalid64(2, 1, b"a"));
+    }
+
+    #[test]
+    fn the_methods_compare_as_the_operators(rt: HostRuntime) {
+        let size = AtoiSimdError::Size(9, b"b");
+        let overflow = AtoiSimdError::Overflow(b"a");
+        assert_eq!(rt; size.order(&overflow), Ordering::Less);
+        assert_eq!(rt; overflow.partial_order(&size), Some(Ordering::Greater));
+        assert!(rt; size.is_same_as(&AtoiSimdError::Size(9, b"b")));
+        assert!(rt; !size.is_same_as(&overflow));
+    }
+
+    // The text of an error of which no more is known.
+    fn printed<E: Error>(alloc: Global, error: &E) -> Result<String, AllocError> {
+        format!(in alloc; "{error}")
+    }
+
+    #[test]
+    fn prints_its_text_as_an_error_of_std(rt: HostRuntime) -> Result<(), Fail> {
+        let text = printed(rt.alloc(), &AtoiSimdError::Size(27, b"11"))?;
+        assert_eq!(rt; text.as_str(), "atoi_simd wrong size: 27 input: [31, 31]");
+        Ok(())
     }
 
     #[test]

@@ -497,6 +497,11 @@ impl Signed for isize {
 mod tests {
     use super::*;
 
+    // Whether each end of a type is negative, and its magnitude.
+    fn ends<T: Number>(least: T, greatest: T) -> [(bool, u128); 2] {
+        [least.parts(), greatest.parts()]
+    }
+
     // What std says of each type: its bits, and its greatest value.
     #[test]
     fn the_constants_of_the_unsigned_types(rt: HostRuntime) {
@@ -543,13 +548,53 @@ mod tests {
     }
 
     #[test]
-    fn signs_and_magnitudes_of_the_ends(rt: HostRuntime) {
-        assert_eq!(rt; i8::from_neg(128), -128);
-        assert_eq!(rt; i8::from_neg(128).parts(), (true, 128));
-        assert_eq!(rt; isize::from_neg(9223372036854775808), isize::MIN);
-        assert_eq!(rt; i128::from_neg(i128::LEAST_MAGNITUDE), i128::MIN);
+    fn the_ends_of_the_unsigned_types(rt: HostRuntime) {
+        let least = (false, 0);
+        assert_eq!(rt; ends(u8::MIN, u8::MAX), [least, (false, 255)]);
+        assert_eq!(rt; ends(u16::MIN, u16::MAX), [least, (false, 65535)]);
+        assert_eq!(rt; ends(u32::MIN, u32::MAX), [least, (false, 4294967295)]);
+        assert_eq!(rt;
+            ends(u64::MIN, u64::MAX),
+            [least, (false, 18446744073709551615)]
+        );
+        assert_eq!(rt;
+            ends(usize::MIN, usize::MAX),
+            [least, (false, 18446744073709551615)]
+        );
+        assert_eq!(rt;
+            ends(u128::MIN, u128::MAX),
+            [least, (false, 340282366920938463463374607431768211455)]
+        );
+    }
+
+    #[test]
+    fn the_ends_of_the_signed_types(rt: HostRuntime) {
+        assert_eq!(rt; ends(i8::MIN, i8::MAX), [(true, 128), (false, 127)]);
+        assert_eq!(rt; ends(i16::MIN, i16::MAX), [(true, 32768), (false, 32767)]);
+        assert_eq!(rt;
+            ends(i32::MIN, i32::MAX),
+            [(true, 2147483648), (false, 2147483647)]
+        );
+        assert_eq!(rt;
+            ends(i64::MIN, i64::MAX),
+            [(true, 9223372036854775808), (false, 9223372036854775807)]
+        );
+        assert_eq!(rt;
+            ends(isize::MIN, isize::MAX),
+            [(true, 9223372036854775808), (false, 9223372036854775807)]
+        );
+        assert_eq!(rt;
+            ends(i128::MIN, i128::MAX),
+            [
+                (true, 170141183460469231731687303715884105728),
+                (false, 170141183460469231731687303715884105727)
+            ]
+        );
+    }
+
+    #[test]
+    fn small_magnitudes_behind_a_minus(rt: HostRuntime) {
         assert_eq!(rt; i128::from_neg(1), -1);
-        assert_eq!(rt; i128::from_pos(i128::GREATEST), i128::MAX);
         assert_eq!(rt; i128::from_neg(0).parts(), (false, 0));
     }
 }

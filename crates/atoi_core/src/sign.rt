@@ -52,5 +52,15 @@ mod tests {
         assert_eq!(rt; take_sign(true, true, b"+-5"), (false, b"-5".as_slice()));
         assert_eq!(rt; take_sign(false, true, b"-5"), (false, b"-5".as_slice()));
         assert_eq!(rt; take_sign(true, false, b"+5"), (false, b"+5".as_slice()));
+        assert_eq!(rt; take_sign(true, false, b"-5"), (true, b"5".as_slice()));
+        assert_eq!(rt; take_sign(true, false, b"-"), (true, b"".as_slice()));
+        assert_eq!(rt; take_sign(true, true, b""), (false, b"".as_slice()));
+    }
+
+    #[test]
+    fn a_sign_is_counted_where_a_number_was_found(rt: HostRuntime) {
+        assert_eq!(rt; with_sign(1, Ok((7u8, 1))), Ok((7, 2)));
+        let refused = AtoiSimdError::Overflow(b"256");
+        assert_eq!(rt; with_sign::<u8>(1, Err(refused)), Err(refused));
     }
 }

@@ -11,8 +11,8 @@ pub(crate) fn told(window: Window) -> (u32, u32, u64) {
     (window.len, window.zeroes, window.number)
 }
 
-/// Checks that `Words` and `Lanes` answer as `Plain` does.
-pub(crate) fn check(rt: &impl Abort, text: &[u8]) {
+// Checks that `Words` and `Lanes` answer as `Plain` does.
+fn check(rt: &impl Abort, text: &[u8]) {
     check_engine::<Words>(rt, text);
     check_engine::<Lanes>(rt, text);
 }

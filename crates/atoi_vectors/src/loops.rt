@@ -7,24 +7,16 @@ use atoi_simd::lanes::Lanes;
 use std::process::Abort;
 use std::test::Fail;
 
-// The greatest numbers, and the magnitude of the least i64.
+// The greatest u8.
 const GREATEST_U8: u64 = 255;
 
-const GREATEST_U64: u64 = 18446744073709551615;
-
-const GREATEST_I64: u64 = 9223372036854775807;
-
-const LEAST_I64: u64 = 9223372036854775808;
-
-const GREATEST_U128: u128 = 340282366920938463463374607431768211455;
-
-// Runs one function of rows on each engine.
+// Runs each function of rows on each engine, on a text where one is given.
 macro_rules! on_each_engine {
-    ($rt:expr; $($rows:ident),*) => {
+    ($rt:expr; $($rows:ident $(($text:expr))?),*) => {
         $(
-            $rows::<Plain>(&$rt);
-            $rows::<Words>(&$rt);
-            $rows::<Lanes>(&$rt);
+            $rows::<Plain>(&$rt $(, $text)?);
+            $rows::<Words>(&$rt $(, $text)?);
+            $rows::<Lanes>(&$rt $(, $text)?);
         )*
     };
 }
@@ -79,24 +71,18 @@ fn narrow(rt: HostRuntime) {
     on_each_engine!(rt; narrow_prefixes, narrow_overflows);
 }
 
+fn long_narrow_prefix<E: Engine>(rt: &impl Abort, text: &[u8]) {
+    assert_eq!(rt;
+        narrow_prefix::<E>(GREATEST_U8, true, text, &mut Steps::new()),
+        Ok((7, 1_000_001))
+    );
+}
+
 #[test]
 fn a_million_zeros_and_seven(rt: HostRuntime) -> Result<(), Fail> {
     let mut text = vec![in rt.alloc(); b'0'; 1_000_000]?;
     text.push(b'7')?;
-    let mut steps = Steps::new();
-    let expected = Ok((7, 1_000_001));
-    assert_eq!(rt;
-        narrow_prefix::<Plain>(GREATEST_U8, true, &text, &mut steps),
-        expected
-    );
-    assert_eq!(rt;
-        narrow_prefix::<Words>(GREATEST_U8, true, &text, &mut steps),
-        expected
-    );
-    assert_eq!(rt;
-        narrow_prefix::<Lanes>(GREATEST_U8, true, &text, &mut steps),
-        expected
-    );
+    on_each_engine!(rt; long_narrow_prefix(&text));
     Ok(())
 }
 
@@ -105,19 +91,19 @@ fn sizes_of_64_bits<E: Engine>(rt: &impl Abort) {
     let ones = b"1111111111111111111111111";
     let padded = b"0001111111111111111111111111";
     assert_eq!(rt;
-        E::prefix_64(GREATEST_U64, 20, false, &ones[4..], &mut steps),
+        E::prefix_64(u64::MAX, 20, false, &ones[4..], &mut steps),
         Err(Size(21, &ones[4..]))
     );
     assert_eq!(rt;
-        E::prefix_64(GREATEST_U64, 20, false, &ones[1..], &mut steps),
+        E::prefix_64(u64::MAX, 20, false, &ones[1..], &mut steps),
         Err(Size(24, &ones[1..]))
     );
     assert_eq!(rt;
-        E::prefix_64(GREATEST_U64, 20, false, ones, &mut steps),
+        E::prefix_64(u64::MAX, 20, false, ones, &mut steps),
         Err(Size(24, ones))
     );
     assert_eq!(rt;
-        E::prefix_64(GREATEST_U64, 20, true, padded, &mut steps),
+        E::prefix_64(u64::MAX, 20, true, padded, &mut steps),
         Err(Size(27, ones))
     );
 }
@@ -140,25 +126,23 @@ fn zeros_of_64_bits<E: Engine>(rt: &impl Abort) {
     let mut steps = Steps::new();
     let zeros = b"000000000000000000000";
     let greatest = b"09223372036854775807";
+    let bound = i64::MAX.unsigned_abs();
     assert_eq!(rt;
-        whole_64::<E>(GREATEST_U64, 20, false, zeros, &mut steps),
+        whole_64::<E>(u64::MAX, 20, false, zeros, &mut steps),
         Err(Size(21, zeros))
     );
+    assert_eq!(rt; whole_64::<E>(u64::MAX, 20, true, zeros, &mut steps), Ok(0));
     assert_eq!(rt;
-        whole_64::<E>(GREATEST_U64, 20, true, zeros, &mut steps),
-        Ok(0)
-    );
-    assert_eq!(rt;
-        E::prefix_64(GREATEST_U64, 20, true, zeros, &mut steps),
+        E::prefix_64(u64::MAX, 20, true, zeros, &mut steps),
         Ok((0, 21))
     );
     assert_eq!(rt;
-        whole_64::<E>(GREATEST_I64, 19, false, greatest, &mut steps),
+        whole_64::<E>(bound, 19, false, greatest, &mut steps),
         Err(Size(20, greatest))
     );
     assert_eq!(rt;
-        whole_64::<E>(GREATEST_I64, 19, true, greatest, &mut steps),
-        Ok(GREATEST_I64)
+        whole_64::<E>(bound, 19, true, greatest, &mut steps),
+        Ok(bound)
     );
 }
 
@@ -167,21 +151,22 @@ fn ends_of_64_bits<E: Engine>(rt: &impl Abort) {
     let greatest = b"18446744073709551615";
     let above = b"18446744073709551616";
     let least = b"9223372036854775808x";
+    let bound = i64::MIN.unsigned_abs();
     assert_eq!(rt;
-        whole_64::<E>(GREATEST_U64, 20, false, greatest, &mut steps),
-        Ok(GREATEST_U64)
+        whole_64::<E>(u64::MAX, 20, false, greatest, &mut steps),
+        Ok(u64::MAX)
     );
     assert_eq!(rt;
-        whole_64::<E>(GREATEST_U64, 20, false, above, &mut steps),
+        whole_64::<E>(u64::MAX, 20, false, above, &mut steps),
         Err(Overflow(above))
     );
     assert_eq!(rt;
-        whole_64::<E>(LEAST_I64, 19, false, least, &mut steps),
-        Err(Invalid64(LEAST_I64, 19, least))
+        whole_64::<E>(bound, 19, false, least, &mut steps),
+        Err(Invalid64(bound, 19, least))
     );
     assert_eq!(rt;
-        whole_64::<E>(LEAST_I64, 19, false, &least[..19], &mut steps),
-        Ok(LEAST_I64)
+        whole_64::<E>(bound, 19, false, &least[..19], &mut steps),
+        Ok(bound)
     );
 }
 
@@ -190,11 +175,11 @@ fn rests_of_64_bits<E: Engine>(rt: &impl Abort) {
     let short = b"007x";
     let long = b"0000000000000000000000007x";
     assert_eq!(rt;
-        whole_64::<E>(GREATEST_U64, 20, true, short, &mut steps),
+        whole_64::<E>(u64::MAX, 20, true, short, &mut steps),
         Err(Invalid64(7, 3, short))
     );
     assert_eq!(rt;
-        whole_64::<E>(GREATEST_U64, 20, true, long, &mut steps),
+        whole_64::<E>(u64::MAX, 20, true, long, &mut steps),
         Err(Invalid64(7, 25, long))
     );
 }
@@ -204,24 +189,18 @@ fn of_64_bits(rt: HostRuntime) {
     on_each_engine!(rt; sizes_of_64_bits, limits_of_17_digits, zeros_of_64_bits, ends_of_64_bits, rests_of_64_bits);
 }
 
+fn long_prefix_64<E: Engine>(rt: &impl Abort, text: &[u8]) {
+    assert_eq!(rt;
+        E::prefix_64(u64::MAX, 20, true, text, &mut Steps::new()),
+        Ok((7, 101))
+    );
+}
+
 #[test]
 fn a_hundred_zeros_and_seven(rt: HostRuntime) -> Result<(), Fail> {
     let mut text = vec![in rt.alloc(); b'0'; 100]?;
     text.push(b'7')?;
-    let mut steps = Steps::new();
-    let expected = Ok((7, 101));
-    assert_eq!(rt;
-        Plain::prefix_64(GREATEST_U64, 20, true, &text, &mut steps),
-        expected
-    );
-    assert_eq!(rt;
-        Words::prefix_64(GREATEST_U64, 20, true, &text, &mut steps),
-        expected
-    );
-    assert_eq!(rt;
-        Lanes::prefix_64(GREATEST_U64, 20, true, &text, &mut steps),
-        expected
-    );
+    on_each_engine!(rt; long_prefix_64(&text));
     Ok(())
 }
 
@@ -231,19 +210,19 @@ fn sizes_of_128_bits<E: Engine>(rt: &impl Abort) {
     let ones = &padded[4..];
     let zeros = b"00000000000000000000000000000000000000000";
     assert_eq!(rt;
-        E::prefix_128(GREATEST_U128, false, ones, &mut steps),
+        E::prefix_128(u128::MAX, false, ones, &mut steps),
         Err(Size(40, ones))
     );
     assert_eq!(rt;
-        E::prefix_128(GREATEST_U128, true, padded, &mut steps),
+        E::prefix_128(u128::MAX, true, padded, &mut steps),
         Err(Size(44, ones))
     );
     assert_eq!(rt;
-        whole_128::<E>(GREATEST_U128, false, &zeros[..39], &mut steps),
+        whole_128::<E>(u128::MAX, false, &zeros[..39], &mut steps),
         Ok(0)
     );
     assert_eq!(rt;
-        whole_128::<E>(GREATEST_U128, false, zeros, &mut steps),
+        whole_128::<E>(u128::MAX, false, zeros, &mut steps),
         Err(Size(40, zeros))
     );
 }
@@ -254,15 +233,15 @@ fn ends_of_128_bits<E: Engine>(rt: &impl Abort) {
     let above = b"340282366920938463463374607431768211456";
     let padded = b"0000012x";
     assert_eq!(rt;
-        whole_128::<E>(GREATEST_U128, false, greatest, &mut steps),
-        Ok(GREATEST_U128)
+        whole_128::<E>(u128::MAX, false, greatest, &mut steps),
+        Ok(u128::MAX)
     );
     assert_eq!(rt;
-        whole_128::<E>(GREATEST_U128, false, above, &mut steps),
+        whole_128::<E>(u128::MAX, false, above, &mut steps),
         Err(Overflow(above))
     );
     assert_eq!(rt;
-        whole_128::<E>(GREATEST_U128, true, padded, &mut steps),
+        whole_128::<E>(u128::MAX, true, padded, &mut steps),
         Err(Invalid128(12, 7, padded))
     );
 }
@@ -272,15 +251,15 @@ fn runs_of_32_digits<E: Engine>(rt: &impl Abort) {
     let cut = b"12345678901234567890123456789012s";
     let digits = b"123456789012345678901234567890123";
     assert_eq!(rt;
-        E::prefix_128(GREATEST_U128, true, cut, &mut steps),
+        E::prefix_128(u128::MAX, true, cut, &mut steps),
         Ok((12345678901234567890123456789012, 32))
     );
     assert_eq!(rt;
-        whole_128::<E>(GREATEST_U128, true, digits, &mut steps),
+        whole_128::<E>(u128::MAX, true, digits, &mut steps),
         Ok(123456789012345678901234567890123)
     );
     assert_eq!(rt;
-        whole_128::<E>(GREATEST_U128, true, &digits[..32], &mut steps),
+        whole_128::<E>(u128::MAX, true, &digits[..32], &mut steps),
         Ok(12345678901234567890123456789012)
     );
 }

@@ -1,10 +1,12 @@
-//! Worked rows of the wide loops, on `Plain` and on two other alphabets.
-//! They stand on `engine`, `steps`, `error` and these engines.
+//! Worked rows of the wide loops and of the parses above, on `Plain` and on two other alphabets.
+//! They stand on `engine`, `wide`, `dispatch`, `steps`, `error` and these engines.
 ghost use Rattle.atoi_core.specs.Magnitude.{HasDigits};
 
 use super::alphabets::{BothCases, Letters};
 use super::*;
+use crate::dispatch::prefix_pos;
 use crate::plain::Plain;
+use crate::wide::{whole_64, whole_128};
 use std::alloc::{AllocError, Global};
 use std::test::Fail;
 
@@ -12,8 +14,8 @@ fn prefix_u64<E: Engine>(skip: bool, s: &[u8]) -> Result<(u64, usize), AtoiSimdE
     E::prefix_64(u64::MAX, 20, skip, s, &mut Steps::new())
 }
 
-fn prefix_u128(skip: bool, s: &[u8]) -> Result<(u128, usize), AtoiSimdError<'_>> {
-    Plain::prefix_128(u128::MAX, skip, s, &mut Steps::new())
+fn prefix_u128<E: Engine>(skip: bool, s: &[u8]) -> Result<(u128, usize), AtoiSimdError<'_>> {
+    E::prefix_128(u128::MAX, skip, s, &mut Steps::new())
 }
 
 fn prefix_of_17(bound: u64, skip: bool, s: &[u8]) -> Result<(u64, usize), AtoiSimdError<'_>>
@@ -58,12 +60,12 @@ fn tells_the_size_of_too_many_digits(rt: HostRuntime) -> Result<(), Fail> {
 fn tells_the_size_of_too_many_digits_at_128_bits(rt: HostRuntime) -> Result<(), Fail> {
     let ones = repeated(rt.alloc(), b'1', 45, b"")?;
     assert_eq!(rt;
-        prefix_u128(false, &ones),
+        prefix_u128::<Plain>(false, &ones),
         Err(AtoiSimdError::Size(40, &ones))
     );
     let zeros = repeated(rt.alloc(), b'0', 4, &ones)?;
     assert_eq!(rt;
-        prefix_u128(true, &zeros),
+        prefix_u128::<Plain>(true, &zeros),
         Err(AtoiSimdError::Size(44, &ones))
     );
     Ok(())
@@ -105,11 +107,48 @@ fn skips_all_zeros_of_other_alphabets(rt: HostRuntime) -> Result<(), Fail> {
 #[test]
 fn stops_before_a_byte_that_is_no_digit(rt: HostRuntime) {
     assert_eq!(rt;
-        prefix_u128(true, b"12345678901234567890123456789012s"),
+        prefix_u128::<Plain>(true, b"12345678901234567890123456789012s"),
         Ok((12_345_678_901_234_567_890_123_456_789_012, 32))
     );
     assert_eq!(rt;
         prefix_u64::<Letters>(true, b"007"),
         Err(AtoiSimdError::Empty)
+    );
+}
+
+#[test]
+fn prefixes_of_letters(rt: HostRuntime) {
+    assert_eq!(rt;
+        prefix_u128::<Letters>(true, b"AABCDEFGHIJABCDEFGHIJABCDEFGHIJABC0"),
+        Ok((12_345_678_901_234_567_890_123_456_789_012, 34))
+    );
+    assert_eq!(rt;
+        prefix_pos::<Letters, u16>(false, b"IA0", &mut Steps::new()),
+        Ok((80, 2))
+    );
+    assert_eq!(rt;
+        prefix_pos::<Letters, i8>(false, b"BCI", &mut Steps::new()),
+        Err(AtoiSimdError::Overflow(b"BCI"))
+    );
+}
+
+#[test]
+fn whole_slices_of_letters(rt: HostRuntime) {
+    let mut steps = Steps::new();
+    assert_eq!(rt;
+        whole_64::<Letters>(u64::MAX, 20, true, b"AAH", &mut steps),
+        Ok(7)
+    );
+    assert_eq!(rt;
+        whole_64::<Letters>(u64::MAX, 20, true, b"AAH7", &mut steps),
+        Err(AtoiSimdError::Invalid64(7, 3, b"AAH7"))
+    );
+    assert_eq!(rt;
+        whole_128::<Letters>(u128::MAX, true, b"AAAAABC", &mut steps),
+        Ok(12)
+    );
+    assert_eq!(rt;
+        whole_128::<Letters>(u128::MAX, true, b"AAAAABC7", &mut steps),
+        Err(AtoiSimdError::Invalid128(12, 7, b"AAAAABC7"))
     );
 }

@@ -1,5 +1,6 @@
 //! Tests of the answers to whole inputs, and of writers that fail.
-//! The expected answers come from the crate `atoi_simd` 0.18.1 of Rust and from its documentation.
+//! The expected answers come from the crate `atoi_simd` 0.18.1 of Rust and from its documentation,
+//! but for the counted plus.
 
 use super::answer_lines;
 use crate::sink::ToWriter;
@@ -209,14 +210,14 @@ enum Full {
 
 // A writer that takes `part` bytes a call at most, and `room` bytes in all.
 #[derive(Drop)]
-struct Narrow {
+struct LimitedWriter {
     held: Vec<u8>,
     part: usize,
     room: usize,
     full: Full,
 }
 
-impl Write for Narrow {
+impl Write for LimitedWriter {
     fn write(&mut self, bytes: &[u8]) -> io::Result<usize> {
         let count = bytes.len().min(self.part).min(self.room);
         if count == 0 {
@@ -237,9 +238,9 @@ impl Write for Narrow {
 }
 
 #[test]
-fn writes_a_byte_at_a_time(rt: HostRuntime) -> Result<(), Fail> {
+fn writes_in_parts_of_any_size(rt: HostRuntime) -> Result<(), Fail> {
     for part in [1, 2, 7, 1000] {
-        let mut sink = ToWriter::new(Narrow {
+        let mut sink = ToWriter::new(LimitedWriter {
             held: Vec::new(rt.alloc()),
             part,
             room: ANSWERS.len(),
@@ -252,25 +253,27 @@ fn writes_a_byte_at_a_time(rt: HostRuntime) -> Result<(), Fail> {
     Ok(())
 }
 
-// That a writer with room for `room` bytes gets these, and that the refusal behind them is told.
-fn check_refused_write(rt: &impl Abort, alloc: Global, room: usize, full: Full) {
-    let mut sink = ToWriter::new(Narrow {
+// That a writer with room for the bytes of `written` gets these, and that the refusal behind them
+// is told.
+fn check_refused_write(rt: &impl Abort, alloc: Global, written: &[u8], full: Full) {
+    let mut sink = ToWriter::new(LimitedWriter {
         held: Vec::new(alloc),
         part: 5,
-        room,
+        room: written.len(),
         full,
     });
     let outcome = answer_lines(LINES, &mut sink);
     assert_eq!(rt; outcome, Err(ToolError::Write));
     assert_eq!(rt; status(&outcome), 5);
-    assert_eq!(rt; sink.into_inner().held.as_slice(), &ANSWERS[..room]);
+    assert_eq!(rt; sink.into_inner().held.as_slice(), written);
 }
 
 #[test]
 fn tells_a_refused_write(rt: HostRuntime) {
     for room in 0..ANSWERS.len() {
-        check_refused_write(&rt, rt.alloc(), room, Full::Fails);
-        check_refused_write(&rt, rt.alloc(), room, Full::IsInterrupted);
-        check_refused_write(&rt, rt.alloc(), room, Full::TakesNone);
+        let written = &ANSWERS[..room];
+        check_refused_write(&rt, rt.alloc(), written, Full::Fails);
+        check_refused_write(&rt, rt.alloc(), written, Full::IsInterrupted);
+        check_refused_write(&rt, rt.alloc(), written, Full::TakesNone);
     }
 }

@@ -75,6 +75,12 @@ fn put_prefix<T: Number>(
     }
 }
 
+// What a row with an unknown word is answered: it is the answer of no row, so the test fails.
+fn put_unknown(word: &[u8], line: &mut Vec<u8>) -> Result<(), AllocError> {
+    line.extend_from_slice(b"unknown ")?;
+    line.extend_from_slice(word)
+}
+
 // A call whose const flags are those of the row.
 macro_rules! by_flag {
     ($surface:ident::$call:ident, $row:expr) => {
@@ -103,7 +109,8 @@ macro_rules! put_answer {
             b"parse" => put_whole(by_flags!($surface::parse, $row), $line),
             b"prefix" => put_prefix(by_flags!($surface::parse_prefix, $row), $line),
             b"pos" => put_whole(by_flag!($surface::parse_pos, $row), $line),
-            _ => put_prefix(by_flag!($surface::parse_prefix_pos, $row), $line),
+            b"prefix_pos" => put_prefix(by_flag!($surface::parse_prefix_pos, $row), $line),
+            unknown => put_unknown(unknown, $line),
         }
     };
 }
@@ -112,7 +119,8 @@ macro_rules! put_negative_answer {
     ($surface:ident, $row:expr, $line:expr) => {
         match $row.call {
             b"neg" => put_whole(by_flag!($surface::parse_neg, $row), $line),
-            _ => put_prefix(by_flag!($surface::parse_prefix_neg, $row), $line),
+            b"prefix_neg" => put_prefix(by_flag!($surface::parse_prefix_neg, $row), $line),
+            unknown => put_unknown(unknown, $line),
         }
     };
 }
@@ -153,7 +161,8 @@ macro_rules! by_type {
             b"u128" => $answer::<u128>($row, $line),
             b"i128" => $answer::<i128>($row, $line),
             b"usize" => $answer::<usize>($row, $line),
-            _ => $answer::<isize>($row, $line),
+            b"isize" => $answer::<isize>($row, $line),
+            unknown => put_unknown(unknown, $line),
         }
     };
 }
@@ -166,7 +175,8 @@ macro_rules! by_signed_type {
             b"i32" => $answer::<i32>($row, $line),
             b"i64" => $answer::<i64>($row, $line),
             b"i128" => $answer::<i128>($row, $line),
-            _ => $answer::<isize>($row, $line),
+            b"isize" => $answer::<isize>($row, $line),
+            unknown => put_unknown(unknown, $line),
         }
     };
 }
