@@ -41,7 +41,7 @@ pub(crate) fn front_64<'a, E: Engine>(
     } else if window.len < 16 {
         Ok((window.number, window.len as usize))
     } else {
-        long_64::<E>(bound, limit, skip, s, steps)
+        by_engine_64::<E>(bound, limit, skip, s, steps)
     }
 }
 
@@ -52,7 +52,7 @@ pub(crate) fn front_64<'a, E: Engine>(
 ///
 /// `Empty`, `Size` and `Overflow`, as of `Engine::prefix_64`.
 #[inline(always)]
-pub(crate) fn all_64<'a, E: Engine>(
+pub(crate) fn front_of_whole_64<'a, E: Engine>(
     bound: u64,
     limit: u32,
     skip: bool,
@@ -68,7 +68,7 @@ pub(crate) fn all_64<'a, E: Engine>(
     ensures least_skipping { IsTrue skip → steps.old + least_loads E.table s.now ≤ steps.new }
 {
     if s.len() >= 16 {
-        return long_64::<E>(bound, limit, skip, s, steps);
+        return by_engine_64::<E>(bound, limit, skip, s, steps);
     }
     let window = E::window(s, steps);
     if window.len == 0 {
@@ -81,7 +81,7 @@ pub(crate) fn all_64<'a, E: Engine>(
 // What the engine answers. It is matched here, so that the caller need not clear the place of the
 // result on the way that does not call it.
 #[inline(always)]
-fn long_64<'a, E: Engine>(
+fn by_engine_64<'a, E: Engine>(
     bound: u64,
     limit: u32,
     skip: bool,
@@ -128,7 +128,7 @@ pub(crate) fn front_128<'a, E: Engine>(
     } else if window.len < 16 {
         Ok((u128::from(window.number), window.len as usize))
     } else if skip && window.zeroes > 0 {
-        long_128::<E>(bound, skip, s, steps)
+        by_engine_128::<E>(bound, skip, s, steps)
     } else {
         second_128::<E>(bound, skip, window, s, steps)
     }
@@ -141,7 +141,7 @@ pub(crate) fn front_128<'a, E: Engine>(
 ///
 /// `Empty`, `Size` and `Overflow`, as of `Engine::prefix_128`.
 #[inline(always)]
-pub(crate) fn all_128<'a, E: Engine>(
+pub(crate) fn front_of_whole_128<'a, E: Engine>(
     bound: u128,
     skip: bool,
     s: &'a [u8],
@@ -154,7 +154,7 @@ pub(crate) fn all_128<'a, E: Engine>(
     ensures least_skipping { IsTrue skip → steps.old + least_loads E.table s.now ≤ steps.new }
 {
     if s.len() >= 32 {
-        return long_128::<E>(bound, skip, s, steps);
+        return by_engine_128::<E>(bound, skip, s, steps);
     }
     front_128::<E>(bound, skip, s, steps)
 }
@@ -183,14 +183,14 @@ fn second_128<'a, E: Engine>(
         let high = u128::from(first.number) * u128::from(power_of_ten(second.len));
         Ok((high + u128::from(second.number), 16 + second.len as usize))
     } else {
-        long_128::<E>(bound, skip, s, steps)
+        by_engine_128::<E>(bound, skip, s, steps)
     }
 }
 
 // What the engine answers. It is matched here, so that the caller need not clear the place of the
 // result on the way that does not call it.
 #[inline(always)]
-fn long_128<'a, E: Engine>(
+fn by_engine_128<'a, E: Engine>(
     bound: u128,
     skip: bool,
     s: &'a [u8],

@@ -43,16 +43,16 @@ pub fn narrow_prefix<'a, E: Engine>(
     if window.len == 0 {
         Err(AtoiSimdError::Empty)
     } else if skip && window.zeroes > 0 {
-        skip_on::<E>(bound, window.zeroes, s, steps)
+        call_behind_zeros::<E>(bound, window.zeroes, s, steps)
     } else {
-        told_at(bound, 0, window, s)
+        answer_at(bound, 0, window, s)
     }
 }
 
 // What `behind_zeros` answers. It is matched here, so that the caller need not clear the place of
 // the result on the way that does not call it.
 #[inline(always)]
-fn skip_on<'a, E: Engine>(
+fn call_behind_zeros<'a, E: Engine>(
     bound: u64,
     zeroes: u32,
     s: &'a [u8],
@@ -99,13 +99,13 @@ fn behind_zeros<'a, E: Engine>(
         }
         at += window.zeroes as usize;
     };
-    told_at(bound, at, window, s)
+    answer_at(bound, at, window, s)
 }
 
 // What the window at the place `at` answers, where only zeros that are skipped stand before it, and
 // there is a digit.
 #[inline(always)]
-fn told_at(
+fn answer_at(
     bound: u64,
     at: usize,
     window: Window,

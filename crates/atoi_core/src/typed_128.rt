@@ -25,7 +25,7 @@ fn greatest_128<T: Number>() -> u128
 
 // The magnitude of the least number of the type.
 #[inline(always)]
-fn least_128<T: Signed>() -> u128
+fn least_magnitude_128<T: Signed>() -> u128
     requires { class_of (kind T.BITS T.SIGNED T.GREATEST) ≡ wide128 }
     ensures value { result ≡ T.GREATEST + 1 }
     ensures digits { HasDigits 39 result }
@@ -83,7 +83,7 @@ pub fn whole_128_neg<'a, E: Engine, T: Signed>(
     ensures least { 0 < length s.now → steps.old < steps.new }
     ensures least_skipping { IsTrue skip → steps.old + least_loads E.table s.now ≤ steps.new }
 {
-    match whole_128::<E>(least_128::<T>(), skip, s, steps) {
+    match whole_128::<E>(least_magnitude_128::<T>(), skip, s, steps) {
         Ok(value) => Ok(T::from_neg(value)),
         Err(error) => Err(error),
     }
@@ -140,7 +140,7 @@ pub fn prefix_128_neg<'a, E: Engine, T: Signed>(
     ensures least { 0 < length s.now → steps.old < steps.new }
     ensures least_skipping { IsTrue skip → steps.old + least_loads E.table s.now ≤ steps.new }
 {
-    match front_128::<E>(least_128::<T>(), skip, s, steps) {
+    match front_128::<E>(least_magnitude_128::<T>(), skip, s, steps) {
         Ok((value, len)) => Ok((T::from_neg(value), len)),
         Err(error) => Err(error),
     }

@@ -25,7 +25,7 @@ fn greatest_64<T: Number>() -> u64
 
 // The magnitude of the least number of the type.
 #[inline(always)]
-fn least_64<T: Signed>() -> u64
+fn least_magnitude_64<T: Signed>() -> u64
     requires { class_of (kind T.BITS T.SIGNED T.GREATEST) ≡ wide64 }
     ensures value { result ≡ T.GREATEST + 1 }
     ensures digits { HasDigits (limit_of (kind T.BITS T.SIGNED T.GREATEST)) result }
@@ -94,7 +94,7 @@ pub fn whole_64_neg<'a, E: Engine, T: Signed>(
     ensures least { 0 < length s.now → steps.old < steps.new }
     ensures least_skipping { IsTrue skip → steps.old + least_loads E.table s.now ≤ steps.new }
 {
-    match whole_64::<E>(least_64::<T>(), limit_64::<T>(), skip, s, steps) {
+    match whole_64::<E>(least_magnitude_64::<T>(), limit_64::<T>(), skip, s, steps) {
         Ok(value) => Ok(T::from_neg(u128::from(value))),
         Err(error) => Err(error),
     }
@@ -151,7 +151,7 @@ pub fn prefix_64_neg<'a, E: Engine, T: Signed>(
     ensures least { 0 < length s.now → steps.old < steps.new }
     ensures least_skipping { IsTrue skip → steps.old + least_loads E.table s.now ≤ steps.new }
 {
-    match front_64::<E>(least_64::<T>(), limit_64::<T>(), skip, s, steps) {
+    match front_64::<E>(least_magnitude_64::<T>(), limit_64::<T>(), skip, s, steps) {
         Ok((value, len)) => Ok((T::from_neg(u128::from(value)), len)),
         Err(error) => Err(error),
     }

@@ -27,7 +27,7 @@ fn narrow_greatest<T: Number>() -> u64
 
 // The magnitude of the least number of the type.
 #[inline(always)]
-fn narrow_least<T: Signed>() -> u64
+fn narrow_least_magnitude<T: Signed>() -> u64
     requires { class_of (kind T.BITS T.SIGNED T.GREATEST) ≡ narrow }
     ensures value { result ≡ T.GREATEST + 1 }
     ensures low { 9 ≤ result }
@@ -83,7 +83,7 @@ pub fn narrow_whole_neg<'a, E: Engine, T: Signed>(
         ≡ whole_answer decimal_table (kind T.BITS T.SIGNED T.GREATEST) true _skip s.now }
     ensures loads_nothing { _steps.new ≡ _steps.old }
 {
-    match narrow_whole(narrow_least::<T>(), s) {
+    match narrow_whole(narrow_least_magnitude::<T>(), s) {
         Ok(value) => Ok(T::from_neg(u128::from(value))),
         Err(error) => Err(error),
     }
@@ -143,7 +143,7 @@ pub fn narrow_prefix_neg<'a, E: Engine, T: Signed>(
     ensures least { 0 < length s.now → steps.old < steps.new }
     ensures least_skipping { IsTrue skip → steps.old + least_loads E.table s.now ≤ steps.new }
 {
-    match narrow_prefix::<E>(narrow_least::<T>(), skip, s, steps) {
+    match narrow_prefix::<E>(narrow_least_magnitude::<T>(), skip, s, steps) {
         Ok((value, len)) => Ok((T::from_neg(u128::from(value)), len)),
         Err(error) => Err(error),
     }

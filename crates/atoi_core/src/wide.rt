@@ -7,7 +7,7 @@ ghost use Rattle.atoi_core.specs.Refusal.{answer_of};
 
 use crate::engine::Engine;
 use crate::error::AtoiSimdError;
-use crate::front::{all_64, all_128};
+use crate::front::{front_of_whole_64, front_of_whole_128};
 use crate::steps::Steps;
 
 /// The number that `s` as a whole is, for an integer of 64 bits.
@@ -40,7 +40,7 @@ pub fn whole_64<'a, E: Engine>(
     ensures least { 0 < length s.now → steps.old < steps.new }
     ensures least_skipping { IsTrue skip → steps.old + least_loads E.table s.now ≤ steps.new }
 {
-    let (number, len) = all_64::<E>(bound, limit, skip, s, steps)?;
+    let (number, len) = front_of_whole_64::<E>(bound, limit, skip, s, steps)?;
     if len == s.len() {
         Ok(number)
     } else {
@@ -75,7 +75,7 @@ pub fn whole_128<'a, E: Engine>(
     ensures least { 0 < length s.now → steps.old < steps.new }
     ensures least_skipping { IsTrue skip → steps.old + least_loads E.table s.now ≤ steps.new }
 {
-    let (number, len) = all_128::<E>(bound, skip, s, steps)?;
+    let (number, len) = front_of_whole_128::<E>(bound, skip, s, steps)?;
     if len == s.len() {
         Ok(number)
     } else {

@@ -3,7 +3,7 @@ use Rattle.std.proofs.Common.{◌+◌, true, inr, refl, ◌∙◌, arith}
 use Rattle.atoi_core.proofs.SkipLemmas.{Skipping-told, Skipping-more, Skipped, Skipped-end}
 use Rattle.atoi_core.proofs.NarrowLemmas.{narrow_told}
 use Rattle.atoi_core.proofs.narrow.behind_zeros.Goals as goal
-use Rattle.atoi_core.proofs.narrow.behind_zeros.Goals.{After-told_at}
+use Rattle.atoi_core.proofs.narrow.behind_zeros.Goals.{After-answer_at}
 
 pub loop-window-init : goal.loop-window-init
 loop-window-init g c =
@@ -21,7 +21,7 @@ loop-window-preserved g c =
     }
 
 -- where the loop ends
-ended : (g : _) (c : After-told_at g)
+ended : (g : _) (c : After-answer_at g)
     → Skipped g.E.Engine.table true c.args.s.now c.loop-window.at c.args.steps.now (c.window-window.new.steps + 1) c.window-window.result
 ended g c =
     Skipped-end g.E.Engine.table g.met.E.Engine.below_ten true c.args.s.now _ _ _ (c.window-window.new.steps + 1) c.window-window.result
@@ -29,7 +29,7 @@ ended g c =
 
 pub returns-clause-answer : goal.returns-clause-answer
 returns-clause-answer g c =
-    c.told_at.ensures ∙ narrow_told _ _ _ _ _ _ _ _ _ (ended g c) c.requires.high (omega (arith, c.loop-window.invariant.some))
+    c.answer_at.ensures ∙ narrow_told _ _ _ _ _ _ _ _ _ (ended g c) c.requires.high (omega (arith, c.loop-window.invariant.some))
 
 pub returns-clause-least : goal.returns-clause-least
 returns-clause-least g c = omega (arith, (ended g c).more)

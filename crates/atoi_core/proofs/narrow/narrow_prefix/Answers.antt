@@ -4,7 +4,7 @@ use Rattle.atoi_core.proofs.SkipLemmas.{Skipped, Skipped-at_once, Skipped-first,
 use Rattle.atoi_core.proofs.NarrowLemmas.{narrow_told}
 use Rattle.atoi_core.proofs.WideLemmas.{answers_empty}
 use Rattle.atoi_core.proofs.narrow.narrow_prefix.Goals as goal
-use Rattle.atoi_core.proofs.narrow.narrow_prefix.Goals.{After-told_at}
+use Rattle.atoi_core.proofs.narrow.narrow_prefix.Goals.{After-answer_at}
 
 pub returns-then-window-eq0-clause-answer : goal.returns-then-window-eq0-clause-answer
 returns-then-window-eq0-clause-answer g c =
@@ -13,7 +13,7 @@ returns-then-window-eq0-clause-answer g c =
     answers_empty _ _ _ _ _ _ _ _ _ _ so (omega arith)
 
 -- where no zeros are told, or none are skipped
-last : (g : _) (c : After-told_at g)
+last : (g : _) (c : After-answer_at g)
     → Skipped g.E.Engine.table c.args.skip c.args.s.now 0 c.args.steps.now c.window-window.new.steps c.window-window.result
 last g c =
     Skipped-at_once g.E.Engine.table g.met.E.Engine.below_ten c.args.skip c.args.s.now _ _ c.window-window.result
@@ -21,7 +21,7 @@ last g c =
     (elim c.else-skip.either [ inl h ↦ inr (h.0, omega (arith, h.1)) | inr h ↦ inl h ])
 
 pub returns-else-skip-clause-answer : goal.returns-else-skip-clause-answer
-returns-else-skip-clause-answer g c = c.told_at.ensures ∙ narrow_told _ _ _ _ _ _ _ _ _ (last g c) c.requires.high (omega arith)
+returns-else-skip-clause-answer g c = c.answer_at.ensures ∙ narrow_told _ _ _ _ _ _ _ _ _ (last g c) c.requires.high (omega arith)
 
 pub returns-else-skip-clause-least_skipping : goal.returns-else-skip-clause-least_skipping
 returns-else-skip-clause-least_skipping g c = Skipped-loads _ _ _ _ _ _ _ _ (last g c) (omega arith)

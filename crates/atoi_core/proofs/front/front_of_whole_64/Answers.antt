@@ -2,7 +2,7 @@
 use Rattle.std.proofs.Common.{refl, arith}
 use Rattle.atoi_core.proofs.SkipLemmas.{Skipped-first, Skipped-loads, few_bytes_short}
 use Rattle.atoi_core.proofs.WideLemmas.{wide_64, answers_empty, answers_short}
-use Rattle.atoi_core.proofs.front.all_64.Goals as goal
+use Rattle.atoi_core.proofs.front.front_of_whole_64.Goals as goal
 
 pub returns-then-window-eq0-clause-answer : goal.returns-then-window-eq0-clause-answer
 returns-then-window-eq0-clause-answer g c =
