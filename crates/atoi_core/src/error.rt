@@ -139,7 +139,8 @@ fn put_invalid(number: u128, index: usize, out: &mut [u8; 400]) -> usize
         ++ codes " it must contain only digits, starting with: " ++ decimal number }
     ensures fits { result ≤ 132 }
     ensures fits_of_64_bits { number < 2 ^ 64 → result ≤ 113 }
-    ensures ascii { IsAscii (decimal index) × IsAscii (decimal number) }
+    ensures ascii_index { IsAscii (decimal index) }
+    ensures ascii_number { IsAscii (decimal number) }
 {
     let end = put_bytes(b"atoi_simd invalid at index: ", out, 0);
     let end = put_decimal(index as u128, out, end);
