@@ -140,6 +140,7 @@ mod tests {
         assert_eq!(rt; process_8(0x553A_3938_3736_3534, 6), 456789);
         assert_eq!(rt; process_8(0x3837_3635_3433_3231, 1), 1);
         assert_eq!(rt; process_8(u64::MAX, 8), 166666665);
+        assert_eq!(rt; process_16(0x553A_3938_3736_3534, 6), 456789);
         assert_eq!(rt; process_16(u128::MAX, 16), 16666666666666665);
     }
 
