@@ -1,9 +1,10 @@
 -- The answers for an integer type, from those of the loops.
-use Rattle.std.proofs.Common.{◌≡◌, ℕ, ◌≤◌, take, Bool, false, List, length, Ok, refl, ap, ◌∙◌, sym, arith, subst}
+use Rattle.std.proofs.Common.{◌≡◌, ℕ, ◌≤◌, take, Bool, false, List, length, Result, Ok, refl, ap, ◌∙◌, sym, arith, subst}
 use Rattle.std.proofs.lemmas.List.Sums.{prefix_len-le-length}
 use Rattle.atoi_core.specs.Digit.{Table, is_digit}
 use Rattle.atoi_core.specs.Run.{run_len, value}
-use Rattle.atoi_core.specs.Magnitude.{Class, narrow, whole, prefix, digits_read, refusal, whole_magnitude, prefix_magnitude}
+use Rattle.atoi_core.specs.Refusal.{Refusal}
+use Rattle.atoi_core.specs.Magnitude.{Class, narrow, whole, prefix, digits_read, refusal, unless_refused, whole_magnitude, prefix_magnitude}
 use Rattle.atoi_core.specs.Answer.{map_answer}
 use Rattle.atoi_core.proofs.RefusalLemmas.{accepted}
 use Rattle.atoi_core.proofs.CallLemmas.{map_unless_ok, digits_read-whole, digits_read-le}
@@ -26,10 +27,16 @@ whole_in_bounds table class bound limit skip s number found =
     (accepted table class bound limit whole skip s both.0).in_range
 
 -- a narrow prefix has no limit
-pub narrow_prefix_limit : (table : Table) (bound limit : ℕ) (skip : Bool) (s : List ℕ)
+narrow_prefix_limit : (table : Table) (bound limit : ℕ) (skip : Bool) (s : List ℕ)
     → refusal table narrow bound limit prefix skip s ≡ refusal table narrow bound 0 prefix skip s
 unfolding refusal
 narrow_prefix_limit table bound limit skip s = refl
+
+-- so it is answered as of a narrow type
+pub narrow_prefix_of : (table : Table) (class : Class) (bound limit : ℕ) (skip : Bool) (s : List ℕ) (found : Result (ℕ × ℕ) Refusal) → class ≡ narrow
+    → found ≡ prefix_magnitude table narrow bound 0 skip s → found ≡ prefix_magnitude table class bound limit skip s
+narrow_prefix_of table class bound limit skip s found is answer =
+    rw is (answer ∙ ap (λ r. unless_refused r (value table (take (digits_read narrow prefix skip (run_len table s)) s), digits_read narrow prefix skip (run_len table s))) (sym (narrow_prefix_limit table bound limit skip s)))
 
 -- a narrow whole slice has no limit, and it is no matter whether its zeros are skipped
 pub narrow_whole_limit : (table : Table) (bound limit : ℕ) (skip : Bool) (s : List ℕ)

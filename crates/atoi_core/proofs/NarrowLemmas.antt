@@ -1,13 +1,14 @@
 -- The answers of the narrow class for a front, from the last window behind the zeros that are skipped.
-use Rattle.std.proofs.Common.{◌≡◌, ℕ, ◌+◌, ◌*◌, ◌/◌, ◌^◌, ◌<◌, ◌≤◌, min, Bool, true, false, nat_lt, List, take, drop, Ok, Err, refl, sym, ap, ◌∙◌, ne_eqb, lit<, inl, inr, arith, if◌then◌else◌}
+use Rattle.std.proofs.Common.{◌≡◌, ℕ, ◌+◌, ◌*◌, ◌/◌, ◌^◌, ◌<◌, ◌≤◌, ◌==◌, not, min, Bool, true, false, nat_lt, List, length, take, drop, Some, None, Result, Ok, Err, refl, sym, ap, ◌∙◌, ne_eqb, lit<, inl, inr, arith, if◌then◌else◌}
 use Rattle.std.proofs.Math.Nat.{le-mul_of_pos_right, one-le-pow}
 use Rattle.std.proofs.lemmas.Bool.{cases_lt, lt-ltb, le-ltb}
 use Rattle.atoi_core.specs.Digit.{Table}
 use Rattle.atoi_core.specs.Run.{run_len, run, zeros, value}
-use Rattle.atoi_core.specs.Refusal.{overflow}
-use Rattle.atoi_core.specs.Magnitude.{narrow, prefix, digits_read, dropped_zeros, refusal, prefix_magnitude}
+use Rattle.atoi_core.specs.Refusal.{Refusal, rank, empty, overflow, invalid64}
+use Rattle.atoi_core.specs.Magnitude.{narrow, prefix, digits_read, dropped_zeros, refusal, unless_refused, whole_magnitude, prefix_magnitude}
 use Rattle.atoi_core.specs.declared.window.Window.{Window}
 use Rattle.atoi_core.proofs.SkipLemmas.{Skipped}
+use Rattle.atoi_core.proofs.Magnitudes.{narrow_whole_is}
 
 -- how many zeros the slice of an overflow leaves out
 dropped_is : (t : Table) (skip : Bool) (s : List ℕ) (at before now : ℕ) (w : Window) →
@@ -102,3 +103,37 @@ narrow_told t bound limit skip s at before now w so high some =
       | inl over ↦ rw (lt-ltb bound w.number over) (narrow_overflow t bound limit skip s at before now w so some over)
       | inr fits ↦ rw (le-ltb bound w.number fits) (narrow_ok t bound limit skip s at before now w so high some fits)
     ]
+
+-- a narrow whole slice is answered by its front where zeros are skipped: an overflow holds the whole
+-- slice, and a front that ends before the slice is invalid
+abbrev pub whole_of_front : List ℕ → Result (ℕ × ℕ) Refusal → Result ℕ Refusal
+whole_of_front s (Ok found) = if found.1 == length s then Ok found.0 else Err (invalid64 found.0 found.1 s)
+whole_of_front s (Err reason) = Err (if rank reason == 0 then empty else overflow s)
+
+-- one more reason, the last of three
+last_of_three : (s rest : List ℕ) (a b : Bool) (v n : ℕ)
+    → unless_refused (if a then Some empty else (if b then Some (overflow s) else (if not (n == length s) then Some (invalid64 v n s) else None))) v
+    ≡ whole_of_front s (unless_refused (if a then Some empty else (if b then Some (overflow rest) else None)) (v, n))
+last_of_three s rest true b v n = refl
+last_of_three s rest false true v n = refl
+last_of_three s rest false false v n =
+    elim (n == length s) as (λ d. unless_refused (if not d then Some (invalid64 v n s) else None) v ≡ (if d then Ok v else Err (invalid64 v n s)))
+    [ true ↦ refl | false ↦ refl ]
+
+-- a narrow front where zeros are skipped, by the length of the run and its value
+narrow_front_is : (t : Table) (bound limit : ℕ) (s : List ℕ)
+    → prefix_magnitude t narrow bound limit true s
+    ≡ unless_refused (if run_len t s == 0 then Some empty
+    else (if nat_lt bound (value t (run t s)) then Some (overflow (drop (dropped_zeros narrow prefix true (run_len t s) (zeros t s)) s)) else None))
+    (value t (run t s), run_len t s)
+unfolding refusal
+narrow_front_is t bound limit s = refl
+
+-- the answer for a narrow whole slice, from that for its front
+pub narrow_whole_of : (t : Table) (bound limit : ℕ) (s : List ℕ) (skip : Bool) (front : Result (ℕ × ℕ) Refusal)
+    → front ≡ prefix_magnitude t narrow bound limit true s
+    → whole_of_front s front ≡ whole_magnitude t narrow bound limit skip s
+narrow_whole_of t bound limit s skip front e =
+    ap (whole_of_front s) (e ∙ narrow_front_is t bound limit s)
+    ∙ sym (last_of_three s _ (run_len t s == 0) (nat_lt bound (value t (run t s))) (value t (run t s)) (run_len t s))
+    ∙ sym (narrow_whole_is t bound limit skip s (run_len t s) (value t (run t s)) refl refl)

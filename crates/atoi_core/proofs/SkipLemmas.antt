@@ -6,6 +6,7 @@ use Rattle.std.proofs.lemmas.List.Sums.{prefix_len-le-length}
 use Rattle.atoi_core.specs.Digit.{Table, IsBelowTen, is_digit, is_zero}
 use Rattle.atoi_core.specs.Run.{run_len, run, zeros, value}
 use Rattle.atoi_core.specs.Window.{window_of}
+use Rattle.atoi_core.specs.Loads.{LoadsWithin}
 use Rattle.atoi_core.specs.declared.window.Window.{Window}
 use Rattle.atoi_core.proofs.RunLemmas.{prefix_len-drop, zeros-le}
 use Rattle.atoi_core.proofs.ValueLemmas.{value-drop_zeros}
@@ -125,10 +126,15 @@ Skipped-end t below skip s at before now next w so e one stops =
       ];
     }
 
--- a call that skips has loaded a window for each 32 zeros at least, however many it loads after these
-pub Skipped-loads : (t : Table) (skip : Bool) (s : List ℕ) (at before now last : ℕ) (w : Window) →
-    Skipped t skip s at before now w → now ≤ last → IsTrue skip → before + zeros t s / 32 ≤ last
-Skipped-loads t skip s at before now last w so more on = omega (arith, so.least on)
+-- a call that loads so many windows more, where these are within its bound
+pub Skipped-loads : (t : Table) (skip : Bool) (s : List ℕ) (at before now : ℕ) (w : Window) (most last : ℕ) →
+    Skipped t skip s at before now w → (more : ℕ) → last ≡ now + more → zeros t s / 16 + 2 + more ≤ most →
+    LoadsWithin most t skip s before last
+Skipped-loads t skip s at before now w most last so more counted bounded = record {
+  at_most = omega (arith, so.most);
+  at_least = λ _. omega (arith, so.more);
+  at_least_skipping = λ on. omega (arith, so.least on);
+}
 
 -- the zeros that a first window tells are skipped
 pub Skipping-told : (t : Table) → IsBelowTen t → (s : List ℕ) (n zeroes : ℕ) → zeroes ≡ (window_of t 16 s).zeroes → 0 < zeroes →

@@ -21,12 +21,6 @@ abbrev pub typed_prefix_answer : {T : Type 0} → (T → ℤ) → Result (T × �
 typed_prefix_answer {T} number result =
     map_answer (λ (found : T × ℕ). (number found.0, found.1)) (answer_of result)
 
--- the digits that a whole slice is read by: of a narrow type the decimal ones, whatever the engine's are
-abbrev pub whole_table : Class → Table → Table
-whole_table narrow table = decimal_table
-whole_table wide64 table = table
-whole_table wide128 table = table
-
 -- a body as a whole, with the sign that stood before it
 abbrev pub whole_answer : Table → Kind → (minus skip : Bool) → List ℕ → Result ℤ Refusal
 whole_answer table k minus skip body =

@@ -21,6 +21,12 @@ pub record IsSized (k : Kind) : Type 0 where
   pub bits : (k.bits ≡ 8) ⊎ ((k.bits ≡ 16) ⊎ ((k.bits ≡ 32) ⊎ ((k.bits ≡ 64) ⊎ (k.bits ≡ 128))))
   pub greatest : k.greatest ≡ greatest_of k.bits k.signed
 
+-- the kind that a type's constants make
+pub record IsKindOf (k : Kind) (bits : ℕ) (signed : Bool) (greatest : ℕ) : Type 0 where
+  pub bits_are : k.bits ≡ bits
+  pub sign_is : k.signed ≡ signed
+  pub greatest_is : k.greatest ≡ greatest
+
 -- up to 32 bits, 64, or 128
 abbrev pub class_of : Kind → Class
 class_of k = if nat_le k.bits 32 then narrow else (if k.bits == 64 then wide64 else wide128)

@@ -1,8 +1,9 @@
 -- How many windows a call loads.
-use Rattle.std.specs.Prelude.{ℕ, ◌+◌, ◌*◌, ◌/◌, List}
+use Rattle.std.specs.Prelude.{ℕ, ◌+◌, ◌*◌, ◌/◌, ◌<◌, ◌≤◌, Bool, true, IsTrue, List, length}
 use Rattle.atoi_core.specs.Digit.{Table}
 use Rattle.atoi_core.specs.Run.{zeros}
-use Rattle.atoi_core.specs.Magnitude.{Class, narrow, wide64, wide128}
+use Rattle.atoi_core.specs.Magnitude.{Class, Extent, narrow, wide64, wide128, whole, prefix}
+use Rattle.atoi_core.specs.Kind.{Kind, class_of}
 
 -- how many windows a turn loads at most
 abbrev pub loads_a_turn : Class → ℕ
@@ -14,6 +15,21 @@ loads_a_turn wide128 = 3
 abbrev pub most_loads : Table → Class → List ℕ → ℕ
 most_loads table class s = loads_a_turn class * (zeros table s / 16 + 2)
 
--- the fewest windows that a call which skips zeros loads: one for each 32
-abbrev pub least_loads : Table → List ℕ → ℕ
-least_loads table s = zeros table s / 32
+-- whether a call skips zeros: as its flag says, but for a narrow whole slice always
+abbrev pub skips_zeros : Class → Extent → Bool → Bool
+skips_zeros narrow whole skip = true
+skips_zeros narrow prefix skip = skip
+skips_zeros wide64 extent skip = skip
+skips_zeros wide128 extent skip = skip
+
+-- the count of windows before a call and after it: at most so many were loaded; at least one, where
+-- the slice has a byte; and at least one for each 32 zeros, where zeros are skipped
+pub record LoadsWithin (most : ℕ) (table : Table) (skip : Bool) (s : List ℕ) (before after : ℕ) : Type 0 where
+  pub at_most : after ≤ before + most
+  pub at_least : 0 < length s → before < after
+  pub at_least_skipping : IsTrue skip → before + zeros table s / 32 ≤ after
+
+-- the windows that a parse of an integer type loads
+abbrev pub TypedLoads : Table → Kind → Extent → Bool → List ℕ → (before after : ℕ) → Type 0
+TypedLoads table k extent skip s before after =
+    LoadsWithin (most_loads table (class_of k) s) table (skips_zeros (class_of k) extent skip) s before after

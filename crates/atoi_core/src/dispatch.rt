@@ -1,27 +1,25 @@
-//! The parses of any integer type: by its class, of at most 32 bits, of 64 or of 128. It stands on
-//! `typed_narrow`, `typed_64` and `typed_128`, and on what these speak of: `engine`, `number`,
-//! `steps` and `error`.
-ghost use Rattle.std.specs.Prelude.{◌≡◌, ◌≢◌, ◌+◌, ◌<◌, ◌≤◌, true, false, IfOk, IsTrue, length};
-ghost use Rattle.atoi_core.specs.Answer.{typed_answer, typed_prefix_answer, whole_answer, prefix_answer, whole_table};
-ghost use Rattle.atoi_core.specs.Kind.{kind, class_of};
-ghost use Rattle.atoi_core.specs.Loads.{most_loads, least_loads};
-ghost use Rattle.atoi_core.specs.Magnitude.{narrow};
+//! The four core calls: the parses of any integer type. The sign gives the bound, and the class of
+//! the type, of at most 32 bits, of 64 or of 128, the loop. It stands on `narrow`, `wide`, `front`
+//! and `number`, and on what these speak of: `engine`, `steps` and `error`.
+ghost use Rattle.std.specs.Prelude.{◌≡◌, ◌≤◌, true, false, IfOk, length};
+ghost use Rattle.atoi_core.specs.Answer.{typed_answer, typed_prefix_answer, whole_answer, prefix_answer};
+ghost use Rattle.atoi_core.specs.Kind.{class_of, bound_of, limit_of};
+ghost use Rattle.atoi_core.specs.Loads.{TypedLoads};
+ghost use Rattle.atoi_core.specs.Magnitude.{HasDigits, narrow, wide64, wide128, whole, prefix, whole_magnitude, prefix_magnitude};
+ghost use Rattle.atoi_core.specs.Refusal.{answer_of};
 
 use crate::engine::Engine;
 use crate::error::AtoiSimdError;
+use crate::front::{front_64, front_128};
+use crate::narrow::{narrow_prefix, narrow_whole_windows};
 use crate::number::{Number, Signed};
 use crate::steps::Steps;
-use crate::typed_64::{prefix_64_neg, prefix_64_pos, whole_64_neg, whole_64_pos};
-use crate::typed_128::{prefix_128_neg, prefix_128_pos, whole_128_neg, whole_128_pos};
-use crate::typed_narrow::{
-    narrow_prefix_neg, narrow_prefix_pos, narrow_whole_neg, narrow_whole_pos,
-};
+use crate::wide::{whole_64, whole_128};
 
 /// Reads the whole of `s`, which has no sign, as a number of `T`.
 ///
 /// With `skip` any number of leading zeros is accepted. A type of at most 32 bits accepts them
-/// always and is read digit by digit, by the decimal digits whatever the engine's are, without a
-/// window. `steps` counts the windows that are loaded.
+/// always. `steps` counts the windows that are loaded.
 ///
 /// # Errors
 ///
@@ -37,23 +35,12 @@ pub fn whole_pos<'a, E: Engine, T: Number>(
     s: &'a [u8],
     steps: &mut Steps,
 ) -> Result<T, AtoiSimdError<'a>>
-    ensures answer { typed_answer T.number result
-        ≡ whole_answer (whole_table (class_of (kind T.BITS T.SIGNED T.GREATEST)) E.table)
-        (kind T.BITS T.SIGNED T.GREATEST) false skip s.now }
-    ensures most { steps.new ≤ steps.old
-        + most_loads E.table (class_of (kind T.BITS T.SIGNED T.GREATEST)) s.now }
-    ensures loads_nothing { class_of (kind T.BITS T.SIGNED T.GREATEST) ≡ narrow → steps.new ≡ steps.old }
-    ensures least { class_of (kind T.BITS T.SIGNED T.GREATEST) ≢ narrow
-        → 0 < length s.now → steps.old < steps.new }
-    ensures least_skipping { class_of (kind T.BITS T.SIGNED T.GREATEST) ≢ narrow
-        → IsTrue skip → steps.old + least_loads E.table s.now ≤ steps.new }
+    ensures answer { typed_answer T.number result ≡ whole_answer E.table T.kind false skip s.now }
+    ensures loads { TypedLoads E.table T.kind whole skip s.now steps.old steps.new }
 {
-    if T::BITS <= 32 {
-        narrow_whole_pos::<E, T>(skip, s, steps)
-    } else if T::BITS == 64 {
-        whole_64_pos::<E, T>(skip, s, steps)
-    } else {
-        whole_128_pos::<E, T>(skip, s, steps)
+    match whole_by_class::<E, T>(false, skip, s, steps) {
+        Ok(magnitude) => Ok(T::from_pos(magnitude)),
+        Err(error) => Err(error),
     }
 }
 
@@ -71,23 +58,12 @@ pub fn whole_neg<'a, E: Engine, T: Signed>(
     s: &'a [u8],
     steps: &mut Steps,
 ) -> Result<T, AtoiSimdError<'a>>
-    ensures answer { typed_answer T.number result
-        ≡ whole_answer (whole_table (class_of (kind T.BITS T.SIGNED T.GREATEST)) E.table)
-        (kind T.BITS T.SIGNED T.GREATEST) true skip s.now }
-    ensures most { steps.new ≤ steps.old
-        + most_loads E.table (class_of (kind T.BITS T.SIGNED T.GREATEST)) s.now }
-    ensures loads_nothing { class_of (kind T.BITS T.SIGNED T.GREATEST) ≡ narrow → steps.new ≡ steps.old }
-    ensures least { class_of (kind T.BITS T.SIGNED T.GREATEST) ≢ narrow
-        → 0 < length s.now → steps.old < steps.new }
-    ensures least_skipping { class_of (kind T.BITS T.SIGNED T.GREATEST) ≢ narrow
-        → IsTrue skip → steps.old + least_loads E.table s.now ≤ steps.new }
+    ensures answer { typed_answer T.number result ≡ whole_answer E.table T.kind true skip s.now }
+    ensures loads { TypedLoads E.table T.kind whole skip s.now steps.old steps.new }
 {
-    if T::BITS <= 32 {
-        narrow_whole_neg::<E, T>(skip, s, steps)
-    } else if T::BITS == 64 {
-        whole_64_neg::<E, T>(skip, s, steps)
-    } else {
-        whole_128_neg::<E, T>(skip, s, steps)
+    match whole_by_class::<E, T>(true, skip, s, steps) {
+        Ok(magnitude) => Ok(T::from_neg(magnitude)),
+        Err(error) => Err(error),
     }
 }
 
@@ -107,19 +83,13 @@ pub fn prefix_pos<'a, E: Engine, T: Number>(
     steps: &mut Steps,
 ) -> Result<(T, usize), AtoiSimdError<'a>>
     ensures answer { typed_prefix_answer T.number result
-        ≡ prefix_answer E.table (kind T.BITS T.SIGNED T.GREATEST) false skip s.now }
+        ≡ prefix_answer E.table T.kind false skip s.now }
     ensures within { IfOk result (λ found. found.1 ≤ length s.now) }
-    ensures most { steps.new ≤ steps.old
-        + most_loads E.table (class_of (kind T.BITS T.SIGNED T.GREATEST)) s.now }
-    ensures least { 0 < length s.now → steps.old < steps.new }
-    ensures least_skipping { IsTrue skip → steps.old + least_loads E.table s.now ≤ steps.new }
+    ensures loads { TypedLoads E.table T.kind prefix skip s.now steps.old steps.new }
 {
-    if T::BITS <= 32 {
-        narrow_prefix_pos::<E, T>(skip, s, steps)
-    } else if T::BITS == 64 {
-        prefix_64_pos::<E, T>(skip, s, steps)
-    } else {
-        prefix_128_pos::<E, T>(skip, s, steps)
+    match prefix_by_class::<E, T>(false, skip, s, steps) {
+        Ok((magnitude, len)) => Ok((T::from_pos(magnitude), len)),
+        Err(error) => Err(error),
     }
 }
 
@@ -139,19 +109,129 @@ pub fn prefix_neg<'a, E: Engine, T: Signed>(
     steps: &mut Steps,
 ) -> Result<(T, usize), AtoiSimdError<'a>>
     ensures answer { typed_prefix_answer T.number result
-        ≡ prefix_answer E.table (kind T.BITS T.SIGNED T.GREATEST) true skip s.now }
+        ≡ prefix_answer E.table T.kind true skip s.now }
     ensures within { IfOk result (λ found. found.1 ≤ length s.now) }
-    ensures most { steps.new ≤ steps.old
-        + most_loads E.table (class_of (kind T.BITS T.SIGNED T.GREATEST)) s.now }
-    ensures least { 0 < length s.now → steps.old < steps.new }
-    ensures least_skipping { IsTrue skip → steps.old + least_loads E.table s.now ≤ steps.new }
+    ensures loads { TypedLoads E.table T.kind prefix skip s.now steps.old steps.new }
+{
+    match prefix_by_class::<E, T>(true, skip, s, steps) {
+        Ok((magnitude, len)) => Ok((T::from_neg(magnitude), len)),
+        Err(error) => Err(error),
+    }
+}
+
+// The magnitude that the whole of `s` writes, behind a minus or not.
+#[inline(always)]
+#[tactic(auto, using(crate::proofs::AnswerLemmas::narrow_whole_limit))]
+fn whole_by_class<'a, E: Engine, T: Number>(
+    minus: bool,
+    skip: bool,
+    s: &'a [u8],
+    steps: &mut Steps,
+) -> Result<u128, AtoiSimdError<'a>>
+    requires signed { minus ≡ true → T.SIGNED ≡ true }
+    ensures answer { answer_of result ≡ whole_magnitude E.table (class_of T.kind)
+        (bound_of T.kind minus) (limit_of T.kind) skip s.now }
+    ensures loads { TypedLoads E.table T.kind whole skip s.now steps.old steps.new }
 {
     if T::BITS <= 32 {
-        narrow_prefix_neg::<E, T>(skip, s, steps)
+        widened(narrow_whole_windows::<E>(narrow_bound::<T>(minus), s, steps))
     } else if T::BITS == 64 {
-        prefix_64_neg::<E, T>(skip, s, steps)
+        let bound = bound_64::<T>(minus);
+        widened(whole_64::<E>(bound, limit_64::<T>(), skip, s, steps))
     } else {
-        prefix_128_neg::<E, T>(skip, s, steps)
+        whole_128::<E>(bound_128::<T>(minus), skip, s, steps)
+    }
+}
+
+// The magnitude at the front of `s`, behind a minus or not, and its length in bytes.
+#[inline(always)]
+fn prefix_by_class<'a, E: Engine, T: Number>(
+    minus: bool,
+    skip: bool,
+    s: &'a [u8],
+    steps: &mut Steps,
+) -> Result<(u128, usize), AtoiSimdError<'a>>
+    requires signed { minus ≡ true → T.SIGNED ≡ true }
+    ensures answer { answer_of result ≡ prefix_magnitude E.table (class_of T.kind)
+        (bound_of T.kind minus) (limit_of T.kind) skip s.now }
+    ensures loads { TypedLoads E.table T.kind prefix skip s.now steps.old steps.new }
+{
+    if T::BITS <= 32 {
+        widened_prefix(narrow_prefix::<E>(narrow_bound::<T>(minus), skip, s, steps))
+    } else if T::BITS == 64 {
+        let bound = bound_64::<T>(minus);
+        widened_prefix(front_64::<E>(bound, limit_64::<T>(), skip, s, steps))
+    } else {
+        front_128::<E>(bound_128::<T>(minus), skip, s, steps)
+    }
+}
+
+// The greatest magnitude of a type of at most 32 bits.
+#[inline(always)]
+fn narrow_bound<T: Number>(minus: bool) -> u64
+    requires class { class_of T.kind ≡ narrow }
+    requires signed { minus ≡ true → T.SIGNED ≡ true }
+    ensures value { result ≡ bound_of T.kind minus }
+    ensures low { 9 ≤ result }
+    ensures high { result ≤ 4294967295 }
+{
+    T::GREATEST as u64 + u64::from(minus)
+}
+
+// The greatest magnitude of a type of 64 bits.
+#[inline(always)]
+fn bound_64<T: Number>(minus: bool) -> u64
+    requires class { class_of T.kind ≡ wide64 }
+    requires signed { minus ≡ true → T.SIGNED ≡ true }
+    ensures value { result ≡ bound_of T.kind minus }
+    ensures digits { HasDigits (limit_of T.kind) result }
+{
+    T::GREATEST as u64 + u64::from(minus)
+}
+
+// The greatest magnitude of a type of 128 bits.
+#[inline(always)]
+fn bound_128<T: Number>(minus: bool) -> u128
+    requires class { class_of T.kind ≡ wide128 }
+    requires signed { minus ≡ true → T.SIGNED ≡ true }
+    ensures value { result ≡ bound_of T.kind minus }
+    ensures digits { HasDigits 39 result }
+{
+    T::GREATEST + u128::from(minus)
+}
+
+// How many digits the greatest magnitude of a type of 64 bits has.
+#[inline(always)]
+fn limit_64<T: Number>() -> u32
+    requires { class_of T.kind ≡ wide64 }
+    ensures value { result ≡ limit_of T.kind }
+    ensures low { 17 ≤ result }
+    ensures high { result ≤ 20 }
+{
+    if T::SIGNED { 19 } else { 20 }
+}
+
+// The same answer, with a number of 128 bits.
+#[inline(always)]
+fn widened(answer: Result<u64, AtoiSimdError<'_>>) -> Result<u128, AtoiSimdError<'_>>
+    ensures { result ≡ answer.entry }
+{
+    match answer {
+        Ok(number) => Ok(u128::from(number)),
+        Err(error) => Err(error),
+    }
+}
+
+// The same answer with a count, with a number of 128 bits.
+#[inline(always)]
+fn widened_prefix(
+    answer: Result<(u64, usize), AtoiSimdError<'_>>,
+) -> Result<(u128, usize), AtoiSimdError<'_>>
+    ensures { result ≡ answer.entry }
+{
+    match answer {
+        Ok((number, len)) => Ok((u128::from(number), len)),
+        Err(error) => Err(error),
     }
 }
 

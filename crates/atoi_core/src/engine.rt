@@ -1,8 +1,8 @@
 //! What reads windows of a slice, and the parses of wide integers over any such engine.
 //! It stands on `window`, `join`, `steps` and `error`, and on no particular engine.
-ghost use Rattle.std.specs.Prelude.{◌≡◌, ◌+◌, ◌<◌, ◌≤◌, ℕ, IsTrue, length};
+ghost use Rattle.std.specs.Prelude.{◌≡◌, ◌+◌, ◌-◌, ◌≤◌, ℕ};
 ghost use Rattle.atoi_core.specs.Digit.{Table, IsBelowTen};
-ghost use Rattle.atoi_core.specs.Loads.{most_loads, least_loads};
+ghost use Rattle.atoi_core.specs.Loads.{LoadsWithin, most_loads};
 ghost use Rattle.atoi_core.specs.Magnitude.{HasDigits, wide64, wide128, prefix_magnitude};
 ghost use Rattle.atoi_core.specs.Refusal.{answer_of};
 ghost use Rattle.atoi_core.specs.Window.{window_of};
@@ -64,9 +64,8 @@ pub trait Engine {
         requires limit_high { limit ≤ 20 }
         requires digits { HasDigits limit bound }
         ensures answer { answer_of result ≡ prefix_magnitude table wide64 bound limit skip s.now }
-        ensures most { steps.new < steps.old + most_loads table wide64 s.now }
-        ensures least { 0 < length s.now → steps.old < steps.new }
-        ensures least_skipping { IsTrue skip → steps.old + least_loads table s.now ≤ steps.new }
+        ensures loads { LoadsWithin (most_loads table wide64 s.now - 1) table skip s.now
+            steps.old steps.new }
     {
         let mut at = 0;
         let front = loop {
@@ -126,17 +125,16 @@ pub trait Engine {
     ) -> Result<(u128, usize), AtoiSimdError<'a>>
         requires digits { HasDigits 39 bound }
         ensures answer { answer_of result ≡ prefix_magnitude table wide128 bound 39 skip s.now }
-        ensures most { steps.new + 1 < steps.old + most_loads table wide128 s.now }
-        ensures least { 0 < length s.now → steps.old < steps.new }
-        ensures least_skipping { IsTrue skip → steps.old + least_loads table s.now ≤ steps.new }
+        ensures loads { LoadsWithin (most_loads table wide128 s.now - 2) table skip s.now
+            steps.old steps.new }
     {
         let mut at = 0;
         let first = loop {
-            let window = Self::window(&s[at..], steps);
-            if !skip || window.zeroes == 0 {
-                break window;
+            let next = Self::window(&s[at..], steps);
+            if !skip || next.zeroes == 0 {
+                break next;
             }
-            at += window.zeroes as usize;
+            at += next.zeroes as usize;
         };
         if first.len < 16 {
             let len = at + first.len as usize;

@@ -1,14 +1,14 @@
 //! The parses of wide integers from the front of a slice: a run that ends in the first window (for
 //! 128 bits in the first two) is answered in line, a longer one by the engine. It stands on
 //! `engine`, `window`, `join`, `steps` and `error`.
-ghost use Rattle.std.specs.Prelude.{◌≡◌, ◌+◌, ◌<◌, ◌≤◌, IsTrue, length};
-ghost use Rattle.atoi_core.specs.Loads.{most_loads, least_loads};
+ghost use Rattle.std.specs.Prelude.{◌≡◌, ◌-◌, ◌≤◌, IsTrue};
+ghost use Rattle.atoi_core.specs.Loads.{LoadsWithin, most_loads};
 ghost use Rattle.atoi_core.specs.Magnitude.{HasDigits, wide64, wide128, prefix_magnitude};
 ghost use Rattle.atoi_core.specs.Refusal.{answer_of};
 ghost use Rattle.atoi_core.specs.Window.{window_of};
 
 use crate::engine::Engine;
-use crate::error::AtoiSimdError;
+use crate::error::{AtoiSimdError, out_of_line};
 use crate::join::power_of_ten;
 use crate::steps::Steps;
 use crate::window::Window;
@@ -31,9 +31,8 @@ pub(crate) fn front_64<'a, E: Engine>(
     requires limit_high { limit ≤ 20 }
     requires digits { HasDigits limit bound }
     ensures answer { answer_of result ≡ prefix_magnitude E.table wide64 bound limit skip s.now }
-    ensures most { steps.new ≤ steps.old + most_loads E.table wide64 s.now }
-    ensures least { 0 < length s.now → steps.old < steps.new }
-    ensures least_skipping { IsTrue skip → steps.old + least_loads E.table s.now ≤ steps.new }
+    ensures loads { LoadsWithin (most_loads E.table wide64 s.now) E.table skip s.now
+        steps.old steps.new }
 {
     let window = E::window(s, steps);
     if window.len == 0 {
@@ -41,7 +40,7 @@ pub(crate) fn front_64<'a, E: Engine>(
     } else if window.len < 16 {
         Ok((window.number, window.len as usize))
     } else {
-        by_engine_64::<E>(bound, limit, skip, s, steps)
+        out_of_line(E::prefix_64(bound, limit, skip, s, steps))
     }
 }
 
@@ -63,42 +62,17 @@ pub(crate) fn front_of_whole_64<'a, E: Engine>(
     requires limit_high { limit ≤ 20 }
     requires digits { HasDigits limit bound }
     ensures answer { answer_of result ≡ prefix_magnitude E.table wide64 bound limit skip s.now }
-    ensures most { steps.new ≤ steps.old + most_loads E.table wide64 s.now }
-    ensures least { 0 < length s.now → steps.old < steps.new }
-    ensures least_skipping { IsTrue skip → steps.old + least_loads E.table s.now ≤ steps.new }
+    ensures loads { LoadsWithin (most_loads E.table wide64 s.now) E.table skip s.now
+        steps.old steps.new }
 {
     if s.len() >= 16 {
-        return by_engine_64::<E>(bound, limit, skip, s, steps);
+        return out_of_line(E::prefix_64(bound, limit, skip, s, steps));
     }
     let window = E::window(s, steps);
     if window.len == 0 {
         Err(AtoiSimdError::Empty)
     } else {
         Ok((window.number, window.len as usize))
-    }
-}
-
-// What the engine answers. It is matched here, so that the caller need not clear the place of the
-// result on the way that does not call it.
-#[inline(always)]
-fn by_engine_64<'a, E: Engine>(
-    bound: u64,
-    limit: u32,
-    skip: bool,
-    s: &'a [u8],
-    steps: &mut Steps,
-) -> Result<(u64, usize), AtoiSimdError<'a>>
-    requires limit_low { 17 ≤ limit }
-    requires limit_high { limit ≤ 20 }
-    requires digits { HasDigits limit bound }
-    ensures answer { answer_of result ≡ prefix_magnitude E.table wide64 bound limit skip s.now }
-    ensures most { steps.new < steps.old + most_loads E.table wide64 s.now }
-    ensures least { 0 < length s.now → steps.old < steps.new }
-    ensures least_skipping { IsTrue skip → steps.old + least_loads E.table s.now ≤ steps.new }
-{
-    match E::prefix_64(bound, limit, skip, s, steps) {
-        Ok(found) => Ok(found),
-        Err(error) => Err(error),
     }
 }
 
@@ -118,9 +92,8 @@ pub(crate) fn front_128<'a, E: Engine>(
 ) -> Result<(u128, usize), AtoiSimdError<'a>>
     requires digits { HasDigits 39 bound }
     ensures answer { answer_of result ≡ prefix_magnitude E.table wide128 bound 39 skip s.now }
-    ensures most { steps.new ≤ steps.old + most_loads E.table wide128 s.now }
-    ensures least { 0 < length s.now → steps.old < steps.new }
-    ensures least_skipping { IsTrue skip → steps.old + least_loads E.table s.now ≤ steps.new }
+    ensures loads { LoadsWithin (most_loads E.table wide128 s.now) E.table skip s.now
+        steps.old steps.new }
 {
     let window = E::window(s, steps);
     if window.len == 0 {
@@ -128,7 +101,7 @@ pub(crate) fn front_128<'a, E: Engine>(
     } else if window.len < 16 {
         Ok((u128::from(window.number), window.len as usize))
     } else if skip && window.zeroes > 0 {
-        by_engine_128::<E>(bound, skip, s, steps)
+        out_of_line(E::prefix_128(bound, skip, s, steps))
     } else {
         second_128::<E>(bound, skip, window, s, steps)
     }
@@ -149,12 +122,11 @@ pub(crate) fn front_of_whole_128<'a, E: Engine>(
 ) -> Result<(u128, usize), AtoiSimdError<'a>>
     requires digits { HasDigits 39 bound }
     ensures answer { answer_of result ≡ prefix_magnitude E.table wide128 bound 39 skip s.now }
-    ensures most { steps.new ≤ steps.old + most_loads E.table wide128 s.now }
-    ensures least { 0 < length s.now → steps.old < steps.new }
-    ensures least_skipping { IsTrue skip → steps.old + least_loads E.table s.now ≤ steps.new }
+    ensures loads { LoadsWithin (most_loads E.table wide128 s.now) E.table skip s.now
+        steps.old steps.new }
 {
     if s.len() >= 32 {
-        return by_engine_128::<E>(bound, skip, s, steps);
+        return out_of_line(E::prefix_128(bound, skip, s, steps));
     }
     front_128::<E>(bound, skip, s, steps)
 }
@@ -174,36 +146,14 @@ fn second_128<'a, E: Engine>(
     requires full { first.len ≡ 16 }
     requires kept { IsTrue skip → first.zeroes ≡ 0 }
     ensures answer { answer_of result ≡ prefix_magnitude E.table wide128 bound 39 skip s.now }
-    ensures most { steps.new < steps.old + most_loads E.table wide128 s.now }
-    ensures least { steps.old < steps.new }
-    ensures least_skipping { IsTrue skip → steps.old + least_loads E.table s.now ≤ steps.new }
+    ensures loads { LoadsWithin (most_loads E.table wide128 s.now - 1) E.table skip s.now
+        steps.old steps.new }
 {
     let second = E::window(&s[16..], steps);
     if second.len < 16 {
         let high = u128::from(first.number) * u128::from(power_of_ten(second.len));
         Ok((high + u128::from(second.number), 16 + second.len as usize))
     } else {
-        by_engine_128::<E>(bound, skip, s, steps)
-    }
-}
-
-// What the engine answers. It is matched here, so that the caller need not clear the place of the
-// result on the way that does not call it.
-#[inline(always)]
-fn by_engine_128<'a, E: Engine>(
-    bound: u128,
-    skip: bool,
-    s: &'a [u8],
-    steps: &mut Steps,
-) -> Result<(u128, usize), AtoiSimdError<'a>>
-    requires digits { HasDigits 39 bound }
-    ensures answer { answer_of result ≡ prefix_magnitude E.table wide128 bound 39 skip s.now }
-    ensures most { steps.new + 1 < steps.old + most_loads E.table wide128 s.now }
-    ensures least { 0 < length s.now → steps.old < steps.new }
-    ensures least_skipping { IsTrue skip → steps.old + least_loads E.table s.now ≤ steps.new }
-{
-    match E::prefix_128(bound, skip, s, steps) {
-        Ok(found) => Ok(found),
-        Err(error) => Err(error),
+        out_of_line(E::prefix_128(bound, skip, s, steps))
     }
 }

@@ -8,56 +8,56 @@ use crate::number::Number;
 /// The decimal text of every value of the type, with a `-` before it where it is negative and no
 /// zeros in front, is parsed by `parse` to that value, for each of the four choices of flags.
 pub fn text_of_value<T: Number>()
-    ensures { TextOfValue (kind T.BITS T.SIGNED T.GREATEST) }
+    ensures { TextOfValue T.kind }
 {}
 
 /// `parse` with both flags on answers `Ok` exactly on the texts of the type: an optional `+`, or
 /// `-` where the type is signed, one or more digits, nothing behind them, and the signed value in
 /// the type's range. The answer is the text's number.
 pub fn accepted_texts<T: Number>()
-    ensures { AcceptedTexts (kind T.BITS T.SIGNED T.GREATEST) }
+    ensures { AcceptedTexts T.kind }
 {}
 
 /// A prefix that succeeds with the slice's length is a whole parse that succeeds with the same
 /// value. Where zeros are skipped, or the type has more than 32 bits, the other way round too.
 pub fn prefix_is_whole<T: Number>()
-    ensures { PrefixIsWhole (kind T.BITS T.SIGNED T.GREATEST) }
+    ensures { PrefixIsWhole T.kind }
 {}
 
 /// A prefix that succeeds with a count has at least one byte and at most the slice's, and the same
 /// call on these bytes alone has the same answer.
 pub fn prefix_of_cut<T: Number>()
-    ensures { PrefixOfCut (kind T.BITS T.SIGNED T.GREATEST) }
+    ensures { PrefixOfCut T.kind }
 {}
 
 /// A prefix that succeeds where zeros are skipped, or at a type of more than 32 bits, stops at the
 /// slice's end or before a byte that is no digit.
 pub fn prefix_stops_at_rest<T: Number>()
-    ensures { PrefixStopsAtRest (kind T.BITS T.SIGNED T.GREATEST) }
+    ensures { PrefixStopsAtRest T.kind }
 {}
 
 /// What stands behind the run of digits changes neither the kind of a prefix's answer, nor its
 /// value and count.
 pub fn rest_changes_nothing<T: Number>()
-    ensures { RestChangesNothing (kind T.BITS T.SIGNED T.GREATEST) }
+    ensures { RestChangesNothing T.kind }
 {}
 
 /// A whole parse that succeeds where zeros are not skipped succeeds where they are, with the same
 /// value.
 pub fn skipping_agrees<T: Number>()
-    ensures { SkippingAgrees (kind T.BITS T.SIGNED T.GREATEST) }
+    ensures { SkippingAgrees T.kind }
 {}
 
 /// Two errors are equal exactly where their order calls them equal, and each slice in an answer's
 /// error is a suffix of the slice that was parsed.
 pub fn order_and_suffix<T: Number>()
-    ensures { OrderAndSuffix (kind T.BITS T.SIGNED T.GREATEST) }
+    ensures { OrderAndSuffix T.kind }
 {}
 
 /// Where zeros are skipped, zeros put before a body that begins with a digit change neither an
 /// answer's kind nor its value, and a prefix's count grows by their number.
 pub fn zeros_change_nothing<T: Number>()
-    ensures { ZerosChangeNothing (kind T.BITS T.SIGNED T.GREATEST) }
+    ensures { ZerosChangeNothing T.kind }
 {}
 
 #[cfg(test)]

@@ -1,13 +1,14 @@
-//! The parse of integers of up to 32 bits from the front of a slice, over any engine.
+//! The parses of integers of up to 32 bits by windows, of a front and of a whole slice, over any
+//! engine.
 //! It stands on `engine`, `window`, `steps` and `error`.
-ghost use Rattle.std.specs.Prelude.{◌≡◌, ◌+◌, ◌<◌, ◌≤◌, true, false, nat_lt, if◌then◌else◌, Ok, Err, IsTrue, length, drop};
-ghost use Rattle.atoi_core.specs.Loads.{most_loads, least_loads};
-ghost use Rattle.atoi_core.specs.Magnitude.{narrow, prefix_magnitude};
-ghost use Rattle.atoi_core.specs.Refusal.{answer_of, overflow};
+ghost use Rattle.std.specs.Prelude.{◌≡◌, ◌+◌, ◌-◌, ◌<◌, ◌≤◌, ◌==◌, true, false, nat_lt, if◌then◌else◌, Ok, Err, length, drop};
+ghost use Rattle.atoi_core.specs.Loads.{LoadsWithin, most_loads};
+ghost use Rattle.atoi_core.specs.Magnitude.{narrow, whole_magnitude, prefix_magnitude};
+ghost use Rattle.atoi_core.specs.Refusal.{answer_of, refusal_of, rank, empty, overflow};
 ghost use Rattle.atoi_core.specs.Window.{window_of};
 
 use crate::engine::Engine;
-use crate::error::AtoiSimdError;
+use crate::error::{AtoiSimdError, out_of_line};
 use crate::steps::Steps;
 use crate::window::Window;
 
@@ -34,42 +35,60 @@ pub fn narrow_prefix<'a, E: Engine>(
     requires low { 9 ≤ bound }
     requires high { bound ≤ 4294967295 }
     ensures answer { answer_of result ≡ prefix_magnitude E.table narrow bound 0 skip s.now }
-    ensures most { steps.new ≤ steps.old + most_loads E.table narrow s.now }
-    ensures loads_one { skip ≡ false → steps.new ≡ steps.old + 1 }
-    ensures least { 0 < length s.now → steps.old < steps.new }
-    ensures least_skipping { IsTrue skip → steps.old + least_loads E.table s.now ≤ steps.new }
+    ensures loads { LoadsWithin (most_loads E.table narrow s.now) E.table skip s.now
+        steps.old steps.new }
 {
     let window = E::window(s, steps);
     if window.len == 0 {
         Err(AtoiSimdError::Empty)
     } else if skip && window.zeroes > 0 {
-        call_behind_zeros::<E>(bound, window.zeroes, s, steps)
+        out_of_line(behind_zeros::<E>(bound, window.zeroes, s, steps))
     } else {
         answer_at(bound, 0, window, s)
     }
 }
 
-// What `behind_zeros` answers. It is matched here, so that the caller need not clear the place of
-// the result on the way that does not call it.
+/// The number that `s` as a whole is, for an integer of up to 32 bits.
+///
+/// `bound` is the greatest number, from 9 to 4294967295. Any number of leading zeros is accepted:
+/// they are passed by, a window for each 16 of them. It answers as `narrow_whole`, by the digits of
+/// the engine. `steps` counts the windows that are loaded.
+///
+/// # Errors
+///
+/// The first that holds of:
+/// - `Empty`: `s` does not begin with a digit.
+/// - `Overflow`: the number is above `bound`. It holds the whole of `s`.
+/// - `Invalid64`: a byte that is no digit stands behind the digits. It holds their number, their
+///   count and the whole of `s`.
 #[inline(always)]
-fn call_behind_zeros<'a, E: Engine>(
+pub fn narrow_whole_windows<'a, E: Engine>(
     bound: u64,
-    zeroes: u32,
     s: &'a [u8],
     steps: &mut Steps,
-) -> Result<(u64, usize), AtoiSimdError<'a>>
+) -> Result<u64, AtoiSimdError<'a>>
     requires low { 9 ≤ bound }
     requires high { bound ≤ 4294967295 }
-    requires some { 0 < zeroes }
-    requires told { zeroes ≡ (window_of E.table 16 s.now).zeroes }
-    ensures answer { answer_of result ≡ prefix_magnitude E.table narrow bound 0 true s.now }
-    ensures most { steps.new < steps.old + most_loads E.table narrow s.now }
-    ensures least { steps.old ≤ steps.new }
-    ensures least_skipping { steps.old + least_loads E.table s.now ≤ steps.new + 1 }
+    ensures answer { answer_of result ≡ whole_magnitude E.table narrow bound 0 false s.now }
+    ensures loads { LoadsWithin (most_loads E.table narrow s.now) E.table true s.now
+        steps.old steps.new }
 {
-    match behind_zeros::<E>(bound, zeroes, s, steps) {
-        Ok(found) => Ok(found),
-        Err(error) => Err(error),
+    match narrow_prefix::<E>(bound, true, s, steps) {
+        Ok((number, len)) if len == s.len() => Ok(number),
+        Ok((number, len)) => Err(AtoiSimdError::Invalid64(number, len, s)),
+        Err(error) => Err(of_whole(error, s)),
+    }
+}
+
+// The error of a whole slice, from that of its front: an overflow holds all of it.
+#[inline(always)]
+fn of_whole<'a>(error: AtoiSimdError<'_>, s: &'a [u8]) -> AtoiSimdError<'a>
+    ensures { refusal_of result
+        ≡ (if rank (refusal_of error.entry) == 0 then empty else overflow s.now) }
+{
+    match error {
+        AtoiSimdError::Empty => AtoiSimdError::Empty,
+        _ => AtoiSimdError::Overflow(s),
     }
 }
 
@@ -87,9 +106,8 @@ fn behind_zeros<'a, E: Engine>(
     requires some { 0 < zeroes }
     requires told { zeroes ≡ (window_of E.table 16 s.now).zeroes }
     ensures answer { answer_of result ≡ prefix_magnitude E.table narrow bound 0 true s.now }
-    ensures most { steps.new < steps.old + most_loads E.table narrow s.now }
-    ensures least { steps.old ≤ steps.new }
-    ensures least_skipping { steps.old + least_loads E.table s.now ≤ steps.new + 1 }
+    ensures loads { LoadsWithin (most_loads E.table narrow s.now - 1) E.table true s.now
+        steps.old steps.new }
 {
     let mut at = zeroes as usize;
     let window = loop {

@@ -2,7 +2,8 @@
 //! It stands on nothing: what a parse has to know of a type are the constants here.
 ghost use Rattle.std.specs.Prelude.{◌≡◌, ◌+◌, ◌≤◌, ◌<ℤ◌, ◌↔◌, ℕ, ℤ, pos, Bool, true, false, IsTrue, refl};
 ghost use Rattle.std.proofs.Common.{inl, inr};
-ghost use Rattle.atoi_core.specs.Kind.{IsSized, kind, bound_of};
+ghost use Rattle.atoi_core.specs.Kind.{Kind, IsSized, IsKindOf, bound_of};
+ghost use Rattle.atoi_core.specs.Kinds.{u8_kind, i8_kind, u16_kind, i16_kind, u32_kind, i32_kind, u64_kind, i64_kind, u128_kind, i128_kind, usize_kind, isize_kind};
 ghost use Rattle.atoi_core.specs.Sign.{number_of};
 
 /// An integer type that a parse can answer.
@@ -24,6 +25,9 @@ pub trait Number: Copy {
 
     ghost GREATEST: { ℕ };
 
+    /// The three constants as one, by which contracts speak of the type.
+    ghost kind: { Kind };
+
     /// The number that a value stands for.
     ghost number: { Self → ℤ };
 
@@ -37,10 +41,13 @@ pub trait Number: Copy {
     fn parts(self) -> (bool, u128)
         ensures number { number_of result.0 result.1 ≡ number self }
         ensures negative { IsTrue result.0 ↔ (number self <ℤ pos 0) }
-        ensures in_range { result.1 ≤ bound_of (kind BITS SIGNED GREATEST) result.0 };
+        ensures in_range { result.1 ≤ bound_of kind result.0 };
+
+    /// The kind is that of the three constants.
+    ghost kind_is: { IsKindOf kind BITS SIGNED GREATEST };
 
     /// The constants fit one another.
-    ghost sized: { IsSized (kind BITS SIGNED GREATEST) };
+    ghost sized: { IsSized kind };
 }
 
 /// An integer type with negative numbers.
@@ -75,6 +82,8 @@ impl Number for u8 {
 
     ghost GREATEST = { 255 };
 
+    ghost kind = { u8_kind };
+
     ghost number = { λ x. pos x };
 
     #[inline(always)]
@@ -86,6 +95,8 @@ impl Number for u8 {
     fn parts(self) -> (bool, u128) {
         (false, u128::from(self))
     }
+
+    ghost kind_is = { record { bits_are = refl; sign_is = refl; greatest_is = refl } };
 
     ghost sized = { record { bits = inl refl; greatest = refl } };
 }
@@ -103,6 +114,8 @@ impl Number for i8 {
 
     ghost GREATEST = { 127 };
 
+    ghost kind = { i8_kind };
+
     ghost number = { λ x. x };
 
     #[inline(always)]
@@ -114,6 +127,8 @@ impl Number for i8 {
     fn parts(self) -> (bool, u128) {
         (self < 0, u128::from(self.unsigned_abs()))
     }
+
+    ghost kind_is = { record { bits_are = refl; sign_is = refl; greatest_is = refl } };
 
     ghost sized = { record { bits = inl refl; greatest = refl } };
 }
@@ -146,6 +161,8 @@ impl Number for u16 {
 
     ghost GREATEST = { 65535 };
 
+    ghost kind = { u16_kind };
+
     ghost number = { λ x. pos x };
 
     #[inline(always)]
@@ -157,6 +174,8 @@ impl Number for u16 {
     fn parts(self) -> (bool, u128) {
         (false, u128::from(self))
     }
+
+    ghost kind_is = { record { bits_are = refl; sign_is = refl; greatest_is = refl } };
 
     ghost sized = { record { bits = inr (inl refl); greatest = refl } };
 }
@@ -174,6 +193,8 @@ impl Number for i16 {
 
     ghost GREATEST = { 32767 };
 
+    ghost kind = { i16_kind };
+
     ghost number = { λ x. x };
 
     #[inline(always)]
@@ -185,6 +206,8 @@ impl Number for i16 {
     fn parts(self) -> (bool, u128) {
         (self < 0, u128::from(self.unsigned_abs()))
     }
+
+    ghost kind_is = { record { bits_are = refl; sign_is = refl; greatest_is = refl } };
 
     ghost sized = { record { bits = inr (inl refl); greatest = refl } };
 }
@@ -217,6 +240,8 @@ impl Number for u32 {
 
     ghost GREATEST = { 4294967295 };
 
+    ghost kind = { u32_kind };
+
     ghost number = { λ x. pos x };
 
     #[inline(always)]
@@ -228,6 +253,8 @@ impl Number for u32 {
     fn parts(self) -> (bool, u128) {
         (false, u128::from(self))
     }
+
+    ghost kind_is = { record { bits_are = refl; sign_is = refl; greatest_is = refl } };
 
     ghost sized = { record { bits = inr (inr (inl refl)); greatest = refl } };
 }
@@ -245,6 +272,8 @@ impl Number for i32 {
 
     ghost GREATEST = { 2147483647 };
 
+    ghost kind = { i32_kind };
+
     ghost number = { λ x. x };
 
     #[inline(always)]
@@ -256,6 +285,8 @@ impl Number for i32 {
     fn parts(self) -> (bool, u128) {
         (self < 0, u128::from(self.unsigned_abs()))
     }
+
+    ghost kind_is = { record { bits_are = refl; sign_is = refl; greatest_is = refl } };
 
     ghost sized = { record { bits = inr (inr (inl refl)); greatest = refl } };
 }
@@ -288,6 +319,8 @@ impl Number for u64 {
 
     ghost GREATEST = { 18446744073709551615 };
 
+    ghost kind = { u64_kind };
+
     ghost number = { λ x. pos x };
 
     #[inline(always)]
@@ -299,6 +332,8 @@ impl Number for u64 {
     fn parts(self) -> (bool, u128) {
         (false, u128::from(self))
     }
+
+    ghost kind_is = { record { bits_are = refl; sign_is = refl; greatest_is = refl } };
 
     ghost sized = { record { bits = inr (inr (inr (inl refl))); greatest = refl } };
 }
@@ -316,6 +351,8 @@ impl Number for i64 {
 
     ghost GREATEST = { 9223372036854775807 };
 
+    ghost kind = { i64_kind };
+
     ghost number = { λ x. x };
 
     #[inline(always)]
@@ -327,6 +364,8 @@ impl Number for i64 {
     fn parts(self) -> (bool, u128) {
         (self < 0, u128::from(self.unsigned_abs()))
     }
+
+    ghost kind_is = { record { bits_are = refl; sign_is = refl; greatest_is = refl } };
 
     ghost sized = { record { bits = inr (inr (inr (inl refl))); greatest = refl } };
 }
@@ -359,6 +398,8 @@ impl Number for u128 {
 
     ghost GREATEST = { 340282366920938463463374607431768211455 };
 
+    ghost kind = { u128_kind };
+
     ghost number = { λ x. pos x };
 
     #[inline(always)]
@@ -370,6 +411,8 @@ impl Number for u128 {
     fn parts(self) -> (bool, u128) {
         (false, self)
     }
+
+    ghost kind_is = { record { bits_are = refl; sign_is = refl; greatest_is = refl } };
 
     ghost sized = { record { bits = inr (inr (inr (inr refl))); greatest = refl } };
 }
@@ -387,6 +430,8 @@ impl Number for i128 {
 
     ghost GREATEST = { 170141183460469231731687303715884105727 };
 
+    ghost kind = { i128_kind };
+
     ghost number = { λ x. x };
 
     #[inline(always)]
@@ -398,6 +443,8 @@ impl Number for i128 {
     fn parts(self) -> (bool, u128) {
         (self < 0, self.unsigned_abs())
     }
+
+    ghost kind_is = { record { bits_are = refl; sign_is = refl; greatest_is = refl } };
 
     ghost sized = { record { bits = inr (inr (inr (inr refl))); greatest = refl } };
 }
@@ -435,6 +482,8 @@ impl Number for usize {
 
     ghost GREATEST = { 18446744073709551615 };
 
+    ghost kind = { usize_kind };
+
     ghost number = { λ x. pos x };
 
     #[inline(always)]
@@ -446,6 +495,8 @@ impl Number for usize {
     fn parts(self) -> (bool, u128) {
         (false, self as u128)
     }
+
+    ghost kind_is = { record { bits_are = refl; sign_is = refl; greatest_is = refl } };
 
     ghost sized = { record { bits = inr (inr (inr (inl refl))); greatest = refl } };
 }
@@ -463,6 +514,8 @@ impl Number for isize {
 
     ghost GREATEST = { 9223372036854775807 };
 
+    ghost kind = { isize_kind };
+
     ghost number = { λ x. x };
 
     #[inline(always)]
@@ -474,6 +527,8 @@ impl Number for isize {
     fn parts(self) -> (bool, u128) {
         (self < 0, self.unsigned_abs() as u128)
     }
+
+    ghost kind_is = { record { bits_are = refl; sign_is = refl; greatest_is = refl } };
 
     ghost sized = { record { bits = inr (inr (inr (inl refl))); greatest = refl } };
 }

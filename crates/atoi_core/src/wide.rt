@@ -1,7 +1,7 @@
 //! The parses of integers of 64 and of 128 bits that read a whole slice, over any engine.
 //! It stands on `front`, `engine`, `steps` and `error`.
-ghost use Rattle.std.specs.Prelude.{◌≡◌, ◌+◌, ◌<◌, ◌≤◌, IsTrue, length};
-ghost use Rattle.atoi_core.specs.Loads.{most_loads, least_loads};
+ghost use Rattle.std.specs.Prelude.{◌≡◌, ◌≤◌};
+ghost use Rattle.atoi_core.specs.Loads.{LoadsWithin, most_loads};
 ghost use Rattle.atoi_core.specs.Magnitude.{HasDigits, wide64, wide128, whole_magnitude};
 ghost use Rattle.atoi_core.specs.Refusal.{answer_of};
 
@@ -36,9 +36,8 @@ pub fn whole_64<'a, E: Engine>(
     requires limit_high { limit ≤ 20 }
     requires digits { HasDigits limit bound }
     ensures answer { answer_of result ≡ whole_magnitude E.table wide64 bound limit skip s.now }
-    ensures most { steps.new ≤ steps.old + most_loads E.table wide64 s.now }
-    ensures least { 0 < length s.now → steps.old < steps.new }
-    ensures least_skipping { IsTrue skip → steps.old + least_loads E.table s.now ≤ steps.new }
+    ensures loads { LoadsWithin (most_loads E.table wide64 s.now) E.table skip s.now
+        steps.old steps.new }
 {
     let (number, len) = front_of_whole_64::<E>(bound, limit, skip, s, steps)?;
     if len == s.len() {
@@ -71,9 +70,8 @@ pub fn whole_128<'a, E: Engine>(
 ) -> Result<u128, AtoiSimdError<'a>>
     requires digits { HasDigits 39 bound }
     ensures answer { answer_of result ≡ whole_magnitude E.table wide128 bound 39 skip s.now }
-    ensures most { steps.new ≤ steps.old + most_loads E.table wide128 s.now }
-    ensures least { 0 < length s.now → steps.old < steps.new }
-    ensures least_skipping { IsTrue skip → steps.old + least_loads E.table s.now ≤ steps.new }
+    ensures loads { LoadsWithin (most_loads E.table wide128 s.now) E.table skip s.now
+        steps.old steps.new }
 {
     let (number, len) = front_of_whole_128::<E>(bound, skip, s, steps)?;
     if len == s.len() {

@@ -1,15 +1,11 @@
 //! `ParseNeg` and its six types: the digits of a negative number, without a sign. It stands on
-//! `Signed`, `Steps` and the parses of `atoi_core` by class of type, over the crate's reader.
+//! `Signed`, `Steps` and the core calls `whole_neg` and `prefix_neg`, over the crate's reader.
 ghost use Rattle.std.specs.Prelude.{◌≡◌, ◌≤◌, true, IfOk, length};
 ghost use Rattle.atoi_core.specs.Answer.{typed_answer, typed_prefix_answer, whole_answer, prefix_answer};
 ghost use Rattle.atoi_core.specs.Digit.{decimal_table};
-ghost use Rattle.atoi_core.specs.Kind.{kind};
 
 use crate::reader::Reader;
-use atoi_core::{
-    AtoiSimdError, Signed, Steps, narrow_prefix_neg, narrow_whole_neg, prefix_64_neg,
-    prefix_128_neg, whole_64_neg, whole_128_neg,
-};
+use atoi_core::{AtoiSimdError, Signed, Steps, prefix_neg, whole_neg};
 
 /// A type that the digits of a negative number are parsed to.
 ///
@@ -35,8 +31,7 @@ pub trait ParseNeg: Signed {
     /// The number of an error is a magnitude.
     fn atoi_simd_parse_neg(s: &[u8], skip_zeroes: bool) -> Result<Self, AtoiSimdError<'_>>
         ensures answer { typed_answer Self.number result
-            ≡ whole_answer decimal_table (kind Self.BITS Self.SIGNED Self.GREATEST)
-            true skip_zeroes s.now };
+            ≡ whole_answer decimal_table Self.kind true skip_zeroes s.now };
 
     /// The number whose magnitude stands at the front of `s`, and the length of its digits in
     /// bytes, zeros included.
@@ -55,15 +50,14 @@ pub trait ParseNeg: Signed {
         skip_zeroes: bool,
     ) -> Result<(Self, usize), AtoiSimdError<'_>>
         ensures answer { typed_prefix_answer Self.number result
-            ≡ prefix_answer decimal_table (kind Self.BITS Self.SIGNED Self.GREATEST)
-            true skip_zeroes s.now }
+            ≡ prefix_answer decimal_table Self.kind true skip_zeroes s.now }
         ensures within { IfOk result (λ found. found.1 ≤ length s.now) };
 }
 
 impl ParseNeg for i8 {
     #[inline(always)]
     fn atoi_simd_parse_neg(s: &[u8], skip_zeroes: bool) -> Result<i8, AtoiSimdError<'_>> {
-        narrow_whole_neg::<Reader, i8>(skip_zeroes, s, &mut Steps::new())
+        whole_neg::<Reader, i8>(skip_zeroes, s, &mut Steps::new())
     }
 
     #[inline(always)]
@@ -71,14 +65,14 @@ impl ParseNeg for i8 {
         s: &[u8],
         skip_zeroes: bool,
     ) -> Result<(i8, usize), AtoiSimdError<'_>> {
-        narrow_prefix_neg::<Reader, i8>(skip_zeroes, s, &mut Steps::new())
+        prefix_neg::<Reader, i8>(skip_zeroes, s, &mut Steps::new())
     }
 }
 
 impl ParseNeg for i16 {
     #[inline(always)]
     fn atoi_simd_parse_neg(s: &[u8], skip_zeroes: bool) -> Result<i16, AtoiSimdError<'_>> {
-        narrow_whole_neg::<Reader, i16>(skip_zeroes, s, &mut Steps::new())
+        whole_neg::<Reader, i16>(skip_zeroes, s, &mut Steps::new())
     }
 
     #[inline(always)]
@@ -86,14 +80,14 @@ impl ParseNeg for i16 {
         s: &[u8],
         skip_zeroes: bool,
     ) -> Result<(i16, usize), AtoiSimdError<'_>> {
-        narrow_prefix_neg::<Reader, i16>(skip_zeroes, s, &mut Steps::new())
+        prefix_neg::<Reader, i16>(skip_zeroes, s, &mut Steps::new())
     }
 }
 
 impl ParseNeg for i32 {
     #[inline(always)]
     fn atoi_simd_parse_neg(s: &[u8], skip_zeroes: bool) -> Result<i32, AtoiSimdError<'_>> {
-        narrow_whole_neg::<Reader, i32>(skip_zeroes, s, &mut Steps::new())
+        whole_neg::<Reader, i32>(skip_zeroes, s, &mut Steps::new())
     }
 
     #[inline(always)]
@@ -101,14 +95,14 @@ impl ParseNeg for i32 {
         s: &[u8],
         skip_zeroes: bool,
     ) -> Result<(i32, usize), AtoiSimdError<'_>> {
-        narrow_prefix_neg::<Reader, i32>(skip_zeroes, s, &mut Steps::new())
+        prefix_neg::<Reader, i32>(skip_zeroes, s, &mut Steps::new())
     }
 }
 
 impl ParseNeg for isize {
     #[inline(always)]
     fn atoi_simd_parse_neg(s: &[u8], skip_zeroes: bool) -> Result<isize, AtoiSimdError<'_>> {
-        whole_64_neg::<Reader, isize>(skip_zeroes, s, &mut Steps::new())
+        whole_neg::<Reader, isize>(skip_zeroes, s, &mut Steps::new())
     }
 
     #[inline(always)]
@@ -116,14 +110,14 @@ impl ParseNeg for isize {
         s: &[u8],
         skip_zeroes: bool,
     ) -> Result<(isize, usize), AtoiSimdError<'_>> {
-        prefix_64_neg::<Reader, isize>(skip_zeroes, s, &mut Steps::new())
+        prefix_neg::<Reader, isize>(skip_zeroes, s, &mut Steps::new())
     }
 }
 
 impl ParseNeg for i64 {
     #[inline(always)]
     fn atoi_simd_parse_neg(s: &[u8], skip_zeroes: bool) -> Result<i64, AtoiSimdError<'_>> {
-        whole_64_neg::<Reader, i64>(skip_zeroes, s, &mut Steps::new())
+        whole_neg::<Reader, i64>(skip_zeroes, s, &mut Steps::new())
     }
 
     #[inline(always)]
@@ -131,14 +125,14 @@ impl ParseNeg for i64 {
         s: &[u8],
         skip_zeroes: bool,
     ) -> Result<(i64, usize), AtoiSimdError<'_>> {
-        prefix_64_neg::<Reader, i64>(skip_zeroes, s, &mut Steps::new())
+        prefix_neg::<Reader, i64>(skip_zeroes, s, &mut Steps::new())
     }
 }
 
 impl ParseNeg for i128 {
     #[inline(always)]
     fn atoi_simd_parse_neg(s: &[u8], skip_zeroes: bool) -> Result<i128, AtoiSimdError<'_>> {
-        whole_128_neg::<Reader, i128>(skip_zeroes, s, &mut Steps::new())
+        whole_neg::<Reader, i128>(skip_zeroes, s, &mut Steps::new())
     }
 
     #[inline(always)]
@@ -146,7 +140,7 @@ impl ParseNeg for i128 {
         s: &[u8],
         skip_zeroes: bool,
     ) -> Result<(i128, usize), AtoiSimdError<'_>> {
-        prefix_128_neg::<Reader, i128>(skip_zeroes, s, &mut Steps::new())
+        prefix_neg::<Reader, i128>(skip_zeroes, s, &mut Steps::new())
     }
 }
 

@@ -1,16 +1,12 @@
 //! `ParsePos` and its twelve types: the digits of a number that is not negative, without a sign. It
-//! stands on `Number`, `Steps` and the parses of `atoi_core` by class of type, over the crate's
+//! stands on `Number`, `Steps` and the core calls `whole_pos` and `prefix_pos`, over the crate's
 //! reader.
 ghost use Rattle.std.specs.Prelude.{◌≡◌, ◌≤◌, false, IfOk, length};
 ghost use Rattle.atoi_core.specs.Answer.{typed_answer, typed_prefix_answer, whole_answer, prefix_answer};
 ghost use Rattle.atoi_core.specs.Digit.{decimal_table};
-ghost use Rattle.atoi_core.specs.Kind.{kind};
 
 use crate::reader::Reader;
-use atoi_core::{
-    AtoiSimdError, Number, Steps, narrow_prefix_pos, narrow_whole_pos, prefix_64_pos,
-    prefix_128_pos, whole_64_pos, whole_128_pos,
-};
+use atoi_core::{AtoiSimdError, Number, Steps, prefix_pos, whole_pos};
 
 /// A type that the digits of a number without a sign are parsed to.
 ///
@@ -33,8 +29,7 @@ pub trait ParsePos: Number {
     ///   digits.
     fn atoi_simd_parse_pos(s: &[u8], skip_zeroes: bool) -> Result<Self, AtoiSimdError<'_>>
         ensures answer { typed_answer Self.number result
-            ≡ whole_answer decimal_table (kind Self.BITS Self.SIGNED Self.GREATEST)
-            false skip_zeroes s.now };
+            ≡ whole_answer decimal_table Self.kind false skip_zeroes s.now };
 
     /// The number at the front of `s`, and its length in bytes, zeros included.
     ///
@@ -52,15 +47,14 @@ pub trait ParsePos: Number {
         skip_zeroes: bool,
     ) -> Result<(Self, usize), AtoiSimdError<'_>>
         ensures answer { typed_prefix_answer Self.number result
-            ≡ prefix_answer decimal_table (kind Self.BITS Self.SIGNED Self.GREATEST)
-            false skip_zeroes s.now }
+            ≡ prefix_answer decimal_table Self.kind false skip_zeroes s.now }
         ensures within { IfOk result (λ found. found.1 ≤ length s.now) };
 }
 
 impl ParsePos for u8 {
     #[inline(always)]
     fn atoi_simd_parse_pos(s: &[u8], skip_zeroes: bool) -> Result<u8, AtoiSimdError<'_>> {
-        narrow_whole_pos::<Reader, u8>(skip_zeroes, s, &mut Steps::new())
+        whole_pos::<Reader, u8>(skip_zeroes, s, &mut Steps::new())
     }
 
     #[inline(always)]
@@ -68,14 +62,14 @@ impl ParsePos for u8 {
         s: &[u8],
         skip_zeroes: bool,
     ) -> Result<(u8, usize), AtoiSimdError<'_>> {
-        narrow_prefix_pos::<Reader, u8>(skip_zeroes, s, &mut Steps::new())
+        prefix_pos::<Reader, u8>(skip_zeroes, s, &mut Steps::new())
     }
 }
 
 impl ParsePos for i8 {
     #[inline(always)]
     fn atoi_simd_parse_pos(s: &[u8], skip_zeroes: bool) -> Result<i8, AtoiSimdError<'_>> {
-        narrow_whole_pos::<Reader, i8>(skip_zeroes, s, &mut Steps::new())
+        whole_pos::<Reader, i8>(skip_zeroes, s, &mut Steps::new())
     }
 
     #[inline(always)]
@@ -83,14 +77,14 @@ impl ParsePos for i8 {
         s: &[u8],
         skip_zeroes: bool,
     ) -> Result<(i8, usize), AtoiSimdError<'_>> {
-        narrow_prefix_pos::<Reader, i8>(skip_zeroes, s, &mut Steps::new())
+        prefix_pos::<Reader, i8>(skip_zeroes, s, &mut Steps::new())
     }
 }
 
 impl ParsePos for u16 {
     #[inline(always)]
     fn atoi_simd_parse_pos(s: &[u8], skip_zeroes: bool) -> Result<u16, AtoiSimdError<'_>> {
-        narrow_whole_pos::<Reader, u16>(skip_zeroes, s, &mut Steps::new())
+        whole_pos::<Reader, u16>(skip_zeroes, s, &mut Steps::new())
     }
 
     #[inline(always)]
@@ -98,14 +92,14 @@ impl ParsePos for u16 {
         s: &[u8],
         skip_zeroes: bool,
     ) -> Result<(u16, usize), AtoiSimdError<'_>> {
-        narrow_prefix_pos::<Reader, u16>(skip_zeroes, s, &mut Steps::new())
+        prefix_pos::<Reader, u16>(skip_zeroes, s, &mut Steps::new())
     }
 }
 
 impl ParsePos for i16 {
     #[inline(always)]
     fn atoi_simd_parse_pos(s: &[u8], skip_zeroes: bool) -> Result<i16, AtoiSimdError<'_>> {
-        narrow_whole_pos::<Reader, i16>(skip_zeroes, s, &mut Steps::new())
+        whole_pos::<Reader, i16>(skip_zeroes, s, &mut Steps::new())
     }
 
     #[inline(always)]
@@ -113,14 +107,14 @@ impl ParsePos for i16 {
         s: &[u8],
         skip_zeroes: bool,
     ) -> Result<(i16, usize), AtoiSimdError<'_>> {
-        narrow_prefix_pos::<Reader, i16>(skip_zeroes, s, &mut Steps::new())
+        prefix_pos::<Reader, i16>(skip_zeroes, s, &mut Steps::new())
     }
 }
 
 impl ParsePos for u32 {
     #[inline(always)]
     fn atoi_simd_parse_pos(s: &[u8], skip_zeroes: bool) -> Result<u32, AtoiSimdError<'_>> {
-        narrow_whole_pos::<Reader, u32>(skip_zeroes, s, &mut Steps::new())
+        whole_pos::<Reader, u32>(skip_zeroes, s, &mut Steps::new())
     }
 
     #[inline(always)]
@@ -128,14 +122,14 @@ impl ParsePos for u32 {
         s: &[u8],
         skip_zeroes: bool,
     ) -> Result<(u32, usize), AtoiSimdError<'_>> {
-        narrow_prefix_pos::<Reader, u32>(skip_zeroes, s, &mut Steps::new())
+        prefix_pos::<Reader, u32>(skip_zeroes, s, &mut Steps::new())
     }
 }
 
 impl ParsePos for i32 {
     #[inline(always)]
     fn atoi_simd_parse_pos(s: &[u8], skip_zeroes: bool) -> Result<i32, AtoiSimdError<'_>> {
-        narrow_whole_pos::<Reader, i32>(skip_zeroes, s, &mut Steps::new())
+        whole_pos::<Reader, i32>(skip_zeroes, s, &mut Steps::new())
     }
 
     #[inline(always)]
@@ -143,14 +137,14 @@ impl ParsePos for i32 {
         s: &[u8],
         skip_zeroes: bool,
     ) -> Result<(i32, usize), AtoiSimdError<'_>> {
-        narrow_prefix_pos::<Reader, i32>(skip_zeroes, s, &mut Steps::new())
+        prefix_pos::<Reader, i32>(skip_zeroes, s, &mut Steps::new())
     }
 }
 
 impl ParsePos for usize {
     #[inline(always)]
     fn atoi_simd_parse_pos(s: &[u8], skip_zeroes: bool) -> Result<usize, AtoiSimdError<'_>> {
-        whole_64_pos::<Reader, usize>(skip_zeroes, s, &mut Steps::new())
+        whole_pos::<Reader, usize>(skip_zeroes, s, &mut Steps::new())
     }
 
     #[inline(always)]
@@ -158,14 +152,14 @@ impl ParsePos for usize {
         s: &[u8],
         skip_zeroes: bool,
     ) -> Result<(usize, usize), AtoiSimdError<'_>> {
-        prefix_64_pos::<Reader, usize>(skip_zeroes, s, &mut Steps::new())
+        prefix_pos::<Reader, usize>(skip_zeroes, s, &mut Steps::new())
     }
 }
 
 impl ParsePos for isize {
     #[inline(always)]
     fn atoi_simd_parse_pos(s: &[u8], skip_zeroes: bool) -> Result<isize, AtoiSimdError<'_>> {
-        whole_64_pos::<Reader, isize>(skip_zeroes, s, &mut Steps::new())
+        whole_pos::<Reader, isize>(skip_zeroes, s, &mut Steps::new())
     }
 
     #[inline(always)]
@@ -173,14 +167,14 @@ impl ParsePos for isize {
         s: &[u8],
         skip_zeroes: bool,
     ) -> Result<(isize, usize), AtoiSimdError<'_>> {
-        prefix_64_pos::<Reader, isize>(skip_zeroes, s, &mut Steps::new())
+        prefix_pos::<Reader, isize>(skip_zeroes, s, &mut Steps::new())
     }
 }
 
 impl ParsePos for u64 {
     #[inline(always)]
     fn atoi_simd_parse_pos(s: &[u8], skip_zeroes: bool) -> Result<u64, AtoiSimdError<'_>> {
-        whole_64_pos::<Reader, u64>(skip_zeroes, s, &mut Steps::new())
+        whole_pos::<Reader, u64>(skip_zeroes, s, &mut Steps::new())
     }
 
     #[inline(always)]
@@ -188,14 +182,14 @@ impl ParsePos for u64 {
         s: &[u8],
         skip_zeroes: bool,
     ) -> Result<(u64, usize), AtoiSimdError<'_>> {
-        prefix_64_pos::<Reader, u64>(skip_zeroes, s, &mut Steps::new())
+        prefix_pos::<Reader, u64>(skip_zeroes, s, &mut Steps::new())
     }
 }
 
 impl ParsePos for i64 {
     #[inline(always)]
     fn atoi_simd_parse_pos(s: &[u8], skip_zeroes: bool) -> Result<i64, AtoiSimdError<'_>> {
-        whole_64_pos::<Reader, i64>(skip_zeroes, s, &mut Steps::new())
+        whole_pos::<Reader, i64>(skip_zeroes, s, &mut Steps::new())
     }
 
     #[inline(always)]
@@ -203,14 +197,14 @@ impl ParsePos for i64 {
         s: &[u8],
         skip_zeroes: bool,
     ) -> Result<(i64, usize), AtoiSimdError<'_>> {
-        prefix_64_pos::<Reader, i64>(skip_zeroes, s, &mut Steps::new())
+        prefix_pos::<Reader, i64>(skip_zeroes, s, &mut Steps::new())
     }
 }
 
 impl ParsePos for u128 {
     #[inline(always)]
     fn atoi_simd_parse_pos(s: &[u8], skip_zeroes: bool) -> Result<u128, AtoiSimdError<'_>> {
-        whole_128_pos::<Reader, u128>(skip_zeroes, s, &mut Steps::new())
+        whole_pos::<Reader, u128>(skip_zeroes, s, &mut Steps::new())
     }
 
     #[inline(always)]
@@ -218,14 +212,14 @@ impl ParsePos for u128 {
         s: &[u8],
         skip_zeroes: bool,
     ) -> Result<(u128, usize), AtoiSimdError<'_>> {
-        prefix_128_pos::<Reader, u128>(skip_zeroes, s, &mut Steps::new())
+        prefix_pos::<Reader, u128>(skip_zeroes, s, &mut Steps::new())
     }
 }
 
 impl ParsePos for i128 {
     #[inline(always)]
     fn atoi_simd_parse_pos(s: &[u8], skip_zeroes: bool) -> Result<i128, AtoiSimdError<'_>> {
-        whole_128_pos::<Reader, i128>(skip_zeroes, s, &mut Steps::new())
+        whole_pos::<Reader, i128>(skip_zeroes, s, &mut Steps::new())
     }
 
     #[inline(always)]
@@ -233,7 +227,7 @@ impl ParsePos for i128 {
         s: &[u8],
         skip_zeroes: bool,
     ) -> Result<(i128, usize), AtoiSimdError<'_>> {
-        prefix_128_pos::<Reader, i128>(skip_zeroes, s, &mut Steps::new())
+        prefix_pos::<Reader, i128>(skip_zeroes, s, &mut Steps::new())
     }
 }
 

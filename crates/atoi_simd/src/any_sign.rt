@@ -2,7 +2,6 @@
 //! It stands on `ParsePos`, `ParseNeg` and the sign of `atoi_core`.
 ghost use Rattle.std.specs.Prelude.{◌≡◌, ◌≤◌, IfOk, length};
 ghost use Rattle.atoi_core.specs.Answer.{typed_answer, typed_prefix_answer, parse_answer, parse_prefix_answer};
-ghost use Rattle.atoi_core.specs.Kind.{kind};
 
 use crate::negative::ParseNeg;
 use crate::positive::ParsePos;
@@ -30,7 +29,7 @@ pub trait Parse: ParsePos {
         skip_plus: bool,
     ) -> Result<Self, AtoiSimdError<'_>>
         ensures answer { typed_answer Self.number result
-            ≡ parse_answer (kind Self.BITS Self.SIGNED Self.GREATEST) skip_zeroes skip_plus s.now };
+            ≡ parse_answer Self.kind skip_zeroes skip_plus s.now };
 
     /// At most one sign, taken as by `atoi_simd_parse`, and the number at the front of what stands
     /// behind it.
@@ -50,8 +49,7 @@ pub trait Parse: ParsePos {
         skip_plus: bool,
     ) -> Result<(Self, usize), AtoiSimdError<'_>>
         ensures answer { typed_prefix_answer Self.number result
-            ≡ parse_prefix_answer (kind Self.BITS Self.SIGNED Self.GREATEST)
-            skip_zeroes skip_plus s.now }
+            ≡ parse_prefix_answer Self.kind skip_zeroes skip_plus s.now }
         ensures within { IfOk result (λ found. found.1 ≤ length s.now) };
 }
 

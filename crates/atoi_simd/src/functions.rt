@@ -3,7 +3,6 @@
 ghost use Rattle.std.specs.Prelude.{◌≡◌, ◌≤◌, ◌↔◌, true, false, IsTrue, IsOk, IfOk, length};
 ghost use Rattle.atoi_core.specs.Answer.{typed_answer, typed_prefix_answer, whole_answer, prefix_answer, parse_answer, parse_prefix_answer};
 ghost use Rattle.atoi_core.specs.Digit.{decimal_table};
-ghost use Rattle.atoi_core.specs.Kind.{kind};
 ghost use Rattle.atoi_core.specs.Text.{IsText};
 
 use crate::any_sign::Parse;
@@ -42,9 +41,9 @@ pub fn parse<T: Parse, const SKIP_ZEROES: bool, const SKIP_PLUS: bool>(
     s: &[u8],
 ) -> Result<T, AtoiSimdError<'_>>
     ensures answer { typed_answer T.number result
-        ≡ parse_answer (kind T.BITS T.SIGNED T.GREATEST) SKIP_ZEROES SKIP_PLUS s.now }
+        ≡ parse_answer T.kind SKIP_ZEROES SKIP_PLUS s.now }
     ensures texts { IsTrue SKIP_ZEROES → IsTrue SKIP_PLUS
-        → (IsOk result ↔ IsText (kind T.BITS T.SIGNED T.GREATEST) s.now) }
+        → (IsOk result ↔ IsText T.kind s.now) }
 {
     // The law that `texts` stands on. The call does nothing.
     accepted_texts::<T>();
@@ -72,7 +71,7 @@ pub fn parse<T: Parse, const SKIP_ZEROES: bool, const SKIP_PLUS: bool>(
 #[inline(always)]
 pub fn parse_pos<T: Parse, const SKIP_ZEROES: bool>(s: &[u8]) -> Result<T, AtoiSimdError<'_>>
     ensures answer { typed_answer T.number result
-        ≡ whole_answer decimal_table (kind T.BITS T.SIGNED T.GREATEST) false SKIP_ZEROES s.now }
+        ≡ whole_answer decimal_table T.kind false SKIP_ZEROES s.now }
 {
     T::atoi_simd_parse_pos(s, SKIP_ZEROES)
 }
@@ -100,7 +99,7 @@ pub fn parse_pos<T: Parse, const SKIP_ZEROES: bool>(s: &[u8]) -> Result<T, AtoiS
 #[inline(always)]
 pub fn parse_neg<T: ParseNeg, const SKIP_ZEROES: bool>(s: &[u8]) -> Result<T, AtoiSimdError<'_>>
     ensures answer { typed_answer T.number result
-        ≡ whole_answer decimal_table (kind T.BITS T.SIGNED T.GREATEST) true SKIP_ZEROES s.now }
+        ≡ whole_answer decimal_table T.kind true SKIP_ZEROES s.now }
 {
     T::atoi_simd_parse_neg(s, SKIP_ZEROES)
 }
@@ -132,7 +131,7 @@ pub fn parse_prefix<T: Parse, const SKIP_ZEROES: bool, const SKIP_PLUS: bool>(
     s: &[u8],
 ) -> Result<(T, usize), AtoiSimdError<'_>>
     ensures answer { typed_prefix_answer T.number result
-        ≡ parse_prefix_answer (kind T.BITS T.SIGNED T.GREATEST) SKIP_ZEROES SKIP_PLUS s.now }
+        ≡ parse_prefix_answer T.kind SKIP_ZEROES SKIP_PLUS s.now }
     ensures within { IfOk result (λ found. found.1 ≤ length s.now) }
 {
     T::atoi_simd_parse_prefix(s, SKIP_ZEROES, SKIP_PLUS)
@@ -161,7 +160,7 @@ pub fn parse_prefix_pos<T: Parse, const SKIP_ZEROES: bool>(
     s: &[u8],
 ) -> Result<(T, usize), AtoiSimdError<'_>>
     ensures answer { typed_prefix_answer T.number result
-        ≡ prefix_answer decimal_table (kind T.BITS T.SIGNED T.GREATEST) false SKIP_ZEROES s.now }
+        ≡ prefix_answer decimal_table T.kind false SKIP_ZEROES s.now }
     ensures within { IfOk result (λ found. found.1 ≤ length s.now) }
 {
     T::atoi_simd_parse_prefix_pos(s, SKIP_ZEROES)
@@ -191,7 +190,7 @@ pub fn parse_prefix_neg<T: ParseNeg, const SKIP_ZEROES: bool>(
     s: &[u8],
 ) -> Result<(T, usize), AtoiSimdError<'_>>
     ensures answer { typed_prefix_answer T.number result
-        ≡ prefix_answer decimal_table (kind T.BITS T.SIGNED T.GREATEST) true SKIP_ZEROES s.now }
+        ≡ prefix_answer decimal_table T.kind true SKIP_ZEROES s.now }
     ensures within { IfOk result (λ found. found.1 ≤ length s.now) }
 {
     T::atoi_simd_parse_prefix_neg(s, SKIP_ZEROES)
@@ -202,9 +201,8 @@ pub fn parse_prefix_neg<T: ParseNeg, const SKIP_ZEROES: bool>(
 /// `parse_skipped::<isize>(b"+007")` is `Ok(7)`. Mirrors `atoi_simd::parse_skipped`.
 #[inline(always)]
 pub fn parse_skipped<T: Parse>(s: &[u8]) -> Result<T, AtoiSimdError<'_>>
-    ensures answer { typed_answer T.number result
-        ≡ parse_answer (kind T.BITS T.SIGNED T.GREATEST) true true s.now }
-    ensures texts { IsOk result ↔ IsText (kind T.BITS T.SIGNED T.GREATEST) s.now }
+    ensures answer { typed_answer T.number result ≡ parse_answer T.kind true true s.now }
+    ensures texts { IsOk result ↔ IsText T.kind s.now }
 {
     parse::<T, true, true>(s)
 }
@@ -215,7 +213,7 @@ pub fn parse_skipped<T: Parse>(s: &[u8]) -> Result<T, AtoiSimdError<'_>>
 #[inline(always)]
 pub fn parse_any<T: Parse>(s: &[u8]) -> Result<(T, usize), AtoiSimdError<'_>>
     ensures answer { typed_prefix_answer T.number result
-        ≡ parse_prefix_answer (kind T.BITS T.SIGNED T.GREATEST) false false s.now }
+        ≡ parse_prefix_answer T.kind false false s.now }
     ensures within { IfOk result (λ found. found.1 ≤ length s.now) }
 {
     parse_prefix::<T, false, false>(s)
@@ -227,7 +225,7 @@ pub fn parse_any<T: Parse>(s: &[u8]) -> Result<(T, usize), AtoiSimdError<'_>>
 #[inline(always)]
 pub fn parse_any_pos<T: Parse>(s: &[u8]) -> Result<(T, usize), AtoiSimdError<'_>>
     ensures answer { typed_prefix_answer T.number result
-        ≡ prefix_answer decimal_table (kind T.BITS T.SIGNED T.GREATEST) false false s.now }
+        ≡ prefix_answer decimal_table T.kind false false s.now }
     ensures within { IfOk result (λ found. found.1 ≤ length s.now) }
 {
     parse_prefix_pos::<T, false>(s)
@@ -239,7 +237,7 @@ pub fn parse_any_pos<T: Parse>(s: &[u8]) -> Result<(T, usize), AtoiSimdError<'_>
 #[inline(always)]
 pub fn parse_any_neg<T: ParseNeg>(s: &[u8]) -> Result<(T, usize), AtoiSimdError<'_>>
     ensures answer { typed_prefix_answer T.number result
-        ≡ prefix_answer decimal_table (kind T.BITS T.SIGNED T.GREATEST) true false s.now }
+        ≡ prefix_answer decimal_table T.kind true false s.now }
     ensures within { IfOk result (λ found. found.1 ≤ length s.now) }
 {
     parse_prefix_neg::<T, false>(s)

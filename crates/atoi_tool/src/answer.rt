@@ -1,7 +1,6 @@
 //! The answer to one line.
 //! It stands on `row`, `request`, `calls`, `printed` and `line`.
 ghost use Rattle.std.specs.Prelude.{◌≡◌, ◌≤◌, [], true, false, length};
-ghost use Rattle.atoi_core.specs.Kind.{kind};
 ghost use Rattle.atoi_tool.specs.Request.{is_known, is_negative};
 ghost use Rattle.atoi_tool.specs.Answer.{call_text, row_text, line_answer, is_good_line};
 
@@ -17,7 +16,7 @@ fn answer_any<T: atoi_simd::Parse + lanes::Parse>(request: &Request, text: &[u8]
     requires call { is_negative request.now.call ≡ false }
     requires empty { out.old ≡ [] }
     ensures text { out.new
-        ≡ call_text request.now.call (kind T.BITS T.SIGNED T.GREATEST) request.now.flags text.now }
+        ≡ call_text request.now.call T.kind request.now.flags text.now }
     ensures length { length out.new ≤ LONGEST }
 {
     let Request { engine, flags, .. } = *request;
@@ -38,7 +37,7 @@ fn answer_signed<T: atoi_simd::Parse + lanes::Parse + atoi_simd::ParseNeg + lane
 )
     requires empty { out.old ≡ [] }
     ensures text { out.new
-        ≡ call_text request.now.call (kind T.BITS T.SIGNED T.GREATEST) request.now.flags text.now }
+        ≡ call_text request.now.call T.kind request.now.flags text.now }
     ensures length { length out.new ≤ LONGEST }
 {
     let Request { engine, flags, .. } = *request;

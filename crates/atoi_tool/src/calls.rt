@@ -4,7 +4,6 @@
 ghost use Rattle.std.specs.Prelude.{◌≡◌, true, false};
 ghost use Rattle.atoi_core.specs.Answer.{typed_answer, typed_prefix_answer, whole_answer, prefix_answer, parse_answer, parse_prefix_answer};
 ghost use Rattle.atoi_core.specs.Digit.{decimal_table};
-ghost use Rattle.atoi_core.specs.Kind.{kind};
 
 use crate::request::{Engine, Flags};
 use atoi_simd::{AtoiSimdError, lanes};
@@ -16,7 +15,7 @@ pub fn parse<T: atoi_simd::Parse + lanes::Parse>(
     text: &[u8],
 ) -> Result<T, AtoiSimdError<'_>>
     ensures { typed_answer T.number result
-        ≡ parse_answer (kind T.BITS T.SIGNED T.GREATEST) flags.zeroes flags.plus text.now }
+        ≡ parse_answer T.kind flags.zeroes flags.plus text.now }
 {
     match (engine, flags.zeroes, flags.plus) {
         (Engine::Words, false, false) => atoi_simd::parse::<T, false, false>(text),
@@ -37,7 +36,7 @@ pub fn parse_pos<T: atoi_simd::Parse + lanes::Parse>(
     text: &[u8],
 ) -> Result<T, AtoiSimdError<'_>>
     ensures { typed_answer T.number result
-        ≡ whole_answer decimal_table (kind T.BITS T.SIGNED T.GREATEST) false flags.zeroes text.now }
+        ≡ whole_answer decimal_table T.kind false flags.zeroes text.now }
 {
     match (engine, flags.zeroes) {
         (Engine::Words, false) => atoi_simd::parse_pos::<T, false>(text),
@@ -55,7 +54,7 @@ pub fn parse_neg<T: atoi_simd::ParseNeg + lanes::ParseNeg>(
     text: &[u8],
 ) -> Result<T, AtoiSimdError<'_>>
     ensures { typed_answer T.number result
-        ≡ whole_answer decimal_table (kind T.BITS T.SIGNED T.GREATEST) true flags.zeroes text.now }
+        ≡ whole_answer decimal_table T.kind true flags.zeroes text.now }
 {
     match (engine, flags.zeroes) {
         (Engine::Words, false) => atoi_simd::parse_neg::<T, false>(text),
@@ -72,7 +71,7 @@ pub fn parse_prefix<T: atoi_simd::Parse + lanes::Parse>(
     text: &[u8],
 ) -> Result<(T, usize), AtoiSimdError<'_>>
     ensures { typed_prefix_answer T.number result
-        ≡ parse_prefix_answer (kind T.BITS T.SIGNED T.GREATEST) flags.zeroes flags.plus text.now }
+        ≡ parse_prefix_answer T.kind flags.zeroes flags.plus text.now }
 {
     match (engine, flags.zeroes, flags.plus) {
         (Engine::Words, false, false) => atoi_simd::parse_prefix::<T, false, false>(text),
@@ -94,7 +93,7 @@ pub fn parse_prefix_pos<T: atoi_simd::Parse + lanes::Parse>(
     text: &[u8],
 ) -> Result<(T, usize), AtoiSimdError<'_>>
     ensures { typed_prefix_answer T.number result
-        ≡ prefix_answer decimal_table (kind T.BITS T.SIGNED T.GREATEST)
+        ≡ prefix_answer decimal_table T.kind
         false flags.zeroes text.now }
 {
     match (engine, flags.zeroes) {
@@ -113,7 +112,7 @@ pub fn parse_prefix_neg<T: atoi_simd::ParseNeg + lanes::ParseNeg>(
     text: &[u8],
 ) -> Result<(T, usize), AtoiSimdError<'_>>
     ensures { typed_prefix_answer T.number result
-        ≡ prefix_answer decimal_table (kind T.BITS T.SIGNED T.GREATEST) true flags.zeroes text.now }
+        ≡ prefix_answer decimal_table T.kind true flags.zeroes text.now }
 {
     match (engine, flags.zeroes) {
         (Engine::Words, false) => atoi_simd::parse_prefix_neg::<T, false>(text),

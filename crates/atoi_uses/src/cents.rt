@@ -2,6 +2,7 @@
 //! It stands on `atoi_simd::ParseNeg` of `i64`, and owes the same answers.
 ghost use Rattle.std.specs.Prelude.{true, refl};
 ghost use Rattle.std.proofs.Common.{inl, inr};
+ghost use Rattle.atoi_core.specs.Kinds.{i64_kind};
 
 use atoi_core::{Number, Signed};
 use atoi_simd::{AtoiSimdError, ParseNeg};
@@ -23,6 +24,8 @@ impl Number for Cents {
 
     ghost GREATEST = { 9223372036854775807 };
 
+    ghost kind = { i64_kind };
+
     ghost number = { λ amount. amount.0 };
 
     fn from_pos(value: u128) -> Cents {
@@ -32,6 +35,8 @@ impl Number for Cents {
     fn parts(self) -> (bool, u128) {
         self.0.parts()
     }
+
+    ghost kind_is = { record { bits_are = refl; sign_is = refl; greatest_is = refl } };
 
     ghost sized = { record { bits = inr (inr (inr (inl refl))); greatest = refl } };
 }

@@ -16,8 +16,8 @@ returns-then-window-lt16-clause-answer g c =
     c.window-window.ensures.window c.window-window.ensures.one_step (omega arith) in
     answers_short _ _ c.args.bound 39 _ _ 0 _ _ _ _ _ wide_128 so (omega arith) (omega arith) (lit< tt) c.requires.digits c.from.ensures (omega arith)
 
-pub returns-then-window-lt16-clause-least_skipping : goal.returns-then-window-lt16-clause-least_skipping
-returns-then-window-lt16-clause-least_skipping g c =
+pub returns-then-window-lt16-clause-loads : goal.returns-then-window-lt16-clause-loads
+returns-then-window-lt16-clause-loads g c =
     let so = Skipped-first g.E.Engine.table g.met.E.Engine.below_ten c.args.skip c.args.s.now _ _ c.window-window.result
     c.window-window.ensures.window c.window-window.ensures.one_step (omega arith) in
-    Skipped-loads _ _ _ _ _ _ _ _ so (omega arith)
+    Skipped-loads _ _ _ _ _ _ _ _ _ so 0 (omega arith) (omega arith)

@@ -31,11 +31,10 @@ pub returns-clause-answer : goal.returns-clause-answer
 returns-clause-answer g c =
     c.answer_at.ensures ∙ narrow_told _ _ _ _ _ _ _ _ _ (ended g c) c.requires.high (omega (arith, c.loop-window.invariant.some))
 
-pub returns-clause-least : goal.returns-clause-least
-returns-clause-least g c = omega (arith, (ended g c).more)
-
-pub returns-clause-most : goal.returns-clause-most
-returns-clause-most g c = omega (arith, (ended g c).most)
-
-pub returns-clause-least_skipping : goal.returns-clause-least_skipping
-returns-clause-least_skipping g c = omega (arith, (ended g c).least refl)
+pub returns-clause-loads : goal.returns-clause-loads
+returns-clause-loads g c =
+    record {
+      at_most = omega (arith, (ended g c).most);
+      at_least = λ _. omega (arith, (ended g c).more);
+      at_least_skipping = λ _. omega (arith, (ended g c).least refl);
+    }

@@ -23,5 +23,5 @@ last g c =
 pub returns-else-skip-clause-answer : goal.returns-else-skip-clause-answer
 returns-else-skip-clause-answer g c = c.answer_at.ensures ∙ narrow_told _ _ _ _ _ _ _ _ _ (last g c) c.requires.high (omega arith)
 
-pub returns-else-skip-clause-least_skipping : goal.returns-else-skip-clause-least_skipping
-returns-else-skip-clause-least_skipping g c = Skipped-loads _ _ _ _ _ _ _ _ (last g c) (omega arith)
+pub returns-else-skip-clause-loads : goal.returns-else-skip-clause-loads
+returns-else-skip-clause-loads g c = Skipped-loads _ _ _ _ _ _ _ _ _ (last g c) 0 (omega arith) (omega arith)

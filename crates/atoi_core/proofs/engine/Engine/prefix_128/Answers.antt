@@ -10,52 +10,52 @@ use Rattle.atoi_core.proofs.WideLemmas.{wide_128, answers_empty, answers_short, 
 use Rattle.atoi_core.proofs.engine.Engine.prefix_128.Goals as goal
 use Rattle.atoi_core.proofs.engine.Engine.prefix_128.Goals.{After-window-second, After-window_8-third}
 
-pub loop-window-init : goal.loop-window-init
-loop-window-init g c = Skipping-none _ c.args.skip c.args.s.now c.args.steps.now
+pub loop-next-init : goal.loop-next-init
+loop-next-init g c = Skipping-none _ c.args.skip c.args.s.now c.args.steps.now
 
 pub slice_bounds-window-count : goal.slice_bounds-window-count
-slice_bounds-window-count g c = c.loop-window.invariant.within
+slice_bounds-window-count g c = c.loop-next.invariant.within
 
-pub loop-window-preserved : goal.loop-window-preserved
-loop-window-preserved g c =
-    Skipping-more _ g.met.Self.Engine.below_ten _ _ _ _ _ _ c.window-window.result
-    c.loop-window.invariant c.window-window.ensures.window c.window-window.ensures.one_step
+pub loop-next-preserved : goal.loop-next-preserved
+loop-next-preserved g c =
+    Skipping-more _ g.met.Self.Engine.below_ten _ _ _ _ _ _ c.window-next.result
+    c.loop-next.invariant c.window-next.ensures.window c.window-next.ensures.one_step
     c.if-not-skip.false (omega arith)
 
 pub returns-then-len-eq0-clause-answer : goal.returns-then-len-eq0-clause-answer
 returns-then-len-eq0-clause-answer g c =
-    let so = Skipped-end _ g.met.Self.Engine.below_ten _ _ _ _ _ _ c.window-window.result
-    c.loop-window.invariant c.window-window.ensures.window c.window-window.ensures.one_step c.then-not-skip.either in
+    let so = Skipped-end _ g.met.Self.Engine.below_ten _ _ _ _ _ _ c.window-next.result
+    c.loop-next.invariant c.window-next.ensures.window c.window-next.ensures.one_step c.then-not-skip.either in
     answers_empty _ _ _ _ _ _ _ _ _ _ so c.if-len-eq0.true
 
 pub returns-else-len-eq0-clause-answer : goal.returns-else-len-eq0-clause-answer
 returns-else-len-eq0-clause-answer g c =
-    let so = Skipped-end _ g.met.Self.Engine.below_ten _ _ _ _ _ _ c.window-window.result
-    c.loop-window.invariant c.window-window.ensures.window c.window-window.ensures.one_step c.then-not-skip.either in
+    let so = Skipped-end _ g.met.Self.Engine.below_ten _ _ _ _ _ _ c.window-next.result
+    c.loop-next.invariant c.window-next.ensures.window c.window-next.ensures.one_step c.then-not-skip.either in
     answers_short _ _ _ _ _ _ _ _ _ _ _ _ wide_128 so c.if-first-lt16.true (omega arith) (lit< tt) c.requires.digits c.from.ensures refl
 
-pub returns-else-len-eq0-clause-least_skipping : goal.returns-else-len-eq0-clause-least_skipping
-returns-else-len-eq0-clause-least_skipping g c =
-    let so = Skipped-end _ g.met.Self.Engine.below_ten _ _ _ _ _ _ c.window-window.result
-    c.loop-window.invariant c.window-window.ensures.window c.window-window.ensures.one_step c.then-not-skip.either in
-    Skipped-loads _ _ _ _ _ _ _ _ so (omega arith)
+pub returns-else-len-eq0-clause-loads : goal.returns-else-len-eq0-clause-loads
+returns-else-len-eq0-clause-loads g c =
+    let so = Skipped-end _ g.met.Self.Engine.below_ten _ _ _ _ _ _ c.window-next.result
+    c.loop-next.invariant c.window-next.ensures.window c.window-next.ensures.one_step c.then-not-skip.either in
+    Skipped-loads _ _ _ _ _ _ _ _ _ so 0 (omega arith) (omega arith)
 
 -- where the loop ends, at a full window
 ended : (g : _) (c : After-window-second g)
-    → Skipped g.Self.Engine.table c.args.skip c.args.s.now c.loop-window.at c.args.steps.now c.window-window.new.steps c.window-window.result
+    → Skipped g.Self.Engine.table c.args.skip c.args.s.now c.loop-next.at c.args.steps.now c.window-next.new.steps c.window-next.result
 ended g c =
-    Skipped-end _ g.met.Self.Engine.below_ten _ _ _ _ _ _ c.window-window.result
-    c.loop-window.invariant c.window-window.ensures.window c.window-window.ensures.one_step c.then-not-skip.either
+    Skipped-end _ g.met.Self.Engine.below_ten _ _ _ _ _ _ c.window-next.result
+    c.loop-next.invariant c.window-next.ensures.window c.window-next.ensures.one_step c.then-not-skip.either
 
 -- the window behind it
-middle : (g : _) (c : After-window-second g) → Shows g.Self.Engine.table 16 (drop 16 (drop c.loop-window.at c.args.s.now)) c.window-second.result
+middle : (g : _) (c : After-window-second g) → Shows g.Self.Engine.table 16 (drop 16 (drop c.loop-next.at c.args.s.now)) c.window-second.result
 middle g c =
-    shows_behind g.Self.Engine.table g.met.Self.Engine.below_ten 16 16 c.args.s.now c.loop-window.at c.window-second.result c.window-second.ensures.window
+    shows_behind g.Self.Engine.table g.met.Self.Engine.below_ten 16 16 c.args.s.now c.loop-next.at c.window-second.result c.window-second.ensures.window
 
 -- the eight bytes behind both
-third : (g : _) (c : After-window_8-third g) → Shows g.Self.Engine.table 8 (drop 32 (drop c.loop-window.at c.args.s.now)) c.window_8-third.result
+third : (g : _) (c : After-window_8-third g) → Shows g.Self.Engine.table 8 (drop 32 (drop c.loop-next.at c.args.s.now)) c.window_8-third.result
 third g c =
-    shows_behind g.Self.Engine.table g.met.Self.Engine.below_ten 8 32 c.args.s.now c.loop-window.at c.window_8-third.result c.window_8-third.ensures.window
+    shows_behind g.Self.Engine.table g.met.Self.Engine.below_ten 8 32 c.args.s.now c.loop-next.at c.window_8-third.result c.window_8-third.ensures.window
 
 -- the number of two full windows and a third
 abbrev joined_number : (front middle back : Window) → ℕ
@@ -63,10 +63,10 @@ joined_number front middle back = front.number * 10 ^ (16 + back.len) + (middle.
 
 -- what three windows read together
 read_three : (g : _) (c : After-window-second g) → 16 ≤ c.window-second.result.len
-    → (last : Window) → Shows g.Self.Engine.table 8 (drop 32 (drop c.loop-window.at c.args.s.now)) last
-    → Reads g.Self.Engine.table 40 (drop c.loop-window.at c.args.s.now) (32 + last.len) (joined_number c.window-window.result c.window-second.result last)
+    → (last : Window) → Shows g.Self.Engine.table 8 (drop 32 (drop c.loop-next.at c.args.s.now)) last
+    → Reads g.Self.Engine.table 40 (drop c.loop-next.at c.args.s.now) (32 + last.len) (joined_number c.window-next.result c.window-second.result last)
 read_three g c more last back =
-    Reads-join_two g.Self.Engine.table (drop c.loop-window.at c.args.s.now) c.window-window.result c.window-second.result last.len last.number
+    Reads-join_two g.Self.Engine.table (drop c.loop-next.at c.args.s.now) c.window-next.result c.window-second.result last.len last.number
     (ended g c).shown c.if-first-lt16.false (middle g c) more back.reads
 
 pub returns-then-second-lt16-clause-answer : goal.returns-then-second-lt16-clause-answer
@@ -74,27 +74,27 @@ returns-then-second-lt16-clause-answer g c =
     let two = (goal.at.returns-then-second-lt16-clause-answer g c).After-window-second in
     answers_two _ _ _ _ _ _ _ _ _ _ _ (ended g two) c.if-first-lt16.false (middle g two) c.if-second-lt16.true c.requires.digits (cc) (omega arith)
 
-pub returns-then-second-lt16-clause-least_skipping : goal.returns-then-second-lt16-clause-least_skipping
-returns-then-second-lt16-clause-least_skipping g c =
-    Skipped-loads _ _ _ _ _ _ _ _ (ended g (goal.at.returns-then-second-lt16-clause-least_skipping g c).After-window-second)
-    (omega (arith, c.window-second.ensures.one_step))
+pub returns-then-second-lt16-clause-loads : goal.returns-then-second-lt16-clause-loads
+returns-then-second-lt16-clause-loads g c =
+    Skipped-loads _ _ _ _ _ _ _ _ _ (ended g (goal.at.returns-then-second-lt16-clause-loads g c).After-window-second)
+    1 (omega (arith, c.window-second.ensures.one_step)) (omega arith)
 
 -- two full windows stand within the slice
-two_long : (g : _) (c : After-window-second g) → 16 ≤ c.window-second.result.len → 32 ≤ length (drop c.loop-window.at c.args.s.now)
+two_long : (g : _) (c : After-window-second g) → 16 ≤ c.window-second.result.len → 32 ≤ length (drop c.loop-next.at c.args.s.now)
 two_long g c more =
     let front = (ended g c).shown in
     let on = front.goes_on (omega (arith, front.reads.within)) in
-    omega (arith, on, (middle g c).reads.inside, prefix_len-le-length (is_digit g.Self.Engine.table) (drop c.loop-window.at c.args.s.now))
+    omega (arith, on, (middle g c).reads.inside, prefix_len-le-length (is_digit g.Self.Engine.table) (drop c.loop-next.at c.args.s.now))
 
 pub slice_bounds-window_8-count : goal.slice_bounds-window_8-count
 slice_bounds-window_8-count g c =
     let long = two_long g (goal.at.slice_bounds-window_8-count g c).After-window-second c.if-second-lt16.false in
-    omega (arith, ap length (take_rest c.args.s.now c.loop-window.at), long)
+    omega (arith, ap length (take_rest c.args.s.now c.loop-next.at), long)
 
 pub slice_bounds-window_8-start : goal.slice_bounds-window_8-start
 slice_bounds-window_8-start g c =
     let long = two_long g (goal.at.slice_bounds-window_8-start g c).After-window-second c.if-second-lt16.false in
-    rw (take_rest c.args.s.now c.loop-window.at) long
+    rw (take_rest c.args.s.now c.loop-next.at) long
 
 pub returns-then-third-eq8-clause-answer : goal.returns-then-third-eq8-clause-answer
 returns-then-third-eq8-clause-answer g c =
@@ -102,12 +102,12 @@ returns-then-third-eq8-clause-answer g c =
     let two = at.After-window-second in
     let reads = read_three g two c.if-second-lt16.false c.window_8-third.result (third g at.After-window_8-third) in
     answers_size _ _ c.args.bound 39 _ _ _ _ _ _ _ _ _ _ wide_128 (ended g two) c.if-first-lt16.false reads (omega arith)
-    (omega arith) (take_rest c.args.s.now c.loop-window.at)
+    (omega arith) (take_rest c.args.s.now c.loop-next.at)
 
-pub returns-then-third-eq8-clause-least_skipping : goal.returns-then-third-eq8-clause-least_skipping
-returns-then-third-eq8-clause-least_skipping g c =
-    Skipped-loads _ _ _ _ _ _ _ _ (ended g (goal.at.returns-then-third-eq8-clause-least_skipping g c).After-window-second)
-    (omega (arith, c.window-second.ensures.one_step, c.window_8-third.ensures.one_step))
+pub returns-then-third-eq8-clause-loads : goal.returns-then-third-eq8-clause-loads
+returns-then-third-eq8-clause-loads g c =
+    Skipped-loads _ _ _ _ _ _ _ _ _ (ended g (goal.at.returns-then-third-eq8-clause-loads g c).After-window-second)
+    2 (omega (arith, c.window-second.ensures.one_step, c.window_8-third.ensures.one_step)) (omega arith)
 
 pub joined_128-requires-clause-front_high : goal.joined_128-requires-clause-front_high
 joined_128-requires-clause-front_high g c =
@@ -131,14 +131,14 @@ returns-in-Some-clause-answer g c =
     let two = at.After-window-second in
     let back = third g at.After-window_8-third in
     let reads = read_three g two c.if-second-lt16.false c.window_8-third.result back in
-    let told = some_within c.args.bound (joined_number c.window-window.result c.window-second.result c.window_8-third.result) c.in-Some.number _ c.in-Some.is c.joined_128.ensures in
+    let told = some_within c.args.bound (joined_number c.window-next.result c.window-second.result c.window_8-third.result) c.in-Some.number _ c.in-Some.is c.joined_128.ensures in
     answers_ok _ _ _ 39 _ _ _ _ _ _ _ _ _ _ wide_128 (ended g two) c.if-first-lt16.false reads (omega (arith, back.reads.within)) (lit< tt) told.1
     told.0 (omega arith)
 
-pub returns-in-Some-clause-least_skipping : goal.returns-in-Some-clause-least_skipping
-returns-in-Some-clause-least_skipping g c =
-    Skipped-loads _ _ _ _ _ _ _ _ (ended g (goal.at.returns-in-Some-clause-least_skipping g c).After-window-second)
-    (omega (arith, c.window-second.ensures.one_step, c.window_8-third.ensures.one_step))
+pub returns-in-Some-clause-loads : goal.returns-in-Some-clause-loads
+returns-in-Some-clause-loads g c =
+    Skipped-loads _ _ _ _ _ _ _ _ _ (ended g (goal.at.returns-in-Some-clause-loads g c).After-window-second)
+    2 (omega (arith, c.window-second.ensures.one_step, c.window_8-third.ensures.one_step)) (omega arith)
 
 pub returns-in-None-clause-answer : goal.returns-in-None-clause-answer
 returns-in-None-clause-answer g c =
@@ -146,11 +146,11 @@ returns-in-None-clause-answer g c =
     let two = at.After-window-second in
     let back = third g at.After-window_8-third in
     let reads = read_three g two c.if-second-lt16.false c.window_8-third.result back in
-    let over = none_above c.args.bound (joined_number c.window-window.result c.window-second.result c.window_8-third.result) _ c.in-None.is c.joined_128.ensures in
+    let over = none_above c.args.bound (joined_number c.window-next.result c.window-second.result c.window_8-third.result) _ c.in-None.is c.joined_128.ensures in
     answers_overflow _ _ _ 39 _ _ _ _ _ _ _ _ _ wide_128 (ended g two) c.if-first-lt16.false reads (omega (arith, back.reads.within)) (lit< tt) over
-    (take_rest c.args.s.now c.loop-window.at)
+    (take_rest c.args.s.now c.loop-next.at)
 
-pub returns-in-None-clause-least_skipping : goal.returns-in-None-clause-least_skipping
-returns-in-None-clause-least_skipping g c =
-    Skipped-loads _ _ _ _ _ _ _ _ (ended g (goal.at.returns-in-None-clause-least_skipping g c).After-window-second)
-    (omega (arith, c.window-second.ensures.one_step, c.window_8-third.ensures.one_step))
+pub returns-in-None-clause-loads : goal.returns-in-None-clause-loads
+returns-in-None-clause-loads g c =
+    Skipped-loads _ _ _ _ _ _ _ _ _ (ended g (goal.at.returns-in-None-clause-loads g c).After-window-second)
+    2 (omega (arith, c.window-second.ensures.one_step, c.window_8-third.ensures.one_step)) (omega arith)

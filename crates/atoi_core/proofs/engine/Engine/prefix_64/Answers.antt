@@ -1,7 +1,8 @@
 -- The loop leaves what `Skipped` says; the answers and the loads follow from it.
-use Rattle.std.proofs.Common.{◌≡◌, ◌+◌, ◌*◌, ◌/◌, ◌^◌, ◌<◌, ◌≤◌, ℕ, IsTrue, ap, refl, arith, drop}
+use Rattle.std.proofs.Common.{◌≡◌, ◌+◌, ◌-◌, ◌*◌, ◌^◌, ◌<◌, ℕ, ap, refl, arith, drop}
 use Rattle.std.proofs.lemmas.List.{take_rest}
-use Rattle.atoi_core.specs.Run.{zeros}
+use Rattle.atoi_core.specs.Loads.{LoadsWithin, most_loads}
+use Rattle.atoi_core.specs.Magnitude.{wide64}
 use Rattle.atoi_core.proofs.WindowLemmas.{Reads, Shows, Reads-join}
 use Rattle.atoi_core.proofs.SkipLemmas.{Skipping-none, Skipping-more, Skipped, Skipped-end, Skipped-loads, shows_behind}
 use Rattle.atoi_core.proofs.WideLemmas.{wide_64, answers_empty, answers_short, answers_size, answers_overflow, answers_ok, below_bound, some_within, none_above}
@@ -32,11 +33,11 @@ returns-else-len-eq0-clause-answer g c =
     c.loop-window.invariant c.window-window.ensures.window c.window-window.ensures.one_step c.then-not-skip.either in
     answers_short _ _ _ _ _ _ _ _ _ _ _ _ wide_64 so c.if-front-lt16.true (omega arith) (omega arith) c.requires.digits refl refl
 
-pub returns-else-len-eq0-clause-least_skipping : goal.returns-else-len-eq0-clause-least_skipping
-returns-else-len-eq0-clause-least_skipping g c =
+pub returns-else-len-eq0-clause-loads : goal.returns-else-len-eq0-clause-loads
+returns-else-len-eq0-clause-loads g c =
     let so = Skipped-end _ g.met.Self.Engine.below_ten _ _ _ _ _ _ c.window-window.result
     c.loop-window.invariant c.window-window.ensures.window c.window-window.ensures.one_step c.then-not-skip.either in
-    Skipped-loads _ _ _ _ _ _ _ _ so (omega arith)
+    Skipped-loads _ _ _ _ _ _ _ _ _ so 0 (omega arith) (omega arith)
 
 -- where the loop ends, at a full window
 ended : (g : _) (c : After-window_8-back g)
@@ -59,8 +60,9 @@ read g c =
     (ended g c).shown c.if-front-lt16.false (behind g c).reads
 
 -- both are counted
-loads : (g : _) (c : After-window_8-back g) → IsTrue c.args.skip → c.args.steps.now + zeros g.Self.Engine.table c.args.s.now / 32 ≤ c.window_8-back.new.steps
-loads g c = Skipped-loads _ _ _ _ _ _ _ _ (ended g c) (omega (arith, c.window_8-back.ensures.one_step))
+loads : (g : _) (c : After-window_8-back g)
+    → LoadsWithin (most_loads g.Self.Engine.table wide64 c.args.s.now - 1) g.Self.Engine.table c.args.skip c.args.s.now c.args.steps.now c.window_8-back.new.steps
+loads g c = Skipped-loads _ _ _ _ _ _ _ _ _ (ended g c) 1 (omega (arith, c.window_8-back.ensures.one_step)) (omega arith)
 
 pub overflow_add-digits : goal.overflow_add-digits
 overflow_add-digits g c = omega (arith, (behind g (goal.at.overflow_add-digits g c).After-window_8-back).reads.within)
@@ -71,17 +73,17 @@ returns-then-digits-limit-clause-answer g c =
     answers_size _ _ _ _ _ _ _ _ _ _ _ _ _ _ wide_64 (ended g both) c.if-front-lt16.false (read g both) c.if-digits-limit.true
     refl (take_rest c.args.s.now c.loop-window.at)
 
-pub returns-then-digits-limit-clause-least_skipping : goal.returns-then-digits-limit-clause-least_skipping
-returns-then-digits-limit-clause-least_skipping g c = loads g (goal.at.returns-then-digits-limit-clause-least_skipping g c).After-window_8-back
+pub returns-then-digits-limit-clause-loads : goal.returns-then-digits-limit-clause-loads
+returns-then-digits-limit-clause-loads g c = loads g (goal.at.returns-then-digits-limit-clause-loads g c).After-window_8-back
 
-pub returns-then-digits-limit-2-clause-least_skipping : goal.returns-then-digits-limit-2-clause-least_skipping
-returns-then-digits-limit-2-clause-least_skipping g c = loads g (goal.at.returns-then-digits-limit-2-clause-least_skipping g c).After-window_8-back
+pub returns-then-digits-limit-2-clause-loads : goal.returns-then-digits-limit-2-clause-loads
+returns-then-digits-limit-2-clause-loads g c = loads g (goal.at.returns-then-digits-limit-2-clause-loads g c).After-window_8-back
 
-pub returns-in-Some-clause-least_skipping : goal.returns-in-Some-clause-least_skipping
-returns-in-Some-clause-least_skipping g c = loads g (goal.at.returns-in-Some-clause-least_skipping g c).After-window_8-back
+pub returns-in-Some-clause-loads : goal.returns-in-Some-clause-loads
+returns-in-Some-clause-loads g c = loads g (goal.at.returns-in-Some-clause-loads g c).After-window_8-back
 
-pub returns-in-None-clause-least_skipping : goal.returns-in-None-clause-least_skipping
-returns-in-None-clause-least_skipping g c = loads g (goal.at.returns-in-None-clause-least_skipping g c).After-window_8-back
+pub returns-in-None-clause-loads : goal.returns-in-None-clause-loads
+returns-in-None-clause-loads g c = loads g (goal.at.returns-in-None-clause-loads g c).After-window_8-back
 
 -- the power of ten is that of the bytes behind
 product : (g : _) (c : After-power_of_ten-power g)
