@@ -2,7 +2,7 @@
 //! It stands on the engines and on the loops of `atoi_core`.
 
 use crate::original::ROWS;
-use atoi_core::{Engine, Plain, Steps, Window, Words, narrow_prefix};
+use atoi_core::{Engine, Plain, Steps, Window, Words, narrow_prefix, narrow_whole_windows};
 use atoi_simd::lanes::Lanes;
 use std::process::Abort;
 
@@ -19,6 +19,7 @@ fn check(rt: &impl Abort, text: &[u8]) {
 
 fn check_engine<E: Engine>(rt: &impl Abort, text: &[u8]) {
     check_windows::<E>(rt, text);
+    check_narrow_whole::<E>(rt, text);
     for skip in [false, true] {
         check_narrow_prefix::<E>(rt, skip, text);
         check_prefix_64::<E>(rt, skip, text);
@@ -36,6 +37,16 @@ fn check_windows<E: Engine>(rt: &impl Abort, text: &[u8]) {
         told(E::window_8(text, &mut steps)),
         told(Plain::window_8(text, &mut steps))
     );
+}
+
+fn check_narrow_whole<E: Engine>(rt: &impl Abort, text: &[u8]) {
+    let mut steps = Steps::new();
+    for bound in [255, 4294967295] {
+        assert_eq!(rt;
+            narrow_whole_windows::<E>(bound, text, &mut steps),
+            narrow_whole_windows::<Plain>(bound, text, &mut steps)
+        );
+    }
 }
 
 fn check_narrow_prefix<E: Engine>(rt: &impl Abort, skip: bool, text: &[u8]) {

@@ -9,6 +9,8 @@ mod agreement;
 mod decimal_texts;
 #[cfg(test)]
 mod loops;
+#[cfg(test)]
+mod narrow_whole;
 pub mod original;
 #[cfg(test)]
 mod windows;
