@@ -1,15 +1,15 @@
 -- What was read at the front of a slice decides the answer of a wide class.
-use Rattle.std.proofs.Common.{◌≡◌, ◌⊎◌, ℕ, ◌+◌, ◌-◌, ◌*◌, ◌^◌, ◌<◌, ◌≤◌, min, Bool, true, false, cond, eqb, ltb, List, take, drop, Some, None, Result, Ok, Err, refl, sym, ap, ◌∙◌, inl, inr, arith, ne_eqb}
-use Rattle.std.proofs.lemmas.Bool.{lt-ltb}
-use Rattle.std.proofs.lemmas.List.{take-take}
+use Rattle.std.proofs.Common.{◌≡◌, ◌⊎◌, ℕ, ◌+◌, ◌-◌, ◌*◌, ◌^◌, ◌<◌, ◌≤◌, min, Bool, true, false, cond, eqb, ltb, List, length, take, drop, Some, None, Result, Ok, Err, refl, sym, ap, ◌∙◌, subst, inl, inr, arith, ne_eqb}
+use Rattle.std.proofs.lemmas.Bool.{eqb-true, eqb-false, lt-ltb}
+use Rattle.std.proofs.lemmas.List.{take-take, length-take, length-take-le}
 use Rattle.std.proofs.lemmas.List.Sums.{prefix_len-le-length}
-use Rattle.atoi_core.specs.Digit.{Table, is_digit, is_zero}
+use Rattle.atoi_core.specs.Digit.{Table, IsBelowTen, is_digit, is_zero}
 use Rattle.atoi_core.specs.Run.{run_len, run, zeros, value}
 use Rattle.atoi_core.specs.Refusal.{Refusal, empty, size, overflow}
 use Rattle.atoi_core.specs.Magnitude.{Class, narrow, wide64, wide128, refusal, cap, counting_digits, unless_refused, prefix_magnitude}
 use Rattle.atoi_core.specs.Reading.{Reading, IsSkipped, answer_by_digits}
 use Rattle.atoi_core.proofs.RunLemmas.{prefix_len-take, prefix_len-drop, zeros-le}
-use Rattle.atoi_core.proofs.ValueLemmas.{value-take-add, value-drop_zeros}
+use Rattle.atoi_core.proofs.ValueLemmas.{value-below, value-take-add, value-drop_zeros}
 
 -- zeros that are left behind some of them
 pub zeros_left : (t : Table) (count : ℕ) (s : List ℕ) (place : ℕ) → place ≤ zeros t s
@@ -17,11 +17,19 @@ pub zeros_left : (t : Table) (count : ℕ) (s : List ℕ) (place : ℕ) → plac
 zeros_left t count s place within =
     omega (arith, prefix_len-take (is_zero t) count (drop place s), prefix_len-drop (is_zero t) place s within)
 
--- a reading of digits that do not all lead with zeros, and one behind it
-pub joined : (t : Table) (count more : ℕ) (s : List ℕ) (leading high digits others low : ℕ) → leading < count
+-- how many lead both of two readings
+leading_both : (n m k z y : ℕ) → k ≡ min n z → (n ≤ z → z ≡ n + y) → min (n + m) z ≡ cond (eqb k n) (n + min m y) k
+leading_both n m k z y k_is more =
+    (elim (eqb k n) as (λ b. eqb k n ≡ b → min (n + m) z ≡ cond b (n + min m y) k) [
+      | true ↦ λ e. let all : k ≡ n = eqb-true k n e in omega (arith, more (omega arith))
+      | false ↦ λ e. omega (arith, eqb-false k n e)
+    ]) refl
+
+-- a reading that is full of digits, and one behind it
+pub joined : (t : Table) (count more : ℕ) (s : List ℕ) (leading high digits others low : ℕ)
     → Reading t count s count leading high → Reading t more (drop count s) digits others low
-    → Reading t (count + more) s (count + digits) leading (high * 10 ^ digits + low)
-joined t count more s leading high digits others low short front back =
+    → Reading t (count + more) s (count + digits) (cond (eqb leading count) (count + others) leading) (high * 10 ^ digits + low)
+joined t count more s leading high digits others low front back =
     let full : count ≡ min count (run_len t s) = front.digits_are ∙ prefix_len-take (is_digit t) count s in
     let rest : run_len t s ≡ count + run_len t (drop count s) = prefix_len-drop (is_digit t) count s (omega arith) in
     let behind : digits ≡ min more (run_len t (drop count s)) = back.digits_are ∙ prefix_len-take (is_digit t) more (drop count s) in
@@ -37,11 +45,30 @@ joined t count more s leading high digits others low short front back =
     value-take-add t count digits s (omega (arith, prefix_len-le-length (is_digit t) s))
     ∙ ap (λ (n : ℕ). n * 10 ^ digits + value t (take digits (drop count s))) (sym first)
     ∙ ap (λ (n : ℕ). high * 10 ^ digits + n) (sym last) in
+    let zeros_behind : others ≡ min more (zeros t (drop count s)) = back.leading_are ∙ prefix_len-take (is_zero t) more (drop count s) in
+    let zeros_both : min (count + more) (zeros t s) ≡ cond (eqb leading count) (count + min more (zeros t (drop count s))) leading =
+    leading_both count more leading (zeros t s) (zeros t (drop count s)) (front.leading_are ∙ prefix_len-take (is_zero t) count s) (prefix_len-drop (is_zero t) count s) in
     record {
       digits_are = sym all;
-      leading_are = omega (arith, front.leading_are, prefix_len-take (is_zero t) count s, prefix_len-take (is_zero t) (count + more) s);
+      leading_are = sym (prefix_len-take (is_zero t) (count + more) s ∙ zeros_both ∙ ap (λ (n : ℕ). cond (eqb leading count) (count + n) leading) (sym zeros_behind));
       number_is = sym (cut ∙ sum);
     }
+
+-- zeros are digits, and digits are bytes
+pub within : (t : Table) (count : ℕ) (s : List ℕ) (digits leading number : ℕ) → Reading t count s digits leading number
+    → (leading ≤ digits) × (digits ≤ min count (length s))
+within t count s digits leading number reading =
+    let most : run_len t (take count s) ≤ length (take count s) = prefix_len-le-length (is_digit t) (take count s) in
+    (omega (arith, reading.leading_are, reading.digits_are, zeros-le t (take count s)), omega (arith, reading.digits_are, length-take count s))
+
+-- the number of a reading is that of a front of digits
+pub below : (t : Table) → IsBelowTen t → (count : ℕ) (s : List ℕ) (digits leading number : ℕ) → Reading t count s digits leading number
+    → number < 10 ^ digits
+below t ten count s digits leading number reading =
+    let front : List ℕ = take count s in
+    let len : length (run t front) ≡ digits = length-take-le (run_len t front) front (prefix_len-le-length (is_digit t) front) ∙ sym reading.digits_are in
+    let P : ℕ → Type 0 = λ (n : ℕ). value t (run t front) < 10 ^ n in
+    omega (arith, reading.number_is, subst P len (value-below t ten (run t front)))
 
 -- the answer by the tests of its three refusals, with the count of all digits told by itself
 abbrev by_tests : Class → (bound limit total skipped counting number : ℕ) → List ℕ → Result (ℕ × ℕ) Refusal
@@ -123,8 +150,8 @@ pub decided : (t : Table) (class : Class) (bound limit : ℕ) → limit < cap cl
     ≡ answer_by_digits class bound limit (place + (digits - counting_digits skip digits leading)) (counting_digits skip digits leading) number s
 decided t class bound limit less skip s place count digits leading number skipped reading enough =
     let body : List ℕ = drop place s in
-    let run_is : run_len t s ≡ place + run_len t body = prefix_len-drop (is_digit t) place s (omega (arith, skipped.zeros, zeros-le t s)) in
-    let zeros_are : zeros t s ≡ place + zeros t body = prefix_len-drop (is_zero t) place s skipped.zeros in
+    let run_is : run_len t s ≡ place + run_len t body = prefix_len-drop (is_digit t) place s (omega (arith, skipped.zeros_only, zeros-le t s)) in
+    let zeros_are : zeros t s ≡ place + zeros t body = prefix_len-drop (is_zero t) place s skipped.zeros_only in
     let zeros_most : zeros t body ≤ run_len t body = zeros-le t body in
     let digits_are : digits ≡ min count (run_len t body) = reading.digits_are ∙ prefix_len-take (is_digit t) count body in
     let leading_are : leading ≡ min count (zeros t body) = reading.leading_are ∙ prefix_len-take (is_zero t) count body in
@@ -134,7 +161,7 @@ decided t class bound limit less skip s place count digits leading number skippe
           let all : run_len t body ≡ digits = omega arith in
           let tell = counted skip (run_len t s) (zeros t s) place digits leading (omega arith) (omega arith) skipped.asked in
           let number_is : value t (run t s) ≡ number =
-          value-drop_zeros t place s skipped.zeros ∙ ap (λ (n : ℕ). value t (take n body)) all
+          value-drop_zeros t place s skipped.zeros_only ∙ ap (λ (n : ℕ). value t (take n body)) all
           ∙ ap (value t) (sym (take-take digits count body (omega arith)))
           ∙ ap (λ (n : ℕ). value t (take n (take count body))) reading.digits_are ∙ sym reading.number_is in
           by_all_digits t class bound limit skip s (place + (digits - counting)) counting less tell.0 tell.1
