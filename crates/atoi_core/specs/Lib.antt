@@ -12,5 +12,6 @@ pub mod Text
 pub mod Laws
 pub mod Loads
 pub mod Window
+pub mod Reading
 pub mod Words
 pub mod Examples

@@ -13,6 +13,7 @@ pub mod laws;
 mod narrow;
 mod number;
 mod plain;
+pub mod reading;
 mod sign;
 mod steps;
 mod text;

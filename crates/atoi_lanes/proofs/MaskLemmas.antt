@@ -50,9 +50,9 @@ prefix_len-agree p q all (x ∷ xs) fits =
     ∙ ap (λ n. cond (q x) (1 + n) 0) (prefix_len-agree p q all xs fits.1)
 
 -- the ones at the low end of a mask are the first lanes that pass, where f of a lane is set just where the lane passes
-pub ones-of_mask : (q : ℕ → Bool) (v : List ℕ) (f : ℕ → ℕ) (z : List ℕ) → length v ≡ 16 → Each1 (Fits w8) v → z ≡ map f v
+pub ones-of_mask : (q : ℕ → Bool) (v : List ℕ) (f : ℕ → ℕ) (z : List ℕ) → length v < 64 → Each1 (Fits w8) v → z ≡ map f v
     → agree_below (λ x. top 7 (f x)) q 256 ≡ true → trailing_ones w64 (mask_l (map (top 7) z) % 2 ^ 64) ≡ prefix_len q v
 ones-of_mask q v f z long fits lanes all =
     let set = λ (x : ℕ). top 7 (f x) in
-    let mask = ap (λ l. mask_l l % 2 ^ 64) (ap (map (top 7)) lanes ∙ map-map (top 7) f v) ∙ mask_l-mod (map set v) 64 (omega (arith, length-map v set, long)) in
+    let mask = ap (λ l. mask_l l % 2 ^ 64) (ap (map (top 7)) lanes ∙ map-map (top 7) f v) ∙ mask_l-mod (map set v) 64 (omega (arith, length-map v set)) in
     ap (trailing_ones w64) mask ∙ trailing-complement set 64 v (omega arith) ∙ prefix_len-agree set q all v fits

@@ -10,14 +10,14 @@ use Rattle.atoi_lanes.specs.LaneWindow.{lane_window}
 use Rattle.atoi_lanes.specs.Padded.{padded_front}
 
 -- a zero that fails the test ends the front, as the end does
-prefix_len-padded : (p : ℕ → Bool) → p 0 ≡ false → (n m : ℕ) (s : List ℕ) → prefix_len p (take n (s ++ replicate m 0)) ≡ prefix_len p (take n s)
+pub prefix_len-padded : (p : ℕ → Bool) → p 0 ≡ false → (n m : ℕ) (s : List ℕ) → prefix_len p (take n (s ++ replicate m 0)) ≡ prefix_len p (take n s)
 prefix_len-padded p h zero m s = refl
 prefix_len-padded p h (suc n) zero [] = refl
 prefix_len-padded p h (suc n) (suc m) [] = ap (λ b. cond b (1 + prefix_len p (take n (replicate m 0))) 0) h
 prefix_len-padded p h (suc n) m (x ∷ xs) = ap (λ k. cond (p x) (1 + k) 0) (prefix_len-padded p h n m xs)
 
 -- a front that ends within the slice is not changed by what is put behind it
-front-padded : (p : ℕ → Bool) (n : ℕ) (s zs : List ℕ) → take (prefix_len p (take n s)) (take n (s ++ zs)) ≡ take (prefix_len p (take n s)) (take n s)
+pub front-padded : (p : ℕ → Bool) (n : ℕ) (s zs : List ℕ) → take (prefix_len p (take n s)) (take n (s ++ zs)) ≡ take (prefix_len p (take n s)) (take n s)
 front-padded p zero s zs = refl
 front-padded p (suc n) [] zs = refl
 front-padded p (suc n) (x ∷ xs) zs =

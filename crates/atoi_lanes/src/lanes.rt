@@ -1,5 +1,6 @@
 //! The engine that reads a window into sixteen vector lanes at once.
-//! It stands on the four kernels and on `atoi_core`'s trait, window and steps.
+//! It stands on the four kernels, on `wide_lanes` for long runs, and on `atoi_core`'s trait, window
+//! and steps.
 ghost use Rattle.std.specs.Prelude.{◌≡◌, ◌+◌};
 ghost use Rattle.std.proofs.Common.{arith};
 ghost use Rattle.std.proofs.lemmas.Bool.Decides.{nat_tests};
@@ -8,7 +9,8 @@ ghost use Rattle.atoi_core.specs.Window.{window_of};
 ghost use Rattle.atoi_lanes.specs.LaneWindow.{lane_window};
 
 use crate::kernels::{len_lanes, load_lanes, sum_lanes, zeroes_lanes};
-use atoi_core::{Engine, Steps, Window};
+use crate::wide_lanes::{prefix_64_lanes, prefix_128_lanes};
+use atoi_core::{AtoiSimdError, Engine, Steps, Window};
 use std::simd::prelude::*;
 
 /// The engine that reads sixteen bytes at once, in vector lanes. Its digits are the decimal ones.
@@ -54,6 +56,25 @@ impl Engine for Lanes {
             };
         }
         lane_window(load_lanes(&s[..s.len().min(8)]), 8)
+    }
+
+    fn prefix_64<'a>(
+        bound: u64,
+        limit: u32,
+        skip: bool,
+        s: &'a [u8],
+        steps: &mut Steps,
+    ) -> Result<(u64, usize), AtoiSimdError<'a>> {
+        prefix_64_lanes(bound, limit, skip, s, steps)
+    }
+
+    fn prefix_128<'a>(
+        bound: u128,
+        skip: bool,
+        s: &'a [u8],
+        steps: &mut Steps,
+    ) -> Result<(u128, usize), AtoiSimdError<'a>> {
+        prefix_128_lanes(bound, skip, s, steps)
     }
 
     ghost below_ten = { λ byte. Prim.grind (arith, nat_tests) };

@@ -11,6 +11,8 @@ mod lanes;
 mod negative;
 mod positive;
 mod reader;
+mod wide_lanes;
+mod window_32;
 
 pub use crate::any_sign::Parse;
 pub use crate::functions::{
@@ -19,4 +21,5 @@ pub use crate::functions::{
 };
 pub use crate::lanes::Lanes;
 pub use crate::negative::ParseNeg;
+pub use crate::wide_lanes::{prefix_64_lanes, prefix_128_lanes};
 pub use atoi_core::AtoiSimdError;

@@ -15,7 +15,7 @@ returns-clause-len c =
     let above = zip2_splat_left mask 48 16 v c.fits-v.0 in
     let below = zip2_splat mask v 16 57 c.fits-v.0 in
     c.trailing_ones.ensures
-    ∙ ones-of_mask (is_digit decimal_table) v _ _ c.fits-v.0 c.fits-v.1 (zip2_of_maps bit_and _ _ v above below) refl
+    ∙ ones-of_mask (is_digit decimal_table) v _ _ (omega (arith, c.fits-v.0)) c.fits-v.1 (zip2_of_maps bit_and _ _ v above below) refl
 
 pub returns-clause-most : goal.returns-clause-most
 returns-clause-most c = omega (arith, returns-clause-len c, prefix_len-le-length (is_digit decimal_table) c.args.v)

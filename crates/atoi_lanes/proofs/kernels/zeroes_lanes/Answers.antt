@@ -8,7 +8,7 @@ use Rattle.atoi_lanes.proofs.kernels.zeroes_lanes.Goals as goal
 pub returns-clause-zeroes : goal.returns-clause-zeroes
 returns-clause-zeroes c =
     c.trailing_ones.ensures
-    ∙ ones-of_mask (is_zero decimal_table) c.args.v _ _ c.fits-v.0 c.fits-v.1 (zip2_splat (λ a b. cond (eqb a b) 255 0) c.args.v 16 48 c.fits-v.0) refl
+    ∙ ones-of_mask (is_zero decimal_table) c.args.v _ _ (omega (arith, c.fits-v.0)) c.fits-v.1 (zip2_splat (λ a b. cond (eqb a b) 255 0) c.args.v 16 48 c.fits-v.0) refl
 
 pub returns-clause-most : goal.returns-clause-most
 returns-clause-most c = omega (arith, returns-clause-zeroes c, prefix_len-le-length (is_zero decimal_table) c.args.v)

@@ -1,0 +1,174 @@
+-- What was read at the front of a slice decides the answer of a wide class.
+use Rattle.std.proofs.Common.{◌≡◌, ◌⊎◌, ℕ, ◌+◌, ◌-◌, ◌*◌, ◌^◌, ◌<◌, ◌≤◌, min, Bool, true, false, cond, eqb, ltb, List, length, take, drop, Some, None, Result, Ok, Err, refl, sym, ap, ◌∙◌, subst, inl, inr, arith, ne_eqb}
+use Rattle.std.proofs.lemmas.Bool.{eqb-true, eqb-false, lt-ltb}
+use Rattle.std.proofs.lemmas.List.{take-take, length-take, length-take-le}
+use Rattle.std.proofs.lemmas.List.Sums.{prefix_len-le-length}
+use Rattle.atoi_core.specs.Digit.{Table, IsBelowTen, is_digit, is_zero}
+use Rattle.atoi_core.specs.Run.{run_len, run, zeros, value}
+use Rattle.atoi_core.specs.Refusal.{Refusal, empty, size, overflow}
+use Rattle.atoi_core.specs.Magnitude.{Class, narrow, wide64, wide128, refusal, cap, counting_digits, unless_refused, prefix_magnitude}
+use Rattle.atoi_core.specs.Reading.{Reading, IsSkipped, answer_by_digits}
+use Rattle.atoi_core.proofs.RunLemmas.{prefix_len-take, prefix_len-drop, zeros-le}
+use Rattle.atoi_core.proofs.ValueLemmas.{value-below, value-take-add, value-drop_zeros}
+
+-- zeros that are left behind some of them
+pub zeros_left : (t : Table) (count : ℕ) (s : List ℕ) (place : ℕ) → place ≤ zeros t s
+    → zeros t (take count (drop place s)) ≡ min count (zeros t s - place)
+zeros_left t count s place within =
+    omega (arith, prefix_len-take (is_zero t) count (drop place s), prefix_len-drop (is_zero t) place s within)
+
+-- how many lead both of two readings
+leading_both : (n m k z y : ℕ) → k ≡ min n z → (n ≤ z → z ≡ n + y) → min (n + m) z ≡ cond (eqb k n) (n + min m y) k
+leading_both n m k z y k_is more =
+    (elim (eqb k n) as (λ b. eqb k n ≡ b → min (n + m) z ≡ cond b (n + min m y) k) [
+      | true ↦ λ e. let all : k ≡ n = eqb-true k n e in omega (arith, more (omega arith))
+      | false ↦ λ e. omega (arith, eqb-false k n e)
+    ]) refl
+
+-- a reading that is full of digits, and one behind it
+pub joined : (t : Table) (count more : ℕ) (s : List ℕ) (leading high digits others low : ℕ)
+    → Reading t count s count leading high → Reading t more (drop count s) digits others low
+    → Reading t (count + more) s (count + digits) (cond (eqb leading count) (count + others) leading) (high * 10 ^ digits + low)
+joined t count more s leading high digits others low front back =
+    let full : count ≡ min count (run_len t s) = front.digits_are ∙ prefix_len-take (is_digit t) count s in
+    let rest : run_len t s ≡ count + run_len t (drop count s) = prefix_len-drop (is_digit t) count s (omega arith) in
+    let behind : digits ≡ min more (run_len t (drop count s)) = back.digits_are ∙ prefix_len-take (is_digit t) more (drop count s) in
+    let all : run_len t (take (count + more) s) ≡ count + digits = omega (arith, prefix_len-take (is_digit t) (count + more) s) in
+    let first : high ≡ value t (take count s) =
+    front.number_is ∙ ap (λ (n : ℕ). value t (take n (take count s))) (sym front.digits_are) ∙ ap (value t) (take-take count count s (omega arith)) in
+    let last : low ≡ value t (take digits (drop count s)) =
+    back.number_is ∙ ap (λ (n : ℕ). value t (take n (take more (drop count s)))) (sym back.digits_are)
+    ∙ ap (value t) (take-take digits more (drop count s) (omega arith)) in
+    let cut : value t (run t (take (count + more) s)) ≡ value t (take (count + digits) s) =
+    ap (λ (n : ℕ). value t (take n (take (count + more) s))) all ∙ ap (value t) (take-take (count + digits) (count + more) s (omega arith)) in
+    let sum : value t (take (count + digits) s) ≡ high * 10 ^ digits + low =
+    value-take-add t count digits s (omega (arith, prefix_len-le-length (is_digit t) s))
+    ∙ ap (λ (n : ℕ). n * 10 ^ digits + value t (take digits (drop count s))) (sym first)
+    ∙ ap (λ (n : ℕ). high * 10 ^ digits + n) (sym last) in
+    let zeros_behind : others ≡ min more (zeros t (drop count s)) = back.leading_are ∙ prefix_len-take (is_zero t) more (drop count s) in
+    let zeros_both : min (count + more) (zeros t s) ≡ cond (eqb leading count) (count + min more (zeros t (drop count s))) leading =
+    leading_both count more leading (zeros t s) (zeros t (drop count s)) (front.leading_are ∙ prefix_len-take (is_zero t) count s) (prefix_len-drop (is_zero t) count s) in
+    record {
+      digits_are = sym all;
+      leading_are = sym (prefix_len-take (is_zero t) (count + more) s ∙ zeros_both ∙ ap (λ (n : ℕ). cond (eqb leading count) (count + n) leading) (sym zeros_behind));
+      number_is = sym (cut ∙ sum);
+    }
+
+-- zeros are digits, and digits are bytes
+pub within : (t : Table) (count : ℕ) (s : List ℕ) (digits leading number : ℕ) → Reading t count s digits leading number
+    → (leading ≤ digits) × (digits ≤ min count (length s))
+within t count s digits leading number reading =
+    let most : run_len t (take count s) ≤ length (take count s) = prefix_len-le-length (is_digit t) (take count s) in
+    (omega (arith, reading.leading_are, reading.digits_are, zeros-le t (take count s)), omega (arith, reading.digits_are, length-take count s))
+
+-- the number of a reading is that of a front of digits
+pub below : (t : Table) → IsBelowTen t → (count : ℕ) (s : List ℕ) (digits leading number : ℕ) → Reading t count s digits leading number
+    → number < 10 ^ digits
+below t ten count s digits leading number reading =
+    let front : List ℕ = take count s in
+    let len : length (run t front) ≡ digits = length-take-le (run_len t front) front (prefix_len-le-length (is_digit t) front) ∙ sym reading.digits_are in
+    let P : ℕ → Type 0 = λ (n : ℕ). value t (run t front) < 10 ^ n in
+    omega (arith, reading.number_is, subst P len (value-below t ten (run t front)))
+
+-- the answer by the tests of its three refusals, with the count of all digits told by itself
+abbrev by_tests : Class → (bound limit total skipped counting number : ℕ) → List ℕ → Result (ℕ × ℕ) Refusal
+by_tests class bound limit total skipped counting number s =
+    cond (eqb total 0) (Err empty) (cond (ltb limit counting) (Err (size (skipped + min counting (cap class)) (drop skipped s)))
+    (cond (ltb bound number) (Err (overflow (drop skipped s))) (Ok (number, total))))
+
+-- the first of three tests that holds refuses
+first_refusal : {A : Type 0} (a b c : Bool) (p q r : Refusal) (v : A)
+    → unless_refused (cond a (Some p) (cond b (Some q) (cond c (Some r) None))) v ≡ cond a (Err p) (cond b (Err q) (cond c (Err r) (Ok v)))
+first_refusal true b c p q r v = refl
+first_refusal false true c p q r v = refl
+first_refusal false false true p q r v = refl
+first_refusal false false false p q r v = refl
+
+-- so the tests answer
+by_tests-refusal : (class : Class) (bound limit n c v : ℕ) (s : List ℕ)
+    → unless_refused (cond (eqb n 0) (Some empty) (cond (ltb limit c) (Some (size (n - c + min c (cap class)) (drop (n - c) s)))
+    (cond (ltb bound v) (Some (overflow (drop (n - c) s))) None))) (v, n) ≡ by_tests class bound limit n (n - c) c v s
+by_tests-refusal class bound limit n c v s =
+    first_refusal (eqb n 0) (ltb limit c) (ltb bound v) empty (size (n - c + min c (cap class)) (drop (n - c) s)) (overflow (drop (n - c) s)) (v, n)
+
+-- no more digits count than there are
+counting-le : (skip : Bool) (n z : ℕ) → counting_digits skip n z ≤ n
+counting-le true n z = omega arith
+counting-le false n z = omega arith
+
+-- the answer of a wide class by all digits of the slice
+by_tests-all : (t : Table) (class : Class) (bound limit : ℕ) (skip : Bool) (s : List ℕ) (counting : ℕ) → limit < cap class
+    → counting ≡ counting_digits skip (run_len t s) (zeros t s)
+    → prefix_magnitude t class bound limit skip s ≡ by_tests class bound limit (run_len t s) (run_len t s - counting) counting (value t (run t s)) s
+unfolding refusal
+by_tests-all t narrow bound limit skip s counting less e = absurd (omega arith)
+by_tests-all t wide64 bound limit skip s counting less e =
+    by_tests-refusal wide64 bound limit (run_len t s) (counting_digits skip (run_len t s) (zeros t s)) (value t (run t s)) s
+    ∙ ap (λ (n : ℕ). by_tests wide64 bound limit (run_len t s) (run_len t s - n) n (value t (run t s)) s) (sym e)
+by_tests-all t wide128 bound limit skip s counting less e =
+    by_tests-refusal wide128 bound limit (run_len t s) (counting_digits skip (run_len t s) (zeros t s)) (value t (run t s)) s
+    ∙ ap (λ (n : ℕ). by_tests wide128 bound limit (run_len t s) (run_len t s - n) n (value t (run t s)) s) (sym e)
+
+-- and with the zeros and the digits that count told apart
+by_all_digits : (t : Table) (class : Class) (bound limit : ℕ) (skip : Bool) (s : List ℕ) (skipped counting : ℕ) → limit < cap class
+    → counting ≡ counting_digits skip (run_len t s) (zeros t s) → skipped ≡ run_len t s - counting
+    → prefix_magnitude t class bound limit skip s ≡ answer_by_digits class bound limit skipped counting (value t (run t s)) s
+by_all_digits t class bound limit skip s skipped counting less e d =
+    let total : run_len t s ≡ skipped + counting = omega (arith, counting-le skip (run_len t s) (zeros t s)) in
+    by_tests-all t class bound limit skip s counting less e
+    ∙ ap (λ (n : ℕ). by_tests class bound limit (run_len t s) n counting (value t (run t s)) s) (sym d)
+    ∙ ap (λ (n : ℕ). by_tests class bound limit n skipped counting (value t (run t s)) s) total
+
+-- as many digits as a size tells are too many, whatever they write
+by_many_digits : (class : Class) (bound limit skipped counting number : ℕ) (s : List ℕ) → limit < cap class → cap class ≤ counting
+    → answer_by_digits class bound limit skipped counting number s ≡ Err (size (skipped + cap class) (drop skipped s))
+by_many_digits class bound limit skipped counting number s less many =
+    let some : eqb (skipped + counting) 0 ≡ false = ne_eqb (skipped + counting) 0 (omega arith) in
+    let long : ltb limit counting ≡ true = lt-ltb limit counting (omega arith) in
+    let most : min counting (cap class) ≡ cap class = omega arith in
+    rw (some, long, most) refl
+
+-- what counts of all digits, and of those that were read
+counted : (skip : Bool) (n z place digits leading : ℕ) → n ≡ place + digits → z ≡ place + leading → (skip ≡ false → place ≡ 0)
+    → (counting_digits skip digits leading ≡ counting_digits skip n z) × (place + (digits - counting_digits skip digits leading) ≡ n - counting_digits skip digits leading)
+counted true n z place digits leading n_is z_is asked = (omega arith, omega arith)
+counted false n z place digits leading n_is z_is asked = (omega (arith, asked refl), omega (arith, asked refl))
+
+-- also where more digits follow, for the zeros in front
+counted_more : (skip : Bool) (n z place digits leading cap : ℕ) → 0 < cap → place + digits ≤ n → z ≤ n → (leading < digits → z ≡ place + leading)
+    → (skip ≡ false → place ≡ 0) → cap ≤ counting_digits skip digits leading
+    → (cap ≤ counting_digits skip n z) × (place + (digits - counting_digits skip digits leading) ≡ n - counting_digits skip n z)
+counted_more true n z place digits leading cap some n_is most z_is asked many = (omega (arith, z_is (omega arith)), omega (arith, z_is (omega arith)))
+counted_more false n z place digits leading cap some n_is most z_is asked many = (omega (arith, asked refl), omega (arith, asked refl))
+
+-- behind zeros that are skipped, what was read decides
+pub decided : (t : Table) (class : Class) (bound limit : ℕ) → limit < cap class
+    → (skip : Bool) (s : List ℕ) (place count digits leading number : ℕ) → IsSkipped t skip s place
+    → Reading t count (drop place s) digits leading number
+    → (digits < count) ⊎ (cap class ≤ counting_digits skip digits leading)
+    → prefix_magnitude t class bound limit skip s
+    ≡ answer_by_digits class bound limit (place + (digits - counting_digits skip digits leading)) (counting_digits skip digits leading) number s
+decided t class bound limit less skip s place count digits leading number skipped reading enough =
+    let body : List ℕ = drop place s in
+    let run_is : run_len t s ≡ place + run_len t body = prefix_len-drop (is_digit t) place s (omega (arith, skipped.zeros_only, zeros-le t s)) in
+    let zeros_are : zeros t s ≡ place + zeros t body = prefix_len-drop (is_zero t) place s skipped.zeros_only in
+    let zeros_most : zeros t body ≤ run_len t body = zeros-le t body in
+    let digits_are : digits ≡ min count (run_len t body) = reading.digits_are ∙ prefix_len-take (is_digit t) count body in
+    let leading_are : leading ≡ min count (zeros t body) = reading.leading_are ∙ prefix_len-take (is_zero t) count body in
+    let counting : ℕ = counting_digits skip digits leading in
+    elim enough [
+      | inl ends ↦
+          let all : run_len t body ≡ digits = omega arith in
+          let tell = counted skip (run_len t s) (zeros t s) place digits leading (omega arith) (omega arith) skipped.asked in
+          let number_is : value t (run t s) ≡ number =
+          value-drop_zeros t place s skipped.zeros_only ∙ ap (λ (n : ℕ). value t (take n body)) all
+          ∙ ap (value t) (sym (take-take digits count body (omega arith)))
+          ∙ ap (λ (n : ℕ). value t (take n (take count body))) reading.digits_are ∙ sym reading.number_is in
+          by_all_digits t class bound limit skip s (place + (digits - counting)) counting less tell.0 tell.1
+          ∙ ap (λ (n : ℕ). answer_by_digits class bound limit (place + (digits - counting)) counting n s) number_is
+      | inr many ↦
+          let tell = counted_more skip (run_len t s) (zeros t s) place digits leading (cap class) (omega arith) (omega arith) (omega arith) (λ h. omega arith) skipped.asked many in
+          by_all_digits t class bound limit skip s (place + (digits - counting)) (counting_digits skip (run_len t s) (zeros t s)) less refl tell.1
+          ∙ by_many_digits class bound limit (place + (digits - counting)) (counting_digits skip (run_len t s) (zeros t s)) (value t (run t s)) s less tell.0
+          ∙ sym (by_many_digits class bound limit (place + (digits - counting)) counting number s less many)
+    ]

@@ -1,0 +1,14 @@
+use Rattle.std.proofs.Common.{eqb, cond, refl, ◌∙◌, arith}
+use Rattle.std.proofs.lemmas.Simd.{zip2_splat}
+use Rattle.std.proofs.lemmas.List.Sums.{prefix_len-le-length}
+use Rattle.atoi_core.specs.Digit.{decimal_table, is_zero}
+use Rattle.atoi_lanes.proofs.MaskLemmas.{ones-of_mask}
+use Rattle.atoi_lanes.proofs.window_32.zeroes_32.Goals as goal
+
+pub returns-clause-zeroes : goal.returns-clause-zeroes
+returns-clause-zeroes c =
+    c.trailing_ones.ensures
+    ∙ ones-of_mask (is_zero decimal_table) c.args.v _ _ (omega (arith, c.fits-v.0)) c.fits-v.1 (zip2_splat (λ a b. cond (eqb a b) 255 0) c.args.v 32 48 c.fits-v.0) refl
+
+pub returns-clause-most : goal.returns-clause-most
+returns-clause-most c = omega (arith, returns-clause-zeroes c, prefix_len-le-length (is_zero decimal_table) c.args.v)

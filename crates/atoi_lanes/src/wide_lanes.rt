@@ -1,0 +1,164 @@
+//! The parses of wide integers at the front of a slice, by windows of 32 lanes.
+//! It stands on `window_32`, on the engine's `window_8`, and on `atoi_core`'s law of what was read.
+ghost use Rattle.std.specs.Prelude.{◌≡◌, ◌+◌, ◌*◌, ◌/◌, ◌≤◌, nat_lt, IsTrue, if◌then◌else◌, length, drop};
+ghost use Rattle.atoi_core.specs.Digit.{decimal_table};
+ghost use Rattle.atoi_core.specs.Loads.{LoadsWithin};
+ghost use Rattle.atoi_core.specs.Magnitude.{HasDigits, wide64, wide128, prefix_magnitude};
+ghost use Rattle.atoi_core.specs.Reading.{Reading, IsSkipped, answer_by_digits};
+ghost use Rattle.atoi_core.specs.Refusal.{answer_of};
+ghost use Rattle.atoi_core.specs.Run.{zeros};
+
+use crate::lanes::Lanes;
+use crate::window_32::{Window32, power_of_ten, window_32};
+use atoi_core::reading::reading_decides;
+use atoi_core::{AtoiSimdError, Engine, Steps};
+
+/// The number at the front of `s`, and how many bytes it has, for an integer of 64 bits: what
+/// `Engine::prefix_64` answers, under its conditions, by windows of 32 bytes.
+///
+/// `bound` is the greatest number, and has exactly `limit` digits, 17 to 20. With `skip` the zeros
+/// at the front do not count against `limit`, however many there are. Each turn loads one window,
+/// and one that skips drops at most 32 zeros.
+///
+/// # Errors
+///
+/// `Empty`, `Size` and `Overflow`, as of `Engine::prefix_64`.
+pub fn prefix_64_lanes<'a>(
+    bound: u64,
+    limit: u32,
+    skip: bool,
+    s: &'a [u8],
+    steps: &mut Steps,
+) -> Result<(u64, usize), AtoiSimdError<'a>>
+    requires limit_low { 17 ≤ limit }
+    requires limit_high { limit ≤ 20 }
+    requires digits { HasDigits limit bound }
+    ensures answer { answer_of result ≡ prefix_magnitude decimal_table wide64 bound limit skip s.now }
+    ensures loads { LoadsWithin (zeros decimal_table s.now / 32 + 2) decimal_table skip s.now
+        steps.old steps.new }
+{
+    // What was read of the slice decides its answer.
+    reading_decides();
+    let front = behind_zeros(skip, s, steps);
+    let leading = if skip { front.window.zeroes } else { 0 };
+    let skipped = front.at + leading as usize;
+    let counting = front.window.len - leading;
+    answer_64(bound, limit, skipped, counting, front.window.number, s)
+}
+
+/// The number at the front of `s`, and how many bytes it has, for an integer of 128 bits: what
+/// `Engine::prefix_128` answers, under its condition, by windows of 32 bytes.
+///
+/// `bound` is the greatest number, and has exactly 39 digits. With `skip` the zeros at the front do
+/// not count against these, however many there are. Each turn loads one window, and one that skips
+/// drops at most 32 zeros; behind 32 digits that begin with no zero that is skipped, the next 8
+/// bytes are loaded too.
+///
+/// # Errors
+///
+/// `Empty`, `Size` and `Overflow`, as of `Engine::prefix_128`.
+pub fn prefix_128_lanes<'a>(
+    bound: u128,
+    skip: bool,
+    s: &'a [u8],
+    steps: &mut Steps,
+) -> Result<(u128, usize), AtoiSimdError<'a>>
+    requires digits { HasDigits 39 bound }
+    ensures answer { answer_of result ≡ prefix_magnitude decimal_table wide128 bound 39 skip s.now }
+    ensures loads { LoadsWithin (zeros decimal_table s.now / 32 + 3) decimal_table skip s.now
+        steps.old steps.new }
+{
+    // What was read of the slice decides its answer.
+    reading_decides();
+    let front = behind_zeros(skip, s, steps);
+    let digits = front.at + front.window.len as usize;
+    if front.window.len < 32 {
+        return if digits == 0 {
+            Err(AtoiSimdError::Empty)
+        } else {
+            Ok((front.window.number, digits))
+        };
+    }
+    let body = &s[front.at..];
+    let back = Lanes::window_8(&body[32..], steps);
+    let len = digits + back.len as usize;
+    if back.len == 8 {
+        return Err(AtoiSimdError::Size(len, body));
+    }
+    match up_to(
+        bound,
+        front.window.number,
+        power_of_ten(back.len),
+        back.number,
+    ) {
+        Some(number) => Ok((number, len)),
+        None => Err(AtoiSimdError::Overflow(body)),
+    }
+}
+
+// A place behind zeros that are skipped, and the window that was read there.
+#[derive(Clone, Copy)]
+struct Front {
+    at: usize,
+    window: Window32,
+}
+
+// Drops the zeros of windows that are full of digits, where zeros are skipped.
+fn behind_zeros(skip: bool, s: &[u8], steps: &mut Steps) -> Front
+    ensures skipped { IsSkipped decimal_table skip s.now result.at }
+    ensures reading { Reading decimal_table 32 (drop result.at s.now) result.window.len result.window.zeroes result.window.number }
+    ensures within { result.at + result.window.len ≤ length s.now }
+    ensures ends { IsTrue skip → 32 ≤ result.window.len → result.window.zeroes ≡ 0 }
+    ensures loads { LoadsWithin (zeros decimal_table s.now / 32 + 2) decimal_table skip s.now
+        steps.old steps.new }
+{
+    // Zeros that are left behind a place are those of the slice, but for as many.
+    reading_decides();
+    let mut at = 0;
+    loop {
+        let window = window_32(&s[at..], steps);
+        if !skip || window.zeroes == 0 || window.len < 32 {
+            return Front { at, window };
+        }
+        at += window.zeroes as usize;
+    }
+}
+
+// The answer of 64 bits by its digits: behind zeros that are skipped, those that count, and the
+// number that they write.
+#[inline(always)]
+fn answer_64<'a>(
+    bound: u64,
+    limit: u32,
+    skipped: usize,
+    counting: u32,
+    number: u128,
+    s: &'a [u8],
+) -> Result<(u64, usize), AtoiSimdError<'a>>
+    requires { skipped + counting ≤ length s.now }
+    ensures { answer_of result ≡ answer_by_digits wide64 bound limit skipped counting number s.now }
+{
+    let len = skipped + counting as usize;
+    let body = &s[skipped..];
+    if len == 0 {
+        Err(AtoiSimdError::Empty)
+    } else if counting > limit {
+        Err(AtoiSimdError::Size(skipped + counting.min(24) as usize, body))
+    } else if number > u128::from(bound) {
+        Err(AtoiSimdError::Overflow(body))
+    } else {
+        Ok((number as u64, len))
+    }
+}
+
+// `high * power + low` where that is at most `bound`; else none.
+#[inline(always)]
+fn up_to(bound: u128, high: u128, power: u64, low: u64) -> Option<u128>
+    ensures { result ≡ (if nat_lt bound (high * power + low) then None
+        else Some (high * power + low)) }
+{
+    let number = high
+        .checked_mul(u128::from(power))?
+        .checked_add(u128::from(low))?;
+    if number > bound { None } else { Some(number) }
+}
