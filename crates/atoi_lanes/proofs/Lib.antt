@@ -1,4 +1,6 @@
+pub mod LevelLemmas
 pub mod LoadLemmas
 pub mod MaskLemmas
+pub mod ShiftLemmas
 pub mod SumLemmas
 pub mod WindowLemmas
