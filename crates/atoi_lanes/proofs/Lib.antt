@@ -1,5 +1,7 @@
+pub mod LevelLemmas
 pub mod LoadLemmas
 pub mod MaskLemmas
+pub mod ShiftLemmas
 pub mod SumLemmas
 pub mod SkipLemmas
 pub mod DecidedLemmas

@@ -1,3 +1,4 @@
 pub mod Padded
 pub mod Itself
 pub mod LaneWindow
+pub mod Paired

@@ -1,12 +1,14 @@
 //! Sixteen bytes in the lanes of one vector: a load, how many digits or zeros they begin with, and
 //! the number that they write. It stands on `std::simd`, and on `words` for the load of a short
 //! slice.
-ghost use Rattle.std.specs.Prelude.{◌≡◌, ◌+◌, ◌^◌, ◌≤◌, ◌<◌, length, take, drop};
+ghost use Rattle.std.specs.Prelude.{◌≡◌, ◌-◌, ◌≤◌, ◌<◌, ◌++◌, length, take, drop, replicate};
+ghost use Rattle.std.specs.Simd.Lanes.{Each1};
 ghost use Rattle.atoi_core.specs.Digit.{decimal_table};
 ghost use Rattle.atoi_core.specs.Run.{run_len, zeros, value};
 ghost use Rattle.atoi_core.specs.Words.{word_of};
 ghost use Rattle.atoi_lanes.specs.Itself.{itself};
 ghost use Rattle.atoi_lanes.specs.Padded.{padded_front};
+ghost use Rattle.atoi_lanes.specs.Paired.{paired};
 
 use atoi_core::words::load_8;
 use std::simd::prelude::*;
@@ -14,27 +16,11 @@ use std::simd::prelude::*;
 // How many bytes a vector holds.
 const LANES: usize = 16;
 
-// What the places of nine digits are worth, the highest first, and then zeros. From entry `9 - len`
-// on it gives the first `len` of at most eight lanes the worth of their places, and each lane
-// behind them 0. The first entry joins two numbers of eight digits.
-const PLACES: [u32; 17] = [
-    100_000_000,
-    10_000_000,
-    1_000_000,
-    100_000,
-    10_000,
-    1_000,
-    100,
-    10,
-    1,
-    0,
-    0,
-    0,
-    0,
-    0,
-    0,
-    0,
-    0,
+// From entry `len` on: for each place of a vector the lane that goes there, so that the first `len`
+// lanes stand at its end. By 128 a shuffle makes a lane of 0.
+const SHIFTS: [u8; 32] = [
+    128, 128, 128, 128, 128, 128, 128, 128, 128, 128, 128, 128, 128, 128, 128, 128, 0, 1, 2, 3, 4,
+    5, 6, 7, 8, 9, 10, 11, 12, 13, 14, 15,
 ];
 
 /// The first 16 bytes, or all where there are fewer: the first in the first lane. A lane whose byte
@@ -90,72 +76,52 @@ pub fn sum_lanes(v: u8x16, len: u32) -> u64
     ensures { result ≡ value decimal_table (take len v) }
 {
     let worths = v - u8x16::splat(b'0');
-    // As few lanes are multiplied as hold the run.
-    if len <= 4 {
-        u64::from(sum_front(first_quarter(worths), len))
-    } else if len <= 8 {
-        u64::from(sum_front(first_half(worths), len))
-    } else {
-        sum_halves(worths, len)
-    }
+    // One chain for every length: where lengths vary, a branch on them is mispredicted.
+    number_of(moved_to_end(worths, len))
 }
 
-// The first four lanes.
-#[inline(always)]
-fn first_quarter(v: u8x16) -> u8x4
-    ensures { result ≡ take 4 v }
+// The first `len` lanes at the end, behind lanes of 0.
+fn moved_to_end(v: u8x16, len: u32) -> u8x16
+    requires { len ≤ 16 }
+    ensures { result ≡ replicate (16 - len) 0 ++ take len v }
 {
-    v.extract::<0, 4>()
+    v.swizzle_dyn_within::<16>(u8x16::from_slice(&SHIFTS[len as usize..]))
 }
 
-// The first eight lanes.
-#[inline(always)]
-fn first_half(v: u8x16) -> u8x8
-    ensures { result ≡ take 8 v }
+// The number that sixteen digits write: at each level two neighbours become one.
+fn number_of(digits: u8x16) -> u64
+    requires { Each1 (λ digit. digit < 10) digits }
+    ensures { result ≡ value itself digits }
 {
-    v.extract::<0, 8>()
+    let [high, low] = eights(fours(pairs(digits))).to_array();
+    high * 100_000_000 + low
 }
 
-// The last eight lanes.
-#[inline(always)]
-fn second_half(v: u8x16) -> u8x8
-    ensures { result ≡ drop 8 v }
+// Each two digits as one lane.
+fn pairs(digits: u8x16) -> u16x8
+    requires { Each1 (λ digit. digit < 10) digits }
+    ensures { result ≡ paired 10 digits }
 {
-    v.extract::<8, 8>()
+    // The first digit is the lower byte. The product adds ten times it to the second.
+    (u16x8::from_le_bytes(digits) * u16x8::splat(0xA01)) >> u16x8::splat(8)
 }
 
-// The number of the first `len` of at most eight lanes, each of which is worth what it holds.
-#[inline(always)]
-fn sum_front<const N: usize>(worths: Simd<u8, N>, len: u32) -> u32
-    requires lanes { N ≤ 8 }
-    requires within { len ≤ N }
-    ensures { result ≡ value itself (take len worths.entry) }
+// Each four digits as one lane.
+fn fours(pairs: u16x8) -> u32x4
+    requires { Each1 (λ pair. pair < 100) pairs }
+    ensures { result ≡ paired 100 pairs }
 {
-    let places = Simd::<u32, N>::from_slice(&PLACES[9 - len as usize..]);
-    (worths.cast::<u32>() * places).reduce_sum()
+    let fields = u32x4::from_le_bytes(pairs.to_le_bytes());
+    (fields & u32x4::splat(0xFFFF)) * u32x4::splat(100) + (fields >> u32x4::splat(16))
 }
 
-// The number of the first `len` lanes, of more than eight, each of which is worth what it holds.
-#[inline(always)]
-fn sum_halves(worths: u8x16, len: u32) -> u64
-    requires more { 8 < len }
-    requires within { len ≤ 16 }
-    ensures { result ≡ value itself (take len worths) }
+// Each eight digits as one lane.
+fn eights(fours: u32x4) -> u64x2
+    requires { Each1 (λ four. four < 10000) fours }
+    ensures { result ≡ paired 10000 fours }
 {
-    let behind = len - 8;
-    let high = u64::from(sum_front(first_half(worths), 8));
-    let low = u64::from(sum_front(second_half(worths), behind));
-    high * power_of_ten(behind) + low
-}
-
-// What a digit is worth that many places above the last one.
-#[inline(always)]
-fn power_of_ten(places: u32) -> u64
-    requires { places ≤ 8 }
-    ensures power { result ≡ 10 ^ places }
-    ensures most { result ≤ 100000000 }
-{
-    u64::from(PLACES[8 - places as usize])
+    let fields = u64x2::from_le_bytes(fours.to_le_bytes());
+    (fields & u64x2::splat(0xFFFF_FFFF)) * u64x2::splat(10_000) + (fields >> u64x2::splat(32))
 }
 
 #[cfg(test)]

@@ -1,0 +1,70 @@
+-- Fields of twice the width, and what joins the two halves of each.
+use Rattle.std.proofs.Common.{◌≡◌, ℕ, zero, suc, ◌+◌, ◌-◌, ◌*◌, ◌/◌, ◌%◌, ◌^◌, ◌<◌, ◌≤◌, List, [], ◌∷◌, map, length, refl, ap, ap₂, ◌∙◌, arith}
+use Rattle.std.proofs.Math.Arith.{digits_lt}
+use Rattle.std.proofs.Math.Nat.{pow-zero, pow-suc, mul-le-mul_left, mul-le-mul_right, mod-eq_of_lt, div-add-mod, div-lt_iff_lt-mul}
+use Rattle.std.proofs.lemmas.Nat.{div-mul-add, mod-mul-add, and_mask}
+use Rattle.std.proofs.lemmas.Nat.{pow_pos}
+use Rattle.std.proofs.lemmas.Simd.{Each1-weaker}
+use Rattle.std.specs.Int.Bits.{bit_and}
+use Rattle.atoi_lanes.specs.Paired.{paired}
+use lib.Lanes.{Each1, number_l, digits_l}
+
+-- n digits write less than the power
+number-lt : (p : ℕ) (xs : List ℕ) → Each1 (λ x. x < p) xs → number_l p xs < p ^ length xs
+number-lt p [] h = omega (arith, pow-zero p)
+number-lt p (x ∷ xs) h = omega (arith, h.0, pow-suc p (length xs), mul-le-mul_right p (number-lt p xs h.1))
+
+-- all digits of a number write it
+number-digits : (p n x : ℕ) → 0 < p → x < p ^ n → number_l p (digits_l p n x) ≡ x
+number-digits p zero x some lt = omega (arith, pow-zero p)
+number-digits p (suc n) x some lt =
+    let above : x / p < p ^ n = (div-lt_iff_lt-mul {k = p} some).1 (omega (arith, pow-suc p n)) in
+    ap (λ m. x % p + p * m) (number-digits p n (x / p) some above) ∙ omega (arith, div-add-mod x p)
+
+-- a step on the fields of two digits each, the first of them the lower, that makes of each two digits in base t one joins all neighbours
+pub joined : (p t : ℕ) (step : ℕ → ℕ) → t ≤ p → ((x y : ℕ) → x < t → y < t → step (y * p + x) ≡ x * t + y)
+    → (m : ℕ) (xs : List ℕ) → length xs ≡ m + m → Each1 (λ x. x < t) xs → map step (digits_l (p * p) m (number_l p xs)) ≡ paired t xs
+joined p t step le joins zero [] long h = refl
+joined p t step le joins zero (x ∷ xs) long h = absurd (omega arith)
+joined p t step le joins (suc m) [] long h = absurd (omega arith)
+joined p t step le joins (suc m) (x ∷ []) long h = absurd (omega arith)
+joined p t step le joins (suc m) (x ∷ y ∷ rest) long h =
+    let n = number_l p rest in
+    let field : y * p + x < p * p = digits_lt {q = y} {m = p} (omega (arith, h.1.0)) (omega (arith, h.0)) in
+    let all : x + p * (y + p * n) ≡ n * (p * p) + (y * p + x) = omega arith in
+    ap₂ (λ d ds. d ∷ ds) (ap step (ap (λ k. k % (p * p)) all ∙ mod-mul-add n (p * p) (y * p + x) field) ∙ joins x y h.0 h.1.0)
+    (ap (λ k. map step (digits_l (p * p) m k)) (ap (λ k. k / (p * p)) all ∙ div-mul-add n (p * p) (y * p + x) field)
+    ∙ joined p t step le joins m rest (omega arith) h.1.1)
+
+-- a number of whole bytes, by its bytes
+recast : (p n : ℕ) (xs : List ℕ) → p ^ length xs ≡ 256 ^ n → Each1 (λ x. x < p) xs → number_l 256 (digits_l 256 n (number_l p xs)) ≡ number_l p xs
+recast p n xs same h = number-digits 256 n (number_l p xs) (omega arith) (omega (arith, same, number-lt p xs h))
+
+-- what the code makes of a field of h and h bits: its lower half times t, and the upper half
+abbrev step : ℕ → ℕ → ℕ → ℕ
+step h t field = ((bit_and field (2 ^ h - 1) * t) % (2 ^ h * 2 ^ h) + field / 2 ^ h) % (2 ^ h * 2 ^ h)
+
+-- a square is no less
+square : (t : ℕ) → t ≤ t * t
+square zero = omega arith
+square (suc t) = omega arith
+
+-- of two digits in base t it makes one
+step-joins : (h t : ℕ) → t * t ≤ 2 ^ h → (x y : ℕ) → x < t → y < t → step h t (y * 2 ^ h + x) ≡ x * t + y
+step-joins h t room x y a b =
+    let both : x * t + y < t * t = digits_lt {q = x} {m = t} a b in
+    let more : 2 ^ h * 1 ≤ 2 ^ h * 2 ^ h = mul-le-mul_left (2 ^ h) (pow_pos h) in
+    let some : t ≤ 2 ^ h = omega (arith, square t) in
+    let front : x * t ≤ x * t + y = omega arith in
+    let low : bit_and (y * 2 ^ h + x) (2 ^ h - 1) ≡ x = and_mask (y * 2 ^ h + x) h ∙ mod-mul-add y (2 ^ h) x (omega arith) in
+    let high : (y * 2 ^ h + x) / 2 ^ h ≡ y = div-mul-add y (2 ^ h) x (omega arith) in
+    let product : (x * t) % (2 ^ h * 2 ^ h) ≡ x * t = mod-eq_of_lt (omega arith) in
+    ap₂ (λ l u. ((l * t) % (2 ^ h * 2 ^ h) + u) % (2 ^ h * 2 ^ h)) low high ∙ ap (λ l. (l + y) % (2 ^ h * 2 ^ h)) product ∙ mod-eq_of_lt (omega arith)
+
+-- a level of the sum
+pub level : (h t n m : ℕ) → t * t ≤ 2 ^ h → (2 ^ h) ^ (m + m) ≡ 256 ^ n → (xs : List ℕ) → length xs ≡ m + m → Each1 (λ x. x < t) xs
+    → map (step h t) (digits_l (2 ^ h * 2 ^ h) m (number_l 256 (digits_l 256 n (number_l (2 ^ h) xs)))) ≡ paired t xs
+level h t n m room bytes xs long below =
+    let le : t ≤ 2 ^ h = omega (arith, square t) in
+    ap (λ k. map (step h t) (digits_l (2 ^ h * 2 ^ h) m k)) (recast (2 ^ h) n xs (ap (λ k. (2 ^ h) ^ k) long ∙ bytes) (Each1-weaker (λ x. x < t) (λ x. x < 2 ^ h) (λ x lt. omega arith) xs below))
+    ∙ joined (2 ^ h) t (step h t) le (step-joins h t room) m xs long below

@@ -1,0 +1,8 @@
+use Rattle.atoi_lanes.proofs.ShiftLemmas.{shifted, shift_ok}
+use Rattle.atoi_lanes.proofs.kernels.moved_to_end.Goals as goal
+
+pub swizzle : goal.swizzle
+swizzle c = shift_ok c.args.len c.requires
+
+pub returns : goal.returns
+returns c = shifted c.args.len c.args.v c.requires c.fits-v.0
