@@ -29,3 +29,4 @@ pub mod KindLemmas
 pub mod LoadedBytes
 pub mod WordWindows
 pub mod WholeLemmas
+pub mod FilledWords
