@@ -24,7 +24,7 @@ digits_cut g (suc k) word =
     (ap (λ x. digits_l b k (x / b)) cut ∙ ap (digits_l b k) (div-mul-add (word / b % 2 ^ (k * g)) b (word % b) small) ∙ digits_cut g k (word / b))
 
 -- bytes of 0 below the others add nothing to their sum
-low_value_shifted : (z k word : ℕ) → low_value (digits_l 256 (z + k) (word * 2 ^ (z * 8))) ≡ low_value (digits_l 256 k word)
+pub low_value_shifted : (z k word : ℕ) → low_value (digits_l 256 (z + k) (word * 2 ^ (z * 8))) ≡ low_value (digits_l 256 k word)
 low_value_shifted zero k word = ap₂ (λ c x. low_value (digits_l 256 c x)) (zero-add k) (mul-one word)
 low_value_shifted (suc z) k word =
     let up : word * 2 ^ (suc z * 8) ≡ word * 2 ^ (z * 8) * 256 + 0 = ap (λ e. word * 2 ^ e) (suc-mul z 8) ∙ ap (λ p. word * p) (pow-add 2 (z * 8) 8) ∙ omega arith in

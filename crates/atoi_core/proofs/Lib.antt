@@ -30,3 +30,4 @@ pub mod LoadedBytes
 pub mod WordWindows
 pub mod WholeLemmas
 pub mod ReadingLemmas
+pub mod FilledWords

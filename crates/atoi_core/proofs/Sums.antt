@@ -1,30 +1,16 @@
--- The sums by places of four, of eight and of sixteen bytes: two rounds, three, and four.
+-- The sums by places of eight and of sixteen bytes: three rounds, and four.
 use Rattle.std.proofs.Common.{◌≡◌, ℕ, ◌+◌, ◌-◌, ◌*◌, ◌/◌, ◌%◌, ◌^◌, ◌<◌, ◌≤◌, suc, List, [], ◌∷◌, length, sym, ap, ◌∙◌, arith}
 use Rattle.std.proofs.Common.{lit<}
 use Rattle.std.proofs.Math.Nat.{mod-eq_of_lt, mul-le-mul_right, pow-zero, pow-suc, pow-le-pow_right}
-use Rattle.std.proofs.Math.Pow.{mod-mod-pow}
 use Rattle.std.specs.Simd.Lanes.{digits_l}
 use Rattle.std.specs.Int.Bits.{bit_and}
 use Rattle.atoi_core.specs.Words.{low_bytes, low_value}
 use Rattle.atoi_core.proofs.Rounds.{lows, number_in, round_number}
-use Rattle.atoi_core.proofs.Fields.{shifted_sum, length-digits, digits_cut}
+use Rattle.atoi_core.proofs.Fields.{shifted_sum, length-digits}
 
 -- a sum that fits one field is the one digit that is left
 one_field : (base half word : ℕ) → word < 2 ^ half → number_in base (lows half 1 word) ≡ word
 one_field base half word below = omega (arith, mod-eq_of_lt below, ap (λ p. word % 2 ^ half * p) (pow-zero base))
-
--- two rounds of four bytes
-pub sum_4 : (val len : ℕ) → len ≤ 4
-    → let ones = val * 2 ^ (32 - 8 * len) % 2 ^ 32 in
-    let tens = bit_and ones 0x0F0F_0F0F * 0xA01 % 2 ^ 32 / 2 ^ 8 in
-    bit_and tens 0x00FF_00FF * 0x64_0001 % 2 ^ 32 / 2 ^ 16 ≡ low_value (low_bytes len val)
-sum_4 val len most =
-    let ones = val * 2 ^ (32 - 8 * len) % 2 ^ 32 in
-    let tens = bit_and ones 0x0F0F_0F0F * 0xA01 % 2 ^ 32 / 2 ^ 8 in
-    sym (one_field 10000 16 (bit_and tens 0x00FF_00FF * 0x64_0001 % 2 ^ 32 / 2 ^ 16) (omega arith))
-    ∙ round_number 8 100 (lit< tt) 1 tens
-    ∙ round_number 4 10 (lit< tt) 2 ones
-    ∙ shifted_sum (32 - 8 * len) 4 len val (omega arith) most
 
 -- three rounds of eight bytes
 pub sum_8 : (val len : ℕ) → len ≤ 8
@@ -77,12 +63,3 @@ sum_most count len val most =
     let few : length (digits_l 256 len val) ≤ count = omega arith in
     let power : 10 ^ length (digits_l 256 len val) ≤ 10 ^ count = pow-le-pow_right (lit< tt) few in
     omega (arith, places_most (digits_l 256 len val))
-
--- the lowest bytes of a word are those of its lower half
-pub low_half : (word len : ℕ) → len ≤ 4 → low_bytes len (word % 2 ^ 32) ≡ low_bytes len word
-unfolding low_bytes
-low_half word len most =
-    let places : 32 - len * 8 + len * 8 ≡ 32 = omega arith in
-    let cut : word % 2 ^ 32 % 2 ^ (len * 8) ≡ word % 2 ^ (len * 8) =
-    ap (λ (k : ℕ). word % 2 ^ k % 2 ^ (len * 8)) (sym places) ∙ mod-mod-pow word (32 - len * 8) (len * 8) in
-    sym (digits_cut 8 len (word % 2 ^ 32)) ∙ ap (digits_l 256 len) cut ∙ digits_cut 8 len word

@@ -74,20 +74,6 @@ pub(crate) fn front_of<A: Alphabet>(size: usize, s: &[u8]) -> Window
     }
 }
 
-// The window of a slice that does not fill one.
-#[inline(always)]
-pub(crate) fn few_bytes(s: &[u8]) -> Window
-    requires { length s.now < 16 }
-    ensures { result ≡ window_of decimal_table 16 s.now }
-{
-    let (len, number) = read_run::<Plain>(s);
-    Window {
-        len,
-        zeroes: 0,
-        number,
-    }
-}
-
 // How many digits `s` begins with, and the number that they write.
 #[inline(always)]
 fn read_run<A: Alphabet>(s: &[u8]) -> (u32, u64)

@@ -1,7 +1,6 @@
 //! The engine that reads a window as one word of eight bytes, or as two. It stands on `words`,
-//! `engine`, `join`, `window`, `steps` and `digit_loop`, and reads fewer than four bytes as `plain`
-//! does.
-ghost use Rattle.std.specs.Prelude.{◌≡◌, ◌+◌, ◌^◌, ◌<◌, ◌≤◌, ◌++◌, length, take, drop};
+//! `engine`, `join`, `window`, `steps` and `digit_loop`.
+ghost use Rattle.std.specs.Prelude.{◌≡◌, ◌+◌, ◌-◌, ◌^◌, ◌<◌, ◌≤◌, ◌++◌, length, take, drop, replicate};
 ghost use Rattle.atoi_core.specs.Digit.{decimal_table};
 ghost use Rattle.atoi_core.specs.Run.{run_len, zeros};
 ghost use Rattle.atoi_core.specs.Window.{window_of};
@@ -12,10 +11,9 @@ ghost use Rattle.std.proofs.lemmas.Bool.Decides.{nat_tests};
 use crate::digit_loop::ZERO;
 use crate::engine::Engine;
 use crate::join;
-use crate::plain::few_bytes;
 use crate::steps::Steps;
 use crate::window::Window;
-use crate::words::{len_zeroes, load_8, process_8};
+use crate::words::{len_zeroes, load_8, load_high, process_8};
 
 /// The engine that reads eight bytes at once, as a word. Its digits are the decimal ones.
 pub struct Words;
@@ -28,7 +26,7 @@ impl Engine for Words {
     #[inline(always)]
     fn window(s: &[u8], steps: &mut Steps) -> Window {
         steps.tick();
-        if s.len() < 8 {
+        if s.len() <= 8 {
             return part(s);
         }
         let first = load_8(s);
@@ -60,20 +58,34 @@ impl Engine for Words {
     ghost below_ten = { λ byte. Prim.grind (arith, nat_tests) };
 }
 
-// The window of fewer than 8 bytes: of fewer than 4 one by one. It is the same whether 16 bytes or
-// 8 were asked for.
-#[inline(always)]
+// The window of at most 8 bytes. A slice of fewer is read as if zeros stood before it that count for
+// nothing: so the bytes are always eight, and no branch depends on how many there are. The window is
+// the same where 8 bytes were asked for, as long as there are fewer.
 fn part(s: &[u8]) -> Window
-    requires { length s.now < 8 }
+    requires { length s.now ≤ 8 }
     ensures of_16 { result ≡ window_of decimal_table 16 s.now }
-    ensures of_8 { result ≡ window_of decimal_table 8 s.now }
+    ensures of_8 { length s.now < 8 → result ≡ window_of decimal_table 8 s.now }
 {
-    if s.len() < 4 {
-        return few_bytes(s);
+    if s.is_empty() {
+        return not_full(0, 0);
     }
-    let word = load_8(s);
-    let len = digits_of(word);
-    not_full(len, number_of(word, len))
+    let word = load_high(s);
+    let digits = digits_of(word + zeros_before(s.len()));
+    if digits == 8 {
+        not_full(s.len() as u32, process_8(word, 8))
+    } else {
+        not_full(digits - (8 - s.len() as u32), number_of(word, digits))
+    }
+}
+
+// The word whose lowest bytes are zeros, the byte 48, as many as `len` bytes leave free; the bytes
+// above them are 0.
+fn zeros_before(len: usize) -> u64
+    requires some { 0 < len }
+    requires few { len ≤ 8 }
+    ensures { result ≡ word_of (replicate (8 - len) 48) }
+{
+    0x30_3030_3030_3030 >> (8 * (len - 1))
 }
 
 // The window of 16 bytes where the first 8, which `first` holds, are digits.
@@ -122,20 +134,14 @@ fn load_next(s: &[u8]) -> u64
     }
 }
 
-// The number that the first `len` bytes write. Most have few digits.
+// The number that the first `len` bytes write.
 #[inline(always)]
 fn number_of(word: u64, len: u32) -> u64
     requires { len ≤ 8 }
     ensures sum { result ≡ low_value (low_bytes len word) }
     ensures most { result ≤ 166666665 }
 {
-    if len == 0 {
-        0
-    } else if len <= 4 {
-        u64::from(process_4((word & 0xFFFF_FFFF) as u32, len))
-    } else {
-        process_8(word, len)
-    }
+    if len == 0 { 0 } else { process_8(word, len) }
 }
 
 // What `check_len_8` answers, in fewer steps. A byte's top bit marks that it is no digit: 70 added
@@ -153,19 +159,6 @@ fn digits_of(word: u64) -> u32
     } else {
         marks.trailing_zeros() / 8
     }
-}
-
-// What `process_8` answers of at most 4 bytes, in half the width.
-#[inline(always)]
-fn process_4(word: u32, len: u32) -> u32
-    requires low { 1 ≤ len }
-    requires high { len ≤ 4 }
-    ensures sum { result ≡ low_value (low_bytes len word) }
-    ensures most { result ≤ 16665 }
-{
-    let ones = (word << (32 - 8 * len)) & 0x0F0F_0F0F;
-    let tens = (ones.wrapping_mul(0xA01) >> 8) & 0x00FF_00FF;
-    tens.wrapping_mul(0x64_0001) >> 16
 }
 
 // How many zeros the word begins with. Most begin with none.

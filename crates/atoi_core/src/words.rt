@@ -1,7 +1,6 @@
 //! Eight or sixteen bytes in one word, the first the lowest: a load, the digits or zeros that a
 //! word begins with, and the number that its bytes write. It stands on nothing.
-ghost use Rattle.std.specs.Prelude.{◌≡◌, ℕ, ◌<◌, ◌≤◌, length, take};
-ghost use Rattle.std.specs.Int.{from_le_bytes, w64};
+ghost use Rattle.std.specs.Prelude.{◌≡◌, ℕ, ◌-◌, ◌<◌, ◌≤◌, ◌++◌, length, take, drop, replicate};
 ghost use Rattle.atoi_core.specs.Digit.{decimal_table};
 ghost use Rattle.atoi_core.specs.Run.{run_len, zeros};
 ghost use Rattle.atoi_core.specs.Words.{low_bytes, word_of, low_value};
@@ -19,33 +18,64 @@ pub fn load_8(s: &[u8]) -> u64
 }
 
 // The word of fewer than 8 bytes.
-#[inline(always)]
 fn load_part(s: &[u8]) -> u64
     requires { length s.now < 8 }
-    ensures { result ≡ from_le_bytes w64 s.now }
+    ensures { result ≡ word_of s.now }
 {
-    match (s.first_chunk::<4>(), s.last_chunk::<4>()) {
-        (Some(first), Some(last)) => {
-            let low = u64::from(u32::from_le_bytes(*first));
-            let high = u64::from(u32::from_le_bytes(*last));
-            low + ((high >> (64 - 8 * s.len())) << 32)
-        }
-        _ => load_few(s),
+    if s.is_empty() {
+        0
+    } else {
+        load_high(s) >> (64 - 8 * s.len())
     }
 }
 
-// The word of fewer than 4 bytes.
-#[inline(always)]
-fn load_few(s: &[u8]) -> u64
-    requires { length s.now < 4 }
-    ensures { result ≡ from_le_bytes w64 s.now }
+/// The word whose highest bytes are those of `s`, the last the highest; the bytes below them are 0.
+/// It is put together from parts of `s` that overlap, without a branch on how many bytes there are.
+pub(crate) fn load_high(s: &[u8]) -> u64
+    requires some { 0 < length s.now }
+    requires few { length s.now ≤ 8 }
+    ensures { result ≡ word_of (replicate (8 - length s.now) 0 ++ s.now) }
 {
-    match s {
-        [] => 0,
-        [a] => u64::from(*a),
-        [a, b] => u64::from(*a) + (u64::from(*b) << 8),
-        [a, b, c, ..] => u64::from(*a) + (u64::from(*b) << 8) + (u64::from(*c) << 16),
-    }
+    let front = first_two(s) | first_four(s);
+    let last = u64::from(s[s.len() - 1]);
+    (front << (64 - 8 * s.len())) | (last_four(s) << 32) | (last << 56)
+}
+
+// The word of the first four bytes; 0 where there are fewer. This and the two below choose between
+// places, not between numbers: of that LLVM makes no branch.
+fn first_four(s: &[u8]) -> u64
+    ensures enough { 4 ≤ length s.now → result ≡ word_of (take 4 s.now) }
+    ensures few { length s.now < 4 → result ≡ 0 }
+{
+    let bytes = match s.first_chunk::<4>() {
+        Some(bytes) => bytes,
+        None => &[0; 4],
+    };
+    u64::from(u32::from_le_bytes(*bytes))
+}
+
+// The word of the first two bytes; 0 where there are fewer.
+fn first_two(s: &[u8]) -> u64
+    ensures enough { 2 ≤ length s.now → result ≡ word_of (take 2 s.now) }
+    ensures few { length s.now < 2 → result ≡ 0 }
+{
+    let bytes = match s.first_chunk::<2>() {
+        Some(bytes) => bytes,
+        None => &[0; 2],
+    };
+    u64::from(u16::from_le_bytes(*bytes))
+}
+
+// The word of the last four bytes; 0 where there are fewer.
+fn last_four(s: &[u8]) -> u64
+    ensures enough { 4 ≤ length s.now → result ≡ word_of (drop (length s.now - 4) s.now) }
+    ensures few { length s.now < 4 → result ≡ 0 }
+{
+    let bytes = match s.last_chunk::<4>() {
+        Some(bytes) => bytes,
+        None => &[0; 4],
+    };
+    u64::from(u32::from_le_bytes(*bytes))
 }
 
 /// How many lowest bytes of `val` in a row are digits, the bytes 48 to 57: 0 to 8. It holds for

@@ -1,30 +1,43 @@
--- A window of fewer than 8 bytes stops inside the first word.
-use Rattle.std.proofs.Common.{◌≡◌, ℕ, ◌<◌, ◌∙◌, get_or, take, arith}
-use Rattle.std.proofs.lemmas.List.{length-take}
-use Rattle.std.proofs.lemmas.List.Sums.{prefix_len-le-length}
-use Rattle.atoi_core.specs.Digit.{decimal_table, is_digit}
-use Rattle.atoi_core.specs.Window.{window_of}
-use Rattle.atoi_core.proofs.WordWindows.{few_in_both, loaded_run, loaded_sum, window_short}
+-- The window of the filled word is the slice's.
+use Rattle.std.proofs.Common.{◌≡◌, ℕ, ◌+◌, ◌-◌, ◌<◌, ◌∙◌, refl, sym, get_or, length, arith}
+use Rattle.atoi_core.specs.Digit.{decimal_table}
+use Rattle.atoi_core.specs.Run.{run_len}
+use Rattle.atoi_core.proofs.WordWindows.{few_in_both}
+use Rattle.atoi_core.proofs.FilledWords.{filled_fits, filled_digits, filled_window}
 use Rattle.atoi_core.proofs.word_engine.part.Goals as goal
 
-pub returns-then-s-lt4-clause-of_8 : goal.returns-then-s-lt4-clause-of_8
-returns-then-s-lt4-clause-of_8 c = c.few_bytes.ensures ∙ few_in_both c.args.s.now c.requires
+pub overflow_add-word : goal.overflow_add-word
+overflow_add-word c = omega (arith, filled_fits c.args.s.now c.requires (λ i. (c.type_inv.s i).fits))
 
--- the window of 16 bytes
-in_16 : (c : goal.After-not_full) → c.not_full.result ≡ window_of decimal_table 16 c.args.s.now
-in_16 c =
+pub overflow_sub-digits : goal.overflow_sub-digits
+overflow_sub-digits c =
+    let digits = filled_digits c.args.s.now c.requires (λ i. (c.type_inv.s i).fits) c.load_high-word.result c.zeros_before.result
+    c.digits_of-digits.result c.load_high-word.ensures c.zeros_before.ensures c.digits_of-digits.ensures.len in
+    omega (arith, digits)
+
+pub returns-then-digits-eq8-clause-of_16 : goal.returns-then-digits-eq8-clause-of_16
+returns-then-digits-eq8-clause-of_16 c =
     let s = c.args.s.now in
     let fits : (i : ℕ) → get_or s i 0 < 256 = λ i. (c.type_inv.s i).fits in
-    let word = c.load_8-word.result in
-    let len = c.digits_of-len.result in
-    let run = c.digits_of-len.ensures.len ∙ loaded_run s fits word c.load_8-word.ensures in
-    c.not_full.ensures
-    ∙ window_short s len c.number_of.result run
-    (omega (arith, run, prefix_len-le-length (is_digit decimal_table) (take 8 s), length-take 8 s))
-    (c.number_of.ensures.sum ∙ loaded_sum s fits word len c.load_8-word.ensures c.digits_of-len.ensures.len)
+    let digits = filled_digits s c.requires fits c.load_high-word.result c.zeros_before.result
+    c.digits_of-digits.result c.load_high-word.ensures c.zeros_before.ensures c.digits_of-digits.ensures.len in
+    let all : 8 ≡ 8 - length s + run_len decimal_table s = sym c.if-digits-eq8.true ∙ digits in
+    let len : length s ≡ 8 - (8 - length s) = omega arith in
+    c.not_full-then-digits-eq8.ensures
+    ∙ filled_window s c.requires fits c.load_high-word.result 8 (length s) c.process_8.result c.load_high-word.ensures all len c.process_8.ensures.sum
 
-pub returns-clause-of_16 : goal.returns-clause-of_16
-returns-clause-of_16 c = in_16 c
+pub returns-then-digits-eq8-clause-of_8 : goal.returns-then-digits-eq8-clause-of_8
+returns-then-digits-eq8-clause-of_8 c = λ fewer. returns-then-digits-eq8-clause-of_16 c ∙ few_in_both c.args.s.now fewer
 
-pub returns-clause-of_8 : goal.returns-clause-of_8
-returns-clause-of_8 c = in_16 c ∙ few_in_both c.args.s.now c.requires
+pub returns-else-digits-eq8-clause-of_16 : goal.returns-else-digits-eq8-clause-of_16
+returns-else-digits-eq8-clause-of_16 c =
+    let s = c.args.s.now in
+    let fits : (i : ℕ) → get_or s i 0 < 256 = λ i. (c.type_inv.s i).fits in
+    let count = c.digits_of-digits.result in
+    let digits = filled_digits s c.requires fits c.load_high-word.result c.zeros_before.result
+    count c.load_high-word.ensures c.zeros_before.ensures c.digits_of-digits.ensures.len in
+    c.not_full-else-digits-eq8.ensures
+    ∙ filled_window s c.requires fits c.load_high-word.result count (count - (8 - length s)) c.number_of.result c.load_high-word.ensures digits refl c.number_of.ensures.sum
+
+pub returns-else-digits-eq8-clause-of_8 : goal.returns-else-digits-eq8-clause-of_8
+returns-else-digits-eq8-clause-of_8 c = λ fewer. returns-else-digits-eq8-clause-of_16 c ∙ few_in_both c.args.s.now fewer

@@ -1,15 +1,13 @@
--- The two halves join to the bytes of the slice.
-use Rattle.std.proofs.Common.{◌+◌, ◌*◌, ◌/◌, ◌%◌, ◌-◌, ◌^◌, ap, ap₂, ◌∙◌, length}
-use Rattle.std.specs.Int.{from_le_bytes, w32}
-use Rattle.atoi_core.proofs.LoadedBytes.{joined_halves}
+-- What the shift drops are the bytes of 0 below the slice's.
+use Rattle.std.proofs.Common.{◌-◌, ◌*◌, ◌/◌, ◌^◌, ◌∙◌, ap, length, arith}
+use Rattle.std.proofs.lemmas.Bool.Decides.{nat_tests}
+use Rattle.atoi_core.proofs.LoadedBytes.{word_of_none}
+use Rattle.atoi_core.proofs.FilledWords.{shifted_back}
 use Rattle.atoi_core.proofs.words.load_part.Goals as goal
 
-pub returns-in-Some-Some : goal.returns-in-Some-Some
-returns-in-Some-Some c =
-    let s = c.args.s.now in
-    let first = c.in-Some-Some.ensures.cases in
-    let last = c.in-Some-Some.ensures'.cases in
-    ap₂ (λ low high. low + high / 2 ^ (64 - 8 * length s) * 2 ^ 32 % 2 ^ 64)
-    (c.from-low.ensures ∙ c.from_le_bytes.ensures ∙ ap (from_le_bytes w32) first.same)
-    (c.from-high.ensures ∙ c.from_le_bytes-in-Some-Some.ensures ∙ ap (from_le_bytes w32) last.1.same)
-    ∙ joined_halves s last.0 c.requires (λ i. (c.type_inv.s i).fits)
+pub returns-then-is_empty : goal.returns-then-is_empty
+returns-then-is_empty c = word_of_none c.args.s.now (grind (arith, nat_tests))
+
+pub returns-else-is_empty : goal.returns-else-is_empty
+returns-else-is_empty c =
+    ap (λ x. x / 2 ^ (64 - 8 * length c.args.s.now)) c.load_high.ensures ∙ shifted_back c.args.s.now (omega arith)

@@ -1,0 +1,23 @@
+-- Four bytes are the last of the slice, or all are 0 where it has fewer.
+use Rattle.std.proofs.Common.{◌-◌, ◌∙◌, ap, drop, length, arith}
+use Rattle.std.proofs.lemmas.List.{length-drop}
+use Rattle.std.specs.Int.{from_le_bytes, w32}
+use Rattle.atoi_core.proofs.LoadedBytes.{word_from_four}
+use Rattle.atoi_core.proofs.words.last_four.Goals as goal
+use Rattle.atoi_core.proofs.words.last_four.Goals.{in-Some, in-None}
+
+pub returns-clause-enough : goal.returns-clause-enough
+returns-clause-enough c = λ enough. elim c.match-last_chunk.branch [
+  | in-Some w ↦
+      let s = c.args.s.now in
+      c.from.ensures ∙ c.from_le_bytes.ensures ∙ ap (λ r. from_le_bytes w32 r.now) w.bytes-is
+      ∙ ap (from_le_bytes w32) w.in-Some.ensures.cases.1.same
+      ∙ word_from_four (drop (length s - 4) s) (omega (arith, length-drop (length s - 4) s))
+  | in-None w ↦ absurd (omega (arith, w.in-None.ensures.cases))
+]
+
+pub returns-clause-few : goal.returns-clause-few
+returns-clause-few c = λ few. elim c.match-last_chunk.branch [
+  | in-Some w ↦ absurd (omega (arith, w.in-Some.ensures.cases.0))
+  | in-None w ↦ c.from.ensures ∙ c.from_le_bytes.ensures ∙ ap (λ r. from_le_bytes w32 r.now) w.bytes-is
+]
