@@ -1,0 +1,4 @@
+pub mod FieldLemmas
+pub mod PrefixLemmas
+pub mod ItemLemmas
+pub mod TextLemmas

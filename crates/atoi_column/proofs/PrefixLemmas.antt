@@ -1,0 +1,133 @@
+-- A field as a whole, and the number at the front of the rest that it begins.
+use Rattle.std.proofs.Common.{◌≡◌, ℕ, ◌+◌, ◌==◌, ◌&&◌, ◌||◌, not, Bool, true, false, cond, if◌then◌else◌, List, [], ◌∷◌, ◌++◌, length, take, get_or, Result, Ok, Err, refl, sym, ap, ◌∙◌, subst, inl, inr, arith}
+use Rattle.std.proofs.lemmas.Bool.{eqb-true}
+use Rattle.std.specs.List.{prefix_len, position_or_len, before_first, after_first}
+use Rattle.std.proofs.lemmas.List.{take-append-le, take_all, length-take-le}
+use Rattle.std.proofs.lemmas.List.Sums.{prefix_len-le-length, split_at_first, passes_at_first}
+use Rattle.std.proofs.lemmas.Bool.Decides.{leb_tells}
+use Rattle.atoi_core.specs.Digit.{decimal_table, is_digit}
+use Rattle.atoi_core.specs.Run.{run}
+use Rattle.atoi_core.specs.Refusal.{Refusal}
+use Rattle.atoi_core.specs.Kind.{Kind}
+use Rattle.atoi_core.specs.Sign.{Sign, plus_sign, minus_sign, sign_of}
+use Rattle.atoi_core.specs.Laws.{looked_for, prefix_call, HaveSameRun, IsSameKind, PrefixIsWhole, PrefixOfCut, RestChangesNothing}
+use Rattle.atoi_column.specs.Fields.{is_separator}
+use Rattle.atoi_column.specs.Laws.{FieldsArePrefixes}
+
+-- how many pass does not change behind an element that does not
+prefix_len-stops : (p : ℕ → Bool) (b : ℕ) (ys : List ℕ) → p b ≡ false → (xs : List ℕ) → prefix_len p (xs ++ b ∷ ys) ≡ prefix_len p xs
+prefix_len-stops p b ys fails [] = rw fails refl
+prefix_len-stops p b ys fails (x ∷ xs) = ap (λ n. cond (p x) (1 + n) 0) (prefix_len-stops p b ys fails xs)
+
+-- nor does the front of those that pass
+front-stops : (p : ℕ → Bool) (b : ℕ) (ys : List ℕ) → p b ≡ false → (xs : List ℕ)
+    → take (prefix_len p xs) xs ≡ take (prefix_len p (xs ++ b ∷ ys)) (xs ++ b ∷ ys)
+front-stops p b ys fails xs =
+    rw (prefix_len-stops p b ys fails xs) (sym (take-append-le (prefix_len p xs) xs (b ∷ ys) (prefix_len-le-length p xs)))
+
+pub length-before_first : (p : ℕ → Bool) (xs : List ℕ) → length (before_first p xs) ≡ position_or_len p xs
+length-before_first p xs = length-take-le (position_or_len p xs) xs (prefix_len-le-length (λ x. not (p x)) xs)
+
+-- a sign at the front of bytes, where the first is a plus that is taken, or a minus
+abbrev sign_by : (is_plus is_minus : Bool) → ℕ → List ℕ → Sign
+sign_by is_plus is_minus x xs =
+    if is_plus then record { minus = false; taken = 1; body = xs }
+    else (if is_minus then record { minus = true; taken = 1; body = xs }
+    else record { minus = false; taken = 0; body = x ∷ xs })
+
+-- two signs that stand before equal runs of digits
+record HaveSameFront (g h : Sign) : Type 0 where
+  minus : g.minus ≡ h.minus
+  taken : g.taken ≡ h.taken
+  run : run decimal_table g.body ≡ run decimal_table h.body
+
+module _ (b : ℕ) (ys : List ℕ) (fails : is_digit decimal_table b ≡ false) where
+  same_run : (xs : List ℕ) → run decimal_table xs ≡ run decimal_table (xs ++ b ∷ ys)
+  same_run xs = front-stops (is_digit decimal_table) b ys fails xs
+
+  same_front : (is_plus is_minus : Bool) (x : ℕ) (xs : List ℕ) → HaveSameFront (sign_by is_plus is_minus x xs) (sign_by is_plus is_minus x (xs ++ b ∷ ys))
+  same_front true is_minus x xs = record { minus = refl; taken = refl; run = same_run xs }
+  same_front false true x xs = record { minus = refl; taken = refl; run = same_run xs }
+  same_front false false x xs = record { minus = refl; taken = refl; run = same_run (x ∷ xs) }
+
+-- a byte that may stand between fields is no digit, no plus and no minus
+record IsApart (byte : ℕ) : Type 0 where
+  no_digit : is_digit decimal_table byte ≡ false
+  no_plus : (byte == plus_sign) ≡ false
+  no_minus : (byte == minus_sign) ≡ false
+
+none_of_three : (a b c : Bool) → not (a || (b || c)) ≡ true → (a ≡ false) × (b ≡ false) × (c ≡ false)
+none_of_three true b c h = absurd (cc h)
+none_of_three false true c h = absurd (cc h)
+none_of_three false false true h = absurd (cc h)
+none_of_three false false false h = (refl, refl, refl)
+
+apart : (byte : ℕ) → is_separator byte ≡ true → IsApart byte
+apart byte h =
+    let none = none_of_three (is_digit decimal_table byte) (byte == plus_sign) (byte == minus_sign) h in
+    record { no_digit = none.0; no_plus = none.1; no_minus = none.2 }
+
+and_false : (a b : Bool) → b ≡ false → (a && b) ≡ false
+and_false true b h = h
+and_false false b h = refl
+
+module _ (k : Kind) where
+  -- a call takes the same sign of a field as of the field with more behind it, and finds the same digits
+  same_run_before : (b : ℕ) (ys : List ℕ) → IsApart b → (xs : List ℕ) → HaveSameRun k (looked_for true) xs (xs ++ b ∷ ys)
+  same_run_before b ys is [] =
+      let none : sign_of k.signed true (b ∷ ys) ≡ record { minus = false; taken = 0; body = b ∷ ys } =
+      rw (is.no_plus, is.no_minus, and_false k.signed false refl) refl in
+      record {
+        minus = sym (ap (λ (g : Sign). g.minus) none);
+        taken = sym (ap (λ (g : Sign). g.taken) none);
+        run = front-stops (is_digit decimal_table) b ys is.no_digit [] ∙ sym (ap (λ (g : Sign). run decimal_table g.body) none);
+      }
+  same_run_before b ys is (x ∷ xs) =
+      let front = same_front b ys is.no_digit (x == plus_sign) (k.signed && x == minus_sign) x xs in
+      record { minus = front.minus; taken = front.taken; run = front.run }
+
+  -- and so it is with the first field of a rest
+  same_run_of_field : (separator : ℕ) → is_separator separator ≡ true → (rest : List ℕ)
+      → HaveSameRun k (looked_for true) (before_first (λ byte. byte == separator) rest) rest
+  same_run_of_field separator is rest =
+      let p : ℕ → Bool = λ byte. byte == separator in
+      elim (leb_tells (length rest) (position_or_len p rest)) [
+        | inl absent ↦ rw (take_all (position_or_len p rest) rest absent.1) (record { minus = refl; taken = refl; run = refl })
+        | inr found ↦
+            let at : get_or rest (position_or_len p rest) 0 ≡ separator = eqb-true _ _ (passes_at_first p rest 0 found.1) in
+            let cut : before_first p rest ++ (separator ∷ after_first p rest) ≡ rest =
+            ap (λ b. before_first p rest ++ (b ∷ after_first p rest)) (sym at) ∙ sym (split_at_first p rest 0 found.1) in
+            subst (λ r. HaveSameRun k (looked_for true) (before_first p rest) r) cut
+            (same_run_before separator (after_first p rest) (apart separator is) (before_first p rest))
+      ]
+
+-- answers of one kind have the same value
+same_kind-ok : {A : Type 0} (a b : Result A Refusal) (x : A) → IsSameKind a b → a ≡ Ok x → b ≡ Ok x
+same_kind-ok (Ok x) (Ok y) z same h = cc
+same_kind-ok (Ok x) (Err other) z same h = absurd same
+same_kind-ok (Err reason) b z same h = absurd (cc h)
+
+same_kind-ok_back : {A : Type 0} (a b : Result A Refusal) (y : A) → IsSameKind a b → b ≡ Ok y → a ≡ Ok y
+same_kind-ok_back (Ok x) (Ok y) z same h = cc
+same_kind-ok_back (Err reason) (Ok y) z same h = absurd same
+same_kind-ok_back a (Err other) z same h = absurd (cc h)
+
+-- the law of fields, by three laws of parses
+pub fields_are_prefixes : (k : Kind) → PrefixIsWhole k → PrefixOfCut k → RestChangesNothing k → FieldsArePrefixes k
+fields_are_prefixes k is_whole of_cut rest_changes separator is rest =
+    let p : ℕ → Bool = λ byte. byte == separator in
+    let text : List ℕ = before_first p rest in
+    let ends : length text ≡ position_or_len p rest = length-before_first p rest in
+    let same = rest_changes (looked_for true) tt true text rest (same_run_of_field k separator is rest) in
+    record {
+      to_prefix = λ value h.
+          same_kind-ok (prefix_call k (looked_for true) true text) (prefix_call k (looked_for true) true rest) (value, position_or_len p rest) same
+          (rw ends at (is_whole.back (looked_for true) tt true text value (inl refl) h));
+      to_field = λ value h.
+          is_whole.whole (looked_for true) tt true text value
+          (rw ends (same_kind-ok_back (prefix_call k (looked_for true) true text) (prefix_call k (looked_for true) true rest) (value, position_or_len p rest) same h));
+      within = λ value count h.
+          let cut = of_cut (looked_for true) tt true text value count
+          (same_kind-ok_back (prefix_call k (looked_for true) true text) (prefix_call k (looked_for true) true rest) (value, count) same h) in
+          omega (arith, cut.1, ends);
+    }

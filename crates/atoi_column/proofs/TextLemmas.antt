@@ -1,0 +1,103 @@
+-- The items of fields, in the words of the texts of the type.
+use Rattle.std.proofs.Common.{◌≡◌, ℕ, ◌+◌, true, List, [], ◌∷◌, ◌++◌, length, drop, map, ℤ, Result, Ok, Err, refl, ap, ◌∙◌, arith, zero-add, add-zero}
+use Rattle.std.specs.List.{AllZip}
+use Rattle.std.proofs.lemmas.List.{drop-drop}
+use Rattle.std.proofs.lemmas.List.Sums.{sum_by-cons}
+use Rattle.atoi_core.specs.Refusal.{Refusal}
+use Rattle.atoi_core.specs.Kind.{Kind}
+use Rattle.atoi_core.specs.Answer.{parse_answer, parse_prefix_answer}
+use Rattle.atoi_core.specs.Text.{IsText}
+use Rattle.atoi_core.specs.Laws.{AcceptedTexts}
+use Rattle.atoi_column.specs.Fields.{fields_of}
+use Rattle.atoi_column.specs.Items.{Flaw, flaw_at, items_from, items_left}
+use Rattle.atoi_column.specs.Laws.{Writes, place_behind, EndsItems, TextsAndItems}
+use Rattle.atoi_column.proofs.ItemLemmas.{items_from-ok, items_from-err}
+
+-- what a field is: a text that writes a number, or none
+data IsRead (k : Kind) (whole : List ℕ → Result ℤ Refusal) (text : List ℕ) : Type 0 where
+  accepted : (v : ℤ) → whole text ≡ Ok v → Writes k text v → IsRead k whole text
+  refused : ((v : ℤ) → whole text ≡ Ok v → ⊥) → ¬ IsText k text → IsRead k whole text
+
+module _ (k : Kind) (whole : List ℕ → Result ℤ Refusal) (prefix : List ℕ → Result (ℤ × ℕ) Refusal) (read : (text : List ℕ) → IsRead k whole text) where
+  -- `HasItems` of fields of which the first has the number `index` and the place `place`
+  record HasItemsFrom (index place : ℕ) (rest : List ℕ) (fields : List (List ℕ)) : Type 0 where
+    texts : List (List ℕ)
+    others : List (List ℕ)
+    numbers : List ℤ
+    last : List (Result ℤ Flaw)
+    parts : fields ≡ texts ++ others
+    written : AllZip (Writes k) texts numbers
+    items : items_from whole prefix index place rest fields ≡ map Ok numbers ++ last
+    end : EndsItems k prefix (index + length texts) (place + place_behind texts) (drop (place_behind texts) rest) others last
+
+  -- one more field before the others
+  ends_behind : (index place : ℕ) (rest text : List ℕ) (texts others : List (List ℕ)) (last : List (Result ℤ Flaw))
+      → EndsItems k prefix (index + 1 + length texts) (place + length text + 1 + place_behind texts) (drop (place_behind texts) (drop (length text + 1) rest)) others last
+      → EndsItems k prefix (index + length (text ∷ texts)) (place + place_behind (text ∷ texts)) (drop (place_behind (text ∷ texts)) rest) others last
+  ends_behind index place rest text texts others last h =
+      let further : place_behind (text ∷ texts) ≡ length text + 1 + place_behind texts = sum_by-cons (λ t. length t + 1) text texts in
+      let count : index + length (text ∷ texts) ≡ index + 1 + length texts = omega arith in
+      let place_is : place + (length text + 1 + place_behind texts) ≡ place + length text + 1 + place_behind texts = omega arith in
+      rw (further, count, place_is, ← drop-drop (place_behind texts) (length text + 1) rest) h
+
+  has_items_from : (index place : ℕ) (rest : List ℕ) (fields : List (List ℕ)) → HasItemsFrom index place rest fields
+  has_items_from index place rest [] = record { texts = []; others = []; numbers = []; last = []; parts = refl; written = tt; items = refl; end = refl }
+  has_items_from index place rest (text ∷ fields) =
+      let behind = has_items_from (index + 1) (place + length text + 1) (drop (length text + 1) rest) fields in
+      elim (read text) [
+        | accepted v h is ↦ record {
+          texts = text ∷ behind.texts;
+          others = behind.others;
+          numbers = v ∷ behind.numbers;
+          last = behind.last;
+          parts = ap (λ fs. text ∷ fs) behind.parts;
+          written = (is, behind.written);
+          items = items_from-ok whole prefix index place rest text fields v h ∙ ap (λ items. Ok v ∷ items) behind.items;
+          end = ends_behind index place rest text behind.texts behind.others behind.last behind.end;
+        }
+        | refused h none ↦ record {
+          texts = [];
+          others = text ∷ fields;
+          numbers = [];
+          last = Err (flaw_at index place (prefix rest)) ∷ [];
+          parts = refl;
+          written = tt;
+          items = items_from-err whole prefix index place rest text fields h;
+          end = simp add-zero (none, refl);
+        }
+      ]
+
+-- an answer has one value, or none
+ok_same : (r : Result ℤ Refusal) (v w : ℤ) → r ≡ Ok v → r ≡ Ok w → v ≡ w
+ok_same r v w h other = cc
+
+ok_or_err : (r : Result ℤ Refusal) (v : ℤ) (reason : Refusal) → r ≡ Ok v → r ≡ Err reason → ⊥
+ok_or_err r v reason h other = absurd (cc)
+
+-- the accepted texts are read as their numbers, and no others
+module _ (k : Kind) (law : AcceptedTexts k) (text : List ℕ) where
+  read_as : (r : Result ℤ Refusal) → parse_answer k true true text ≡ r → IsRead k (parse_answer k true true) text
+  read_as (Ok v) h =
+      let is : IsText k text = (law.accepted text).0 (rw h refl) in
+      accepted v h (is, ok_same (parse_answer k true true text) v _ h (law.number text is))
+  read_as (Err reason) h =
+      refused (λ v ok. ok_or_err (parse_answer k true true text) v reason ok h)
+      (λ is. ok_or_err (parse_answer k true true text) _ reason (law.number text is) h)
+
+  read_by_law : IsRead k (parse_answer k true true) text
+  read_by_law = read_as (parse_answer k true true text) refl
+
+pub texts_and_items : (k : Kind) → AcceptedTexts k → TextsAndItems k
+unfolding items_left
+texts_and_items k law separator input =
+    let from = has_items_from k (parse_answer k true true) (parse_prefix_answer k true true) (read_by_law k law) 0 0 input (fields_of separator input) in
+    record {
+      texts = from.texts;
+      others = from.others;
+      numbers = from.numbers;
+      last = from.last;
+      fields = from.parts;
+      written = from.written;
+      items = from.items;
+      end = simp zero-add at from.end;
+    }

@@ -1,0 +1,60 @@
+-- Laws of fields and items. Each is a statement about the definitions alone.
+use Rattle.std.specs.Prelude.{◌≡◌, ℕ, ◌+◌, ◌≤◌, ◌==◌, true, List, [], ◌∷◌, ◌++◌, length, drop, map, ℤ, Result, Ok, Err}
+use Rattle.std.specs.List.{AllZip, before_first, position_or_len, sum_by}
+use Rattle.atoi_core.specs.Digit.{decimal_table}
+use Rattle.atoi_core.specs.Run.{value}
+use Rattle.atoi_core.specs.Refusal.{Refusal}
+use Rattle.atoi_core.specs.Kind.{Kind}
+use Rattle.atoi_core.specs.Sign.{number_of}
+use Rattle.atoi_core.specs.Answer.{parse_answer, parse_prefix_answer}
+use Rattle.atoi_core.specs.Text.{IsText, is_minus}
+use Rattle.atoi_column.specs.Fields.{is_separator, fields_of}
+use Rattle.atoi_column.specs.Items.{Flaw, flaw_at, items_of}
+
+-- the first field of a rest and the number at the rest's front: `whole` accepts the field exactly
+-- where the number that `prefix` finds ends with it, with the same value, and no number reaches
+-- behind the field
+pub record FieldIsPrefix (whole : List ℕ → Result ℤ Refusal) (prefix : List ℕ → Result (ℤ × ℕ) Refusal) (separator : ℕ) (rest : List ℕ) : Type 0 where
+  pub to_prefix : (value : ℤ) → whole (before_first (λ byte. byte == separator) rest) ≡ Ok value
+      → prefix rest ≡ Ok (value, position_or_len (λ byte. byte == separator) rest)
+  pub to_field : (value : ℤ) → prefix rest ≡ Ok (value, position_or_len (λ byte. byte == separator) rest)
+      → whole (before_first (λ byte. byte == separator) rest) ≡ Ok value
+  pub within : (value : ℤ) (count : ℕ) → prefix rest ≡ Ok (value, count)
+      → count ≤ position_or_len (λ byte. byte == separator) rest
+
+-- so it is with the parses that skip zeros and take a plus, and every separator
+abbrev pub FieldsArePrefixes : Kind → Type 0
+FieldsArePrefixes k =
+    (separator : ℕ) → is_separator separator ≡ true → (rest : List ℕ)
+    → FieldIsPrefix (parse_answer k true true) (parse_prefix_answer k true true) separator rest
+
+-- the text is one of the type, and writes the number
+abbrev pub Writes : Kind → List ℕ → ℤ → Type 0
+Writes k text number = (is : IsText k text) × (number ≡ number_of (is_minus is.sign) (value decimal_table is.digits))
+
+-- the place behind fields that stand at the front of an input, each with its separator
+abbrev pub place_behind : List (List ℕ) → ℕ
+place_behind texts = sum_by (λ text. length text + 1) texts
+
+-- how items end: with the fields; or where a field is no text of the type, with its flaw, by what
+-- `prefix` answers of what stands from its place on
+abbrev pub EndsItems : Kind → (prefix : List ℕ → Result (ℤ × ℕ) Refusal) → (index place : ℕ) → (rest : List ℕ) → List (List ℕ) → List (Result ℤ Flaw) → Type 0
+EndsItems k prefix index place rest [] last = last ≡ []
+EndsItems k prefix index place rest (text ∷ texts) last =
+    ¬ IsText k text × (last ≡ Err (flaw_at index place (prefix rest)) ∷ [])
+
+-- the items of an input in the words of the texts: the fields before the first that is no text of
+-- the type, the numbers that they write, and how the items end
+pub record HasItems (k : Kind) (separator : ℕ) (input : List ℕ) : Type 0 where
+  pub texts : List (List ℕ)
+  pub others : List (List ℕ)
+  pub numbers : List ℤ
+  pub last : List (Result ℤ Flaw)
+  pub fields : fields_of separator input ≡ texts ++ others
+  pub written : AllZip (Writes k) texts numbers
+  pub items : items_of k separator input ≡ map Ok numbers ++ last
+  pub end : EndsItems k (parse_prefix_answer k true true) (length texts) (place_behind texts) (drop (place_behind texts) input) others last
+
+-- so it is with every input and every byte between fields
+abbrev pub TextsAndItems : Kind → Type 0
+TextsAndItems k = (separator : ℕ) (input : List ℕ) → HasItems k separator input

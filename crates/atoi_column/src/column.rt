@@ -1,0 +1,126 @@
+//! A column as an iterator over the values of its fields.
+//! It stands on `parse_prefix` of `atoi_simd`, on `error`, and on the law of `fields`.
+ghost use Rattle.std.specs.Prelude.{◌≡◌, ◌≤◌, true, length};
+ghost use Rattle.std.specs.Iterator.{YieldsFirstBy, item_count};
+ghost use Rattle.atoi_core.specs.Kind.{kind};
+ghost use Rattle.atoi_column.specs.Fields.{is_separator};
+ghost use Rattle.atoi_column.specs.Items.{item_of, items_of};
+
+use crate::error::ColumnError;
+use crate::fields::fields_are_prefixes;
+use atoi_simd::{Parse, parse_prefix};
+use std::iter::FusedIterator;
+use std::marker::{Model, PhantomData};
+
+/// The fields of a byte slice between separators, as an iterator over their values.
+///
+/// Each field is ended by the separator; the last may lack it. The empty slice has no field, and two
+/// separators in a row hold an empty one. A field is read by
+/// `atoi_simd::parse_prefix::<T, true, true>`: an optional `+`, or `-` where `T` is signed, any
+/// number of zeros, and digits whose number is in the range of `T`. The first field that is anything
+/// else is answered by an error, and ends the column: behind it, and behind the last field, comes
+/// `None` for good.
+///
+/// `Column::<u8>::new(b"1,002,x", b',')` gives `Ok(1)`, `Ok(2)` and the error of the field `x`.
+/// A contract sees a column as the list of the items that it has still to give.
+#[derive(Drop)]
+pub struct Column<'a, T: Parse> {
+    // What is not read yet: empty at the end, and after an error.
+    rest: &'a [u8],
+    separator: u8,
+    // The number of the field that `rest` begins with, and the place of its first byte.
+    index: usize,
+    place: usize,
+    values: PhantomData<T>,
+}
+
+impl<'a, T: Parse> Model for Column<'a, T> {
+    ghost use Rattle.std.specs.Prelude.{List, Result, ℤ};
+    ghost use Rattle.atoi_core.specs.Kind.{kind};
+    ghost use Rattle.atoi_column.specs.Items.{Flaw};
+
+    ghost Value = { List (Result ℤ Flaw) };
+
+    ghost use Rattle.atoi_column.specs.Items.{items_left};
+    ghost use Rattle.atoi_column.specs.Places.{IsInside};
+
+    ghost view = { λ column. items_left (kind T.BITS T.SIGNED T.GREATEST)
+        column.separator column.index column.place column.rest.now };
+
+    ghost invariant = { λ column. IsInside column.separator column.index column.place
+        column.rest.now };
+}
+
+impl<'a, T: Parse> Column<'a, T> {
+    /// The column that `input` is, its fields ended by `separator`, which has to be a byte that
+    /// `is_separator` accepts.
+    ///
+    /// There are no more items than bytes.
+    #[inline]
+    pub fn new(input: &'a [u8], separator: u8) -> Column<'a, T>
+        requires { is_separator separator ≡ true }
+        ensures items { result ≡ items_of (kind T.BITS T.SIGNED T.GREATEST) separator input.now }
+        ensures fits { length result ≤ length input.now }
+    {
+        Column {
+            rest: input,
+            separator,
+            index: 0,
+            place: 0,
+            values: PhantomData,
+        }
+    }
+}
+
+impl<'a, T: Parse> Iterator for Column<'a, T> {
+    type Item = Result<T, ColumnError<'a>>;
+
+    ghost next_gives = { YieldsFirstBy (item_of T.number) (λ left. left) };
+
+    ghost remaining = { item_count (λ left. left) };
+
+    /// The value of the next field, or why it has none; `None` at the end, and after an error.
+    #[inline]
+    fn next(&mut self) -> Option<Result<T, ColumnError<'a>>> {
+        // What the items follow from. The call does nothing.
+        fields_are_prefixes::<T>();
+        let rest = self.rest;
+        let (index, place) = (self.index, self.place);
+        if rest.is_empty() {
+            return None;
+        }
+        // Only a field that is ended by the separator leaves more to read.
+        self.rest = &rest[rest.len()..];
+        match parse_prefix::<T, true, true>(rest) {
+            Ok(found) => {
+                let (value, count) = found;
+                match rest[count..].split_first() {
+                    None => Some(Ok(value)),
+                    Some((byte, behind)) => {
+                        if *byte == self.separator {
+                            self.rest = behind;
+                            self.index = index + 1;
+                            self.place = place + count + 1;
+                            Some(Ok(value))
+                        } else {
+                            Some(Err(ColumnError::Trailing {
+                                index,
+                                place: place + count,
+                            }))
+                        }
+                    }
+                }
+            }
+            Err(cause) => Some(Err(ColumnError::Field {
+                index,
+                place,
+                cause,
+            })),
+        }
+    }
+}
+
+impl<'a, T: Parse> FusedIterator for Column<'a, T> {}
+
+#[cfg(test)]
+mod tests;

@@ -1,0 +1,151 @@
+//! Tests of columns: worked inputs, long ones, and the calls that Rust's iterators have.
+//! The expected items are counted by hand.
+
+use super::Column;
+use crate::error::ColumnError;
+use crate::laws::texts_and_items;
+use crate::separator::is_separator;
+use atoi_simd::AtoiSimdError;
+use std::alloc::{AllocError, Global};
+use std::test::Fail;
+
+// Of a field that begins at `place` and has no number.
+fn empty<'a>(index: usize, place: usize) -> Result<u8, ColumnError<'a>> {
+    let cause = AtoiSimdError::Empty;
+    Err(ColumnError::Field {
+        index,
+        place,
+        cause,
+    })
+}
+
+#[test]
+fn digits_and_signs_separate_nothing(rt: HostRuntime) {
+    for byte in b"0123456789+-" {
+        assert!(rt; !is_separator(*byte));
+    }
+}
+
+#[test]
+fn the_bytes_beside_them_do(rt: HostRuntime) {
+    for byte in b"/:*,. ;\t\n\0\xFF" {
+        assert!(rt; is_separator(*byte));
+    }
+}
+
+#[test]
+fn a_last_field_may_lack_its_separator(rt: HostRuntime) {
+    let mut column = Column::<u8>::new(b"1\n2\n", b'\n');
+    assert_eq!(rt; column.next(), Some(Ok(1)));
+    assert_eq!(rt; column.next(), Some(Ok(2)));
+    assert_eq!(rt; column.next(), None);
+    assert_eq!(rt; column.next(), None);
+    let mut column = Column::<u8>::new(b"1\n2", b'\n');
+    assert_eq!(rt; column.next(), Some(Ok(1)));
+    assert_eq!(rt; column.next(), Some(Ok(2)));
+    assert_eq!(rt; column.next(), None);
+}
+
+#[test]
+fn an_empty_field_is_refused_and_ends_the_column(rt: HostRuntime) {
+    let mut column = Column::<u8>::new(b"1\n\n2", b'\n');
+    assert_eq!(rt; column.next(), Some(Ok(1)));
+    assert_eq!(rt; column.next(), Some(empty(1, 2)));
+    assert_eq!(rt; column.next(), None);
+    assert_eq!(rt; column.next(), None);
+}
+
+#[test]
+fn a_byte_behind_a_number_is_told_by_its_place(rt: HostRuntime) {
+    let mut column = Column::<u8>::new(b"12a\n", b'\n');
+    let trailing = ColumnError::Trailing { index: 0, place: 2 };
+    assert_eq!(rt; column.next(), Some(Err(trailing)));
+    assert_eq!(rt; column.next(), None);
+    let mut column = Column::<i8>::new(b"-128,12a", b',');
+    let trailing = ColumnError::Trailing { index: 1, place: 7 };
+    assert_eq!(rt; column.next(), Some(Ok(-128)));
+    assert_eq!(rt; column.next(), Some(Err(trailing)));
+    assert_eq!(rt; column.next(), None);
+}
+
+#[test]
+fn an_empty_input_has_no_field(rt: HostRuntime) {
+    assert_eq!(rt; Column::<u8>::new(b"", b'\n').next(), None);
+}
+
+#[test]
+fn the_slice_of_a_cause_reaches_to_the_end(rt: HostRuntime) {
+    texts_and_items::<u8>();
+    let input = b"256,1";
+    let mut column = Column::<u8>::new(input, b',');
+    let cause = AtoiSimdError::Overflow(input);
+    let refused = ColumnError::Field {
+        index: 0,
+        place: 0,
+        cause,
+    };
+    assert_eq!(rt; column.next(), Some(Err(refused)));
+    assert_eq!(rt; column.next(), None);
+}
+
+// A `for` that adds up the values.
+fn sum(column: Column<'_, u8>) -> u64 {
+    let mut sum = 0u64;
+    for item in column {
+        if let Ok(value) = item {
+            sum = sum.saturating_add(u64::from(value));
+        }
+    }
+    sum
+}
+
+#[test]
+fn a_column_is_an_iterator_as_any(rt: HostRuntime) -> Result<(), Fail> {
+    let column = || Column::<u8>::new(b"+1;002;3;", b';');
+    assert_eq!(rt; sum(column()), 6);
+    assert_eq!(rt; column().count(), 3);
+    assert_eq!(rt; column().filter(|item| *item == Ok(2)).count(), 1);
+    let doubled: Vec<u16> = column()
+        .map(|item| u16::from(item.unwrap_or(0)) * 2)
+        .collect(rt.alloc())?;
+    assert_eq!(rt; doubled.as_slice(), [2, 4, 6].as_slice());
+    Ok(())
+}
+
+// A million fields `7`, and a last one that is no number.
+fn sevens(alloc: Global) -> Result<Vec<u8>, AllocError> {
+    let mut input = Vec::with_capacity(alloc, 2_000_001)?;
+    for _ in 0..1_000_000 {
+        input.extend_from_slice(b"7,")?;
+    }
+    input.extend_from_slice(b"x")?;
+    Ok(input)
+}
+
+#[test]
+fn a_million_fields_and_a_bad_last_one(rt: HostRuntime) -> Result<(), Fail> {
+    let input = sevens(rt.alloc())?;
+    let mut column = Column::<u8>::new(&input, b',');
+    assert_eq!(rt; column.nth(999_999), Some(Ok(7)));
+    assert_eq!(rt; column.next(), Some(empty(1_000_000, 2_000_000)));
+    assert_eq!(rt; column.next(), None);
+    Ok(())
+}
+
+#[test]
+fn a_million_separators_alone(rt: HostRuntime) -> Result<(), Fail> {
+    let input = vec![in rt.alloc(); b','; 1_000_000]?;
+    let mut column = Column::<u8>::new(&input, b',');
+    assert_eq!(rt; column.next(), Some(empty(0, 0)));
+    assert_eq!(rt; column.next(), None);
+    Ok(())
+}
+
+#[test]
+fn a_field_of_a_million_zeros(rt: HostRuntime) -> Result<(), Fail> {
+    let input = vec![in rt.alloc(); b'0'; 1_000_000]?;
+    let mut column = Column::<u8>::new(&input, b',');
+    assert_eq!(rt; column.next(), Some(Ok(0)));
+    assert_eq!(rt; column.next(), None);
+    Ok(())
+}

@@ -1,0 +1,28 @@
+//! Why a field of a column gives no value.
+//! It stands on the error of `atoi_simd`.
+
+use atoi_simd::AtoiSimdError;
+
+/// Why a field of a column gives no value.
+///
+/// A field's `index` is its number, from 0. A `place` is counted in bytes, from 0 at the first byte
+/// of the slice that the column was made of.
+#[derive(Debug, Clone, Copy, PartialEq, Eq)]
+pub enum ColumnError<'a> {
+    /// No number of the type can be read at the field's front.
+    Field {
+        /// The field's number, from 0.
+        index: usize,
+        /// The place of the field's first byte.
+        place: usize,
+        /// What `parse_prefix` answered from that place on; its slice reaches to the input's end.
+        cause: AtoiSimdError<'a>,
+    },
+    /// Another byte stands behind the number that the field begins with.
+    Trailing {
+        /// The field's number, from 0.
+        index: usize,
+        /// The place of that byte.
+        place: usize,
+    },
+}

@@ -1,0 +1,16 @@
+//! Columns of decimal integers: the fields of a byte slice between separators, as an iterator of
+//! their values up to the first field that is refused.
+//!
+//! It stands on `atoi_simd::parse_prefix` with both flags on, and on the definitions and laws of
+//! `atoi_core`. It takes no memory and copies nothing.
+#![tactic(auto)]
+
+mod column;
+mod error;
+mod fields;
+pub mod laws;
+mod separator;
+
+pub use crate::column::Column;
+pub use crate::error::ColumnError;
+pub use crate::separator::is_separator;
