@@ -7,3 +7,4 @@ pub mod Request
 pub mod Row
 pub mod Answer
 pub mod Output
+pub mod Run

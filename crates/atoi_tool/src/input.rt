@@ -6,7 +6,7 @@ ghost use Rattle.atoi_tool.specs.ReadAll.{ReadAllCounts};
 
 use crate::source::Source;
 use crate::status::ToolError;
-use std::alloc::Global;
+use std::alloc::{Allocator, Global};
 
 // How many bytes are asked for at once.
 const PART: usize = 4096;
@@ -19,6 +19,16 @@ const PART: usize = 4096;
 /// that never ends, at the latest where it cannot be longer. Nothing is handed back then, and what
 /// was taken from the source stays taken.
 pub fn read_all<S: Source>(alloc: Global, input: &mut S) -> Result<Vec<u8>, ToolError>
+    ensures all { IfOk result
+        (λ bytes. Consumes (S.rest input.old) (S.rest input.new) bytes.items) }
+    ensures end { OnOk result (IsAtEnd (S.rest input.new)) }
+    ensures reads { ReadAllCounts (S.failures input.old) (S.failures input.new) result }
+{
+    read_all_in(alloc, input)
+}
+
+// The same with any allocator, as a test has one that refuses.
+fn read_all_in<S: Source, A: Allocator>(alloc: A, input: &mut S) -> Result<Vec<u8, A>, ToolError>
     ensures all { IfOk result
         (λ bytes. Consumes (S.rest input.old) (S.rest input.new) bytes.items) }
     ensures end { OnOk result (IsAtEnd (S.rest input.new)) }

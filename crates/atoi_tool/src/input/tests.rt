@@ -1,42 +1,19 @@
 //! Tests of reading all of an input, and of readers that fail.
-//! They stand on readers of their own.
+//! They stand on the tests' own `devices`.
 
 use super::read_all;
+use crate::devices::FailingReader;
 use crate::source::FromReader;
 use crate::status::{ToolError, status};
 use std::alloc::Global;
-use std::io;
-use std::io::{ErrorKind, Read};
+use std::io::ErrorKind;
 use std::test::Fail;
-
-// A reader of `rest`, `part` bytes a call, whose call of the number `failing` fails with `error`.
-#[derive(Drop)]
-struct Failing<'a> {
-    rest: &'a [u8],
-    part: usize,
-    failing: usize,
-    error: ErrorKind,
-}
-
-impl Read for Failing<'_> {
-    fn read(&mut self, space: &mut [u8]) -> io::Result<usize> {
-        if self.failing == 1 {
-            self.failing = 0;
-            return Err(io::Error::from(self.error));
-        }
-        self.failing = self.failing.saturating_sub(1);
-        let count = self.part.min(self.rest.len()).min(space.len());
-        space[..count].copy_from_slice(&self.rest[..count]);
-        self.rest = &self.rest[count..];
-        Ok(count)
-    }
-}
 
 #[test]
 fn reads_to_the_end(rt: HostRuntime) -> Result<(), Fail> {
     let input = vec![in rt.alloc(); b'7'; 10_000]?;
     for part in [1, 4095, 4096, 4097] {
-        let mut source = FromReader::new(Failing {
+        let mut source = FromReader::new(FailingReader {
             rest: &input,
             part,
             failing: 0,
@@ -51,7 +28,7 @@ fn reads_to_the_end(rt: HostRuntime) -> Result<(), Fail> {
 
 // How many bytes are read where the call of the number `failing` fails with `error`.
 fn read_failing(alloc: Global, failing: usize, error: ErrorKind) -> Result<usize, ToolError> {
-    let mut source = FromReader::new(Failing {
+    let mut source = FromReader::new(FailingReader {
         rest: b"ab",
         part: 1,
         failing,

@@ -3,12 +3,11 @@
 //! but for the counted plus.
 
 use super::answer_lines;
+use crate::devices::{Full, LimitedWriter};
 use crate::sink::ToWriter;
 use crate::status::{ToolError, status};
 use atoi_vectors::original;
 use std::alloc::{AllocError, Global};
-use std::io;
-use std::io::{ErrorKind, Write};
 use std::process::Abort;
 use std::test::Fail;
 
@@ -59,6 +58,8 @@ w pos u8 -- \x20
 w pos u8 -- 1 2
 w pos u8 -- 7\0
 w pos u8 z- 0\xFF\r
+w prefix u8 -- 7\0\r\xFF
+w parse u8 -- \xFF7
 ";
 
 const GOOD_ANSWERS: &[u8] = b"\
@@ -84,6 +85,8 @@ err atoi_simd string is empty
 err atoi_simd invalid at index: 1 it must contain only digits, starting with: 1  input: [31, 20, 32]
 err atoi_simd invalid at index: 1 it must contain only digits, starting with: 7  input: [37, 0]
 err atoi_simd invalid at index: 1 it must contain only digits, starting with: 0  input: [30, FF, D]
+ok 7 1
+err atoi_simd string is empty
 ";
 
 // The rows have these answers, on words and on lanes.
@@ -115,6 +118,16 @@ fn long_row(alloc: Global, start: &[u8], end: &[u8]) -> Result<Vec<u8>, AllocErr
     Ok(row)
 }
 
+// `start`, the rest of 48 zeros as an error shows them, and the end of the line.
+fn zeros_shown(alloc: Global, start: &[u8]) -> Result<Vec<u8>, AllocError> {
+    let mut shown = start.to_vec(alloc)?;
+    for _ in 1..48 {
+        shown.extend_from_slice(b", 30")?;
+    }
+    shown.extend_from_slice(b"]\n")?;
+    Ok(shown)
+}
+
 #[test]
 fn answers_long_rows(rt: HostRuntime) -> Result<(), Fail> {
     let row = long_row(rt.alloc(), b"w parse u8 z- ", b"7")?;
@@ -125,20 +138,46 @@ fn answers_long_rows(rt: HostRuntime) -> Result<(), Fail> {
     let (output, _) = answered(rt.alloc(), &row)?;
     assert_eq!(rt; output.as_slice(), b"ok 7 1000001\n".as_slice());
 
-    let mut shown = b"err atoi_simd wrong size: 24 input: [30".to_vec(rt.alloc())?;
-    for _ in 1..48 {
-        shown.extend_from_slice(b", 30")?;
-    }
-    shown.extend_from_slice(b"]\n")?;
+    let shown = zeros_shown(rt.alloc(), b"err atoi_simd wrong size: 24 input: [30")?;
     let row = long_row(rt.alloc(), b"w prefix u64 -- ", b"")?;
     let (output, _) = answered(rt.alloc(), &row)?;
     assert_eq!(rt; output.as_slice(), shown.as_slice());
     Ok(())
 }
 
+// No answer is longer, but for more digits of the index.
+#[test]
+fn answers_the_longest_line(rt: HostRuntime) -> Result<(), Fail> {
+    let greatest = b"340282366920938463463374607431768211455x";
+    let shown = zeros_shown(
+        rt.alloc(),
+        b"err atoi_simd invalid at index: 1000039 it must contain only digits, starting with: 340282366920938463463374607431768211455 input: [30",
+    )?;
+    assert_eq!(rt; shown.len(), 324);
+    let row = long_row(rt.alloc(), b"w parse u128 z- ", greatest)?;
+    let (output, _) = answered(rt.alloc(), &row)?;
+    assert_eq!(rt; output.as_slice(), shown.as_slice());
+    let row = long_row(rt.alloc(), b"l pos u128 z- ", greatest)?;
+    let (output, _) = answered(rt.alloc(), &row)?;
+    assert_eq!(rt; output.as_slice(), shown.as_slice());
+    Ok(())
+}
+
+// That each of the lines is a bad row.
+fn assert_bad_rows(rt: &impl Abort, alloc: Global, rows: &[&[u8]]) -> Result<(), Fail> {
+    for row in rows {
+        let mut line = row.to_vec(alloc)?;
+        line.push(b'\n')?;
+        let (output, good) = answered(alloc, &line)?;
+        assert_eq!(rt; output.as_slice(), b"bad row\n".as_slice(), "to {row:?}");
+        assert!(rt; !good);
+    }
+    Ok(())
+}
+
 #[test]
 fn refuses_bad_rows(rt: HostRuntime) -> Result<(), Fail> {
-    let rows: [&[u8]; 24] = [
+    let rows: [&[u8]; 22] = [
         b"",
         b" ",
         b"    ",
@@ -161,17 +200,30 @@ fn refuses_bad_rows(rt: HostRuntime) -> Result<(), Fail> {
         b"w prefix_neg i8 zp 5",
         b"w pos u8 p- 5",
         b"w\0pos u8 -- 5",
-        b"w pos\r u8 -- 5",
-        b"w pos u8\xFF -- 5",
     ];
-    for row in rows {
-        let mut line = row.to_vec(rt.alloc())?;
-        line.push(b'\n')?;
-        let (output, good) = answered(rt.alloc(), &line)?;
-        assert_eq!(rt; output.as_slice(), b"bad row\n".as_slice());
-        assert!(rt; !good);
-    }
-    Ok(())
+    assert_bad_rows(&rt, rt.alloc(), &rows)
+}
+
+#[test]
+fn refuses_other_bytes_in_the_words(rt: HostRuntime) -> Result<(), Fail> {
+    let rows: [&[u8]; 15] = [
+        b"w\0 pos u8 -- 5",
+        b"w p\0s u8 -- 5",
+        b"w pos \0u8 -- 5",
+        b"w pos u8 -\0 5",
+        b"w\r pos u8 -- 5",
+        b"\rw pos u8 -- 5",
+        b"w pos\r u8 -- 5",
+        b"w pos u8\r -- 5",
+        b"w pos u8 --\r 5",
+        b"\xFFw pos u8 -- 5",
+        b"w \xFFpos u8 -- 5",
+        b"w pos u8\xFF -- 5",
+        b"w pos u8 \xFF- 5",
+        b"\xFF\xFF\xFF\xFF",
+        b"\0 \r \xFF \0 5",
+    ];
+    assert_bad_rows(&rt, rt.alloc(), &rows)
 }
 
 #[test]
@@ -200,51 +252,12 @@ const LINES: &[u8] = b"w pos u8 -- 255\nw pos u8 -- 256x\n\nw neg i8 -- 128";
 const ANSWERS: &[u8] =
     b"ok 255\nerr atoi_simd overflow, input: [32, 35, 36, 78]\nbad row\nok -128\n";
 
-// What a writer does that has no room.
-#[derive(Clone, Copy)]
-enum Full {
-    Fails,
-    IsInterrupted,
-    TakesNone,
-}
-
-// A writer that takes `part` bytes a call at most, and `room` bytes in all.
-#[derive(Drop)]
-struct LimitedWriter {
-    held: Vec<u8>,
-    part: usize,
-    room: usize,
-    full: Full,
-}
-
-impl Write for LimitedWriter {
-    fn write(&mut self, bytes: &[u8]) -> io::Result<usize> {
-        let count = bytes.len().min(self.part).min(self.room);
-        if count == 0 {
-            return match self.full {
-                Full::Fails => Err(io::Error::from(ErrorKind::BrokenPipe)),
-                Full::IsInterrupted => Err(io::Error::from(ErrorKind::Interrupted)),
-                Full::TakesNone => Ok(0),
-            };
-        }
-        self.held.extend_from_slice(&bytes[..count])?;
-        self.room -= count;
-        Ok(count)
-    }
-
-    fn flush(&mut self) -> io::Result<()> {
-        Ok(())
-    }
-}
-
 #[test]
 fn writes_in_parts_of_any_size(rt: HostRuntime) -> Result<(), Fail> {
     for part in [1, 2, 7, 1000] {
         let mut sink = ToWriter::new(LimitedWriter {
-            held: Vec::new(rt.alloc()),
             part,
-            room: ANSWERS.len(),
-            full: Full::Fails,
+            ..LimitedWriter::new(rt.alloc(), ANSWERS.len(), Full::Fails)
         });
         let outcome = answer_lines(LINES, &mut sink);
         assert_eq!(rt; outcome, Ok(false));
@@ -253,19 +266,19 @@ fn writes_in_parts_of_any_size(rt: HostRuntime) -> Result<(), Fail> {
     Ok(())
 }
 
-// That a writer with room for the bytes of `written` gets these, and that the refusal behind them
-// is told.
+// That a writer with room for the bytes of `written` gets these and no more, also where it would
+// take more then, and that its refusal is told.
 fn check_refused_write(rt: &impl Abort, alloc: Global, written: &[u8], full: Full) {
-    let mut sink = ToWriter::new(LimitedWriter {
-        held: Vec::new(alloc),
-        part: 5,
-        room: written.len(),
-        full,
-    });
-    let outcome = answer_lines(LINES, &mut sink);
-    assert_eq!(rt; outcome, Err(ToolError::Write));
-    assert_eq!(rt; status(&outcome), 5);
-    assert_eq!(rt; sink.into_inner().held.as_slice(), written);
+    for room_then in [0, 1000] {
+        let mut sink = ToWriter::new(LimitedWriter {
+            room_then,
+            ..LimitedWriter::new(alloc, written.len(), full)
+        });
+        let outcome = answer_lines(LINES, &mut sink);
+        assert_eq!(rt; outcome, Err(ToolError::Write));
+        assert_eq!(rt; status(&outcome), 5);
+        assert_eq!(rt; sink.into_inner().held.as_slice(), written);
+    }
 }
 
 #[test]

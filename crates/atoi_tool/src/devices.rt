@@ -1,0 +1,107 @@
+//! Readers, writers and a standard error of the tests' own, which fail where a test says so.
+//! They stand on std alone.
+
+use std::alloc::Global;
+use std::cell::RefCell;
+use std::fmt::Display;
+use std::io;
+use std::io::{ErrorKind, Read, Write};
+
+/// A reader of `rest`, `part` bytes a call, whose call of the number `failing` fails with `error`.
+/// None fails where the number is 0.
+#[derive(Drop)]
+pub(crate) struct FailingReader<'a> {
+    pub(crate) rest: &'a [u8],
+    pub(crate) part: usize,
+    pub(crate) failing: usize,
+    pub(crate) error: ErrorKind,
+}
+
+impl Read for FailingReader<'_> {
+    fn read(&mut self, space: &mut [u8]) -> io::Result<usize> {
+        if self.failing == 1 {
+            self.failing = 0;
+            return Err(io::Error::from(self.error));
+        }
+        self.failing = self.failing.saturating_sub(1);
+        let count = self.part.min(self.rest.len()).min(space.len());
+        space[..count].copy_from_slice(&self.rest[..count]);
+        self.rest = &self.rest[count..];
+        Ok(count)
+    }
+}
+
+/// What a writer does that has no room.
+#[derive(Clone, Copy)]
+pub(crate) enum Full {
+    Fails,
+    IsInterrupted,
+    TakesNone,
+}
+
+/// A writer that takes `part` bytes a call at most, and `room` bytes until it is full. It is full
+/// for one call, and then has room for `room_then` bytes more.
+#[derive(Drop)]
+pub(crate) struct LimitedWriter {
+    pub(crate) held: Vec<u8>,
+    pub(crate) part: usize,
+    pub(crate) room: usize,
+    pub(crate) room_then: usize,
+    pub(crate) full: Full,
+    pub(crate) flushes: usize,
+}
+
+impl LimitedWriter {
+    /// A writer that holds nothing yet, takes five bytes a call at most, and stays full.
+    pub(crate) fn new(alloc: Global, room: usize, full: Full) -> LimitedWriter {
+        LimitedWriter {
+            held: Vec::new(alloc),
+            part: 5,
+            room,
+            room_then: 0,
+            full,
+            flushes: 0,
+        }
+    }
+}
+
+impl Write for LimitedWriter {
+    fn write(&mut self, bytes: &[u8]) -> io::Result<usize> {
+        let count = bytes.len().min(self.part).min(self.room);
+        if count == 0 {
+            self.room = self.room_then;
+            return match self.full {
+                Full::Fails => Err(io::Error::from(ErrorKind::BrokenPipe)),
+                Full::IsInterrupted => Err(io::Error::from(ErrorKind::Interrupted)),
+                Full::TakesNone => Ok(0),
+            };
+        }
+        self.held.extend_from_slice(&bytes[..count])?;
+        self.room -= count;
+        Ok(count)
+    }
+
+    fn flush(&mut self) -> io::Result<()> {
+        self.flushes = self.flushes.saturating_add(1);
+        Ok(())
+    }
+}
+
+/// A standard error that keeps what it is told.
+#[derive(Drop)]
+pub(crate) struct Errors {
+    pub(crate) told: RefCell<Vec<u8>>,
+}
+
+impl Eprint for Errors {
+    fn eprint<D: Display + Drop>(&self, value: D) -> io::Result<()> {
+        match self.told.try_borrow_mut() {
+            Ok(mut told) => write!(told, "{value}"),
+            Err(_) => Err(io::Error::from(ErrorKind::WouldBlock)),
+        }
+    }
+
+    fn eprintln<D: Display + Drop>(&self, value: D) -> io::Result<()> {
+        self.eprint(format_args!("{value}\n"))
+    }
+}
