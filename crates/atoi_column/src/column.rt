@@ -2,7 +2,6 @@
 //! It stands on `parse_prefix` of `atoi_simd`, on `error`, and on the law of `fields`.
 ghost use Rattle.std.specs.Prelude.{◌≡◌, ◌≤◌, true, length};
 ghost use Rattle.std.specs.Iterator.{YieldsFirstBy, item_count};
-ghost use Rattle.atoi_core.specs.Kind.{kind};
 ghost use Rattle.atoi_column.specs.Fields.{is_separator};
 ghost use Rattle.atoi_column.specs.Items.{item_of, items_of};
 
@@ -36,7 +35,6 @@ pub struct Column<'a, T: Parse> {
 
 impl<'a, T: Parse> Model for Column<'a, T> {
     ghost use Rattle.std.specs.Prelude.{List, Result, ℤ};
-    ghost use Rattle.atoi_core.specs.Kind.{kind};
     ghost use Rattle.atoi_column.specs.Items.{Flaw};
 
     ghost Value = { List (Result ℤ Flaw) };
@@ -44,7 +42,7 @@ impl<'a, T: Parse> Model for Column<'a, T> {
     ghost use Rattle.atoi_column.specs.Items.{items_left};
     ghost use Rattle.atoi_column.specs.Places.{IsInside};
 
-    ghost view = { λ column. items_left (kind T.BITS T.SIGNED T.GREATEST)
+    ghost view = { λ column. items_left T.kind
         column.separator column.index column.place column.rest.now };
 
     ghost invariant = { λ column. IsInside column.separator column.index column.place
@@ -59,7 +57,7 @@ impl<'a, T: Parse> Column<'a, T> {
     #[inline]
     pub fn new(input: &'a [u8], separator: u8) -> Column<'a, T>
         requires { is_separator separator ≡ true }
-        ensures items { result ≡ items_of (kind T.BITS T.SIGNED T.GREATEST) separator input.now }
+        ensures items { result ≡ items_of T.kind separator input.now }
         ensures fits { length result ≤ length input.now }
     {
         Column {

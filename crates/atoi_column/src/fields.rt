@@ -1,6 +1,5 @@
 //! A field read as a whole, and the number at the front of the rest of the input.
 //! It stands on the laws of `atoi_core` alone.
-ghost use Rattle.atoi_core.specs.Kind.{kind};
 ghost use Rattle.atoi_column.specs.Laws.{FieldsArePrefixes};
 
 use atoi_core::Number;
@@ -9,7 +8,7 @@ use atoi_core::laws::{prefix_is_whole, prefix_of_cut, rest_changes_nothing};
 /// A field is accepted as a whole exactly where the number at the front of the rest of the input
 /// ends with the field, and with the same value. Calling it does nothing.
 pub fn fields_are_prefixes<T: Number>()
-    ensures { FieldsArePrefixes (kind T.BITS T.SIGNED T.GREATEST) }
+    ensures { FieldsArePrefixes T.kind }
 {
     prefix_is_whole::<T>();
     prefix_of_cut::<T>();

@@ -1,6 +1,5 @@
 //! A law of columns: its contract says it, and calling it does nothing.
 //! It stands on the law of the accepted texts of `atoi_core`, and on no parse.
-ghost use Rattle.atoi_core.specs.Kind.{kind};
 ghost use Rattle.atoi_column.specs.Laws.{TextsAndItems};
 
 use atoi_core::Number;
@@ -11,7 +10,7 @@ use atoi_core::laws::accepted_texts;
 /// and the value in range. Where there is such a field, one error follows, by what `parse_prefix`
 /// with both flags answers from the field's first byte on, and nothing behind it.
 pub fn texts_and_items<T: Number>()
-    ensures { TextsAndItems (kind T.BITS T.SIGNED T.GREATEST) }
+    ensures { TextsAndItems T.kind }
 {
     accepted_texts::<T>();
 }

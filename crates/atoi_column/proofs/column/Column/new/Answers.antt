@@ -1,7 +1,6 @@
-use Rattle.atoi_core.specs.Kind.{kind}
 use Rattle.atoi_column.proofs.ItemLemmas.{length-items_left}
 use Rattle.atoi_column.proofs.column.Column.new.Goals as goal
 
 pub returns-clause-fits : goal.returns-clause-fits
 returns-clause-fits g c =
-    length-items_left (kind g.T.Number.BITS g.T.Number.SIGNED g.T.Number.GREATEST) c.args.separator 0 0 c.args.input.now
+    length-items_left g.T.Number.kind c.args.separator 0 0 c.args.input.now

@@ -1,7 +1,7 @@
 use Rattle.std.proofs.Common.{◌≡◌, ◌+◌, ◌<◌, Ok, Err, ◌∷◌, length, drop, length-drop, sym, ap, ◌∙◌, arith}
 use Rattle.std.proofs.lemmas.List.{take_rest}
 use Rattle.std.proofs.lemmas.Bool.Decides.{nat_tests}
-use Rattle.atoi_core.specs.Kind.{Kind, kind}
+use Rattle.atoi_core.specs.Kind.{Kind}
 use Rattle.atoi_core.specs.Refusal.{refusal_of}
 use Rattle.atoi_column.specs.Items.{field, trailing}
 use Rattle.atoi_column.proofs.ItemLemmas.{items_left-empty, items_left-behind_all, items_left-ended, items_left-last, items_left-trailing, items_left-refused, goes_on}
@@ -11,12 +11,12 @@ pub returns-then-is_empty-clause-steps : goal.returns-then-is_empty-clause-steps
 returns-then-is_empty-clause-steps g c =
     let inside = c.self.inside in
     let none : length inside.rest.now ≡ 0 = grind (arith, nat_tests) in
-    let end = sym c.self.view_is ∙ items_left-empty (kind g.T.Number.BITS g.T.Number.SIGNED g.T.Number.GREATEST) inside.separator inside.index inside.place inside.rest.now none in
+    let end = sym c.self.view_is ∙ items_left-empty g.T.Number.kind inside.separator inside.index inside.place inside.rest.now none in
     (end, end)
 
 pub returns-in-None-clause-steps : goal.returns-in-None-clause-steps
 returns-in-None-clause-steps g c =
-    let k : Kind = kind g.T.Number.BITS g.T.Number.SIGNED g.T.Number.GREATEST in
+    let k : Kind = g.T.Number.kind in
     let inside = c.self.inside in
     let rest = inside.rest.now in
     let some : 0 < length rest = grind (arith, nat_tests) in
@@ -28,7 +28,7 @@ returns-in-None-clause-steps g c =
 
 pub returns-then-byte-self-clause-steps : goal.returns-then-byte-self-clause-steps
 returns-then-byte-self-clause-steps g c =
-    let k : Kind = kind g.T.Number.BITS g.T.Number.SIGNED g.T.Number.GREATEST in
+    let k : Kind = g.T.Number.kind in
     let inside = c.self.inside in
     let rest = inside.rest.now in
     let some : 0 < length rest = grind (arith, nat_tests) in
@@ -39,7 +39,7 @@ returns-then-byte-self-clause-steps g c =
 
 pub returns-else-byte-self-clause-steps : goal.returns-else-byte-self-clause-steps
 returns-else-byte-self-clause-steps g c =
-    let k : Kind = kind g.T.Number.BITS g.T.Number.SIGNED g.T.Number.GREATEST in
+    let k : Kind = g.T.Number.kind in
     let inside = c.self.inside in
     let rest = inside.rest.now in
     let some : 0 < length rest = grind (arith, nat_tests) in
@@ -51,7 +51,7 @@ returns-else-byte-self-clause-steps g c =
 
 pub returns-in-Err-clause-steps : goal.returns-in-Err-clause-steps
 returns-in-Err-clause-steps g c =
-    let k : Kind = kind g.T.Number.BITS g.T.Number.SIGNED g.T.Number.GREATEST in
+    let k : Kind = g.T.Number.kind in
     let inside = c.self.inside in
     let rest = inside.rest.now in
     let some : 0 < length rest = grind (arith, nat_tests) in
