@@ -92,12 +92,12 @@ pub fn narrow_whole_neg<'a, E: Engine, T: Signed>(
 /// Reads a number of a type of at most 32 bits from the front of `s`, and tells its length in
 /// bytes.
 ///
-/// With `skip` any number of leading zeros is read, without it 16 digits at most. `steps` counts
-/// the windows that are loaded.
+/// With `skip` any number of leading zeros is read, without it they count as digits, of which 16
+/// are the most. `steps` counts the windows that are loaded.
 ///
 /// # Errors
 ///
-/// `Empty` and `Overflow`, as of `narrow_prefix` with the bound of the type.
+/// `Empty`, `Size` and `Overflow`, as of `narrow_prefix` with the bound of the type.
 #[inline(always)]
 #[tactic(auto, using(crate::proofs::AnswerLemmas::narrow_prefix_limit))]
 pub fn narrow_prefix_pos<'a, E: Engine, T: Number>(
@@ -122,12 +122,12 @@ pub fn narrow_prefix_pos<'a, E: Engine, T: Number>(
 /// Reads the magnitude of a number of a type of at most 32 bits that is not positive from the front
 /// of `s`, and tells its length in bytes.
 ///
-/// With `skip` any number of leading zeros is read, without it 16 digits at most. `steps` counts
-/// the windows that are loaded.
+/// With `skip` any number of leading zeros is read, without it they count as digits, of which 16
+/// are the most. `steps` counts the windows that are loaded.
 ///
 /// # Errors
 ///
-/// `Empty` and `Overflow`, as of `narrow_prefix` with the bound of the type.
+/// `Empty`, `Size` and `Overflow`, as of `narrow_prefix` with the bound of the type.
 #[inline(always)]
 #[tactic(auto, using(crate::proofs::AnswerLemmas::narrow_prefix_limit))]
 pub fn narrow_prefix_neg<'a, E: Engine, T: Signed>(
