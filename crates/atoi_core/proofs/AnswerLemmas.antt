@@ -1,13 +1,13 @@
 -- The answers for an integer type, from those of the loops.
-use Rattle.std.proofs.Common.{◌≡◌, ℕ, ◌≤◌, take, Bool, false, List, length, Result, Ok, refl, ap, ◌∙◌, sym, arith, subst}
+use Rattle.std.proofs.Common.{◌≡◌, ℕ, ◌≤◌, Bool, true, false, List, length, Result, Ok, refl, ap, ◌∙◌, sym, arith, subst}
 use Rattle.std.proofs.lemmas.List.Sums.{prefix_len-le-length}
 use Rattle.atoi_core.specs.Digit.{Table, is_digit}
-use Rattle.atoi_core.specs.Run.{run_len, value}
+use Rattle.atoi_core.specs.Run.{run_len, run, value}
 use Rattle.atoi_core.specs.Refusal.{Refusal}
-use Rattle.atoi_core.specs.Magnitude.{Class, narrow, whole, prefix, digits_read, refusal, unless_refused, whole_magnitude, prefix_magnitude}
+use Rattle.atoi_core.specs.Magnitude.{Class, narrow, whole, prefix, refusal, unless_refused, whole_magnitude, prefix_magnitude}
 use Rattle.atoi_core.specs.Answer.{map_answer}
 use Rattle.atoi_core.proofs.RefusalLemmas.{accepted}
-use Rattle.atoi_core.proofs.CallLemmas.{map_unless_ok, digits_read-whole, digits_read-le}
+use Rattle.atoi_core.proofs.CallLemmas.{map_unless_ok}
 
 -- a prefix that is not refused is in bounds
 pub prefix_in_bounds : (table : Table) (class : Class) (bound limit : ℕ) (skip : Bool) (s : List ℕ) (number len : ℕ)
@@ -23,20 +23,20 @@ pub whole_in_bounds : (table : Table) (class : Class) (bound limit : ℕ) (skip 
 whole_in_bounds table class bound limit skip s number found =
     let both = map_unless_ok (λ x. x) _ _ _ (ap (map_answer (λ x. x)) (sym found)) in
     let P : ℕ → Type 0 = λ n. n ≤ bound in
-    subst P (ap (λ n. value table (take n s)) (digits_read-whole class skip (run_len table s)) ∙ sym both.1)
-    (accepted table class bound limit whole skip s both.0).in_range
+    subst P (sym both.1) (accepted table class bound limit whole skip s both.0).in_range
 
--- a narrow prefix has no limit
+-- the limit of a narrow prefix is its own
 narrow_prefix_limit : (table : Table) (bound limit : ℕ) (skip : Bool) (s : List ℕ)
     → refusal table narrow bound limit prefix skip s ≡ refusal table narrow bound 0 prefix skip s
 unfolding refusal
-narrow_prefix_limit table bound limit skip s = refl
+narrow_prefix_limit table bound limit true s = refl
+narrow_prefix_limit table bound limit false s = refl
 
 -- so it is answered as of a narrow type
 pub narrow_prefix_of : (table : Table) (class : Class) (bound limit : ℕ) (skip : Bool) (s : List ℕ) (found : Result (ℕ × ℕ) Refusal) → class ≡ narrow
     → found ≡ prefix_magnitude table narrow bound 0 skip s → found ≡ prefix_magnitude table class bound limit skip s
 narrow_prefix_of table class bound limit skip s found is answer =
-    rw is (answer ∙ ap (λ r. unless_refused r (value table (take (digits_read narrow prefix skip (run_len table s)) s), digits_read narrow prefix skip (run_len table s))) (sym (narrow_prefix_limit table bound limit skip s)))
+    rw is (answer ∙ ap (λ r. unless_refused r (value table (run table s), run_len table s)) (sym (narrow_prefix_limit table bound limit skip s)))
 
 -- a narrow whole slice has no limit, and it is no matter whether its zeros are skipped
 pub narrow_whole_limit : (table : Table) (bound limit : ℕ) (skip : Bool) (s : List ℕ)
@@ -49,5 +49,5 @@ pub prefix_within : (table : Table) (class : Class) (bound limit : ℕ) (skip : 
     → Ok (number, len) ≡ prefix_magnitude table class bound limit skip s → len ≤ length s
 prefix_within table class bound limit skip s number len found =
     let both = map_unless_ok (λ x. x) _ _ _ (ap (map_answer (λ x. x)) (sym found)) in
-    let count : len ≡ digits_read class prefix skip (run_len table s) = ap (λ (pair : ℕ × ℕ). pair.1) both.1 in
-    omega (arith, digits_read-le class prefix skip (run_len table s), prefix_len-le-length (is_digit table) s)
+    let count : len ≡ run_len table s = ap (λ (pair : ℕ × ℕ). pair.1) both.1 in
+    omega (arith, prefix_len-le-length (is_digit table) s)

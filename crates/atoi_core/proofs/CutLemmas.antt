@@ -43,6 +43,10 @@ module _ (table : Table) where
   pub zeros-take : (n : ℕ) (s : List ℕ) → zeros table (take n s) ≡ min n (zeros table s)
   zeros-take n s = prefix_len-take (is_zero table) n s
 
+  -- the run of the run is all of it
+  pub run_len-run : (s : List ℕ) → run_len table (run table s) ≡ run_len table s
+  run_len-run s = run_len-take (run_len table s) s (omega arith)
+
   -- the zeros are those of the run
   pub zeros-run : (s : List ℕ) → zeros table (run table s) ≡ zeros table s
   zeros-run s = omega (arith, zeros-take (run_len table s) s, zeros-le table s)

@@ -4,16 +4,17 @@ use Rattle.std.specs.Str.Parse.{AllDigits}
 use Rattle.std.proofs.lemmas.Str.Parse.{IsNumeralModel, numerals_by_weight, tells_digits, digit_from_value}
 use Rattle.std.proofs.lemmas.Fmt.{decimal_is_IsNumeral_wide, length-decimal-le_wide}
 use Rattle.atoi_core.specs.Digit.{decimal_table, worth}
-use Rattle.atoi_core.specs.Run.{run_len, run, zeros, value}
-use Rattle.atoi_core.specs.Magnitude.{is_too_long, counting_digits}
+use Rattle.atoi_core.specs.Run.{run_len, run, value}
+use Rattle.atoi_core.specs.Magnitude.{whole, is_above}
 use Rattle.atoi_core.specs.Kind.{Kind, IsSized, class_of, bound_of, limit_of}
 use Rattle.atoi_core.specs.Sign.{Sign, sign_of, number_of}
 use Rattle.atoi_core.specs.Answer.{whole_answer}
 use Rattle.atoi_core.specs.Laws.{sign_in, TextOfValue, SkippingAgrees}
 use Rattle.atoi_core.proofs.CutLemmas.{run_all}
 use Rattle.atoi_core.proofs.SignLemmas.{sign_of_digits}
-use Rattle.atoi_core.proofs.CallLemmas.{whole_call-is, from_whole, to_whole, is_whole, whole_is_run, whole_in_range}
-use Rattle.atoi_core.proofs.LimitLemmas.{shorter, short_enough, bound-limit, bound_below-64}
+use Rattle.atoi_core.proofs.CallLemmas.{whole_call-is, from_whole, to_whole, is_whole, whole_is_run}
+use Rattle.atoi_core.proofs.RefusalLemmas.{limit_at, counting_digits}
+use Rattle.atoi_core.proofs.LimitLemmas.{shorter, short_enough, limit_of_whole, bound-limit, bound_below-64}
 
 -- what is accepted where zeros count is accepted where they are skipped
 whole_skipping : (k : Kind) (minus : Bool) (body : List ℕ) (v : ℤ)
@@ -22,10 +23,11 @@ whole_skipping k minus body v h =
     let found = from_whole k minus false body v h in
     let old = found.0 in
     let n = run_len decimal_table body in
-    let z = zeros decimal_table body in
-    let short = shorter (class_of k) (limit_of k) n (n - z) (omega arith) old.short in
+    let limit = limit_of_whole (class_of k) true (limit_of k) in
+    let fewer : counting_digits decimal_table true body ≤ counting_digits decimal_table false body = omega arith in
+    let short = shorter (limit_at (class_of k) whole true (limit_of k)) _ _ fewer (rw limit old.short) in
     to_whole k minus true body
-    (is_whole k minus true body old.some short (whole_in_range k minus false body old) (whole_is_run n (length body) old.ends))
+    (is_whole k minus true body old.some short old.in_range (whole_is_run n (length body) old.ends))
     ∙ ap Ok (sym found.1)
 
 -- the law: skipping zeros agrees with counting them, where the latter succeeds
@@ -70,12 +72,12 @@ decimal_text n h =
 
 -- the digits of a number in range are not too many, even where zeros count
 decimal_short : (k : Kind) → IsSized k → (minus : Bool) → (minus ≡ true → k.signed ≡ true) → (n : ℕ) → n ≤ bound_of k minus
-    → is_too_long (class_of k) (limit_of k) (length (decimal n)) ≡ false
+    → is_above (limit_at (class_of k) whole false (limit_of k)) (length (decimal n)) ≡ false
 decimal_short k sized minus h n le =
     elim (bound-limit k sized minus h) [
       | inl e ↦ rw e refl
       | inr lt ↦
-          short_enough (class_of k) (limit_of k) (length (decimal n))
+          short_enough (class_of k) false (limit_of k) (length (decimal n))
           (length-decimal-le_wide (limit_of k) n (limit_pos k) (lt_of_le_of_lt le lt) (lt_of_le_of_lt le (bound_below-64 k sized minus)))
     ]
   where
@@ -94,8 +96,9 @@ counting_text k sized minus h n le =
     let text = decimal_text n (lt_of_le_of_lt le (bound_below-64 k sized minus)) in
     let is_run = run_all decimal_table (decimal n) text.all in
     let some : 0 < run_len decimal_table (decimal n) = omega (arith, text.all, text.some) in
-    let short : is_too_long (class_of k) (limit_of k) (counting_digits false (run_len decimal_table (decimal n)) (zeros decimal_table (decimal n))) ≡ false =
-    rw text.all (decimal_short k sized minus h n le)
+    let count : counting_digits decimal_table false (decimal n) ≡ length (decimal n) = omega (arith, text.all) in
+    let short : is_above (limit_at (class_of k) whole false (limit_of k)) (counting_digits decimal_table false (decimal n)) ≡ false =
+    rw count (decimal_short k sized minus h n le)
     in
     let in_range : value decimal_table (run decimal_table (decimal n)) ≤ bound_of k minus = rw (is_run, text.is) le in
     to_whole k minus false (decimal n) (is_whole k minus false (decimal n) some short in_range text.all)

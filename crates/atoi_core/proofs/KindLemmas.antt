@@ -1,21 +1,21 @@
 -- Answers of one kind: what decides the kind, and that neither the rest behind a run nor zeros
 -- before it change it.
-use Rattle.std.proofs.Common.{◌≡◌, ℕ, ◌+◌, ◌<◌, ◌≤◌, Bool, true, not, eqb, ltb, List, [], ◌++◌, length, take, replicate, Option, Some, None, Result, ℤ, option_map, refl, sym, ap, ◌∙◌, subst₂, arith, take-take, take_at, drop_at, length-append, ne_eqb}
+use Rattle.std.proofs.Common.{◌≡◌, ℕ, ◌+◌, ◌-◌, ◌<◌, Bool, true, not, if◌then◌else◌, eqb, ltb, List, [], ◌++◌, length, take, replicate, Option, Some, None, Result, ℤ, option_map, refl, sym, ap, ◌∙◌, subst₂, arith, take_at, drop_at, length-append, ne_eqb}
 use Rattle.std.proofs.lemmas.List.{length-replicate}
 use Rattle.std.proofs.lemmas.Bool.Decides.{nat_tests}
 use Rattle.std.proofs.Math.Seq.{take-add}
 use Rattle.atoi_core.specs.Digit.{decimal_table, is_digit, is_zero}
 use Rattle.atoi_core.specs.Run.{run_len, run, zeros, value}
 use Rattle.atoi_core.specs.Refusal.{Refusal, rank}
-use Rattle.atoi_core.specs.Magnitude.{Extent, whole, prefix, digits_read, counting_digits, is_too_long, leaves_rest, invalid, refusal, unless_refused}
+use Rattle.atoi_core.specs.Magnitude.{Extent, whole, prefix, is_above, leaves_rest, invalid, refusal, unless_refused}
 use Rattle.atoi_core.specs.Kind.{Kind, class_of, bound_of, limit_of}
 use Rattle.atoi_core.specs.Sign.{Sign, number_of}
 use Rattle.atoi_core.specs.Answer.{map_answer, whole_answer, prefix_answer, with_more}
 use Rattle.atoi_core.specs.Laws.{SignForm, sign_in, with_zeros, zero_byte, IsSameKind, RestChangesNothing, ZerosChangeNothing}
 use Rattle.atoi_core.proofs.CutLemmas.{length-run, zeros-run, value-replicate, prefix_len-replicate_append}
-use Rattle.atoi_core.proofs.RefusalLemmas.{refusal-rank, first_of}
+use Rattle.atoi_core.proofs.RefusalLemmas.{refusal-rank, first_of, limit_at, counting_digits}
 use Rattle.atoi_core.proofs.SignLemmas.{sign_again}
-use Rattle.atoi_core.proofs.CallLemmas.{whole_call-is, prefix_call-is, counted_number, digits_read-le, digits_read-skipping, with_more-zero}
+use Rattle.atoi_core.proofs.CallLemmas.{whole_call-is, prefix_call-is, counted_number, with_more-zero}
 
 -- two whole answers are of one kind where the reasons are, and the values are equal
 same_kind : (minus other_minus : Bool) (r q : Option Refusal) (x y : ℕ) → option_map rank r ≡ option_map rank q
@@ -36,24 +36,24 @@ same_prefix_kind more taken other_taken minus other_minus (Some reason) (Some ot
 same_prefix_kind more taken other_taken minus other_minus None (Some other) x y h e c = absurd (cc h)
 same_prefix_kind more taken other_taken minus other_minus (Some reason) None x y h e c = absurd (cc h)
 
--- the reason to refuse a body behind its sign, and the number that is read there
+-- the reason to refuse a body behind its sign
 abbrev reason_at : Kind → Bool → Extent → Sign → Option Refusal
 reason_at k skip extent g = refusal decimal_table (class_of k) (bound_of k g.minus) (limit_of k) extent skip g.body
 
--- how many bytes are read there
-abbrev read_at : Kind → Bool → Extent → Sign → ℕ
-read_at k skip extent g = digits_read (class_of k) extent skip (run_len decimal_table g.body)
+-- the length of its run
+abbrev len_at : Sign → ℕ
+len_at g = run_len decimal_table g.body
 
--- the number that they write
-abbrev number_at : Kind → Bool → Extent → Sign → ℕ
-number_at k skip extent g = value decimal_table (take (read_at k skip extent g) g.body)
+-- the number that its run writes
+abbrev number_at : Sign → ℕ
+number_at g = value decimal_table (run decimal_table g.body)
 
 -- what the four tests are of two bodies that are refused for reasons of one kind, or not at all
 record IsAlike (k : Kind) (skip : Bool) (extent : Extent) (g h : Sign) : Type 0 where
   bound : bound_of k g.minus ≡ bound_of k h.minus
   is_empty : eqb (run_len decimal_table g.body) 0 ≡ eqb (run_len decimal_table h.body) 0
-  counts : counting_digits skip (run_len decimal_table g.body) (zeros decimal_table g.body) ≡ counting_digits skip (run_len decimal_table h.body) (zeros decimal_table h.body)
-  number : number_at k skip extent g ≡ number_at k skip extent h
+  counts : counting_digits decimal_table skip g.body ≡ counting_digits decimal_table skip h.body
+  number : number_at g ≡ number_at h
   followed : leaves_rest extent (run_len decimal_table g.body) (length g.body) ≡ leaves_rest extent (run_len decimal_table h.body) (length h.body)
 
 -- bodies that the tests do not tell apart are refused for reasons of one kind
@@ -61,7 +61,7 @@ same_reason : (k : Kind) (skip : Bool) (extent : Extent) (g h : Sign) → IsAlik
     → option_map rank (reason_at k skip extent g) ≡ option_map rank (reason_at k skip extent h)
 same_reason k skip extent g h alike =
     refusal-rank decimal_table (class_of k) (bound_of k g.minus) (limit_of k) extent skip g.body
-    ∙ (λ i. first_of (alike.is_empty i) (is_too_long (class_of k) (limit_of k) (alike.counts i)) (ltb (alike.bound i) (alike.number i)) (alike.followed i) 0 1 2 (rank (invalid (class_of k) 0 0 [])))
+    ∙ (λ i. first_of (alike.is_empty i) (is_above (limit_at (class_of k) extent skip (limit_of k)) (alike.counts i)) (ltb (alike.bound i) (alike.number i)) (alike.followed i) 0 1 2 (rank (invalid (class_of k) 0 0 [])))
     ∙ sym (refusal-rank decimal_table (class_of k) (bound_of k h.minus) (limit_of k) extent skip h.body)
 
 -- what a call answers that goes by a sign
@@ -80,29 +80,19 @@ same_len s t e = sym (length-run decimal_table s) ∙ ap length e ∙ length-run
 same_zeros : (s t : List ℕ) → run decimal_table s ≡ run decimal_table t → zeros decimal_table s ≡ zeros decimal_table t
 same_zeros s t e = sym (zeros-run decimal_table s) ∙ ap (zeros decimal_table) e ∙ zeros-run decimal_table t
 
--- and the same fronts within the run
-same_front : (n : ℕ) (s t : List ℕ) → run decimal_table s ≡ run decimal_table t → n ≤ run_len decimal_table s → take n s ≡ take n t
-same_front n s t e h =
-    let len = same_len s t e in
-    sym (take-take n (run_len decimal_table s) s h) ∙ ap (take n) e ∙ take-take n (run_len decimal_table t) t (omega arith)
-
 -- two bodies with equal runs, behind the same sign
 same_run : (k : Kind) (skip : Bool) (g h : Sign) → g.minus ≡ h.minus → g.taken ≡ h.taken → run decimal_table g.body ≡ run decimal_table h.body
     → IsSameKind (with_more 0 (prefix_at k skip g)) (prefix_at k skip h)
 same_run k skip g h minus taken runs =
     let len = same_len g.body h.body runs in
     let leading = same_zeros g.body h.body runs in
-    let read : read_at k skip prefix g ≡ read_at k skip prefix h = ap (digits_read (class_of k) prefix skip) len in
-    let number : number_at k skip prefix g ≡ number_at k skip prefix h =
-    ap (value decimal_table) (same_front (read_at k skip prefix g) g.body h.body runs (digits_read-le (class_of k) prefix skip (run_len decimal_table g.body))
-    ∙ ap (λ (n : ℕ). take n h.body) read)
-    in
+    let number : number_at g ≡ number_at h = ap (value decimal_table) runs in
     same_prefix_kind 0 g.taken h.taken g.minus h.minus (reason_at k skip prefix g) (reason_at k skip prefix h)
-    (number_at k skip prefix g, read_at k skip prefix g) (number_at k skip prefix h, read_at k skip prefix h)
+    (number_at g, len_at g) (number_at h, len_at h)
     (same_reason k skip prefix g h (record {
       bound = ap (bound_of k) minus;
       is_empty = ap (λ (n : ℕ). eqb n 0) len;
-      counts = λ i. counting_digits skip (len i) (leading i);
+      counts = λ i. len i - (if skip then leading i else 0);
       number = number;
       followed = refl;
     }))
@@ -147,17 +137,6 @@ value-padded count body =
     ∙ ap (value decimal_table) (sym (take-padded count n body))
     ∙ ap (λ (m : ℕ). value decimal_table (take m (padded count body))) (sym (run_len-padded count body))
 
--- where zeros are skipped, the number is that of the whole run
-number-all : (k : Kind) (extent : Extent) (g : Sign) → number_at k true extent g ≡ value decimal_table (run decimal_table g.body)
-number-all k extent g = ap (λ (m : ℕ). value decimal_table (take m g.body)) (digits_read-skipping (class_of k) extent (run_len decimal_table g.body))
-
--- the number that is read stays
-number-padded : (k : Kind) (extent : Extent) (count : ℕ) (g : Sign)
-    → number_at k true extent g ≡ number_at k true extent (record g { body = padded count g.body })
-number-padded k extent count g =
-    number-all k extent g ∙ value-padded count g.body
-    ∙ sym (number-all k extent (record g { body = padded count g.body }))
-
 -- a test of two numbers stays where both grow alike
 eqb-add : (more m n : ℕ) → eqb m n ≡ eqb (more + m) (more + n)
 eqb-add more m n = grind (arith, nat_tests)
@@ -180,7 +159,7 @@ padded_alike k extent count g some =
       bound = refl;
       is_empty = ne_eqb (run_len decimal_table g.body) 0 (omega arith) ∙ sym (ne_eqb (run_len decimal_table (padded count g.body)) 0 (omega arith));
       counts = omega arith;
-      number = number-padded k extent count g;
+      number = value-padded count g.body;
       followed = followed-padded extent count g.body;
     }
 
@@ -197,7 +176,7 @@ whole_padded : (k : Kind) (g : Sign) (count : ℕ) → 0 < run_len decimal_table
     → IsSameKind (whole_at k true g) (whole_at k true (record g { body = padded count g.body }))
 whole_padded k g count some =
     let h = record g { body = padded count g.body } in
-    same_kind g.minus g.minus (reason_at k true whole g) (reason_at k true whole h) (value decimal_table (run decimal_table g.body)) (value decimal_table (run decimal_table h.body))
+    same_kind g.minus g.minus (reason_at k true whole g) (reason_at k true whole h) (number_at g) (number_at h)
     (same_reason k true whole g h (padded_alike k whole count g some))
     (ap (number_of g.minus) (value-padded count g.body))
 
@@ -206,13 +185,11 @@ prefix_padded : (k : Kind) (g : Sign) (count : ℕ) → 0 < run_len decimal_tabl
     → IsSameKind (with_more count (prefix_at k true g)) (prefix_at k true (record g { body = padded count g.body }))
 prefix_padded k g count some =
     let h = record g { body = padded count g.body } in
-    let shorter = digits_read-skipping (class_of k) prefix (run_len decimal_table g.body) in
-    let longer = digits_read-skipping (class_of k) prefix (run_len decimal_table h.body) in
     let more = run_len-padded count g.body in
     same_prefix_kind count g.taken g.taken g.minus g.minus (reason_at k true prefix g) (reason_at k true prefix h)
-    (number_at k true prefix g, read_at k true prefix g) (number_at k true prefix h, read_at k true prefix h)
+    (number_at g, len_at g) (number_at h, len_at h)
     (same_reason k true prefix g h (padded_alike k prefix count g some))
-    (ap (number_of g.minus) (number-padded k prefix count g)) (omega arith)
+    (ap (number_of g.minus) (value-padded count g.body)) (omega arith)
 
 -- the law: zeros before a body change nothing
 pub zeros_change_nothing : (k : Kind) → ZerosChangeNothing k

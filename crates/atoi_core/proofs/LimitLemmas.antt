@@ -1,24 +1,55 @@
 -- A number in range never has too many digits.
-use Rattle.std.proofs.Common.{◌≡◌, ◌⊎◌, ℕ, ◌+◌, ◌-◌, ◌^◌, ◌<◌, ◌≤◌, Bool, true, false, cond, List, refl, arith, inl, inr, lt_of_le_of_lt, le-ltb, ltb-false}
+use Rattle.std.proofs.Common.{◌≡◌, ◌⊎◌, ℕ, ◌+◌, ◌-◌, ◌^◌, ◌<◌, ◌≤◌, Bool, true, false, cond, eqb, List, Option, Some, None, refl, arith, inl, inr, lt_of_le_of_lt, le-ltb, ltb-false}
 use Rattle.std.proofs.Math.Nat.{pow-le-pow_right}
-use Rattle.std.proofs.lemmas.Bool.{cases_lt}
+use Rattle.std.proofs.lemmas.Bool.{cases_lt, lt-leb}
 use Rattle.atoi_core.specs.Digit.{Table}
 use Rattle.atoi_core.specs.Run.{run_len, run, zeros, value}
-use Rattle.atoi_core.specs.Magnitude.{Class, narrow, wide64, wide128, is_too_long, counting_digits}
+use Rattle.atoi_core.specs.Magnitude.{Class, narrow, wide64, wide128, whole, prefix, is_above}
 use Rattle.atoi_core.specs.Kind.{Kind, IsSized, greatest_of, class_of, bound_of, limit_of}
+use Rattle.atoi_core.specs.Laws.{HasLimitOfWhole}
 use Rattle.atoi_core.proofs.CutLemmas.{value-ge}
+use Rattle.atoi_core.proofs.RefusalLemmas.{limit_at, counting_digits}
 
--- no class finds a count within the limit too long
-pub short_enough : (class : Class) (limit count : ℕ) → count ≤ limit → is_too_long class limit count ≡ false
-short_enough narrow limit count h = refl
-short_enough wide64 limit count h = le-ltb limit count h
-short_enough wide128 limit count h = le-ltb limit count h
+-- no class finds a count of a whole slice within the limit too long
+pub short_enough : (class : Class) (skip : Bool) (limit count : ℕ) → count ≤ limit → is_above (limit_at class whole skip limit) count ≡ false
+short_enough narrow skip limit count h = refl
+short_enough wide64 skip limit count h = le-ltb limit count h
+short_enough wide128 skip limit count h = le-ltb limit count h
 
 -- a shorter count is not too long where a longer is not
-pub shorter : (class : Class) (limit count less : ℕ) → less ≤ count → is_too_long class limit count ≡ false → is_too_long class limit less ≡ false
-shorter narrow limit count less h e = refl
-shorter wide64 limit count less h e = le-ltb limit less (omega (arith, ltb-false limit count e))
-shorter wide128 limit count less h e = le-ltb limit less (omega (arith, ltb-false limit count e))
+pub shorter : (limit : Option ℕ) (count less : ℕ) → less ≤ count → is_above limit count ≡ false → is_above limit less ≡ false
+shorter None count less h e = refl
+shorter (Some limit) count less h e = le-ltb limit less (omega (arith, ltb-false limit count e))
+
+-- a whole slice has one limit, whether its zeros are skipped or not
+pub limit_of_whole : (class : Class) (skip : Bool) (limit : ℕ) → limit_at class whole skip limit ≡ limit_at class whole false limit
+limit_of_whole narrow skip limit = refl
+limit_of_whole wide64 skip limit = refl
+limit_of_whole wide128 skip limit = refl
+
+-- what is not too long for a prefix is not for a whole slice
+pub long_as_whole : (class : Class) (skip : Bool) (limit count : ℕ) → is_above (limit_at class prefix skip limit) count ≡ false
+    → is_above (limit_at class whole skip limit) count ≡ false
+long_as_whole narrow skip limit count h = refl
+long_as_whole wide64 skip limit count h = h
+long_as_whole wide128 skip limit count h = h
+
+-- a prefix has the limit of the whole slice where zeros are skipped, or on a wide type
+pub limit_of_prefix : (k : Kind) (skip : Bool) (limit : ℕ) → HasLimitOfWhole k skip → limit_at (class_of k) prefix skip limit ≡ limit_at (class_of k) whole skip limit
+limit_of_prefix k skip limit h =
+    elim h [
+      | inl e ↦ rw e (skipping (class_of k))
+      | inr lt ↦ rw (lt-leb k.bits 32 lt) (wide (eqb k.bits 64))
+    ]
+  where
+    skipping : (class : Class) → limit_at class prefix true limit ≡ limit_at class whole true limit
+    skipping narrow = refl
+    skipping wide64 = refl
+    skipping wide128 = refl
+
+    wide : (b : Bool) → limit_at (cond b wide64 wide128) prefix skip limit ≡ limit_at (cond b wide64 wide128) whole skip limit
+    wide true = refl
+    wide false = refl
 
 -- a magnitude of that many bits is the greatest of the signed numbers or of the others, or one more
 magnitude_below : (limit bits : ℕ) (signed minus : Bool) → greatest_of bits true + 1 < 10 ^ limit → greatest_of bits false + 1 < 10 ^ limit
@@ -78,9 +109,9 @@ places-le table s limit h =
 -- where zeros are skipped, digits that write a number in range are not too many
 pub in_range_short : (table : Table) (k : Kind) → IsSized k → (minus : Bool) → (minus ≡ true → k.signed ≡ true) → (s : List ℕ)
     → value table (run table s) ≤ bound_of k minus
-    → is_too_long (class_of k) (limit_of k) (counting_digits true (run_len table s) (zeros table s)) ≡ false
+    → is_above (limit_at (class_of k) whole true (limit_of k)) (counting_digits table true s) ≡ false
 in_range_short table k sized minus h s le =
     elim (bound-limit k sized minus h) [
       | inl e ↦ rw e refl
-      | inr lt ↦ short_enough (class_of k) (limit_of k) _ (places-le table s (limit_of k) (lt_of_le_of_lt le lt))
+      | inr lt ↦ short_enough (class_of k) true (limit_of k) _ (places-le table s (limit_of k) (lt_of_le_of_lt le lt))
     ]

@@ -1,20 +1,21 @@
 -- The answers of the narrow class for a front, from the last window behind the zeros that are skipped.
-use Rattle.std.proofs.Common.{◌≡◌, ℕ, ◌+◌, ◌*◌, ◌/◌, ◌^◌, ◌<◌, ◌≤◌, ◌==◌, not, min, Bool, true, false, nat_lt, List, length, take, drop, Some, None, Result, Ok, Err, refl, sym, ap, ◌∙◌, ne_eqb, lit<, inl, inr, arith, if◌then◌else◌}
+use Rattle.std.proofs.Common.{◌≡◌, ℕ, ◌+◌, ◌*◌, ◌/◌, ◌^◌, ◌<◌, ◌≤◌, ◌==◌, min, Bool, true, false, nat_lt, List, length, take, drop, Some, None, Result, Ok, Err, refl, sym, ap, ◌∙◌, lit<, ltb-true, not, ◌&&◌, inl, inr, arith, if◌then◌else◌}
 use Rattle.std.proofs.Math.Nat.{le-mul_of_pos_right, one-le-pow}
 use Rattle.std.proofs.lemmas.Bool.{cases_lt, lt-ltb, le-ltb}
 use Rattle.atoi_core.specs.Digit.{Table}
 use Rattle.atoi_core.specs.Run.{run_len, run, zeros, value}
-use Rattle.atoi_core.specs.Refusal.{Refusal, rank, empty, overflow, invalid64}
-use Rattle.atoi_core.specs.Magnitude.{narrow, prefix, digits_read, dropped_zeros, refusal, unless_refused, whole_magnitude, prefix_magnitude}
+use Rattle.atoi_core.specs.Refusal.{Refusal, rank, empty, size, overflow, invalid64}
+use Rattle.atoi_core.specs.Magnitude.{narrow, prefix, skipped_zeros, rule_of, is_above, refusal, unless_refused, whole_magnitude, prefix_magnitude}
 use Rattle.atoi_core.specs.declared.window.Window.{Window}
+use Rattle.atoi_core.proofs.RefusalLemmas.{limit_at, counting_digits, IsAccepted, refusal-none, refused_size, refused_overflow}
 use Rattle.atoi_core.proofs.SkipLemmas.{Skipped}
 use Rattle.atoi_core.proofs.Magnitudes.{narrow_whole_is}
 
 -- how many zeros the slice of an overflow leaves out
-dropped_is : (t : Table) (skip : Bool) (s : List ℕ) (at before now : ℕ) (w : Window) →
-    Skipped t skip s at before now w → dropped_zeros narrow prefix skip (run_len t s) (zeros t s) ≡ at
-dropped_is t false s at before now w so = sym (so.off refl)
-dropped_is t true s at before now w so =
+dropped_is : (t : Table) (skip : Bool) (limit : ℕ) (s : List ℕ) (at before now : ℕ) (w : Window) →
+    Skipped t skip s at before now w → (rule_of narrow prefix skip limit (run_len t s) (skipped_zeros t skip s)).dropped ≡ at
+dropped_is t false limit s at before now w so = sym (so.off refl)
+dropped_is t true limit s at before now w so =
     elim (cases_lt (zeros t s / 16) (run_len t s / 16)) [
       | inl h ↦
           rw (lt-ltb _ _ h)
@@ -30,24 +31,10 @@ dropped_is t true s at before now w so =
           ])
     ]
 
--- where no zeros are skipped, the window is what is read
-unskipped_len : (t : Table) (s : List ℕ) (at before now : ℕ) (w : Window) → Skipped t false s at before now w →
-    w.len ≡ min (run_len t s) 16
-unskipped_len t s at before now w so = omega (arith, so.off refl, so.run_is, so.shown.len_is)
-
--- and its number is theirs
-unskipped_number : (t : Table) (s : List ℕ) (at before now : ℕ) (w : Window) → Skipped t false s at before now w →
-    w.number ≡ value t (take (min (run_len t s) 16) s)
-unskipped_number t s at before now w so =
-    so.shown.number_is
-    ∙ ap (λ (k : ℕ). value t (take k (drop at s))) (unskipped_len t s at before now w so)
-    ∙ ap (λ (k : ℕ). value t (take (min (run_len t s) 16) (drop k s))) (so.off refl)
-
--- the window's number is no more than that of the digits that are read
+-- the window's number is no more than that of the run
 number_most : (t : Table) (skip : Bool) (s : List ℕ) (at before now : ℕ) (w : Window) →
-    Skipped t skip s at before now w → w.number ≤ value t (take (digits_read narrow prefix skip (run_len t s)) s)
-number_most t false s at before now w so = omega (arith, unskipped_number t s at before now w so)
-number_most t true s at before now w so =
+    Skipped t skip s at before now w → w.number ≤ value t (run t s)
+number_most t skip s at before now w so =
     elim (cases_lt w.len 16) [
       | inl h ↦ omega (arith, so.value_is, so.shown.reads.value_is h)
       | inr h ↦
@@ -58,51 +45,66 @@ number_most t true s at before now w so =
           omega (arith, so.value_is, so.shown.joins full)
     ]
 
--- a number above the bound
-narrow_overflow : (t : Table) (bound limit : ℕ) (skip : Bool) (s : List ℕ) (at before now : ℕ) (w : Window) →
-    Skipped t skip s at before now w → 0 < at + w.len → bound < w.number →
-    Err (overflow (drop at s)) ≡ prefix_magnitude t narrow bound limit skip s
-unfolding refusal
-narrow_overflow t bound limit skip s at before now w so some over =
-    let n : 0 < run_len t s = omega (arith, so.run_is, so.shown.reads.inside) in
-    let most : w.number ≤ value t (take (digits_read narrow prefix skip (run_len t s)) s) = number_most t skip s at before now w so in
-    rw (ne_eqb (run_len t s) 0 (omega arith), lt-ltb bound (value t (take (digits_read narrow prefix skip (run_len t s)) s)) (omega arith))
-    (rw (dropped_is t skip s at before now w so) refl)
+-- up to 16 digits are not too many, nor is any number of them where zeros are skipped
+short : (t : Table) (skip : Bool) (limit : ℕ) (s : List ℕ) → (skip ≡ false → run_len t s ≤ 16)
+    → is_above (limit_at narrow prefix skip limit) (counting_digits t skip s) ≡ false
+short t true limit s few = refl
+short t false limit s few = le-ltb 16 (counting_digits t false s) (omega (arith, few refl))
 
--- a number within the bound has too few digits to fill a window behind the zeros
-narrow_ok : (t : Table) (bound limit : ℕ) (skip : Bool) (s : List ℕ) (at before now : ℕ) (w : Window) →
-    Skipped t skip s at before now w → bound ≤ 4294967295 → 0 < at + w.len → w.number ≤ bound →
-    Ok (w.number, at + w.len) ≡ prefix_magnitude t narrow bound limit skip s
-unfolding refusal
-narrow_ok t bound limit false s at before now w so high some within =
-    let n : 0 < run_len t s = omega (arith, so.run_is, so.shown.reads.inside) in
-    let v : w.number ≡ value t (take (min (run_len t s) 16) s) = unskipped_number t s at before now w so in
-    let l : at + w.len ≡ min (run_len t s) 16 = omega (arith, so.off refl, unskipped_len t s at before now w so) in
-    rw (ne_eqb (run_len t s) 0 (omega arith), le-ltb bound (value t (take (min (run_len t s) 16) s)) (omega arith))
-    (ap (λ (e : ℕ). Ok (e, at + w.len)) v ∙ ap (λ (e : ℕ). Ok (value t (take (min (run_len t s) 16) s), e)) l)
-narrow_ok t bound limit true s at before now w so high some within =
-    let n : 0 < run_len t s = omega (arith, so.run_is, so.shown.reads.inside) in
-    let short : w.len < 16 =
+-- a number of up to 32 bits has too few digits to fill a window behind the zeros
+ends : (t : Table) (skip : Bool) (s : List ℕ) (at before now : ℕ) (w : Window) →
+    Skipped t skip s at before now w → (skip ≡ false → run_len t s ≤ 16) → w.number ≤ 4294967295 → run_len t (drop at s) ≡ w.len
+ends t false s at before now w so few small = omega (arith, few refl, so.off refl, so.run_is, so.shown.len_is)
+ends t true s at before now w so few small =
     elim (cases_lt w.len 16) [
-      | inl h ↦ h
+      | inl h ↦ so.shown.reads.ends h
       | inr h ↦
           let least : 10 ^ 15 ≤ w.number = so.shown.least (omega (arith, so.shown.reads.within)) (lit< tt) (so.last refl) in
           absurd (omega arith)
-    ] in
-    let v : w.number ≡ value t (run t s) = sym (so.value_is ∙ so.shown.reads.value_is short) in
-    let l : at + w.len ≡ run_len t s = omega (arith, so.run_is, so.shown.reads.ends short) in
-    rw (ne_eqb (run_len t s) 0 (omega arith), le-ltb bound (value t (run t s)) (omega arith))
-    (ap (λ (e : ℕ). Ok (e, at + w.len)) v ∙ ap (λ (e : ℕ). Ok (value t (run t s), e)) l)
-
--- both answers of the last window, where there is a digit
-pub narrow_told : (t : Table) (bound limit : ℕ) (skip : Bool) (s : List ℕ) (at before now : ℕ) (w : Window) →
-    Skipped t skip s at before now w → bound ≤ 4294967295 → 0 < at + w.len →
-    (if nat_lt bound w.number then Err (overflow (drop at s)) else Ok (w.number, at + w.len)) ≡ prefix_magnitude t narrow bound limit skip s
-narrow_told t bound limit skip s at before now w so high some =
-    elim (cases_lt bound w.number) [
-      | inl over ↦ rw (lt-ltb bound w.number over) (narrow_overflow t bound limit skip s at before now w so some over)
-      | inr fits ↦ rw (le-ltb bound w.number fits) (narrow_ok t bound limit skip s at before now w so high some fits)
     ]
+
+-- a number above the bound
+narrow_overflow : (t : Table) (bound limit : ℕ) (skip : Bool) (s : List ℕ) (at before now : ℕ) (w : Window) →
+    Skipped t skip s at before now w → (skip ≡ false → run_len t s ≤ 16) → 0 < at + w.len → bound < w.number →
+    Err (overflow (drop at s)) ≡ prefix_magnitude t narrow bound limit skip s
+narrow_overflow t bound limit skip s at before now w so few some over =
+    let digits : 0 < run_len t s = omega (arith, so.run_is, so.shown.reads.inside) in
+    let above : bound < value t (run t s) = omega (arith, number_most t skip s at before now w so) in
+    rw (refused_overflow t narrow bound limit prefix skip s digits (short t skip limit s few) above)
+    (rw (dropped_is t skip limit s at before now w so) refl)
+
+-- a number within the bound
+narrow_ok : (t : Table) (bound limit : ℕ) (skip : Bool) (s : List ℕ) (at before now : ℕ) (w : Window) →
+    Skipped t skip s at before now w → bound ≤ 4294967295 → (skip ≡ false → run_len t s ≤ 16) → 0 < at + w.len → w.number ≤ bound →
+    Ok (w.number, at + w.len) ≡ prefix_magnitude t narrow bound limit skip s
+narrow_ok t bound limit skip s at before now w so high few some within =
+    let rest : run_len t (drop at s) ≡ w.len = ends t skip s at before now w so few (omega arith) in
+    let number : value t (run t s) ≡ w.number =
+    so.value_is ∙ ap (λ (n : ℕ). value t (take n (drop at s))) rest ∙ sym so.shown.number_is in
+    let len : run_len t s ≡ at + w.len = omega (arith, so.run_is) in
+    let accepted : IsAccepted t narrow bound limit prefix skip s =
+    record { some = omega arith; short = short t skip limit s few; in_range = omega arith; ends = refl } in
+    rw (refusal-none t narrow bound limit prefix skip s accepted, number, len) refl
+
+-- both answers of the last window, where there is a digit, and where zeros count at most 16 digits
+pub narrow_told : (t : Table) (bound limit : ℕ) (skip : Bool) (s : List ℕ) (at before now : ℕ) (w : Window) →
+    Skipped t skip s at before now w → bound ≤ 4294967295 → (skip ≡ false → run_len t s ≤ 16) → 0 < at + w.len →
+    (if nat_lt bound w.number then Err (overflow (drop at s)) else Ok (w.number, at + w.len)) ≡ prefix_magnitude t narrow bound limit skip s
+narrow_told t bound limit skip s at before now w so high few some =
+    elim (cases_lt bound w.number) [
+      | inl over ↦ rw (lt-ltb bound w.number over) (narrow_overflow t bound limit skip s at before now w so few some over)
+      | inr fits ↦ rw (le-ltb bound w.number fits) (narrow_ok t bound limit skip s at before now w so high few some fits)
+    ]
+
+-- where zeros count, more than 16 digits are too many
+pub narrow_size : (t : Table) (bound limit : ℕ) (skip : Bool) (s : List ℕ) → true ≡ (not skip && nat_lt 16 (run_len t s)) →
+    Err (size 17 s) ≡ prefix_magnitude t narrow bound limit skip s
+narrow_size t bound limit true s long = absurd (cc long)
+narrow_size t bound limit false s long =
+    let many : 16 < run_len t s = ltb-true 16 (run_len t s) (sym long) in
+    let too_long = lt-ltb 16 (counting_digits t false s) (omega arith) in
+    let told : 0 + min (counting_digits t false s) 17 ≡ 17 = omega arith in
+    rw (refused_size t narrow bound limit prefix false s (omega arith) too_long) (rw told refl)
 
 -- a narrow whole slice is answered by its front where zeros are skipped: an overflow holds the whole
 -- slice, and a front that ends before the slice is invalid
@@ -124,7 +126,7 @@ last_of_three s rest false false v n =
 narrow_front_is : (t : Table) (bound limit : ℕ) (s : List ℕ)
     → prefix_magnitude t narrow bound limit true s
     ≡ unless_refused (if run_len t s == 0 then Some empty
-    else (if nat_lt bound (value t (run t s)) then Some (overflow (drop (dropped_zeros narrow prefix true (run_len t s) (zeros t s)) s)) else None))
+    else (if nat_lt bound (value t (run t s)) then Some (overflow (drop (rule_of narrow prefix true limit (run_len t s) (zeros t s)).dropped s)) else None))
     (value t (run t s), run_len t s)
 unfolding refusal
 narrow_front_is t bound limit s = refl

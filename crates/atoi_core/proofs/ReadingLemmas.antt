@@ -6,8 +6,8 @@ use Rattle.std.proofs.lemmas.List.Sums.{prefix_len-le-length}
 use Rattle.atoi_core.specs.Digit.{Table, IsBelowTen, is_digit, is_zero}
 use Rattle.atoi_core.specs.Run.{run_len, run, zeros, value}
 use Rattle.atoi_core.specs.Refusal.{Refusal, empty, size, overflow}
-use Rattle.atoi_core.specs.Magnitude.{Class, narrow, wide64, wide128, refusal, cap, counting_digits, unless_refused, prefix_magnitude}
-use Rattle.atoi_core.specs.Reading.{Reading, IsSkipped, answer_by_digits}
+use Rattle.atoi_core.specs.Magnitude.{Class, narrow, wide64, wide128, skipped_zeros, refusal, unless_refused, prefix_magnitude}
+use Rattle.atoi_core.specs.Reading.{Reading, IsSkipped, counting_digits, cap, answer_by_digits}
 use Rattle.atoi_core.proofs.RunLemmas.{prefix_len-take, prefix_len-drop, zeros-le}
 use Rattle.atoi_core.proofs.ValueLemmas.{value-below, value-take-add, value-drop_zeros}
 
@@ -85,39 +85,41 @@ first_refusal false false true p q r v = refl
 first_refusal false false false p q r v = refl
 
 -- so the tests answer
-by_tests-refusal : (class : Class) (bound limit n c v : ℕ) (s : List ℕ)
-    → unless_refused (cond (eqb n 0) (Some empty) (cond (ltb limit c) (Some (size (n - c + min c (cap class)) (drop (n - c) s)))
-    (cond (ltb bound v) (Some (overflow (drop (n - c) s))) None))) (v, n) ≡ by_tests class bound limit n (n - c) c v s
-by_tests-refusal class bound limit n c v s =
-    first_refusal (eqb n 0) (ltb limit c) (ltb bound v) empty (size (n - c + min c (cap class)) (drop (n - c) s)) (overflow (drop (n - c) s)) (v, n)
+by_tests-refusal : (class : Class) (bound limit n k v : ℕ) (s : List ℕ)
+    → unless_refused (cond (eqb n 0) (Some empty) (cond (ltb limit (n - k)) (Some (size (k + min (n - k) (cap class)) (drop k s)))
+    (cond (ltb bound v) (Some (overflow (drop k s))) None))) (v, n) ≡ by_tests class bound limit n k (n - k) v s
+by_tests-refusal class bound limit n k v s =
+    first_refusal (eqb n 0) (ltb limit (n - k)) (ltb bound v) empty (size (k + min (n - k) (cap class)) (drop k s)) (overflow (drop k s)) (v, n)
 
--- no more digits count than there are
-counting-le : (skip : Bool) (n z : ℕ) → counting_digits skip n z ≤ n
-counting-le true n z = omega arith
-counting-le false n z = omega arith
+-- no more digits count than there are, and the others are skipped
+counting-parts : (skip : Bool) (n z : ℕ) → z ≤ n → (counting_digits skip n z ≤ n) × (cond skip z 0 ≡ n - counting_digits skip n z)
+counting-parts true n z within = (omega arith, omega arith)
+counting-parts false n z within = (omega arith, omega arith)
 
 -- the answer of a wide class by all digits of the slice
-by_tests-all : (t : Table) (class : Class) (bound limit : ℕ) (skip : Bool) (s : List ℕ) (counting : ℕ) → limit < cap class
-    → counting ≡ counting_digits skip (run_len t s) (zeros t s)
-    → prefix_magnitude t class bound limit skip s ≡ by_tests class bound limit (run_len t s) (run_len t s - counting) counting (value t (run t s)) s
+by_tests-all : (t : Table) (class : Class) (bound limit : ℕ) (skip : Bool) (s : List ℕ) → limit < cap class
+    → prefix_magnitude t class bound limit skip s
+    ≡ by_tests class bound limit (run_len t s) (skipped_zeros t skip s) (run_len t s - skipped_zeros t skip s) (value t (run t s)) s
 unfolding refusal
-by_tests-all t narrow bound limit skip s counting less e = absurd (omega arith)
-by_tests-all t wide64 bound limit skip s counting less e =
-    by_tests-refusal wide64 bound limit (run_len t s) (counting_digits skip (run_len t s) (zeros t s)) (value t (run t s)) s
-    ∙ ap (λ (n : ℕ). by_tests wide64 bound limit (run_len t s) (run_len t s - n) n (value t (run t s)) s) (sym e)
-by_tests-all t wide128 bound limit skip s counting less e =
-    by_tests-refusal wide128 bound limit (run_len t s) (counting_digits skip (run_len t s) (zeros t s)) (value t (run t s)) s
-    ∙ ap (λ (n : ℕ). by_tests wide128 bound limit (run_len t s) (run_len t s - n) n (value t (run t s)) s) (sym e)
+by_tests-all t narrow bound limit skip s less = absurd (omega arith)
+by_tests-all t wide64 bound limit skip s less = by_tests-refusal wide64 bound limit (run_len t s) (skipped_zeros t skip s) (value t (run t s)) s
+by_tests-all t wide128 bound limit skip s less = by_tests-refusal wide128 bound limit (run_len t s) (skipped_zeros t skip s) (value t (run t s)) s
 
 -- and with the zeros and the digits that count told apart
 by_all_digits : (t : Table) (class : Class) (bound limit : ℕ) (skip : Bool) (s : List ℕ) (skipped counting : ℕ) → limit < cap class
     → counting ≡ counting_digits skip (run_len t s) (zeros t s) → skipped ≡ run_len t s - counting
     → prefix_magnitude t class bound limit skip s ≡ answer_by_digits class bound limit skipped counting (value t (run t s)) s
 by_all_digits t class bound limit skip s skipped counting less e d =
-    let total : run_len t s ≡ skipped + counting = omega (arith, counting-le skip (run_len t s) (zeros t s)) in
-    by_tests-all t class bound limit skip s counting less e
-    ∙ ap (λ (n : ℕ). by_tests class bound limit (run_len t s) n counting (value t (run t s)) s) (sym d)
-    ∙ ap (λ (n : ℕ). by_tests class bound limit n skipped counting (value t (run t s)) s) total
+    let n : ℕ = run_len t s in
+    let v : ℕ = value t (run t s) in
+    let parts = counting-parts skip n (zeros t s) (zeros-le t s) in
+    let zeros_are : skipped_zeros t skip s ≡ skipped = omega (arith, parts.0, parts.1) in
+    let total : n ≡ skipped + counting = omega (arith, parts.0) in
+    let others_are : n - skipped ≡ counting = omega arith in
+    by_tests-all t class bound limit skip s less
+    ∙ ap (λ (k : ℕ). by_tests class bound limit n k (n - k) v s) zeros_are
+    ∙ ap (λ (c : ℕ). by_tests class bound limit n skipped c v s) others_are
+    ∙ ap (λ (m : ℕ). by_tests class bound limit m skipped counting v s) total
 
 -- as many digits as a size tells are too many, whatever they write
 by_many_digits : (class : Class) (bound limit skipped counting number : ℕ) (s : List ℕ) → limit < cap class → cap class ≤ counting

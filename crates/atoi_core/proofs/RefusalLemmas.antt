@@ -1,11 +1,11 @@
 -- Where a body is refused, and why: the cases of `refusal`, each as a fact.
-use Rattle.std.proofs.Common.{◌≡◌, ℕ, ◌+◌, ◌-◌, ◌<◌, ◌≤◌, min, Bool, true, false, cond, eqb, ltb, List, [], length, take, drop, subst, Option, Some, None, option_map, refl, sym, ap, ◌∙◌, arith, ltb-false, le-ltb, ne_eqb}
+use Rattle.std.proofs.Common.{◌≡◌, ℕ, ◌+◌, ◌-◌, ◌<◌, ◌≤◌, min, Bool, true, false, cond, eqb, ltb, List, [], length, drop, subst, Option, Some, None, option_map, refl, sym, ap, ◌∙◌, arith, ltb-false, le-ltb, ne_eqb}
 use Rattle.std.proofs.lemmas.Bool.{eqb-false, eq-eqb, lt-ltb}
 use Rattle.std.proofs.Math.Seq.{drop-length}
 use Rattle.atoi_core.specs.Digit.{Table}
-use Rattle.atoi_core.specs.Run.{run_len, zeros, value}
+use Rattle.atoi_core.specs.Run.{run_len, run, value}
 use Rattle.atoi_core.specs.Refusal.{Refusal, empty, size, overflow, rank, input_of}
-use Rattle.atoi_core.specs.Magnitude.{Class, narrow, wide64, wide128, Extent, refusal, counting_digits, digits_read, dropped_zeros, is_too_long, leaves_rest, cap, invalid}
+use Rattle.atoi_core.specs.Magnitude.{Class, narrow, wide64, wide128, Extent, whole, prefix, skipped_zeros, Rule, rule_of, is_above, leaves_rest, invalid, refusal}
 
 -- the first of four whose test holds
 abbrev pub first_of : {A : Type 0} → (a b c d : Bool) → (p q r s : A) → Option A
@@ -38,11 +38,27 @@ first_map false false true d p q r s = refl
 first_map false false false true p q r s = refl
 first_map false false false false p q r s = refl
 
+-- the limit of a class, extent and flag, which no digits change
+abbrev pub limit_at : Class → Extent → Bool → ℕ → Option ℕ
+limit_at class extent skip limit = (rule_of class extent skip limit 0 0).limit
+
+-- it is that of every rule
+limit-is : (class : Class) (extent : Extent) (skip : Bool) (limit digits skipped : ℕ) → (rule_of class extent skip limit digits skipped).limit ≡ limit_at class extent skip limit
+limit-is narrow whole skip limit digits skipped = refl
+limit-is narrow prefix true limit digits skipped = refl
+limit-is narrow prefix false limit digits skipped = refl
+limit-is wide64 extent skip limit digits skipped = refl
+limit-is wide128 extent skip limit digits skipped = refl
+
+-- how many digits of a body count
+abbrev pub counting_digits : Table → Bool → List ℕ → ℕ
+counting_digits table skip body = run_len table body - skipped_zeros table skip body
+
 -- nothing is to be refused of the body
 pub record IsAccepted (table : Table) (class : Class) (bound limit : ℕ) (extent : Extent) (skip : Bool) (body : List ℕ) : Type 0 where
   pub some : 0 < run_len table body
-  pub short : is_too_long class limit (counting_digits skip (run_len table body) (zeros table body)) ≡ false
-  pub in_range : value table (take (digits_read class extent skip (run_len table body)) body) ≤ bound
+  pub short : is_above (limit_at class extent skip limit) (counting_digits table skip body) ≡ false
+  pub in_range : value table (run table body) ≤ bound
   pub ends : leaves_rest extent (run_len table body) (length body) ≡ false
 
 -- the rank of `invalid` is that of its class
@@ -64,37 +80,39 @@ module _ (table : Table) (class : Class) (bound limit : ℕ) (extent : Extent) (
 
   -- too many digits count
   abbrev pub is_long : Bool
-  is_long = is_too_long class limit (counting_digits skip (run_len table body) (zeros table body))
+  is_long = is_above (limit_at class extent skip limit) (counting_digits table skip body)
 
   -- the value is above the bound
   abbrev pub is_over : Bool
-  is_over = ltb bound (value table (take (digits_read class extent skip (run_len table body)) body))
+  is_over = ltb bound (value table (run table body))
 
   -- bytes stand behind the digits of a whole slice
   abbrev pub is_followed : Bool
   is_followed = leaves_rest extent (run_len table body) (length body)
 
-  -- the reasons that they stand for
-  abbrev pub digits_left : ℕ
-  digits_left = run_len table body - counting_digits skip (run_len table body) (zeros table body)
+  -- the rule that the reasons go by
+  abbrev pub rule : Rule
+  rule = rule_of class extent skip limit (run_len table body) (skipped_zeros table skip body)
 
   -- too many digits, with how many there are
   abbrev pub too_long : Refusal
-  too_long = size (digits_left + min (counting_digits skip (run_len table body) (zeros table body)) (cap class)) (drop digits_left body)
+  too_long = size (skipped_zeros table skip body + min (counting_digits table skip body) rule.cap) (drop (skipped_zeros table skip body) body)
 
   -- a value above the bound
   abbrev pub over : Refusal
-  over = overflow (drop (dropped_zeros class extent skip (run_len table body) (zeros table body)) body)
+  over = overflow (drop rule.dropped body)
 
   -- a byte behind the digits
   abbrev followed : Refusal
-  followed = invalid class (value table (take (digits_read class extent skip (run_len table body)) body)) (run_len table body) body
+  followed = invalid class (value table (run table body)) (run_len table body) body
 
   -- the refusal is the first reason whose test holds
   refusal-is : refusal table class bound limit extent skip body
       ≡ first_of is_empty is_long is_over is_followed empty too_long over followed
   unfolding refusal
-  refusal-is = refl
+  refusal-is =
+      ap (λ most. first_of is_empty (is_above most (counting_digits table skip body)) is_over is_followed empty too_long over followed)
+      (limit-is class extent skip limit (run_len table body) (skipped_zeros table skip body))
 
   -- no digit
   pub refused_empty : run_len table body ≡ 0 → refusal table class bound limit extent skip body ≡ Some empty
@@ -110,11 +128,11 @@ module _ (table : Table) (class : Class) (bound limit : ℕ) (extent : Extent) (
 
   -- a value above the bound
   pub refused_overflow : 0 < run_len table body → is_long ≡ false
-      → bound < value table (take (digits_read class extent skip (run_len table body)) body)
+      → bound < value table (run table body)
       → refusal table class bound limit extent skip body ≡ Some over
   refused_overflow some short above =
       let e : is_empty ≡ false = ne_eqb (run_len table body) 0 (omega arith) in
-      let o : is_over ≡ true = lt-ltb bound (value table (take (digits_read class extent skip (run_len table body)) body)) above in
+      let o : is_over ≡ true = lt-ltb bound (value table (run table body)) above in
       refusal-is ∙ rw (e, short, o) refl
 
   -- what is accepted is not refused
@@ -122,7 +140,7 @@ module _ (table : Table) (class : Class) (bound limit : ℕ) (extent : Extent) (
   refusal-none h =
       let e : is_empty ≡ false = ne_eqb (run_len table body) 0 (omega arith) in
       let l : is_long ≡ false = h.short in
-      let o : is_over ≡ false = le-ltb bound (value table (take (digits_read class extent skip (run_len table body)) body)) h.in_range in
+      let o : is_over ≡ false = le-ltb bound (value table (run table body)) h.in_range in
       let f : is_followed ≡ false = h.ends in
       refusal-is ∙ rw (e, l, o, f) refl
 
@@ -142,8 +160,7 @@ module _ (table : Table) (class : Class) (bound limit : ℕ) (extent : Extent) (
       → (n : ℕ) × (input_of reason ≡ drop n body)
   refusal-input reason h =
       first_some (λ r. (n : ℕ) × (input_of r ≡ drop n body)) is_empty is_long is_over is_followed empty too_long over followed
-      (length body, sym (drop-length body)) (digits_left, refl)
-      (dropped_zeros class extent skip (run_len table body) (zeros table body), refl)
+      (length body, sym (drop-length body)) (skipped_zeros table skip body, refl) (rule.dropped, refl)
       (0, input-invalid class _ _ body)
       reason (sym refusal-is ∙ h)
 

@@ -1,12 +1,14 @@
 -- The loop that skips zeros by whole windows: how far it comes, and how many windows it loads.
-use Rattle.std.proofs.Common.{◌≡◌, ℕ, ◌+◌, ◌-◌, ◌*◌, ◌/◌, ◌<◌, ◌≤◌, ◌⊎◌, min, Bool, true, false, List, length, take, drop, IsTrue, refl, sym, ap, ◌∙◌, inl, inr, subst, arith}
+use Rattle.std.proofs.Common.{◌≡◌, ℕ, ◌+◌, ◌-◌, ◌*◌, ◌/◌, ◌<◌, ◌≤◌, ◌⊎◌, ◌||◌, nat_lt, if◌then◌else◌, min, Bool, true, false, List, length, take, drop, IsTrue, refl, sym, ap, ◌∙◌, inl, inr, subst, arith}
 use Rattle.std.proofs.lemmas.Bool.{cases_lt, false≢true}
+use Rattle.std.proofs.lemmas.Bool.Decides.{nat_tests}
 use Rattle.std.proofs.lemmas.List.{take_rest}
 use Rattle.std.proofs.lemmas.List.Sums.{prefix_len-le-length}
 use Rattle.atoi_core.specs.Digit.{Table, IsBelowTen, is_digit, is_zero}
 use Rattle.atoi_core.specs.Run.{run_len, run, zeros, value}
 use Rattle.atoi_core.specs.Window.{window_of}
-use Rattle.atoi_core.specs.Loads.{LoadsWithin}
+use Rattle.atoi_core.specs.Loads.{LoadsWithin, most_loads}
+use Rattle.atoi_core.specs.Magnitude.{narrow}
 use Rattle.atoi_core.specs.declared.window.Window.{Window}
 use Rattle.atoi_core.proofs.RunLemmas.{prefix_len-drop, zeros-le}
 use Rattle.atoi_core.proofs.ValueLemmas.{value-drop_zeros}
@@ -134,6 +136,20 @@ Skipped-loads t skip s at before now w most last so more counted bounded = recor
   at_most = omega (arith, so.most);
   at_least = λ _. omega (arith, so.more);
   at_least_skipping = λ on. omega (arith, so.least on);
+}
+
+-- a first window is all that is loaded, and where zeros count and it is full one more
+pub Skipped-one : (t : Table) (skip : Bool) (s : List ℕ) (at before now last : ℕ) {w : Window} → Skipped t skip s at before now w →
+    now ≡ before + 1 → last ≡ now + (if skip || nat_lt (run_len t s) 16 then 0 else 1) → LoadsWithin (most_loads t narrow s) t skip s before last
+Skipped-one t true s at before now last so one counted = record {
+  at_most = omega arith;
+  at_least = λ _. omega arith;
+  at_least_skipping = λ on. omega (arith, so.least on);
+}
+Skipped-one t false s at before now last so one counted = record {
+  at_most = grind (arith, nat_tests);
+  at_least = λ _. grind (arith, nat_tests);
+  at_least_skipping = λ on. absurd (cc on);
 }
 
 -- the zeros that a first window tells are skipped

@@ -10,7 +10,7 @@ use Rattle.atoi_core.specs.Text.{SignMark, no_sign, plus, minus, sign_bytes, is_
 use Rattle.atoi_core.specs.Laws.{AcceptedTexts}
 use Rattle.atoi_core.proofs.CutLemmas.{all_digits, digits_all, run_all}
 use Rattle.atoi_core.proofs.SignLemmas.{sign_cases, sign_of_digits}
-use Rattle.atoi_core.proofs.CallLemmas.{from_whole, to_whole, whole_is_run, is_whole, whole_in_range}
+use Rattle.atoi_core.proofs.CallLemmas.{from_whole, to_whole, whole_is_run, is_whole}
 use Rattle.atoi_core.proofs.LimitLemmas.{in_range_short}
 
 -- a slice as the sign that is taken from it, and its body
@@ -58,7 +58,7 @@ text_of_ok k s h =
       signed = parts.allowed;
       some = omega (arith, body_is.some);
       all = digits_all decimal_table g.body all;
-      in_range = rw parts.same (rw is_run at (whole_in_range k g.minus true g.body body_is));
+      in_range = rw parts.same (rw is_run at body_is.in_range);
     }
 
 -- a text is accepted, and its number is the value

@@ -1,10 +1,10 @@
 -- The answer for a whole slice of a wide class, from the answer for its front.
-use Rattle.std.proofs.Common.{◌≡◌, ◌≢◌, ℕ, ◌==◌, Bool, true, false, not, List, length, Some, None, Result, Ok, Err, refl, sym, ap, ◌∙◌, arith, if◌then◌else◌}
+use Rattle.std.proofs.Common.{◌≡◌, ◌≢◌, ℕ, ◌==◌, Bool, true, false, not, List, length, Some, None, Result, Ok, Err, refl, sym, ap, ◌∙◌, if◌then◌else◌}
 use Rattle.std.proofs.lemmas.Bool.{eq-eqb, ne_eqb}
 use Rattle.atoi_core.specs.Digit.{Table}
 use Rattle.atoi_core.specs.Run.{run_len, run, value}
 use Rattle.atoi_core.specs.Refusal.{Refusal, empty, invalid64, invalid128}
-use Rattle.atoi_core.specs.Magnitude.{Class, narrow, wide64, wide128, prefix, invalid, refusal, unless_refused, whole_magnitude, prefix_magnitude}
+use Rattle.atoi_core.specs.Magnitude.{Class, narrow, wide64, wide128, whole, prefix, Rule, invalid, refusal, unless_refused, whole_magnitude, prefix_magnitude}
 use Rattle.atoi_core.proofs.RefusalLemmas.{is_empty, is_long, is_over, too_long, over}
 use Rattle.atoi_core.proofs.WideLemmas.{IsWide}
 
@@ -29,7 +29,7 @@ last_reason invalid s false false false none long above v n =
 whole_is : (t : Table) (class : Class) (bound limit : ℕ) (skip : Bool) (s : List ℕ) → IsWide class
     → whole_magnitude t class bound limit skip s ≡ whole_of (invalid class) s (prefix_magnitude t class bound limit skip s)
 unfolding refusal
-whole_is t narrow bound limit skip s wide = absurd (omega (arith, wide.reads false 17))
+whole_is t narrow bound limit skip s wide = absurd (cc (ap (λ (rule : Rule). rule.limit) (wide.rule whole skip 0 0 0)))
 whole_is t wide64 bound limit skip s wide =
     last_reason invalid64 s (is_empty t wide64 bound limit prefix skip s) (is_long t wide64 bound limit prefix skip s) (is_over t wide64 bound limit prefix skip s)
     empty (too_long t wide64 bound limit prefix skip s) (over t wide64 bound limit prefix skip s) (value t (run t s)) (run_len t s)

@@ -1,32 +1,34 @@
 -- The answers of a wide class, from what was read behind the zeros that are skipped.
-use Rattle.std.proofs.Common.{◌≡◌, ℕ, ◌+◌, ◌-◌, ◌*◌, ◌^◌, ◌<◌, ◌≤◌, min, Bool, true, false, nat_lt, List, take, drop, Option, Some, None, Ok, Err, refl, sym, ◌∙◌, lit<, inl, inr, arith, if◌then◌else◌}
+use Rattle.std.proofs.Common.{◌≡◌, ℕ, ◌+◌, ◌-◌, ◌*◌, ◌^◌, ◌<◌, ◌≤◌, min, Bool, true, false, nat_lt, List, drop, Option, Some, None, Ok, Err, refl, sym, ap, ◌∙◌, lit<, inl, inr, arith, le-ltb, if◌then◌else◌}
 use Rattle.std.proofs.Math.Nat.{pow-le-pow_right}
 use Rattle.std.proofs.lemmas.Bool.Decides.{nat_tests}
 use Rattle.std.proofs.lemmas.Bool.{cases_lt, lt-ltb}
 use Rattle.atoi_core.specs.Digit.{Table}
-use Rattle.atoi_core.specs.Run.{run_len, run, zeros, value}
+use Rattle.atoi_core.specs.Run.{run_len, run, value}
 use Rattle.atoi_core.specs.Refusal.{empty, size, overflow}
-use Rattle.atoi_core.specs.Magnitude.{Class, wide64, wide128, prefix, counting_digits, digits_read, dropped_zeros, is_too_long, cap, HasDigits, prefix_magnitude}
+use Rattle.atoi_core.specs.Magnitude.{Class, wide64, wide128, Extent, prefix, skipped_zeros, Rule, rule_of, is_above, HasDigits, prefix_magnitude}
 use Rattle.atoi_core.specs.declared.window.Window.{Window}
-use Rattle.atoi_core.proofs.RefusalLemmas.{IsAccepted, refusal-none, refused_empty, refused_size, refused_overflow}
-use Rattle.atoi_core.proofs.LimitLemmas.{short_enough}
+use Rattle.atoi_core.proofs.RefusalLemmas.{limit_at, counting_digits, IsAccepted, refusal-none, refused_empty, refused_size, refused_overflow}
 use Rattle.atoi_core.proofs.WindowLemmas.{Reads, Shows, Reads-join, Reads-widen}
 use Rattle.atoi_core.proofs.SkipLemmas.{Skipped}
 
--- what the two wide classes have in common: all digits are read, and zeros that are skipped count
--- neither against the limit nor for the slice
+-- the cap of a class
+abbrev pub cap : Class → ℕ
+cap class = (rule_of class prefix false 0 0 0).cap
+
+-- what the two wide classes have in common: the limit is handed in, and zeros that are skipped count
+-- neither against it nor for the slice
 pub record IsWide (class : Class) : Type 0 where
-  pub reads : (skip : Bool) (n : ℕ) → digits_read class prefix skip n ≡ n
-  pub long : (limit n : ℕ) → is_too_long class limit n ≡ nat_lt limit n
-  pub drops : (skip : Bool) (n z : ℕ) → dropped_zeros class prefix skip n z ≡ n - counting_digits skip n z
+  pub rule : (extent : Extent) (skip : Bool) (limit digits skipped : ℕ)
+      → rule_of class extent skip limit digits skipped ≡ record { limit = Some limit; cap = cap class; dropped = skipped }
 
 -- the class of 64 bits
 pub wide_64 : IsWide wide64
-wide_64 = record { reads = λ skip n. refl; long = λ limit n. refl; drops = λ skip n z. refl }
+wide_64 = record { rule = λ extent skip limit digits skipped. refl }
 
 -- the class of 128 bits
 pub wide_128 : IsWide wide128
-wide_128 = record { reads = λ skip n. refl; long = λ limit n. refl; drops = λ skip n z. refl }
+wide_128 = record { rule = λ extent skip limit digits skipped. refl }
 
 -- a number that is there where it is within the bound
 pub some_within : (bound x n : ℕ) (found : Option ℕ) → found ≡ Some n → found ≡ (if nat_lt bound x then None else Some x) → (n ≡ x) × (x ≤ bound)
@@ -42,17 +44,25 @@ below_bound limit bound m x digits short below =
     let most : 10 ^ m ≤ 10 ^ (limit - 1) = pow-le-pow_right (lit< tt) (omega arith) in
     omega (arith, digits.0)
 
--- without zeros that could be skipped, all digits from there on count
-counting_digits-is : (t : Table) (skip : Bool) (s : List ℕ) (at before now : ℕ) (w : Window) → Skipped t skip s at before now w →
-    16 ≤ w.len → counting_digits skip (run_len t s) (zeros t s) ≡ run_len t (drop at s)
-counting_digits-is t true s at before now w so full = omega (arith, so.full refl (omega (arith, so.shown.reads.within)), so.run_is)
-counting_digits-is t false s at before now w so full = omega (arith, so.off refl, so.run_is)
+-- a full window begins behind the zeros that are skipped
+skipped-is : (t : Table) (skip : Bool) (s : List ℕ) (at before now : ℕ) (w : Window) → Skipped t skip s at before now w →
+    16 ≤ w.len → skipped_zeros t skip s ≡ at
+skipped-is t true s at before now w so full = sym (so.full refl (omega (arith, so.shown.reads.within)))
+skipped-is t false s at before now w so full = sym (so.off refl)
 
--- fewer than 16 count where the last window is not full
+-- no more count than from the last window on
 counted_most : (t : Table) (skip : Bool) (s : List ℕ) (at before now : ℕ) (w : Window) → Skipped t skip s at before now w →
-    counting_digits skip (run_len t s) (zeros t s) ≤ run_len t (drop at s)
+    counting_digits t skip s ≤ run_len t (drop at s)
 counted_most t true s at before now w so = omega (arith, so.run_is, so.zeros_are)
 counted_most t false s at before now w so = omega (arith, so.off refl, so.run_is)
+
+-- the limit of a wide class is the one handed in
+is_above-wide : (class : Class) (skip : Bool) (limit count : ℕ) → IsWide class → is_above (limit_at class prefix skip limit) count ≡ nat_lt limit count
+is_above-wide class skip limit count wide = ap (λ (rule : Rule). is_above rule.limit count) (wide.rule prefix skip limit 0 0)
+
+-- a count within it
+within_limit : (class : Class) (skip : Bool) (limit count : ℕ) → IsWide class → count ≤ limit → is_above (limit_at class prefix skip limit) count ≡ false
+within_limit class skip limit count wide h = is_above-wide class skip limit count wide ∙ le-ltb limit count h
 
 -- no digit at all, in any class
 pub answers_empty : (t : Table) (class : Class) (bound limit : ℕ) (skip : Bool) (s : List ℕ) (at before now : ℕ) (w : Window) →
@@ -62,13 +72,12 @@ answers_empty t class bound limit skip s at before now w so none =
 
 -- a number that is neither too long nor above the bound
 answers_value : (t : Table) (class : Class) (bound limit : ℕ) (skip : Bool) (s : List ℕ) (n v : ℕ) → IsWide class →
-    run_len t s ≡ n → value t (run t s) ≡ v → 0 < n → counting_digits skip (run_len t s) (zeros t s) ≤ limit → v ≤ bound →
+    run_len t s ≡ n → value t (run t s) ≡ v → 0 < n → counting_digits t skip s ≤ limit → v ≤ bound →
     Ok (v, n) ≡ prefix_magnitude t class bound limit skip s
 answers_value t class bound limit skip s n v wide n_is v_is some fits within =
-    let all = wide.reads skip (run_len t s) in
     let accepted : IsAccepted t class bound limit prefix skip s =
-    record { some = omega arith; short = short_enough class limit _ fits; in_range = rw all (omega arith); ends = refl } in
-    rw (refusal-none t class bound limit prefix skip s accepted, all, v_is, n_is) refl
+    record { some = omega arith; short = within_limit class skip limit _ wide fits; in_range = omega arith; ends = refl } in
+    rw (refusal-none t class bound limit prefix skip s accepted, v_is, n_is) refl
 
 -- the last window is not full: it holds the rest of the run, which is too short to pass the bound
 pub answers_short : (t : Table) (class : Class) (bound limit : ℕ) (skip : Bool) (s : List ℕ) (at before now : ℕ) (w : Window) (number len : ℕ) →
@@ -85,41 +94,40 @@ pub answers_size : (t : Table) (class : Class) (bound limit : ℕ) (skip : Bool)
     IsWide class → Skipped t skip s at before now w → 16 ≤ w.len → Reads t (cap class) (drop at s) m x → limit < m →
     len ≡ at + m → rest ≡ drop at s → Err (size len rest) ≡ prefix_magnitude t class bound limit skip s
 answers_size t class bound limit skip s at before now w m x len rest wide so full reads long len_is rest_is =
-    let d : counting_digits skip (run_len t s) (zeros t s) ≡ run_len t (drop at s) = counting_digits-is t skip s at before now w so full in
-    let e : run_len t s - counting_digits skip (run_len t s) (zeros t s) ≡ at = omega (arith, so.run_is) in
-    let k : min (counting_digits skip (run_len t s) (zeros t s)) (cap class) ≡ m =
+    let e = skipped-is t skip s at before now w so full in
+    let d : counting_digits t skip s ≡ run_len t (drop at s) = omega (arith, so.run_is) in
+    let k : min (counting_digits t skip s) (cap class) ≡ m =
     elim (cases_lt m (cap class)) [
       | inl h ↦ omega (arith, reads.ends h)
       | inr h ↦ omega (arith, reads.inside, reads.within)
     ] in
-    let too_long = wide.long limit _ ∙ lt-ltb limit (counting_digits skip (run_len t s) (zeros t s)) (omega (arith, reads.inside)) in
-    rw (len_is, rest_is, refused_size t class bound limit prefix skip s (omega (arith, so.run_is, reads.inside)) too_long) (rw (e, k) refl)
+    let too_long = is_above-wide class skip limit _ wide ∙ lt-ltb limit (counting_digits t skip s) (omega (arith, reads.inside)) in
+    rw (len_is, rest_is, refused_size t class bound limit prefix skip s (omega (arith, so.run_is, reads.inside)) too_long)
+    (rw (wide.rule prefix skip limit (run_len t s) (skipped_zeros t skip s), k, e) refl)
 
 -- what was read is the run, and its number is above the bound
 pub answers_overflow : (t : Table) (class : Class) (bound limit : ℕ) (skip : Bool) (s : List ℕ) (at before now : ℕ) (w : Window) (m x : ℕ) (rest : List ℕ) →
     IsWide class → Skipped t skip s at before now w → 16 ≤ w.len → Reads t (cap class) (drop at s) m x → m ≤ limit → limit < cap class → bound < x →
     rest ≡ drop at s → Err (overflow rest) ≡ prefix_magnitude t class bound limit skip s
 answers_overflow t class bound limit skip s at before now w m x rest wide so full reads short less over rest_is =
-    let d : counting_digits skip (run_len t s) (zeros t s) ≡ run_len t (drop at s) = counting_digits-is t skip s at before now w so full in
-    let e : run_len t s - counting_digits skip (run_len t s) (zeros t s) ≡ at = omega (arith, so.run_is) in
+    let e = skipped-is t skip s at before now w so full in
     let ends : m < cap class = omega arith in
     let all : run_len t (drop at s) ≡ m = reads.ends ends in
     let v : value t (run t s) ≡ x = so.value_is ∙ reads.value_is ends in
     let some : 0 < run_len t s = omega (arith, so.run_is, so.shown.reads.inside) in
-    let fits = short_enough class limit (counting_digits skip (run_len t s) (zeros t s)) (omega arith) in
-    let above : bound < value t (take (digits_read class prefix skip (run_len t s)) s) = rw (wide.reads skip (run_len t s)) (omega arith) in
-    rw (rest_is, refused_overflow t class bound limit prefix skip s some fits above) (rw (wide.drops skip (run_len t s) (zeros t s), e) refl)
+    let fits = within_limit class skip limit (counting_digits t skip s) wide (omega (arith, so.run_is)) in
+    rw (rest_is, refused_overflow t class bound limit prefix skip s some fits (omega arith))
+    (rw (wide.rule prefix skip limit (run_len t s) (skipped_zeros t skip s), e) refl)
 
 -- what was read is the run, and its number is within the bound
 pub answers_ok : (t : Table) (class : Class) (bound limit : ℕ) (skip : Bool) (s : List ℕ) (at before now : ℕ) (w : Window) (m x number len : ℕ) →
     IsWide class → Skipped t skip s at before now w → 16 ≤ w.len → Reads t (cap class) (drop at s) m x → m ≤ limit → limit < cap class → x ≤ bound →
     number ≡ x → len ≡ at + m → Ok (number, len) ≡ prefix_magnitude t class bound limit skip s
 answers_ok t class bound limit skip s at before now w m x number len wide so full reads short less within number_is len_is =
-    let d : counting_digits skip (run_len t s) (zeros t s) ≡ run_len t (drop at s) = counting_digits-is t skip s at before now w so full in
     let ends : m < cap class = omega arith in
     let all : run_len t (drop at s) ≡ m = reads.ends ends in
     answers_value t class bound limit skip s len number wide (omega (arith, so.run_is)) (so.value_is ∙ reads.value_is ends ∙ sym number_is)
-    (omega (arith, so.run_is, so.shown.reads.inside)) (omega arith) (omega arith)
+    (omega (arith, so.run_is, so.shown.reads.inside)) (omega (arith, counted_most t skip s at before now w so)) (omega arith)
 
 -- a full window, and behind it one that is not full
 pub answers_two : (t : Table) (bound : ℕ) (skip : Bool) (s : List ℕ) (at before now : ℕ) (first second : Window) (number len : ℕ) →

@@ -6,7 +6,7 @@ use Rattle.atoi_core.specs.Refusal.{empty, size, overflow, invalid64, invalid128
 use Rattle.atoi_core.specs.ErrorText.{error_text}
 use Rattle.atoi_core.specs.Magnitude.{refusal}
 use Rattle.atoi_core.specs.Kind.{bound_of, limit_of}
-use Rattle.atoi_core.specs.Kinds.{u8_kind, i8_kind, i32_kind, u64_kind, i64_kind, u128_kind, i128_kind}
+use Rattle.atoi_core.specs.Kinds.{u8_kind, i8_kind, u32_kind, i32_kind, u64_kind, i64_kind, u128_kind, i128_kind}
 use Rattle.atoi_core.specs.Answer.{parse_answer, parse_prefix_answer, whole_answer}
 use Rattle.atoi_core.specs.Sign.{sign_of}
 use Rattle.std.specs.declared.cmp.Ordering.TheVariants.{Less}
@@ -56,12 +56,42 @@ pub below_least : parse_answer i8_kind false false (codes "-129") ≡ Err (overf
 unfolding refusal
 below_least = refl
 
--- a narrow prefix that skips no zeros ends after 16 digits
-pub narrow_prefix_ends_in_run : parse_prefix_answer u8_kind false false (codes "00000000000000007") ≡ Ok (pos 0, 16)
+-- a narrow prefix that skips no zeros has at most 16 digits
+pub seventeen_digits_of_u8 : parse_prefix_answer u8_kind false false (codes "00000000000000007") ≡ Err (size 17 (codes "00000000000000007"))
 unfolding refusal
-narrow_prefix_ends_in_run = refl
+seventeen_digits_of_u8 = refl
 
--- one that skips them does not
+-- all of them are read, and what stands behind does not count
+pub sixteen_digits_of_u8 : parse_prefix_answer u8_kind false false (codes "0000000000000000x") ≡ Ok (pos 0, 16)
+unfolding refusal
+sixteen_digits_of_u8 = refl
+
+-- the sign is no digit
+pub sixteen_digits_of_i32 : parse_prefix_answer i32_kind false false (codes "-0000000000000007x") ≡ Ok (negsuc 6, 17)
+unfolding refusal
+sixteen_digits_of_i32 = refl
+
+-- and stands in no slice of an error
+pub seventeen_digits_of_i8 : parse_prefix_answer i8_kind false false (codes "-00000000000000000") ≡ Err (size 17 (codes "00000000000000000"))
+unfolding refusal
+seventeen_digits_of_i8 = refl
+
+-- the size is told before the range, and tells 17 digits at most
+pub size_before_range : parse_prefix_answer u8_kind false false (codes "00000000000000255999") ≡ Err (size 17 (codes "00000000000000255999"))
+unfolding refusal
+size_before_range = refl
+
+-- as it is where the first 16 digits alone are above the bound
+pub size_of_seventeen_ones : parse_prefix_answer u32_kind false false (codes "11111111111111111") ≡ Err (size 17 (codes "11111111111111111"))
+unfolding refusal
+size_of_seventeen_ones = refl
+
+-- 16 digits are not too many, but their value is
+pub range_of_sixteen_ones : parse_prefix_answer u32_kind false false (codes "1111111111111111") ≡ Err (overflow (codes "1111111111111111"))
+unfolding refusal
+range_of_sixteen_ones = refl
+
+-- one that skips zeros has any number of digits
 pub narrow_prefix_skips : parse_prefix_answer u8_kind true false (codes "00000000000000007") ≡ Ok (pos 7, 17)
 unfolding refusal
 narrow_prefix_skips = refl
@@ -70,11 +100,6 @@ narrow_prefix_skips = refl
 pub zeros_alone : parse_prefix_answer u8_kind true false (codes "0000000000000000") ≡ Ok (pos 0, 16)
 unfolding refusal
 zeros_alone = refl
-
--- the first 16 digits alone decide
-pub narrow_prefix_reads_sixteen : parse_prefix_answer u8_kind false false (codes "00000000000000255999") ≡ Ok (pos 25, 16)
-unfolding refusal
-narrow_prefix_reads_sixteen = refl
 
 -- an overflow leaves out the zeros where the run reaches the next window
 pub overflow_without_zeros : parse_prefix_answer u8_kind true false (codes "00000000000000255999") ≡ Err (overflow (codes "255999"))

@@ -46,9 +46,10 @@ prefix_call k negative skip s = prefix_answer decimal_table k true skip s
 abbrev pub least_of : Kind → ℤ
 least_of k = if k.signed then neg_ℤ (pos (k.greatest + 1)) else pos 0
 
--- where a prefix reads its whole run of digits: zeros are skipped, or the type has more than 32 bits
-abbrev pub ReadsWholeRun : Kind → Bool → Type 0
-ReadsWholeRun k skip = (skip ≡ true) ⊎ (32 < k.bits)
+-- where a prefix may have as many digits as a whole slice: zeros are skipped, or the type has more
+-- than 32 bits
+abbrev pub HasLimitOfWhole : Kind → Bool → Type 0
+HasLimitOfWhole k skip = (skip ≡ true) ⊎ (32 < k.bits)
 
 -- t stands at the end of s
 abbrev pub IsSuffix : List ℕ → List ℕ → Type 0
@@ -90,11 +91,11 @@ pub record AcceptedTexts (k : Kind) : Type 0 where
       → parse_answer k true true s ≡ Ok (number_of (is_minus text.sign) (value decimal_table text.digits))
 
 -- a prefix that is read to the slice's end is a whole parse with the same value; and where a prefix
--- reads its whole run of digits, the other way round
+-- may have as many digits, the other way round
 pub record PrefixIsWhole (k : Kind) : Type 0 where
   pub whole : (form : SignForm) → HasForm k form → (skip : Bool) (s : List ℕ) (v : ℤ)
       → prefix_call k form skip s ≡ Ok (v, length s) → whole_call k form skip s ≡ Ok v
-  pub back : (form : SignForm) → HasForm k form → (skip : Bool) (s : List ℕ) (v : ℤ) → ReadsWholeRun k skip
+  pub back : (form : SignForm) → HasForm k form → (skip : Bool) (s : List ℕ) (v : ℤ) → HasLimitOfWhole k skip
       → whole_call k form skip s ≡ Ok v → prefix_call k form skip s ≡ Ok (v, length s)
 
 -- a prefix ends within the slice, is not empty, and is answered alike where the slice ends with it
@@ -104,10 +105,10 @@ PrefixOfCut k =
     → prefix_call k form skip s ≡ Ok (v, count)
     → (1 ≤ count) × (count ≤ length s) × (prefix_call k form skip (take count s) ≡ Ok (v, count))
 
--- a prefix that reads its whole run of digits stops at the slice's end, or at a byte that is no digit
+-- a prefix stops at the slice's end, or at a byte that is no digit
 abbrev pub PrefixStopsAtRest : Kind → Type 0
 PrefixStopsAtRest k =
-    (form : SignForm) → HasForm k form → (skip : Bool) (s : List ℕ) (v : ℤ) (count : ℕ) → ReadsWholeRun k skip
+    (form : SignForm) → HasForm k form → (skip : Bool) (s : List ℕ) (v : ℤ) (count : ℕ)
     → prefix_call k form skip s ≡ Ok (v, count)
     → (count ≡ length s) ⊎ ((count < length s) × IsFalse (is_digit decimal_table (slice_index s count)))
 

@@ -1,5 +1,5 @@
 -- What a body of digits, without a sign, is answered: its value, or the first reason to refuse it.
-use Rattle.std.specs.Prelude.{ℕ, ◌+◌, ◌-◌, ◌*◌, ◌/◌, ◌^◌, ◌<◌, ◌≤◌, min, Bool, true, false, not, ◌==◌, nat_lt, if◌then◌else◌, List, length, take, drop, Option, Some, None, Result, Ok, Err}
+use Rattle.std.specs.Prelude.{ℕ, ◌+◌, ◌-◌, ◌*◌, ◌/◌, ◌^◌, ◌<◌, ◌≤◌, min, Bool, true, false, not, ◌==◌, nat_lt, if◌then◌else◌, List, length, drop, Option, Some, None, Result, Ok, Err}
 use Rattle.atoi_core.specs.Digit.{Table}
 use Rattle.atoi_core.specs.Run.{run_len, run, zeros, value}
 use Rattle.atoi_core.specs.Refusal.{Refusal, empty, size, overflow, invalid64, invalid128}
@@ -19,39 +19,30 @@ pub data Extent : Type 0 where
 abbrev pub HasDigits : ℕ → ℕ → Type 0
 HasDigits limit number = (10 ^ (limit - 1) ≤ number) × (number < 10 ^ limit)
 
--- how many digits count against the limit of a wide class: zeros that are skipped do not
-abbrev pub counting_digits : Bool → ℕ → ℕ → ℕ
-counting_digits true digits leading = digits - leading
-counting_digits false digits leading = digits
+-- how many zeros at the front are skipped, where that is asked for
+abbrev pub skipped_zeros : Table → Bool → List ℕ → ℕ
+skipped_zeros table skip body = if skip then zeros table body else 0
 
--- how many digits are read: a narrow prefix that skips no zeros stops after 16
-abbrev pub digits_read : Class → Extent → Bool → ℕ → ℕ
-digits_read narrow prefix false digits = min digits 16
-digits_read narrow prefix true digits = digits
-digits_read narrow whole skip digits = digits
-digits_read wide64 extent skip digits = digits
-digits_read wide128 extent skip digits = digits
+-- how many digits behind the skipped zeros may count, if there is a limit; how many of more the
+-- size tells at most; and how many zeros the slice of an overflow leaves out
+pub record Rule : Type 0 where
+  pub limit : Option ℕ
+  pub cap : ℕ
+  pub dropped : ℕ
 
--- how many zeros the slice of an overflow leaves out
-abbrev pub dropped_zeros : Class → Extent → Bool → ℕ → ℕ → ℕ
-dropped_zeros narrow whole skip digits leading = 0
-dropped_zeros narrow prefix false digits leading = 0
-dropped_zeros narrow prefix true digits leading =
-    if nat_lt (leading / 16) (digits / 16) then leading else 16 * (leading / 16)
-dropped_zeros wide64 extent skip digits leading = digits - counting_digits skip digits leading
-dropped_zeros wide128 extent skip digits leading = digits - counting_digits skip digits leading
+-- the rule of each class, extent and flag: the limit of a wide class is handed in
+abbrev pub rule_of : Class → Extent → Bool → (limit digits skipped : ℕ) → Rule
+rule_of narrow whole skip limit digits skipped = record { limit = None; cap = 0; dropped = 0 }
+rule_of narrow prefix false limit digits skipped = record { limit = Some 16; cap = 17; dropped = 0 }
+rule_of narrow prefix true limit digits skipped =
+    record { limit = None; cap = 0; dropped = if nat_lt (skipped / 16) (digits / 16) then skipped else 16 * (skipped / 16) }
+rule_of wide64 extent skip limit digits skipped = record { limit = Some limit; cap = 24; dropped = skipped }
+rule_of wide128 extent skip limit digits skipped = record { limit = Some limit; cap = 40; dropped = skipped }
 
--- more digits count than the greatest number of a wide class has
-abbrev pub is_too_long : Class → ℕ → ℕ → Bool
-is_too_long narrow limit digits = false
-is_too_long wide64 limit digits = nat_lt limit digits
-is_too_long wide128 limit digits = nat_lt limit digits
-
--- the most digits that the size of a wide class tells
-abbrev pub cap : Class → ℕ
-cap narrow = 0
-cap wide64 = 24
-cap wide128 = 40
+-- more count than the limit allows
+abbrev pub is_above : Option ℕ → ℕ → Bool
+is_above None counting = false
+is_above (Some limit) counting = nat_lt limit counting
 
 -- a whole slice must end with its digits
 abbrev pub leaves_rest : Extent → ℕ → ℕ → Bool
@@ -69,16 +60,14 @@ invalid wide128 number index body = invalid128 number index body
 unfoldable pub refusal : Table → Class → (bound limit : ℕ) → Extent → Bool → List ℕ → Option Refusal
 refusal table class bound limit extent skip body =
     let digits = run_len table body in
-    let leading = zeros table body in
-    let counting = counting_digits skip digits leading in
-    let number = value table (take (digits_read class extent skip digits) body) in
+    let skipped = skipped_zeros table skip body in
+    let counting = digits - skipped in
+    let number = value table (run table body) in
+    let rule = rule_of class extent skip limit digits skipped in
     if digits == 0 then Some empty
-    else (if is_too_long class limit counting
-    then Some (size (digits - counting + min counting (cap class)) (drop (digits - counting) body))
-    else (if nat_lt bound number
-    then Some (overflow (drop (dropped_zeros class extent skip digits leading) body))
-    else (if leaves_rest extent digits (length body)
-    then Some (invalid class number digits body)
+    else (if is_above rule.limit counting then Some (size (skipped + min counting rule.cap) (drop skipped body))
+    else (if nat_lt bound number then Some (overflow (drop rule.dropped body))
+    else (if leaves_rest extent digits (length body) then Some (invalid class number digits body)
     else None)))
 
 -- the answer where there is no reason to refuse, else the reason
@@ -91,8 +80,7 @@ abbrev pub whole_magnitude : Table → Class → (bound limit : ℕ) → Bool �
 whole_magnitude table class bound limit skip body =
     unless_refused (refusal table class bound limit whole skip body) (value table (run table body))
 
--- the answer for a front: the value of the digits that are read, and how many these are
+-- the answer for a front: the value of its digits, and how many these are
 abbrev pub prefix_magnitude : Table → Class → (bound limit : ℕ) → Bool → List ℕ → Result (ℕ × ℕ) Refusal
 prefix_magnitude table class bound limit skip body =
-    let read = digits_read class prefix skip (run_len table body) in
-    unless_refused (refusal table class bound limit prefix skip body) (value table (take read body), read)
+    unless_refused (refusal table class bound limit prefix skip body) (value table (run table body), run_len table body)

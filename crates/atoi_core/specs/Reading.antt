@@ -1,10 +1,10 @@
 -- What is read at the front of a slice, and the answer that it decides: for engines that read wide
 -- integers by loops of their own.
-use Rattle.std.specs.Prelude.{◌≡◌, ◌⊎◌, ℕ, ◌+◌, ◌-◌, ◌*◌, ◌^◌, ◌<◌, ◌≤◌, min, Bool, false, ◌==◌, nat_lt, if◌then◌else◌, List, length, take, drop, Result, Ok, Err}
+use Rattle.std.specs.Prelude.{◌≡◌, ◌⊎◌, ℕ, ◌+◌, ◌-◌, ◌*◌, ◌^◌, ◌<◌, ◌≤◌, min, Bool, true, false, ◌==◌, nat_lt, if◌then◌else◌, List, length, take, drop, Result, Ok, Err}
 use Rattle.atoi_core.specs.Digit.{Table, IsBelowTen}
 use Rattle.atoi_core.specs.Run.{run_len, run, zeros, value}
 use Rattle.atoi_core.specs.Refusal.{Refusal, empty, size, overflow}
-use Rattle.atoi_core.specs.Magnitude.{Class, cap, counting_digits, prefix_magnitude}
+use Rattle.atoi_core.specs.Magnitude.{Class, prefix, rule_of, prefix_magnitude}
 
 -- what the first `count` bytes of a slice tell, or all where there are fewer: how many digits they
 -- begin with, how many zeros, and the number that these digits write
@@ -17,6 +17,15 @@ pub record Reading (table : Table) (count : ℕ) (s : List ℕ) (digits leading 
 pub record IsSkipped (table : Table) (skip : Bool) (s : List ℕ) (place : ℕ) : Type 0 where
   pub zeros_only : place ≤ zeros table s
   pub asked : skip ≡ false → place ≡ 0
+
+-- how many of the digits that were read count: zeros that are skipped do not
+abbrev pub counting_digits : Bool → (digits leading : ℕ) → ℕ
+counting_digits true digits leading = digits - leading
+counting_digits false digits leading = digits
+
+-- the most digits that the size of a wide class tells
+abbrev pub cap : Class → ℕ
+cap class = (rule_of class prefix true 0 0 0).cap
 
 -- the answer of a wide class by its digits: zeros that are skipped, digits that count behind them,
 -- and the number that these write

@@ -69,13 +69,13 @@ pub fn whole_neg<'a, E: Engine, T: Signed>(
 
 /// Reads a number of `T`, which has no sign, from the front of `s`, and tells its length in bytes.
 ///
-/// With `skip` any number of leading zeros is accepted. Without it a type of at most 32 bits reads
-/// 16 digits at most. `steps` counts the windows that are loaded.
+/// With `skip` any number of leading zeros is accepted, without it they count as digits. `steps`
+/// counts the windows that are loaded.
 ///
 /// # Errors
 ///
-/// `Empty`, `Size` and `Overflow`, as of `whole_pos`. The slice of an `Overflow` of a type of at
-/// most 32 bits is told at `narrow_prefix`.
+/// `Empty`, `Size` and `Overflow`, as of `whole_pos`. The `Size` and the slice of an `Overflow` of a
+/// type of at most 32 bits are told at `narrow_prefix`.
 #[inline(always)]
 pub fn prefix_pos<'a, E: Engine, T: Number>(
     skip: bool,

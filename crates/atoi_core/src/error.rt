@@ -23,7 +23,8 @@ pub enum AtoiSimdError<'a> {
     Empty,
     /// There are more digits than the greatest number of a type of 64 or 128 bits has, where zeros
     /// that are skipped do not count: how many zeros were skipped and, of the digits that count, at
-    /// most 24 (64 bits) or 40 (128 bits) more; and the slice behind the skipped zeros.
+    /// most 24 (64 bits) or 40 (128 bits) more; and the slice behind the skipped zeros. Or a prefix
+    /// of a narrower type that skips no zeros has more than 16 digits: 17, and the body.
     Size(usize, &'a [u8]),
     /// The digits write a number that the type cannot hold: the body. Of a type of 64 or 128 bits
     /// it is without the zeros that were skipped. Of a prefix of a narrower type that skips zeros

@@ -30,8 +30,8 @@ pub fn prefix_of_cut<T: Number>()
     ensures { PrefixOfCut T.kind }
 {}
 
-/// A prefix that succeeds where zeros are skipped, or at a type of more than 32 bits, stops at the
-/// slice's end or before a byte that is no digit.
+/// A prefix that succeeds stops at the slice's end or before a byte that is no digit, whatever the
+/// flags.
 pub fn prefix_stops_at_rest<T: Number>()
     ensures { PrefixStopsAtRest T.kind }
 {}

@@ -1,10 +1,11 @@
 //! The parses of integers of up to 32 bits by windows, of a front and of a whole slice, over any
 //! engine.
 //! It stands on `engine`, `window`, `steps` and `error`.
-ghost use Rattle.std.specs.Prelude.{◌≡◌, ◌+◌, ◌-◌, ◌<◌, ◌≤◌, ◌==◌, true, false, nat_lt, if◌then◌else◌, Ok, Err, length, drop};
+ghost use Rattle.std.specs.Prelude.{◌≡◌, ◌+◌, ◌-◌, ◌<◌, ◌≤◌, ◌==◌, true, false, not, ◌&&◌, ◌||◌, nat_lt, if◌then◌else◌, Ok, Err, length, drop};
 ghost use Rattle.atoi_core.specs.Loads.{LoadsWithin, most_loads};
 ghost use Rattle.atoi_core.specs.Magnitude.{narrow, whole_magnitude, prefix_magnitude};
 ghost use Rattle.atoi_core.specs.Refusal.{answer_of, refusal_of, rank, empty, overflow};
+ghost use Rattle.atoi_core.specs.Run.{run_len};
 ghost use Rattle.atoi_core.specs.Window.{window_of};
 
 use crate::engine::Engine;
@@ -14,18 +15,21 @@ use crate::window::Window;
 
 /// The number at the front of `s`, and how many bytes it has, for an integer of up to 32 bits.
 ///
-/// `bound` is the greatest number, from 9 to 4294967295. Without `skip` one window is loaded, and
-/// the answer stops after 16 digits. With `skip` all zeros at the front are passed by, a window for
-/// each 16 of them, and every digit is read. A byte that is no digit ends the number.
+/// `bound` is the greatest number, from 9 to 4294967295. All digits in a row belong to the number,
+/// and a byte that is none ends it. Without `skip` these are at most 16, zeros among them; one
+/// window is loaded, and a second where the first is full of digits. With `skip` all zeros at the
+/// front are passed by, a window for each 16 of them.
 ///
 /// # Errors
 ///
 /// The first that holds of:
 /// - `Empty`: `s` does not begin with a digit.
+/// - `Size`: without `skip`, more than 16 digits. It tells 17, and holds `s`.
 /// - `Overflow`: the number is above `bound`. Without `skip` it holds `s`. With `skip` it holds `s`
 ///   behind the zeros that fill whole windows of 16 bytes, and behind all its zeros where the next
 ///   16 bytes are digits.
 #[inline(always)]
+#[tactic(auto, using(crate::proofs::NarrowLemmas::narrow_size))]
 pub fn narrow_prefix<'a, E: Engine>(
     bound: u64,
     skip: bool,
@@ -37,15 +41,40 @@ pub fn narrow_prefix<'a, E: Engine>(
     ensures answer { answer_of result ≡ prefix_magnitude E.table narrow bound 0 skip s.now }
     ensures loads { LoadsWithin (most_loads E.table narrow s.now) E.table skip s.now
         steps.old steps.new }
+    ensures unskipped { skip ≡ false → steps.new ≡ steps.old
+        + (if nat_lt (run_len E.table s.now) 16 then 1 else 2) }
 {
     let window = E::window(s, steps);
     if window.len == 0 {
         Err(AtoiSimdError::Empty)
     } else if skip && window.zeroes > 0 {
         out_of_line(behind_zeros::<E>(bound, window.zeroes, s, steps))
+    } else if is_too_long::<E>(skip, window, s, steps) {
+        Err(AtoiSimdError::Size(17, s))
     } else {
         answer_at(bound, 0, window, s)
     }
+}
+
+// Whether zeros count, and more than 16 digits stand at the front of `s`, whose first window is
+// given. Only where that is full of digits a second one is loaded.
+#[inline(always)]
+fn is_too_long<E: Engine>(skip: bool, window: Window, s: &[u8], steps: &mut Steps) -> bool
+    requires told { window ≡ window_of E.table 16 s.now }
+    ensures answer { result ≡ (not skip && nat_lt 16 (run_len E.table s.now)) }
+    ensures loads { steps.new ≡ steps.old
+        + (if skip || nat_lt (run_len E.table s.now) 16 then 0 else 1) }
+{
+    !skip && window.len == 16 && goes_on::<E>(&s[16..], steps)
+}
+
+// Whether `rest` begins with a digit.
+#[inline(never)]
+fn goes_on<E: Engine>(rest: &[u8], steps: &mut Steps) -> bool
+    ensures answer { result ≡ nat_lt 0 (run_len E.table rest.now) }
+    ensures one_step { steps.new ≡ steps.old + 1 }
+{
+    E::window_8(rest, steps).len > 0
 }
 
 /// The number that `s` as a whole is, for an integer of up to 32 bits.

@@ -7,8 +7,8 @@ use Rattle.std.proofs.lemmas.List.{take_rest}
 use Rattle.atoi_core.specs.Digit.{IsBelowTen, decimal_table}
 use Rattle.atoi_core.specs.Run.{run_len, zeros, value}
 use Rattle.atoi_core.specs.Refusal.{empty, size, overflow}
-use Rattle.atoi_core.specs.Magnitude.{Class, wide64, wide128, cap, counting_digits, HasDigits, prefix_magnitude}
-use Rattle.atoi_core.specs.Reading.{Reading, IsSkipped, answer_by_digits, ReadingDecides}
+use Rattle.atoi_core.specs.Magnitude.{Class, wide64, wide128, HasDigits, prefix_magnitude}
+use Rattle.atoi_core.specs.Reading.{Reading, IsSkipped, answer_by_digits, ReadingDecides, cap, counting_digits}
 use Rattle.atoi_core.specs.Window.{window_of}
 use Rattle.atoi_core.specs.declared.window.Window.{Window}
 use Rattle.atoi_lanes.specs.declared.window_32.Window32.{Window32}

@@ -29,7 +29,8 @@ ended g c =
 
 pub returns-clause-answer : goal.returns-clause-answer
 returns-clause-answer g c =
-    c.answer_at.ensures ∙ narrow_told _ _ _ _ _ _ _ _ _ (ended g c) c.requires.high (omega (arith, c.loop-window.invariant.some))
+    c.answer_at.ensures
+    ∙ narrow_told _ _ _ _ _ _ _ _ _ (ended g c) c.requires.high (λ no. absurd (cc no)) (omega (arith, c.loop-window.invariant.some))
 
 pub returns-clause-loads : goal.returns-clause-loads
 returns-clause-loads g c =

@@ -1,6 +1,6 @@
 -- Where no zeros are skipped, the first window is the last one.
-use Rattle.std.proofs.Common.{inl, inr, ◌∙◌, arith}
-use Rattle.atoi_core.proofs.SkipLemmas.{Skipped, Skipped-at_once, Skipped-first, Skipped-loads}
+use Rattle.std.proofs.Common.{◌≡◌, ◌≤◌, ℕ, Bool, false, not, ◌&&◌, nat_lt, inl, inr, sym, ◌∙◌, ltb-false, arith}
+use Rattle.atoi_core.proofs.SkipLemmas.{Skipped, Skipped-at_once, Skipped-first, Skipped-one}
 use Rattle.atoi_core.proofs.NarrowLemmas.{narrow_told}
 use Rattle.atoi_core.proofs.WideLemmas.{answers_empty}
 use Rattle.atoi_core.proofs.narrow.narrow_prefix.Goals as goal
@@ -12,6 +12,10 @@ returns-then-window-eq0-clause-answer g c =
     c.window-window.ensures.window c.window-window.ensures.one_step (omega arith) in
     answers_empty _ _ _ _ _ _ _ _ _ _ so (omega arith)
 
+-- at most 16 digits stand there where zeros count
+few : (skip : Bool) (digits : ℕ) → false ≡ (not skip && nat_lt 16 digits) → skip ≡ false → digits ≤ 16
+few skip digits short counts = ltb-false 16 digits (rw counts at (sym short))
+
 -- where no zeros are told, or none are skipped
 last : (g : _) (c : After-answer_at g)
     → Skipped g.E.Engine.table c.args.skip c.args.s.now 0 c.args.steps.now c.window-window.new.steps c.window-window.result
@@ -20,8 +24,9 @@ last g c =
     c.window-window.ensures.window c.window-window.ensures.one_step
     (elim c.else-skip.either [ inl h ↦ inr (h.0, omega (arith, h.1)) | inr h ↦ inl h ])
 
-pub returns-else-skip-clause-answer : goal.returns-else-skip-clause-answer
-returns-else-skip-clause-answer g c = c.answer_at.ensures ∙ narrow_told _ _ _ _ _ _ _ _ _ (last g c) c.requires.high (omega arith)
+pub returns-else-is_too_long-clause-answer : goal.returns-else-is_too_long-clause-answer
+returns-else-is_too_long-clause-answer g c =
+    c.answer_at.ensures ∙ narrow_told _ _ _ _ _ _ _ _ _ (last g c) c.requires.high (few _ _ c.if-is_too_long.ensures.answer) (omega arith)
 
-pub returns-else-skip-clause-loads : goal.returns-else-skip-clause-loads
-returns-else-skip-clause-loads g c = Skipped-loads _ _ _ _ _ _ _ _ _ (last g c) 0 (omega arith) (omega arith)
+pub returns-else-is_too_long-clause-loads : goal.returns-else-is_too_long-clause-loads
+returns-else-is_too_long-clause-loads g c = Skipped-one _ _ _ _ _ _ _ (last g c) c.window-window.ensures.one_step c.is_too_long.ensures.loads
