@@ -44,19 +44,6 @@ length-taken k (looked_for plus) (byte ∷ bytes) =
 length-taken k positive s = omega arith
 length-taken k negative s = omega arith
 
--- a minus is taken where the type is signed
-minus_of : (signed plus : Bool) (s : List ℕ) → (sign_of signed plus s).minus ≡ true → signed ≡ true
-minus_of signed plus [] h = absurd (cc h)
-minus_of signed plus (byte ∷ bytes) h =
-    sign_cases signed plus byte bytes (λ g. g.minus ≡ true → signed ≡ true)
-    (λ e q. absurd (cc q)) (λ p e q. (and_parts signed (eqb byte minus_sign) e).0) (λ q. absurd (cc q)) h
-
--- a call of any form goes by a minus only where the type is signed
-pub minus_is_signed : (k : Kind) (form : SignForm) → HasForm k form → (s : List ℕ) → (sign_in k form s).minus ≡ true → k.signed ≡ true
-minus_is_signed k (looked_for plus) has s h = minus_of k.signed plus s h
-minus_is_signed k positive has s h = absurd (cc h)
-minus_is_signed k negative has s h = has
-
 -- a digit is a byte from 48 to 57
 pub digit_in_range : (byte : ℕ) → is_digit decimal_table byte ≡ true → (48 ≤ byte) × (byte ≤ 57)
 digit_in_range byte h = (grind (arith, nat_tests), grind (arith, nat_tests))
