@@ -1,16 +1,16 @@
 -- What windows of 32 lanes told decides the answers.
-use Rattle.std.proofs.Common.{◌≡◌, ◌⊎◌, ℕ, ◌+◌, ◌-◌, ◌*◌, ◌^◌, ◌<◌, ◌≤◌, min, Bool, true, false, cond, eqb, ltb, List, length, take, drop, Option, Some, None, Ok, Err, refl, sym, ap, ◌∙◌, subst, inl, inr, arith, lit<, le-ltb, ne_eqb, if◌then◌else◌, nat_lt}
+use Rattle.std.proofs.Common.{◌≡◌, ◌⊎◌, ℕ, ◌+◌, ◌-◌, ◌*◌, ◌^◌, ◌<◌, ◌≤◌, Bool, true, false, cond, eqb, ltb, List, take, drop, Option, Some, None, Ok, Err, refl, sym, ap, ◌∙◌, subst, inl, inr, arith, lit<, le-ltb, ne_eqb, if◌then◌else◌, nat_lt}
 use Rattle.std.proofs.Math.Nat.{pow-le-pow_right}
-use Rattle.std.proofs.lemmas.Bool.{cases_lt, eq-eqb, lt-ltb, false≢true}
+use Rattle.std.proofs.lemmas.Bool.{cases_lt, lt-ltb, false≢true}
 use Rattle.std.proofs.lemmas.Bool.Decides.{nat_tests}
-use Rattle.std.proofs.lemmas.List.{take_rest}
 use Rattle.atoi_core.specs.Digit.{IsBelowTen, decimal_table}
-use Rattle.atoi_core.specs.Run.{run_len, zeros, value}
+use Rattle.atoi_core.specs.Run.{zeros}
 use Rattle.atoi_core.specs.Refusal.{empty, size, overflow}
-use Rattle.atoi_core.specs.Magnitude.{Class, wide64, wide128, HasDigits, prefix_magnitude}
-use Rattle.atoi_core.specs.Reading.{Reading, IsSkipped, answer_by_digits, ReadingDecides, cap, counting_digits}
+use Rattle.atoi_core.specs.Magnitude.{wide64, wide128, HasDigits, prefix_magnitude}
+use Rattle.atoi_core.specs.Reading.{Reading, counting_digits, answer_by_digits, ReadingDecides}
 use Rattle.atoi_core.specs.Window.{window_of}
 use Rattle.atoi_core.specs.declared.window.Window.{Window}
+use Rattle.atoi_lanes.specs.ReadsBehind.{ReadsBehind}
 use Rattle.atoi_lanes.specs.declared.window_32.Window32.{Window32}
 
 -- what counts of the digits of a window, and the zeros before it that do not
@@ -21,18 +21,17 @@ counted false len told leading most is = elim is [ inl h ↦ absurd (false≢tru
 
 -- 64 bits: a window decides that is not full of digits, or begins with no zero that is skipped
 pub decided_64 : ReadingDecides → (bound limit : ℕ) (skip : Bool) (s : List ℕ) (at leading : ℕ) (w : Window32) → limit ≤ 20
-    → IsSkipped decimal_table skip s at → Reading decimal_table 32 (drop at s) w.len w.zeroes w.number
-    → (skip ≡ true → 32 ≤ w.len → w.zeroes ≡ 0) → ((skip ≡ true) × (leading ≡ w.zeroes)) ⊎ ((skip ≡ false) × (leading ≡ 0))
+    → ReadsBehind skip s at w.len w.zeroes w.number → ((skip ≡ true) × (leading ≡ w.zeroes)) ⊎ ((skip ≡ false) × (leading ≡ 0))
     → answer_by_digits wide64 bound limit (at + leading) (w.len - leading) w.number s ≡ prefix_magnitude decimal_table wide64 bound limit skip s
-decided_64 law bound limit skip s at leading w few skipped reading ends is =
-    let within = law.within decimal_table 32 (drop at s) w.len w.zeroes w.number reading in
+decided_64 law bound limit skip s at leading w few front is =
+    let within = law.within decimal_table 32 (drop at s) w.len w.zeroes w.number front.reading in
     let count = counted skip w.len w.zeroes leading within.0 is in
     let enough : (w.len < 32) ⊎ (24 ≤ counting_digits skip w.len w.zeroes) =
     elim (cases_lt w.len 32) [
       | inl h ↦ inl h
-      | inr h ↦ inr (elim is [ inl k ↦ omega (arith, k, ends k.0 h, count.0) | inr k ↦ omega (arith, k, count.0) ])
+      | inr h ↦ inr (elim is [ inl k ↦ omega (arith, k, front.ends k.0 h, count.0) | inr k ↦ omega (arith, k, count.0) ])
     ] in
-    sym (law.decided decimal_table wide64 bound limit (omega arith) skip s at 32 w.len w.zeroes w.number skipped reading enough
+    sym (law.decided decimal_table wide64 bound limit (omega arith) skip s at 32 w.len w.zeroes w.number front.skipped front.reading enough
     ∙ ap (λ (n : ℕ). answer_by_digits wide64 bound limit (at + n) (counting_digits skip w.len w.zeroes) w.number s) count.1
     ∙ ap (λ (n : ℕ). answer_by_digits wide64 bound limit (at + leading) n w.number s) count.0)
 
@@ -43,17 +42,17 @@ counted-le false len told = omega arith
 
 -- 128 bits: a window that is not full of digits decides, since these are too few to pass the bound
 pub decided_short : ReadingDecides → IsBelowTen decimal_table → (bound : ℕ) (skip : Bool) (s : List ℕ) (at : ℕ) (w : Window32) → HasDigits 39 bound
-    → IsSkipped decimal_table skip s at → Reading decimal_table 32 (drop at s) w.len w.zeroes w.number → w.len < 32
+    → ReadsBehind skip s at w.len w.zeroes w.number → w.len < 32
     → cond (eqb (at + w.len) 0) (Err empty) (Ok (w.number, at + w.len)) ≡ prefix_magnitude decimal_table wide128 bound 39 skip s
-decided_short law ten bound skip s at w digits skipped reading short =
+decided_short law ten bound skip s at w digits front short =
     let counting : ℕ = counting_digits skip w.len w.zeroes in
     let most : counting ≤ w.len = counted-le skip w.len w.zeroes in
     let power : 10 ^ w.len ≤ 10 ^ 38 = pow-le-pow_right {n = 10} (lit< tt) {i = w.len} {j = 38} (omega arith) in
-    let below : w.number < 10 ^ w.len = law.below decimal_table ten 32 (drop at s) w.len w.zeroes w.number reading in
+    let below : w.number < 10 ^ w.len = law.below decimal_table ten 32 (drop at s) w.len w.zeroes w.number front.reading in
     let few : ltb 39 counting ≡ false = le-ltb 39 counting (omega arith) in
     let less : ltb bound w.number ≡ false = le-ltb bound w.number (omega (arith, digits.0)) in
     let total : at + (w.len - counting) + counting ≡ at + w.len = omega arith in
-    sym (law.decided decimal_table wide128 bound 39 (lit< tt) skip s at 32 w.len w.zeroes w.number skipped reading (inl short) ∙ rw (few, less, total) refl)
+    sym (law.decided decimal_table wide128 bound 39 (lit< tt) skip s at 32 w.len w.zeroes w.number front.skipped front.reading (inl short) ∙ rw (few, less, total) refl)
 
 -- behind a window that begins with no zero that is skipped, all digits count
 all_count : (skip : Bool) (n told others : ℕ) → (skip ≡ true → told ≡ 0) → counting_digits skip n (cond (eqb told 32) (32 + others) told) ≡ n
@@ -62,35 +61,30 @@ all_count false n told others kept = refl
 
 -- and one that is, together with the eight bytes behind it
 pub decided_full : ReadingDecides → (bound : ℕ) (skip : Bool) (s : List ℕ) (at : ℕ) (w : Window32) (back : Window)
-    → IsSkipped decimal_table skip s at → Reading decimal_table 32 (drop at s) w.len w.zeroes w.number → 32 ≤ w.len → (skip ≡ true → 32 ≤ w.len → w.zeroes ≡ 0)
-    → back ≡ window_of decimal_table 8 (take (length (take (length s - at) (drop at s)) - 32) (drop 32 (take (length s - at) (drop at s))))
-    → (w.len ≡ 32) × (back.len ≤ 8) × (answer_by_digits wide128 bound 39 at (w.len + back.len) (w.number * 10 ^ back.len + back.number) s ≡ prefix_magnitude decimal_table wide128 bound 39 skip s)
-decided_full law bound skip s at w back skipped reading full kept loaded =
+    → ReadsBehind skip s at w.len w.zeroes w.number → 32 ≤ w.len
+    → back ≡ window_of decimal_table 8 (drop 32 (drop at s))
+    → (back.len ≤ 8) × (answer_by_digits wide128 bound 39 at (32 + back.len) (w.number * 10 ^ back.len + back.number) s ≡ prefix_magnitude decimal_table wide128 bound 39 skip s)
+decided_full law bound skip s at w back so full e =
     let t = decimal_table in
     let body : List ℕ = drop at s in
-    let e : back ≡ window_of t 8 (drop 32 body) =
-    loaded ∙ ap (λ (r : List ℕ). window_of t 8 (take (length r - 32) (drop 32 r))) (take_rest s at) ∙ ap (window_of t 8) (take_rest body 32) in
     let others : ℕ = zeros t (take 8 (drop 32 body)) in
     let number : ℕ = w.number * 10 ^ back.len + back.number in
-    let within = law.within t 32 body w.len w.zeroes w.number reading in
+    let within = law.within t 32 body w.len w.zeroes w.number so.reading in
     let len : w.len ≡ 32 = omega (arith, within.1) in
-    let front : Reading t 32 body 32 w.zeroes w.number = let P : ℕ → Type 0 = λ n. Reading t 32 body n w.zeroes w.number in subst P len reading in
+    let front : Reading t 32 body 32 w.zeroes w.number = let P : ℕ → Type 0 = λ n. Reading t 32 body n w.zeroes w.number in subst P len so.reading in
     let behind : Reading t 8 (drop 32 body) back.len others back.number =
     record { digits_are = ap (λ v. v.len) e; leading_are = refl; number_is = ap (λ v. v.number) e } in
     let few : back.len ≤ 8 = omega (arith, (law.within t 8 (drop 32 body) back.len others back.number behind).1) in
     let leading : ℕ = cond (eqb w.zeroes 32) (32 + others) w.zeroes in
     let both : Reading t 40 body (32 + back.len) leading number = law.joined t 32 8 body w.zeroes w.number back.len others back.number front behind in
-    let counting : counting_digits skip (32 + back.len) leading ≡ 32 + back.len = all_count skip (32 + back.len) w.zeroes others (λ h. kept h full) in
+    let counting : counting_digits skip (32 + back.len) leading ≡ 32 + back.len = all_count skip (32 + back.len) w.zeroes others (λ h. so.ends h full) in
     let enough : (32 + back.len < 40) ⊎ (40 ≤ counting_digits skip (32 + back.len) leading) =
     elim (cases_lt back.len 8) [ inl h ↦ inl (omega arith) | inr h ↦ inr (omega arith) ] in
-    let none : at + (32 + back.len - (32 + back.len)) ≡ at = omega arith in
-    let all : 32 + back.len ≡ w.len + back.len = omega arith in (
-      len,
+    let none : at + (32 + back.len - (32 + back.len)) ≡ at = omega arith in (
       few,
-      sym (law.decided t wide128 bound 39 (lit< tt) skip s at 40 (32 + back.len) leading number skipped both enough
+      sym (law.decided t wide128 bound 39 (lit< tt) skip s at 40 (32 + back.len) leading number so.skipped both enough
           ∙ ap (λ (n : ℕ). answer_by_digits wide128 bound 39 (at + (32 + back.len - n)) n number s) counting
-          ∙ ap (λ (n : ℕ). answer_by_digits wide128 bound 39 n (32 + back.len) number s) none
-          ∙ ap (λ (n : ℕ). answer_by_digits wide128 bound 39 at n number s) all),
+          ∙ ap (λ (n : ℕ). answer_by_digits wide128 bound 39 n (32 + back.len) number s) none),
     )
 
 -- as many digits as a size of 128 bits tells are too many

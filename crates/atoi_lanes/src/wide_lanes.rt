@@ -1,17 +1,19 @@
 //! The parses of wide integers at the front of a slice, by windows of 32 lanes.
 //! It stands on `window_32`, on the engine's `window_8`, and on `atoi_core`'s law of what was read.
-ghost use Rattle.std.specs.Prelude.{◌≡◌, ◌+◌, ◌*◌, ◌/◌, ◌≤◌, nat_lt, IsTrue, if◌then◌else◌, length, drop};
+ghost use Rattle.std.specs.Prelude.{◌≡◌, ◌+◌, ◌*◌, ◌/◌, ◌<◌, ◌≤◌, nat_lt, if◌then◌else◌, length, drop};
 ghost use Rattle.atoi_core.specs.Digit.{decimal_table};
 ghost use Rattle.atoi_core.specs.Loads.{LoadsWithin};
 ghost use Rattle.atoi_core.specs.Magnitude.{HasDigits, wide64, wide128, prefix_magnitude};
-ghost use Rattle.atoi_core.specs.Reading.{Reading, IsSkipped, answer_by_digits};
+ghost use Rattle.atoi_core.specs.Reading.{answer_by_digits};
 ghost use Rattle.atoi_core.specs.Refusal.{answer_of};
 ghost use Rattle.atoi_core.specs.Run.{zeros};
+ghost use Rattle.atoi_core.specs.Window.{window_of};
+ghost use Rattle.atoi_lanes.specs.ReadsBehind.{ReadsBehind};
 
 use crate::lanes::Lanes;
 use crate::window_32::{Window32, power_of_ten, window_32};
 use atoi_core::reading::reading_decides;
-use atoi_core::{AtoiSimdError, Engine, Steps};
+use atoi_core::{AtoiSimdError, Engine, Steps, Window};
 
 /// The number at the front of `s`, and how many bytes it has, for an integer of 64 bits: what
 /// `Engine::prefix_64` answers, under its conditions, by windows of 32 bytes.
@@ -37,13 +39,7 @@ pub fn prefix_64_lanes<'a>(
     ensures loads { LoadsWithin (zeros decimal_table s.now / 32 + 2) decimal_table skip s.now
         steps.old steps.new }
 {
-    // What was read of the slice decides its answer.
-    reading_decides();
-    let front = behind_zeros(skip, s, steps);
-    let leading = if skip { front.window.zeroes } else { 0 };
-    let skipped = front.at + leading as usize;
-    let counting = front.window.len - leading;
-    answer_64(bound, limit, skipped, counting, front.window.number, s)
+    told_64(bound, limit, skip, behind_zeros(skip, s, steps), s)
 }
 
 /// The number at the front of `s`, and how many bytes it has, for an integer of 128 bits: what
@@ -68,32 +64,12 @@ pub fn prefix_128_lanes<'a>(
     ensures loads { LoadsWithin (zeros decimal_table s.now / 32 + 3) decimal_table skip s.now
         steps.old steps.new }
 {
-    // What was read of the slice decides its answer.
-    reading_decides();
     let front = behind_zeros(skip, s, steps);
-    let digits = front.at + front.window.len as usize;
     if front.window.len < 32 {
-        return if digits == 0 {
-            Err(AtoiSimdError::Empty)
-        } else {
-            Ok((front.window.number, digits))
-        };
+        return short_128(bound, skip, front, s);
     }
-    let body = &s[front.at..];
-    let back = Lanes::window_8(&body[32..], steps);
-    let len = digits + back.len as usize;
-    if back.len == 8 {
-        return Err(AtoiSimdError::Size(len, body));
-    }
-    match up_to(
-        bound,
-        front.window.number,
-        power_of_ten(back.len),
-        back.number,
-    ) {
-        Some(number) => Ok((number, len)),
-        None => Err(AtoiSimdError::Overflow(body)),
-    }
+    let back = window_behind(&s[front.at..], steps);
+    told_128(bound, skip, front, back, s)
 }
 
 // A place behind zeros that are skipped, and the window that was read there.
@@ -104,11 +80,10 @@ struct Front {
 }
 
 // Drops the zeros of windows that are full of digits, where zeros are skipped.
+#[inline(always)]
 fn behind_zeros(skip: bool, s: &[u8], steps: &mut Steps) -> Front
-    ensures skipped { IsSkipped decimal_table skip s.now result.at }
-    ensures reading { Reading decimal_table 32 (drop result.at s.now) result.window.len result.window.zeroes result.window.number }
-    ensures within { result.at + result.window.len ≤ length s.now }
-    ensures ends { IsTrue skip → 32 ≤ result.window.len → result.window.zeroes ≡ 0 }
+    ensures front { ReadsBehind skip s.now result.at result.window.len result.window.zeroes
+        result.window.number }
     ensures loads { LoadsWithin (zeros decimal_table s.now / 32 + 2) decimal_table skip s.now
         steps.old steps.new }
 {
@@ -121,6 +96,95 @@ fn behind_zeros(skip: bool, s: &[u8], steps: &mut Steps) -> Front
             return Front { at, window };
         }
         at += window.zeroes as usize;
+    }
+}
+
+// The eight bytes behind the first 32.
+#[inline(always)]
+fn window_behind(s: &[u8], steps: &mut Steps) -> Window
+    requires { 32 ≤ length s.now }
+    ensures window { result ≡ window_of decimal_table 8 (drop 32 s.now) }
+    ensures one_step { steps.new ≡ steps.old + 1 }
+{
+    Lanes::window_8(&s[32..], steps)
+}
+
+// The answer of 64 bits, which the last window decides.
+#[inline(always)]
+fn told_64<'a>(
+    bound: u64,
+    limit: u32,
+    skip: bool,
+    front: Front,
+    s: &'a [u8],
+) -> Result<(u64, usize), AtoiSimdError<'a>>
+    requires limit_high { limit ≤ 20 }
+    requires front { ReadsBehind skip s.now front.at front.window.len front.window.zeroes
+        front.window.number }
+    ensures { answer_of result ≡ prefix_magnitude decimal_table wide64 bound limit skip s.now }
+{
+    reading_decides();
+    let leading = if skip { front.window.zeroes } else { 0 };
+    let skipped = front.at + leading as usize;
+    let counting = front.window.len - leading;
+    answer_64(bound, limit, skipped, counting, front.window.number, s)
+}
+
+// The answer of 128 bits, where a window that is not full of digits decides it: these are too few
+// to pass the bound.
+#[inline(always)]
+fn short_128<'a>(
+    bound: u128,
+    skip: bool,
+    front: Front,
+    s: &'a [u8],
+) -> Result<(u128, usize), AtoiSimdError<'a>>
+    requires digits { HasDigits 39 bound }
+    requires front { ReadsBehind skip s.now front.at front.window.len front.window.zeroes
+        front.window.number }
+    requires short { front.window.len < 32 }
+    ensures { answer_of result ≡ prefix_magnitude decimal_table wide128 bound 39 skip s.now }
+{
+    reading_decides();
+    let len = front.at + front.window.len as usize;
+    if len == 0 {
+        Err(AtoiSimdError::Empty)
+    } else {
+        Ok((front.window.number, len))
+    }
+}
+
+// The answer of 128 bits, where a window that is full of digits and the eight bytes behind it
+// decide it.
+#[inline(always)]
+fn told_128<'a>(
+    bound: u128,
+    skip: bool,
+    front: Front,
+    back: Window,
+    s: &'a [u8],
+) -> Result<(u128, usize), AtoiSimdError<'a>>
+    requires digits { HasDigits 39 bound }
+    requires front { ReadsBehind skip s.now front.at front.window.len front.window.zeroes
+        front.window.number }
+    requires full { 32 ≤ front.window.len }
+    requires back { back ≡ window_of decimal_table 8 (drop 32 (drop front.at s.now)) }
+    ensures { answer_of result ≡ prefix_magnitude decimal_table wide128 bound 39 skip s.now }
+{
+    reading_decides();
+    let body = &s[front.at..];
+    let len = front.at + 32 + back.len as usize;
+    if back.len == 8 {
+        return Err(AtoiSimdError::Size(len, body));
+    }
+    match up_to(
+        bound,
+        front.window.number,
+        power_of_ten(back.len),
+        back.number,
+    ) {
+        Some(number) => Ok((number, len)),
+        None => Err(AtoiSimdError::Overflow(body)),
     }
 }
 

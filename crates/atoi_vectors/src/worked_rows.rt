@@ -145,6 +145,31 @@ fn runs_of_32_digits(rt: HostRuntime) {
 }
 
 #[test]
+fn runs_that_pass_32_bytes_with_their_zeros(rt: HostRuntime) {
+    on_both!(rt;
+        parse_prefix::<u64, true, false>(b"00000000000018446744073709551615") => Ok((u64::MAX, 32));
+        parse_prefix::<u64, true, false>(b"000000000000018446744073709551615") => Ok((u64::MAX, 33));
+        parse_prefix::<u64, true, false>(b"00000000000018446744073709551616")
+            => Err(Overflow(b"18446744073709551616"));
+        parse_prefix::<u64, true, false>(b"0001111111111111111111111111")
+            => Err(Size(27, b"1111111111111111111111111"));
+        parse_prefix::<i64, true, false>(b"0000000000000000000000000000000000000000000000000000000000000000")
+            => Ok((0, 64));
+    );
+}
+
+#[test]
+fn runs_of_forty_digits(rt: HostRuntime) {
+    on_both!(rt;
+        parse::<u128, false, false>(b"0340282366920938463463374607431768211455")
+            => Err(Size(40, b"0340282366920938463463374607431768211455"));
+        parse::<u128, true, false>(b"0340282366920938463463374607431768211455") => Ok(u128::MAX);
+        parse_prefix::<u128, true, false>(b"00999999999999999999999999999999999999999x")
+            => Err(Overflow(b"999999999999999999999999999999999999999x"));
+    );
+}
+
+#[test]
 fn a_sign_that_was_taken_is_counted(rt: HostRuntime) {
     on_both!(rt;
         parse_prefix::<i32, false, true>(b"+12a") => Ok((12, 3));

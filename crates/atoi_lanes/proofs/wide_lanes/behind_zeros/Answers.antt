@@ -1,5 +1,5 @@
 -- The loop keeps what `Skipping` says; the loads follow from it.
-use Rattle.std.proofs.Common.{◌≡◌, ◌+◌, ◌-◌, ◌<◌, ◌≤◌, ℕ, Bool, List, min, length, take, drop, IsTrue, sym, ◌∙◌, subst, arith, inl, inr}
+use Rattle.std.proofs.Common.{◌≡◌, ◌-◌, ◌<◌, ℕ, Bool, List, min, length, take, drop, sym, ◌∙◌, subst, arith, inl, inr}
 use Rattle.std.proofs.lemmas.Bool.{false≢true}
 use Rattle.std.proofs.lemmas.List.{take_rest, length-drop}
 use Rattle.atoi_core.specs.Digit.{decimal_table}
@@ -28,16 +28,22 @@ loop-window-preserved c =
     let told = zeroes-left c.reading_decides.ensures _ _ _ _ _ w c.loop-window.invariant c.window_32-window.ensures.reading in
     Skipping-more _ _ _ _ _ _ _ c.loop-window.invariant told c.window_32-window.ensures.one_step c.if-not-skip.false (omega arith)
 
-pub returns-then-not-skip-clause-reading : goal.returns-then-not-skip-clause-reading
-returns-then-not-skip-clause-reading c = of_rest c.args.s.now c.loop-window.at c.window_32-window.result c.window_32-window.ensures.reading
-
-pub returns-then-not-skip-clause-within : goal.returns-then-not-skip-clause-within
-returns-then-not-skip-clause-within c =
+pub returns-then-not-skip-clause-front : goal.returns-then-not-skip-clause-front
+returns-then-not-skip-clause-front c =
     let s = c.args.s.now in
     let at = c.loop-window.at in
     let w = c.window_32-window.result in
     let reading = of_rest s at w c.window_32-window.ensures.reading in
-    omega (arith, c.loop-window.invariant.within, c.reading_decides.ensures.within decimal_table 32 (drop at s) w.len w.zeroes w.number reading, length-drop at s)
+    let most = c.reading_decides.ensures.within decimal_table 32 (drop at s) w.len w.zeroes w.number reading in
+    record {
+      skipped = c.loop-window.invariant.skipped;
+      reading = reading;
+      within = omega (arith, c.loop-window.invariant.within, most, length-drop at s);
+      ends = λ on full. elim c.then-not-skip.either [
+        | inl off ↦ absurd (false≢true (sym off ∙ on))
+        | inr ends ↦ (elim ends [ inl none ↦ omega arith | inr short ↦ absurd (omega arith) ])
+      ];
+    }
 
 pub returns-then-not-skip-clause-loads : goal.returns-then-not-skip-clause-loads
 returns-then-not-skip-clause-loads c =

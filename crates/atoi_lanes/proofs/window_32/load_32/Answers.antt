@@ -1,6 +1,6 @@
-use Rattle.std.proofs.Common.{◌++◌, ◌-◌, length, take, drop, ap, ap₂, ◌∙◌, arith}
+use Rattle.std.proofs.Common.{◌++◌, length, drop, ap, ap₂, ◌∙◌}
 use Rattle.std.proofs.Math.Nat.{min_comm}
-use Rattle.std.proofs.lemmas.List.{length-append, take_rest, drop_min}
+use Rattle.std.proofs.lemmas.List.{take_rest, drop_min}
 use Rattle.std.proofs.lemmas.Simd.{pick_l_whole}
 use Rattle.atoi_lanes.specs.Padded.{padded_front}
 use Rattle.atoi_lanes.proofs.Window32Lemmas.{padded_halves, length-padded}

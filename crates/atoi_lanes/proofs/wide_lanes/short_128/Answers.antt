@@ -1,0 +1,26 @@
+-- What the window told decides.
+use Rattle.std.proofs.Common.{◌+◌, cond, sym, ap, ◌∙◌, arith, ne_eqb, Ok, Err}
+use Rattle.std.proofs.lemmas.Bool.{eq-eqb}
+use Rattle.std.proofs.lemmas.Bool.Decides.{nat_tests}
+use Rattle.atoi_core.specs.Digit.{IsBelowTen, decimal_table}
+use Rattle.atoi_core.specs.Refusal.{empty}
+use Rattle.atoi_lanes.proofs.DecidedLemmas.{decided_short}
+use Rattle.atoi_lanes.proofs.wide_lanes.short_128.Goals as goal
+
+-- no digit is worth more than nine
+below_ten : IsBelowTen decimal_table
+below_ten byte = grind (arith, nat_tests)
+
+pub returns-then-len-eq0 : goal.returns-then-len-eq0
+returns-then-len-eq0 c =
+    let at = c.args.front.at in
+    let w = c.args.front.window in
+    ap (λ b. cond b (Err empty) (Ok (w.number, at + w.len))) (sym (eq-eqb (at + w.len) 0 c.if-len-eq0.true))
+    ∙ decided_short c.reading_decides.ensures below_ten c.args.bound _ _ _ w c.requires.digits c.requires.front c.requires.short
+
+pub returns-else-len-eq0 : goal.returns-else-len-eq0
+returns-else-len-eq0 c =
+    let at = c.args.front.at in
+    let w = c.args.front.window in
+    ap (λ b. cond b (Err empty) (Ok (w.number, at + w.len))) (sym (ne_eqb (at + w.len) 0 c.if-len-eq0.false))
+    ∙ decided_short c.reading_decides.ensures below_ten c.args.bound _ _ _ w c.requires.digits c.requires.front c.requires.short
