@@ -7,7 +7,7 @@ use Rattle.std.proofs.lemmas.Nat.{pow_pos}
 use Rattle.std.proofs.lemmas.Simd.{Each1-weaker}
 use Rattle.std.specs.Int.Bits.{bit_and}
 use Rattle.atoi_lanes.specs.Paired.{paired}
-use lib.Lanes.{Each1, number_l, digits_l}
+use lib.Lanes.{Each1, number_l, digits_l, dots}
 
 -- n digits write less than the power
 number-lt : (p : ℕ) (xs : List ℕ) → Each1 (λ x. x < p) xs → number_l p xs < p ^ length xs
@@ -68,3 +68,28 @@ level h t n m room bytes xs long below =
     let le : t ≤ 2 ^ h = omega (arith, square t) in
     ap (λ k. map (step h t) (digits_l (2 ^ h * 2 ^ h) m k)) (recast (2 ^ h) n xs (ap (λ k. (2 ^ h) ^ k) long ∙ bytes) (Each1-weaker (λ x. x < t) (λ x. x < 2 ^ h) (λ x lt. omega arith) xs below))
     ∙ joined (2 ^ h) t (step h t) le (step-joins h t room) m xs long below
+
+-- the weights of the bytes of pairs, and how many bytes these are
+abbrev hundreds : ℕ → List ℕ
+hundreds zero = []
+hundreds (suc m) = 100 ∷ 0 ∷ 1 ∷ 0 ∷ hundreds m
+
+abbrev four_each : ℕ → ℕ
+four_each zero = zero
+four_each (suc m) = suc (suc (suc (suc (four_each m))))
+
+-- the bytes of lanes of 16 bits that hold pairs, by these weights
+pub weighed : (m : ℕ) (xs : List ℕ) → length xs ≡ m + m → Each1 (λ x. x < 100) xs
+    → dots (digits_l 256 (four_each m) (number_l 65536 xs)) (hundreds m) ≡ paired 100 xs
+weighed zero [] long h = refl
+weighed zero (x ∷ xs) long h = absurd (omega arith)
+weighed (suc m) [] long h = absurd (omega arith)
+weighed (suc m) (x ∷ []) long h = absurd (omega arith)
+weighed (suc m) (x ∷ y ∷ rest) long h =
+    let n = number_l 65536 rest in
+    let all = x + 65536 * (y + 65536 * n) in
+    let first : all % 256 ≡ x = omega (arith, h.0) in
+    let second : all / 256 / 256 % 256 ≡ y = omega (arith, h.0, h.1.0) in
+    let behind : all / 256 / 256 / 256 / 256 ≡ n = omega (arith, h.0, h.1.0) in
+    ap₂ (λ d ds. d ∷ ds) (omega (arith, first, second))
+    (ap (λ k. dots (digits_l 256 (four_each m) k) (hundreds m)) behind ∙ weighed m rest (omega arith) h.1.1)

@@ -23,6 +23,10 @@ const SHIFTS: [u8; 32] = [
     5, 6, 7, 8, 9, 10, 11, 12, 13, 14, 15,
 ];
 
+// What the bytes of two neighbouring pairs are worth in the four digits that they make. The upper
+// byte of each pair is 0.
+const HUNDREDS: [u8; 16] = [100, 0, 1, 0, 100, 0, 1, 0, 100, 0, 1, 0, 100, 0, 1, 0];
+
 /// The first 16 bytes, or all where there are fewer: the first in the first lane. A lane whose byte
 /// is missing is 0.
 #[inline(always)]
@@ -111,8 +115,7 @@ fn fours(pairs: u16x8) -> u32x4
     requires { Each1 (λ pair. pair < 100) pairs }
     ensures { result ≡ paired 100 pairs }
 {
-    let fields = u32x4::from_le_bytes(pairs.to_le_bytes());
-    (fields & u32x4::splat(0xFFFF)) * u32x4::splat(100) + (fields >> u32x4::splat(16))
+    pairs.to_le_bytes().dot4(u8x16::from_array(HUNDREDS))
 }
 
 // Each eight digits as one lane.
