@@ -41,8 +41,9 @@ pub trait Parse: ParsePos {
     ///
     /// # Errors
     ///
-    /// `Empty`, `Size` and `Overflow`, as of `atoi_simd_parse`. The slice of an `Overflow` is told
-    /// at `parse_prefix`.
+    /// `Empty`, `Size` and `Overflow`, as of `atoi_simd_parse`; `Size` also where a type of at most
+    /// 32 bits has more than 16 digits without `skip_zeroes`. The slice of an `Overflow` is told at
+    /// `parse_prefix`.
     fn atoi_simd_parse_prefix(
         s: &[u8],
         skip_zeroes: bool,

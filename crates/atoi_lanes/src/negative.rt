@@ -36,14 +36,13 @@ pub trait ParseNeg: Signed {
     /// The number whose magnitude stands at the front of `s`, and the length of its digits in
     /// bytes, zeros included.
     ///
-    /// Without `skip_zeroes` a type of at most 32 bits reads 16 digits at most.
-    ///
     /// `i32::atoi_simd_parse_prefix_neg(b"12a", false)` is `Ok((-12, 2))`. Mirrors
     /// `ParseNeg::atoi_simd_parse_prefix_neg`.
     ///
     /// # Errors
     ///
-    /// `Empty`, `Size` and `Overflow`, as of `atoi_simd_parse_neg`. The slice of an `Overflow` is
+    /// `Empty`, `Size` and `Overflow`, as of `atoi_simd_parse_neg`; `Size` also where a type of at
+    /// most 32 bits has more than 16 digits without `skip_zeroes`. The slice of an `Overflow` is
     /// told at `parse_prefix`.
     fn atoi_simd_parse_prefix_neg(
         s: &[u8],

@@ -108,9 +108,8 @@ pub fn parse_neg<T: ParseNeg, const SKIP_ZEROES: bool>(s: &[u8]) -> Result<T, At
 /// of `s` it takes.
 ///
 /// A sign is taken as by `parse`, and the count is of its byte, of the zeros and of the other
-/// digits: `s[count..]` is the rest. With `SKIP_ZEROES` any number of leading zeros is read.
-/// Without it a type of at most 32 bits reads 16 digits at most, zeros among them, and of a type of
-/// 64 or 128 bits the zeros count as digits.
+/// digits: `s[count..]` is the rest. With `SKIP_ZEROES` any number of leading zeros is read;
+/// without it they count as digits.
 ///
 /// `parse_prefix::<u64, false, false>(b"123something_else")` is `Ok((123, 3))`. Mirrors
 /// `atoi_simd::parse_prefix`, which leaves a taken `+` out of the count.
@@ -120,7 +119,8 @@ pub fn parse_neg<T: ParseNeg, const SKIP_ZEROES: bool>(s: &[u8]) -> Result<T, At
 /// The first that holds of:
 /// - `Empty` where the body does not begin with a digit;
 /// - `Size` for a type of 64 or 128 bits, where more digits count than its greatest number has: the
-///   leading zeros count unless `SKIP_ZEROES`;
+///   leading zeros count unless `SKIP_ZEROES`. For a type of at most 32 bits, without `SKIP_ZEROES`
+///   alone, where there are more than 16 digits: it tells 17, and holds the body;
 /// - `Overflow` where the number is above the greatest of `T`, or below the least. With
 ///   `SKIP_ZEROES` the slice of a type of at most 32 bits leaves out the leading zeros in whole
 ///   blocks of 16 bytes, and the others too where the block in which they end is full of digits.
@@ -140,8 +140,7 @@ pub fn parse_prefix<T: Parse, const SKIP_ZEROES: bool, const SKIP_PLUS: bool>(
 /// Parses the digits at the front of `s`, without a sign, and tells how many bytes of `s` they are.
 ///
 /// The count is of the zeros and of the other digits: `s[count..]` is the rest. With `SKIP_ZEROES`
-/// any number of leading zeros is read. Without it a type of at most 32 bits reads 16 digits at
-/// most, zeros among them, and of a type of 64 or 128 bits the zeros count as digits.
+/// any number of leading zeros is read; without it they count as digits.
 ///
 /// `parse_prefix_pos::<u16, false>(b"80/tcp")` is `Ok((80, 2))`. Mirrors
 /// `atoi_simd::parse_prefix_pos`.
@@ -151,7 +150,8 @@ pub fn parse_prefix<T: Parse, const SKIP_ZEROES: bool, const SKIP_PLUS: bool>(
 /// The first that holds of:
 /// - `Empty` where `s` does not begin with a digit;
 /// - `Size` for a type of 64 or 128 bits, where more digits count than its greatest number has: the
-///   leading zeros count unless `SKIP_ZEROES`;
+///   leading zeros count unless `SKIP_ZEROES`; and for a type of at most 32 bits, without
+///   `SKIP_ZEROES`, where there are more than 16 digits;
 /// - `Overflow` where the digits write a number above the greatest of `T`.
 ///
 /// What an error carries is told at `parse_prefix`; the body is `s`.
@@ -170,8 +170,7 @@ pub fn parse_prefix_pos<T: Parse, const SKIP_ZEROES: bool>(
 /// not positive, and tells how many bytes of `s` they are.
 ///
 /// The count is of the zeros and of the other digits: `s[count..]` is the rest. With `SKIP_ZEROES`
-/// any number of leading zeros is read. Without it a type of at most 32 bits reads 16 digits at
-/// most, zeros among them, and of a type of 64 or 128 bits the zeros count as digits.
+/// any number of leading zeros is read; without it they count as digits.
 ///
 /// `parse_prefix_neg::<i32, false>(b"12a")` is `Ok((-12, 2))`. Mirrors
 /// `atoi_simd::parse_prefix_neg`.
@@ -181,7 +180,8 @@ pub fn parse_prefix_pos<T: Parse, const SKIP_ZEROES: bool>(
 /// The first that holds of:
 /// - `Empty` where `s` does not begin with a digit;
 /// - `Size` for a type of 64 or 128 bits, where more digits count than its greatest number has: the
-///   leading zeros count unless `SKIP_ZEROES`;
+///   leading zeros count unless `SKIP_ZEROES`; and for a type of at most 32 bits, without
+///   `SKIP_ZEROES`, where there are more than 16 digits;
 /// - `Overflow` where the digits write a magnitude above that of the least number of `T`.
 ///
 /// What an error carries is told at `parse_prefix`; the body is `s`.

@@ -33,14 +33,13 @@ pub trait ParsePos: Number {
 
     /// The number at the front of `s`, and its length in bytes, zeros included.
     ///
-    /// Without `skip_zeroes` a type of at most 32 bits reads 16 digits at most.
-    ///
     /// `u16::atoi_simd_parse_prefix_pos(b"80/tcp", false)` is `Ok((80, 2))`. Mirrors
     /// `ParsePos::atoi_simd_parse_prefix_pos`.
     ///
     /// # Errors
     ///
-    /// `Empty`, `Size` and `Overflow`, as of `atoi_simd_parse_pos`. The slice of an `Overflow` is
+    /// `Empty`, `Size` and `Overflow`, as of `atoi_simd_parse_pos`; `Size` also where a type of at
+    /// most 32 bits has more than 16 digits without `skip_zeroes`. The slice of an `Overflow` is
     /// told at `parse_prefix`.
     fn atoi_simd_parse_prefix_pos(
         s: &[u8],

@@ -1,6 +1,7 @@
 //! That the three engines answer alike on a slice, in each call that an engine serves.
 //! It stands on the engines and on the loops of `atoi_core`.
 
+use crate::differences::{LONG_ROWS, PLUS_ROWS};
 use crate::original::ROWS;
 use atoi_core::{Engine, Plain, Steps, Window, Words, narrow_prefix, narrow_whole_windows};
 use atoi_simd::lanes::Lanes;
@@ -161,11 +162,17 @@ fn on_every_worked_slice(rt: HostRuntime) {
     }
 }
 
+// Checks the text of each row, which has four words before it.
+fn check_texts(rt: &impl Abort, rows: &[u8]) {
+    for row in rows.split(is_end) {
+        let text = row.splitn(5, |byte| *byte == b' ').nth(4);
+        check(rt, text.unwrap_or(row));
+    }
+}
+
 #[test]
 fn on_every_text_of_the_original(rt: HostRuntime) {
-    for row in ROWS.split(is_end) {
-        // A row has four words before its text.
-        let text = row.splitn(5, |byte| *byte == b' ').nth(4);
-        check(&rt, text.unwrap_or(row));
-    }
+    check_texts(&rt, ROWS);
+    check_texts(&rt, PLUS_ROWS);
+    check_texts(&rt, LONG_ROWS);
 }

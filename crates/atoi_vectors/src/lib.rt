@@ -7,6 +7,7 @@
 mod agreement;
 #[cfg(test)]
 mod decimal_texts;
+pub mod differences;
 #[cfg(test)]
 mod loops;
 #[cfg(test)]

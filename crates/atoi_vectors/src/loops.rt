@@ -27,6 +27,10 @@ fn narrow_prefixes<E: Engine>(rt: &impl Abort) {
     let zeros = b"00000000000000000000000000000000x";
     assert_eq!(rt;
         narrow_prefix::<E>(GREATEST_U8, false, seven, &mut steps),
+        Err(Size(17, seven))
+    );
+    assert_eq!(rt;
+        narrow_prefix::<E>(GREATEST_U8, false, &seven[..16], &mut steps),
         Ok((0, 16))
     );
     assert_eq!(rt;
@@ -50,7 +54,7 @@ fn narrow_overflows<E: Engine>(rt: &impl Abort) {
     let short = &cut[1..];
     assert_eq!(rt;
         narrow_prefix::<E>(GREATEST_U8, false, above, &mut steps),
-        Ok((25, 16))
+        Err(Size(17, above))
     );
     assert_eq!(rt;
         narrow_prefix::<E>(GREATEST_U8, true, above, &mut steps),

@@ -65,13 +65,28 @@ fn zeros_before_a_prefix_of_eight_bits(rt: HostRuntime) {
     let cut = b"0000000000000999x";
     let short = b"000000000000999x";
     on_both!(rt;
-        parse_prefix::<u8, false, false>(seven) => Ok((0, 16));
         parse_prefix::<u8, true, false>(seven) => Ok((7, 17));
         parse_prefix::<u8, true, false>(b"0000000000000000") => Ok((0, 16));
-        parse_prefix::<u8, false, false>(above) => Ok((25, 16));
         parse_prefix::<u8, true, false>(above) => Err(Overflow(b"255999"));
         parse_prefix::<u8, true, false>(cut) => Err(Overflow(b"999x"));
         parse_prefix::<u8, true, false>(short) => Err(Overflow(short));
+    );
+}
+
+#[test]
+fn a_narrow_prefix_of_more_than_16_digits(rt: HostRuntime) {
+    let seven = b"00000000000000007";
+    let above = b"00000000000000255999";
+    let ones = b"11111111111111111";
+    let zeros = b"-00000000000000000";
+    on_both!(rt;
+        parse_prefix::<u8, false, false>(seven) => Err(Size(17, seven));
+        parse_prefix::<u8, false, false>(above) => Err(Size(17, above));
+        parse_prefix::<u8, false, false>(b"0000000000000000x") => Ok((0, 16));
+        parse_prefix::<u32, false, false>(ones) => Err(Size(17, ones));
+        parse_prefix::<u32, false, false>(&ones[1..]) => Err(Overflow(&ones[1..]));
+        parse_prefix::<i32, false, false>(b"-0000000000000007x") => Ok((-7, 17));
+        parse_prefix::<i8, false, false>(zeros) => Err(Size(17, &zeros[1..]));
     );
 }
 

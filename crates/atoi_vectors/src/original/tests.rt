@@ -2,9 +2,13 @@
 //! It stands on the public calls of `atoi_simd`, and on what `atoi_core` prints.
 
 use super::{ANSWERS, ROWS};
+use crate::differences::{
+    LONG_ANSWERS, LONG_ORIGINAL, LONG_ROWS, PLUS_ANSWERS, PLUS_ORIGINAL, PLUS_ROWS,
+};
 use atoi_core::{AtoiSimdError, Number, decimal};
 use atoi_simd::lanes;
-use std::alloc::AllocError;
+use std::alloc::{AllocError, Global};
+use std::process::Abort;
 use std::test::Fail;
 
 // A row without its engine.
@@ -195,23 +199,26 @@ fn put_lanes(row: &Row<'_>, line: &mut Vec<u8>) -> Result<(), AllocError> {
     }
 }
 
-// How many rows there are.
-const COUNT: usize = 720;
-
 fn is_end(byte: &u8) -> bool {
     *byte == b'\n'
 }
 
-#[test]
-fn both_answer_every_row(rt: HostRuntime) -> Result<(), Fail> {
-    for (place, (text, answer)) in ROWS
+// Checks that the root and `lanes` give these answers to the first `count` rows.
+fn check_rows(
+    rt: &impl Abort,
+    alloc: Global,
+    rows: &[u8],
+    answers: &[u8],
+    count: usize,
+) -> Result<(), Fail> {
+    for (place, (text, answer)) in rows
         .split(is_end)
-        .zip(ANSWERS.split(is_end))
-        .take(COUNT)
+        .zip(answers.split(is_end))
+        .take(count)
         .enumerate()
     {
         let row = row_of(text).ok_or("no row")?;
-        let mut line = Vec::new(rt.alloc());
+        let mut line = Vec::new(alloc);
         put_root(&row, &mut line)?;
         assert_eq!(rt; line.as_slice(), answer, "the root at row {place}");
         line.clear();
@@ -221,8 +228,57 @@ fn both_answer_every_row(rt: HostRuntime) -> Result<(), Fail> {
     Ok(())
 }
 
+// How many rows there are: those that the original answers alike, those with a plus that is counted
+// here alone, and the narrow prefixes of more than 16 digits.
+const ALIKE: usize = 665;
+
+const PLUS: usize = 31;
+
+const LONG: usize = 24;
+
+#[test]
+fn both_answer_as_the_original(rt: HostRuntime) -> Result<(), Fail> {
+    check_rows(&rt, rt.alloc(), ROWS, ANSWERS, ALIKE)
+}
+
+#[test]
+fn both_count_a_plus(rt: HostRuntime) -> Result<(), Fail> {
+    check_rows(&rt, rt.alloc(), PLUS_ROWS, PLUS_ANSWERS, PLUS)
+}
+
+#[test]
+fn both_refuse_a_narrow_prefix_of_more_than_16_digits(rt: HostRuntime) -> Result<(), Fail> {
+    check_rows(&rt, rt.alloc(), LONG_ROWS, LONG_ANSWERS, LONG)
+}
+
+// Checks that the original answers each of these rows, and each otherwise than this port.
+fn check_differences(rt: &impl Abort, original: &[u8], answers: &[u8], count: usize) {
+    let differing = original
+        .split(is_end)
+        .zip(answers.split(is_end))
+        .filter(|(there, here)| there != here)
+        .count();
+    assert_eq!(rt; differing, count);
+}
+
+#[test]
+fn each_difference_is_one(rt: HostRuntime) {
+    check_differences(&rt, PLUS_ORIGINAL, PLUS_ANSWERS, PLUS);
+    check_differences(&rt, LONG_ORIGINAL, LONG_ANSWERS, LONG);
+}
+
 #[test]
 fn no_row_is_missing(rt: HostRuntime) {
-    assert_eq!(rt; ROWS.iter().filter(|byte| is_end(byte)).count(), COUNT);
-    assert_eq!(rt; ANSWERS.iter().filter(|byte| is_end(byte)).count(), COUNT);
+    for (lines, count) in [
+        (ROWS, ALIKE),
+        (ANSWERS, ALIKE),
+        (PLUS_ROWS, PLUS),
+        (PLUS_ORIGINAL, PLUS),
+        (PLUS_ANSWERS, PLUS),
+        (LONG_ROWS, LONG),
+        (LONG_ORIGINAL, LONG),
+        (LONG_ANSWERS, LONG),
+    ] {
+        assert_eq!(rt; lines.iter().filter(|byte| is_end(byte)).count(), count);
+    }
 }
