@@ -16,11 +16,13 @@ use std::process::ExitCode;
 
 mod answer;
 mod calls;
+mod columns;
 mod input;
 mod line;
 mod output;
 mod place;
 mod printed;
+mod put;
 mod refused;
 mod request;
 mod row;
