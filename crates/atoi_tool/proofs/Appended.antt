@@ -1,5 +1,5 @@
 -- Appending one part after another.
-use Rattle.std.proofs.Common.{◌≡◌, ℕ, ◌+◌, List, [], ◌++◌, ◌≤◌, length, take, drop, Option, Some, None, refl, sym, ap, ◌∙◌, append_assoc, arith, length-append}
+use Rattle.std.proofs.Common.{◌≡◌, ℕ, ◌+◌, List, [], ◌++◌, ◌≤◌, length, take, drop, Option, Some, None, Result, Ok, Err, OnErr, refl, sym, ap, ◌∙◌, append_assoc, arith, length-append}
 use Rattle.std.proofs.lemmas.List.{append-nil, take-append-le}
 use Rattle.std.proofs.Math.Seq.{take-add, take-append-add}
 use Rattle.std.specs.Io.KnownBytes.{Appends, Keeps}
@@ -67,3 +67,25 @@ IsPutUpTo-refused old mid new whole part rest before refused =
 pub Appends-take : (old mid new : Option (List ℕ)) (n m : ℕ) (xs : List ℕ) → Appends old mid (take n xs) → Appends mid new (take m (drop n xs)) → Appends old new (take (n + m) xs)
 Appends-take old mid new n m xs first second =
     rw (take-add n m xs) (Appends-append old mid new (take n xs) (take m (drop n xs)) first second)
+
+-- what holds in any case holds where there is an error
+pub OnErr-any : {A E : Type 0} (P : Type 0) (r : Result A E) → P → OnErr r P
+OnErr-any P (Ok value) h = tt
+OnErr-any P (Err error) h = h
+
+-- a beginning of the first of two parts
+pub AppendsFront-first : (old new : Option (List ℕ)) (xs ys : List ℕ) → AppendsFront old new xs → AppendsFront old new (xs ++ ys)
+AppendsFront-first old new xs ys refused =
+    IsPutUpTo-refused old old new (xs ++ ys) xs ys (IsPutUpTo-start old (xs ++ ys)) refused
+
+-- the first of two parts, and a beginning of the second
+pub AppendsFront-second : (old mid new : Option (List ℕ)) (xs ys : List ℕ) → Appends old mid xs → AppendsFront mid new ys → AppendsFront old new (xs ++ ys)
+AppendsFront-second old mid new xs ys first refused =
+    IsPutUpTo-refused old mid new (xs ++ ys) ys []
+    (record { front = xs; parts = ap (λ (back : List ℕ). xs ++ back) (sym (append-nil ys)); put = first }) refused
+
+-- the same of a call that may be refused
+pub OnErr-second : {A E : Type 0} (old mid new : Option (List ℕ)) (xs ys : List ℕ) (r : Result A E) → Appends old mid xs
+    → OnErr r (AppendsFront mid new ys) → OnErr r (AppendsFront old new (xs ++ ys))
+OnErr-second old mid new xs ys (Ok value) first h = tt
+OnErr-second old mid new xs ys (Err error) first h = AppendsFront-second old mid new xs ys first h

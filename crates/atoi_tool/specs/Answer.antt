@@ -1,5 +1,6 @@
 -- The answer to a line.
 use Rattle.std.specs.Prelude.{Result, Ok, Err, Bool, true, false, ℕ, ℤ, List, ◌++◌, codes, decimal, is_some}
+use Rattle.std.specs.List.{flat_map}
 use Rattle.std.specs.Option.{option_map_or}
 use Rattle.std.specs.Fmt.{signed_decimal}
 use Rattle.atoi_core.specs.Digit.{decimal_table}
@@ -10,7 +11,10 @@ use Rattle.atoi_core.specs.Answer.{parse_answer, parse_prefix_answer, whole_answ
 use Rattle.atoi_tool.specs.declared.request.Call.{Call}
 use Rattle.atoi_tool.specs.declared.request.Call.TheVariants.{Parse, Pos, Neg, Prefix, PrefixPos, PrefixNeg}
 use Rattle.atoi_tool.specs.declared.request.Flags.{Flags}
+use Rattle.atoi_column.specs.Items.{Flaw, field, trailing, items_of}
 use Rattle.atoi_tool.specs.declared.request.Request.{Request}
+use Rattle.atoi_tool.specs.declared.request.Query.{Query}
+use Rattle.atoi_tool.specs.declared.request.Query.TheVariants.{Number, Column}
 use Rattle.atoi_tool.specs.Request.{kind_of}
 use Rattle.atoi_tool.specs.Row.{row_of}
 
@@ -37,9 +41,29 @@ call_text Prefix k flags text = prefix_text (parse_prefix_answer k flags.zeroes 
 call_text PrefixPos k flags text = prefix_text (prefix_answer decimal_table k false flags.zeroes text)
 call_text PrefixNeg k flags text = prefix_text (prefix_answer decimal_table k true flags.zeroes text)
 
--- the answer to a row: the engines answer alike
+-- the answer to a row about one number: the engines answer alike
 abbrev pub row_text : Request → List ℕ → List ℕ
 row_text request text = call_text request.call (kind_of request.integer) request.flags text
+
+-- why a field has no value, and where
+abbrev pub flaw_text : Flaw → List ℕ
+flaw_text (field index place reason) =
+    codes "field " ++ decimal index ++ codes " " ++ decimal place ++ codes ": " ++ error_text reason
+flaw_text (trailing index place) = codes "trailing " ++ decimal index ++ codes " " ++ decimal place
+
+-- an item of a column behind a space: a value, or why there is none
+abbrev pub item_text : Result ℤ Flaw → List ℕ
+item_text (Ok value) = codes " " ++ signed_decimal value
+item_text (Err flaw) = codes " err " ++ flaw_text flaw
+
+-- the items of a column in order
+abbrev pub column_text : Kind → (separator : ℕ) → List ℕ → List ℕ
+column_text k separator text = codes "col" ++ flat_map item_text (items_of k separator text)
+
+-- the answer to a row of either form
+abbrev pub query_text : Query → List ℕ → List ℕ
+query_text (Number request) text = row_text request text
+query_text (Column integer separator) text = column_text (kind_of integer) separator text
 
 -- the line is a row that there is an answer to
 abbrev pub is_good_line : List ℕ → Bool
@@ -47,4 +71,4 @@ is_good_line line = is_some (row_of line)
 
 -- the answer to a line
 abbrev pub line_answer : List ℕ → List ℕ
-line_answer line = option_map_or (λ row. row_text row.0 row.1) (row_of line) (codes "bad row")
+line_answer line = option_map_or (λ row. query_text row.0 row.1) (row_of line) (codes "bad row")

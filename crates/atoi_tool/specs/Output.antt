@@ -1,7 +1,8 @@
 -- The output to an input.
 use Rattle.std.specs.Prelude.{Bool, ℕ, ◌==◌, List, [], ◌∷◌, ◌++◌, length, if◌then◌else◌}
 use Rattle.std.specs.List.{flat_map, list_all, slice_split}
-use Rattle.atoi_tool.specs.Answer.{is_good_line, line_answer}
+use Rattle.atoi_tool.specs.declared.request.Query.{Query}
+use Rattle.atoi_tool.specs.Answer.{query_text, is_good_line, line_answer}
 
 -- the byte that ends a line
 abbrev pub newline : ℕ
@@ -19,6 +20,10 @@ without_empty_last (piece ∷ next ∷ pieces) = piece ∷ without_empty_last (n
 -- the lines of an input: it is cut at each newline, and what stands behind the last counts where it is not empty
 abbrev pub lines_of : List ℕ → List (List ℕ)
 lines_of input = without_empty_last (slice_split is_newline input)
+
+-- the answer to a row, ended by a newline
+abbrev pub row_output : Query → List ℕ → List ℕ
+row_output query text = query_text query text ++ newline ∷ []
 
 -- the answer to a line, ended by a newline
 abbrev pub line_output : List ℕ → List ℕ

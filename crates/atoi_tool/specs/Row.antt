@@ -1,7 +1,11 @@
 -- A line as a row: four words and a text, with one space behind each word.
-use Rattle.std.specs.Prelude.{Option, Some, None, ℕ, ◌+◌, ◌==◌, List, take, drop, position, option_and_then, if◌then◌else◌}
+use Rattle.std.specs.Prelude.{◌≡◌, Option, Some, None, ℕ, ◌+◌, ◌-◌, ◌*◌, ◌==◌, ◌&&◌, nat_le, true, List, [], ◌∷◌, take, drop, position, codes, option_and_then, if◌then◌else◌}
 use Rattle.std.specs.Option.{option_map}
+use Rattle.std.specs.Str.{bytes_eq}
+use Rattle.atoi_column.specs.Fields.{is_separator}
 use Rattle.atoi_tool.specs.declared.request.Request.{Request}
+use Rattle.atoi_tool.specs.declared.request.Query.{Query}
+use Rattle.atoi_tool.specs.declared.request.Query.TheVariants.{Number, Column}
 use Rattle.atoi_tool.specs.Request.{engine_of, call_of, integer_of, flags_of, is_known}
 
 abbrev pub space : ℕ
@@ -24,10 +28,41 @@ request_of engine_word call_word integer_word flags_word =
     option_and_then (λ request. if is_known request then Some request else None)
     (named_request engine_word call_word integer_word flags_word)
 
+-- a hexadecimal digit in capitals
+abbrev pub hex_digit : ℕ → Option ℕ
+hex_digit byte =
+    if nat_le 48 byte && nat_le byte 57 then Some (byte - 48)
+    else (if nat_le 65 byte && nat_le byte 70 then Some (byte - 65 + 10) else None)
+
+-- the byte that two hexadecimal digits in capitals write
+abbrev pub byte_of : List ℕ → Option ℕ
+byte_of (high ∷ low ∷ []) =
+    option_and_then (λ sixteens. option_map (λ ones. 16 * sixteens + ones) (hex_digit low)) (hex_digit high)
+byte_of word = None
+
+-- a column, where the separator may stand between fields; the engine is the one on words
+abbrev pub column_of : (engine_word integer_word separator_word : List ℕ) → Option Query
+column_of engine_word integer_word separator_word =
+    if bytes_eq engine_word (codes "w") then option_and_then (λ integer. option_and_then
+    (λ separator. if is_separator separator then Some (Column integer separator) else None)
+    (byte_of separator_word)) (integer_of integer_word)
+    else None
+
+-- what four words ask for: the call `column` has a separator where the others have flags
+abbrev pub query_of : (engine_word call_word integer_word last_word : List ℕ) → Option Query
+query_of engine_word call_word integer_word last_word =
+    if bytes_eq call_word (codes "column") then column_of engine_word integer_word last_word
+    else option_map (λ request. Number request) (request_of engine_word call_word integer_word last_word)
+
+-- there is an answer to such a row
+abbrev pub IsAnswered : Query → Type 0
+IsAnswered (Number request) = is_known request ≡ true
+IsAnswered (Column integer separator) = is_separator separator ≡ true
+
 -- what a line asks for, and the text behind its fourth space, which may hold more of them; none where the
 -- line is a bad row
-abbrev pub row_of : List ℕ → Option (Request × List ℕ)
+abbrev pub row_of : List ℕ → Option (Query × List ℕ)
 row_of line =
     option_and_then (λ engine. option_and_then (λ call. option_and_then (λ integer. option_and_then
-    (λ flags. option_map (λ request. (request, flags.1)) (request_of engine.0 call.0 integer.0 flags.0))
+    (λ last. option_map (λ query. (query, last.1)) (query_of engine.0 call.0 integer.0 last.0))
     (cut integer.1)) (cut call.1)) (cut engine.1)) (cut line)

@@ -1,14 +1,13 @@
-//! The answer to one line.
-//! It stands on `row`, `request`, `calls`, `printed` and `line`.
+//! The answer to a row about one number.
+//! It stands on `request`, `calls`, `printed` and `line`.
 ghost use Rattle.std.specs.Prelude.{◌≡◌, ◌≤◌, [], true, false, length};
 ghost use Rattle.atoi_tool.specs.Request.{is_known, is_negative};
-ghost use Rattle.atoi_tool.specs.Answer.{call_text, row_text, line_answer, is_good_line};
+ghost use Rattle.atoi_tool.specs.Answer.{call_text, row_text};
 
 use crate::calls;
 use crate::line::Line;
 use crate::printed::{LONGEST, push_prefix, push_whole};
 use crate::request::{Call, Integer, Request};
-use crate::row::row_of;
 use atoi_simd::lanes;
 
 // Writes the answer to a row of any type, whose call reads no negative number.
@@ -48,8 +47,8 @@ fn answer_signed<T: atoi_simd::Parse + lanes::Parse + atoi_simd::ParseNeg + lane
     }
 }
 
-// Writes the answer to a row that there is an answer to.
-fn answer_row(request: &Request, text: &[u8], out: &mut Line)
+/// Writes the answer to a row about one number, which has to be one that there is an answer to.
+pub fn answer_row(request: &Request, text: &[u8], out: &mut Line)
     requires known { is_known request.now ≡ true }
     requires empty { out.old ≡ [] }
     ensures text { out.new ≡ row_text request.now text.now }
@@ -68,24 +67,5 @@ fn answer_row(request: &Request, text: &[u8], out: &mut Line)
         Integer::I128 => answer_signed::<i128>(request, text, out),
         Integer::Usize => answer_any::<usize>(request, text, out),
         Integer::Isize => answer_signed::<isize>(request, text, out),
-    }
-}
-
-/// Writes the answer to a line, and answers whether the line is a row that there is an answer to.
-pub fn answer(line: &[u8], out: &mut Line) -> bool
-    requires { out.old ≡ [] }
-    ensures text { out.new ≡ line_answer line.now }
-    ensures good { result ≡ is_good_line line.now }
-    ensures length { length out.new ≤ LONGEST }
-{
-    match row_of(line) {
-        Some((request, text)) => {
-            answer_row(&request, text, out);
-            true
-        }
-        None => {
-            out.push(b"bad row");
-            false
-        }
     }
 }

@@ -4,8 +4,9 @@ ghost use Rattle.std.specs.Prelude.{◌≡◌, ◌+◌, ◌≤◌, ℕ, List, []
 
 use std::marker::Model;
 
-/// How many bytes a line can hold: more than any answer has.
-pub const ROOM: usize = 400;
+/// How many bytes a line can hold: more than any answer about one number has, and than any item of a
+/// column.
+pub const ROOM: usize = 440;
 
 /// The bytes of a line so far, at most `ROOM`.
 #[derive(Drop)]
@@ -19,7 +20,7 @@ impl Model for Line {
 
     ghost view = { λ line. take line.len line.bytes };
 
-    ghost invariant = { λ line. line.len ≤ 400 };
+    ghost invariant = { λ line. line.len ≤ 440 };
 }
 
 impl Line {

@@ -8,6 +8,7 @@ use crate::source::FromReader;
 
 mod answer;
 mod calls;
+mod columns;
 #[cfg(test)]
 mod devices;
 mod input;
@@ -15,6 +16,7 @@ mod line;
 mod output;
 mod place;
 mod printed;
+mod put;
 mod refused;
 mod request;
 mod row;

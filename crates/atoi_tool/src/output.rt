@@ -1,15 +1,20 @@
-//! The answers to all lines of an input, written to a sink. It stands on the trait `Sink`, on the
-//! answer to one line, and on `line`, `place`, `refused` and `status`.
+//! The answers to all lines of an input, written to a sink. It stands on the trait `Sink`, on `row`,
+//! on `answer` and `columns`, and on `line`, `place`, `put`, `refused` and `status`.
 ghost use Rattle.std.specs.Prelude.{◌≡◌, ◌+◌, ◌<◌, [], ◌∷◌, length, IfOk, IfErr, OnOk, OnErr};
 ghost use Rattle.std.specs.Io.KnownBytes.{Appends};
 ghost use Rattle.atoi_tool.specs.Failures.{failures_of, AppendsFront};
+ghost use Rattle.atoi_tool.specs.Row.{IsAnswered};
 ghost use Rattle.atoi_tool.specs.Answer.{is_good_line};
-ghost use Rattle.atoi_tool.specs.Output.{lines_of, line_output, output_of, is_good_input};
+ghost use Rattle.atoi_tool.specs.Output.{lines_of, row_output, line_output, output_of, is_good_input};
 
-use crate::answer::answer;
+use crate::answer::answer_row;
+use crate::columns::put_column;
 use crate::line::Line;
 use crate::place::place_of;
+use crate::put::put_all;
 use crate::refused::Refused;
+use crate::request::Query;
+use crate::row::row_of;
 use crate::sink::Sink;
 use crate::status::ToolError;
 
@@ -25,17 +30,27 @@ fn first_line(input: &[u8]) -> (&[u8], &[u8])
     }
 }
 
-// Puts all of `bytes`, by as many puts as it takes.
-fn put_all<S: Sink>(bytes: &[u8], output: &mut S) -> Result<(), Refused>
-    ensures ok { OnOk result (Appends (S.held output.old) (S.held output.new) bytes.now) }
-    ensures err { OnErr result (AppendsFront (S.held output.old) (S.held output.new) bytes.now) }
+// Writes the answer to a row, and a newline behind it.
+fn put_row<S: Sink>(query: Query, text: &[u8], output: &mut S) -> Result<(), Refused>
+    requires { IsAnswered query }
+    ensures ok { OnOk result
+        (Appends (S.held output.old) (S.held output.new) (row_output query text.now)) }
+    ensures err { OnErr result
+        (AppendsFront (S.held output.old) (S.held output.new) (row_output query text.now)) }
     ensures failures { S.failures output.new ≡ S.failures output.old + failures_of result }
 {
-    let mut done = 0;
-    while done < bytes.len() {
-        done += output.put(&bytes[done..])?;
+    match query {
+        Query::Number(request) => {
+            let mut answer = Line::new();
+            answer_row(&request, text, &mut answer);
+            answer.push(b"\n");
+            put_all(answer.as_bytes(), output)
+        }
+        Query::Column { integer, separator } => {
+            put_column(integer, separator, text, output)?;
+            put_all(b"\n", output)
+        }
     }
-    Ok(())
 }
 
 // Writes the answer to one line, and answers whether the line is good.
@@ -47,11 +62,17 @@ fn put_answer<S: Sink>(line: &[u8], output: &mut S) -> Result<bool, Refused>
         (AppendsFront (S.held output.old) (S.held output.new) (line_output line.now)) }
     ensures failures { S.failures output.new ≡ S.failures output.old + failures_of result }
 {
-    let mut text = Line::new();
-    let is_good = answer(line, &mut text);
-    text.push(b"\n");
-    put_all(text.as_bytes(), output)?;
-    Ok(is_good)
+    match row_of(line) {
+        Some(row) => {
+            let (query, text) = row;
+            put_row(query, text, output)?;
+            Ok(true)
+        }
+        None => {
+            put_all(b"bad row\n", output)?;
+            Ok(false)
+        }
+    }
 }
 
 /// Writes the answer to each line of `input` to `output`, and answers whether no line was bad.

@@ -1,13 +1,16 @@
 //! The text of an answer, for a value of any integer type.
 //! It stands on `line`, and on the texts of `atoi_core`.
-ghost use Rattle.std.specs.Prelude.{◌≡◌, ◌+◌, ◌≤◌, [], ◌++◌, length, decimal};
+ghost use Rattle.std.specs.Prelude.{◌≡◌, ◌+◌, ◌≤◌, [], ◌++◌, length, decimal, codes};
 ghost use Rattle.std.specs.Fmt.{signed_decimal};
 ghost use Rattle.atoi_core.specs.Refusal.{refusal_of};
 ghost use Rattle.atoi_core.specs.Sign.{number_of};
 ghost use Rattle.atoi_core.specs.Answer.{typed_answer, typed_prefix_answer};
-ghost use Rattle.atoi_tool.specs.Answer.{whole_text, prefix_text, refusal_text};
+ghost use Rattle.atoi_core.specs.ErrorText.{error_text};
+ghost use Rattle.atoi_column.specs.Items.{flaw_of, item_of};
+ghost use Rattle.atoi_tool.specs.Answer.{whole_text, prefix_text, refusal_text, flaw_text, item_text};
 
 use crate::line::{Line, ROOM};
+use atoi_column::ColumnError;
 use atoi_core::{AtoiSimdError, Number, decimal};
 
 /// How many bytes an answer has at most: that to a byte that is no digit, of a type of 128 bits.
@@ -15,6 +18,11 @@ pub const LONGEST: usize = 336;
 
 // How many digits a number has at most.
 const DIGITS: usize = 39;
+
+// How many bytes the text of an error has at most, and the room that it is written in.
+const LONGEST_ERROR: usize = 332;
+
+const ERROR_ROOM: usize = 400;
 
 // Appends a number in decimal.
 fn push_decimal(value: u128, out: &mut Line)
@@ -39,6 +47,17 @@ fn push_number(minus: bool, magnitude: u128, out: &mut Line)
     push_decimal(magnitude, out);
 }
 
+// Appends the text of an error.
+fn push_error(error: &AtoiSimdError<'_>, out: &mut Line)
+    requires { length out.old + LONGEST_ERROR ≤ ROOM }
+    ensures text { out.new ≡ out.old ++ error_text (refusal_of error.now) }
+    ensures length { length out.new ≤ length out.old + LONGEST_ERROR }
+{
+    let mut text = [0; ERROR_ROOM];
+    let count = error.text(&mut text);
+    out.push(&text[..count]);
+}
+
 // Appends why there is no value.
 fn push_refusal(error: &AtoiSimdError<'_>, out: &mut Line)
     requires { out.old ≡ [] }
@@ -46,9 +65,7 @@ fn push_refusal(error: &AtoiSimdError<'_>, out: &mut Line)
     ensures length { length out.new ≤ LONGEST }
 {
     out.push(b"err ");
-    let mut text = [0; ROOM];
-    let count = error.text(&mut text);
-    out.push(&text[..count]);
+    push_error(error, out);
 }
 
 /// Appends a value, or why there is none.
@@ -82,5 +99,55 @@ pub fn push_prefix<T: Number>(outcome: Result<(T, usize), AtoiSimdError<'_>>, ou
             push_decimal(count as u128, out);
         }
         Err(error) => push_refusal(&error, out),
+    }
+}
+
+// Appends the number of a field, and a place.
+fn push_index_and_place(index: usize, place: usize, out: &mut Line)
+    requires { length out.old + DIGITS + 1 + DIGITS ≤ ROOM }
+    ensures text { out.new ≡ out.old ++ (decimal index ++ codes " " ++ decimal place) }
+    ensures length { length out.new ≤ length out.old + DIGITS + 1 + DIGITS }
+{
+    push_decimal(index as u128, out);
+    out.push(b" ");
+    push_decimal(place as u128, out);
+}
+
+// Appends why a field has no value, and where.
+fn push_flaw(error: &ColumnError<'_>, out: &mut Line)
+    requires { out.old ≡ [] }
+    ensures { out.new ≡ codes " err " ++ flaw_text (flaw_of error.now) }
+{
+    out.push(b" err ");
+    match *error {
+        ColumnError::Field {
+            index,
+            place,
+            cause,
+        } => {
+            out.push(b"field ");
+            push_index_and_place(index, place, out);
+            out.push(b": ");
+            push_error(&cause, out);
+        }
+        ColumnError::Trailing { index, place } => {
+            out.push(b"trailing ");
+            push_index_and_place(index, place, out);
+        }
+    }
+}
+
+/// Appends an item of a column behind a space: a value, or why there is none.
+pub fn push_item<T: Number>(item: Result<T, ColumnError<'_>>, out: &mut Line)
+    requires { out.old ≡ [] }
+    ensures { out.new ≡ item_text (item_of T.number item.entry) }
+{
+    match item {
+        Ok(value) => {
+            out.push(b" ");
+            let (minus, magnitude) = value.parts();
+            push_number(minus, magnitude, out);
+        }
+        Err(error) => push_flaw(&error, out),
     }
 }

@@ -185,3 +185,17 @@ impl Request {
             && (!self.call.is_negative() || self.integer.is_signed())
     }
 }
+
+/// What a row asks for, but for its text.
+#[derive(Clone, Copy, Debug, PartialEq, Eq)]
+pub enum Query {
+    /// One number.
+    Number(Request),
+    /// All numbers of a column, which has an answer where the separator may stand between fields.
+    Column {
+        /// Into which type.
+        integer: Integer,
+        /// The byte that ends a field.
+        separator: u8,
+    },
+}

@@ -1,12 +1,13 @@
 //! A line as a row: four words and a text.
-//! It stands on `request` and `place`.
-ghost use Rattle.std.specs.Prelude.{◌≡◌, true, IfSome};
+//! It stands on `request` and `place`, and on the separators of `atoi_column`.
+ghost use Rattle.std.specs.Prelude.{◌≡◌, ◌<◌, true, IfSome};
 ghost use Rattle.std.specs.Option.{option_map};
 ghost use Rattle.atoi_tool.specs.Request.{is_known};
-ghost use Rattle.atoi_tool.specs.Row.{cut, request_of, row_of};
+ghost use Rattle.atoi_tool.specs.Row.{cut, request_of, hex_digit, byte_of, column_of, query_of, row_of, IsAnswered};
 
 use crate::place::place_of;
-use crate::request::{Request, call_of, engine_of, flags_of, integer_of};
+use crate::request::{Query, Request, call_of, engine_of, flags_of, integer_of};
+use atoi_column::is_separator;
 
 // What stands before the first space of `line`, and what stands behind it.
 fn cut(line: &[u8]) -> Option<(&[u8], &[u8])>
@@ -35,15 +36,71 @@ fn request_of(engine: &[u8], call: &[u8], integer: &[u8], flags: &[u8]) -> Optio
     }
 }
 
+// The worth of a hexadecimal digit in capitals.
+fn hex_digit(byte: u8) -> Option<u8>
+    ensures digit { result ≡ hex_digit byte }
+    ensures below { IfSome result (λ digit. digit < 16) }
+{
+    match byte {
+        b'0'..=b'9' => Some(byte - b'0'),
+        b'A'..=b'F' => Some(byte - b'A' + 10),
+        _ => None,
+    }
+}
+
+// The byte that two hexadecimal digits in capitals write.
+fn byte_of(word: &[u8]) -> Option<u8>
+    ensures { result ≡ byte_of word.now }
+{
+    let [high, low] = word else {
+        return None;
+    };
+    let sixteens = hex_digit(*high)?;
+    let ones = hex_digit(*low)?;
+    Some(16 * sixteens + ones)
+}
+
+// The column that three words ask for; none where a word names nothing, or where the byte that the
+// last one writes may not stand between fields.
+fn column_of(engine: &[u8], integer: &[u8], separator: &[u8]) -> Option<Query>
+    ensures query { result ≡ column_of engine.now integer.now separator.now }
+    ensures answered { IfSome result IsAnswered }
+{
+    let b"w" = engine else {
+        return None;
+    };
+    let integer = integer_of(integer)?;
+    let separator = byte_of(separator)?;
+    if is_separator(separator) {
+        Some(Query::Column { integer, separator })
+    } else {
+        None
+    }
+}
+
+// What four words ask for, of one number or of a column.
+fn query_of(engine: &[u8], call: &[u8], integer: &[u8], last: &[u8]) -> Option<Query>
+    ensures query { result ≡ query_of engine.now call.now integer.now last.now }
+    ensures answered { IfSome result IsAnswered }
+{
+    match call {
+        b"column" => column_of(engine, integer, last),
+        _ => {
+            let request = request_of(engine, call, integer, last)?;
+            Some(Query::Number(request))
+        }
+    }
+}
+
 /// What a line asks for, and the text behind its fourth space; none where the line is a bad row.
-pub fn row_of(line: &[u8]) -> Option<(Request, &[u8])>
+pub fn row_of(line: &[u8]) -> Option<(Query, &[u8])>
     ensures row { option_map (λ row. (row.0, row.1.now)) result ≡ row_of line.now }
-    ensures known { IfSome result (λ row. is_known row.0 ≡ true) }
+    ensures answered { IfSome result (λ row. IsAnswered row.0) }
 {
     let (engine, rest) = cut(line)?;
     let (call, rest) = cut(rest)?;
     let (integer, rest) = cut(rest)?;
-    let (flags, text) = cut(rest)?;
-    let request = request_of(engine, call, integer, flags)?;
-    Some((request, text))
+    let (last, text) = cut(rest)?;
+    let query = query_of(engine, call, integer, last)?;
+    Some((query, text))
 }

@@ -1,0 +1,25 @@
+//! All of some bytes, put to a sink.
+//! It stands on the trait `Sink`, and on `refused`.
+ghost use Rattle.std.specs.Prelude.{◌≡◌, ◌+◌, OnOk, OnErr};
+ghost use Rattle.std.specs.Io.KnownBytes.{Appends};
+ghost use Rattle.atoi_tool.specs.Failures.{failures_of, AppendsFront};
+
+use crate::refused::Refused;
+use crate::sink::Sink;
+
+/// Puts all of `bytes`, by as many puts as it takes.
+///
+/// # Errors
+///
+/// `Refused` where a put was refused, and then a beginning of `bytes` was put.
+pub fn put_all<S: Sink>(bytes: &[u8], output: &mut S) -> Result<(), Refused>
+    ensures ok { OnOk result (Appends (S.held output.old) (S.held output.new) bytes.now) }
+    ensures err { OnErr result (AppendsFront (S.held output.old) (S.held output.new) bytes.now) }
+    ensures failures { S.failures output.new ≡ S.failures output.old + failures_of result }
+{
+    let mut done = 0;
+    while done < bytes.len() {
+        done += output.put(&bytes[done..])?;
+    }
+    Ok(())
+}
