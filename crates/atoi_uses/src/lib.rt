@@ -1,9 +1,11 @@
-//! Callers of `atoi_simd`, proved by its public clauses alone.
-//! They stand on `atoi_simd`, and on the definitions and the traits of `atoi_core`.
+//! Callers of `atoi_simd` and `atoi_column`, proved by their public clauses alone.
+//! They stand on these two, and on the definitions and the traits of `atoi_core`.
 #![tactic(auto)]
 
 mod cents;
 mod settings;
+mod totals;
 
 pub use crate::cents::Cents;
 pub use crate::settings::{number_and_rest, setting};
+pub use crate::totals::total;

@@ -1,0 +1,51 @@
+//! The total of a column of numbers, one a line.
+//! It stands on `atoi_column::Column`, whose contract names the items, and on the law beside it.
+ghost use Rattle.std.specs.Prelude.{◌≡◌, ◌++◌, ℕ, List, [], ◌∷◌, pos, Ok, Err, IfOk, IfErr, map, sum};
+ghost use Rattle.atoi_core.specs.Kinds.{u64_kind};
+ghost use Rattle.atoi_column.specs.Items.{flaw_of, items_of};
+
+use atoi_column::laws::texts_and_items;
+use atoi_column::{Column, ColumnError};
+
+const NEWLINE: u8 = b'\n';
+
+/// The sum of the numbers of `lines`, one a line.
+///
+/// # Errors
+///
+/// Why the first line that is no number is refused: the error tells its number, and a place.
+pub fn total(lines: &[u8]) -> Result<u128, ColumnError<'_>>
+    ensures all { IfOk result (λ total. (numbers : List ℕ)
+        × (items_of u64_kind NEWLINE lines.now ≡ map (λ number. Ok (pos number)) numbers)
+        × (total ≡ sum numbers)) }
+    ensures refused { IfErr result (λ error. (numbers : List ℕ)
+        × (items_of u64_kind NEWLINE lines.now
+        ≡ map (λ number. Ok (pos number)) numbers ++ Err (flaw_of error) ∷ [])) }
+{
+    // The law that nothing stands behind an error. The call does nothing.
+    texts_and_items::<u64>();
+    let mut total = 0;
+    for item in Column::<u64>::new(lines, NEWLINE) {
+        match item {
+            Ok(number) => total += u128::from(number),
+            Err(error) => return Err(error),
+        }
+    }
+    Ok(total)
+}
+
+#[cfg(test)]
+mod tests {
+    use super::*;
+
+    #[test]
+    fn all_lines_or_the_first_bad_one(rt: HostRuntime) {
+        assert_eq!(rt;
+            total(b"7\n18446744073709551615\n"),
+            Ok(18446744073709551622)
+        );
+        assert_eq!(rt; total(b""), Ok(0));
+        let trailing = ColumnError::Trailing { index: 1, place: 3 };
+        assert_eq!(rt; total(b"7\n8x\n-9"), Err(trailing));
+    }
+}
