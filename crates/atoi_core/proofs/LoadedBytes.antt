@@ -1,9 +1,11 @@
 -- Words made of the first bytes of a slice.
-use Rattle.std.proofs.Common.{◌≡◌, ℕ, ◌+◌, ◌-◌, ◌*◌, ◌/◌, ◌%◌, ◌^◌, ◌<◌, ◌≤◌, List, [], ◌∷◌, ◌++◌, length, take, drop, replicate, get_or, take-take, refl, sym, ap, ap₂, ◌∙◌, arith}
-use Rattle.std.proofs.Math.Nat.{mod-lt}
-use Rattle.std.proofs.lemmas.Nat.{pow_pos, mod-pow-add, or_block, shr_split}
+use Rattle.std.proofs.Common.{◌≡◌, ℕ, zero, suc, ◌+◌, ◌-◌, ◌*◌, ◌/◌, ◌%◌, ◌^◌, ◌<◌, ◌≤◌, List, [], ◌∷◌, ◌++◌, length, take, drop, replicate, get_or, take-take, refl, sym, ap, ap₂, ◌∙◌, arith}
+use Rattle.std.proofs.Math.Nat.{mod-lt, div-one, zero-div, suc-mul, div-div-eq-div-mul}
+use Rattle.std.proofs.lemmas.List.{take_all, length-drop, get_or-drop, drop-drop}
+use Rattle.std.proofs.lemmas.Nat.{pow_pos, pow-add, mod-pow-add, or_block, shr_split}
 use Rattle.std.specs.Int.{from_le_bytes, w16, w32, w64}
 use Rattle.std.specs.Int.Bits.{bit_or, or_self, or_zero_r}
+use Rattle.std.specs.Simd.Lanes.{number_l}
 use Rattle.atoi_core.specs.Words.{word_of}
 
 -- eight bytes in the order of a load are the word of these bytes; what is missing is 0 in both
@@ -67,39 +69,32 @@ overlap whole low high r k low_is high_is =
     ∙ ap₂ (λ x y. x * 2 ^ k + y) (with_low_bits q r) (or_zero_r rest)
     ∙ shr_split whole k
 
+-- a shift of whole bytes leaves those above them
+bytes_above : (k : ℕ) (s : List ℕ) → ((i : ℕ) → get_or s i 0 < 256) → word_of s / 2 ^ (k * 8) ≡ word_of (drop k s)
+unfolding word_of
+bytes_above zero s fits = div-one (number_l 256 s)
+bytes_above (suc k) [] fits = zero-div (2 ^ (suc k * 8))
+bytes_above (suc k) (b ∷ bs) fits =
+    let word = number_l 256 bs in
+    let up : 2 ^ (suc k * 8) ≡ 256 * 2 ^ (k * 8) = ap (λ e. 2 ^ e) (suc-mul k 8) ∙ pow-add 2 (k * 8) 8 ∙ omega arith in
+    let rest : (b + 256 * word) / 256 ≡ word = omega (arith, fits 0) in
+    ap (λ p. (b + 256 * word) / p) up ∙ sym (div-div-eq-div-mul (b + 256 * word) 256 (2 ^ (k * 8)))
+    ∙ ap (λ w. w / 2 ^ (k * 8)) rest ∙ bytes_above k bs (λ i. fits (suc i))
+
 -- nine to fifteen bytes: those from 8 on are the highest of the last eight
 pub last_bytes : (s last : List ℕ) → 8 ≤ length s → length s < 16 → ((i : ℕ) → get_or s i 0 < 256) → last ≡ drop (length s - 8) s
     → from_le_bytes w64 last / 2 ^ (120 - 8 * length s) / 2 ^ 8 ≡ word_of (take 8 (drop 8 s))
 last_bytes s last enough few fits is =
-    ap (λ bytes. from_le_bytes w64 bytes / 2 ^ (120 - 8 * length s) / 2 ^ 8) is ∙ behind s enough few fits ∙ word_from_bytes (drop 8 s)
-  where
-    behind : (s : List ℕ) → 8 ≤ length s → length s < 16 → ((i : ℕ) → get_or s i 0 < 256)
-        → from_le_bytes w64 (drop (length s - 8) s) / 2 ^ (120 - 8 * length s) / 2 ^ 8 ≡ from_le_bytes w64 (drop 8 s)
-    behind [] enough few fits = absurd (omega arith)
-    behind (a ∷ []) enough few fits = absurd (omega arith)
-    behind (a ∷ b ∷ []) enough few fits = absurd (omega arith)
-    behind (a ∷ b ∷ c ∷ []) enough few fits = absurd (omega arith)
-    behind (a ∷ b ∷ c ∷ d ∷ []) enough few fits = absurd (omega arith)
-    behind (a ∷ b ∷ c ∷ d ∷ e ∷ []) enough few fits = absurd (omega arith)
-    behind (a ∷ b ∷ c ∷ d ∷ e ∷ f ∷ []) enough few fits = absurd (omega arith)
-    behind (a ∷ b ∷ c ∷ d ∷ e ∷ f ∷ g ∷ []) enough few fits = absurd (omega arith)
-    behind (a ∷ b ∷ c ∷ d ∷ e ∷ f ∷ g ∷ h ∷ []) enough few fits =
-        let a_fits : a < 256 = fits 0 in let b_fits : b < 256 = fits 1 in let c_fits : c < 256 = fits 2 in let d_fits : d < 256 = fits 3 in let e_fits : e < 256 = fits 4 in let f_fits : f < 256 = fits 5 in let g_fits : g < 256 = fits 6 in let h_fits : h < 256 = fits 7 in omega arith
-    behind (a ∷ b ∷ c ∷ d ∷ e ∷ f ∷ g ∷ h ∷ i ∷ []) enough few fits =
-        let b_fits : b < 256 = fits 1 in let c_fits : c < 256 = fits 2 in let d_fits : d < 256 = fits 3 in let e_fits : e < 256 = fits 4 in let f_fits : f < 256 = fits 5 in let g_fits : g < 256 = fits 6 in let h_fits : h < 256 = fits 7 in let i_fits : i < 256 = fits 8 in omega arith
-    behind (a ∷ b ∷ c ∷ d ∷ e ∷ f ∷ g ∷ h ∷ i ∷ j ∷ []) enough few fits =
-        let c_fits : c < 256 = fits 2 in let d_fits : d < 256 = fits 3 in let e_fits : e < 256 = fits 4 in let f_fits : f < 256 = fits 5 in let g_fits : g < 256 = fits 6 in let h_fits : h < 256 = fits 7 in let i_fits : i < 256 = fits 8 in let j_fits : j < 256 = fits 9 in omega arith
-    behind (a ∷ b ∷ c ∷ d ∷ e ∷ f ∷ g ∷ h ∷ i ∷ j ∷ k ∷ []) enough few fits =
-        let d_fits : d < 256 = fits 3 in let e_fits : e < 256 = fits 4 in let f_fits : f < 256 = fits 5 in let g_fits : g < 256 = fits 6 in let h_fits : h < 256 = fits 7 in let i_fits : i < 256 = fits 8 in let j_fits : j < 256 = fits 9 in let k_fits : k < 256 = fits 10 in omega arith
-    behind (a ∷ b ∷ c ∷ d ∷ e ∷ f ∷ g ∷ h ∷ i ∷ j ∷ k ∷ l ∷ []) enough few fits =
-        let e_fits : e < 256 = fits 4 in let f_fits : f < 256 = fits 5 in let g_fits : g < 256 = fits 6 in let h_fits : h < 256 = fits 7 in let i_fits : i < 256 = fits 8 in let j_fits : j < 256 = fits 9 in let k_fits : k < 256 = fits 10 in let l_fits : l < 256 = fits 11 in omega arith
-    behind (a ∷ b ∷ c ∷ d ∷ e ∷ f ∷ g ∷ h ∷ i ∷ j ∷ k ∷ l ∷ m ∷ []) enough few fits =
-        let f_fits : f < 256 = fits 5 in let g_fits : g < 256 = fits 6 in let h_fits : h < 256 = fits 7 in let i_fits : i < 256 = fits 8 in let j_fits : j < 256 = fits 9 in let k_fits : k < 256 = fits 10 in let l_fits : l < 256 = fits 11 in let m_fits : m < 256 = fits 12 in omega arith
-    behind (a ∷ b ∷ c ∷ d ∷ e ∷ f ∷ g ∷ h ∷ i ∷ j ∷ k ∷ l ∷ m ∷ n ∷ []) enough few fits =
-        let g_fits : g < 256 = fits 6 in let h_fits : h < 256 = fits 7 in let i_fits : i < 256 = fits 8 in let j_fits : j < 256 = fits 9 in let k_fits : k < 256 = fits 10 in let l_fits : l < 256 = fits 11 in let m_fits : m < 256 = fits 12 in let n_fits : n < 256 = fits 13 in omega arith
-    behind (a ∷ b ∷ c ∷ d ∷ e ∷ f ∷ g ∷ h ∷ i ∷ j ∷ k ∷ l ∷ m ∷ n ∷ o ∷ []) enough few fits =
-        let h_fits : h < 256 = fits 7 in let i_fits : i < 256 = fits 8 in let j_fits : j < 256 = fits 9 in let k_fits : k < 256 = fits 10 in let l_fits : l < 256 = fits 11 in let m_fits : m < 256 = fits 12 in let n_fits : n < 256 = fits 13 in let o_fits : o < 256 = fits 14 in omega arith
-    behind (a ∷ b ∷ c ∷ d ∷ e ∷ f ∷ g ∷ h ∷ i ∷ j ∷ k ∷ l ∷ m ∷ n ∷ o ∷ p ∷ rest) enough few fits = absurd (omega arith)
+    let back = drop (length s - 8) s in
+    let whole : take 8 back ≡ back = take_all 8 back (omega (arith, length-drop (length s - 8) s)) in
+    let rest : take 8 (drop 8 s) ≡ drop 8 s = take_all 8 (drop 8 s) (omega (arith, length-drop 8 s)) in
+    let twice : 2 ^ (120 - 8 * length s) * 2 ^ 8 ≡ 2 ^ ((16 - length s) * 8) = sym (pow-add 2 (120 - 8 * length s) 8) ∙ ap (λ e. 2 ^ e) (omega arith) in
+    let above : length s - 8 + (16 - length s) ≡ 8 = omega arith in
+    div-div-eq-div-mul (from_le_bytes w64 last) (2 ^ (120 - 8 * length s)) (2 ^ 8)
+    ∙ ap₂ (λ bytes p. from_le_bytes w64 bytes / p) is twice
+    ∙ ap (λ w. w / 2 ^ ((16 - length s) * 8)) (word_from_bytes back ∙ ap word_of whole)
+    ∙ bytes_above (16 - length s) back (λ i. rw get_or-drop (fits (length s - 8 + i)))
+    ∙ ap word_of (drop-drop (16 - length s) (length s - 8) s ∙ ap (λ n. drop n s) above ∙ sym rest)
 
 -- THE SHORT LOAD. One to eight bytes are put where they stand in the highest bytes of a word: the
 -- first four, of which the first two are a part, the last four and the last. Below four bytes the
