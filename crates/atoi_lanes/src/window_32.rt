@@ -70,16 +70,6 @@ pub(crate) fn window_32(s: &[u8], steps: &mut Steps) -> Window32
 fn load_32(s: &[u8]) -> u8x32
     ensures { result ≡ padded_front 32 s.now }
 {
-    match s.first_chunk::<32>() {
-        Some(bytes) => u8x32::from_array(*bytes),
-        None => load_halves(s),
-    }
-}
-
-// The same by halves, each of which may be short.
-fn load_halves(s: &[u8]) -> u8x32
-    ensures { result ≡ padded_front 32 s.now }
-{
     let behind = &s[s.len().min(16)..];
     load_lanes(s).shuffle::<32>(load_lanes(behind), BOTH)
 }
