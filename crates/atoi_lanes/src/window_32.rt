@@ -100,8 +100,11 @@ fn number_32(v: u8x32, len: u32) -> u128
     requires digits { len ≤ run_len decimal_table v }
     ensures { result ≡ value decimal_table (take len v) }
 {
-    let behind = len.saturating_sub(16);
-    let high = sum_lanes(first_half(v), len - behind);
+    if len <= 16 {
+        return u128::from(sum_lanes(first_half(v), len));
+    }
+    let behind = len - 16;
+    let high = sum_lanes(first_half(v), 16);
     let low = sum_lanes(second_half(v), behind);
     u128::from(high) * u128::from(power_of_ten(behind)) + u128::from(low)
 }
