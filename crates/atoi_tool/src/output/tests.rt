@@ -1,11 +1,11 @@
 //! Tests of the answers to whole inputs, and of writers that fail.
 //! The expected answers come from the crate `atoi_simd` 0.18.1 of Rust and from its documentation,
-//! but for the counted plus.
+//! but for the counted plus and for narrow prefixes of more than 16 digits.
 
 use super::answer_lines;
 use crate::sink::ToWriter;
 use crate::status::{ToolError, status};
-use atoi_vectors::original;
+use atoi_vectors::{differences, original};
 use std::alloc::{AllocError, Global};
 use std::io;
 use std::io::{ErrorKind, Write};
@@ -59,6 +59,7 @@ w pos u8 -- \x20
 w pos u8 -- 1 2
 w pos u8 -- 7\0
 w pos u8 z- 0\xFF\r
+w prefix u8 -- 00000000000000007
 ";
 
 const GOOD_ANSWERS: &[u8] = b"\
@@ -84,6 +85,7 @@ err atoi_simd string is empty
 err atoi_simd invalid at index: 1 it must contain only digits, starting with: 1  input: [31, 20, 32]
 err atoi_simd invalid at index: 1 it must contain only digits, starting with: 7  input: [37, 0]
 err atoi_simd invalid at index: 1 it must contain only digits, starting with: 0  input: [30, FF, D]
+err atoi_simd wrong size: 17 input: [30, 30, 30, 30, 30, 30, 30, 30, 30, 30, 30, 30, 30, 30, 30, 30, 37]
 ";
 
 // The rows have these answers, on words and on lanes.
@@ -105,6 +107,23 @@ fn answers_good_rows(rt: HostRuntime) -> Result<(), Fail> {
 #[test]
 fn answers_as_the_original(rt: HostRuntime) -> Result<(), Fail> {
     assert_answers(&rt, rt.alloc(), original::ROWS, original::ANSWERS)
+}
+
+#[test]
+fn answers_otherwise_than_the_original(rt: HostRuntime) -> Result<(), Fail> {
+    let alloc = rt.alloc();
+    assert_answers(
+        &rt,
+        alloc,
+        differences::PLUS_ROWS,
+        differences::PLUS_ANSWERS,
+    )?;
+    assert_answers(
+        &rt,
+        alloc,
+        differences::LONG_ROWS,
+        differences::LONG_ANSWERS,
+    )
 }
 
 // `start`, a million zeros and `end`.
