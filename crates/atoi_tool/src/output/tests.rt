@@ -1,12 +1,12 @@
 //! Tests of the answers to whole inputs, and of writers that fail.
 //! The expected answers come from the crate `atoi_simd` 0.18.1 of Rust and from its documentation,
-//! but for the counted plus.
+//! but for the counted plus and for narrow prefixes of more than 16 digits.
 
 use super::answer_lines;
 use crate::devices::{Full, LimitedWriter};
 use crate::sink::ToWriter;
 use crate::status::{ToolError, status};
-use atoi_vectors::original;
+use atoi_vectors::{differences, original};
 use std::alloc::{AllocError, Global};
 use std::process::Abort;
 use std::test::Fail;
@@ -60,6 +60,7 @@ w pos u8 -- 7\0
 w pos u8 z- 0\xFF\r
 w prefix u8 -- 7\0\r\xFF
 w parse u8 -- \xFF7
+w prefix u8 -- 00000000000000007
 ";
 
 const GOOD_ANSWERS: &[u8] = b"\
@@ -87,6 +88,7 @@ err atoi_simd invalid at index: 1 it must contain only digits, starting with: 7 
 err atoi_simd invalid at index: 1 it must contain only digits, starting with: 0  input: [30, FF, D]
 ok 7 1
 err atoi_simd string is empty
+err atoi_simd wrong size: 17 input: [30, 30, 30, 30, 30, 30, 30, 30, 30, 30, 30, 30, 30, 30, 30, 30, 37]
 ";
 
 // The rows have these answers, on words and on lanes.
@@ -108,6 +110,23 @@ fn answers_good_rows(rt: HostRuntime) -> Result<(), Fail> {
 #[test]
 fn answers_as_the_original(rt: HostRuntime) -> Result<(), Fail> {
     assert_answers(&rt, rt.alloc(), original::ROWS, original::ANSWERS)
+}
+
+#[test]
+fn answers_otherwise_than_the_original(rt: HostRuntime) -> Result<(), Fail> {
+    let alloc = rt.alloc();
+    assert_answers(
+        &rt,
+        alloc,
+        differences::PLUS_ROWS,
+        differences::PLUS_ANSWERS,
+    )?;
+    assert_answers(
+        &rt,
+        alloc,
+        differences::LONG_ROWS,
+        differences::LONG_ANSWERS,
+    )
 }
 
 // `start`, a million zeros and `end`.
