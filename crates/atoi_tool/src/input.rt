@@ -27,7 +27,7 @@ pub fn read_all<S: Source>(alloc: Global, input: &mut S) -> Result<Vec<u8>, Tool
     read_all_in(alloc, input)
 }
 
-// The same with any allocator, as a test has one that refuses.
+// The same with any allocator.
 fn read_all_in<S: Source, A: Allocator>(alloc: A, input: &mut S) -> Result<Vec<u8, A>, ToolError>
     ensures all { IfOk result
         (λ bytes. Consumes (S.rest input.old) (S.rest input.new) bytes.items) }
