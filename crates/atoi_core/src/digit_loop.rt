@@ -11,7 +11,6 @@ use crate::error::AtoiSimdError;
 pub(crate) const ZERO: u64 = 48;
 
 // What a byte is worth as a decimal digit. A byte below the digits wraps to a number above nine.
-#[inline(always)]
 pub(crate) fn digit(byte: u8) -> Option<u64>
     ensures { result ≡ decimal_table byte }
 {
@@ -32,7 +31,6 @@ pub(crate) fn digit(byte: u8) -> Option<u64>
 ///   `bound`;
 /// - `Invalid64` with that number, the count of these digits and the whole of `s`, where another
 ///   byte stands behind them.
-#[inline(always)]
 pub fn narrow_whole(bound: u64, s: &[u8]) -> Result<u64, AtoiSimdError<'_>>
     requires low { 9 ≤ bound }
     requires high { bound ≤ 4294967295 }

@@ -32,7 +32,6 @@ const TEN_TO_23: u128 = 100_000_000_000_000_000_000_000;
 const GREATEST_HIGH: u64 = 3_402_823_669_209_384;
 
 /// Ten to the power of a count of digits, at most 16.
-#[inline(always)]
 pub(crate) fn power_of_ten(digits: u32) -> u64
     requires { digits ≤ 16 }
     ensures { result ≡ 10 ^ digits }
@@ -41,7 +40,6 @@ pub(crate) fn power_of_ten(digits: u32) -> u64
 }
 
 /// `high * power + low` where that is at most `bound`; else none.
-#[inline(always)]
 pub(crate) fn up_to_64(bound: u64, high: u64, power: u64, low: u64) -> Option<u64>
     ensures { result ≡ (if nat_lt bound (high * power + low) then None
         else Some (high * power + low)) }
@@ -55,7 +53,6 @@ pub(crate) fn up_to_64(bound: u64, high: u64, power: u64, low: u64) -> Option<u6
 }
 
 // `high * 10^23 + low` where that is at most `bound`; else none.
-#[inline(always)]
 fn up_to_128(bound: u128, high: u64, low: u128) -> Option<u128>
     ensures { result ≡ (if nat_lt bound (high * 10 ^ 23 + low) then None
         else Some (high * 10 ^ 23 + low)) }
@@ -73,7 +70,6 @@ fn up_to_128(bound: u128, high: u64, low: u128) -> Option<u128>
 
 /// The number of the digits of two full windows and of `back` behind them, where that is at most
 /// `bound`; else none.
-#[inline(always)]
 pub(crate) fn joined_128(bound: u128, front: u64, middle: u64, back: Window) -> Option<u128>
     requires bound_low { 10 ^ 38 ≤ bound }
     requires front_high { front < 10 ^ 16 }

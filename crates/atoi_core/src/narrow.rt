@@ -58,7 +58,6 @@ pub fn narrow_prefix<'a, E: Engine>(
 
 // Whether zeros count, and more than 16 digits stand at the front of `s`, whose first window is
 // given. Only where that is full of digits a second one is loaded.
-#[inline(always)]
 fn is_too_long<E: Engine>(skip: bool, window: Window, s: &[u8], steps: &mut Steps) -> bool
     requires told { window ≡ window_of E.table 16 s.now }
     ensures answer { result ≡ (not skip && nat_lt 16 (run_len E.table s.now)) }
@@ -110,7 +109,6 @@ pub fn narrow_whole_windows<'a, E: Engine>(
 }
 
 // The error of a whole slice, from that of its front: an overflow holds all of it.
-#[inline(always)]
 fn of_whole<'a>(error: AtoiSimdError<'_>, s: &'a [u8]) -> AtoiSimdError<'a>
     ensures { refusal_of result
         ≡ (if rank (refusal_of error.entry) == 0 then empty else overflow s.now) }

@@ -86,12 +86,10 @@ impl Number for u8 {
 
     ghost number = { λ x. pos x };
 
-    #[inline(always)]
     fn from_pos(value: u128) -> u8 {
         value as u8
     }
 
-    #[inline(always)]
     fn parts(self) -> (bool, u128) {
         (false, u128::from(self))
     }
@@ -118,12 +116,10 @@ impl Number for i8 {
 
     ghost number = { λ x. x };
 
-    #[inline(always)]
     fn from_pos(value: u128) -> i8 {
         value as i8
     }
 
-    #[inline(always)]
     fn parts(self) -> (bool, u128) {
         (self < 0, u128::from(self.unsigned_abs()))
     }
@@ -138,7 +134,6 @@ impl Signed for i8 {
 
     ghost LEAST_MAGNITUDE = { 128 };
 
-    #[inline(always)]
     fn from_neg(magnitude: u128) -> i8 {
         -(magnitude as i64) as i8
     }
@@ -165,12 +160,10 @@ impl Number for u16 {
 
     ghost number = { λ x. pos x };
 
-    #[inline(always)]
     fn from_pos(value: u128) -> u16 {
         value as u16
     }
 
-    #[inline(always)]
     fn parts(self) -> (bool, u128) {
         (false, u128::from(self))
     }
@@ -197,12 +190,10 @@ impl Number for i16 {
 
     ghost number = { λ x. x };
 
-    #[inline(always)]
     fn from_pos(value: u128) -> i16 {
         value as i16
     }
 
-    #[inline(always)]
     fn parts(self) -> (bool, u128) {
         (self < 0, u128::from(self.unsigned_abs()))
     }
@@ -217,7 +208,6 @@ impl Signed for i16 {
 
     ghost LEAST_MAGNITUDE = { 32768 };
 
-    #[inline(always)]
     fn from_neg(magnitude: u128) -> i16 {
         -(magnitude as i64) as i16
     }
@@ -244,12 +234,10 @@ impl Number for u32 {
 
     ghost number = { λ x. pos x };
 
-    #[inline(always)]
     fn from_pos(value: u128) -> u32 {
         value as u32
     }
 
-    #[inline(always)]
     fn parts(self) -> (bool, u128) {
         (false, u128::from(self))
     }
@@ -276,12 +264,10 @@ impl Number for i32 {
 
     ghost number = { λ x. x };
 
-    #[inline(always)]
     fn from_pos(value: u128) -> i32 {
         value as i32
     }
 
-    #[inline(always)]
     fn parts(self) -> (bool, u128) {
         (self < 0, u128::from(self.unsigned_abs()))
     }
@@ -296,7 +282,6 @@ impl Signed for i32 {
 
     ghost LEAST_MAGNITUDE = { 2147483648 };
 
-    #[inline(always)]
     fn from_neg(magnitude: u128) -> i32 {
         -(magnitude as i64) as i32
     }
@@ -323,12 +308,10 @@ impl Number for u64 {
 
     ghost number = { λ x. pos x };
 
-    #[inline(always)]
     fn from_pos(value: u128) -> u64 {
         value as u64
     }
 
-    #[inline(always)]
     fn parts(self) -> (bool, u128) {
         (false, u128::from(self))
     }
@@ -355,12 +338,10 @@ impl Number for i64 {
 
     ghost number = { λ x. x };
 
-    #[inline(always)]
     fn from_pos(value: u128) -> i64 {
         value as i64
     }
 
-    #[inline(always)]
     fn parts(self) -> (bool, u128) {
         (self < 0, u128::from(self.unsigned_abs()))
     }
@@ -375,7 +356,6 @@ impl Signed for i64 {
 
     ghost LEAST_MAGNITUDE = { 9223372036854775808 };
 
-    #[inline(always)]
     fn from_neg(magnitude: u128) -> i64 {
         -(magnitude as i128) as i64
     }
@@ -402,12 +382,10 @@ impl Number for u128 {
 
     ghost number = { λ x. pos x };
 
-    #[inline(always)]
     fn from_pos(value: u128) -> u128 {
         value
     }
 
-    #[inline(always)]
     fn parts(self) -> (bool, u128) {
         (false, self)
     }
@@ -434,12 +412,10 @@ impl Number for i128 {
 
     ghost number = { λ x. x };
 
-    #[inline(always)]
     fn from_pos(value: u128) -> i128 {
         value as i128
     }
 
-    #[inline(always)]
     fn parts(self) -> (bool, u128) {
         (self < 0, self.unsigned_abs())
     }
@@ -454,7 +430,6 @@ impl Signed for i128 {
 
     ghost LEAST_MAGNITUDE = { 170141183460469231731687303715884105728 };
 
-    #[inline(always)]
     fn from_neg(magnitude: u128) -> i128 {
         if magnitude == Self::LEAST_MAGNITUDE {
             i128::MIN
@@ -486,12 +461,10 @@ impl Number for usize {
 
     ghost number = { λ x. pos x };
 
-    #[inline(always)]
     fn from_pos(value: u128) -> usize {
         value as usize
     }
 
-    #[inline(always)]
     fn parts(self) -> (bool, u128) {
         (false, self as u128)
     }
@@ -518,12 +491,10 @@ impl Number for isize {
 
     ghost number = { λ x. x };
 
-    #[inline(always)]
     fn from_pos(value: u128) -> isize {
         value as isize
     }
 
-    #[inline(always)]
     fn parts(self) -> (bool, u128) {
         (self < 0, self.unsigned_abs() as u128)
     }
@@ -538,7 +509,6 @@ impl Signed for isize {
 
     ghost LEAST_MAGNITUDE = { 9223372036854775808 };
 
-    #[inline(always)]
     fn from_neg(magnitude: u128) -> isize {
         -(magnitude as i128) as isize
     }

@@ -110,7 +110,6 @@ fn joined(s: &[u8], first: u64) -> Window
 }
 
 // A window that is not full of digits tells no zeros.
-#[inline(always)]
 fn not_full(len: u32, number: u64) -> Window
     ensures { result ≡ record { len = len; zeroes = 0; number = number } }
 {
@@ -123,7 +122,6 @@ fn not_full(len: u32, number: u64) -> Window
 
 // The word of the bytes from 8 on, at most 8. Where the slice ends among them, its last 8 hold them
 // all, and are shifted twice: by 64 bits at once, where none is left, a word cannot be.
-#[inline(always)]
 fn load_next(s: &[u8]) -> u64
     requires { 8 ≤ length s.now }
     ensures { result ≡ word_of (take 8 (drop 8 s.now)) }
@@ -135,7 +133,6 @@ fn load_next(s: &[u8]) -> u64
 }
 
 // The number that the first `len` bytes write.
-#[inline(always)]
 fn number_of(word: u64, len: u32) -> u64
     requires { len ≤ 8 }
     ensures sum { result ≡ low_value (low_bytes len word) }
@@ -146,7 +143,6 @@ fn number_of(word: u64, len: u32) -> u64
 
 // What `check_len_8` answers, in fewer steps. A byte's top bit marks that it is no digit: 70 added
 // to the byte, or 48 taken from it, sets that bit; of a digit neither does.
-#[inline(always)]
 fn digits_of(word: u64) -> u32
     ensures len { result ≡ run_len decimal_table (low_bytes 8 word) }
     ensures most { result ≤ 8 }
@@ -162,7 +158,6 @@ fn digits_of(word: u64) -> u32
 }
 
 // How many zeros the word begins with. Most begin with none.
-#[inline(always)]
 fn zeroes_of(word: u64) -> u32
     ensures { result ≡ zeros decimal_table (low_bytes 8 word) }
 {
@@ -174,7 +169,6 @@ fn zeroes_of(word: u64) -> u32
 }
 
 // How many zeros two words begin with, one behind the other. Most begin with none.
-#[inline(always)]
 fn zeroes_of_two(first: u64, next: u64) -> u32
     ensures { result ≡ zeros decimal_table (low_bytes 8 first ++ low_bytes 8 next) }
 {
@@ -187,7 +181,6 @@ fn zeroes_of_two(first: u64, next: u64) -> u32
 }
 
 // Ten to the power of the digits of one word.
-#[inline(always)]
 fn power_of_ten(digits: u32) -> u64
     requires { digits ≤ 8 }
     ensures value { result ≡ 10 ^ digits }

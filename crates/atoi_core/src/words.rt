@@ -7,7 +7,6 @@ ghost use Rattle.atoi_core.specs.Words.{low_bytes, word_of, low_value};
 
 /// The first 8 bytes of `s`, or all where there are fewer, as a word: the first byte is the lowest,
 /// and a byte that is missing is 0.
-#[inline(always)]
 pub fn load_8(s: &[u8]) -> u64
     ensures { result ≡ word_of (take 8 s.now) }
 {
@@ -80,7 +79,6 @@ fn last_four(s: &[u8]) -> u64
 
 /// How many lowest bytes of `val` in a row are digits, the bytes 48 to 57: 0 to 8. It holds for
 /// every `val`, whatever stands above the first byte that is no digit.
-#[inline(always)]
 pub fn check_len_8(val: u64) -> u32
     ensures len { result ≡ run_len decimal_table (low_bytes 8 val) }
     ensures most { result ≤ 8 }
@@ -95,7 +93,6 @@ pub fn check_len_8(val: u64) -> u32
 /// The number that the lowest `len` bytes of `val` write, the lowest byte in the highest place: the
 /// sum of each byte modulo 16 times its power of ten, whether it is a digit or not. `len` is 1 to
 /// 8; the bytes above it do not matter. The most is 166666665, where every bit is set.
-#[inline(always)]
 pub fn process_8(val: u64, len: u32) -> u64
     requires low { 1 ≤ len }
     requires high { len ≤ 8 }
@@ -111,7 +108,6 @@ pub fn process_8(val: u64, len: u32) -> u64
 
 /// The same sum over the lowest `len` bytes of a word of sixteen. `len` is 1 to 16; the bytes above
 /// it do not matter. The most is 16666666666666665, where every bit is set.
-#[inline(always)]
 pub fn process_16(val: u128, len: u32) -> u64
     requires low { 1 ≤ len }
     requires high { len ≤ 16 }
@@ -127,7 +123,6 @@ pub fn process_16(val: u128, len: u32) -> u64
 }
 
 /// How many lowest bytes of `val` in a row are zeros, the byte 48: 0 to 8.
-#[inline(always)]
 pub fn len_zeroes(val: u64) -> u32
     ensures zeroes { result ≡ zeros decimal_table (low_bytes 8 val) }
     ensures most { result ≤ 8 }
@@ -136,7 +131,6 @@ pub fn len_zeroes(val: u64) -> u32
 }
 
 /// How many lowest bytes of `val` in a row are zeros, the byte 48: 0 to 16.
-#[inline(always)]
 pub fn len_zeroes_128(val: u128) -> u32
     ensures zeroes { result ≡ zeros decimal_table (low_bytes 16 val) }
     ensures most { result ≤ 16 }

@@ -41,7 +41,6 @@ pub fn load_lanes(s: &[u8]) -> u8x16
 
 // The bytes behind the first 8, of fewer than 16: they are those of the last 8 that are left. These
 // are shifted twice: by 64 bits at once, where none is left, a word cannot be.
-#[inline(always)]
 fn load_behind_8(s: &[u8]) -> u64
     requires { length s.now < LANES }
     ensures { result ≡ word_of (drop 8 s.now) }
@@ -53,7 +52,6 @@ fn load_behind_8(s: &[u8]) -> u64
 }
 
 /// How many first lanes in a row are digits, the bytes 48 to 57: 0 to 16.
-#[inline(always)]
 pub fn len_lanes(v: u8x16) -> u32
     ensures len { result ≡ run_len decimal_table v }
     ensures most { result ≤ 16 }
@@ -63,7 +61,6 @@ pub fn len_lanes(v: u8x16) -> u32
 }
 
 /// How many first lanes in a row are zeros, the byte 48: 0 to 16.
-#[inline(always)]
 pub fn zeroes_lanes(v: u8x16) -> u32
     ensures zeroes { result ≡ zeros decimal_table v }
     ensures most { result ≤ 16 }

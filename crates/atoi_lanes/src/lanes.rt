@@ -17,7 +17,6 @@ use std::simd::prelude::*;
 pub struct Lanes;
 
 // What the lanes tell of a window of that many bytes.
-#[inline(always)]
 fn lane_window(lanes: u8x16, size: u32) -> Window
     ensures { result ≡ lane_window size lanes }
 {
