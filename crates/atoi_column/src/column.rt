@@ -13,12 +13,12 @@ use std::marker::{Model, PhantomData};
 
 /// The fields of a byte slice between separators, as an iterator over their values.
 ///
-/// Each field is ended by the separator; the last may lack it. The empty slice has no field, and two
-/// separators in a row hold an empty one. A field is read by
+/// Each field is ended by the separator; the last may lack it. The empty slice has no field, and
+/// two separators in a row hold an empty one. A field is read by
 /// `atoi_simd::parse_prefix::<T, true, true>`: an optional `+`, or `-` where `T` is signed, any
-/// number of zeros, and digits whose number is in the range of `T`. The first field that is anything
-/// else is answered by an error, and ends the column: behind it, and behind the last field, comes
-/// `None` for good.
+/// number of zeros, and digits whose number is in the range of `T`. The first field that is
+/// anything else is answered by an error, and ends the column: behind it, and behind the last
+/// field, comes `None` for good.
 ///
 /// `Column::<u8>::new(b"1,002,x", b',')` gives `Ok(1)`, `Ok(2)` and the error of the field `x`.
 /// A contract sees a column as the list of the items that it has still to give.

@@ -4,8 +4,8 @@ ghost use Rattle.std.specs.Prelude.{◌≡◌, ◌+◌, ◌≤◌, ℕ, List, []
 
 use std::marker::Model;
 
-/// How many bytes a line can hold: more than any answer about one number has, and than any item of a
-/// column.
+/// How many bytes a line can hold: more than any answer about one number has, and than any item of
+/// a column.
 pub const ROOM: usize = 440;
 
 /// The bytes of a line so far, at most `ROOM`.

@@ -1,5 +1,5 @@
-//! The answers to all lines of an input, written to a sink. It stands on the trait `Sink`, on `row`,
-//! on `answer` and `columns`, and on `line`, `place`, `put`, `refused` and `status`.
+//! The answers to all lines of an input, written to a sink. It stands on the trait `Sink`, on
+//! `row`, on `answer` and `columns`, and on `line`, `place`, `put`, `refused` and `status`.
 ghost use Rattle.std.specs.Prelude.{◌≡◌, ◌+◌, ◌<◌, [], ◌∷◌, length, IfOk, IfErr, OnOk, OnErr};
 ghost use Rattle.std.specs.Io.KnownBytes.{Appends};
 ghost use Rattle.atoi_tool.specs.Failures.{failures_of, AppendsFront};
