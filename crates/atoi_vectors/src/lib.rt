@@ -8,8 +8,16 @@ mod agreement;
 #[cfg(test)]
 mod decimal_texts;
 #[cfg(test)]
+mod every_byte;
+#[cfg(test)]
+mod kernels;
+#[cfg(test)]
 mod loops;
 pub mod original;
+#[cfg(test)]
+mod plain_rules;
+#[cfg(test)]
+mod type_ends;
 #[cfg(test)]
 mod windows;
 #[cfg(test)]
