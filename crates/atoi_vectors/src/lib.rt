@@ -9,10 +9,18 @@ mod agreement;
 mod decimal_texts;
 pub mod differences;
 #[cfg(test)]
+mod every_byte;
+#[cfg(test)]
+mod kernels;
+#[cfg(test)]
 mod loops;
 #[cfg(test)]
 mod narrow_whole;
 pub mod original;
+#[cfg(test)]
+mod plain_rules;
+#[cfg(test)]
+mod type_ends;
 #[cfg(test)]
 mod windows;
 #[cfg(test)]
