@@ -166,17 +166,35 @@ fn before_nines(rt: HostRuntime) {
     }
 }
 
+// `len` times `fill`.
+fn check_run(rt: &impl Abort, fill: u8, len: usize)
+    requires { len ≤ 48 }
+{
+    let text = [fill; 48];
+    check(rt, &text[..len]);
+}
+
+// `len` zeros and then a seven.
+fn check_seven(rt: &impl Abort, len: usize)
+    requires { len ≤ 48 }
+{
+    let text = b"0000000000000000000000000000000000000000000000007";
+    check(rt, &text[48 - len..]);
+}
+
+fn check_sevens(rt: &impl Abort) {
+    for len in 0..=48 {
+        check_seven(rt, len);
+    }
+}
+
 #[test]
 fn runs_of_every_length(rt: HostRuntime) {
-    let zeros = [b'0'; 48];
-    let ones = [b'1'; 48];
     for len in 0..=48 {
-        let mut seven = [b'0'; 49];
-        seven[len] = b'7';
-        check(&rt, &zeros[..len]);
-        check(&rt, &ones[..len]);
-        check(&rt, &seven[..=len]);
+        check_run(&rt, b'0', len);
+        check_run(&rt, b'1', len);
     }
+    check_sevens(&rt);
 }
 
 #[test]
