@@ -180,11 +180,16 @@ mod tests {
     }
 
     #[test]
-    fn stops_after_sixteen_digits_where_it_does_not_skip(rt: HostRuntime) {
-        assert_eq!(rt; prefix::<Plain>(false, b"00000000000000007"), Ok((0, 16)));
+    fn refuses_a_seventeenth_digit_where_it_does_not_skip(rt: HostRuntime) {
+        let seven = b"00000000000000007";
+        let above = b"00000000000000255999";
         assert_eq!(rt;
-            prefix::<Plain>(false, b"00000000000000255999"),
-            Ok((25, 16))
+            prefix::<Plain>(false, seven),
+            Err(AtoiSimdError::Size(17, seven))
+        );
+        assert_eq!(rt;
+            prefix::<Plain>(false, above),
+            Err(AtoiSimdError::Size(17, above))
         );
     }
 
