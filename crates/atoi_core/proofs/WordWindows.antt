@@ -1,13 +1,11 @@
 -- What the word of a slice's first bytes tells of these bytes.
-use Rattle.std.proofs.Common.{◌≡◌, ℕ, zero, suc, ◌+◌, ◌*◌, ◌/◌, ◌%◌, ◌^◌, ◌<◌, ◌≤◌, ◌≢◌, min, Bool, true, false, cond, ◌==◌, List, [], ◌∷◌, length, take, drop, get_or, ◌++◌, mod-lt, zero-lt-suc, if◌then◌else◌, refl, sym, ap, ap₂, ◌∙◌, arith}
-use Rattle.std.proofs.lemmas.Bool.{agree_below_at, eq-eqb, ne_eqb}
+use Rattle.std.proofs.Common.{◌≡◌, ℕ, zero, suc, ◌+◌, ◌*◌, ◌/◌, ◌%◌, ◌^◌, ◌<◌, ◌≤◌, ◌≢◌, min, Bool, true, false, cond, ◌==◌, List, [], ◌∷◌, length, take, drop, get_or, ◌++◌, if◌then◌else◌, refl, sym, ap, ap₂, ◌∙◌, arith}
+use Rattle.std.proofs.lemmas.Bool.{eq-eqb, ne_eqb}
 use Rattle.std.proofs.lemmas.Bool.Decides.{nat_tests}
 use Rattle.std.proofs.lemmas.List.{length-take, length-take-le, get_or-drop, take-take, take_all}
 use Rattle.std.proofs.lemmas.List.Sums.{prefix_len-le-length}
 use Rattle.std.proofs.lemmas.List.Folds.{prefix_len-append}
-use Rattle.std.proofs.lemmas.Nat.{and_mask}
 use Rattle.std.proofs.Math.Seq.{take-add}
-use Rattle.std.specs.Int.Bits.{bit_and}
 use Rattle.std.specs.List.{prefix_len}
 use Rattle.std.specs.Simd.Lanes.{digits_l, number_l}
 use Rattle.atoi_core.specs.Digit.{decimal_table, is_digit, is_zero, worth}
@@ -105,20 +103,6 @@ loaded_sum s fits word len is len_is =
 pub sum_of_none : (word len : ℕ) → len ≡ 0 → 0 ≡ low_value (low_bytes len word)
 unfolding low_bytes
 sum_of_none word len e = ap (λ l. low_value (low_bytes l word)) (sym e)
-
--- the only zero is the byte 48
-is_zero_byte : (b : ℕ) → b < 256 → is_zero decimal_table b ≡ (b == 48)
-is_zero_byte b h = agree_below_at (is_zero decimal_table) (λ x. x == 48) 256 b refl h
-
--- a word whose lowest byte is no zero begins with none
-pub no_zero_first : (word : ℕ) → bit_and word 255 ≢ 48 → 0 ≡ zeros decimal_table (low_bytes 8 word)
-unfolding low_bytes
-no_zero_first word other =
-    let byte = word % 256 in
-    let is : bit_and word 255 ≡ byte = and_mask word 8 in
-    let differs : byte ≢ 48 = λ e. other (is ∙ e) in
-    sym (ap (λ t. cond t (1 + zeros decimal_table (digits_l 256 7 (word / 256))) 0)
-    (is_zero_byte byte (mod-lt word (zero-lt-suc 255)) ∙ ne_eqb byte 48 differs))
 
 -- the zeros of two words go on from the first to the next where the first holds zeros only
 pub zeros_of_two : (first next : ℕ) → zeros decimal_table (low_bytes 8 first ++ low_bytes 8 next)

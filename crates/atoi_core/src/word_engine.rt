@@ -1,5 +1,5 @@
 //! The engine that reads a window as one word of eight bytes, or as two. It stands on `words`,
-//! `engine`, `join`, `window`, `steps` and `digit_loop`.
+//! `engine`, `join`, `window` and `steps`.
 ghost use Rattle.std.specs.Prelude.{◌≡◌, ◌+◌, ◌-◌, ◌^◌, ◌<◌, ◌≤◌, ◌++◌, length, take, drop, replicate};
 ghost use Rattle.atoi_core.specs.Digit.{decimal_table};
 ghost use Rattle.atoi_core.specs.Run.{run_len, zeros};
@@ -8,12 +8,14 @@ ghost use Rattle.atoi_core.specs.Words.{low_bytes, low_value, word_of};
 ghost use Rattle.std.proofs.Common.{arith};
 ghost use Rattle.std.proofs.lemmas.Bool.Decides.{nat_tests};
 
-use crate::digit_loop::ZERO;
 use crate::engine::Engine;
 use crate::join;
 use crate::steps::Steps;
 use crate::window::Window;
-use crate::words::{len_zeroes, load_8, load_high, process_8};
+use crate::words::{load_8, load_high};
+
+// The zero, the byte 48, eight times.
+const ZEROS: u64 = 0x3030_3030_3030_3030;
 
 /// The engine that reads eight bytes at once, as a word. Its digits are the decimal ones.
 pub struct Words;
@@ -69,12 +71,12 @@ fn part(s: &[u8]) -> Window
     if s.is_empty() {
         return not_full(0, 0);
     }
-    let word = load_high(s);
-    let digits = digits_of(word + zeros_before(s.len()));
+    let filled = load_high(s) + zeros_before(s.len());
+    let digits = digits_of(filled);
     if digits == 8 {
-        not_full(s.len() as u32, process_8(word, 8))
+        not_full(s.len() as u32, value_of(filled, 8))
     } else {
-        not_full(digits - (8 - s.len() as u32), number_of(word, digits))
+        not_full(digits - (8 - s.len() as u32), number_of(filled, digits))
     }
 }
 
@@ -85,7 +87,7 @@ fn zeros_before(len: usize) -> u64
     requires few { len ≤ 8 }
     ensures { result ≡ word_of (replicate (8 - len) 48) }
 {
-    0x30_3030_3030_3030 >> (8 * (len - 1))
+    ZEROS - (ZEROS << (64 - 8 * len))
 }
 
 // The window of 16 bytes where the first 8, which `first` holds, are digits.
@@ -101,10 +103,10 @@ fn joined(s: &[u8], first: u64) -> Window
         Window {
             len: 16,
             zeroes: zeroes_of_two(first, next),
-            number: process_8(first, 8) * power_of_ten(8) + process_8(next, 8),
+            number: value_of(first, 8) * power_of_ten(8) + value_of(next, 8),
         }
     } else {
-        let high = process_8(first, 8) * power_of_ten(more);
+        let high = value_of(first, 8) * power_of_ten(more);
         not_full(8 + more, high + number_of(next, more))
     }
 }
@@ -132,13 +134,29 @@ fn load_next(s: &[u8]) -> u64
     }
 }
 
-// The number that the first `len` bytes write.
+// The number that the first `len` bytes write, which are all digits, or none.
 fn number_of(word: u64, len: u32) -> u64
-    requires { len ≤ 8 }
+    requires few { len ≤ 8 }
+    requires digits { len ≡ run_len decimal_table (low_bytes 8 word) }
     ensures sum { result ≡ low_value (low_bytes len word) }
     ensures most { result ≤ 166666665 }
 {
-    if len == 0 { 0 } else { process_8(word, len) }
+    if len == 0 { 0 } else { value_of(word, len) }
+}
+
+// The number that the first `len` bytes write, which are digits. It is what `process_8` answers: 48
+// is taken from each byte, as `digits_of` does it too, in place of a mask.
+fn value_of(word: u64, len: u32) -> u64
+    requires some { 1 ≤ len }
+    requires few { len ≤ 8 }
+    requires digits { len ≤ run_len decimal_table (low_bytes 8 word) }
+    ensures sum { result ≡ low_value (low_bytes len word) }
+    ensures most { result ≤ 166666665 }
+{
+    let ones = word.wrapping_sub(ZEROS) << (64 - 8 * len);
+    let tens = (ones.wrapping_mul(0xA01) >> 8) & 0x00FF_00FF_00FF_00FF;
+    let hundreds = (tens.wrapping_mul(0x64_0001) >> 16) & 0x0000_FFFF_0000_FFFF;
+    hundreds.wrapping_mul(0x2710_0000_0001) >> 32
 }
 
 // What `check_len_8` answers, in fewer steps. A byte's top bit marks that it is no digit: 70 added
@@ -148,7 +166,7 @@ fn digits_of(word: u64) -> u32
     ensures most { result ≤ 8 }
 {
     let above = word.wrapping_add(0x4646_4646_4646_4646);
-    let below = word.wrapping_sub(0x3030_3030_3030_3030);
+    let below = word.wrapping_sub(ZEROS);
     let marks = (above | below) & 0x8080_8080_8080_8080;
     if marks == 0 {
         8
@@ -157,24 +175,22 @@ fn digits_of(word: u64) -> u32
     }
 }
 
-// How many zeros the word begins with. Most begin with none.
+// How many zeros the word begins with: what `len_zeroes` answers, from the difference that
+// `digits_of` and `value_of` make too.
 fn zeroes_of(word: u64) -> u32
-    ensures { result ≡ zeros decimal_table (low_bytes 8 word) }
+    ensures zeroes { result ≡ zeros decimal_table (low_bytes 8 word) }
+    ensures most { result ≤ 8 }
 {
-    if word & 0xFF == ZERO {
-        len_zeroes(word)
-    } else {
-        0
-    }
+    word.wrapping_sub(ZEROS).trailing_zeros() / 8
 }
 
-// How many zeros two words begin with, one behind the other. Most begin with none.
+// How many zeros two words begin with, one after the other.
 fn zeroes_of_two(first: u64, next: u64) -> u32
     ensures { result ≡ zeros decimal_table (low_bytes 8 first ++ low_bytes 8 next) }
 {
     let zeroes = zeroes_of(first);
     if zeroes == 8 {
-        8 + len_zeroes(next)
+        8 + zeroes_of(next)
     } else {
         zeroes
     }

@@ -16,7 +16,7 @@ returns-clause-window c =
     window_from 8 s len c.if-len-eq8.zeroes c.number_of.result
     (c.digits_of-len.ensures.len ∙ loaded_run s fits word c.load_8-word.ensures)
     (elim c.if-len-eq8.branch [
-      | then-len-eq8 w ↦ w.zeroes-is ∙ w.zeroes_of-zeroes.ensures ∙ loaded_zeros s fits word c.load_8-word.ensures ∙ sym (told_full len 8 leading w.if-len-eq8.true)
+      | then-len-eq8 w ↦ w.zeroes-is ∙ w.zeroes_of-zeroes.ensures.zeroes ∙ loaded_zeros s fits word c.load_8-word.ensures ∙ sym (told_full len 8 leading w.if-len-eq8.true)
       | else-len-eq8 w ↦ w.zeroes-is ∙ sym (told_none len 8 leading w.if-len-eq8.false)
     ])
     (c.number_of.ensures.sum ∙ loaded_sum s fits word len c.load_8-word.ensures c.digits_of-len.ensures.len)
