@@ -134,6 +134,18 @@ window_from c s len leading number len_is leading_is number_is =
     number_is ∙ ap (value decimal_table) (sym (take-take len c s (omega arith)) ∙ ap (λ n. take n (take c s)) len_is) in
     λ i. record { len = len_is i; zeroes = same_leading i; number = same_number i }
 
+-- what a loaded word tells is the window of its bytes
+pub loaded_window : (s : List ℕ) → ((i : ℕ) → get_or s i 0 < 256) → (word : ℕ) (w : Window) → word ≡ word_of (take 8 s)
+    → w.len ≡ run_len decimal_table (low_bytes 8 word)
+    → w.zeroes ≡ (if w.len == 8 then zeros decimal_table (low_bytes 8 word) else 0)
+    → w.number ≡ low_value (low_bytes w.len word)
+    → w ≡ window_of decimal_table 8 s
+loaded_window s fits word w is len_is zeroes_are number_is =
+    window_from 8 s w.len w.zeroes w.number
+    (len_is ∙ loaded_run s fits word is)
+    (zeroes_are ∙ ap (λ z. if w.len == 8 then z else 0) (loaded_zeros s fits word is))
+    (number_is ∙ loaded_sum s fits word w.len is len_is)
+
 -- where the first eight bytes are not all digits, sixteen tell no more than they
 pub window_short : (s : List ℕ) (len number : ℕ) → len ≡ run_len decimal_table (take 8 s) → len ≢ 8
     → number ≡ value decimal_table (take len s)

@@ -1,7 +1,10 @@
 //! The engine that reads a window as one word of eight bytes, or as two. It stands on `words`,
-//! `engine`, `join`, `window` and `steps`.
-ghost use Rattle.std.specs.Prelude.{◌≡◌, ◌+◌, ◌-◌, ◌^◌, ◌<◌, ◌≤◌, ◌++◌, length, take, drop, replicate};
+//! `engine`, `join`, `window`, `steps` and `error`.
+ghost use Rattle.std.specs.Prelude.{◌≡◌, ◌+◌, ◌-◌, ◌^◌, ◌<◌, ◌≤◌, ◌==◌, ◌++◌, true, if◌then◌else◌, length, take, drop, replicate};
 ghost use Rattle.atoi_core.specs.Digit.{decimal_table};
+ghost use Rattle.atoi_core.specs.Loads.{LoadsWithin, most_loads};
+ghost use Rattle.atoi_core.specs.Magnitude.{HasDigits, wide64, prefix_magnitude};
+ghost use Rattle.atoi_core.specs.Refusal.{answer_of};
 ghost use Rattle.atoi_core.specs.Run.{run_len, zeros};
 ghost use Rattle.atoi_core.specs.Window.{window_of};
 ghost use Rattle.atoi_core.specs.Words.{low_bytes, low_value, word_of};
@@ -9,7 +12,8 @@ ghost use Rattle.std.proofs.Common.{arith};
 ghost use Rattle.std.proofs.lemmas.Bool.Decides.{nat_tests};
 
 use crate::engine::Engine;
-use crate::join;
+use crate::error::{AtoiSimdError, out_of_line};
+use crate::join::{self, answer_64};
 use crate::steps::Steps;
 use crate::window::Window;
 use crate::words::{load_8, load_high};
@@ -47,17 +51,78 @@ impl Engine for Words {
         if s.len() < 8 {
             return part(s);
         }
-        let word = load_8(s);
-        let len = digits_of(word);
-        let zeroes = if len == 8 { zeroes_of(word) } else { 0 };
-        Window {
-            len,
-            zeroes,
-            number: number_of(word, len),
+        told(load_8(s))
+    }
+
+    /// As the provided body, but a loop is entered only where there are zeros to skip.
+    #[inline(always)]
+    fn prefix_64<'a>(
+        bound: u64,
+        limit: u32,
+        skip: bool,
+        s: &'a [u8],
+        steps: &mut Steps,
+    ) -> Result<(u64, usize), AtoiSimdError<'a>> {
+        let front = Words::window(s, steps);
+        if skip && front.zeroes > 0 {
+            return out_of_line(behind_zeros(bound, limit, front.zeroes, s, steps));
+        }
+        if front.len == 0 {
+            Err(AtoiSimdError::Empty)
+        } else if front.len < 16 {
+            Ok((front.number, front.len as usize))
+        } else {
+            answer_64(bound, limit, 0, front, window_from_16(s, steps), s)
         }
     }
 
     ghost below_ten = { λ byte. Prim.grind (arith, nat_tests) };
+}
+
+// What `prefix_64` with zeros to skip answers, where the first window told `zeroes`: these and those
+// after them are skipped.
+#[inline(never)]
+fn behind_zeros<'a>(
+    bound: u64,
+    limit: u32,
+    zeroes: u32,
+    s: &'a [u8],
+    steps: &mut Steps,
+) -> Result<(u64, usize), AtoiSimdError<'a>>
+    requires limit_low { 17 ≤ limit }
+    requires limit_high { limit ≤ 20 }
+    requires digits { HasDigits limit bound }
+    requires some { 0 < zeroes }
+    requires told { zeroes ≡ (window_of decimal_table 16 s.now).zeroes }
+    ensures answer { answer_of result
+        ≡ prefix_magnitude decimal_table wide64 bound limit true s.now }
+    ensures loads { LoadsWithin (most_loads decimal_table wide64 s.now - 2) decimal_table true s.now
+        steps.old steps.new }
+{
+    let mut at = zeroes as usize;
+    let front = loop {
+        let window = Words::window(&s[at..], steps);
+        if window.zeroes == 0 {
+            break window;
+        }
+        at += window.zeroes as usize;
+    };
+    if front.len < 16 {
+        return Ok((front.number, at + front.len as usize));
+    }
+    let rest = &s[at..];
+    answer_64(bound, limit, at, front, window_from_16(rest, steps), s)
+}
+
+// The window of the 8 bytes from the 17th on, or of those that are there. Adds one step.
+#[inline(always)]
+fn window_from_16(s: &[u8], steps: &mut Steps) -> Window
+    requires { 16 ≤ length s.now }
+    ensures window { result ≡ window_of decimal_table 8 (drop 16 s.now) }
+    ensures one_step { steps.new ≡ steps.old + 1 }
+{
+    steps.tick();
+    told(load_from(s, 16))
 }
 
 // The window of at most 8 bytes. A slice of fewer is read as if zeros stood before it that count for
@@ -97,7 +162,7 @@ fn joined(s: &[u8], first: u64) -> Window
     requires full { run_len decimal_table (low_bytes 8 first) ≡ 8 }
     ensures { result ≡ window_of decimal_table 16 s.now }
 {
-    let next = load_next(s);
+    let next = load_from(s, 8);
     let more = digits_of(next);
     if more == 8 {
         Window {
@@ -122,15 +187,34 @@ fn not_full(len: u32, number: u64) -> Window
     }
 }
 
-// The word of the bytes from 8 on, at most 8. Where the slice ends among them, its last 8 hold them
-// all, and are shifted twice: by 64 bits at once, where none is left, a word cannot be.
-fn load_next(s: &[u8]) -> u64
-    requires { 8 ≤ length s.now }
-    ensures { result ≡ word_of (take 8 (drop 8 s.now)) }
+// The word of the bytes from `at` on, at most 8. Where the slice ends among them, its last 8 hold
+// them all, and are shifted twice: by 64 bits at once, where none is left, a word cannot be.
+fn load_from(s: &[u8], at: usize) -> u64
+    requires enough { 8 ≤ length s.now }
+    requires inside { at ≤ length s.now }
+    requires low { at ≤ 16 }
+    ensures { result ≡ word_of (take 8 (drop at s.now)) }
 {
     match s.last_chunk::<8>() {
-        Some(last) if s.len() < 16 => (u64::from_le_bytes(*last) >> (120 - 8 * s.len())) >> 8,
-        _ => load_8(&s[8..]),
+        Some(last) if s.len() < at + 8 => {
+            (u64::from_le_bytes(*last) >> (8 * (at + 7 - s.len()))) >> 8
+        }
+        _ => load_8(&s[at..]),
+    }
+}
+
+// What a word of 8 bytes tells: a byte that is missing is 0, and no digit.
+fn told(word: u64) -> Window
+    ensures len { result.len ≡ run_len decimal_table (low_bytes 8 word) }
+    ensures zeroes { result.zeroes
+        ≡ (if result.len == 8 then zeros decimal_table (low_bytes 8 word) else 0) }
+    ensures number { result.number ≡ low_value (low_bytes result.len word) }
+{
+    let len = digits_of(word);
+    Window {
+        len,
+        zeroes: if len == 8 { zeroes_of(word) } else { 0 },
+        number: number_of(word, len),
     }
 }
 
