@@ -189,6 +189,7 @@ fn not_full(len: u32, number: u64) -> Window
 
 // The word of the bytes from `at` on, at most 8. Where the slice ends among them, its last 8 hold
 // them all, and are shifted twice: by 64 bits at once, where none is left, a word cannot be.
+#[inline(always)]
 fn load_from(s: &[u8], at: usize) -> u64
     requires enough { 8 ≤ length s.now }
     requires inside { at ≤ length s.now }
@@ -204,6 +205,7 @@ fn load_from(s: &[u8], at: usize) -> u64
 }
 
 // What a word of 8 bytes tells: a byte that is missing is 0, and no digit.
+#[inline(always)]
 fn told(word: u64) -> Window
     ensures len { result.len ≡ run_len decimal_table (low_bytes 8 word) }
     ensures zeroes { result.zeroes
