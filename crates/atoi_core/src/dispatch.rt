@@ -10,7 +10,7 @@ ghost use Rattle.atoi_core.specs.Refusal.{answer_of};
 
 use crate::engine::Engine;
 use crate::error::AtoiSimdError;
-use crate::front::{front_64, front_128};
+use crate::front::front_128;
 use crate::narrow::{narrow_prefix, narrow_whole_windows};
 use crate::number::{Number, Signed};
 use crate::steps::Steps;
@@ -160,7 +160,7 @@ fn prefix_by_class<'a, E: Engine, T: Number>(
         widened_prefix(narrow_prefix::<E>(narrow_bound::<T>(minus), skip, s, steps))
     } else if T::BITS == 64 {
         let bound = bound_64::<T>(minus);
-        widened_prefix(front_64::<E>(bound, limit_64::<T>(), skip, s, steps))
+        widened_prefix(E::prefix_64(bound, limit_64::<T>(), skip, s, steps))
     } else {
         front_128::<E>(bound_128::<T>(minus), skip, s, steps)
     }
