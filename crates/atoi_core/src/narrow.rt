@@ -131,7 +131,6 @@ fn long_whole<'a, E: Engine>(
 
 // The answer for a whole slice, from that for its front where zeros are skipped: an overflow holds
 // all of the slice, and digits that end before it are invalid.
-#[inline(always)]
 fn whole_of<'a, E: Engine>(
     bound: u64,
     front: Result<(u64, usize), AtoiSimdError<'_>>,
@@ -193,7 +192,6 @@ fn behind_zeros<'a, E: Engine>(
 
 // What the window at the place `at` answers, where only zeros that are skipped stand before it, and
 // there is a digit.
-#[inline(always)]
 fn answer_at(
     bound: u64,
     at: usize,
