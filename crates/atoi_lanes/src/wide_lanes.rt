@@ -1,10 +1,10 @@
 //! The parses of wide integers at the front of a slice, by windows of 32 lanes.
 //! It stands on `window_32`, on the engine's `window_8`, and on `atoi_core`'s law of what was read.
-ghost use Rattle.std.specs.Prelude.{◌≡◌, ◌+◌, ◌*◌, ◌/◌, ◌<◌, ◌≤◌, nat_lt, if◌then◌else◌, length, drop};
+ghost use Rattle.std.specs.Prelude.{◌≡◌, ◌+◌, ◌*◌, ◌/◌, ◌<◌, ◌≤◌, nat_lt, if◌then◌else◌, length, take, drop, true, IsTrue};
 ghost use Rattle.atoi_core.specs.Digit.{decimal_table};
 ghost use Rattle.atoi_core.specs.Loads.{LoadsWithin};
 ghost use Rattle.atoi_core.specs.Magnitude.{HasDigits, wide64, wide128, prefix_magnitude};
-ghost use Rattle.atoi_core.specs.Reading.{answer_by_digits};
+ghost use Rattle.atoi_core.specs.Reading.{Reading, answer_by_digits};
 ghost use Rattle.atoi_core.specs.Refusal.{answer_of};
 ghost use Rattle.atoi_core.specs.Run.{zeros};
 ghost use Rattle.atoi_core.specs.Window.{window_of};
@@ -39,7 +39,15 @@ pub fn prefix_64_lanes<'a>(
     ensures loads { LoadsWithin (zeros decimal_table s.now / 32 + 2) decimal_table skip s.now
         steps.old steps.new }
 {
-    told_64(bound, limit, skip, behind_zeros(skip, s, steps), s)
+    let first = window_32(s, steps);
+    if skip && first.zeroes > 0 {
+        return out_of_line(behind_zeros_64(bound, limit, first, s, steps));
+    }
+    let front = Front {
+        at: 0,
+        window: first,
+    };
+    told_64(bound, limit, skip, front, s)
 }
 
 /// The number at the front of `s`, and how many bytes it has, for an integer of 128 bits: what
@@ -64,7 +72,8 @@ pub fn prefix_128_lanes<'a>(
     ensures loads { LoadsWithin (zeros decimal_table s.now / 32 + 3) decimal_table skip s.now
         steps.old steps.new }
 {
-    let front = behind_zeros(skip, s, steps);
+    let first = window_32(s, steps);
+    let front = behind_zeros(skip, first, s, steps);
     if front.window.len < 32 {
         return short_128(bound, skip, front, s);
     }
@@ -79,23 +88,75 @@ struct Front {
     window: Window32,
 }
 
-// Drops the zeros of windows that are full of digits, where zeros are skipped.
+// What `prefix_64_lanes` answers where zeros are skipped, and the first window tells some.
+#[inline(never)]
+fn behind_zeros_64<'a>(
+    bound: u64,
+    limit: u32,
+    first: Window32,
+    s: &'a [u8],
+    steps: &mut Steps,
+) -> Result<(u64, usize), AtoiSimdError<'a>>
+    requires limit_high { limit ≤ 20 }
+    requires first { Reading decimal_table 32 s.now first.len first.zeroes first.number }
+    ensures answer { answer_of result ≡ prefix_magnitude decimal_table wide64 bound limit true s.now }
+    ensures most { steps.new ≤ steps.old + zeros decimal_table s.now / 32 + 1 }
+    ensures least { steps.old + zeros decimal_table s.now / 32 ≤ steps.new }
+{
+    told_64(bound, limit, true, behind_zeros(true, first, s, steps), s)
+}
+
+// Drops the zeros of windows that are full of digits, where zeros are skipped, from the first
+// window on.
 #[inline(always)]
-fn behind_zeros(skip: bool, s: &[u8], steps: &mut Steps) -> Front
+fn behind_zeros(skip: bool, first: Window32, s: &[u8], steps: &mut Steps) -> Front
+    requires first { Reading decimal_table 32 s.now first.len first.zeroes first.number }
     ensures front { ReadsBehind skip s.now result.at result.window.len result.window.zeroes
         result.window.number }
-    ensures loads { LoadsWithin (zeros decimal_table s.now / 32 + 2) decimal_table skip s.now
-        steps.old steps.new }
+    ensures most { steps.new ≤ steps.old + zeros decimal_table s.now / 32 + 1 }
+    ensures least { IsTrue skip → steps.old + zeros decimal_table s.now / 32 ≤ steps.new }
+    ensures grows { steps.old ≤ steps.new }
 {
     // Zeros that are left behind a place are those of the slice, but for as many.
     reading_decides();
-    let mut at = 0;
+    let mut front = Front {
+        at: 0,
+        window: first,
+    };
     loop {
-        let window = window_32(&s[at..], steps);
-        if !skip || window.zeroes == 0 || window.len < 32 {
-            return Front { at, window };
+        if !skip || front.window.zeroes == 0 || front.window.len < 32 {
+            return front;
         }
-        at += window.zeroes as usize;
+        front = next_front(front, s, steps);
+    }
+}
+
+// One turn: drops all zeros of a window, and reads the next one behind them.
+#[inline(always)]
+fn next_front(front: Front, s: &[u8], steps: &mut Steps) -> Front
+    requires reading { Reading decimal_table 32 (drop front.at s.now) front.window.len
+        front.window.zeroes front.window.number }
+    requires within { front.at + front.window.zeroes ≤ length s.now }
+    ensures dropped { result.at ≡ front.at + zeros decimal_table (take 32 (drop front.at s.now)) }
+    ensures reading { Reading decimal_table 32 (drop result.at s.now) result.window.len
+        result.window.zeroes result.window.number }
+    ensures one_step { steps.new ≡ steps.old + 1 }
+{
+    let at = front.at + front.window.zeroes as usize;
+    Front {
+        at,
+        window: window_32(&s[at..], steps),
+    }
+}
+
+// What a call out of line answers. It is matched here, so that the caller need not clear the place
+// of the result on the way that does not make the call.
+fn out_of_line<A>(answer: Result<A, AtoiSimdError<'_>>) -> Result<A, AtoiSimdError<'_>>
+    ensures { result ≡ answer.entry }
+{
+    match answer {
+        Ok(found) => Ok(found),
+        Err(error) => Err(error),
     }
 }
 
@@ -106,7 +167,15 @@ fn window_behind(s: &[u8], steps: &mut Steps) -> Window
     ensures window { result ≡ window_of decimal_table 8 (drop 32 s.now) }
     ensures one_step { steps.new ≡ steps.old + 1 }
 {
-    Lanes::window_8(&s[32..], steps)
+    Lanes::window_8(behind_32(s), steps)
+}
+
+// The bytes behind the first 32.
+fn behind_32(s: &[u8]) -> &[u8]
+    requires { 32 ≤ length s.now }
+    ensures { result.now ≡ drop 32 s.now }
+{
+    s.split_at(32).1
 }
 
 // The answer of 64 bits, which the last window decides.

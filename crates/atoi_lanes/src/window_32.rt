@@ -1,6 +1,6 @@
 //! What one step tells of 32 bytes, read at once into the lanes of a vector.
 //! It stands on `std::simd`, on the kernels and on `atoi_core`'s steps.
-ghost use Rattle.std.specs.Prelude.{◌≡◌, ◌+◌, ◌^◌, ◌≤◌, take, drop};
+ghost use Rattle.std.specs.Prelude.{◌≡◌, ◌+◌, ◌*◌, ◌^◌, ◌≤◌, take, drop};
 ghost use Rattle.atoi_core.specs.Digit.{decimal_table};
 ghost use Rattle.atoi_core.specs.Reading.{Reading};
 ghost use Rattle.atoi_core.specs.Run.{run_len, zeros, value};
@@ -106,7 +106,16 @@ fn number_32(v: u8x32, len: u32) -> u128
     let behind = len - 16;
     let high = sum_lanes(first_half(v), 16);
     let low = sum_lanes(second_half(v), behind);
-    u128::from(high) * u128::from(power_of_ten(behind)) + u128::from(low)
+    joined(high, low, behind)
+}
+
+// The number that both halves write: the digits of the first, and as many of the second behind it.
+#[inline(always)]
+fn joined(high: u64, low: u64, digits: u32) -> u128
+    requires { digits ≤ 16 }
+    ensures { result ≡ high * 10 ^ digits + low }
+{
+    u128::from(high) * u128::from(power_of_ten(digits)) + u128::from(low)
 }
 
 // The first sixteen lanes.
