@@ -1,5 +1,5 @@
 -- The loop that drops zeros by whole windows: how far it comes, and how many windows it loads.
-use Rattle.std.proofs.Common.{◌≡◌, ◌⊎◌, ℕ, ◌+◌, ◌-◌, ◌*◌, ◌/◌, ◌<◌, ◌≤◌, min, Bool, true, List, length, take, refl, sym, ◌∙◌, inl, inr, arith}
+use Rattle.std.proofs.Common.{◌≡◌, ◌⊎◌, ℕ, ◌+◌, ◌-◌, ◌*◌, ◌/◌, ◌<◌, ◌≤◌, min, Bool, true, false, List, length, take, refl, sym, ◌∙◌, inl, inr, arith}
 use Rattle.std.proofs.lemmas.Bool.{cases_lt, false≢true}
 use Rattle.std.proofs.lemmas.List.{length-take}
 use Rattle.std.proofs.lemmas.List.Sums.{prefix_len-le-length}
@@ -49,12 +49,12 @@ Skipping-loads skip s at before now leading so told few = omega (arith, so.least
 
 -- before the first window nothing is skipped
 pub reads-first : (skip : Bool) (s : List ℕ) (len leading number : ℕ) → Reading decimal_table 32 s len leading number
-    → (skip ≡ true → leading ≡ 0) → ReadsBehind skip s 0 len leading number
+    → ((skip ≡ true) × (leading ≤ 0)) ⊎ (skip ≡ false) → ReadsBehind skip s 0 len leading number
 reads-first skip s len leading number reading none =
     let most : run_len decimal_table (take 32 s) ≤ length (take 32 s) = prefix_len-le-length (is_digit decimal_table) (take 32 s) in
     record {
       skipped = (Skipping-none skip s 0).skipped;
       reading = reading;
       within = omega (arith, reading.digits_are, most, length-take 32 s);
-      ends = λ on full. none on;
+      ends = λ on full. elim none [ inl first ↦ omega (arith, first.1) | inr off ↦ absurd (false≢true (sym off ∙ on)) ];
     }

@@ -25,6 +25,7 @@ use atoi_core::{AtoiSimdError, Engine, Steps, Window};
 /// # Errors
 ///
 /// `Empty`, `Size` and `Overflow`, as of `Engine::prefix_64`.
+#[inline(always)]
 pub fn prefix_64_lanes<'a>(
     bound: u64,
     limit: u32,
@@ -73,12 +74,14 @@ pub fn prefix_128_lanes<'a>(
         steps.old steps.new }
 {
     let first = window_32(s, steps);
-    let front = behind_zeros(skip, first, s, steps);
-    if front.window.len < 32 {
-        return short_128(bound, skip, front, s);
+    if skip && first.zeroes > 0 {
+        return out_of_line(behind_zeros_128(bound, first, s, steps));
     }
-    let back = window_behind(&s[front.at..], steps);
-    told_128(bound, skip, front, back, s)
+    let front = Front {
+        at: 0,
+        window: first,
+    };
+    ended_128(bound, skip, front, s, steps)
 }
 
 // A place behind zeros that are skipped, and the window that was read there.
@@ -103,19 +106,34 @@ fn behind_zeros_64<'a>(
     ensures most { steps.new ≤ steps.old + zeros decimal_table s.now / 32 + 1 }
     ensures least { steps.old + zeros decimal_table s.now / 32 ≤ steps.new }
 {
-    told_64(bound, limit, true, behind_zeros(true, first, s, steps), s)
+    told_64(bound, limit, true, behind_zeros(first, s, steps), s)
 }
 
-// Drops the zeros of windows that are full of digits, where zeros are skipped, from the first
-// window on.
-#[inline(always)]
-fn behind_zeros(skip: bool, first: Window32, s: &[u8], steps: &mut Steps) -> Front
+// What `prefix_128_lanes` answers where zeros are skipped, and the first window tells some.
+#[inline(never)]
+fn behind_zeros_128<'a>(
+    bound: u128,
+    first: Window32,
+    s: &'a [u8],
+    steps: &mut Steps,
+) -> Result<(u128, usize), AtoiSimdError<'a>>
+    requires digits { HasDigits 39 bound }
     requires first { Reading decimal_table 32 s.now first.len first.zeroes first.number }
-    ensures front { ReadsBehind skip s.now result.at result.window.len result.window.zeroes
+    ensures answer { answer_of result ≡ prefix_magnitude decimal_table wide128 bound 39 true s.now }
+    ensures most { steps.new ≤ steps.old + zeros decimal_table s.now / 32 + 2 }
+    ensures least { steps.old + zeros decimal_table s.now / 32 ≤ steps.new }
+{
+    let front = behind_zeros(first, s, steps);
+    ended_128(bound, true, front, s, steps)
+}
+
+// Drops the zeros of windows that are full of digits, from the first window on.
+fn behind_zeros(first: Window32, s: &[u8], steps: &mut Steps) -> Front
+    requires first { Reading decimal_table 32 s.now first.len first.zeroes first.number }
+    ensures front { ReadsBehind true s.now result.at result.window.len result.window.zeroes
         result.window.number }
     ensures most { steps.new ≤ steps.old + zeros decimal_table s.now / 32 + 1 }
-    ensures least { IsTrue skip → steps.old + zeros decimal_table s.now / 32 ≤ steps.new }
-    ensures grows { steps.old ≤ steps.new }
+    ensures least { steps.old + zeros decimal_table s.now / 32 ≤ steps.new }
 {
     // Zeros that are left behind a place are those of the slice, but for as many.
     reading_decides();
@@ -124,7 +142,7 @@ fn behind_zeros(skip: bool, first: Window32, s: &[u8], steps: &mut Steps) -> Fro
         window: first,
     };
     loop {
-        if !skip || front.window.zeroes == 0 || front.window.len < 32 {
+        if front.window.zeroes == 0 || front.window.len < 32 {
             return front;
         }
         front = next_front(front, s, steps);
@@ -132,7 +150,6 @@ fn behind_zeros(skip: bool, first: Window32, s: &[u8], steps: &mut Steps) -> Fro
 }
 
 // One turn: drops all zeros of a window, and reads the next one behind them.
-#[inline(always)]
 fn next_front(front: Front, s: &[u8], steps: &mut Steps) -> Front
     requires reading { Reading decimal_table 32 (drop front.at s.now) front.window.len
         front.window.zeroes front.window.number }
@@ -160,8 +177,31 @@ fn out_of_line<A>(answer: Result<A, AtoiSimdError<'_>>) -> Result<A, AtoiSimdErr
     }
 }
 
-// The eight bytes behind the first 32.
+// The answer of 128 bits, which the last window of 32 bytes decides, or the eight bytes behind it
+// too, where it is full of digits.
 #[inline(always)]
+fn ended_128<'a>(
+    bound: u128,
+    skip: bool,
+    front: Front,
+    s: &'a [u8],
+    steps: &mut Steps,
+) -> Result<(u128, usize), AtoiSimdError<'a>>
+    requires digits { HasDigits 39 bound }
+    requires front { ReadsBehind skip s.now front.at front.window.len front.window.zeroes
+        front.window.number }
+    ensures answer { answer_of result ≡ prefix_magnitude decimal_table wide128 bound 39 skip s.now }
+    ensures most { steps.new ≤ steps.old + 1 }
+    ensures least { steps.old ≤ steps.new }
+{
+    if front.window.len < 32 {
+        return short_128(bound, skip, front, s);
+    }
+    let back = window_behind(&s[front.at..], steps);
+    told_128(bound, skip, front, back, s)
+}
+
+// The eight bytes behind the first 32.
 fn window_behind(s: &[u8], steps: &mut Steps) -> Window
     requires { 32 ≤ length s.now }
     ensures window { result ≡ window_of decimal_table 8 (drop 32 s.now) }
@@ -201,7 +241,6 @@ fn told_64<'a>(
 
 // The answer of 128 bits, where a window that is not full of digits decides it: these are too few
 // to pass the bound.
-#[inline(always)]
 fn short_128<'a>(
     bound: u128,
     skip: bool,
@@ -225,7 +264,6 @@ fn short_128<'a>(
 
 // The answer of 128 bits, where a window that is full of digits and the eight bytes behind it
 // decide it.
-#[inline(always)]
 fn told_128<'a>(
     bound: u128,
     skip: bool,
@@ -285,7 +323,6 @@ fn answer_64<'a>(
 }
 
 // `high * power + low` where that is at most `bound`; else none.
-#[inline(always)]
 fn up_to(bound: u128, high: u128, power: u64, low: u64) -> Option<u128>
     ensures { result ≡ (if nat_lt bound (high * power + low) then None
         else Some (high * power + low)) }

@@ -1,6 +1,5 @@
 -- The loop keeps what `Skipping` says; the loads follow from it.
-use Rattle.std.proofs.Common.{◌≡◌, ◌+◌, ◌<◌, drop, sym, ap, ◌∙◌, subst, arith, inl, inr}
-use Rattle.std.proofs.lemmas.Bool.{false≢true}
+use Rattle.std.proofs.Common.{true, refl, ◌≡◌, ◌+◌, ◌<◌, drop, sym, ap, ◌∙◌, subst, arith, inl, inr}
 use Rattle.std.proofs.lemmas.List.{length-drop}
 use Rattle.atoi_core.specs.Digit.{decimal_table}
 use Rattle.atoi_lanes.proofs.SkipLemmas.{Skipping, Skipping-more, Skipping-loads}
@@ -22,11 +21,11 @@ loop-front-preserved c =
     let dropped : c.next_front-front.result.at ≡ at + c.loop-front.front.window.zeroes =
     c.next_front-front.ensures.dropped ∙ ap (λ n. at + n) (sym c.loop-front.invariant.1.leading_are) in
     let next = c.next_front-front.new.steps in
-    let more = Skipping-more _ _ _ _ _ next _ so told c.next_front-front.ensures.one_step c.if-not-skip.false (omega (arith, c.if-front-eq0.false)) in
-    (subst (λ n. Skipping c.args.skip s n c.args.steps.now next) (sym dropped) more, c.next_front-front.ensures.reading)
+    let more = Skipping-more _ _ _ _ _ next _ so told c.next_front-front.ensures.one_step refl (omega (arith, c.if-front-eq0.false)) in
+    (subst (λ n. Skipping true s n c.args.steps.now next) (sym dropped) more, c.next_front-front.ensures.reading)
 
-pub returns-then-not-skip-clause-front : goal.returns-then-not-skip-clause-front
-returns-then-not-skip-clause-front c =
+pub returns-then-front-eq0-clause-front : goal.returns-then-front-eq0-clause-front
+returns-then-front-eq0-clause-front c =
     let s = c.args.s.now in
     let at = c.loop-front.front.at in
     let w = c.loop-front.front.window in
@@ -36,14 +35,11 @@ returns-then-not-skip-clause-front c =
       skipped = c.loop-front.invariant.0.skipped;
       reading = reading;
       within = omega (arith, c.loop-front.invariant.0.within, most, length-drop at s);
-      ends = λ on full. elim c.then-not-skip.either [
-        | inl off ↦ absurd (false≢true (sym off ∙ on))
-        | inr ends ↦ (elim ends [ inl none ↦ omega arith | inr short ↦ absurd (omega arith) ])
-      ];
+      ends = λ _ full. elim c.then-front-eq0.either [ inl none ↦ none | inr short ↦ absurd (omega arith) ];
     }
 
-pub returns-then-not-skip-clause-least : goal.returns-then-not-skip-clause-least
-returns-then-not-skip-clause-least c on =
+pub returns-then-front-eq0-clause-least : goal.returns-then-front-eq0-clause-least
+returns-then-front-eq0-clause-least c =
     let s = c.args.s.now in
     let at = c.loop-front.front.at in
     let w = c.loop-front.front.window in
@@ -52,8 +48,5 @@ returns-then-not-skip-clause-least c on =
     let told = reading.leading_are ∙ c.reading_decides.ensures.zeros_left decimal_table 32 s at so.skipped.zeros_only in
     let most = c.reading_decides.ensures.within decimal_table 32 _ w.len w.zeroes w.number reading in
     let few : w.zeroes < 32 =
-    elim c.then-not-skip.either [
-      | inl off ↦ absurd (false≢true (sym off ∙ on))
-      | inr ends ↦ (elim ends [ inl none ↦ omega arith | inr short ↦ omega (arith, most.0) ])
-    ] in
+    elim c.then-front-eq0.either [ inl none ↦ omega (arith, none) | inr short ↦ omega (arith, most.0, short) ] in
     Skipping-loads _ _ _ _ _ _ so told few

@@ -1,4 +1,4 @@
-use Rattle.std.proofs.Common.{◌-◌, length, drop}
+use Rattle.std.proofs.Common.{true, ◌-◌, length, drop}
 use Rattle.atoi_core.specs.Digit.{decimal_table}
 use Rattle.atoi_core.specs.Reading.{Reading}
 use Rattle.atoi_lanes.proofs.SkipLemmas.{Skipping}
@@ -6,7 +6,7 @@ use Rattle.atoi_lanes.proofs.wide_lanes.behind_zeros.Given as goal
 
 abbrev pub invariant-loop-front : goal.invariant-loop-front
 invariant-loop-front l =
-    Skipping l.skip l.s l.front.at l.initial.steps l.steps
+    Skipping true l.s l.front.at l.initial.steps l.steps
     × Reading decimal_table 32 (drop l.front.at l.s) l.front.window.len l.front.window.zeroes l.front.window.number
 
 abbrev pub decreases-loop-front : goal.decreases-loop-front

@@ -1,10 +1,7 @@
-use Rattle.std.proofs.Common.{sym, ◌∙◌, arith, inl, inr}
-use Rattle.std.proofs.lemmas.Bool.{false≢true}
 use Rattle.atoi_lanes.proofs.SkipLemmas.{reads-first}
 use Rattle.atoi_lanes.proofs.wide_lanes.prefix_64_lanes.Goals as goal
 
 pub told_64-requires-clause-front : goal.told_64-requires-clause-front
 told_64-requires-clause-front c =
     let w = c.window_32-first.result in
-    reads-first c.args.skip c.args.s.now w.len w.zeroes w.number c.window_32-first.ensures.reading
-    (λ on. elim c.else-skip.either [ inl none ↦ omega (arith, none.1) | inr off ↦ absurd (false≢true (sym off ∙ on)) ])
+    reads-first c.args.skip c.args.s.now w.len w.zeroes w.number c.window_32-first.ensures.reading c.else-skip.either
