@@ -40,9 +40,11 @@ pub fn prefix_64_lanes<'a>(
     ensures loads { LoadsWithin (zeros decimal_table s.now / 32 + 2) decimal_table skip s.now
         steps.old steps.new }
 {
+    // A window tells the zeros of the slice, but for those behind it.
+    reading_decides();
     let first = window_32(s, steps);
-    if skip && first.zeroes > 0 {
-        return out_of_line(behind_zeros_64(bound, limit, first, s, steps));
+    if skip && first.zeroes > 0 && first.len == 32 {
+        return out_of_line(behind_zeros_64(bound, limit, first.zeroes, s, steps));
     }
     let front = Front {
         at: 0,
@@ -73,9 +75,11 @@ pub fn prefix_128_lanes<'a>(
     ensures loads { LoadsWithin (zeros decimal_table s.now / 32 + 3) decimal_table skip s.now
         steps.old steps.new }
 {
+    // A window tells the zeros of the slice, but for those behind it.
+    reading_decides();
     let first = window_32(s, steps);
-    if skip && first.zeroes > 0 {
-        return out_of_line(behind_zeros_128(bound, first, s, steps));
+    if skip && first.zeroes > 0 && first.len == 32 {
+        return out_of_line(behind_zeros_128(bound, first.zeroes, s, steps));
     }
     let front = Front {
         at: 0,
@@ -91,45 +95,50 @@ struct Front {
     window: Window32,
 }
 
-// What `prefix_64_lanes` answers where zeros are skipped, and the first window tells some.
+// What `prefix_64_lanes` answers where zeros are skipped, and the first window tells some and is full
+// of digits.
 #[inline(never)]
 fn behind_zeros_64<'a>(
     bound: u64,
     limit: u32,
-    first: Window32,
+    zeroes: u32,
     s: &'a [u8],
     steps: &mut Steps,
 ) -> Result<(u64, usize), AtoiSimdError<'a>>
     requires limit_high { limit ≤ 20 }
-    requires first { Reading decimal_table 32 s.now first.len first.zeroes first.number }
+    requires some { 0 < zeroes }
+    requires told { zeroes ≡ zeros decimal_table (take 32 s.now) }
     ensures answer { answer_of result ≡ prefix_magnitude decimal_table wide64 bound limit true s.now }
     ensures most { steps.new ≤ steps.old + zeros decimal_table s.now / 32 + 1 }
     ensures least { steps.old + zeros decimal_table s.now / 32 ≤ steps.new }
 {
-    told_64(bound, limit, true, behind_zeros(first, s, steps), s)
+    told_64(bound, limit, true, behind_zeros(zeroes, s, steps), s)
 }
 
-// What `prefix_128_lanes` answers where zeros are skipped, and the first window tells some.
+// What `prefix_128_lanes` answers where zeros are skipped, and the first window tells some and is
+// full of digits.
 #[inline(never)]
 fn behind_zeros_128<'a>(
     bound: u128,
-    first: Window32,
+    zeroes: u32,
     s: &'a [u8],
     steps: &mut Steps,
 ) -> Result<(u128, usize), AtoiSimdError<'a>>
     requires digits { HasDigits 39 bound }
-    requires first { Reading decimal_table 32 s.now first.len first.zeroes first.number }
+    requires some { 0 < zeroes }
+    requires told { zeroes ≡ zeros decimal_table (take 32 s.now) }
     ensures answer { answer_of result ≡ prefix_magnitude decimal_table wide128 bound 39 true s.now }
     ensures most { steps.new ≤ steps.old + zeros decimal_table s.now / 32 + 2 }
     ensures least { steps.old + zeros decimal_table s.now / 32 ≤ steps.new }
 {
-    let front = behind_zeros(first, s, steps);
+    let front = behind_zeros(zeroes, s, steps);
     ended_128(bound, true, front, s, steps)
 }
 
-// Drops the zeros of windows that are full of digits, from the first window on.
-fn behind_zeros(first: Window32, s: &[u8], steps: &mut Steps) -> Front
-    requires first { Reading decimal_table 32 s.now first.len first.zeroes first.number }
+// Drops the zeros of windows that are full of digits. `zeroes` are those of the first window.
+fn behind_zeros(zeroes: u32, s: &[u8], steps: &mut Steps) -> Front
+    requires some { 0 < zeroes }
+    requires told { zeroes ≡ zeros decimal_table (take 32 s.now) }
     ensures front { ReadsBehind true s.now result.at result.window.len result.window.zeroes
         result.window.number }
     ensures most { steps.new ≤ steps.old + zeros decimal_table s.now / 32 + 1 }
@@ -137,29 +146,25 @@ fn behind_zeros(first: Window32, s: &[u8], steps: &mut Steps) -> Front
 {
     // Zeros that are left behind a place are those of the slice, but for as many.
     reading_decides();
-    let mut front = Front {
-        at: 0,
-        window: first,
-    };
+    let mut front = next_front(0, zeroes, s, steps);
     loop {
         if front.window.zeroes == 0 || front.window.len < 32 {
             return front;
         }
-        front = next_front(front, s, steps);
+        front = next_front(front.at, front.window.zeroes, s, steps);
     }
 }
 
-// One turn: drops all zeros of a window, and reads the next one behind them.
-fn next_front(front: Front, s: &[u8], steps: &mut Steps) -> Front
-    requires reading { Reading decimal_table 32 (drop front.at s.now) front.window.len
-        front.window.zeroes front.window.number }
-    requires within { front.at + front.window.zeroes ≤ length s.now }
-    ensures dropped { result.at ≡ front.at + zeros decimal_table (take 32 (drop front.at s.now)) }
+// One turn: drops all zeros of the window behind `place`, and reads the next one behind them.
+fn next_front(place: usize, zeroes: u32, s: &[u8], steps: &mut Steps) -> Front
+    requires told { zeroes ≡ zeros decimal_table (take 32 (drop place s.now)) }
+    requires within { place + zeroes ≤ length s.now }
+    ensures dropped { result.at ≡ place + zeros decimal_table (take 32 (drop place s.now)) }
     ensures reading { Reading decimal_table 32 (drop result.at s.now) result.window.len
         result.window.zeroes result.window.number }
     ensures one_step { steps.new ≡ steps.old + 1 }
 {
-    let at = front.at + front.window.zeroes as usize;
+    let at = place + zeroes as usize;
     Front {
         at,
         window: window_32(&s[at..], steps),

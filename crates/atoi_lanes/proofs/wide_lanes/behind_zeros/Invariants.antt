@@ -6,7 +6,7 @@ use Rattle.atoi_lanes.proofs.wide_lanes.behind_zeros.Given as goal
 
 abbrev pub invariant-loop-front : goal.invariant-loop-front
 invariant-loop-front l =
-    Skipping true l.s l.front.at l.initial.steps l.steps
+    Skipping true l.s l.front.at l.fn.steps l.steps
     × Reading decimal_table 32 (drop l.front.at l.s) l.front.window.len l.front.window.zeroes l.front.window.number
 
 abbrev pub decreases-loop-front : goal.decreases-loop-front
