@@ -1,10 +1,11 @@
--- The shuffle that moves the first lanes of a vector to its end.
-use Rattle.std.proofs.Common.{◌≡◌, ℕ, zero, suc, ◌+◌, ◌-◌, ◌*◌, ◌/◌, ◌≤◌, ◌||◌, false, List, ◌∷◌, ◌++◌, length, take, drop, replicate, get_or, w8, refl, sym, ap, ap₂, ◌∙◌, arith, rules}
+-- The shuffles that move the first lanes of a vector to its end, and its last lanes to its front.
+use Rattle.std.proofs.Common.{◌≡◌, ℕ, zero, suc, ◌+◌, ◌-◌, ◌*◌, ◌/◌, ◌≤◌, ◌||◌, false, List, [], ◌∷◌, ◌++◌, length, take, drop, replicate, get_or, w8, refl, sym, ap, ap₂, ◌∙◌, arith, rules}
 use Rattle.std.specs.List.{range_with_len}
 use Rattle.std.proofs.Math.Seq.{take-append-add}
 use Rattle.std.proofs.lemmas.Bool.{cond-false}
 use Rattle.std.proofs.lemmas.Bool.Decides.{nat_tests}
-use Rattle.std.proofs.lemmas.List.{length-take, drop_more, drop-append-le, drop-replicate, take-take}
+use Rattle.std.proofs.lemmas.List.{append-nil, length-take, length-drop, take_all, drop_more, drop-append-le, drop-replicate, take-take, take-replicate}
+use Rattle.std.proofs.lemmas.List.FromFn.{length-range_with_len}
 use Rattle.std.proofs.lemmas.Simd.{swz_l, SwzOk, SwzOk-from_Each1, Each1-chunk}
 use Rattle.std.proofs.lemmas.Simd.{length-replicate}
 use lib.Dec.{T, ltb, leb}
@@ -60,3 +61,50 @@ shift_ok n le =
     let each : Each1 (λ j. T (zeroes 16 w8 j || ltb j 16)) shifts = search rules in
     SwzOk-from_Each1 w8 16 1 16 0 (take 16 entries) refl (omega (arith, length-take 16 entries))
     (Each1-chunk _ 0 16 entries (Each1-chunk _ n (32 - n) shifts each))
+
+-- the table of the other shifts: the lanes in order, and 16 places without a lane
+abbrev fronts : List ℕ
+fronts = range_with_len 0 16 ++ replicate 16 128
+
+-- neighbouring places without the first of them
+drop-range : (k n a b m : ℕ) → m ≡ k + n → b ≡ a + k → drop k (range_with_len a m) ≡ range_with_len b n
+drop-range zero n a b m all first = ap₂ range_with_len (omega arith) (omega arith)
+drop-range (suc k) n a b zero all first = absurd (omega arith)
+drop-range (suc k) n a b (suc m) all first = drop-range k n (a + 1) b m (omega arith) (omega arith)
+
+-- sixteen entries of that table, from entry k on: the lanes from k on, and then none
+entries_behind : (k : ℕ) → k ≤ 16 → take 16 (take (32 - k) (drop k fronts)) ≡ range_with_len k (16 - k) ++ replicate k 128
+entries_behind k le =
+    let rest : drop k (range_with_len 0 16) ≡ range_with_len k (16 - k) = drop-range k (16 - k) 0 k 16 (omega arith) (omega arith) in
+    let behind : drop k fronts ≡ range_with_len k (16 - k) ++ replicate 16 128 =
+    drop-append-le k (range_with_len 0 16) (replicate 16 128) le ∙ ap (λ l. l ++ replicate 16 128) rest in
+    let count : 16 ≡ length (range_with_len k (16 - k)) + k = omega (arith, length-range_with_len k (16 - k)) in
+    take-take 16 (32 - k) (drop k fronts) (omega arith)
+    ∙ ap₂ take count behind
+    ∙ take-append-add (range_with_len k (16 - k)) (replicate 16 128) k
+    ∙ ap (λ l. range_with_len k (16 - k) ++ l) (take-replicate k 16 128 le)
+
+-- a shuffle by some places, and behind these by others
+swz-append : (xs : List ℕ) (i : ℕ) (is js : List ℕ) → swz_l w8 16 xs i (is ++ js) ≡ swz_l w8 16 xs i is ++ swz_l w8 16 xs (i + length is) js
+swz-append xs i [] js = ap (λ k. swz_l w8 16 xs k js) (omega arith)
+swz-append xs i (l ∷ is) js =
+    ap (λ ls. swz_l w8 16 xs i (l ∷ []) ++ ls) (swz-append xs (suc i) is js ∙ ap (λ k. swz_l w8 16 xs (suc i) is ++ swz_l w8 16 xs k js) (omega arith))
+
+-- the shuffle by that table from entry k on
+pub moved_front : (k : ℕ) (v : List ℕ) → k ≤ 16 → length v ≡ 16 → swz_l w8 16 v 0 (take 16 (take (32 - k) (drop k fronts))) ≡ drop k v ++ replicate k 0
+moved_front k v le long =
+    let count : length (range_with_len k (16 - k)) ≡ 16 - k = length-range_with_len k (16 - k) in
+    let lanes : swz_l w8 16 v 0 (range_with_len k (16 - k)) ≡ drop k v =
+    lanes_from (16 - k) 0 k v (omega arith) (omega arith) (omega arith) ∙ take_all (16 - k) (drop k v) (omega (arith, length-drop k v)) in
+    let none : swz_l w8 16 v (0 + length (range_with_len k (16 - k))) (replicate k 128) ≡ replicate k 0 =
+    ap (swz_l w8 16 v (0 + length (range_with_len k (16 - k)))) (sym (append-nil (replicate k 128)))
+    ∙ no_lanes k (0 + length (range_with_len k (16 - k))) v [] ∙ append-nil (replicate k 0) in
+    ap (swz_l w8 16 v 0) (entries_behind k le) ∙ swz-append v 0 (range_with_len k (16 - k)) (replicate k 128) ∙ ap₂ (λ a b. a ++ b) lanes none
+
+-- each entry of that table may stand in a shuffle
+pub front_ok : (k : ℕ) → k ≤ 16 → SwzOk w8 16 16 0 (take 16 (take (32 - k) (drop k fronts)))
+front_ok k le =
+    let entries = take (32 - k) (drop k fronts) in
+    let each : Each1 (λ j. T (zeroes 16 w8 j || ltb j 16)) fronts = search rules in
+    SwzOk-from_Each1 w8 16 1 16 0 (take 16 entries) refl (omega (arith, length-take 16 entries))
+    (Each1-chunk _ 0 16 entries (Each1-chunk _ k (32 - k) fronts each))

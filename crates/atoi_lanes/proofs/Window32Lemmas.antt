@@ -1,11 +1,11 @@
 -- Thirty-two bytes in the lanes of two halves.
-use Rattle.std.proofs.Common.{◌≡◌, ℕ, zero, suc, ◌+◌, ◌-◌, ◌*◌, ◌^◌, ◌≤◌, true, false, cond, eqb, List, [], ◌∷◌, ◌++◌, length, take, drop, replicate, refl, sym, ap, ap₂, ◌∙◌, inl, inr, arith}
+use Rattle.std.proofs.Common.{◌≡◌, ℕ, zero, suc, min, ◌+◌, ◌-◌, ◌*◌, ◌^◌, ◌≤◌, true, false, cond, eqb, List, [], ◌∷◌, ◌++◌, length, take, drop, replicate, refl, sym, ap, ap₂, ◌∙◌, inl, inr, arith}
 use Rattle.std.specs.List.{prefix_len}
-use Rattle.std.proofs.Math.Seq.{take-add}
+use Rattle.std.proofs.Math.Seq.{take-add, take-append-add}
 use Rattle.std.proofs.Math.Nat.{sub-zero}
 use Rattle.std.proofs.lemmas.Bool.{eqb-true, cases_lt}
 use Rattle.std.proofs.lemmas.Nat.{pow-add}
-use Rattle.std.proofs.lemmas.List.{drop_all, length-append, length-take-le, length-drop, length-replicate, take-append-drop, take-replicate, take-take}
+use Rattle.std.proofs.lemmas.List.{append-nil, take_all, take-append-le, drop-drop, drop_all, length-append, length-take-le, length-drop, length-replicate, take-append-drop, take-replicate, take-take}
 use Rattle.std.proofs.lemmas.List.Folds.{prefix_len-append}
 use Rattle.std.proofs.lemmas.List.Sums.{prefix_len-le-length}
 use Rattle.atoi_core.specs.Digit.{Table, decimal_table, is_digit, is_zero, worth}
@@ -89,4 +89,28 @@ halves_value k n v long =
           ∙ sym (value_append t (take k v) (take (n - k) (drop k v)))
           ∙ ap (value t) (sym (take-add k (n - k) v))
           ∙ ap (λ m. value t (take m v)) all
+    ]
+
+-- what stands behind the first 16 bytes, of the last 16 of the first 32
+pub behind_first : (s : List ℕ) (end : ℕ) → 16 ≤ length s → end ≡ min (length s) 32
+    → drop (32 - end) (take 16 (drop (end - 16) s)) ++ replicate (32 - end) 0 ≡ padded_front 16 (drop 16 s)
+behind_first s end enough is =
+    let last : List ℕ = take 16 (drop (end - 16) s) in
+    let behind : List ℕ = drop 16 s in
+    let count : length behind ≡ length s - 16 = length-drop 16 s in
+    elim (cases_lt (length s) 32) [
+      | inl short ↦
+          let all : last ≡ drop (end - 16) s = take_all 16 (drop (end - 16) s) (omega (arith, length-drop (end - 16) s)) in
+          let place : end - 16 + (32 - end) ≡ 16 = omega arith in
+          let fill : length behind + (32 - end) ≡ 16 = omega arith in
+          ap (λ l. drop (32 - end) l ++ replicate (32 - end) 0) all
+          ∙ ap (λ l. l ++ replicate (32 - end) 0) (drop-drop (32 - end) (end - 16) s ∙ ap (λ k. drop k s) place)
+          ∙ ap (λ l. behind ++ l) (sym (take-replicate (32 - end) 16 0 (omega arith)))
+          ∙ sym (take-append-add behind (replicate 16 0) (32 - end))
+          ∙ ap (λ n. take n (behind ++ replicate 16 0)) fill
+      | inr long ↦
+          let whole : end ≡ 32 = omega arith in
+          ap (λ e. drop (32 - e) (take 16 (drop (e - 16) s)) ++ replicate (32 - e) 0) whole
+          ∙ append-nil (take 16 behind)
+          ∙ sym (take-append-le 16 behind (replicate 16 0) (omega arith))
     ]

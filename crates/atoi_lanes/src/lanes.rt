@@ -57,6 +57,7 @@ impl Engine for Lanes {
         lane_window(load_lanes(&s[..s.len().min(8)]), 8)
     }
 
+    #[inline(always)]
     fn prefix_64<'a>(
         bound: u64,
         limit: u32,

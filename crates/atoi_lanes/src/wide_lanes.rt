@@ -1,10 +1,10 @@
 //! The parses of wide integers at the front of a slice, by windows of 32 lanes.
 //! It stands on `window_32`, on the engine's `window_8`, and on `atoi_core`'s law of what was read.
-ghost use Rattle.std.specs.Prelude.{◌≡◌, ◌+◌, ◌*◌, ◌/◌, ◌<◌, ◌≤◌, nat_lt, if◌then◌else◌, length, drop};
+ghost use Rattle.std.specs.Prelude.{◌≡◌, ◌+◌, ◌*◌, ◌/◌, ◌<◌, ◌≤◌, nat_lt, if◌then◌else◌, length, take, drop, true, IsTrue};
 ghost use Rattle.atoi_core.specs.Digit.{decimal_table};
 ghost use Rattle.atoi_core.specs.Loads.{LoadsWithin};
 ghost use Rattle.atoi_core.specs.Magnitude.{HasDigits, wide64, wide128, prefix_magnitude};
-ghost use Rattle.atoi_core.specs.Reading.{answer_by_digits};
+ghost use Rattle.atoi_core.specs.Reading.{Reading, answer_by_digits};
 ghost use Rattle.atoi_core.specs.Refusal.{answer_of};
 ghost use Rattle.atoi_core.specs.Run.{zeros};
 ghost use Rattle.atoi_core.specs.Window.{window_of};
@@ -25,6 +25,7 @@ use atoi_core::{AtoiSimdError, Engine, Steps, Window};
 /// # Errors
 ///
 /// `Empty`, `Size` and `Overflow`, as of `Engine::prefix_64`.
+#[inline(always)]
 pub fn prefix_64_lanes<'a>(
     bound: u64,
     limit: u32,
@@ -39,7 +40,17 @@ pub fn prefix_64_lanes<'a>(
     ensures loads { LoadsWithin (zeros decimal_table s.now / 32 + 2) decimal_table skip s.now
         steps.old steps.new }
 {
-    told_64(bound, limit, skip, behind_zeros(skip, s, steps), s)
+    // A window tells the zeros of the slice, but for those behind it.
+    reading_decides();
+    let first = window_32(s, steps);
+    if skip && first.zeroes > 0 && first.len == 32 {
+        return out_of_line(behind_zeros_64(bound, limit, first.zeroes, s, steps));
+    }
+    let front = Front {
+        at: 0,
+        window: first,
+    };
+    told_64(bound, limit, skip, front, s)
 }
 
 /// The number at the front of `s`, and how many bytes it has, for an integer of 128 bits: what
@@ -64,12 +75,17 @@ pub fn prefix_128_lanes<'a>(
     ensures loads { LoadsWithin (zeros decimal_table s.now / 32 + 3) decimal_table skip s.now
         steps.old steps.new }
 {
-    let front = behind_zeros(skip, s, steps);
-    if front.window.len < 32 {
-        return short_128(bound, skip, front, s);
+    // A window tells the zeros of the slice, but for those behind it.
+    reading_decides();
+    let first = window_32(s, steps);
+    if skip && first.zeroes > 0 && first.len == 32 {
+        return out_of_line(behind_zeros_128(bound, first.zeroes, s, steps));
     }
-    let back = window_behind(&s[front.at..], steps);
-    told_128(bound, skip, front, back, s)
+    let front = Front {
+        at: 0,
+        window: first,
+    };
+    ended_128(bound, skip, front, s, steps)
 }
 
 // A place behind zeros that are skipped, and the window that was read there.
@@ -79,34 +95,132 @@ struct Front {
     window: Window32,
 }
 
-// Drops the zeros of windows that are full of digits, where zeros are skipped.
-#[inline(always)]
-fn behind_zeros(skip: bool, s: &[u8], steps: &mut Steps) -> Front
-    ensures front { ReadsBehind skip s.now result.at result.window.len result.window.zeroes
+// What `prefix_64_lanes` answers where zeros are skipped, and the first window tells some and is full
+// of digits.
+#[inline(never)]
+fn behind_zeros_64<'a>(
+    bound: u64,
+    limit: u32,
+    zeroes: u32,
+    s: &'a [u8],
+    steps: &mut Steps,
+) -> Result<(u64, usize), AtoiSimdError<'a>>
+    requires limit_high { limit ≤ 20 }
+    requires some { 0 < zeroes }
+    requires told { zeroes ≡ zeros decimal_table (take 32 s.now) }
+    ensures answer { answer_of result ≡ prefix_magnitude decimal_table wide64 bound limit true s.now }
+    ensures most { steps.new ≤ steps.old + zeros decimal_table s.now / 32 + 1 }
+    ensures least { steps.old + zeros decimal_table s.now / 32 ≤ steps.new }
+{
+    told_64(bound, limit, true, behind_zeros(zeroes, s, steps), s)
+}
+
+// What `prefix_128_lanes` answers where zeros are skipped, and the first window tells some and is
+// full of digits.
+#[inline(never)]
+fn behind_zeros_128<'a>(
+    bound: u128,
+    zeroes: u32,
+    s: &'a [u8],
+    steps: &mut Steps,
+) -> Result<(u128, usize), AtoiSimdError<'a>>
+    requires digits { HasDigits 39 bound }
+    requires some { 0 < zeroes }
+    requires told { zeroes ≡ zeros decimal_table (take 32 s.now) }
+    ensures answer { answer_of result ≡ prefix_magnitude decimal_table wide128 bound 39 true s.now }
+    ensures most { steps.new ≤ steps.old + zeros decimal_table s.now / 32 + 2 }
+    ensures least { steps.old + zeros decimal_table s.now / 32 ≤ steps.new }
+{
+    let front = behind_zeros(zeroes, s, steps);
+    ended_128(bound, true, front, s, steps)
+}
+
+// Drops the zeros of windows that are full of digits. `zeroes` are those of the first window.
+fn behind_zeros(zeroes: u32, s: &[u8], steps: &mut Steps) -> Front
+    requires some { 0 < zeroes }
+    requires told { zeroes ≡ zeros decimal_table (take 32 s.now) }
+    ensures front { ReadsBehind true s.now result.at result.window.len result.window.zeroes
         result.window.number }
-    ensures loads { LoadsWithin (zeros decimal_table s.now / 32 + 2) decimal_table skip s.now
-        steps.old steps.new }
+    ensures most { steps.new ≤ steps.old + zeros decimal_table s.now / 32 + 1 }
+    ensures least { steps.old + zeros decimal_table s.now / 32 ≤ steps.new }
 {
     // Zeros that are left behind a place are those of the slice, but for as many.
     reading_decides();
-    let mut at = 0;
+    let mut front = next_front(0, zeroes, s, steps);
     loop {
-        let window = window_32(&s[at..], steps);
-        if !skip || window.zeroes == 0 || window.len < 32 {
-            return Front { at, window };
+        if front.window.zeroes == 0 || front.window.len < 32 {
+            return front;
         }
-        at += window.zeroes as usize;
+        front = next_front(front.at, front.window.zeroes, s, steps);
     }
 }
 
-// The eight bytes behind the first 32.
+// One turn: drops all zeros of the window behind `place`, and reads the next one behind them.
+fn next_front(place: usize, zeroes: u32, s: &[u8], steps: &mut Steps) -> Front
+    requires told { zeroes ≡ zeros decimal_table (take 32 (drop place s.now)) }
+    requires within { place + zeroes ≤ length s.now }
+    ensures dropped { result.at ≡ place + zeros decimal_table (take 32 (drop place s.now)) }
+    ensures reading { Reading decimal_table 32 (drop result.at s.now) result.window.len
+        result.window.zeroes result.window.number }
+    ensures one_step { steps.new ≡ steps.old + 1 }
+{
+    let at = place + zeroes as usize;
+    Front {
+        at,
+        window: window_32(&s[at..], steps),
+    }
+}
+
+// What a call out of line answers. It is matched here, so that the caller need not clear the place
+// of the result on the way that does not make the call.
+fn out_of_line<A>(answer: Result<A, AtoiSimdError<'_>>) -> Result<A, AtoiSimdError<'_>>
+    ensures { result ≡ answer.entry }
+{
+    match answer {
+        Ok(found) => Ok(found),
+        Err(error) => Err(error),
+    }
+}
+
+// The answer of 128 bits, which the last window of 32 bytes decides, or the eight bytes behind it
+// too, where it is full of digits.
 #[inline(always)]
+fn ended_128<'a>(
+    bound: u128,
+    skip: bool,
+    front: Front,
+    s: &'a [u8],
+    steps: &mut Steps,
+) -> Result<(u128, usize), AtoiSimdError<'a>>
+    requires digits { HasDigits 39 bound }
+    requires front { ReadsBehind skip s.now front.at front.window.len front.window.zeroes
+        front.window.number }
+    ensures answer { answer_of result ≡ prefix_magnitude decimal_table wide128 bound 39 skip s.now }
+    ensures most { steps.new ≤ steps.old + 1 }
+    ensures least { steps.old ≤ steps.new }
+{
+    if front.window.len < 32 {
+        return short_128(bound, skip, front, s);
+    }
+    let back = window_behind(&s[front.at..], steps);
+    told_128(bound, skip, front, back, s)
+}
+
+// The eight bytes behind the first 32.
 fn window_behind(s: &[u8], steps: &mut Steps) -> Window
     requires { 32 ≤ length s.now }
     ensures window { result ≡ window_of decimal_table 8 (drop 32 s.now) }
     ensures one_step { steps.new ≡ steps.old + 1 }
 {
-    Lanes::window_8(&s[32..], steps)
+    Lanes::window_8(behind_32(s), steps)
+}
+
+// The bytes behind the first 32.
+fn behind_32(s: &[u8]) -> &[u8]
+    requires { 32 ≤ length s.now }
+    ensures { result.now ≡ drop 32 s.now }
+{
+    s.split_at(32).1
 }
 
 // The answer of 64 bits, which the last window decides.
@@ -132,7 +246,6 @@ fn told_64<'a>(
 
 // The answer of 128 bits, where a window that is not full of digits decides it: these are too few
 // to pass the bound.
-#[inline(always)]
 fn short_128<'a>(
     bound: u128,
     skip: bool,
@@ -156,7 +269,6 @@ fn short_128<'a>(
 
 // The answer of 128 bits, where a window that is full of digits and the eight bytes behind it
 // decide it.
-#[inline(always)]
 fn told_128<'a>(
     bound: u128,
     skip: bool,
@@ -216,7 +328,6 @@ fn answer_64<'a>(
 }
 
 // `high * power + low` where that is at most `bound`; else none.
-#[inline(always)]
 fn up_to(bound: u128, high: u128, power: u64, low: u64) -> Option<u128>
     ensures { result ≡ (if nat_lt bound (high * power + low) then None
         else Some (high * power + low)) }

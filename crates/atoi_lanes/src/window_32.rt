@@ -1,6 +1,6 @@
 //! What one step tells of 32 bytes, read at once into the lanes of a vector.
 //! It stands on `std::simd`, on the kernels and on `atoi_core`'s steps.
-ghost use Rattle.std.specs.Prelude.{◌≡◌, ◌+◌, ◌^◌, ◌≤◌, take, drop};
+ghost use Rattle.std.specs.Prelude.{◌≡◌, ◌+◌, ◌*◌, ◌^◌, ◌≤◌, ◌++◌, take, drop, replicate};
 ghost use Rattle.atoi_core.specs.Digit.{decimal_table};
 ghost use Rattle.atoi_core.specs.Reading.{Reading};
 ghost use Rattle.atoi_core.specs.Run.{run_len, zeros, value};
@@ -14,6 +14,13 @@ use std::simd::prelude::*;
 const BOTH: [usize; 32] = [
     0, 1, 2, 3, 4, 5, 6, 7, 8, 9, 10, 11, 12, 13, 14, 15, 16, 17, 18, 19, 20, 21, 22, 23, 24, 25,
     26, 27, 28, 29, 30, 31,
+];
+
+// From entry `n` on: for each place of a vector the lane that goes there, so that the lanes from
+// `n` on stand at its front. By 128 a shuffle makes a lane of 0.
+const FROM: [u8; 32] = [
+    0, 1, 2, 3, 4, 5, 6, 7, 8, 9, 10, 11, 12, 13, 14, 15, 128, 128, 128, 128, 128, 128, 128, 128,
+    128, 128, 128, 128, 128, 128, 128, 128,
 ];
 
 // The powers of ten, from the one with no zero to the one with 16.
@@ -66,16 +73,33 @@ pub(crate) fn window_32(s: &[u8], steps: &mut Steps) -> Window32
 
 // The first 32 bytes, or all where there are fewer: the first in the first lane. A lane whose byte
 // is missing is 0.
-#[inline(always)]
 fn load_32(s: &[u8]) -> u8x32
     ensures { result ≡ padded_front 32 s.now }
 {
-    let behind = &s[s.len().min(16)..];
-    load_lanes(s).shuffle::<32>(load_lanes(behind), BOTH)
+    load_lanes(s).shuffle::<32>(load_behind_16(s), BOTH)
+}
+
+// The 16 bytes behind the first 16, or all where there are fewer. Where the slice ends among them,
+// its last 16 hold them all: one shuffle serves every length, without a branch on it.
+fn load_behind_16(s: &[u8]) -> u8x16
+    ensures { result ≡ padded_front 16 (drop 16 s.now) }
+{
+    if s.len() < 16 {
+        return u8x16::splat(0);
+    }
+    let end = s.len().min(32);
+    moved_to_front(u8x16::from_slice(&s[end - 16..]), 32 - end)
+}
+
+// The lanes from place `from` on at the front, before lanes of 0.
+fn moved_to_front(v: u8x16, from: usize) -> u8x16
+    requires { from ≤ 16 }
+    ensures { result ≡ drop from v ++ replicate from 0 }
+{
+    v.swizzle_dyn_within::<16>(u8x16::from_slice(&FROM[from..]))
 }
 
 // How many first lanes in a row are digits, the bytes 48 to 57: 0 to 32.
-#[inline(always)]
 fn len_32(v: u8x32) -> u32
     ensures len { result ≡ run_len decimal_table v }
     ensures most { result ≤ 32 }
@@ -84,12 +108,14 @@ fn len_32(v: u8x32) -> u32
     digits.to_bitmask().trailing_ones()
 }
 
-// How many first lanes in a row are zeros, the byte 48: 0 to 32.
-#[inline(always)]
+// How many first lanes in a row are zeros, the byte 48: 0 to 32. Most vectors begin with none.
 fn zeroes_32(v: u8x32) -> u32
     ensures zeroes { result ≡ zeros decimal_table v }
     ensures most { result ≤ 32 }
 {
+    if v.to_array()[0] != b'0' {
+        return 0;
+    }
     v.simd_eq(u8x32::splat(b'0')).to_bitmask().trailing_ones()
 }
 
@@ -106,11 +132,18 @@ fn number_32(v: u8x32, len: u32) -> u128
     let behind = len - 16;
     let high = sum_lanes(first_half(v), 16);
     let low = sum_lanes(second_half(v), behind);
-    u128::from(high) * u128::from(power_of_ten(behind)) + u128::from(low)
+    joined(high, low, behind)
+}
+
+// The number that both halves write: the digits of the first, and as many of the second behind it.
+fn joined(high: u64, low: u64, digits: u32) -> u128
+    requires { digits ≤ 16 }
+    ensures { result ≡ high * 10 ^ digits + low }
+{
+    u128::from(high) * u128::from(power_of_ten(digits)) + u128::from(low)
 }
 
 // The first sixteen lanes.
-#[inline(always)]
 fn first_half(v: u8x32) -> u8x16
     ensures { result ≡ take 16 v }
 {
@@ -118,7 +151,6 @@ fn first_half(v: u8x32) -> u8x16
 }
 
 // The last sixteen lanes.
-#[inline(always)]
 fn second_half(v: u8x32) -> u8x16
     ensures { result ≡ drop 16 v }
 {
@@ -126,7 +158,6 @@ fn second_half(v: u8x32) -> u8x16
 }
 
 /// Ten to the power of a count of digits, at most 16.
-#[inline(always)]
 pub(crate) fn power_of_ten(digits: u32) -> u64
     requires { digits ≤ 16 }
     ensures power { result ≡ 10 ^ digits }

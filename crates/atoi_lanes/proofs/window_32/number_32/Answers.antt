@@ -1,5 +1,5 @@
 -- The number of the lanes is that of the first half, or of both.
-use Rattle.std.proofs.Common.{◌≡◌, ◌+◌, ◌-◌, ◌*◌, ◌^◌, sym, take, ap, ap₂, ◌∙◌, arith}
+use Rattle.std.proofs.Common.{◌≡◌, ◌+◌, ◌-◌, ◌*◌, ◌^◌, take, ap, ap₂, ◌∙◌, arith}
 use Rattle.std.proofs.lemmas.List.{take-take}
 use Rattle.atoi_core.specs.Digit.{decimal_table}
 use Rattle.atoi_core.specs.Run.{run_len, value}
@@ -29,8 +29,7 @@ sum_lanes-low-requires-clause-digits c =
 pub returns : goal.returns
 returns c =
     let all : 16 ≡ c.args.len - (c.args.len - 16) = omega arith in
-    let high = c.from-2.ensures ∙ c.sum_lanes-high.ensures ∙ ap₂ (λ n l. value decimal_table (take n l)) all c.first_half-2.ensures in
-    let power = c.from-3.ensures ∙ c.power_of_ten.ensures.power in
-    let low = c.from-4.ensures ∙ c.sum_lanes-low.ensures ∙ ap (λ l. value decimal_table (take (c.args.len - 16) l)) c.second_half.ensures in
-    ap₂ (λ a b. a + b) (ap₂ (λ a p. a * p) high power) low
+    let high = c.sum_lanes-high.ensures ∙ ap₂ (λ n l. value decimal_table (take n l)) all c.first_half-2.ensures in
+    let low = c.sum_lanes-low.ensures ∙ ap (λ l. value decimal_table (take (c.args.len - 16) l)) c.second_half.ensures in
+    c.joined.ensures ∙ ap₂ (λ a b. a * 10 ^ (c.args.len - 16) + b) high low
     ∙ halves_value 16 c.args.len c.args.v (omega (arith, c.fits-v.0, c.requires.within))
