@@ -1,1 +1,3 @@
 pub mod TotalLemmas
+pub mod CommandLemmas
+pub mod EbcdicLemmas
