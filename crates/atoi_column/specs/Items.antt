@@ -13,6 +13,16 @@ pub data Flaw : Type 0 where
   field : ℕ → ℕ → Refusal → Flaw
   trailing : ℕ → ℕ → Flaw
 
+-- the number of the field that a flaw is of
+abbrev pub index_of : Flaw → ℕ
+index_of (field index place reason) = index
+index_of (trailing index place) = index
+
+-- the place of a flaw
+abbrev pub place_of : Flaw → ℕ
+place_of (field index place reason) = place
+place_of (trailing index place) = place
+
 -- the flaw that an error tells
 abbrev pub flaw_of : ColumnError → Flaw
 flaw_of (Field index place cause) = field index place (refusal_of cause)

@@ -1,5 +1,5 @@
 -- Laws of fields and items. Each is a statement about the definitions alone.
-use Rattle.std.specs.Prelude.{◌≡◌, ℕ, ◌+◌, ◌≤◌, ◌==◌, true, List, [], ◌∷◌, ◌++◌, length, drop, map, ℤ, Result, Ok, Err}
+use Rattle.std.specs.Prelude.{◌≡◌, ℕ, ◌+◌, ◌≤◌, ◌==◌, true, List, [], ◌∷◌, ◌++◌, length, drop, map, All, ℤ, Result, Ok, Err}
 use Rattle.std.specs.List.{AllZip, before_first, position_or_len, sum_by}
 use Rattle.atoi_core.specs.Digit.{decimal_table}
 use Rattle.atoi_core.specs.Run.{value}
@@ -9,7 +9,7 @@ use Rattle.atoi_core.specs.Sign.{number_of}
 use Rattle.atoi_core.specs.Answer.{parse_answer, parse_prefix_answer}
 use Rattle.atoi_core.specs.Text.{IsText, is_minus}
 use Rattle.atoi_column.specs.Fields.{is_separator, fields_of}
-use Rattle.atoi_column.specs.Items.{Flaw, flaw_at, items_of}
+use Rattle.atoi_column.specs.Items.{Flaw, flaw_at, index_of, place_of, items_of}
 
 -- the first field of a rest and the number at the rest's front: `whole` accepts the field exactly
 -- where the number that `prefix` finds ends with it, with the same value, and no number reaches
@@ -58,3 +58,31 @@ pub record HasItems (k : Kind) (separator : ℕ) (input : List ℕ) : Type 0 whe
 -- so it is with every input and every byte between fields
 abbrev pub TextsAndItems : Kind → Type 0
 TextsAndItems k = (separator : ℕ) (input : List ℕ) → HasItems k separator input
+
+-- how many bytes a number takes at the front of what was read: none where there is no number
+abbrev pub number_len : Result (ℤ × ℕ) Refusal → ℕ
+number_len (Ok found) = found.1
+number_len (Err reason) = 0
+
+-- the field of that number is the first of the input that is no text of the type, and the place is
+-- that of the first byte of it that belongs to no number: where one can be read at its front, of the
+-- byte after it, else of the field's first
+pub record IsFirstBad (k : Kind) (separator : ℕ) (input : List ℕ) (index place : ℕ) : Type 0 where
+  pub before : List (List ℕ)
+  pub field : List ℕ
+  pub others : List (List ℕ)
+  pub parts : fields_of separator input ≡ before ++ field ∷ others
+  pub good : All (IsText k) before
+  pub bad : ¬ IsText k field
+  pub index_is : index ≡ length before
+  pub place_is : place
+      ≡ place_behind before + number_len (parse_prefix_answer k true true (drop (place_behind before) input))
+
+-- the items of an input decide what its fields are: where all are values, every field is a text that
+-- writes its value; and where an error comes after values, it is that of the first bad field
+pub record ItemsDecide (k : Kind) : Type 0 where
+  pub whole : (separator : ℕ) (input : List ℕ) (numbers : List ℤ) → items_of k separator input ≡ map Ok numbers
+      → AllZip (Writes k) (fields_of separator input) numbers
+  pub first_bad : (separator : ℕ) (input : List ℕ) (numbers : List ℤ) (flaw : Flaw)
+      → items_of k separator input ≡ map Ok numbers ++ Err flaw ∷ []
+      → IsFirstBad k separator input (index_of flaw) (place_of flaw)

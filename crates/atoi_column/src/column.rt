@@ -1,12 +1,13 @@
 //! A column as an iterator over the values of its fields.
-//! It stands on `parse_prefix` of `atoi_simd`, on `error`, and on the law of `fields`.
-ghost use Rattle.std.specs.Prelude.{◌≡◌, ◌≤◌, true, length};
+//! It uses `parse_prefix` of `atoi_simd`, `error`, the law of `fields` and one of `atoi_core`.
+ghost use Rattle.std.specs.Prelude.{◌≡◌, ◌≤◌, true, length, All, IfErr};
 ghost use Rattle.std.specs.Iterator.{YieldsFirstBy, item_count};
 ghost use Rattle.atoi_column.specs.Fields.{is_separator};
-ghost use Rattle.atoi_column.specs.Items.{item_of, items_of};
+ghost use Rattle.atoi_column.specs.Items.{item_of, items_of, place_of};
 
 use crate::error::ColumnError;
 use crate::fields::fields_are_prefixes;
+use atoi_core::laws::prefix_of_cut;
 use atoi_simd::{Parse, parse_prefix};
 use std::iter::FusedIterator;
 use std::marker::{Model, PhantomData};
@@ -53,13 +54,18 @@ impl<'a, T: Parse> Column<'a, T> {
     /// The column that `input` is, its fields ended by `separator`, which has to be a byte that
     /// `is_separator` accepts.
     ///
-    /// There are no more items than bytes.
+    /// There are no more items than bytes, and the place of each error lies in `input`, or at
+    /// its end.
     #[inline]
     pub fn new(input: &'a [u8], separator: u8) -> Column<'a, T>
         requires { is_separator separator ≡ true }
         ensures items { result ≡ items_of T.kind separator input.now }
         ensures fits { length result ≤ length input.now }
+        ensures places { All (λ item. IfErr item (λ flaw.
+            place_of flaw ≤ length input.now)) result }
     {
+        // The law that `places` follows from. The call does nothing.
+        prefix_of_cut::<T>();
         Column {
             rest: input,
             separator,

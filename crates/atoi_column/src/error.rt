@@ -1,5 +1,6 @@
 //! Why a field of a column gives no value.
-//! It stands on the error of `atoi_simd`.
+//! It uses the error of `atoi_simd`.
+ghost use Rattle.std.specs.Prelude.{◌≡◌};
 
 use atoi_simd::AtoiSimdError;
 
@@ -25,4 +26,29 @@ pub enum ColumnError<'a> {
         /// The place of that byte.
         place: usize,
     },
+}
+
+impl ColumnError<'_> {
+    ghost use Rattle.atoi_column.specs.Items.{flaw_of, index_of, place_of};
+
+    /// The number of the field, from 0.
+    #[inline]
+    pub fn index(&self) -> usize
+        ensures { result ≡ index_of (flaw_of self.now) }
+    {
+        match self {
+            ColumnError::Field { index, .. } | ColumnError::Trailing { index, .. } => *index,
+        }
+    }
+
+    /// The place of the error: of the field's first byte where no number can be read there,
+    /// or else of the byte after the number.
+    #[inline]
+    pub fn place(&self) -> usize
+        ensures { result ≡ place_of (flaw_of self.now) }
+    {
+        match self {
+            ColumnError::Field { place, .. } | ColumnError::Trailing { place, .. } => *place,
+        }
+    }
 }

@@ -1,6 +1,6 @@
-//! A law of columns: its contract says it, and calling it does nothing.
-//! It stands on the law of the accepted texts of `atoi_core`, and on no parse.
-ghost use Rattle.atoi_column.specs.Laws.{TextsAndItems};
+//! The laws of columns: each function's contract says one, and calling it does nothing.
+//! They use the law of the accepted texts of `atoi_core`, and no parse.
+ghost use Rattle.atoi_column.specs.Laws.{TextsAndItems, ItemsDecide};
 
 use atoi_core::Number;
 use atoi_core::laws::accepted_texts;
@@ -13,4 +13,14 @@ pub fn texts_and_items<T: Number>()
     ensures { TextsAndItems T.kind }
 {
     accepted_texts::<T>();
+}
+
+/// What a column's items say of its fields. Where all items are values, every field is a text of
+/// the type that writes its value. Where an error comes after values, it is that of the first field
+/// that is no such text: `index` is the field's number, and `place` is that of the first byte of it
+/// that belongs to no number.
+pub fn items_decide<T: Number>()
+    ensures { ItemsDecide T.kind }
+{
+    texts_and_items::<T>();
 }

@@ -1,1 +1,4 @@
 pub mod TotalLemmas
+pub mod CommandLemmas
+pub mod EbcdicLemmas
+pub mod LogLemmas

@@ -1,11 +1,17 @@
 //! Callers of `atoi_simd` and `atoi_column`, proved by their public clauses alone.
-//! They stand on these two, and on the definitions and the traits of `atoi_core`.
+//! They use these two, and the definitions, laws, traits and core calls of `atoi_core`.
 #![tactic(auto)]
 
 mod cents;
+mod commands;
+mod log_lines;
+mod own_engine;
 mod settings;
 mod totals;
 
 pub use crate::cents::Cents;
+pub use crate::commands::{Command, CommandError, Word, read_command};
+pub use crate::log_lines::{LogError, columns_total};
+pub use crate::own_engine::{Ebcdic, amount};
 pub use crate::settings::{number_and_rest, setting};
-pub use crate::totals::total;
+pub use crate::totals::{column_total, total};

@@ -1,8 +1,9 @@
-//! The total of a column of numbers, one a line.
+//! The total of a column of numbers: one a line, or between other separators.
 //! It stands on `atoi_column::Column`, whose contract names the items, and on the law beside it.
-ghost use Rattle.std.specs.Prelude.{◌≡◌, ◌++◌, ℕ, List, [], ◌∷◌, pos, Ok, Err, IfOk, IfErr, map, sum};
+ghost use Rattle.std.specs.Prelude.{◌≡◌, ◌≤◌, ◌++◌, ℕ, true, List, [], ◌∷◌, length, pos, Ok, Err, IfOk, IfErr, map, sum};
 ghost use Rattle.atoi_core.specs.Kinds.{u64_kind};
-ghost use Rattle.atoi_column.specs.Items.{flaw_of, items_of};
+ghost use Rattle.atoi_column.specs.Fields.{is_separator};
+ghost use Rattle.atoi_column.specs.Items.{flaw_of, items_of, place_of};
 
 use atoi_column::laws::texts_and_items;
 use atoi_column::{Column, ColumnError};
@@ -22,10 +23,29 @@ pub fn total(lines: &[u8]) -> Result<u128, ColumnError<'_>>
         × (items_of u64_kind NEWLINE lines.now
         ≡ map (λ number. Ok (pos number)) numbers ++ Err (flaw_of error) ∷ [])) }
 {
+    column_total(lines, NEWLINE)
+}
+
+/// The sum of the numbers of `input`, whose fields are ended by `separator`.
+///
+/// # Errors
+///
+/// Why the first field that is no number is refused: the error tells its number, and a place in
+/// `input`.
+pub fn column_total(input: &[u8], separator: u8) -> Result<u128, ColumnError<'_>>
+    requires { is_separator separator ≡ true }
+    ensures all { IfOk result (λ total. (numbers : List ℕ)
+        × (items_of u64_kind separator input.now ≡ map (λ number. Ok (pos number)) numbers)
+        × (total ≡ sum numbers)) }
+    ensures refused { IfErr result (λ error. (numbers : List ℕ)
+        × (items_of u64_kind separator input.now
+        ≡ map (λ number. Ok (pos number)) numbers ++ Err (flaw_of error) ∷ [])) }
+    ensures inside { IfErr result (λ error. place_of (flaw_of error) ≤ length input.now) }
+{
     // The law that nothing stands behind an error. The call does nothing.
     texts_and_items::<u64>();
     let mut total = 0;
-    for item in Column::<u64>::new(lines, NEWLINE) {
+    for item in Column::<u64>::new(input, separator) {
         match item {
             Ok(number) => total += u128::from(number),
             Err(error) => return Err(error),

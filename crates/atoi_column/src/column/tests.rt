@@ -3,7 +3,7 @@
 
 use super::Column;
 use crate::error::ColumnError;
-use crate::laws::texts_and_items;
+use crate::laws::{items_decide, texts_and_items};
 use crate::separator::is_separator;
 use atoi_simd::AtoiSimdError;
 use std::alloc::{AllocError, Global};
@@ -66,6 +66,24 @@ fn a_byte_behind_a_number_is_told_by_its_place(rt: HostRuntime) {
     assert_eq!(rt; column.next(), Some(Ok(-128)));
     assert_eq!(rt; column.next(), Some(Err(trailing)));
     assert_eq!(rt; column.next(), None);
+}
+
+#[test]
+fn an_error_has_the_number_and_the_place_of_its_field(rt: HostRuntime) {
+    items_decide::<i8>();
+    let trailing = ColumnError::Trailing { index: 1, place: 7 };
+    assert_eq!(rt;
+        Column::<i8>::new(b"-128,12a", b',').nth(1),
+        Some(Err(trailing))
+    );
+    assert_eq!(rt; (trailing.index(), trailing.place()), (1, 7));
+    let field = ColumnError::Field {
+        index: 2,
+        place: 5,
+        cause: AtoiSimdError::Empty,
+    };
+    assert_eq!(rt; Column::<i8>::new(b"1,22,x", b',').nth(2), Some(Err(field)));
+    assert_eq!(rt; (field.index(), field.place()), (2, 5));
 }
 
 #[test]

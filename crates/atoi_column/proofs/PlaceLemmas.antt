@@ -1,0 +1,87 @@
+-- Where a column's flaws stand: within its input.
+use Rattle.std.proofs.Common.{◌≡◌, ℕ, ◌+◌, ◌-◌, ◌<◌, ◌≤◌, ◌==◌, true, false, if◌then◌else◌, Bool, List, [], ◌∷◌, length, drop, ℤ, Result, Ok, Err, refl, arith, length-drop}
+use Rattle.std.specs.Prelude.{IfErr}
+use Rattle.std.specs.List.{All, slice_split, onto_first}
+use Rattle.std.proofs.lemmas.List.Elements.{All-nil, All-cons}
+use Rattle.std.proofs.lemmas.List.Splits.{length-slice_split}
+use Rattle.std.proofs.lemmas.List.Sums.{sum_by-cons}
+use Rattle.atoi_core.specs.Refusal.{Refusal}
+use Rattle.atoi_core.specs.Kind.{Kind}
+use Rattle.atoi_core.specs.Answer.{parse_answer, parse_prefix_answer}
+use Rattle.atoi_core.specs.Laws.{PrefixOfCut, looked_for}
+use Rattle.atoi_column.specs.Fields.{without_empty_last, fields_of}
+use Rattle.atoi_column.specs.Items.{Flaw, flaw_at, place_of, items_from, items_left}
+use Rattle.atoi_column.specs.Laws.{place_behind}
+
+place_behind-cons : (text : List ℕ) (texts : List (List ℕ)) → place_behind (text ∷ texts) ≡ length text + 1 + place_behind texts
+place_behind-cons text texts = sum_by-cons (λ t. length t + 1) text texts
+
+place_behind-some : (texts : List (List ℕ)) → 0 < length texts → 0 < place_behind texts
+place_behind-some [] some = absurd (omega arith)
+place_behind-some (text ∷ texts) some = omega (arith, place_behind-cons text texts)
+
+-- one more byte in the first piece
+onto_first-place : (x : ℕ) (pieces : List (List ℕ)) → 0 < length pieces → place_behind (onto_first x pieces) ≤ place_behind pieces + 1
+onto_first-place x [] some = absurd (omega arith)
+onto_first-place x (piece ∷ pieces) some = omega (arith, place_behind-cons (x ∷ piece) pieces, place_behind-cons piece pieces)
+
+-- the pieces of an input reach one separator further than it
+split-place : (p : ℕ → Bool) (xs : List ℕ) → place_behind (slice_split p xs) ≤ length xs + 1
+split-place p [] = omega arith
+split-place p (x ∷ xs) =
+    elim (p x) as (λ b. place_behind (if b then [] ∷ slice_split p xs else onto_first x (slice_split p xs)) ≤ length (x ∷ xs) + 1) [
+      | true ↦ omega (arith, place_behind-cons [] (slice_split p xs), split-place p xs)
+      | false ↦ omega (arith, onto_first-place x (slice_split p xs) (omega (arith, length-slice_split p xs)), split-place p xs)
+    ]
+
+without_last-place : (pieces : List (List ℕ)) → place_behind (without_empty_last pieces) ≤ place_behind pieces
+without_last-place [] = omega arith
+without_last-place (piece ∷ []) =
+    elim (length piece == 0) as (λ b. place_behind (if b then [] else piece ∷ []) ≤ place_behind (piece ∷ [])) [
+      | true ↦ omega arith
+      | false ↦ omega arith
+    ]
+without_last-place (piece ∷ next ∷ pieces) =
+    omega (arith, place_behind-cons piece (without_empty_last (next ∷ pieces)), place_behind-cons piece (next ∷ pieces), without_last-place (next ∷ pieces))
+
+fields_of-place : (separator : ℕ) (rest : List ℕ) → place_behind (fields_of separator rest) ≤ length rest + 1
+fields_of-place separator rest =
+    omega (arith, without_last-place (slice_split (λ byte. byte == separator) rest), split-place (λ byte. byte == separator) rest)
+
+-- an item that tells no place, or one at most so many bytes from the start
+abbrev IsInside : ℕ → Result ℤ Flaw → Type 0
+IsInside bytes item = IfErr item (λ flaw. place_of flaw ≤ bytes)
+
+module _ (whole : List ℕ → Result ℤ Refusal) (prefix : List ℕ → Result (ℤ × ℕ) Refusal)
+    (within : (rest : List ℕ) (v : ℤ) (count : ℕ) → prefix rest ≡ Ok (v, count) → count ≤ length rest) (bytes : ℕ) where
+  flaw_at-inside : (index place : ℕ) (rest : List ℕ) → place + length rest ≤ bytes → place_of (flaw_at index place (prefix rest)) ≤ bytes
+  flaw_at-inside index place rest room =
+      elim (prefix rest) as (λ r. ((v : ℤ) (count : ℕ) → r ≡ Ok (v, count) → count ≤ length rest) → place_of (flaw_at index place r) ≤ bytes) [
+        | Ok found ↦ λ fits. omega (arith, fits found.0 found.1 refl)
+        | Err reason ↦ λ fits. omega arith
+      ] (within rest)
+
+  items_from-inside : (index place : ℕ) (rest : List ℕ) (texts : List (List ℕ)) → place_behind texts ≤ length rest + 1
+      → (0 < length texts → place + length rest ≤ bytes) → All (IsInside bytes) (items_from whole prefix index place rest texts)
+  items_from-inside index place rest [] fits room = All-nil (IsInside bytes)
+  items_from-inside index place rest (text ∷ texts) fits room =
+      let here : place + length rest ≤ bytes = room (omega arith) in
+      let cut : place_behind (text ∷ texts) ≡ length text + 1 + place_behind texts = place_behind-cons text texts in
+      let left : length (drop (length text + 1) rest) ≡ length rest - (length text + 1) = length-drop (length text + 1) rest in
+      let behind = items_from-inside (index + 1) (place + length text + 1) (drop (length text + 1) rest) texts (omega arith) (λ some. omega (arith, place_behind-some texts some)) in
+      elim (whole text) as (λ r. All (IsInside bytes) (elim r as (λ _. List (Result ℤ Flaw)) [
+        | Ok value ↦ Ok value ∷ items_from whole prefix (index + 1) (place + length text + 1) (drop (length text + 1) rest) texts
+        | Err reason ↦ Err (flaw_at index place (prefix rest)) ∷ []
+      ])) [
+        | Ok value ↦ All-cons (IsInside bytes) (Ok value) _ tt behind
+        | Err reason ↦ All-cons (IsInside bytes) (Err (flaw_at index place (prefix rest))) [] (flaw_at-inside index place rest here) (All-nil (IsInside bytes))
+      ]
+
+-- each place that the items of an input tell lies in it, or at its end
+pub items_left-inside : (k : Kind) → PrefixOfCut k → (separator : ℕ) (input : List ℕ)
+    → All (λ item. IfErr item (λ flaw. place_of flaw ≤ length input)) (items_left k separator 0 0 input)
+unfolding items_left
+items_left-inside k law separator input =
+    items_from-inside (parse_answer k true true) (parse_prefix_answer k true true)
+    (λ rest v count h. (law (looked_for true) tt true rest v count h).1) (length input) 0 0 input (fields_of separator input)
+    (fields_of-place separator input) (λ some. omega arith)

@@ -1,0 +1,35 @@
+-- What the word and the text of a line say of the commands that it is.
+use Rattle.std.proofs.Common.{◌≡◌, ◌≢◌, ℕ, true, List, drop, ℤ, Ok, refl, sym, ap, ◌∙◌, arith}
+use Rattle.std.specs.Prelude.{slice_index}
+use Rattle.atoi_core.specs.Answer.{parse_answer}
+use Rattle.atoi_core.specs.Kinds.{i64_kind}
+use Rattle.atoi_core.specs.Laws.{AcceptedTexts}
+use Rattle.atoi_core.specs.Text.{IsText}
+use Rattle.atoi_uses.specs.Commands.{HasWord, IsCommand}
+use Rattle.atoi_uses.specs.declared.commands.Command.{Command}
+use Rattle.atoi_uses.specs.declared.commands.Word.{Word}
+use Rattle.atoi_uses.specs.declared.commands.Word.TheVariants.{Set, IncrBy}
+
+-- a line has one first byte
+first_apart : (line : List ℕ) (a b : ℕ) → slice_index line 0 ≡ a → slice_index line 0 ≡ b → a ≢ b → ⊥
+first_apart line a b h k apart = apart (sym h ∙ k)
+
+-- a line has at most one word, and one text after it
+one_word : (line : List ℕ) (v w : Word) (s t : List ℕ) → HasWord line v s → HasWord line w t → (v ≡ w) × (s ≡ t)
+one_word line Set Set s t h k = (refl, ap (drop 4) (sym h ∙ k))
+one_word line Set IncrBy s t h k = absurd (first_apart line 83 73 (ap (λ l. slice_index l 0) h) (ap (λ l. slice_index l 0) k) (omega arith))
+one_word line IncrBy Set s t h k = absurd (first_apart line 73 83 (ap (λ l. slice_index l 0) h) (ap (λ l. slice_index l 0) k) (omega arith))
+one_word line IncrBy IncrBy s t h k = (refl, ap (drop 7) (sym h ∙ k))
+
+module _ (law : AcceptedTexts i64_kind) (line text : List ℕ) (word : Word) (number : ℤ) (has : HasWord line word text) (ok : parse_answer i64_kind true true text ≡ Ok number) where
+  -- the command of that word and number is the line's
+  pub is_command : IsText i64_kind text → IsCommand line (record { word = word; number = number })
+  is_command is = record { text = text; parts = has; written = is; number_is = let same = law.number text is in cc }
+
+  -- and the only one
+  pub only_command : (command : Command) → IsCommand line command → record { word = word; number = number } ≡ command
+  only_command command is =
+      let one = one_word line word command.word text is.text has is.parts in
+      let same = law.number is.text is.written in
+      let number_is : number ≡ command.number = cc in
+      ap (λ w. record { word = w; number = number }) one.0 ∙ ap (λ n. record { word = command.word; number = n }) number_is

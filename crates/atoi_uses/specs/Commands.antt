@@ -1,0 +1,39 @@
+-- The commands of a protocol: a word, one space, and a number.
+use Rattle.std.specs.Prelude.{◌≡◌, ℕ, true, List, ◌++◌, Err, codes}
+use Rattle.atoi_core.specs.Answer.{parse_answer}
+use Rattle.atoi_core.specs.Digit.{decimal_table}
+use Rattle.atoi_core.specs.Kinds.{i64_kind}
+use Rattle.atoi_core.specs.Refusal.{refusal_of}
+use Rattle.atoi_core.specs.Run.{value}
+use Rattle.atoi_core.specs.Sign.{number_of}
+use Rattle.atoi_core.specs.Text.{IsText, is_minus}
+use Rattle.atoi_uses.specs.declared.commands.Command.{Command}
+use Rattle.atoi_uses.specs.declared.commands.CommandError.{CommandError}
+use Rattle.atoi_uses.specs.declared.commands.CommandError.TheVariants.{UnknownWord, BadNumber}
+use Rattle.atoi_uses.specs.declared.commands.Word.{Word}
+use Rattle.atoi_uses.specs.declared.commands.Word.TheVariants.{Set, IncrBy}
+
+-- how a word is written
+abbrev pub word_text : Word → List ℕ
+word_text Set = codes "SET"
+word_text IncrBy = codes "INCRBY"
+
+-- the line is the word, one space, and then the text
+abbrev pub HasWord : List ℕ → Word → (text : List ℕ) → Type 0
+HasWord line word text = line ≡ word_text word ++ codes " " ++ text
+
+-- the line is the command: its word, one space, and then a text of an `i64` that writes its number
+pub record IsCommand (line : List ℕ) (command : Command) : Type 0 where
+  pub text : List ℕ
+  pub parts : HasWord line command.word text
+  pub written : IsText i64_kind text
+  pub number_is : command.number
+      ≡ number_of (is_minus written.sign) (value decimal_table written.digits)
+
+-- what an error says of the line: it begins with no word and space; or it does, and `parse` refuses
+-- the text after them for that reason
+abbrev pub Refuses : List ℕ → CommandError → Type 0
+Refuses line UnknownWord = (word : Word) (text : List ℕ) → ¬ HasWord line word text
+Refuses line (BadNumber cause) =
+    (word : Word) × ((text : List ℕ)
+    × (HasWord line word text × (parse_answer i64_kind true true text ≡ Err (refusal_of cause))))

@@ -1,0 +1,128 @@
+//! The commands of a protocol, each a word, one space and a number.
+//! They use `atoi_simd::parse` with both flags, and the law of the texts that it accepts.
+ghost use Rattle.std.specs.Prelude.{◌≡◌, ◌↔◌, ℕ, List, IfSome, IfNone, IfErr, Ok};
+ghost use Rattle.atoi_uses.specs.Commands.{HasWord, IsCommand, Refuses};
+ghost use Rattle.atoi_uses.specs.declared.commands.Command.{Command};
+ghost use Rattle.atoi_uses.specs.declared.commands.Word.{Word};
+
+use atoi_core::laws::accepted_texts;
+use atoi_simd::{AtoiSimdError, parse};
+
+/// What a command does to a counter.
+#[derive(Clone, Copy, Debug, PartialEq, Eq)]
+pub enum Word {
+    /// `SET`: the counter becomes the number.
+    Set,
+    /// `INCRBY`: the number is added to the counter.
+    IncrBy,
+}
+
+/// A command: `INCRBY -7` is the word `IncrBy` and the number -7.
+#[derive(Clone, Copy, Debug, PartialEq, Eq)]
+pub struct Command {
+    pub word: Word,
+    pub number: i64,
+}
+
+/// Why a line is no command.
+#[derive(Clone, Copy, Debug, PartialEq, Eq)]
+pub enum CommandError<'a> {
+    /// The line does not begin with a word in capitals and a space.
+    UnknownWord,
+    /// After the space stands no number of `i64`: what `atoi_simd::parse` answers.
+    BadNumber(AtoiSimdError<'a>),
+}
+
+/// The command that `line` is: a word in capitals, one space, and a number of `i64`, which may have
+/// a sign and zeros in front. Nothing else may stand in the line, not even a line feed at its end.
+///
+/// `read_command(b"SET 42")` answers the word `Set` and the number 42.
+///
+/// # Errors
+///
+/// - `UnknownWord` where the line does not begin with a word and a space;
+/// - `BadNumber` where what stands after them is no number of `i64`.
+pub fn read_command(line: &[u8]) -> Result<Command, CommandError<'_>>
+    ensures exact { (command : Command) → (result ≡ Ok command) ↔ IsCommand line.now command }
+    ensures refused { IfErr result (λ error. Refuses line.now error) }
+{
+    // The law of the numbers that texts write. The call does nothing.
+    accepted_texts::<i64>();
+    let Some((word, text)) = word_and_text(line) else {
+        return Err(CommandError::UnknownWord);
+    };
+    match parse::<i64, true, true>(text) {
+        Ok(number) => Ok(Command { word, number }),
+        Err(cause) => Err(CommandError::BadNumber(cause)),
+    }
+}
+
+// The word that `line` begins with, and what stands after the space behind it.
+fn word_and_text(line: &[u8]) -> Option<(Word, &[u8])>
+    ensures some { IfSome result (λ found. HasWord line.now found.0 found.1.now) }
+    ensures none { IfNone result ((word : Word) (text : List ℕ) → ¬ HasWord line.now word text) }
+{
+    match line {
+        [b'S', b'E', b'T', b' ', text @ ..] => Some((Word::Set, text)),
+        [b'I', b'N', b'C', b'R', b'B', b'Y', b' ', text @ ..] => Some((Word::IncrBy, text)),
+        _ => None,
+    }
+}
+
+#[cfg(test)]
+mod tests {
+    use super::*;
+
+    fn set(number: i64) -> Result<Command, CommandError<'static>> {
+        let word = Word::Set;
+        Ok(Command { word, number })
+    }
+
+    fn incr_by(number: i64) -> Result<Command, CommandError<'static>> {
+        let word = Word::IncrBy;
+        Ok(Command { word, number })
+    }
+
+    #[test]
+    fn words_and_numbers(rt: HostRuntime) {
+        assert_eq!(rt; read_command(b"SET 42"), set(42));
+        assert_eq!(rt; read_command(b"SET 0"), set(0));
+        assert_eq!(rt; read_command(b"SET +007"), set(7));
+        assert_eq!(rt; read_command(b"INCRBY -7"), incr_by(-7));
+        assert_eq!(rt;
+            read_command(b"INCRBY -9223372036854775808"),
+            incr_by(-9223372036854775808)
+        );
+    }
+
+    #[test]
+    fn other_words_are_refused(rt: HostRuntime) {
+        let unknown = Err(CommandError::UnknownWord);
+        assert_eq!(rt; read_command(b""), unknown);
+        assert_eq!(rt; read_command(b"GET 42"), unknown);
+        assert_eq!(rt; read_command(b"set 42"), unknown);
+        assert_eq!(rt; read_command(b"SET"), unknown);
+        assert_eq!(rt; read_command(b"SETX 42"), unknown);
+        assert_eq!(rt; read_command(b" SET 42"), unknown);
+        assert_eq!(rt; read_command(b"INCR 42"), unknown);
+        assert_eq!(rt; read_command(b"INCRBY\t42"), unknown);
+    }
+
+    #[test]
+    fn other_numbers_are_refused(rt: HostRuntime) {
+        let empty = Err(CommandError::BadNumber(AtoiSimdError::Empty));
+        assert_eq!(rt; read_command(b"SET "), empty);
+        assert_eq!(rt; read_command(b"SET  42"), empty);
+        assert_eq!(rt; read_command(b"SET -"), empty);
+        let number = AtoiSimdError::Invalid64(42, 2, b"42\r\n");
+        assert_eq!(rt;
+            read_command(b"SET 42\r\n"),
+            Err(CommandError::BadNumber(number))
+        );
+        let number = AtoiSimdError::Overflow(b"9223372036854775808");
+        assert_eq!(rt;
+            read_command(b"INCRBY 9223372036854775808"),
+            Err(CommandError::BadNumber(number))
+        );
+    }
+}

@@ -1,0 +1,125 @@
+//! The columns of a log line, summed: the numbers between commas after its last space.
+//! They use `totals`, which sums the column, and the law of `atoi_column`.
+ghost use Rattle.std.specs.Prelude.{◌≡◌, ◌+◌, ◌^◌, ◌<◌, IfOk, IfErr};
+ghost use Rattle.atoi_column.specs.Items.{flaw_of, index_of, place_of};
+ghost use Rattle.atoi_uses.specs.LogLines.{columns_of, HasTotal, Refuses};
+
+use crate::totals::column_total;
+use atoi_column::ColumnError;
+use atoi_column::laws::items_decide;
+
+/// Why the columns of a log line have no total of 64 bits.
+#[derive(Clone, Copy, Debug, PartialEq, Eq)]
+pub enum LogError {
+    /// A field is no number of `u64`; it is the first such field.
+    BadField {
+        /// The field's number, from 0.
+        index: usize,
+        /// The place of a byte in the line, from 0: of the field's first, where no number can be
+        /// read there, or else of the one after the number.
+        place: usize,
+    },
+    /// Every field is a number, and this sum of them is above the greatest `u64`.
+    TooLarge(u128),
+}
+
+/// The sum of the numbers after the last space of `line`, between commas; of all of `line` where it
+/// has no space. A comma may stand after the last number too. The sum of no numbers is 0.
+///
+/// `columns_total(b"2026-11-22T10:00:00 200,512,13")` is `Ok(725)`.
+///
+/// # Errors
+///
+/// - `BadField` for the first field that is no number of `u64`, which may have a `+` and zeros;
+/// - `TooLarge` where the sum is above the greatest `u64`.
+pub fn columns_total(line: &[u8]) -> Result<u64, LogError>
+    ensures total { IfOk result (λ total. HasTotal line.now total) }
+    ensures refused { IfErr result (λ error. Refuses line.now error) }
+{
+    // The law of what a column's items say of its fields. The call does nothing.
+    items_decide::<u64>();
+    let columns = columns(line);
+    let start = line.len() - columns.len();
+    match column_total(columns, b',') {
+        Ok(total) => match u64::try_from(total) {
+            Ok(total) => Ok(total),
+            Err(_) => Err(LogError::TooLarge(total)),
+        },
+        Err(error) => Err(bad_field(start, &error)),
+    }
+}
+
+// The error of a line whose columns begin at `start`, by theirs.
+fn bad_field(start: usize, error: &ColumnError<'_>) -> LogError
+    requires { start + place_of (flaw_of error.now) < 2 ^ 64 }
+    ensures { result ≡ LogError.BadField (index_of (flaw_of error.now))
+        (start + place_of (flaw_of error.now)) }
+{
+    LogError::BadField {
+        index: error.index(),
+        place: start + error.place(),
+    }
+}
+
+// What stands after the last space of `line`, or all of it where it has none.
+fn columns(line: &[u8]) -> &[u8]
+    ensures { result.now ≡ columns_of line.now }
+{
+    let mut start = line.len();
+    while start > 0 && line[start - 1] != b' ' {
+        start -= 1;
+    }
+    &line[start..]
+}
+
+#[cfg(test)]
+mod tests {
+    use super::*;
+
+    fn refused_at(index: usize, place: usize) -> Result<u64, LogError> {
+        Err(LogError::BadField { index, place })
+    }
+
+    #[test]
+    fn lines_of_numbers(rt: HostRuntime) {
+        assert_eq!(rt; columns_total(b"2026-11-22T10:00:00 200,512,13"), Ok(725));
+        assert_eq!(rt;
+            columns_total(b"2026-11-22 10:00:00 GET /a,b 200,"),
+            Ok(200)
+        );
+        assert_eq!(rt; columns_total(b"200,+512,0013"), Ok(725));
+        assert_eq!(rt; columns_total(b"2026-11-22T10:00:00 "), Ok(0));
+        assert_eq!(rt; columns_total(b""), Ok(0));
+    }
+
+    // The columns begin at place 20.
+    #[test]
+    fn the_first_bad_field_is_told_by_its_place(rt: HostRuntime) {
+        assert_eq!(rt;
+            columns_total(b"2026-11-22T10:00:00 200,-,1x"),
+            refused_at(1, 24)
+        );
+        assert_eq!(rt;
+            columns_total(b"2026-11-22T10:00:00 200,512ms,x"),
+            refused_at(1, 27)
+        );
+        assert_eq!(rt;
+            columns_total(b"2026-11-22T10:00:00 18446744073709551616"),
+            refused_at(0, 20)
+        );
+        assert_eq!(rt; columns_total(b"a 1,,2"), refused_at(1, 4));
+        assert_eq!(rt; columns_total(b"2026-11-22T10:00:00"), refused_at(0, 4));
+    }
+
+    #[test]
+    fn sums_at_the_greatest_number(rt: HostRuntime) {
+        assert_eq!(rt;
+            columns_total(b"t 18446744073709551614,1"),
+            Ok(18446744073709551615)
+        );
+        assert_eq!(rt;
+            columns_total(b"t 18446744073709551615,1"),
+            Err(LogError::TooLarge(18446744073709551616))
+        );
+    }
+}

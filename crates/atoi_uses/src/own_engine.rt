@@ -1,0 +1,111 @@
+//! An engine of one's own: numbers in EBCDIC, as mainframes write them.
+//! It uses the trait `Engine` of `atoi_core`, and its parse of a prefix, for the type `Cents`.
+ghost use Rattle.std.specs.Prelude.{◌≡◌, ◌≤◌, true, false, IfOk, length, map, take};
+ghost use Rattle.std.proofs.Common.{arith};
+ghost use Rattle.std.proofs.lemmas.Bool.Decides.{nat_tests};
+ghost use Rattle.atoi_core.specs.Answer.{typed_prefix_answer, prefix_answer};
+ghost use Rattle.atoi_core.specs.Digit.{decimal_table};
+ghost use Rattle.atoi_core.specs.Kinds.{i64_kind};
+ghost use Rattle.atoi_uses.specs.OwnEngine.{ascii_of, ebcdic_table};
+
+use crate::cents::Cents;
+use atoi_core::{Engine, Steps, Window, Words, prefix_pos};
+use atoi_simd::AtoiSimdError;
+
+/// The engine of EBCDIC: its digits are the bytes `0xF0` to `0xF9`.
+///
+/// A window is translated to ASCII, and then read by the engine `Words`.
+pub struct Ebcdic;
+
+impl Engine for Ebcdic {
+    ghost table = { ebcdic_table };
+
+    fn window(s: &[u8], steps: &mut Steps) -> Window {
+        let (text, len) = in_ascii(16, s);
+        Words::window(&text[..len], steps)
+    }
+
+    fn window_8(s: &[u8], steps: &mut Steps) -> Window {
+        let (text, len) = in_ascii(8, s);
+        Words::window_8(&text[..len], steps)
+    }
+
+    ghost below_ten = { λ byte. Prim.grind (arith, nat_tests) };
+}
+
+/// The amount at the front of `field`, in cents, and how many bytes of it are its digits.
+///
+/// `field` has digits in EBCDIC and no sign; any number of zeros may stand in front.
+///
+/// # Errors
+///
+/// Those of `atoi_simd::parse_prefix_pos::<i64, true>`, with the digits of EBCDIC.
+pub fn amount(field: &[u8]) -> Result<(Cents, usize), AtoiSimdError<'_>>
+    ensures answer { typed_prefix_answer (λ amount. amount.0) result
+        ≡ prefix_answer ebcdic_table i64_kind false true field.now }
+    ensures within { IfOk result (λ found. found.1 ≤ length field.now) }
+{
+    prefix_pos::<Ebcdic, Cents>(true, field, &mut Steps::new())
+}
+
+// The first `size` bytes of `s` in ASCII, or all where there are fewer, and how many they are.
+fn in_ascii(size: usize, s: &[u8]) -> ([u8; 16], usize)
+    requires { size ≤ 16 }
+    ensures text { take result.1 result.0 ≡ map ascii_of (take size s.now) }
+    ensures within { result.1 ≤ 16 }
+{
+    let front = &s[..s.len().min(size)];
+    let mut text = [0; 16];
+    for (at, byte) in front.iter().enumerate() {
+        text[at] = to_ascii(*byte);
+    }
+    (text, front.len())
+}
+
+// A digit in ASCII, or 0 for a byte that is none.
+fn to_ascii(byte: u8) -> u8
+    ensures { result ≡ ascii_of byte }
+{
+    match byte {
+        0xF0..=0xF9 => byte - 0xC0,
+        _ => 0,
+    }
+}
+
+#[cfg(test)]
+mod tests {
+    use super::*;
+
+    #[test]
+    fn amounts_in_ebcdic(rt: HostRuntime) {
+        assert_eq!(rt; amount(b"\xF1\xF2\xF3\xF4\xF5"), Ok((Cents(12345), 5)));
+        // A space in EBCDIC is 0x40.
+        assert_eq!(rt; amount(b"\xF0\xF0\xF9\x40\x40"), Ok((Cents(9), 3)));
+        assert_eq!(rt; amount(b"\xF7\x30\x31"), Ok((Cents(7), 1)));
+        assert_eq!(rt;
+            amount(b"\xF9\xF2\xF2\xF3\xF3\xF7\xF2\xF0\xF3\xF6\xF8\xF5\xF4\xF7\xF7\xF5\xF8\xF0\xF7"),
+            Ok((Cents(9223372036854775807), 19))
+        );
+    }
+
+    #[test]
+    fn zeros_in_front_do_not_count(rt: HostRuntime) {
+        let zeros = [0xF0; 40];
+        assert_eq!(rt; amount(&zeros), Ok((Cents(0), 40)));
+        let field =
+            b"\xF0\xF0\xF0\xF0\xF0\xF0\xF0\xF0\xF0\xF0\xF0\xF0\xF0\xF0\xF0\xF0\xF0\xF0\xF4\xF2";
+        assert_eq!(rt; amount(field), Ok((Cents(42), 20)));
+    }
+
+    #[test]
+    fn other_fields_are_refused(rt: HostRuntime) {
+        assert_eq!(rt; amount(b""), Err(AtoiSimdError::Empty));
+        assert_eq!(rt; amount(b"123"), Err(AtoiSimdError::Empty));
+        assert_eq!(rt; amount(b"\xEF\xF1"), Err(AtoiSimdError::Empty));
+        assert_eq!(rt; amount(b"\xFA\xF1"), Err(AtoiSimdError::Empty));
+        let ones = [0xF1; 20];
+        assert_eq!(rt; amount(&ones), Err(AtoiSimdError::Size(20, &ones)));
+        let nines = [0xF9; 19];
+        assert_eq!(rt; amount(&nines), Err(AtoiSimdError::Overflow(&nines)));
+    }
+}
