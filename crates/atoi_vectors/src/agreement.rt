@@ -1,6 +1,7 @@
 //! That the three engines answer alike on a slice, in each call that an engine serves.
-//! It stands on the engines and on the loops of `atoi_core`.
+//! It stands on `answers`, on the engines and on the loops of `atoi_core`.
 
+use crate::answers::gives;
 use crate::differences::{LONG_ROWS, PLUS_ROWS};
 use crate::original::ROWS;
 use atoi_core::{Engine, Plain, Steps, Window, Words, narrow_prefix, narrow_whole_windows};
@@ -30,22 +31,25 @@ fn check_engine<E: Engine>(rt: &impl Abort, text: &[u8]) {
 
 fn check_windows<E: Engine>(rt: &impl Abort, text: &[u8]) {
     let mut steps = Steps::new();
-    assert_eq!(rt;
+    gives(
+        rt,
         told(E::window(text, &mut steps)),
-        told(Plain::window(text, &mut steps))
+        told(Plain::window(text, &mut steps)),
     );
-    assert_eq!(rt;
+    gives(
+        rt,
         told(E::window_8(text, &mut steps)),
-        told(Plain::window_8(text, &mut steps))
+        told(Plain::window_8(text, &mut steps)),
     );
 }
 
 fn check_narrow_whole<E: Engine>(rt: &impl Abort, text: &[u8]) {
     let mut steps = Steps::new();
     for bound in [255, 4294967295] {
-        assert_eq!(rt;
+        gives(
+            rt,
             narrow_whole_windows::<E>(bound, text, &mut steps),
-            narrow_whole_windows::<Plain>(bound, text, &mut steps)
+            narrow_whole_windows::<Plain>(bound, text, &mut steps),
         );
     }
 }
@@ -53,9 +57,10 @@ fn check_narrow_whole<E: Engine>(rt: &impl Abort, text: &[u8]) {
 fn check_narrow_prefix<E: Engine>(rt: &impl Abort, skip: bool, text: &[u8]) {
     let mut steps = Steps::new();
     for bound in [255, 4294967295] {
-        assert_eq!(rt;
+        gives(
+            rt,
             narrow_prefix::<E>(bound, skip, text, &mut steps),
-            narrow_prefix::<Plain>(bound, skip, text, &mut steps)
+            narrow_prefix::<Plain>(bound, skip, text, &mut steps),
         );
     }
 }
@@ -67,9 +72,10 @@ fn check_prefix_64<E: Engine>(rt: &impl Abort, skip: bool, text: &[u8]) {
         (9223372036854775807, 19),
         (9223372036854775808, 19),
     ] {
-        assert_eq!(rt;
+        gives(
+            rt,
             E::prefix_64(bound, limit, skip, text, &mut steps),
-            Plain::prefix_64(bound, limit, skip, text, &mut steps)
+            Plain::prefix_64(bound, limit, skip, text, &mut steps),
         );
     }
 }
@@ -81,9 +87,10 @@ fn check_prefix_128<E: Engine>(rt: &impl Abort, skip: bool, text: &[u8]) {
         170141183460469231731687303715884105727,
         170141183460469231731687303715884105728,
     ] {
-        assert_eq!(rt;
+        gives(
+            rt,
             E::prefix_128(bound, skip, text, &mut steps),
-            Plain::prefix_128(bound, skip, text, &mut steps)
+            Plain::prefix_128(bound, skip, text, &mut steps),
         );
     }
 }

@@ -1,7 +1,8 @@
 //! The decimal text of every u8 and every i8, under the four choices of flags.
-//! It stands on `decimal` of `atoi_core` and on the public calls of `atoi_simd`.
+//! It stands on `answers`, on `decimal` of `atoi_core` and on the public calls of `atoi_simd`.
 ghost use Rattle.std.specs.Prelude.{◌≤◌};
 
+use crate::answers::both_give;
 use atoi_core::decimal;
 use atoi_simd::{lanes, parse};
 use std::fmt::Debug;
@@ -13,14 +14,14 @@ fn check<T: atoi_simd::Parse + lanes::Parse + Debug + PartialEq>(
     text: &[u8],
     value: T,
 ) {
-    assert_eq!(rt; parse::<T, false, false>(text), Ok(value));
-    assert_eq!(rt; parse::<T, false, true>(text), Ok(value));
-    assert_eq!(rt; parse::<T, true, false>(text), Ok(value));
-    assert_eq!(rt; parse::<T, true, true>(text), Ok(value));
-    assert_eq!(rt; lanes::parse::<T, false, false>(text), Ok(value));
-    assert_eq!(rt; lanes::parse::<T, false, true>(text), Ok(value));
-    assert_eq!(rt; lanes::parse::<T, true, false>(text), Ok(value));
-    assert_eq!(rt; lanes::parse::<T, true, true>(text), Ok(value));
+    let root = parse::<T, false, false>(text);
+    both_give(rt, root, lanes::parse::<T, false, false>(text), Ok(value));
+    let root = parse::<T, false, true>(text);
+    both_give(rt, root, lanes::parse::<T, false, true>(text), Ok(value));
+    let root = parse::<T, true, false>(text);
+    both_give(rt, root, lanes::parse::<T, true, false>(text), Ok(value));
+    let root = parse::<T, true, true>(text);
+    both_give(rt, root, lanes::parse::<T, true, true>(text), Ok(value));
 }
 
 #[test]

@@ -1,8 +1,10 @@
 //! That each engine answers by the plain rules, in each call that an engine serves, on every byte
-//! at every place. It stands on `plain_rules`, on the engines and on the loops of `atoi_core`.
+//! at every place. It stands on `plain_rules` and `answers`, on the engines and on the loops of
+//! `atoi_core`.
 ghost use Rattle.std.specs.Prelude.{◌<◌, ◌≤◌};
 ghost use Rattle.atoi_core.specs.Magnitude.{HasDigits};
 
+use crate::answers::{each_gives, gives};
 use crate::plain_rules;
 use atoi_core::{
     AtoiSimdError, Engine, Plain, Steps, Window, Words, narrow_prefix, narrow_whole,
@@ -14,10 +16,9 @@ use std::process::Abort;
 // Each of the three engines gives the expected answer to a call.
 macro_rules! on_each_engine {
     ($rt:expr; $call:ident($($argument:expr),*) => $expected:expr) => {
-        let expected = $expected;
-        assert_eq!($rt; $call::<Plain>($($argument),*), expected);
-        assert_eq!($rt; $call::<Words>($($argument),*), expected);
-        assert_eq!($rt; $call::<Lanes>($($argument),*), expected);
+        let plain = $call::<Plain>($($argument),*);
+        let words = $call::<Words>($($argument),*);
+        each_gives($rt, plain, words, $call::<Lanes>($($argument),*), $expected);
     };
 }
 
@@ -52,9 +53,10 @@ fn check_narrow(rt: &impl Abort, text: &[u8]) {
             => plain_rules::narrow_prefix(bound, true, text));
         on_each_engine!(rt; narrow_whole_windows(bound, text, &mut steps)
             => plain_rules::narrow_whole(bound, text));
-        assert_eq!(rt;
+        gives(
+            rt,
             narrow_whole(bound, text),
-            plain_rules::narrow_whole(bound, text)
+            plain_rules::narrow_whole(bound, text),
         );
     }
 }

@@ -1,7 +1,8 @@
 //! The kernels on words and on lanes, on every byte at every place and on loads of every kind of
-//! length. It stands on `plain_rules`, on the kernels and on the engines.
+//! length. It stands on `plain_rules` and `answers`, on the kernels and on the engines.
 ghost use Rattle.std.specs.Prelude.{◌<◌};
 
+use crate::answers::gives;
 use crate::plain_rules;
 use atoi_core::words::{check_len_8, len_zeroes, len_zeroes_128, load_8, process_8, process_16};
 use atoi_simd::lanes::kernels::{len_lanes, load_lanes, sum_lanes, zeroes_lanes};
@@ -14,13 +15,14 @@ fn check_lanes(rt: &impl Abort, bytes: [u8; 16]) {
     let lanes = u8x16::from_array(bytes);
     let (len, _, number) = plain_rules::window(16, &bytes);
     let told = len_lanes(lanes);
-    assert_eq!(rt; told as usize, len);
-    assert_eq!(rt;
+    gives(rt, told as usize, len);
+    gives(
+        rt,
         zeroes_lanes(lanes) as usize,
-        plain_rules::count_zeros(&bytes)
+        plain_rules::count_zeros(&bytes),
     );
-    assert_eq!(rt; Some(sum_lanes(lanes, told)), number);
-    assert_eq!(rt; sum_lanes(lanes, 0), 0);
+    gives(rt, Some(sum_lanes(lanes, told)), number);
+    gives(rt, sum_lanes(lanes, 0), 0);
 }
 
 // Sixteen times `fill`, with each byte in turn at `place`.
@@ -48,10 +50,14 @@ fn check_word(rt: &impl Abort, bytes: [u8; 8]) {
     let word = u64::from_le_bytes(bytes);
     let (len, _, number) = plain_rules::window(8, &bytes);
     let told = check_len_8(word);
-    assert_eq!(rt; told as usize, len);
-    assert_eq!(rt; len_zeroes(word) as usize, plain_rules::count_zeros(&bytes));
+    gives(rt, told as usize, len);
+    gives(
+        rt,
+        len_zeroes(word) as usize,
+        plain_rules::count_zeros(&bytes),
+    );
     if told > 0 {
-        assert_eq!(rt; Some(process_8(word, told)), number);
+        gives(rt, Some(process_8(word, told)), number);
     }
 }
 
@@ -79,15 +85,16 @@ fn every_byte_in_a_word(rt: HostRuntime) {
 fn check_long_word(rt: &impl Abort, bytes: [u8; 16]) {
     let word = u128::from_le_bytes(bytes);
     let (len, _, number) = plain_rules::window(16, &bytes);
-    assert_eq!(rt;
+    gives(
+        rt,
         len_zeroes_128(word) as usize,
-        plain_rules::count_zeros(&bytes)
+        plain_rules::count_zeros(&bytes),
     );
     // How many digits there are is told on lanes: no kernel counts those of sixteen bytes.
     let told = len_lanes(u8x16::from_array(bytes));
-    assert_eq!(rt; told as usize, len);
+    gives(rt, told as usize, len);
     if told > 0 {
-        assert_eq!(rt; Some(process_16(word, told)), number);
+        gives(rt, Some(process_16(word, told)), number);
     }
 }
 
@@ -124,7 +131,7 @@ fn loads_of_every_kind_of_length(rt: HostRuntime) {
     let text = *b"1\xB23456789\xFF12345678901\x8034567890123";
     for len in [0, 1, 3, 4, 7, 8, 9, 15, 16, 17, 31, 32, 33] {
         let front = &text[..len];
-        assert_eq!(rt; load_lanes(front).to_array(), padded::<16>(front));
-        assert_eq!(rt; load_8(front), u64::from_le_bytes(padded::<8>(front)));
+        gives(&rt, load_lanes(front).to_array(), padded::<16>(front));
+        gives(&rt, load_8(front), u64::from_le_bytes(padded::<8>(front)));
     }
 }

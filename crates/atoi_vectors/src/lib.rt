@@ -6,6 +6,8 @@
 #[cfg(test)]
 mod agreement;
 #[cfg(test)]
+mod answers;
+#[cfg(test)]
 mod decimal_texts;
 pub mod differences;
 #[cfg(test)]

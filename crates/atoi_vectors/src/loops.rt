@@ -1,6 +1,7 @@
 //! The worked rows of the loops under the ten functions, on each of the three engines.
-//! It stands on `atoi_core` and on `Lanes`.
+//! It stands on `answers`, on `atoi_core` and on `Lanes`.
 
+use crate::answers::gives;
 use atoi_core::AtoiSimdError::{Invalid64, Invalid128, Overflow, Size};
 use atoi_core::{Engine, Plain, Steps, Words, narrow_prefix, whole_64, whole_128};
 use atoi_simd::lanes::Lanes;
@@ -25,25 +26,30 @@ fn narrow_prefixes<E: Engine>(rt: &impl Abort) {
     let mut steps = Steps::new();
     let seven = b"00000000000000007";
     let zeros = b"00000000000000000000000000000000x";
-    assert_eq!(rt;
+    gives(
+        rt,
         narrow_prefix::<E>(GREATEST_U8, false, seven, &mut steps),
-        Err(Size(17, seven))
+        Err(Size(17, seven)),
     );
-    assert_eq!(rt;
+    gives(
+        rt,
         narrow_prefix::<E>(GREATEST_U8, false, &seven[..16], &mut steps),
-        Ok((0, 16))
+        Ok((0, 16)),
     );
-    assert_eq!(rt;
+    gives(
+        rt,
         narrow_prefix::<E>(GREATEST_U8, true, seven, &mut steps),
-        Ok((7, 17))
+        Ok((7, 17)),
     );
-    assert_eq!(rt;
+    gives(
+        rt,
         narrow_prefix::<E>(GREATEST_U8, true, &seven[..16], &mut steps),
-        Ok((0, 16))
+        Ok((0, 16)),
     );
-    assert_eq!(rt;
+    gives(
+        rt,
         narrow_prefix::<E>(GREATEST_U8, true, zeros, &mut steps),
-        Ok((0, 32))
+        Ok((0, 32)),
     );
 }
 
@@ -52,21 +58,25 @@ fn narrow_overflows<E: Engine>(rt: &impl Abort) {
     let above = b"00000000000000255999";
     let cut = b"0000000000000999x";
     let short = &cut[1..];
-    assert_eq!(rt;
+    gives(
+        rt,
         narrow_prefix::<E>(GREATEST_U8, false, above, &mut steps),
-        Err(Size(17, above))
+        Err(Size(17, above)),
     );
-    assert_eq!(rt;
+    gives(
+        rt,
         narrow_prefix::<E>(GREATEST_U8, true, above, &mut steps),
-        Err(Overflow(b"255999"))
+        Err(Overflow(b"255999")),
     );
-    assert_eq!(rt;
+    gives(
+        rt,
         narrow_prefix::<E>(GREATEST_U8, true, cut, &mut steps),
-        Err(Overflow(b"999x"))
+        Err(Overflow(b"999x")),
     );
-    assert_eq!(rt;
+    gives(
+        rt,
         narrow_prefix::<E>(GREATEST_U8, true, short, &mut steps),
-        Err(Overflow(short))
+        Err(Overflow(short)),
     );
 }
 
@@ -76,9 +86,10 @@ fn narrow(rt: HostRuntime) {
 }
 
 fn long_narrow_prefix<E: Engine>(rt: &impl Abort, text: &[u8]) {
-    assert_eq!(rt;
+    gives(
+        rt,
         narrow_prefix::<E>(GREATEST_U8, true, text, &mut Steps::new()),
-        Ok((7, 1_000_001))
+        Ok((7, 1_000_001)),
     );
 }
 
@@ -94,21 +105,25 @@ fn sizes_of_64_bits<E: Engine>(rt: &impl Abort) {
     let mut steps = Steps::new();
     let ones = b"1111111111111111111111111";
     let padded = b"0001111111111111111111111111";
-    assert_eq!(rt;
+    gives(
+        rt,
         E::prefix_64(u64::MAX, 20, false, &ones[4..], &mut steps),
-        Err(Size(21, &ones[4..]))
+        Err(Size(21, &ones[4..])),
     );
-    assert_eq!(rt;
+    gives(
+        rt,
         E::prefix_64(u64::MAX, 20, false, &ones[1..], &mut steps),
-        Err(Size(24, &ones[1..]))
+        Err(Size(24, &ones[1..])),
     );
-    assert_eq!(rt;
+    gives(
+        rt,
         E::prefix_64(u64::MAX, 20, false, ones, &mut steps),
-        Err(Size(24, ones))
+        Err(Size(24, ones)),
     );
-    assert_eq!(rt;
+    gives(
+        rt,
         E::prefix_64(u64::MAX, 20, true, padded, &mut steps),
-        Err(Size(27, ones))
+        Err(Size(27, ones)),
     );
 }
 
@@ -116,13 +131,15 @@ fn limits_of_17_digits<E: Engine>(rt: &impl Abort) {
     let mut steps = Steps::new();
     let above = b"50000000000000001";
     let padded = b"0100000000000000000";
-    assert_eq!(rt;
+    gives(
+        rt,
         E::prefix_64(50000000000000000, 17, false, above, &mut steps),
-        Err(Overflow(above))
+        Err(Overflow(above)),
     );
-    assert_eq!(rt;
+    gives(
+        rt,
         E::prefix_64(99999999999999999, 17, true, padded, &mut steps),
-        Err(Size(19, &padded[1..]))
+        Err(Size(19, &padded[1..])),
     );
 }
 
@@ -131,22 +148,30 @@ fn zeros_of_64_bits<E: Engine>(rt: &impl Abort) {
     let zeros = b"000000000000000000000";
     let greatest = b"09223372036854775807";
     let bound = i64::MAX.unsigned_abs();
-    assert_eq!(rt;
+    gives(
+        rt,
         whole_64::<E>(u64::MAX, 20, false, zeros, &mut steps),
-        Err(Size(21, zeros))
+        Err(Size(21, zeros)),
     );
-    assert_eq!(rt; whole_64::<E>(u64::MAX, 20, true, zeros, &mut steps), Ok(0));
-    assert_eq!(rt;
+    gives(
+        rt,
+        whole_64::<E>(u64::MAX, 20, true, zeros, &mut steps),
+        Ok(0),
+    );
+    gives(
+        rt,
         E::prefix_64(u64::MAX, 20, true, zeros, &mut steps),
-        Ok((0, 21))
+        Ok((0, 21)),
     );
-    assert_eq!(rt;
+    gives(
+        rt,
         whole_64::<E>(bound, 19, false, greatest, &mut steps),
-        Err(Size(20, greatest))
+        Err(Size(20, greatest)),
     );
-    assert_eq!(rt;
+    gives(
+        rt,
         whole_64::<E>(bound, 19, true, greatest, &mut steps),
-        Ok(bound)
+        Ok(bound),
     );
 }
 
@@ -156,21 +181,25 @@ fn ends_of_64_bits<E: Engine>(rt: &impl Abort) {
     let above = b"18446744073709551616";
     let least = b"9223372036854775808x";
     let bound = i64::MIN.unsigned_abs();
-    assert_eq!(rt;
+    gives(
+        rt,
         whole_64::<E>(u64::MAX, 20, false, greatest, &mut steps),
-        Ok(u64::MAX)
+        Ok(u64::MAX),
     );
-    assert_eq!(rt;
+    gives(
+        rt,
         whole_64::<E>(u64::MAX, 20, false, above, &mut steps),
-        Err(Overflow(above))
+        Err(Overflow(above)),
     );
-    assert_eq!(rt;
+    gives(
+        rt,
         whole_64::<E>(bound, 19, false, least, &mut steps),
-        Err(Invalid64(bound, 19, least))
+        Err(Invalid64(bound, 19, least)),
     );
-    assert_eq!(rt;
+    gives(
+        rt,
         whole_64::<E>(bound, 19, false, &least[..19], &mut steps),
-        Ok(bound)
+        Ok(bound),
     );
 }
 
@@ -178,13 +207,15 @@ fn rests_of_64_bits<E: Engine>(rt: &impl Abort) {
     let mut steps = Steps::new();
     let short = b"007x";
     let long = b"0000000000000000000000007x";
-    assert_eq!(rt;
+    gives(
+        rt,
         whole_64::<E>(u64::MAX, 20, true, short, &mut steps),
-        Err(Invalid64(7, 3, short))
+        Err(Invalid64(7, 3, short)),
     );
-    assert_eq!(rt;
+    gives(
+        rt,
         whole_64::<E>(u64::MAX, 20, true, long, &mut steps),
-        Err(Invalid64(7, 25, long))
+        Err(Invalid64(7, 25, long)),
     );
 }
 
@@ -194,9 +225,10 @@ fn of_64_bits(rt: HostRuntime) {
 }
 
 fn long_prefix_64<E: Engine>(rt: &impl Abort, text: &[u8]) {
-    assert_eq!(rt;
+    gives(
+        rt,
         E::prefix_64(u64::MAX, 20, true, text, &mut Steps::new()),
-        Ok((7, 101))
+        Ok((7, 101)),
     );
 }
 
@@ -213,21 +245,25 @@ fn sizes_of_128_bits<E: Engine>(rt: &impl Abort) {
     let padded = b"0000111111111111111111111111111111111111111111111";
     let ones = &padded[4..];
     let zeros = b"00000000000000000000000000000000000000000";
-    assert_eq!(rt;
+    gives(
+        rt,
         E::prefix_128(u128::MAX, false, ones, &mut steps),
-        Err(Size(40, ones))
+        Err(Size(40, ones)),
     );
-    assert_eq!(rt;
+    gives(
+        rt,
         E::prefix_128(u128::MAX, true, padded, &mut steps),
-        Err(Size(44, ones))
+        Err(Size(44, ones)),
     );
-    assert_eq!(rt;
+    gives(
+        rt,
         whole_128::<E>(u128::MAX, false, &zeros[..39], &mut steps),
-        Ok(0)
+        Ok(0),
     );
-    assert_eq!(rt;
+    gives(
+        rt,
         whole_128::<E>(u128::MAX, false, zeros, &mut steps),
-        Err(Size(40, zeros))
+        Err(Size(40, zeros)),
     );
 }
 
@@ -236,17 +272,20 @@ fn ends_of_128_bits<E: Engine>(rt: &impl Abort) {
     let greatest = b"340282366920938463463374607431768211455";
     let above = b"340282366920938463463374607431768211456";
     let padded = b"0000012x";
-    assert_eq!(rt;
+    gives(
+        rt,
         whole_128::<E>(u128::MAX, false, greatest, &mut steps),
-        Ok(u128::MAX)
+        Ok(u128::MAX),
     );
-    assert_eq!(rt;
+    gives(
+        rt,
         whole_128::<E>(u128::MAX, false, above, &mut steps),
-        Err(Overflow(above))
+        Err(Overflow(above)),
     );
-    assert_eq!(rt;
+    gives(
+        rt,
         whole_128::<E>(u128::MAX, true, padded, &mut steps),
-        Err(Invalid128(12, 7, padded))
+        Err(Invalid128(12, 7, padded)),
     );
 }
 
@@ -254,17 +293,20 @@ fn runs_of_32_digits<E: Engine>(rt: &impl Abort) {
     let mut steps = Steps::new();
     let cut = b"12345678901234567890123456789012s";
     let digits = b"123456789012345678901234567890123";
-    assert_eq!(rt;
+    gives(
+        rt,
         E::prefix_128(u128::MAX, true, cut, &mut steps),
-        Ok((12345678901234567890123456789012, 32))
+        Ok((12345678901234567890123456789012, 32)),
     );
-    assert_eq!(rt;
+    gives(
+        rt,
         whole_128::<E>(u128::MAX, true, digits, &mut steps),
-        Ok(123456789012345678901234567890123)
+        Ok(123456789012345678901234567890123),
     );
-    assert_eq!(rt;
+    gives(
+        rt,
         whole_128::<E>(u128::MAX, true, &digits[..32], &mut steps),
-        Ok(12345678901234567890123456789012)
+        Ok(12345678901234567890123456789012),
     );
 }
 

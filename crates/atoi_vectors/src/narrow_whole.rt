@@ -1,6 +1,7 @@
 //! Narrow whole slices by windows: the worked rows on each of the three engines, and that each
-//! answers as the digit loop does. It stands on `atoi_core` and on `Lanes`.
+//! answers as the digit loop does. It stands on `answers`, on `atoi_core` and on `Lanes`.
 
+use crate::answers::{each_gives, gives};
 use atoi_core::AtoiSimdError::{Empty, Invalid64, Overflow};
 use atoi_core::{AtoiSimdError, Engine, Plain, Steps, Words, narrow_whole, narrow_whole_windows};
 use atoi_simd::lanes::Lanes;
@@ -18,17 +19,18 @@ fn check_rows<E: Engine>(rt: &impl Abort) {
     let padded = b"0000000000000000255x";
     let above = b"0000000000000999x";
     let long = b"0000000000000000000011111111111111111";
-    assert_eq!(rt; whole::<E>(&zeros[..16]), Ok(0));
-    assert_eq!(rt;
+    gives(rt, whole::<E>(&zeros[..16]), Ok(0));
+    gives(
+        rt,
         whole::<E>(b"0000000000000000x"),
-        Err(Invalid64(0, 16, b"0000000000000000x"))
+        Err(Invalid64(0, 16, b"0000000000000000x")),
     );
-    assert_eq!(rt; whole::<E>(padded), Err(Invalid64(255, 19, padded)));
-    assert_eq!(rt; whole::<E>(&padded[..19]), Ok(255));
-    assert_eq!(rt; whole::<E>(above), Err(Overflow(above)));
-    assert_eq!(rt; whole::<E>(long), Err(Overflow(long)));
-    assert_eq!(rt; whole::<E>(zeros), Ok(0));
-    assert_eq!(rt; whole::<E>(b""), Err(Empty));
+    gives(rt, whole::<E>(padded), Err(Invalid64(255, 19, padded)));
+    gives(rt, whole::<E>(&padded[..19]), Ok(255));
+    gives(rt, whole::<E>(above), Err(Overflow(above)));
+    gives(rt, whole::<E>(long), Err(Overflow(long)));
+    gives(rt, whole::<E>(zeros), Ok(0));
+    gives(rt, whole::<E>(b""), Err(Empty));
 }
 
 #[test]
@@ -40,20 +42,12 @@ fn the_worked_rows_on_each_engine(rt: HostRuntime) {
 
 // Checks that each engine answers as the digit loop.
 fn check(rt: &impl Abort, s: &[u8]) {
+    let mut steps = Steps::new();
     for bound in BOUNDS {
-        let expected = narrow_whole(bound, s);
-        assert_eq!(rt;
-            narrow_whole_windows::<Plain>(bound, s, &mut Steps::new()),
-            expected
-        );
-        assert_eq!(rt;
-            narrow_whole_windows::<Words>(bound, s, &mut Steps::new()),
-            expected
-        );
-        assert_eq!(rt;
-            narrow_whole_windows::<Lanes>(bound, s, &mut Steps::new()),
-            expected
-        );
+        let plain = narrow_whole_windows::<Plain>(bound, s, &mut steps);
+        let words = narrow_whole_windows::<Words>(bound, s, &mut steps);
+        let lanes = narrow_whole_windows::<Lanes>(bound, s, &mut steps);
+        each_gives(rt, plain, words, lanes, narrow_whole(bound, s));
     }
 }
 

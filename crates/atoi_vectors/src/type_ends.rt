@@ -1,18 +1,25 @@
 //! Both ends of each of the twelve types, and one past each, behind zeros.
-//! It stands on the public calls of `atoi_simd` alone.
+//! It stands on `answers` and on the public calls of `atoi_simd`.
 
+use crate::answers::both_give;
 use atoi_simd::AtoiSimdError::Overflow;
 use atoi_simd::{lanes, parse};
-use std::alloc::Global;
+use std::alloc::{AllocError, Global};
 use std::fmt::Debug;
 use std::process::Abort;
-use std::test::Fail;
 
 // Whether an overflow holds the zeros before the digits.
 #[derive(Clone, Copy)]
 enum Class {
     Narrow,
     Wide,
+}
+
+// One text and then another.
+fn joined(alloc: Global, front: &[u8], back: &[u8]) -> Result<Vec<u8>, AllocError> {
+    let mut text = front.to_vec(alloc)?;
+    text.extend_from_slice(back)?;
+    Ok(text)
 }
 
 // That the digits behind a sign and behind zeros are parsed to a value, or overflow where there is
@@ -23,33 +30,31 @@ fn check<T: atoi_simd::Parse + lanes::Parse + Debug + PartialEq>(
     class: Class,
     (sign, digits): (&[u8], &[u8]),
     value: Option<T>,
-) -> Result<(), Fail> {
+) {
+    let padding = [b'0'; 33];
     for zeros in [0, 1, 16, 17, 32, 33] {
-        let mut body = vec![in alloc; b'0'; zeros]?;
-        body.extend_from_slice(digits)?;
-        let mut text = sign.to_vec(alloc)?;
-        text.extend_from_slice(&body)?;
+        let body = joined(alloc, &padding[..zeros], digits).expect(rt, "memory");
+        let text = joined(alloc, sign, &body).expect(rt, "memory");
         let expected = value.ok_or(Overflow(match class {
             Class::Narrow => &body,
             Class::Wide => digits,
         }));
-        assert_eq!(rt; parse::<T, true, false>(&text), expected);
-        assert_eq!(rt; lanes::parse::<T, true, false>(&text), expected);
+        let root = parse::<T, true, false>(&text);
+        both_give(rt, root, lanes::parse::<T, true, false>(&text), expected);
     }
-    Ok(())
 }
 
 // Each row is a type, its class, a sign, digits, and the value that they write, if the type has it.
 macro_rules! check_ends {
     ($rt:expr; $($integer:ident, $class:ident, $sign:expr, $digits:expr => $value:expr;)*) => {
         $(
-            check::<$integer>(&$rt, $rt.alloc(), Class::$class, ($sign, $digits), $value)?;
+            check::<$integer>(&$rt, $rt.alloc(), Class::$class, ($sign, $digits), $value);
         )*
     };
 }
 
 #[test]
-fn of_unsigned_types(rt: HostRuntime) -> Result<(), Fail> {
+fn of_unsigned_types(rt: HostRuntime) {
     check_ends!(rt;
         u8, Narrow, b"", b"255" => Some(255);
         u8, Narrow, b"", b"256" => None;
@@ -65,11 +70,10 @@ fn of_unsigned_types(rt: HostRuntime) -> Result<(), Fail> {
             => Some(340282366920938463463374607431768211455);
         u128, Wide, b"", b"340282366920938463463374607431768211456" => None;
     );
-    Ok(())
 }
 
 #[test]
-fn of_narrow_signed_types(rt: HostRuntime) -> Result<(), Fail> {
+fn of_narrow_signed_types(rt: HostRuntime) {
     check_ends!(rt;
         i8, Narrow, b"", b"127" => Some(127);
         i8, Narrow, b"", b"128" => None;
@@ -84,11 +88,10 @@ fn of_narrow_signed_types(rt: HostRuntime) -> Result<(), Fail> {
         i32, Narrow, b"-", b"2147483648" => Some(-2147483648);
         i32, Narrow, b"-", b"2147483649" => None;
     );
-    Ok(())
 }
 
 #[test]
-fn of_wide_signed_types(rt: HostRuntime) -> Result<(), Fail> {
+fn of_wide_signed_types(rt: HostRuntime) {
     check_ends!(rt;
         i64, Wide, b"", b"9223372036854775807" => Some(9223372036854775807);
         i64, Wide, b"", b"9223372036854775808" => None;
@@ -105,5 +108,4 @@ fn of_wide_signed_types(rt: HostRuntime) -> Result<(), Fail> {
             => Some(-170141183460469231731687303715884105728);
         i128, Wide, b"-", b"170141183460469231731687303715884105729" => None;
     );
-    Ok(())
 }

@@ -1,6 +1,7 @@
 //! The worked rows of the ten functions. Each is stated once and runs on the root and on `lanes`.
-//! It stands on the public calls of `atoi_simd` alone.
+//! It stands on `answers` and on the public calls of `atoi_simd`.
 
+use crate::answers::both_give;
 use atoi_simd::AtoiSimdError::{self, Empty, Invalid64, Overflow, Size};
 use atoi_simd::{lanes, parse};
 use std::process::Abort;
@@ -9,8 +10,8 @@ use std::process::Abort;
 macro_rules! on_both {
     ($rt:expr; $($call:ident::<$($argument:tt),*>($text:expr) => $answer:expr;)*) => {
         $(
-            assert_eq!($rt; atoi_simd::$call::<$($argument),*>($text), $answer);
-            assert_eq!($rt; lanes::$call::<$($argument),*>($text), $answer);
+            let root = atoi_simd::$call::<$($argument),*>($text);
+            both_give(&$rt, root, lanes::$call::<$($argument),*>($text), $answer);
         )*
     };
 }

@@ -75,3 +75,6 @@ impl Engine for BothCases {
 
     ghost below_ten = { λ byte. Prim.grind (arith, nat_tests) };
 }
+
+#[cfg(test)]
+mod tests;

@@ -1,11 +1,12 @@
-//! Tests of reading all of an input, and of readers that fail.
-//! They stand on the tests' own `devices`.
+//! Tests of reading all of an input, of readers that fail, and of want of memory.
+//! They stand on the tests' own `devices`, and on the heaps of `linked_list_allocator`.
 
-use super::read_all;
+use super::{PART, read_all, read_all_in};
 use crate::devices::FailingReader;
 use crate::source::FromReader;
 use crate::status::{ToolError, status};
-use std::alloc::Global;
+use linked_list_allocator::LocalHeap;
+use std::alloc::{AllocError, Global};
 use std::io::ErrorKind;
 use std::test::Fail;
 
@@ -47,4 +48,51 @@ fn tells_a_refused_read(rt: HostRuntime) {
     }
     assert_eq!(rt; read_failing(rt.alloc(), 4, ErrorKind::Other), Ok(2));
     assert_eq!(rt; status(&Err(ToolError::Read)), 4);
+}
+
+// A source of `input`, which gives one whole part a call.
+fn parts_of(input: &[u8]) -> FromReader<FailingReader<'_>> {
+    FromReader::new(FailingReader {
+        rest: input,
+        part: PART,
+        failing: 0,
+        error: ErrorKind::Other,
+    })
+}
+
+// Five parts take four requests for memory: for 1, 2, 4 and 8 parts, each while the one before it
+// is still held. A heap of that size refuses one of them, and none comes after it.
+#[test]
+fn tells_each_refused_request_for_memory(rt: HostRuntime) -> Result<(), Fail> {
+    let input = vec![in rt.alloc(); b'7'; 5 * PART]?;
+    for (size, left) in [
+        (4080, 16384),
+        (4096, 12288),
+        (12272, 12288),
+        (12288, 8192),
+        (28656, 8192),
+        (28672, 0),
+        (61424, 0),
+    ] {
+        let heap = LocalHeap::new(rt.alloc(), size)?;
+        let mut source = parts_of(&input);
+        let bytes = read_all_in(&heap, &mut source);
+        assert_eq!(rt; bytes.err(), Some(ToolError::Memory), "a heap of {size}");
+        assert_eq!(rt; source.into_inner().rest.len(), left, "a heap of {size}");
+        assert_eq!(rt; heap.used(), 0);
+    }
+    assert_eq!(rt; status(&Err(ToolError::Memory)), 3);
+    Ok(())
+}
+
+#[test]
+fn reads_all_where_no_request_is_refused(rt: HostRuntime) -> Result<(), Fail> {
+    let input = vec![in rt.alloc(); b'7'; 5 * PART]?;
+    let heap = LocalHeap::new(rt.alloc(), 61440)?;
+    let mut source = parts_of(&input);
+    let bytes = read_all_in(&heap, &mut source)?;
+    assert_eq!(rt; bytes.as_slice(), input.as_slice());
+    assert_eq!(rt; heap.used(), 32768);
+    assert!(rt; source.into_inner().rest.is_empty());
+    Ok(())
 }
