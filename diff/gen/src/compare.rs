@@ -41,6 +41,11 @@ impl Counts {
         self.rules.differences + self.standard.differences + self.original.differences
     }
 
+    fn print_progress(&self, percent: u64) {
+        let (compared, differences) = (self.compared(), self.differences());
+        eprintln!("{percent:3} % {compared:>11} compared, {differences} differ");
+    }
+
     // Counts a comparison, and prints it where it differs.
     fn count(&mut self, side: fn(&mut Counts) -> &mut Count, differs: Option<Difference<'_>>) {
         let printed = self.differences();
@@ -92,17 +97,13 @@ pub fn compare(seed: u64, texts: u64) -> Counts {
     let mut counts = Counts::default();
     let mut signed = Vec::new();
     let from = Instant::now();
-    for number in 0..texts {
+    for number in 1..=texts {
         signed.clear();
         signed.push(b'-');
         texts::push_text(&mut random, &mut signed);
-        for question in &questions {
-            ask(question, &signed, &mut counts);
-        }
-        if (number + 1) % (texts / 20).max(1) == 0 {
-            let percent = 100 * (number + 1) / texts;
-            let (compared, differences) = (counts.compared(), counts.differences());
-            eprintln!("{percent:3} % {compared:>11} compared, {differences} differ");
+        questions.iter().for_each(|question| ask(question, &signed, &mut counts));
+        if number % (texts / 20).max(1) == 0 {
+            counts.print_progress(100 * number / texts);
         }
     }
     counts.time = from.elapsed();

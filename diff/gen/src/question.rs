@@ -111,62 +111,63 @@ pub enum Integer {
     Isize,
 }
 
-/// The expression at the Rust type of an `Integer`, which it calls by the given name.
-#[macro_export]
+// The expression at the Rust type of an `Integer`, which it calls by the given name.
 macro_rules! at_type {
     ($integer:expr, $name:ident => $body:expr) => {
         match $integer {
-            Integer::U8 => {
+            $crate::question::Integer::U8 => {
                 type $name = u8;
                 $body
             }
-            Integer::I8 => {
+            $crate::question::Integer::I8 => {
                 type $name = i8;
                 $body
             }
-            Integer::U16 => {
+            $crate::question::Integer::U16 => {
                 type $name = u16;
                 $body
             }
-            Integer::I16 => {
+            $crate::question::Integer::I16 => {
                 type $name = i16;
                 $body
             }
-            Integer::U32 => {
+            $crate::question::Integer::U32 => {
                 type $name = u32;
                 $body
             }
-            Integer::I32 => {
+            $crate::question::Integer::I32 => {
                 type $name = i32;
                 $body
             }
-            Integer::U64 => {
+            $crate::question::Integer::U64 => {
                 type $name = u64;
                 $body
             }
-            Integer::I64 => {
+            $crate::question::Integer::I64 => {
                 type $name = i64;
                 $body
             }
-            Integer::U128 => {
+            $crate::question::Integer::U128 => {
                 type $name = u128;
                 $body
             }
-            Integer::I128 => {
+            $crate::question::Integer::I128 => {
                 type $name = i128;
                 $body
             }
-            Integer::Usize => {
+            $crate::question::Integer::Usize => {
                 type $name = usize;
                 $body
             }
-            Integer::Isize => {
+            $crate::question::Integer::Isize => {
                 type $name = isize;
                 $body
             }
         }
     };
 }
+
+pub(crate) use at_type;
 
 impl Integer {
     const ALL: [Integer; 12] = [

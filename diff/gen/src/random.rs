@@ -6,6 +6,7 @@ pub struct Random {
 }
 
 impl Random {
+    /// The generator of a seed.
     pub fn new(seed: u64) -> Random {
         Random { state: seed }
     }

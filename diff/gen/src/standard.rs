@@ -1,13 +1,13 @@
 //! std's `str::parse`, beside which both libraries stand.
 
 use crate::answer::Answer;
-use crate::question::{Integer, Question, Sign};
+use crate::question::{Integer, Question, Sign, at_type};
 use std::str::FromStr;
 
 /// The sign and the magnitude of what `str::parse` makes of a text at a type, where it does.
 pub fn parse(integer: Integer, text: &[u8]) -> Option<(bool, u128)> {
     let text = str::from_utf8(text).ok()?;
-    crate::at_type!(integer, T => text.parse::<T>().ok().map(|value| value.parts()))
+    at_type!(integer, T => text.parse::<T>().ok().map(|value| value.parts()))
 }
 
 /// Whether an answer agrees with `str::parse`: a value is the one that std reads from the same

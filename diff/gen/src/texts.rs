@@ -3,7 +3,7 @@
 
 use crate::random::Random;
 
-const SIGNS: [&[u8]; 12] = [b"", b"", b"", b"", b"-", b"-", b"+", b"+", b"+-", b"-+", b"--", b"++"];
+const SIGNS: [&[u8]; 9] = [b"-", b"-", b"-", b"+", b"+", b"+-", b"-+", b"--", b"++"];
 
 // Numbers of digits, and of zeros, at which something ends, with their neighbours.
 const LENGTHS: [usize; 34] = [
@@ -11,8 +11,9 @@ const LENGTHS: [usize; 34] = [
     37, 38, 39, 40, 41, 48, 49, 64,
 ];
 
-// The least and the greatest magnitudes that a type has no number for, and the ends of the words.
-const ENDS: [u32; 10] = [7, 8, 15, 16, 31, 32, 63, 64, 127, 128];
+// How many bits the greatest number of a type has, all of them set: of the unsigned types those of
+// the type, of the signed ones one less.
+const GREATEST_BITS: [u32; 10] = [7, 8, 15, 16, 31, 32, 63, 64, 127, 128];
 
 // The neighbours of the digits and of the signs, bytes a bit away from a digit, bytes that carry
 // into the next where 6 or 0x46 is added, separators, and the ends of the ASCII and UTF-8 ranges.
@@ -24,8 +25,9 @@ const SUFFIXES: [u8; 28] = [
 /// The next text, at the end of `text`, which was empty or holds what stands before it.
 pub fn push_text(random: &mut Random, text: &mut Vec<u8>) {
     let start = text.len();
-    let sign = random.pick(&SIGNS);
-    text.extend_from_slice(sign);
+    if random.one_in(2) {
+        text.extend_from_slice(random.pick(&SIGNS));
+    }
     if random.one_in(3) {
         let zeros = random.pick(&LENGTHS);
         text.extend(std::iter::repeat_n(b'0', zeros));
@@ -59,7 +61,7 @@ fn push_digits(random: &mut Random, text: &mut Vec<u8>) {
             push_number(random, text, power);
         }
         _ => {
-            let bits = random.pick(&ENDS);
+            let bits = random.pick(&GREATEST_BITS);
             push_number(random, text, u128::MAX >> (128 - bits));
         }
     }
