@@ -14,13 +14,13 @@ atoi_simd: atoi_core atoi_lanes
 atoi_diff staticlib: atoi_core atoi_simd
 ";
 
-/// The top of this repository, where `crates.txt` stands.
+/// The top of this repository, which has `crates.txt`.
 pub fn repository() -> PathBuf {
     let manifest = env::var("CARGO_MANIFEST_DIR").expect("cargo names the folder");
     Path::new(&manifest)
         .ancestors()
         .find(|folder| folder.join("crates.txt").is_file())
-        .expect("crates.txt stands at the top of the repository")
+        .expect("the top of the repository has crates.txt")
         .to_path_buf()
 }
 
@@ -48,7 +48,7 @@ pub fn build(repository: &Path, timed: &str, out: &Path) {
     println!("cargo::rustc-link-lib=static=atoi_diff");
 }
 
-// Where the copy stands: one folder for each place of the repository, kept for the next build.
+// The folder of the copy, one for each checkout of the repository. It is kept for the next build.
 fn work_folder(repository: &Path) -> PathBuf {
     let caches = env::var_os("XDG_CACHE_HOME")
         .map(PathBuf::from)

@@ -108,7 +108,7 @@ pub extern "C" fn {name}(text: &[u8; 96], length: usize) -> u64
         )
     }
 
-    // The row of the table, with what stands beside the two exports.
+    // The row of the table: the two exports, and what they are compared with.
     fn row(&self) -> String {
         let Mix { call, integer, flags, digits } = self;
         let form = if self.is_whole() { "whole" } else { "prefix" };

@@ -2,7 +2,7 @@
 
 use crate::question::{Library, Question};
 
-/// What a call answers. Each place is how many bytes of the text stand before the error's slice,
+/// What a call answers. Each place is how many bytes of the text come before the error's slice,
 /// which is the rest of the text.
 #[derive(Clone, Copy, PartialEq, Eq, Debug)]
 pub enum Answer {
@@ -85,10 +85,10 @@ pub fn of_library(library: Library, question: &Question, text: &[u8]) -> Answer 
             &mut answer,
         );
     }
-    told(answer)
+    from_raw(answer)
 }
 
-fn told(raw: RawAnswer) -> Answer {
+fn from_raw(raw: RawAnswer) -> Answer {
     let RawAnswer { count, place, .. } = raw;
     let number = u128::from(raw.high) << 64 | u128::from(raw.low);
     match (raw.variant, raw.ends_the_text) {

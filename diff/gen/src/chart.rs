@@ -95,7 +95,7 @@ fn panel(heading: &str, rows: &[&Times], scale: Scale, top: f64) -> (String, f64
     (panel, end)
 }
 
-// The bars of one mix, with its name before them and each ratio behind its bar.
+// The bars of one mix, with its name before them and each ratio after its bar.
 fn row(times: &Times, scale: Scale, top: f64) -> String {
     let mix = times.mix;
     let name = format!("{} {} {} {} digits", mix.call, mix.integer, mix.flags, mix.digits);

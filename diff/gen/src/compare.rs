@@ -110,7 +110,7 @@ pub fn compare(seed: u64, texts: u64) -> Counts {
     counts
 }
 
-// Compares both libraries' answers to one question. `signed` is the text behind a minus.
+// Compares both libraries' answers to one question. `signed` is the text after a minus.
 fn ask(question: &Question, signed: &[u8], counts: &mut Counts) {
     let text = &signed[1..];
     let expected = rules::answer(question, text);

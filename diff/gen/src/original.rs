@@ -19,7 +19,7 @@ pub const IS_PORTABLE: bool = !cfg!(any(
     target_feature = "neon",
 ));
 
-/// How an answer of the crate stands beside one of this repository.
+/// How an answer of the crate compares with one of this repository.
 pub enum Kind {
     Same,
     /// It differs as a line of docs/DIFFERENCES.md says.
@@ -27,7 +27,7 @@ pub enum Kind {
     Unnamed,
 }
 
-/// How the two answers stand beside one another.
+/// How the two answers compare.
 pub fn beside(question: &Question, text: &[u8], ours: &Answer, theirs: &Answer) -> Kind {
     let (expected, name) = expected(question, text);
     if ours == theirs {

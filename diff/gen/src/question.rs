@@ -76,12 +76,12 @@ impl Call {
         }
     }
 
-    /// Whether it reads the front of the text alone, and tells how many bytes that is.
+    /// Whether it reads only the front of the text, and returns how many bytes that is.
     pub fn is_prefix(self) -> bool {
         !matches!(self, Call::Parse | Call::Pos | Call::Neg | Call::Skipped)
     }
 
-    // The flags that it has, or those that an old name stands for: SKIP_ZEROES, then SKIP_PLUS.
+    // The flags that it has, or those that an old name fixes: SKIP_ZEROES, then SKIP_PLUS.
     fn flags(self) -> &'static [(bool, bool)] {
         match self {
             Call::Parse | Call::Prefix => {
@@ -233,8 +233,8 @@ impl Question {
         all
     }
 
-    /// Whether a minus stands before the number, how many bytes of the text are the sign, and the
-    /// body behind it.
+    /// Whether the number has a minus, how many bytes of the text are the sign, and the body after
+    /// it.
     pub fn take_sign<'a>(&self, text: &'a [u8]) -> (bool, usize, &'a [u8]) {
         match (self.call.sign(), text) {
             (Sign::Taken, [b'+', body @ ..]) if self.skip_plus => (false, 1, body),

@@ -42,7 +42,7 @@ fn number(digits: &[u8]) -> Option<u128> {
     })
 }
 
-// How many digits may count, where there is a limit, and how many at most a size tells.
+// How many digits may count, where there is a limit, and how many at most `Size` reports.
 fn limits(question: &Question) -> Option<(usize, usize)> {
     match (question.integer.bits(), question.integer.is_signed()) {
         (128, _) => Some((39, 40)),

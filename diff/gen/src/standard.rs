@@ -1,4 +1,4 @@
-//! std's `str::parse`, beside which both libraries stand.
+//! std's `str::parse`, with which both libraries are compared.
 
 use crate::answer::Answer;
 use crate::question::{Integer, Question, Sign, at_type};
@@ -12,7 +12,7 @@ pub fn parse(integer: Integer, text: &[u8]) -> Option<(bool, u128)> {
 
 /// Whether an answer agrees with `str::parse`: a value is the one that std reads from the same
 /// bytes, and a whole parse that skips zeros and plus refuses what std refuses and nothing else.
-/// Of what the other calls refuse std says nothing. `signed` is the text behind a minus.
+/// Of what the other calls refuse std says nothing. `signed` is the text after a minus.
 pub fn agrees(question: &Question, answer: &Answer, text: &[u8], signed: &[u8]) -> Option<bool> {
     let before = usize::from(question.call.sign() == Sign::Minus);
     let text = if before == 1 { signed } else { text };

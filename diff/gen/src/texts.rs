@@ -1,5 +1,5 @@
 //! Texts round every boundary: the ends of the types, the lengths at which a window, a block or a
-//! limit ends, zeros, signs, what stands behind the digits, and bytes that are almost digits.
+//! limit ends, zeros, signs, what follows the digits, and bytes that are almost digits.
 
 use crate::random::Random;
 
@@ -22,7 +22,7 @@ const SUFFIXES: [u8; 28] = [
     0x7F, 0x80, 0xB0, 0xB9, 0xBF, 0xC0, 0xEF, 0xF0, 0xF9, 0xFA, 0xFE, 0xFF,
 ];
 
-/// The next text, at the end of `text`, which was empty or holds what stands before it.
+/// Appends the next text to `text`, which may hold other bytes before it.
 pub fn push_text(random: &mut Random, text: &mut Vec<u8>) {
     let start = text.len();
     if random.one_in(2) {

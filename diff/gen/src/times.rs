@@ -6,11 +6,12 @@ use crate::random::Random;
 use crate::standard;
 use std::time::Instant;
 
-// How many numbers a mix has, in how many rounds each side reads them all, and in how many bytes
-// each of them stands.
+// How many numbers a mix has, how many bytes each has room for, how many rounds each side reads
+// them all in, and how often these rounds are run, all mixes in turn.
 const ROWS: usize = 4096;
-const ROUNDS: usize = 1000;
 const ROOM: usize = 96;
+const ROUNDS: usize = 200;
+const PASSES: usize = 5;
 
 type Timed = fn(&[u8; ROOM], usize) -> u64;
 type Export = unsafe extern "C" fn(&[u8; ROOM], usize) -> u64;
@@ -62,11 +63,46 @@ pub struct Times {
     pub is_alike: bool,
 }
 
+impl Times {
+    fn new(mix: &'static Mix) -> Times {
+        let (words, lanes, standard) = (f64::INFINITY, f64::INFINITY, f64::INFINITY);
+        Times { mix, words, lanes, standard, original: None, is_alike: true }
+    }
+
+    // One round of each side, in turn.
+    fn round(&mut self, rows: &Rows) {
+        let mix = self.mix;
+        // SAFETY: an export reads the first `length` bytes of `text`, and these are at most 96.
+        let words = rows.round(|text, length| unsafe { (mix.words)(text, length) });
+        let lanes = rows.round(|text, length| unsafe { (mix.lanes)(text, length) });
+        let standard = rows.round(mix.standard);
+        self.words = self.words.min(words.time);
+        self.lanes = self.lanes.min(lanes.time);
+        self.standard = self.standard.min(standard.time);
+        self.is_alike &= words.sum == standard.sum && lanes.sum == standard.sum;
+        #[cfg(feature = "original")]
+        {
+            let original = rows.round(mix.original);
+            let best = self.original.unwrap_or(f64::INFINITY);
+            self.original = Some(best.min(original.time));
+            self.is_alike &= original.sum == standard.sum;
+        }
+    }
+}
+
+// What a round of one side came to.
+struct Round {
+    // Nanoseconds a call.
+    time: f64,
+    // The sum of the answers.
+    sum: u64,
+}
+
 // Texts of one mix, with their lengths.
 struct Rows(Vec<([u8; ROOM], usize)>);
 
 impl Rows {
-    // Numbers of a signed type are negative every other time; behind a prefix stand a comma and
+    // Numbers of a signed type are negative every other time. A prefix is followed by a comma and
     // sixteen digits.
     fn new(mix: &Mix, random: &mut Random) -> Rows {
         let has_minus = mix.integer.starts_with('i') && mix.call != "prefix_pos";
@@ -89,48 +125,26 @@ impl Rows {
         Rows((0..ROWS).map(row).collect())
     }
 
-    // The time of one round, in nanoseconds a call, and the sum of the answers.
-    fn round(&self, call: impl Fn(&[u8; ROOM], usize) -> u64) -> (f64, u64) {
+    fn round(&self, call: impl Fn(&[u8; ROOM], usize) -> u64) -> Round {
         let from = Instant::now();
         let sum =
             self.0.iter().fold(0_u64, |sum, (text, length)| sum.wrapping_add(call(text, *length)));
-        (from.elapsed().as_nanos() as f64 / ROWS as f64, sum)
+        Round { time: from.elapsed().as_nanos() as f64 / ROWS as f64, sum }
     }
 }
 
 /// Times every mix, all sides in turn in each round.
 pub fn time(seed: u64) -> Vec<Times> {
     let mut random = Random::new(seed);
-    MIXES.iter().map(|mix| time_mix(mix, &Rows::new(mix, &mut random))).collect()
-}
-
-fn time_mix(mix: &'static Mix, rows: &Rows) -> Times {
-    // SAFETY: an export reads the first `length` bytes of `text`, and these are at most 96.
-    let words = |text: &[u8; ROOM], length| unsafe { (mix.words)(text, length) };
-    let lanes = |text: &[u8; ROOM], length| unsafe { (mix.lanes)(text, length) };
-    let mut best = [f64::INFINITY; 4];
-    let mut sums = [0; 4];
-    for _ in 0..ROUNDS {
-        #[cfg(feature = "original")]
-        let original = rows.round(mix.original);
-        #[cfg(not(feature = "original"))]
-        let original = (f64::INFINITY, 0);
-        let sides = [rows.round(words), rows.round(lanes), rows.round(mix.standard), original];
-        for (side, (time, sum)) in sides.into_iter().enumerate() {
-            best[side] = best[side].min(time);
-            sums[side] = sum;
+    let rows: Vec<Rows> = MIXES.iter().map(|mix| Rows::new(mix, &mut random)).collect();
+    let mut times: Vec<Times> = MIXES.iter().map(Times::new).collect();
+    for pass in 1..=PASSES {
+        for (times, rows) in times.iter_mut().zip(&rows) {
+            (0..ROUNDS).for_each(|_| times.round(rows));
         }
+        eprintln!("{:3} % timed", 100 * pass / PASSES);
     }
-    let [words, lanes, standard, original] = best;
-    let has_original = cfg!(feature = "original");
-    Times {
-        mix,
-        words,
-        lanes,
-        standard,
-        original: has_original.then_some(original),
-        is_alike: sums[..if has_original { 4 } else { 3 }].iter().all(|sum| *sum == sums[0]),
-    }
+    times
 }
 
 /// The geometric mean of ratios, and the greatest.
