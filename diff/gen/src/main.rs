@@ -25,6 +25,8 @@ use std::fs;
 use std::process::ExitCode;
 use times::Times;
 
+const ARGUMENTS: &str = "--seed N, --texts N, --chart FILE and --compare-only";
+
 struct Arguments {
     seed: u64,
     texts: u64,
@@ -48,7 +50,7 @@ impl Arguments {
                 "--texts" => arguments.texts = number(&value()?)?,
                 "--chart" => arguments.chart = value()?,
                 "--compare-only" => arguments.is_timed = false,
-                _ => return Err(format!("{word} is no argument")),
+                _ => return Err(format!("{word} is none of {ARGUMENTS}")),
             }
         }
         Ok(arguments)

@@ -64,3 +64,54 @@ fn dropped(question: &Question, digits: usize, zeros: usize) -> usize {
         zeros / 16 * 16
     }
 }
+
+#[cfg(test)]
+mod tests {
+    use super::answer;
+    use crate::answer::Answer;
+    use crate::question::{Call, Integer, Question};
+
+    // The answer of a call without SKIP_PLUS.
+    fn of(call: Call, integer: Integer, skip_zeroes: bool, text: &str) -> Answer {
+        let question = Question { call, integer, skip_zeroes, skip_plus: false };
+        answer(&question, text.as_bytes())
+    }
+
+    #[test]
+    fn whole_texts_of_narrow_types() {
+        let of = |integer, text| of(Call::Parse, integer, false, text);
+        assert_eq!(of(Integer::U8, "256x"), Answer::Overflow { place: 0 });
+        let invalid = Answer::Invalid64 { number: 255, index: 3, place: 0 };
+        assert_eq!(of(Integer::U8, "255x"), invalid);
+        assert_eq!(of(Integer::I8, "-128"), Answer::value(true, 128, 0));
+        assert_eq!(of(Integer::I8, "-129"), Answer::Overflow { place: 1 });
+        assert_eq!(of(Integer::I8, "+5"), Answer::Empty);
+        assert_eq!(of(Integer::I8, "-0"), Answer::value(false, 0, 0));
+    }
+
+    #[test]
+    fn leading_zeros() {
+        let zeros = "0".repeat(21);
+        assert_eq!(
+            of(Call::Parse, Integer::U64, false, &zeros),
+            Answer::Size { length: 21, place: 0 }
+        );
+        assert_eq!(of(Call::Parse, Integer::U64, true, &zeros), Answer::value(false, 0, 0));
+        let ones = "000".to_string() + &"1".repeat(25);
+        assert_eq!(
+            of(Call::Prefix, Integer::U64, true, &ones),
+            Answer::Size { length: 27, place: 3 }
+        );
+    }
+
+    #[test]
+    fn narrow_prefixes() {
+        let of = |skip_zeroes, zeros, rest: &str| {
+            of(Call::Prefix, Integer::U8, skip_zeroes, &("0".repeat(zeros) + rest))
+        };
+        assert_eq!(of(true, 13, "999x"), Answer::Overflow { place: 13 });
+        assert_eq!(of(true, 12, "999x"), Answer::Overflow { place: 0 });
+        assert_eq!(of(true, 16, "7"), Answer::value(false, 7, 17));
+        assert_eq!(of(false, 16, "7"), Answer::Size { length: 17, place: 0 });
+    }
+}
