@@ -1,0 +1,103 @@
+//! What a call answers, and how the exports are asked.
+
+use crate::question::{Library, Question};
+
+/// What a call answers. Each place is how many bytes of the text come before the error's slice,
+/// which is the rest of the text.
+#[derive(Clone, Copy, PartialEq, Eq, Debug)]
+pub enum Answer {
+    /// The value, and how many bytes a prefix is, which is 0 of a whole text.
+    Value {
+        negative: bool,
+        magnitude: u128,
+        count: usize,
+    },
+    Empty,
+    Size {
+        length: usize,
+        place: usize,
+    },
+    Overflow {
+        place: usize,
+    },
+    Invalid64 {
+        number: u128,
+        index: usize,
+        place: usize,
+    },
+    Invalid128 {
+        number: u128,
+        index: usize,
+        place: usize,
+    },
+    /// What no call should answer: no such call, or a slice that is not the rest of the text.
+    Unlike(RawAnswer),
+}
+
+impl Answer {
+    /// A value as all calls answer it: zero is not negative.
+    pub fn value(minus: bool, magnitude: u128, count: usize) -> Answer {
+        Answer::Value { negative: minus && magnitude > 0, magnitude, count }
+    }
+}
+
+/// An answer as `torkettle_answer` writes it: `Answer` of `diff/exports`.
+#[repr(C)]
+#[derive(Clone, Copy, PartialEq, Eq, Debug, Default)]
+pub struct RawAnswer {
+    variant: u32,
+    negative: bool,
+    ends_the_text: bool,
+    low: u64,
+    high: u64,
+    count: usize,
+    place: usize,
+}
+
+unsafe extern "C" {
+    // A slice of Rattle crosses as its first byte's address and its length.
+    fn torkettle_answer(
+        on_lanes: bool,
+        call: u32,
+        integer: u32,
+        skip_zeroes: bool,
+        skip_plus: bool,
+        text: *const u8,
+        length: usize,
+        answer: &mut RawAnswer,
+    );
+}
+
+/// What a library answers to a question about a text.
+pub fn of_library(library: Library, question: &Question, text: &[u8]) -> Answer {
+    let mut answer = RawAnswer::default();
+    // SAFETY: the address and the length are of one slice, which the call only reads, and the
+    // answer has the fields of the struct that it writes.
+    unsafe {
+        torkettle_answer(
+            library == Library::Lanes,
+            question.call as u32,
+            question.integer as u32,
+            question.skip_zeroes,
+            question.skip_plus,
+            text.as_ptr(),
+            text.len(),
+            &mut answer,
+        );
+    }
+    from_raw(answer)
+}
+
+fn from_raw(raw: RawAnswer) -> Answer {
+    let RawAnswer { count, place, .. } = raw;
+    let number = u128::from(raw.high) << 64 | u128::from(raw.low);
+    match (raw.variant, raw.ends_the_text) {
+        (0, false) => Answer::Value { negative: raw.negative, magnitude: number, count },
+        (1, false) => Answer::Empty,
+        (2, true) => Answer::Size { length: count, place },
+        (3, true) => Answer::Overflow { place },
+        (4, true) => Answer::Invalid64 { number, index: count, place },
+        (5, true) => Answer::Invalid128 { number, index: count, place },
+        _ => Answer::Unlike(raw),
+    }
+}

@@ -1,0 +1,142 @@
+//! The comparison of both libraries with the plain rules, with `str::parse`, and with the Rust
+//! crate where the feature `original` is on.
+
+use crate::answer::{Answer, of_library};
+#[cfg(feature = "original")]
+use crate::original;
+use crate::question::{Library, Question};
+use crate::random::Random;
+use crate::{rules, standard, texts};
+use std::time::{Duration, Instant};
+
+// How many differences are printed, of all that are counted.
+const PRINTED: u64 = 20;
+
+/// How many answers were compared with one side, and how many differed.
+#[derive(Default)]
+pub struct Count {
+    pub compared: u64,
+    pub differences: u64,
+}
+
+/// What a comparison came to.
+#[derive(Default)]
+pub struct Counts {
+    pub rules: Count,
+    pub standard: Count,
+    pub original: Count,
+    /// How often the Rust crate differed as docs/DIFFERENCES.md says, by its name there.
+    pub named: Vec<(&'static str, u64)>,
+    pub time: Duration,
+}
+
+impl Counts {
+    /// How many answers were compared.
+    pub fn compared(&self) -> u64 {
+        self.rules.compared + self.standard.compared + self.original.compared
+    }
+
+    /// How many differed in a way that no document names.
+    pub fn differences(&self) -> u64 {
+        self.rules.differences + self.standard.differences + self.original.differences
+    }
+
+    fn print_progress(&self, percent: u64) {
+        let (compared, differences) = (self.compared(), self.differences());
+        eprintln!("{percent:3} % {compared:>11} compared, {differences} differ");
+    }
+
+    // Counts a comparison, and prints it where it differs.
+    fn count(&mut self, side: fn(&mut Counts) -> &mut Count, differs: Option<Difference<'_>>) {
+        let printed = self.differences();
+        let count = side(self);
+        count.compared += 1;
+        if let Some(difference) = differs {
+            count.differences += 1;
+            if printed < PRINTED {
+                difference.print();
+            }
+        }
+    }
+
+    #[cfg(feature = "original")]
+    fn name(&mut self, name: &'static str) {
+        match self.named.iter_mut().find(|(known, _)| *known == name) {
+            Some((_, times)) => *times += 1,
+            None => self.named.push((name, 1)),
+        }
+    }
+}
+
+// Two answers that differ.
+struct Difference<'a> {
+    question: &'a Question,
+    library: Library,
+    text: &'a [u8],
+    ours: Answer,
+    beside: &'static str,
+    theirs: Option<Answer>,
+}
+
+impl Difference<'_> {
+    fn print(&self) {
+        let library = if self.library == Library::Words { "words" } else { "lanes" };
+        let text = self.text.escape_ascii();
+        println!("differs from {}: {} on {library} of \"{text}\"", self.beside, self.question);
+        println!("    here  {:?}", self.ours);
+        if let Some(theirs) = self.theirs {
+            println!("    there {theirs:?}");
+        }
+    }
+}
+
+/// Asks both libraries every question about so many texts of a seed.
+pub fn compare(seed: u64, texts: u64) -> Counts {
+    let questions = Question::all();
+    let mut random = Random::new(seed);
+    let mut counts = Counts::default();
+    let mut signed = Vec::new();
+    let from = Instant::now();
+    for number in 1..=texts {
+        signed.clear();
+        signed.push(b'-');
+        texts::push_text(&mut random, &mut signed);
+        questions.iter().for_each(|question| ask(question, &signed, &mut counts));
+        if number % (texts / 20).max(1) == 0 {
+            counts.print_progress(100 * number / texts);
+        }
+    }
+    counts.time = from.elapsed();
+    counts
+}
+
+// Compares both libraries' answers to one question. `signed` is the text after a minus.
+fn ask(question: &Question, signed: &[u8], counts: &mut Counts) {
+    let text = &signed[1..];
+    let expected = rules::answer(question, text);
+    #[cfg(feature = "original")]
+    let original = original::answer(question, text);
+    for library in [Library::Words, Library::Lanes] {
+        let ours = of_library(library, question, text);
+        let beside = |beside, theirs| Difference { question, library, text, ours, beside, theirs };
+
+        let differs = (ours != expected).then(|| beside("the rules", Some(expected)));
+        counts.count(|counts| &mut counts.rules, differs);
+
+        if let Some(agrees) = standard::agrees(question, &ours, text, signed) {
+            let differs = (!agrees).then(|| beside("str::parse", None));
+            counts.count(|counts| &mut counts.standard, differs);
+        }
+
+        #[cfg(feature = "original")]
+        {
+            let kind = original::beside(question, text, &ours, &original);
+            let differs = matches!(kind, original::Kind::Unnamed)
+                .then(|| beside("the Rust crate", Some(original)));
+            counts.count(|counts| &mut counts.original, differs);
+            if let original::Kind::Named(name) = kind {
+                counts.name(name);
+            }
+        }
+    }
+}

@@ -1,0 +1,88 @@
+//! std's `str::parse`, with which both libraries are compared.
+
+use crate::answer::Answer;
+use crate::question::{Integer, Question, Sign, at_type};
+use std::str::FromStr;
+
+/// The sign and the magnitude of what `str::parse` makes of a text at a type, where it does.
+pub fn parse(integer: Integer, text: &[u8]) -> Option<(bool, u128)> {
+    let text = str::from_utf8(text).ok()?;
+    at_type!(integer, T => text.parse::<T>().ok().map(|value| value.parts()))
+}
+
+/// Whether an answer agrees with `str::parse`: a value is the one that std reads from the same
+/// bytes, and a whole parse that skips zeros and plus refuses what std refuses and nothing else.
+/// Of what the other calls refuse std says nothing. `signed` is the text after a minus.
+pub fn agrees(question: &Question, answer: &Answer, text: &[u8], signed: &[u8]) -> Option<bool> {
+    let before = usize::from(question.call.sign() == Sign::Minus);
+    let text = if before == 1 { signed } else { text };
+    let is_prefix = question.call.is_prefix();
+    match *answer {
+        Answer::Value { negative, magnitude, count } => {
+            let end = if is_prefix { before + count } else { text.len() };
+            let found = text.get(..end).and_then(|read| parse(question.integer, read));
+            Some(found == Some((negative, magnitude)))
+        }
+        _ if question.skip_zeroes && question.skip_plus && !is_prefix => {
+            Some(parse(question.integer, text).is_none())
+        }
+        _ => None,
+    }
+}
+
+/// Whole texts by `str::parse`, as the timed exports answer them.
+pub fn whole<T: FromStr + Bits>(text: &[u8; 96], length: usize) -> u64 {
+    parsed::<T>(&text[..length]).map_or(ERROR, Bits::low_bits)
+}
+
+/// The number at the front of a text: its end is looked for, and `str::parse` reads up to there.
+pub fn prefix<T: FromStr + Bits>(text: &[u8; 96], length: usize) -> u64 {
+    let text = &text[..length];
+    let sign = usize::from(text.starts_with(b"-"));
+    let digits = text[sign..].iter().position(|byte| !byte.is_ascii_digit());
+    let count = digits.map_or(length, |digits| sign + digits);
+    parsed::<T>(&text[..count]).map_or(ERROR, |value| value.low_bits().wrapping_add(count as u64))
+}
+
+/// What a timed export answers of an error.
+pub const ERROR: u64 = 0x8000_0000_0000_0001;
+
+fn parsed<T: FromStr>(text: &[u8]) -> Option<T> {
+    // SAFETY: the texts that are timed are ASCII. So the time of a test for UTF-8 is left out.
+    unsafe { str::from_utf8_unchecked(text) }.parse().ok()
+}
+
+/// A value as numbers that are alike for all types.
+pub trait Bits: Copy {
+    /// Whether it is below zero, and its magnitude.
+    fn parts(self) -> (bool, u128);
+
+    /// Its low 64 bits.
+    fn low_bits(self) -> u64;
+}
+
+macro_rules! bits {
+    ($($unsigned:ty, $signed:ty;)*) => {$(
+        impl Bits for $unsigned {
+            fn parts(self) -> (bool, u128) {
+                (false, self as u128)
+            }
+
+            fn low_bits(self) -> u64 {
+                self as u64
+            }
+        }
+
+        impl Bits for $signed {
+            fn parts(self) -> (bool, u128) {
+                (self < 0, self.unsigned_abs() as u128)
+            }
+
+            fn low_bits(self) -> u64 {
+                self as $unsigned as u64
+            }
+        }
+    )*};
+}
+
+bits! { u8, i8; u16, i16; u32, i32; u64, i64; u128, i128; usize, isize; }

@@ -1,0 +1,154 @@
+//! Times on mixes of lengths: the length changes from one call to the next, as it does for users.
+
+#[cfg(feature = "original")]
+use crate::original;
+use crate::random::Random;
+use crate::standard;
+use std::time::Instant;
+
+// How many numbers a mix has, how many bytes each has room for, how many rounds each side reads
+// them all in, and how often these rounds are run, all mixes in turn.
+const ROWS: usize = 4096;
+const ROOM: usize = 96;
+const ROUNDS: usize = 200;
+const PASSES: usize = 5;
+
+type Timed = fn(&[u8; ROOM], usize) -> u64;
+type Export = unsafe extern "C" fn(&[u8; ROOM], usize) -> u64;
+
+/// A line of `diff/mixes.txt`, with what is timed on it. Each answers the low 64 bits of the value,
+/// with a prefix's count added to them.
+pub struct Mix {
+    pub call: &'static str,
+    pub integer: &'static str,
+    pub flags: &'static str,
+    pub digits: &'static str,
+    words: Export,
+    lanes: Export,
+    standard: Timed,
+    #[cfg(feature = "original")]
+    original: Timed,
+}
+
+include!(concat!(env!("OUT_DIR"), "/mixes.rs"));
+
+impl Mix {
+    /// Whether whole texts are read, and not the numbers at their front.
+    pub fn is_whole(&self) -> bool {
+        self.call == "parse"
+    }
+
+    // How many digits the next number has.
+    fn digits(&self, random: &mut Random) -> usize {
+        let number = |text: &str| -> usize { text.parse().expect("digits are numbers") };
+        if self.digits == "log" {
+            (1..10).find(|_| random.one_in(2)).unwrap_or(10)
+        } else if let Some((least, most)) = self.digits.split_once('-') {
+            number(least) + random.below(number(most) - number(least) + 1)
+        } else {
+            let all: Vec<&str> = self.digits.split('|').collect();
+            number(random.pick(&all))
+        }
+    }
+}
+
+/// The best times of one mix, in nanoseconds a call.
+pub struct Times {
+    pub mix: &'static Mix,
+    pub words: f64,
+    pub lanes: f64,
+    pub standard: f64,
+    pub original: Option<f64>,
+    /// Whether all sides answered alike.
+    pub is_alike: bool,
+}
+
+impl Times {
+    fn new(mix: &'static Mix) -> Times {
+        let (words, lanes, standard) = (f64::INFINITY, f64::INFINITY, f64::INFINITY);
+        Times { mix, words, lanes, standard, original: None, is_alike: true }
+    }
+
+    // One round of each side, in turn.
+    fn round(&mut self, rows: &Rows) {
+        let mix = self.mix;
+        // SAFETY: an export reads the first `length` bytes of `text`, and these are at most 96.
+        let words = rows.round(|text, length| unsafe { (mix.words)(text, length) });
+        let lanes = rows.round(|text, length| unsafe { (mix.lanes)(text, length) });
+        let standard = rows.round(mix.standard);
+        self.words = self.words.min(words.time);
+        self.lanes = self.lanes.min(lanes.time);
+        self.standard = self.standard.min(standard.time);
+        self.is_alike &= words.sum == standard.sum && lanes.sum == standard.sum;
+        #[cfg(feature = "original")]
+        {
+            let original = rows.round(mix.original);
+            let best = self.original.unwrap_or(f64::INFINITY);
+            self.original = Some(best.min(original.time));
+            self.is_alike &= original.sum == standard.sum;
+        }
+    }
+}
+
+// What a round of one side came to.
+struct Round {
+    // Nanoseconds a call.
+    time: f64,
+    // The sum of the answers.
+    sum: u64,
+}
+
+// Texts of one mix, with their lengths.
+struct Rows(Vec<([u8; ROOM], usize)>);
+
+impl Rows {
+    // Numbers of a signed type are negative every other time. A prefix is followed by a comma and
+    // sixteen digits.
+    fn new(mix: &Mix, random: &mut Random) -> Rows {
+        let has_minus = mix.integer.starts_with('i') && mix.call != "prefix_pos";
+        let row = |_| {
+            let mut text = Vec::with_capacity(ROOM);
+            if has_minus && random.one_in(2) {
+                text.push(b'-');
+            }
+            text.push(b'1');
+            for _ in 1..mix.digits(random) {
+                text.push(random.digit());
+            }
+            if !mix.is_whole() {
+                text.extend_from_slice(b",0123456789012345");
+            }
+            let length = text.len();
+            text.resize(ROOM, 0);
+            (text.try_into().expect("a row has room"), length)
+        };
+        Rows((0..ROWS).map(row).collect())
+    }
+
+    fn round(&self, call: impl Fn(&[u8; ROOM], usize) -> u64) -> Round {
+        let from = Instant::now();
+        let sum =
+            self.0.iter().fold(0_u64, |sum, (text, length)| sum.wrapping_add(call(text, *length)));
+        Round { time: from.elapsed().as_nanos() as f64 / ROWS as f64, sum }
+    }
+}
+
+/// Times every mix, all sides in turn in each round.
+pub fn time(seed: u64) -> Vec<Times> {
+    let mut random = Random::new(seed);
+    let rows: Vec<Rows> = MIXES.iter().map(|mix| Rows::new(mix, &mut random)).collect();
+    let mut times: Vec<Times> = MIXES.iter().map(Times::new).collect();
+    for pass in 1..=PASSES {
+        for (times, rows) in times.iter_mut().zip(&rows) {
+            (0..ROUNDS).for_each(|_| times.round(rows));
+        }
+        eprintln!("{:3} % timed", 100 * pass / PASSES);
+    }
+    times
+}
+
+/// The geometric mean of ratios, and the greatest.
+pub fn mean_and_worst(ratios: impl Iterator<Item = f64> + Clone) -> (f64, f64) {
+    let mean = ratios.clone().map(f64::ln).sum::<f64>() / ratios.clone().count() as f64;
+    (mean.exp(), ratios.fold(0.0, f64::max))
+}
