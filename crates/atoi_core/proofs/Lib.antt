@@ -24,6 +24,8 @@ pub mod LimitLemmas
 pub mod TextLemmas
 pub mod DecimalLemmas
 pub mod PrefixLemmas
+pub mod FrontLemmas
+pub mod ResultLemmas
 pub mod SuffixLemmas
 pub mod KindLemmas
 pub mod LoadedBytes
