@@ -36,7 +36,7 @@ skipping_agrees k form has s v h =
     whole_call-is k form true s ∙ whole_skipping k (sign_in k form s).minus (sign_in k form s).body v (sym (whole_call-is k form false s) ∙ h)
 
 -- a decimal digit, by its byte
-digit_is : (byte : ℕ) → 48 ≤ byte → byte ≤ 57 → decimal_table byte ≡ Some (byte - 48)
+pub digit_is : (byte : ℕ) → 48 ≤ byte → byte ≤ 57 → decimal_table byte ≡ Some (byte - 48)
 digit_is byte lo hi = rw (le-leb 48 byte lo, le-leb byte 57 hi) refl
 
 -- its worth is its distance from `0`
@@ -44,11 +44,11 @@ worth_is : (byte : ℕ) → 48 ≤ byte → byte ≤ 57 → worth decimal_table 
 worth_is byte lo hi = rw (digit_is byte lo hi) refl
 
 -- the number that digits write is std's
-own : IsNumeralModel (AllDigits 10) (value decimal_table)
+pub own : IsNumeralModel (AllDigits 10) (value decimal_table)
 own = numerals_by_weight (AllDigits 10) tells_digits (value decimal_table) (record { empty = refl; more = λ c cs h. rw (worth_is c h.0 h.1) refl })
 
 -- std's digits are ours
-run_of_digits : (ds : List ℕ) → AllDigits 10 ds → run_len decimal_table ds ≡ length ds
+pub run_of_digits : (ds : List ℕ) → AllDigits 10 ds → run_len decimal_table ds ≡ length ds
 run_of_digits [] h = refl
 run_of_digits (d ∷ ds) h =
     let r = digit_from_value d h.0 in

@@ -27,6 +27,8 @@ pub mod PrefixLemmas
 pub mod FrontLemmas
 pub mod ResultLemmas
 pub mod SuffixLemmas
+pub mod ReasonLemmas
+pub mod DigitLemmas
 pub mod KindLemmas
 pub mod LoadedBytes
 pub mod WordWindows

@@ -1,5 +1,5 @@
 -- The texts that write a number are exactly what a whole parse accepts.
-use Rattle.std.proofs.Common.{◌≡◌, ◌↔◌, ℕ, ◌<◌, ◌≤◌, Bool, true, false, eqb, List, [], ◌∷◌, ◌++◌, length, ℤ, IsOk, Result, Ok, Err, refl, ap, ◌∙◌, arith, eqb-true}
+use Rattle.std.proofs.Common.{◌≡◌, ℕ, ◌<◌, ◌≤◌, Bool, true, false, eqb, List, [], ◌∷◌, ◌++◌, length, ℤ, IsOk, Result, Ok, Err, refl, ap, ◌∙◌, arith, eqb-true}
 use Rattle.std.proofs.lemmas.Bool.{and_parts}
 use Rattle.atoi_core.specs.Digit.{decimal_table}
 use Rattle.atoi_core.specs.Run.{run_len, run, value}
@@ -8,10 +8,12 @@ use Rattle.atoi_core.specs.Sign.{Sign, sign_of, number_of, plus_sign, minus_sign
 use Rattle.atoi_core.specs.Answer.{whole_answer, parse_answer}
 use Rattle.atoi_core.specs.Text.{SignMark, no_sign, plus, minus, sign_bytes, is_minus, is_plus, IsText, DigitsWrite, TextWrites}
 use Rattle.atoi_core.specs.Laws.{SignForm, looked_for, positive, negative, whole_call, Writes, AcceptedTexts, AcceptedNumbers}
-use Rattle.atoi_core.proofs.CutLemmas.{all_digits, digits_all, run_all}
+use Rattle.atoi_core.proofs.CutLemmas.{digits_all, run_all}
 use Rattle.atoi_core.proofs.SignLemmas.{sign_cases, sign_of_digits}
 use Rattle.atoi_core.proofs.CallLemmas.{from_whole, to_whole, whole_is_run, is_whole}
 use Rattle.atoi_core.proofs.LimitLemmas.{in_range_short}
+use Rattle.atoi_core.proofs.DecimalLemmas.{own, run_of_digits}
+use Rattle.atoi_core.proofs.DigitLemmas.{to_std}
 
 -- a slice as the sign that is taken from it, and its body
 record IsSplit (signed takes_plus : Bool) (s : List ℕ) (g : Sign) : Type 0 where
@@ -57,56 +59,47 @@ digits_written k is_negative skip body number h =
     let found = from_whole k is_negative skip body number h in
     let all = whole_is_run (run_len decimal_table body) (length body) found.0.ends in
     let is_run = run_all decimal_table body all in
-    record {
-      magnitude = record {
-        some = omega (arith, found.0.some);
-        all = digits_all decimal_table body all;
-        in_range = rw is_run at found.0.in_range;
-      };
-      value_is = rw is_run at found.1;
-    }
+    let digits = to_std body (digits_all decimal_table body all) in
+    let same = own.same body digits in
+    record { numeral = (omega (arith, found.0.some), digits); in_range = rw (is_run, same) at found.0.in_range; value_is = rw (is_run, same) at found.1 }
 
 -- digits of a magnitude in range are accepted where zeros are skipped
 pub digits_accepted : (k : Kind) → IsSized k → (is_negative : Bool) (digits : List ℕ) (number : ℤ)
     → DigitsWrite k is_negative digits number → whole_answer decimal_table k is_negative true digits ≡ Ok number
 digits_accepted k sized is_negative digits number written =
-    let all = all_digits decimal_table digits written.magnitude.all in
+    let all = run_of_digits digits written.numeral.1 in
     let is_run = run_all decimal_table digits all in
-    let some : 0 < run_len decimal_table digits = omega (arith, written.magnitude.some) in
-    let in_range : value decimal_table (run decimal_table digits) ≤ bound_of k is_negative = rw is_run written.magnitude.in_range in
+    let same = own.same digits written.numeral.1 in
+    let some : 0 < run_len decimal_table digits = omega (arith, written.numeral.0) in
+    let in_range : value decimal_table (run decimal_table digits) ≤ bound_of k is_negative = rw (is_run, same) written.in_range in
     let short = in_range_short decimal_table k sized is_negative digits in_range in
     to_whole k is_negative true digits (is_whole k is_negative true digits some short in_range all)
-    ∙ rw (is_run, written.value_is) refl
+    ∙ rw (is_run, same, written.value_is) refl
 
--- what is accepted with a sign is a text of the type, which writes the number
+-- what is accepted with a sign is a text that writes the number
 text_written : (k : Kind) (takes_plus skip : Bool) (s : List ℕ) (number : ℤ)
     → parse_answer k skip takes_plus s ≡ Ok number → TextWrites k takes_plus s number
 text_written k takes_plus skip s number h =
     let g = sign_of k.signed takes_plus s in
-    let written = digits_written k g.minus skip g.body number h in
     let parts = split k.signed takes_plus s in
     record {
-      text = record {
-        sign = parts.mark;
-        digits = g.body;
-        parts = parts.parts;
-        signed = parts.allowed;
-        magnitude = rw parts.same written.magnitude;
-      };
+      sign = parts.mark;
+      digits = g.body;
+      parts = parts.parts;
+      signed = parts.allowed;
       plus_taken = parts.plus_taken;
-      value_is = rw parts.same written.value_is;
+      written = rw parts.same (digits_written k g.minus skip g.body number h);
     }
 
 -- a text that writes a number is accepted where zeros are skipped
 text_accepted : (k : Kind) → IsSized k → (takes_plus : Bool) (s : List ℕ) (number : ℤ)
     → TextWrites k takes_plus s number → parse_answer k true takes_plus s ≡ Ok number
-text_accepted k sized takes_plus s number written =
-    let text = written.text in
-    let some : 0 < run_len decimal_table text.digits = omega (arith, all_digits decimal_table text.digits text.magnitude.all, text.magnitude.some) in
+text_accepted k sized takes_plus s number text =
+    let some : 0 < run_len decimal_table text.digits = omega (arith, run_of_digits text.digits text.written.numeral.1, text.written.numeral.0) in
     ap (parse_answer k true takes_plus) text.parts
     ∙ ap (λ (g : Sign). whole_answer decimal_table k g.minus true g.body)
-    (sign_of_text k.signed takes_plus text.sign text.digits text.signed written.plus_taken some)
-    ∙ digits_accepted k sized (is_minus text.sign) text.digits number (record { magnitude = text.magnitude; value_is = written.value_is })
+    (sign_of_text k.signed takes_plus text.sign text.digits text.signed text.plus_taken some)
+    ∙ digits_accepted k sized (is_minus text.sign) text.digits number text.written
 
 -- the law: what a whole parse answers is written there, and what is written is answered
 pub accepted_numbers : (k : Kind) → IsSized k → AcceptedNumbers k
@@ -122,18 +115,45 @@ accepted_numbers k sized = record { written = written; accepted = accepted }
     accepted positive s number h = digits_accepted k sized false s number h
     accepted negative s number h = digits_accepted k sized true s number h
 
+-- a text of the type writes its number
+writes : (k : Kind) (s : List ℕ) (text : IsText k s) → TextWrites k true s (number_of (is_minus text.sign) (value decimal_table text.digits))
+writes k s text =
+    let digits = to_std text.digits text.all in
+    let same = own.same text.digits digits in
+    record {
+      sign = text.sign;
+      digits = text.digits;
+      parts = text.parts;
+      signed = text.signed;
+      plus_taken = λ e. refl;
+      written = record { numeral = (text.some, digits); in_range = rw same at text.in_range; value_is = rw same refl };
+    }
+
+-- and what writes a number is a text
+is_text : (k : Kind) (s : List ℕ) (number : ℤ) → TextWrites k true s number → IsText k s
+is_text k s number text =
+    let same = own.same text.digits text.written.numeral.1 in
+    record {
+      sign = text.sign;
+      digits = text.digits;
+      parts = text.parts;
+      signed = text.signed;
+      some = text.written.numeral.0;
+      all = digits_all decimal_table text.digits (run_of_digits text.digits text.written.numeral.1);
+      in_range = rw same text.written.in_range;
+    }
+
 -- a text is accepted, and its number is the value
 ok_of_text : (k : Kind) → IsSized k → (s : List ℕ) (text : IsText k s)
     → parse_answer k true true s ≡ Ok (number_of (is_minus text.sign) (value decimal_table text.digits))
-ok_of_text k sized s text = text_accepted k sized true s _ (record { text = text; plus_taken = λ e. refl; value_is = refl })
-
--- `parse` with both flags accepts exactly the texts of the type
-parse_accepts : (k : Kind) → IsSized k → (s : List ℕ) → IsOk (parse_answer k true true s) ↔ IsText k s
-parse_accepts k sized s = (
-  λ h. let found = ok_value (parse_answer k true true s) h in (text_written k true true s found.0 found.1).text,
-  λ text. ok_is_ok _ _ (ok_of_text k sized s text),
-)
+ok_of_text k sized s text = text_accepted k sized true s _ (writes k s text)
 
 -- the law: what is accepted are the texts, and the answer is the number
 pub accepted_texts : (k : Kind) → IsSized k → AcceptedTexts k
-accepted_texts k sized = record { accepted = parse_accepts k sized; number = ok_of_text k sized }
+accepted_texts k sized = record {
+  accepted = λ s. (
+    λ h. let found = ok_value (parse_answer k true true s) h in is_text k s found.0 (text_written k true true s found.0 found.1),
+    λ text. ok_is_ok _ _ (ok_of_text k sized s text),
+  );
+  number = ok_of_text k sized;
+}

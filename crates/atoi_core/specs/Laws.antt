@@ -1,13 +1,16 @@
 -- Laws of the answers. Each is a statement about the definitions alone, for every slice; nothing
 -- of how a parse works occurs in it.
-use Rattle.std.specs.Prelude.{◌≡◌, ◌⊎◌, ◌↔◌, ℕ, ◌+◌, ◌<◌, ◌≤◌, Bool, true, false, if◌then◌else◌, ⊤, IsTrue, IsFalse, List, ◌++◌, length, take, replicate, slice_index, ℤ, pos, neg_ℤ, ◌≤ℤ◌, Result, Ok, Err, IsOk, IfOk, OnErr}
+use Rattle.std.specs.Prelude.{◌≡◌, ◌⊎◌, ◌↔◌, ℕ, ◌+◌, ◌-◌, ◌^◌, ◌<◌, ◌≤◌, Bool, true, false, if◌then◌else◌, ⊤, IsTrue, IsFalse, List, ◌++◌, length, take, replicate, slice_index, All, Option, Some, None, ℤ, pos, neg_ℤ, ◌≤ℤ◌, Result, Ok, Err, IsOk, IfOk, OnErr}
 use Rattle.std.specs.Fmt.{signed_decimal}
+use Rattle.std.specs.Char.{IsAsciiDigit}
+use Rattle.std.specs.Str.Parse.{AllDigits, digits_value}
 use Rattle.std.specs.declared.cmp.Ordering.TheVariants.{Equal}
 use Rattle.atoi_core.specs.Digit.{decimal_table, is_digit}
 use Rattle.atoi_core.specs.Run.{run_len, run, value}
-use Rattle.atoi_core.specs.Refusal.{Refusal, rank, input_of, refusal_cmp}
+use Rattle.atoi_core.specs.Refusal.{Refusal, empty, size, overflow, invalid64, invalid128, rank, input_of, refusal_cmp}
+use Rattle.atoi_core.specs.Magnitude.{Extent, whole, prefix, skipped_zeros, rule_of}
 use Rattle.atoi_core.specs.declared.error.AtoiSimdError.{AtoiSimdError}
-use Rattle.atoi_core.specs.Kind.{Kind}
+use Rattle.atoi_core.specs.Kind.{Kind, class_of, bound_of, limit_of}
 use Rattle.atoi_core.specs.Sign.{Sign, sign_of, number_of}
 use Rattle.atoi_core.specs.Answer.{typed_answer, typed_prefix_answer, whole_answer, prefix_answer, with_more, parse_answer, parse_prefix_answer}
 use Rattle.atoi_core.specs.Text.{IsText, is_minus, DigitsWrite, TextWrites, FrontWrites}
@@ -195,3 +198,57 @@ pub record ZerosChangeNothing (k : Kind) : Type 0 where
   pub prefix : (form : SignForm) → HasForm k form → (s : List ℕ) (count : ℕ)
       → 0 < run_len decimal_table (sign_in k form s).body
       → IsSameKind (with_more count (prefix_call k form true s)) (prefix_call k form true (with_zeros k form count s))
+
+-- decimal digits are std's, with std's value, and this is below ten to the count of the digits
+pub record DecimalDigits : Type 0 where
+  pub byte : (byte : ℕ) → IsTrue (is_digit decimal_table byte) ↔ IsAsciiDigit byte
+  pub to_std : (s : List ℕ) → All (λ byte. IsTrue (is_digit decimal_table byte)) s → AllDigits 10 s
+  pub from_std : (s : List ℕ) → AllDigits 10 s → All (λ byte. IsTrue (is_digit decimal_table byte)) s
+  pub value_is : (s : List ℕ) → AllDigits 10 s → value decimal_table s ≡ digits_value 10 s
+  pub below : (s : List ℕ) → value decimal_table s < 10 ^ length s
+
+-- more digits count than the limit allows, where there is one
+abbrev pub IsAbove : Option ℕ → ℕ → Type 0
+IsAbove None count = ⊥
+IsAbove (Some limit) count = limit < count
+
+-- the body has too many digits, those of zeros that are skipped apart: how many may count is by the
+-- type, by what is parsed and by the flag
+abbrev pub IsTooLong : Kind → Extent → (skip : Bool) → List ℕ → Type 0
+IsTooLong k extent skip body =
+    IsAbove (rule_of (class_of k) extent skip (limit_of k) 0 0).limit
+    (run_len decimal_table body - skipped_zeros decimal_table skip body)
+
+-- the body has digits at its front, and not too many
+pub record HasSomeDigits (k : Kind) (extent : Extent) (skip : Bool) (body : List ℕ) : Type 0 where
+  pub some : 0 < run_len decimal_table body
+  pub short : ¬ IsTooLong k extent skip body
+
+-- another byte stands after digits whose number is in range, at the place and after the number that
+-- the error tells
+pub record IsFollowed (k : Kind) (extent : Extent) (is_negative skip : Bool) (body : List ℕ) (number index : ℕ) : Type 0 where
+  pub begins : HasSomeDigits k extent skip body
+  pub in_range : value decimal_table (run decimal_table body) ≤ bound_of k is_negative
+  pub follows : run_len decimal_table body < length body
+  pub number_is : number ≡ value decimal_table (run decimal_table body)
+  pub index_is : index ≡ run_len decimal_table body
+
+-- what the body is like where an answer has that reason. The first that holds is answered: no digit
+-- stands at its front; its digits are too many; they write a number out of range; another byte
+-- stands after them
+abbrev pub Explains : Kind → Extent → (is_negative skip : Bool) → List ℕ → Refusal → Type 0
+Explains k extent is_negative skip body empty = run_len decimal_table body ≡ 0
+Explains k extent is_negative skip body (size count rest) = (0 < run_len decimal_table body) × IsTooLong k extent skip body
+Explains k extent is_negative skip body (overflow rest) =
+    HasSomeDigits k extent skip body × (bound_of k is_negative < value decimal_table (run decimal_table body))
+Explains k extent is_negative skip body (invalid64 number index input) = IsFollowed k extent is_negative skip body number index
+Explains k extent is_negative skip body (invalid128 number index input) = IsFollowed k extent is_negative skip body number index
+
+-- each error of an answer is explained by the body that the call reads; of a prefix no byte after
+-- the digits is an error
+pub record ErrorsInOrder (k : Kind) : Type 0 where
+  pub whole : (form : SignForm) (skip : Bool) (s : List ℕ) (reason : Refusal) → whole_call k form skip s ≡ Err reason
+      → Explains k whole (sign_in k form s).minus skip (sign_in k form s).body reason
+  pub prefix : (form : SignForm) (skip : Bool) (s : List ℕ) (reason : Refusal) → prefix_call k form skip s ≡ Err reason
+      → Explains k prefix (sign_in k form s).minus skip (sign_in k form s).body reason
+  pub never_followed : (form : SignForm) (skip : Bool) (s : List ℕ) (reason : Refusal) → prefix_call k form skip s ≡ Err reason → rank reason ≤ 2

@@ -1,7 +1,7 @@
 //! Laws of the answers: each function's contract says one, and calling it does nothing.
 //! They stand on the definitions and on `number`, and on no parse.
 ghost use Rattle.atoi_core.specs.Kind.{kind};
-ghost use Rattle.atoi_core.specs.Laws.{TextOfValue, AcceptedTexts, AcceptedNumbers, WholeResults, AcceptedFronts, PrefixResults, PrefixIsWhole, PrefixOfCut, PrefixStopsAtRest, RestChangesNothing, SkippingAgrees, OrderAndSuffix, ZerosChangeNothing};
+ghost use Rattle.atoi_core.specs.Laws.{TextOfValue, AcceptedTexts, AcceptedNumbers, WholeResults, AcceptedFronts, PrefixResults, DecimalDigits, ErrorsInOrder, PrefixIsWhole, PrefixOfCut, PrefixStopsAtRest, RestChangesNothing, SkippingAgrees, OrderAndSuffix, ZerosChangeNothing};
 
 use crate::number::Number;
 
@@ -80,6 +80,20 @@ pub fn order_and_suffix<T: Number>()
     ensures { OrderAndSuffix T.kind }
 {}
 
+/// Each error of an answer says what the body is like, and the first that holds is answered: it does
+/// not begin with a digit; too many of its digits count; they write a number out of range; another
+/// byte stands after them, at the place and after the number that the error tells. The last is no
+/// error of a prefix.
+pub fn errors_in_order<T: Number>()
+    ensures { ErrorsInOrder T.kind }
+{}
+
+/// The digits are those of std, `b'0'` to `b'9'`, and the value of digits is std's `digits_value 10`,
+/// which is below ten to the count of the digits.
+pub fn decimal_digits()
+    ensures { DecimalDigits }
+{}
+
 /// Where zeros are skipped, zeros put before a body that begins with a digit change neither an
 /// answer's kind nor its value, and a prefix's count grows by their number.
 pub fn zeros_change_nothing<T: Number>()
@@ -143,6 +157,8 @@ mod tests {
     #[test]
     fn the_law_of_errors_at_64_bits(rt: HostRuntime) {
         order_and_suffix::<i64>();
+        errors_in_order::<i64>();
+        decimal_digits();
         let number = b"09223372036854775808";
         assert_eq!(rt;
             whole(true, number),

@@ -3,9 +3,11 @@
 #![tactic(auto)]
 
 mod cents;
+mod json;
 mod settings;
 mod totals;
 
 pub use crate::cents::Cents;
+pub use crate::json::json_integer;
 pub use crate::settings::{number_and_rest, setting};
 pub use crate::totals::total;
