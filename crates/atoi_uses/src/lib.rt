@@ -3,11 +3,13 @@
 #![tactic(auto)]
 
 mod cents;
+mod dates;
 mod json;
 mod settings;
 mod totals;
 
 pub use crate::cents::Cents;
+pub use crate::dates::{Date, parse_date};
 pub use crate::json::json_integer;
 pub use crate::settings::{number_and_rest, setting};
 pub use crate::totals::total;
