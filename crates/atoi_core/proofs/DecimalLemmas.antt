@@ -36,7 +36,7 @@ skipping_agrees k form has s v h =
     whole_call-is k form true s ∙ whole_skipping k (sign_in k form s).minus (sign_in k form s).body v (sym (whole_call-is k form false s) ∙ h)
 
 -- a decimal digit, by its byte
-digit_is : (byte : ℕ) → 48 ≤ byte → byte ≤ 57 → decimal_table byte ≡ Some (byte - 48)
+pub digit_is : (byte : ℕ) → 48 ≤ byte → byte ≤ 57 → decimal_table byte ≡ Some (byte - 48)
 digit_is byte lo hi = rw (le-leb 48 byte lo, le-leb byte 57 hi) refl
 
 -- its worth is its distance from `0`
@@ -44,11 +44,11 @@ worth_is : (byte : ℕ) → 48 ≤ byte → byte ≤ 57 → worth decimal_table 
 worth_is byte lo hi = rw (digit_is byte lo hi) refl
 
 -- the number that digits write is std's
-own : IsNumeralModel (AllDigits 10) (value decimal_table)
+pub own : IsNumeralModel (AllDigits 10) (value decimal_table)
 own = numerals_by_weight (AllDigits 10) tells_digits (value decimal_table) (record { empty = refl; more = λ c cs h. rw (worth_is c h.0 h.1) refl })
 
 -- std's digits are ours
-run_of_digits : (ds : List ℕ) → AllDigits 10 ds → run_len decimal_table ds ≡ length ds
+pub run_of_digits : (ds : List ℕ) → AllDigits 10 ds → run_len decimal_table ds ≡ length ds
 run_of_digits [] h = refl
 run_of_digits (d ∷ ds) h =
     let r = digit_from_value d h.0 in
@@ -71,10 +71,10 @@ decimal_text n h =
     }
 
 -- the digits of a number in range are not too many, even where zeros count
-decimal_short : (k : Kind) → IsSized k → (minus : Bool) → (minus ≡ true → k.signed ≡ true) → (n : ℕ) → n ≤ bound_of k minus
+decimal_short : (k : Kind) → IsSized k → (minus : Bool) (n : ℕ) → n ≤ bound_of k minus
     → is_above (limit_at (class_of k) whole false (limit_of k)) (length (decimal n)) ≡ false
-decimal_short k sized minus h n le =
-    elim (bound-limit k sized minus h) [
+decimal_short k sized minus n le =
+    elim (bound-limit k sized minus) [
       | inl e ↦ rw e refl
       | inr lt ↦
           short_enough (class_of k) false (limit_of k) (length (decimal n))
@@ -90,15 +90,15 @@ decimal_short k sized minus h n le =
         cases false b = omega arith
 
 -- the decimal text of a magnitude in range is parsed to its number
-counting_text : (k : Kind) → IsSized k → (minus : Bool) → (minus ≡ true → k.signed ≡ true) → (n : ℕ) → n ≤ bound_of k minus
+counting_text : (k : Kind) → IsSized k → (minus : Bool) (n : ℕ) → n ≤ bound_of k minus
     → whole_answer decimal_table k minus false (decimal n) ≡ Ok (number_of minus n)
-counting_text k sized minus h n le =
+counting_text k sized minus n le =
     let text = decimal_text n (lt_of_le_of_lt le (bound_below-64 k sized minus)) in
     let is_run = run_all decimal_table (decimal n) text.all in
     let some : 0 < run_len decimal_table (decimal n) = omega (arith, text.all, text.some) in
     let count : counting_digits decimal_table false (decimal n) ≡ length (decimal n) = omega (arith, text.all) in
     let short : is_above (limit_at (class_of k) whole false (limit_of k)) (counting_digits decimal_table false (decimal n)) ≡ false =
-    rw count (decimal_short k sized minus h n le)
+    rw count (decimal_short k sized minus n le)
     in
     let in_range : value decimal_table (run decimal_table (decimal n)) ≤ bound_of k minus = rw (is_run, text.is) le in
     to_whole k minus false (decimal n) (is_whole k minus false (decimal n) some short in_range text.all)
@@ -106,10 +106,10 @@ counting_text k sized minus h n le =
     ∙ ap (λ m. Ok (number_of minus m)) text.is
 
 -- the same whether zeros are skipped or not
-magnitude_text : (k : Kind) → IsSized k → (minus : Bool) → (minus ≡ true → k.signed ≡ true) → (skip : Bool) (n : ℕ) → n ≤ bound_of k minus
+magnitude_text : (k : Kind) → IsSized k → (minus skip : Bool) (n : ℕ) → n ≤ bound_of k minus
     → whole_answer decimal_table k minus skip (decimal n) ≡ Ok (number_of minus n)
-magnitude_text k sized minus h true n le = whole_skipping k minus (decimal n) (number_of minus n) (counting_text k sized minus h n le)
-magnitude_text k sized minus h false n le = counting_text k sized minus h n le
+magnitude_text k sized minus true n le = whole_skipping k minus (decimal n) (number_of minus n) (counting_text k sized minus n le)
+magnitude_text k sized minus false n le = counting_text k sized minus n le
 
 -- a minus before the digits of a signed type is taken
 sign_of_minus : (signed plus : Bool) (digits : List ℕ) → signed ≡ true
@@ -128,8 +128,8 @@ pub text_of_value : (k : Kind) → IsSized k → TextOfValue k
 text_of_value k sized skip plus (pos n) low high =
     let text = decimal_text n (lt_of_le_of_lt (leb→le n k.greatest high.le) (bound_below-64 k sized false)) in
     ap (λ (g : Sign). whole_answer decimal_table k g.minus skip g.body) (sign_of_digits k.signed plus (decimal n) (omega (arith, text.all, text.some)))
-    ∙ magnitude_text k sized false (λ e. absurd (cc e)) skip n (leb→le n k.greatest high.le)
+    ∙ magnitude_text k sized false skip n (leb→le n k.greatest high.le)
 text_of_value k sized skip plus (negsuc n) low high =
     let within = negative_in_range k.signed k.greatest n low in
     ap (λ (g : Sign). whole_answer decimal_table k g.minus skip g.body) (sign_of_minus k.signed plus (decimal (suc n)) within.0)
-    ∙ magnitude_text k sized true (λ e. within.0) skip (suc n) (omega (arith, within.1))
+    ∙ magnitude_text k sized true skip (suc n) (omega (arith, within.1))

@@ -24,7 +24,11 @@ pub mod LimitLemmas
 pub mod TextLemmas
 pub mod DecimalLemmas
 pub mod PrefixLemmas
+pub mod FrontLemmas
+pub mod ResultLemmas
 pub mod SuffixLemmas
+pub mod ReasonLemmas
+pub mod DigitLemmas
 pub mod KindLemmas
 pub mod LoadedBytes
 pub mod WordWindows

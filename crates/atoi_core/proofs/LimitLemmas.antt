@@ -60,21 +60,21 @@ magnitude_below limit bits false true p q = q
 magnitude_below limit bits false false p q = omega arith
 
 -- the greatest magnitudes of 64 bits have 19 and 20 digits
-bound-64 : (signed minus : Bool) → (minus ≡ true → signed ≡ true) → cond minus (greatest_of 64 signed + 1) (greatest_of 64 signed) < 10 ^ cond signed 19 20
-bound-64 true true h = omega arith
-bound-64 true false h = omega arith
-bound-64 false true h = absurd (cc (h refl))
-bound-64 false false h = omega arith
+bound-64 : (signed minus : Bool) → cond minus (greatest_of 64 signed + 1) (greatest_of 64 signed) < 10 ^ cond signed 19 20
+bound-64 true true = omega arith
+bound-64 true false = omega arith
+bound-64 false true = omega arith
+bound-64 false false = omega arith
 
 -- the greatest magnitude of a wide type has no more digits than its limit
-pub bound-limit : (k : Kind) → IsSized k → (minus : Bool) → (minus ≡ true → k.signed ≡ true)
+pub bound-limit : (k : Kind) → IsSized k → (minus : Bool)
     → (class_of k ≡ narrow) ⊎ (bound_of k minus < 10 ^ limit_of k)
-bound-limit k sized minus h =
+bound-limit k sized minus =
     elim sized.bits [
       | inl e ↦ inl (rw e refl)
       | inr (inl e) ↦ inl (rw e refl)
       | inr (inr (inl e)) ↦ inl (rw e refl)
-      | inr (inr (inr (inl e))) ↦ inr (rw (sized.greatest, e) (bound-64 k.signed minus h))
+      | inr (inr (inr (inl e))) ↦ inr (rw (sized.greatest, e) (bound-64 k.signed minus))
       | inr (inr (inr (inr e))) ↦ inr (rw (sized.greatest, e) (magnitude_below 39 128 k.signed minus (omega arith) (omega arith)))
     ]
 
@@ -107,11 +107,11 @@ places-le table s limit h =
     ]
 
 -- where zeros are skipped, digits that write a number in range are not too many
-pub in_range_short : (table : Table) (k : Kind) → IsSized k → (minus : Bool) → (minus ≡ true → k.signed ≡ true) → (s : List ℕ)
+pub in_range_short : (table : Table) (k : Kind) → IsSized k → (minus : Bool) (s : List ℕ)
     → value table (run table s) ≤ bound_of k minus
     → is_above (limit_at (class_of k) whole true (limit_of k)) (counting_digits table true s) ≡ false
-in_range_short table k sized minus h s le =
-    elim (bound-limit k sized minus h) [
+in_range_short table k sized minus s le =
+    elim (bound-limit k sized minus) [
       | inl e ↦ rw e refl
       | inr lt ↦ short_enough (class_of k) true (limit_of k) _ (places-le table s (limit_of k) (lt_of_le_of_lt le lt))
     ]

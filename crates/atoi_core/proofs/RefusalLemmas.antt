@@ -29,6 +29,17 @@ first_some P false false true d p q r s hp hq hr hs reason h = let e : r ≡ rea
 first_some P false false false true p q r s hp hq hr hs reason h = let e : s ≡ reason = cc h in subst P e hs
 first_some P false false false false p q r s hp hq hr hs reason h = absurd (cc h)
 
+-- what holds of each reason where its test is the first that holds, holds of the first reason
+first_cases : (P : Refusal → Type 0) (a b c d : Bool) (p q r s : Refusal)
+    → (a ≡ true → P p) → (a ≡ false → b ≡ true → P q) → (a ≡ false → b ≡ false → c ≡ true → P r)
+    → (a ≡ false → b ≡ false → c ≡ false → d ≡ true → P s)
+    → (reason : Refusal) → first_of a b c d p q r s ≡ Some reason → P reason
+first_cases P true b c d p q r s hp hq hr hs reason h = let e : p ≡ reason = cc h in subst P e (hp refl)
+first_cases P false true c d p q r s hp hq hr hs reason h = let e : q ≡ reason = cc h in subst P e (hq refl refl)
+first_cases P false false true d p q r s hp hq hr hs reason h = let e : r ≡ reason = cc h in subst P e (hr refl refl refl)
+first_cases P false false false true p q r s hp hq hr hs reason h = let e : s ≡ reason = cc h in subst P e (hs refl refl refl refl)
+first_cases P false false false false p q r s hp hq hr hs reason h = absurd (cc h)
+
 -- the rank of the first reason is the first rank
 first_map : (a b c d : Bool) (p q r s : Refusal)
     → option_map rank (first_of a b c d p q r s) ≡ first_of a b c d (rank p) (rank q) (rank r) (rank s)
@@ -103,7 +114,7 @@ module _ (table : Table) (class : Class) (bound limit : ℕ) (extent : Extent) (
   over = overflow (drop rule.dropped body)
 
   -- a byte behind the digits
-  abbrev followed : Refusal
+  abbrev pub followed : Refusal
   followed = invalid class (value table (run table body)) (run_len table body) body
 
   -- the refusal is the first reason whose test holds
@@ -163,6 +174,16 @@ module _ (table : Table) (class : Class) (bound limit : ℕ) (extent : Extent) (
       (length body, sym (drop-length body)) (skipped_zeros table skip body, refl) (rule.dropped, refl)
       (0, input-invalid class _ _ body)
       reason (sym refusal-is ∙ h)
+
+  -- what holds of each reason where it is the first, holds of the reason
+  pub refusal-cases : (P : Refusal → Type 0)
+      → (is_empty ≡ true → P empty)
+      → (is_empty ≡ false → is_long ≡ true → P too_long)
+      → (is_empty ≡ false → is_long ≡ false → is_over ≡ true → P over)
+      → (is_empty ≡ false → is_long ≡ false → is_over ≡ false → is_followed ≡ true → P followed)
+      → (reason : Refusal) → refusal table class bound limit extent skip body ≡ Some reason → P reason
+  refusal-cases P p q r s reason h =
+      first_cases P is_empty is_long is_over is_followed empty too_long over followed p q r s reason (sym refusal-is ∙ h)
 
   -- the kind of a reason is told by the four tests
   pub refusal-rank : option_map rank (refusal table class bound limit extent skip body)

@@ -1,8 +1,8 @@
 -- Each slice in an error of an answer stands at the end of the slice that was parsed.
-use Rattle.std.proofs.Common.{◌≡◌, ℕ, ◌+◌, Bool, List, ◌++◌, take, drop, Result, Ok, Err, ℤ, sym, ap, ◌∙◌, take-append-drop, drop-drop}
+use Rattle.std.proofs.Common.{◌≡◌, ℕ, ◌+◌, Bool, List, ◌++◌, take, drop, Some, Result, Ok, Err, ℤ, sym, ap, ◌∙◌, take-append-drop, drop-drop}
 use Rattle.atoi_core.specs.Digit.{decimal_table}
 use Rattle.atoi_core.specs.Refusal.{Refusal, input_of}
-use Rattle.atoi_core.specs.Magnitude.{whole, prefix}
+use Rattle.atoi_core.specs.Magnitude.{whole, prefix, refusal}
 use Rattle.atoi_core.specs.Kind.{Kind, class_of, bound_of, limit_of}
 use Rattle.atoi_core.specs.Sign.{number_of}
 use Rattle.atoi_core.specs.Answer.{prefix_answer, with_more}
@@ -24,24 +24,35 @@ with_more_err : (more : ℕ) (r : Result (ℤ × ℕ) Refusal) (reason : Refusal
 with_more_err more (Ok found) reason h = absurd (cc h)
 with_more_err more (Err other) reason h = cc
 
+-- a whole call's error is what its body is refused for
+pub whole_refused : (k : Kind) (form : SignForm) (skip : Bool) (s : List ℕ) (reason : Refusal) → whole_call k form skip s ≡ Err reason
+    → refusal decimal_table (class_of k) (bound_of k (sign_in k form s).minus) (limit_of k) whole skip (sign_in k form s).body ≡ Some reason
+whole_refused k form skip s reason h =
+    map_unless_err (number_of (sign_in k form s).minus) _ _ reason (sym (whole_call-is k form skip s) ∙ h)
+
+-- so is a prefix call's
+pub prefix_refused : (k : Kind) (form : SignForm) (skip : Bool) (s : List ℕ) (reason : Refusal) → prefix_call k form skip s ≡ Err reason
+    → refusal decimal_table (class_of k) (bound_of k (sign_in k form s).minus) (limit_of k) prefix skip (sign_in k form s).body ≡ Some reason
+prefix_refused k form skip s reason h =
+    let g = sign_in k form s in
+    map_unless_err (counted_number g.minus) _ _ reason
+    (with_more_err g.taken (prefix_answer decimal_table k g.minus skip g.body) reason (sym (prefix_call-is k form skip s) ∙ h))
+
 -- the slice of a whole call's error stands at the end
 whole_suffix : (k : Kind) (form : SignForm) (skip : Bool) (s : List ℕ) (reason : Refusal)
     → whole_call k form skip s ≡ Err reason → IsSuffix (input_of reason) s
 whole_suffix k form skip s reason h =
     let g = sign_in k form s in
     suffix_of_body k form s (input_of reason)
-    (refusal-input decimal_table (class_of k) (bound_of k g.minus) (limit_of k) whole skip g.body reason
-    (map_unless_err (number_of g.minus) _ _ reason (sym (whole_call-is k form skip s) ∙ h)))
+    (refusal-input decimal_table (class_of k) (bound_of k g.minus) (limit_of k) whole skip g.body reason (whole_refused k form skip s reason h))
 
 -- so does that of a prefix call's
 prefix_suffix : (k : Kind) (form : SignForm) (skip : Bool) (s : List ℕ) (reason : Refusal)
     → prefix_call k form skip s ≡ Err reason → IsSuffix (input_of reason) s
 prefix_suffix k form skip s reason h =
     let g = sign_in k form s in
-    let refused = with_more_err g.taken (prefix_answer decimal_table k g.minus skip g.body) reason (sym (prefix_call-is k form skip s) ∙ h) in
     suffix_of_body k form s (input_of reason)
-    (refusal-input decimal_table (class_of k) (bound_of k g.minus) (limit_of k) prefix skip g.body reason
-    (map_unless_err (counted_number g.minus) _ _ reason refused))
+    (refusal-input decimal_table (class_of k) (bound_of k g.minus) (limit_of k) prefix skip g.body reason (prefix_refused k form skip s reason h))
 
 -- the law: the order of errors, and where their slices stand
 pub order_and_suffix : (k : Kind) → OrderAndSuffix k

@@ -1,15 +1,19 @@
 -- Laws of the answers. Each is a statement about the definitions alone, for every slice; nothing
 -- of how a parse works occurs in it.
-use Rattle.std.specs.Prelude.{◌≡◌, ◌⊎◌, ◌↔◌, ℕ, ◌+◌, ◌<◌, ◌≤◌, Bool, true, false, if◌then◌else◌, ⊤, IsFalse, List, ◌++◌, length, take, replicate, slice_index, ℤ, pos, neg_ℤ, ◌≤ℤ◌, Result, Ok, Err, IsOk}
+use Rattle.std.specs.Prelude.{◌≡◌, ◌⊎◌, ◌↔◌, ℕ, ◌+◌, ◌-◌, ◌^◌, ◌<◌, ◌≤◌, Bool, true, false, if◌then◌else◌, ⊤, IsTrue, IsFalse, List, ◌++◌, length, take, replicate, slice_index, All, Option, Some, None, ℤ, pos, neg_ℤ, ◌≤ℤ◌, Result, Ok, Err, IsOk, IfOk, OnErr}
 use Rattle.std.specs.Fmt.{signed_decimal}
+use Rattle.std.specs.Char.{IsAsciiDigit}
+use Rattle.std.specs.Str.Parse.{AllDigits, digits_value}
 use Rattle.std.specs.declared.cmp.Ordering.TheVariants.{Equal}
 use Rattle.atoi_core.specs.Digit.{decimal_table, is_digit}
 use Rattle.atoi_core.specs.Run.{run_len, run, value}
-use Rattle.atoi_core.specs.Refusal.{Refusal, rank, input_of, refusal_cmp}
-use Rattle.atoi_core.specs.Kind.{Kind}
+use Rattle.atoi_core.specs.Refusal.{Refusal, empty, size, overflow, invalid64, invalid128, rank, input_of, refusal_cmp}
+use Rattle.atoi_core.specs.Magnitude.{Extent, whole, prefix, skipped_zeros, rule_of}
+use Rattle.atoi_core.specs.declared.error.AtoiSimdError.{AtoiSimdError}
+use Rattle.atoi_core.specs.Kind.{Kind, class_of, bound_of, limit_of}
 use Rattle.atoi_core.specs.Sign.{Sign, sign_of, number_of}
-use Rattle.atoi_core.specs.Answer.{whole_answer, prefix_answer, with_more, parse_answer, parse_prefix_answer}
-use Rattle.atoi_core.specs.Text.{IsText, is_minus}
+use Rattle.atoi_core.specs.Answer.{typed_answer, typed_prefix_answer, whole_answer, prefix_answer, with_more, parse_answer, parse_prefix_answer}
+use Rattle.atoi_core.specs.Text.{IsText, is_minus, DigitsWrite, TextWrites, FrontWrites}
 
 -- how a call comes by its sign: it looks for one at the front of its slice, for a plus only where
 -- that is asked for; or it looks for none, and the number is positive, or negative
@@ -41,6 +45,12 @@ abbrev pub prefix_call : Kind → SignForm → (skip : Bool) → List ℕ → Re
 prefix_call k (looked_for plus) skip s = parse_prefix_answer k skip plus s
 prefix_call k positive skip s = prefix_answer decimal_table k false skip s
 prefix_call k negative skip s = prefix_answer decimal_table k true skip s
+
+-- what it means for a call of that form that bytes write a number
+abbrev pub Writes : Kind → SignForm → List ℕ → ℤ → Type 0
+Writes k (looked_for plus) = TextWrites k plus
+Writes k positive = DigitsWrite k false
+Writes k negative = DigitsWrite k true
 
 -- the least number of a type: 0, or where it is signed one more below 0 than the greatest is above
 abbrev pub least_of : Kind → ℤ
@@ -89,6 +99,52 @@ pub record AcceptedTexts (k : Kind) : Type 0 where
   pub accepted : (s : List ℕ) → IsOk (parse_answer k true true s) ↔ IsText k s
   pub number : (s : List ℕ) (text : IsText k s)
       → parse_answer k true true s ≡ Ok (number_of (is_minus text.sign) (value decimal_table text.digits))
+
+-- a whole parse answers a number only where its slice writes that number; where zeros are skipped, it
+-- answers each number that its slice writes
+pub record AcceptedNumbers (k : Kind) : Type 0 where
+  pub written : (form : SignForm) (skip : Bool) (s : List ℕ) (number : ℤ)
+      → whole_call k form skip s ≡ Ok number → Writes k form s number
+  pub accepted : (form : SignForm) (s : List ℕ) (number : ℤ)
+      → Writes k form s number → whole_call k form true s ≡ Ok number
+
+-- so it is with the results of a type, of which `number` says what each value means
+pub record WholeResults {T : Type 0} (k : Kind) (number : T → ℤ) (skip : Bool) : Type 0 where
+  pub text : (plus : Bool) (s : List ℕ) (result : Result T AtoiSimdError)
+      → typed_answer number result ≡ parse_answer k skip plus s
+      → IfOk result (λ value. TextWrites k plus s (number value))
+  pub no_text : (plus : Bool) (s : List ℕ) (result : Result T AtoiSimdError)
+      → typed_answer number result ≡ parse_answer k skip plus s
+      → IsTrue skip → OnErr result ((any : ℤ) → ¬ TextWrites k plus s any)
+  pub digits : (is_negative : Bool) (s : List ℕ) (result : Result T AtoiSimdError)
+      → typed_answer number result ≡ whole_answer decimal_table k is_negative skip s
+      → IfOk result (λ value. DigitsWrite k is_negative s (number value))
+  pub no_digits : (is_negative : Bool) (s : List ℕ) (result : Result T AtoiSimdError)
+      → typed_answer number result ≡ whole_answer decimal_table k is_negative skip s
+      → IsTrue skip → OnErr result ((any : ℤ) → ¬ DigitsWrite k is_negative s any)
+
+-- a prefix answers a number and a count only where that front of its slice writes the number, and no
+-- digit stands after it; where zeros are skipped, it answers each such front
+pub record AcceptedFronts (k : Kind) : Type 0 where
+  pub written : (form : SignForm) (skip : Bool) (s : List ℕ) (number : ℤ) (count : ℕ)
+      → prefix_call k form skip s ≡ Ok (number, count) → FrontWrites (Writes k form) s number count
+  pub accepted : (form : SignForm) (s : List ℕ) (number : ℤ) (count : ℕ)
+      → FrontWrites (Writes k form) s number count → prefix_call k form true s ≡ Ok (number, count)
+
+-- so it is with the results of a type
+pub record PrefixResults {T : Type 0} (k : Kind) (number : T → ℤ) (skip : Bool) : Type 0 where
+  pub text : (plus : Bool) (s : List ℕ) (result : Result (T × ℕ) AtoiSimdError)
+      → typed_prefix_answer number result ≡ parse_prefix_answer k skip plus s
+      → IfOk result (λ found. FrontWrites (TextWrites k plus) s (number found.0) found.1)
+  pub no_text : (plus : Bool) (s : List ℕ) (result : Result (T × ℕ) AtoiSimdError)
+      → typed_prefix_answer number result ≡ parse_prefix_answer k skip plus s
+      → IsTrue skip → OnErr result ((any : ℤ) (count : ℕ) → ¬ FrontWrites (TextWrites k plus) s any count)
+  pub digits : (is_negative : Bool) (s : List ℕ) (result : Result (T × ℕ) AtoiSimdError)
+      → typed_prefix_answer number result ≡ prefix_answer decimal_table k is_negative skip s
+      → IfOk result (λ found. FrontWrites (DigitsWrite k is_negative) s (number found.0) found.1)
+  pub no_digits : (is_negative : Bool) (s : List ℕ) (result : Result (T × ℕ) AtoiSimdError)
+      → typed_prefix_answer number result ≡ prefix_answer decimal_table k is_negative skip s
+      → IsTrue skip → OnErr result ((any : ℤ) (count : ℕ) → ¬ FrontWrites (DigitsWrite k is_negative) s any count)
 
 -- a prefix that is read to the slice's end is a whole parse with the same value; and where a prefix
 -- may have as many digits, the other way round
@@ -142,3 +198,57 @@ pub record ZerosChangeNothing (k : Kind) : Type 0 where
   pub prefix : (form : SignForm) → HasForm k form → (s : List ℕ) (count : ℕ)
       → 0 < run_len decimal_table (sign_in k form s).body
       → IsSameKind (with_more count (prefix_call k form true s)) (prefix_call k form true (with_zeros k form count s))
+
+-- decimal digits are std's, with std's value, and this is below ten to the count of the digits
+pub record DecimalDigits : Type 0 where
+  pub byte : (byte : ℕ) → IsTrue (is_digit decimal_table byte) ↔ IsAsciiDigit byte
+  pub to_std : (s : List ℕ) → All (λ byte. IsTrue (is_digit decimal_table byte)) s → AllDigits 10 s
+  pub from_std : (s : List ℕ) → AllDigits 10 s → All (λ byte. IsTrue (is_digit decimal_table byte)) s
+  pub value_is : (s : List ℕ) → AllDigits 10 s → value decimal_table s ≡ digits_value 10 s
+  pub below : (s : List ℕ) → value decimal_table s < 10 ^ length s
+
+-- more digits count than the limit allows, where there is one
+abbrev pub IsAbove : Option ℕ → ℕ → Type 0
+IsAbove None count = ⊥
+IsAbove (Some limit) count = limit < count
+
+-- the body has too many digits, those of zeros that are skipped apart: how many may count is by the
+-- type, by what is parsed and by the flag
+abbrev pub IsTooLong : Kind → Extent → (skip : Bool) → List ℕ → Type 0
+IsTooLong k extent skip body =
+    IsAbove (rule_of (class_of k) extent skip (limit_of k) 0 0).limit
+    (run_len decimal_table body - skipped_zeros decimal_table skip body)
+
+-- the body has digits at its front, and not too many
+pub record HasSomeDigits (k : Kind) (extent : Extent) (skip : Bool) (body : List ℕ) : Type 0 where
+  pub some : 0 < run_len decimal_table body
+  pub short : ¬ IsTooLong k extent skip body
+
+-- another byte stands after digits whose number is in range, at the place and after the number that
+-- the error tells
+pub record IsFollowed (k : Kind) (extent : Extent) (is_negative skip : Bool) (body : List ℕ) (number index : ℕ) : Type 0 where
+  pub begins : HasSomeDigits k extent skip body
+  pub in_range : value decimal_table (run decimal_table body) ≤ bound_of k is_negative
+  pub follows : run_len decimal_table body < length body
+  pub number_is : number ≡ value decimal_table (run decimal_table body)
+  pub index_is : index ≡ run_len decimal_table body
+
+-- what the body is like where an answer has that reason. The first that holds is answered: no digit
+-- stands at its front; its digits are too many; they write a number out of range; another byte
+-- stands after them
+abbrev pub Explains : Kind → Extent → (is_negative skip : Bool) → List ℕ → Refusal → Type 0
+Explains k extent is_negative skip body empty = run_len decimal_table body ≡ 0
+Explains k extent is_negative skip body (size count rest) = (0 < run_len decimal_table body) × IsTooLong k extent skip body
+Explains k extent is_negative skip body (overflow rest) =
+    HasSomeDigits k extent skip body × (bound_of k is_negative < value decimal_table (run decimal_table body))
+Explains k extent is_negative skip body (invalid64 number index input) = IsFollowed k extent is_negative skip body number index
+Explains k extent is_negative skip body (invalid128 number index input) = IsFollowed k extent is_negative skip body number index
+
+-- each error of an answer is explained by the body that the call reads; of a prefix no byte after
+-- the digits is an error
+pub record ErrorsInOrder (k : Kind) : Type 0 where
+  pub whole : (form : SignForm) (skip : Bool) (s : List ℕ) (reason : Refusal) → whole_call k form skip s ≡ Err reason
+      → Explains k whole (sign_in k form s).minus skip (sign_in k form s).body reason
+  pub prefix : (form : SignForm) (skip : Bool) (s : List ℕ) (reason : Refusal) → prefix_call k form skip s ≡ Err reason
+      → Explains k prefix (sign_in k form s).minus skip (sign_in k form s).body reason
+  pub never_followed : (form : SignForm) (skip : Bool) (s : List ℕ) (reason : Refusal) → prefix_call k form skip s ≡ Err reason → rank reason ≤ 2

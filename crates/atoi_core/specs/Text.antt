@@ -1,9 +1,11 @@
--- The texts of the numbers of an integer type.
-use Rattle.std.specs.Prelude.{◌≡◌, ℕ, ◌<◌, ◌≤◌, Bool, true, false, List, [], ◌∷◌, ◌++◌, length, All, IsTrue}
+-- The texts of the numbers of an integer type, and what it means that bytes write a number.
+use Rattle.std.specs.Prelude.{◌≡◌, ℕ, ◌<◌, ◌≤◌, Bool, true, false, List, [], ◌∷◌, ◌++◌, length, take, drop, All, IsTrue, ℤ}
+use Rattle.std.specs.Char.{IsAsciiDigit}
+use Rattle.std.specs.Str.Parse.{IsNumeral, digits_value}
 use Rattle.atoi_core.specs.Digit.{decimal_table, is_digit}
 use Rattle.atoi_core.specs.Run.{value}
 use Rattle.atoi_core.specs.Kind.{Kind, bound_of}
-use Rattle.atoi_core.specs.Sign.{plus_sign, minus_sign}
+use Rattle.atoi_core.specs.Sign.{plus_sign, minus_sign, number_of}
 
 -- the sign that may stand before the digits
 pub data SignMark : Type 0 where
@@ -22,6 +24,11 @@ is_minus no_sign = false
 is_minus plus = false
 is_minus minus = true
 
+abbrev pub is_plus : SignMark → Bool
+is_plus no_sign = false
+is_plus plus = true
+is_plus minus = false
+
 -- s is a text of the type: an optional sign, a minus only where the type is signed, then one or
 -- more digits whose value is in range, and nothing behind them
 pub record IsText (k : Kind) (s : List ℕ) : Type 0 where
@@ -32,3 +39,33 @@ pub record IsText (k : Kind) (s : List ℕ) : Type 0 where
   pub some : 0 < length digits
   pub all : All (λ byte. IsTrue (is_digit decimal_table byte)) digits
   pub in_range : value decimal_table digits ≤ bound_of k (is_minus sign)
+
+-- the bytes are decimal digits alone, one or more, and write the number: it is their value, with a
+-- minus or without, in the range of the type. The words on digits are std's
+pub record DigitsWrite (k : Kind) (is_negative : Bool) (digits : List ℕ) (number : ℤ) : Type 0 where
+  pub numeral : IsNumeral 10 digits
+  pub in_range : digits_value 10 digits ≤ bound_of k is_negative
+  pub value_is : number ≡ number_of is_negative (digits_value 10 digits)
+
+-- the bytes are an optional sign and digits that write the number with that sign: a minus only where
+-- the type is signed, a plus only where that is asked for
+pub record TextWrites (k : Kind) (takes_plus : Bool) (s : List ℕ) (number : ℤ) : Type 0 where
+  pub sign : SignMark
+  pub digits : List ℕ
+  pub parts : s ≡ sign_bytes sign ++ digits
+  pub signed : is_minus sign ≡ true → k.signed ≡ true
+  pub plus_taken : is_plus sign ≡ true → takes_plus ≡ true
+  pub written : DigitsWrite k (is_minus sign) digits number
+
+-- a decimal digit stands at the front
+abbrev pub BeginsWithDigit : List ℕ → Type 0
+BeginsWithDigit [] = ⊥
+BeginsWithDigit (byte ∷ bytes) = IsAsciiDigit byte
+
+-- the first `count` bytes of s write the number, in the way that `Writes` says, and no digit stands
+-- after them
+pub record FrontWrites (Writes : List ℕ → ℤ → Type 0) (s : List ℕ) (number : ℤ) (count : ℕ) : Type 0 where
+  pub front : Writes (take count s) number
+  pub some : 0 < count
+  pub within : count ≤ length s
+  pub ends : ¬ BeginsWithDigit (drop count s)

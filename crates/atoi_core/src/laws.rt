@@ -1,7 +1,7 @@
 //! Laws of the answers: each function's contract says one, and calling it does nothing.
 //! They stand on the definitions and on `number`, and on no parse.
 ghost use Rattle.atoi_core.specs.Kind.{kind};
-ghost use Rattle.atoi_core.specs.Laws.{TextOfValue, AcceptedTexts, PrefixIsWhole, PrefixOfCut, PrefixStopsAtRest, RestChangesNothing, SkippingAgrees, OrderAndSuffix, ZerosChangeNothing};
+ghost use Rattle.atoi_core.specs.Laws.{TextOfValue, AcceptedTexts, AcceptedNumbers, WholeResults, AcceptedFronts, PrefixResults, DecimalDigits, ErrorsInOrder, PrefixIsWhole, PrefixOfCut, PrefixStopsAtRest, RestChangesNothing, SkippingAgrees, OrderAndSuffix, ZerosChangeNothing};
 
 use crate::number::Number;
 
@@ -16,6 +16,32 @@ pub fn text_of_value<T: Number>()
 /// the type's range. The answer is the text's number.
 pub fn accepted_texts<T: Number>()
     ensures { AcceptedTexts T.kind }
+{}
+
+/// A whole parse answers `Ok` only where its slice writes that number: digits alone, one or more,
+/// after a sign where the call takes one, with the value in the type's range. Where zeros are
+/// skipped, it answers every number that its slice writes.
+pub fn accepted_numbers<T: Number>()
+    ensures { AcceptedNumbers T.kind }
+{}
+
+/// A prefix answers `Ok` with a number and a count only where so many bytes at the front of its
+/// slice write that number, and no digit stands after them. Where zeros are skipped, it answers
+/// every such front.
+pub fn accepted_fronts<T: Number>()
+    ensures { AcceptedFronts T.kind }
+{}
+
+/// A result of the type that is `Ok` where a whole parse answers so is a number that the slice
+/// writes; one that is an error, where zeros are skipped, says that the slice writes none.
+pub fn whole_results<T: Number, const SKIP_ZEROES: bool>()
+    ensures { WholeResults T.kind T.number SKIP_ZEROES }
+{}
+
+/// The same of a result with a count, where a prefix answers so: the front of so many bytes writes
+/// the number, and no digit stands after it; or no front writes a number.
+pub fn prefix_results<T: Number, const SKIP_ZEROES: bool>()
+    ensures { PrefixResults T.kind T.number SKIP_ZEROES }
 {}
 
 /// A prefix that succeeds with the slice's length is a whole parse that succeeds with the same
@@ -54,6 +80,20 @@ pub fn order_and_suffix<T: Number>()
     ensures { OrderAndSuffix T.kind }
 {}
 
+/// Each error of an answer says what the body is like, and the first that holds is answered: it does
+/// not begin with a digit; too many of its digits count; they write a number out of range; another
+/// byte stands after them, at the place and after the number that the error tells. The last is no
+/// error of a prefix.
+pub fn errors_in_order<T: Number>()
+    ensures { ErrorsInOrder T.kind }
+{}
+
+/// The digits are those of std, `b'0'` to `b'9'`, and the value of digits is std's `digits_value 10`,
+/// which is below ten to the count of the digits.
+pub fn decimal_digits()
+    ensures { DecimalDigits }
+{}
+
 /// Where zeros are skipped, zeros put before a body that begins with a digit change neither an
 /// answer's kind nor its value, and a prefix's count grows by their number.
 pub fn zeros_change_nothing<T: Number>()
@@ -89,6 +129,10 @@ mod tests {
         assert_eq!(rt; whole(true, b""), Err(AtoiSimdError::Empty));
         skipping_agrees::<i64>();
         assert_eq!(rt; whole(false, b"0007"), Ok(7));
+        accepted_numbers::<i64>();
+        whole_results::<i64, true>();
+        let number = b"00009223372036854775807";
+        assert_eq!(rt; whole(true, number), Ok(i64::MAX));
     }
 
     #[test]
@@ -102,11 +146,19 @@ mod tests {
         assert_eq!(rt; prefix(false, b"7/"), Ok((7, 1)));
         zeros_change_nothing::<i64>();
         assert_eq!(rt; prefix(true, b"00000007"), Ok((7, 8)));
+        accepted_fronts::<i64>();
+        prefix_results::<i64, true>();
+        assert_eq!(rt;
+            prefix(true, b"00009223372036854775807,1"),
+            Ok((i64::MAX, 23))
+        );
     }
 
     #[test]
     fn the_law_of_errors_at_64_bits(rt: HostRuntime) {
         order_and_suffix::<i64>();
+        errors_in_order::<i64>();
+        decimal_digits();
         let number = b"09223372036854775808";
         assert_eq!(rt;
             whole(true, number),

@@ -1,14 +1,14 @@
 //! The ten functions. Each hands its const flags to the trait of its type.
-//! It stands on the three traits, and on the law of the accepted texts of `atoi_core`.
-ghost use Rattle.std.specs.Prelude.{◌≡◌, ◌≤◌, ◌↔◌, true, false, IsTrue, IsOk, IfOk, length};
+//! It stands on the three traits, and on the laws of `atoi_core` on accepted texts and on results.
+ghost use Rattle.std.specs.Prelude.{◌≡◌, ◌≤◌, ◌↔◌, ℕ, ℤ, true, false, IsTrue, IsOk, IfOk, OnErr, length};
 ghost use Rattle.atoi_core.specs.Answer.{typed_answer, typed_prefix_answer, whole_answer, prefix_answer, parse_answer, parse_prefix_answer};
 ghost use Rattle.atoi_core.specs.Digit.{decimal_table};
-ghost use Rattle.atoi_core.specs.Text.{IsText};
+ghost use Rattle.atoi_core.specs.Text.{IsText, DigitsWrite, TextWrites, FrontWrites};
 
 use crate::any_sign::Parse;
 use crate::negative::ParseNeg;
 use atoi_core::AtoiSimdError;
-use atoi_core::laws::accepted_texts;
+use atoi_core::laws::{accepted_texts, prefix_results, whole_results};
 
 /// Parses the whole of `s`: at most one sign, then digits to the end.
 ///
@@ -44,9 +44,13 @@ pub fn parse<T: Parse, const SKIP_ZEROES: bool, const SKIP_PLUS: bool>(
         ≡ parse_answer T.kind SKIP_ZEROES SKIP_PLUS s.now }
     ensures texts { IsTrue SKIP_ZEROES → IsTrue SKIP_PLUS
         → (IsOk result ↔ IsText T.kind s.now) }
+    ensures number { IfOk result (λ number. TextWrites T.kind SKIP_PLUS s.now (T.number number)) }
+    ensures refused { IsTrue SKIP_ZEROES → OnErr result ((number : ℤ)
+        → ¬ TextWrites T.kind SKIP_PLUS s.now number) }
 {
-    // The law that `texts` stands on. The call does nothing.
+    // The laws that the clauses rest on. The calls do nothing.
     accepted_texts::<T>();
+    whole_results::<T, SKIP_ZEROES>();
     T::atoi_simd_parse(s, SKIP_ZEROES, SKIP_PLUS)
 }
 
@@ -72,7 +76,12 @@ pub fn parse<T: Parse, const SKIP_ZEROES: bool, const SKIP_PLUS: bool>(
 pub fn parse_pos<T: Parse, const SKIP_ZEROES: bool>(s: &[u8]) -> Result<T, AtoiSimdError<'_>>
     ensures answer { typed_answer T.number result
         ≡ whole_answer decimal_table T.kind false SKIP_ZEROES s.now }
+    ensures number { IfOk result (λ number. DigitsWrite T.kind false s.now (T.number number)) }
+    ensures refused { IsTrue SKIP_ZEROES → OnErr result ((number : ℤ)
+        → ¬ DigitsWrite T.kind false s.now number) }
 {
+    // The law that `number` and `refused` rest on. The call does nothing.
+    whole_results::<T, SKIP_ZEROES>();
     T::atoi_simd_parse_pos(s, SKIP_ZEROES)
 }
 
@@ -100,7 +109,12 @@ pub fn parse_pos<T: Parse, const SKIP_ZEROES: bool>(s: &[u8]) -> Result<T, AtoiS
 pub fn parse_neg<T: ParseNeg, const SKIP_ZEROES: bool>(s: &[u8]) -> Result<T, AtoiSimdError<'_>>
     ensures answer { typed_answer T.number result
         ≡ whole_answer decimal_table T.kind true SKIP_ZEROES s.now }
+    ensures number { IfOk result (λ number. DigitsWrite T.kind true s.now (T.number number)) }
+    ensures refused { IsTrue SKIP_ZEROES → OnErr result ((number : ℤ)
+        → ¬ DigitsWrite T.kind true s.now number) }
 {
+    // The law that `number` and `refused` rest on. The call does nothing.
+    whole_results::<T, SKIP_ZEROES>();
     T::atoi_simd_parse_neg(s, SKIP_ZEROES)
 }
 
@@ -133,7 +147,13 @@ pub fn parse_prefix<T: Parse, const SKIP_ZEROES: bool, const SKIP_PLUS: bool>(
     ensures answer { typed_prefix_answer T.number result
         ≡ parse_prefix_answer T.kind SKIP_ZEROES SKIP_PLUS s.now }
     ensures within { IfOk result (λ found. found.1 ≤ length s.now) }
+    ensures front { IfOk result (λ found.
+        FrontWrites (TextWrites T.kind SKIP_PLUS) s.now (T.number found.0) found.1) }
+    ensures refused { IsTrue SKIP_ZEROES → OnErr result ((number : ℤ) (count : ℕ)
+        → ¬ FrontWrites (TextWrites T.kind SKIP_PLUS) s.now number count) }
 {
+    // The law that `front` and `refused` rest on. The call does nothing.
+    prefix_results::<T, SKIP_ZEROES>();
     T::atoi_simd_parse_prefix(s, SKIP_ZEROES, SKIP_PLUS)
 }
 
@@ -162,7 +182,13 @@ pub fn parse_prefix_pos<T: Parse, const SKIP_ZEROES: bool>(
     ensures answer { typed_prefix_answer T.number result
         ≡ prefix_answer decimal_table T.kind false SKIP_ZEROES s.now }
     ensures within { IfOk result (λ found. found.1 ≤ length s.now) }
+    ensures front { IfOk result (λ found.
+        FrontWrites (DigitsWrite T.kind false) s.now (T.number found.0) found.1) }
+    ensures refused { IsTrue SKIP_ZEROES → OnErr result ((number : ℤ) (count : ℕ)
+        → ¬ FrontWrites (DigitsWrite T.kind false) s.now number count) }
 {
+    // The law that `front` and `refused` rest on. The call does nothing.
+    prefix_results::<T, SKIP_ZEROES>();
     T::atoi_simd_parse_prefix_pos(s, SKIP_ZEROES)
 }
 
@@ -192,7 +218,13 @@ pub fn parse_prefix_neg<T: ParseNeg, const SKIP_ZEROES: bool>(
     ensures answer { typed_prefix_answer T.number result
         ≡ prefix_answer decimal_table T.kind true SKIP_ZEROES s.now }
     ensures within { IfOk result (λ found. found.1 ≤ length s.now) }
+    ensures front { IfOk result (λ found.
+        FrontWrites (DigitsWrite T.kind true) s.now (T.number found.0) found.1) }
+    ensures refused { IsTrue SKIP_ZEROES → OnErr result ((number : ℤ) (count : ℕ)
+        → ¬ FrontWrites (DigitsWrite T.kind true) s.now number count) }
 {
+    // The law that `front` and `refused` rest on. The call does nothing.
+    prefix_results::<T, SKIP_ZEROES>();
     T::atoi_simd_parse_prefix_neg(s, SKIP_ZEROES)
 }
 
@@ -203,6 +235,8 @@ pub fn parse_prefix_neg<T: ParseNeg, const SKIP_ZEROES: bool>(
 pub fn parse_skipped<T: Parse>(s: &[u8]) -> Result<T, AtoiSimdError<'_>>
     ensures answer { typed_answer T.number result ≡ parse_answer T.kind true true s.now }
     ensures texts { IsOk result ↔ IsText T.kind s.now }
+    ensures number { IfOk result (λ number. TextWrites T.kind true s.now (T.number number)) }
+    ensures refused { OnErr result ((number : ℤ) → ¬ TextWrites T.kind true s.now number) }
 {
     parse::<T, true, true>(s)
 }
@@ -215,6 +249,8 @@ pub fn parse_any<T: Parse>(s: &[u8]) -> Result<(T, usize), AtoiSimdError<'_>>
     ensures answer { typed_prefix_answer T.number result
         ≡ parse_prefix_answer T.kind false false s.now }
     ensures within { IfOk result (λ found. found.1 ≤ length s.now) }
+    ensures front { IfOk result (λ found.
+        FrontWrites (TextWrites T.kind false) s.now (T.number found.0) found.1) }
 {
     parse_prefix::<T, false, false>(s)
 }
@@ -227,6 +263,8 @@ pub fn parse_any_pos<T: Parse>(s: &[u8]) -> Result<(T, usize), AtoiSimdError<'_>
     ensures answer { typed_prefix_answer T.number result
         ≡ prefix_answer decimal_table T.kind false false s.now }
     ensures within { IfOk result (λ found. found.1 ≤ length s.now) }
+    ensures front { IfOk result (λ found.
+        FrontWrites (DigitsWrite T.kind false) s.now (T.number found.0) found.1) }
 {
     parse_prefix_pos::<T, false>(s)
 }
@@ -239,6 +277,8 @@ pub fn parse_any_neg<T: ParseNeg>(s: &[u8]) -> Result<(T, usize), AtoiSimdError<
     ensures answer { typed_prefix_answer T.number result
         ≡ prefix_answer decimal_table T.kind true false s.now }
     ensures within { IfOk result (λ found. found.1 ≤ length s.now) }
+    ensures front { IfOk result (λ found.
+        FrontWrites (DigitsWrite T.kind true) s.now (T.number found.0) found.1) }
 {
     parse_prefix_neg::<T, false>(s)
 }

@@ -19,5 +19,5 @@ pub use crate::functions::{
     parse_prefix_neg, parse_prefix_pos, parse_skipped,
 };
 pub use crate::negative::ParseNeg;
-pub use atoi_core::AtoiSimdError;
+pub use atoi_core::{AtoiSimdError, Number, Signed, laws};
 pub use atoi_lanes as lanes;

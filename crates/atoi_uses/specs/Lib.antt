@@ -1,3 +1,5 @@
 pub mod Commands
 pub mod LogLines
 pub mod OwnEngine
+pub mod Json
+pub mod Dates

@@ -4,6 +4,8 @@
 
 mod cents;
 mod commands;
+mod dates;
+mod json;
 mod log_lines;
 mod own_engine;
 mod settings;
@@ -11,6 +13,8 @@ mod totals;
 
 pub use crate::cents::Cents;
 pub use crate::commands::{Command, CommandError, Word, read_command};
+pub use crate::dates::{Date, parse_date};
+pub use crate::json::json_integer;
 pub use crate::log_lines::{LogError, columns_total};
 pub use crate::own_engine::{Ebcdic, amount};
 pub use crate::settings::{number_and_rest, setting};

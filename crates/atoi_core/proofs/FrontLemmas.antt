@@ -1,0 +1,116 @@
+-- The fronts that write a number are exactly what a prefix parse finds.
+use Rattle.std.proofs.Common.{◌≡◌, ℕ, ◌+◌, ◌<◌, ◌≤◌, Bool, true, false, IsFalse, List, [], ◌∷◌, ◌++◌, length, take, drop, get_or, ℤ, Ok, refl, sym, ap, ◌∙◌, subst, arith, inl, inr, eq-eqb, get_or-drop, length-drop, append_assoc, length-append}
+use Rattle.std.proofs.Math.Seq.{take-append_seam}
+use Rattle.std.proofs.lemmas.Bool.{cases_Bool}
+use Rattle.std.proofs.lemmas.List.{length-take-le, take-append-drop}
+use Rattle.std.proofs.lemmas.List.Folds.{prefix_len-append}
+use Rattle.std.specs.Str.Parse.{AllDigits}
+use Rattle.atoi_core.specs.Digit.{decimal_table, is_digit}
+use Rattle.atoi_core.specs.Run.{run_len, run, value}
+use Rattle.atoi_core.specs.Kind.{Kind, IsSized, bound_of, limit_of}
+use Rattle.atoi_core.specs.Sign.{Sign, sign_of}
+use Rattle.atoi_core.specs.Text.{is_minus, sign_bytes, DigitsWrite, TextWrites, BeginsWithDigit, FrontWrites}
+use Rattle.atoi_core.specs.Laws.{SignForm, looked_for, positive, negative, prefix_call, Writes, AcceptedFronts}
+use Rattle.atoi_core.proofs.SignLemmas.{digit_in_range}
+use Rattle.atoi_core.proofs.CallLemmas.{IsFound, ok_prefix}
+use Rattle.atoi_core.proofs.LimitLemmas.{in_range_short, limit_of_prefix}
+use Rattle.atoi_core.proofs.DecimalLemmas.{digit_is, own, run_of_digits}
+use Rattle.atoi_core.proofs.PrefixLemmas.{stops_at_rest, whole_of_prefix, found_in_cut}
+use Rattle.atoi_core.proofs.TextLemmas.{sign_of_text, accepted_numbers}
+
+-- no run begins where no digit stands
+stops : (rest : List ℕ) → ¬ BeginsWithDigit rest → run_len decimal_table rest ≡ 0
+stops [] ends = refl
+stops (byte ∷ bytes) ends =
+    elim (cases_Bool (is_digit decimal_table byte)) [ inl e ↦ absurd (ends (digit_in_range byte e)) | inr e ↦ rw e refl ]
+
+-- no digit stands where the first byte is none
+no_digit : (rest : List ℕ) → (0 < length rest → IsFalse (is_digit decimal_table (get_or rest 0 0))) → ¬ BeginsWithDigit rest
+no_digit [] h = λ digit. digit
+no_digit (byte ∷ bytes) h = λ digit.
+    let stops = h (omega arith) in
+    let yes : is_digit decimal_table byte ≡ true = rw (digit_is byte digit.0 digit.1) refl in
+    absurd (cc)
+
+module _ (digits rest : List ℕ) (all : AllDigits 10 digits) (ends : ¬ BeginsWithDigit rest) where
+  -- digits with no digit after them are a run
+  run_len_before : run_len decimal_table (digits ++ rest) ≡ length digits
+  run_len_before =
+      prefix_len-append (is_digit decimal_table) digits rest
+      ∙ rw (eq-eqb (run_len decimal_table digits) (length digits) (run_of_digits digits all)) (omega (arith, stops rest ends))
+
+  run_before : run decimal_table (digits ++ rest) ≡ digits
+  run_before = ap (λ (n : ℕ). take n (digits ++ rest)) run_len_before ∙ take-append_seam digits rest
+
+-- digits that write a number are found at the front of a body
+front_found : (k : Kind) → IsSized k → (is_negative : Bool) (taken : ℕ) (digits rest : List ℕ) (number : ℤ)
+    → DigitsWrite k is_negative digits number → ¬ BeginsWithDigit rest
+    → IsFound k (record { minus = is_negative; taken = taken; body = digits ++ rest }) true number (length digits + taken)
+front_found k sized is_negative taken digits rest number written ends =
+    let len = run_len_before digits rest written.numeral.1 ends in
+    let is_run = run_before digits rest written.numeral.1 ends in
+    let same = own.same digits written.numeral.1 in
+    let in_range : value decimal_table (run decimal_table (digits ++ rest)) ≤ bound_of k is_negative = rw (is_run, same) written.in_range in
+    record {
+      front = record {
+        some = omega (arith, len, written.numeral.0);
+        short = rw (limit_of_prefix k true (limit_of k) (inl refl)) (in_range_short decimal_table k sized is_negative (digits ++ rest) in_range);
+        in_range = in_range;
+        ends = refl;
+      };
+      number = rw (is_run, same) written.value_is;
+      counted = rw len refl;
+    }
+
+-- digits without a sign
+found_digits : (k : Kind) → IsSized k → (is_negative : Bool) (s : List ℕ) (number : ℤ) (count : ℕ)
+    → FrontWrites (DigitsWrite k is_negative) s number count → IsFound k (record { minus = is_negative; taken = 0; body = s }) true number count
+found_digits k sized is_negative s number count h =
+    let found = front_found k sized is_negative 0 (take count s) (drop count s) number h.front h.ends in
+    let len : length (take count s) + 0 ≡ count = omega (arith, length-take-le count s h.within) in
+    rw (take-append-drop count s, len) at found
+
+-- digits with the sign before them
+found_text : (k : Kind) → IsSized k → (takes_plus : Bool) (s : List ℕ) (number : ℤ) (count : ℕ)
+    → FrontWrites (TextWrites k takes_plus) s number count → IsFound k (sign_of k.signed takes_plus s) true number count
+found_text k sized takes_plus s number count h =
+    let text = h.front in
+    let rest = drop count s in
+    let parts : s ≡ sign_bytes text.sign ++ (text.digits ++ rest) =
+    sym (take-append-drop count s) ∙ ap (λ front. front ++ rest) text.parts ∙ append_assoc (sign_bytes text.sign) text.digits rest
+    in
+    let some : 0 < run_len decimal_table (text.digits ++ rest) =
+    omega (arith, run_len_before text.digits rest text.written.numeral.1 h.ends, text.written.numeral.0)
+    in
+    let sign_is = ap (sign_of k.signed takes_plus) parts ∙ sign_of_text k.signed takes_plus text.sign (text.digits ++ rest) text.signed text.plus_taken some in
+    let len : length text.digits + length (sign_bytes text.sign) ≡ count =
+    omega (arith, length-take-le count s h.within, simp length-append at (ap length text.parts))
+    in
+    subst (λ (g : Sign). IsFound k g true number count) (sym sign_is)
+    (rw len at (front_found k sized (is_minus text.sign) (length (sign_bytes text.sign)) text.digits rest number text.written h.ends))
+
+-- the law: what a prefix finds is written there, and what is written there is found
+pub accepted_fronts : (k : Kind) → IsSized k → AcceptedFronts k
+accepted_fronts k sized = record { written = written; accepted = accepted }
+  where
+    written : (form : SignForm) (skip : Bool) (s : List ℕ) (number : ℤ) (count : ℕ)
+        → prefix_call k form skip s ≡ Ok (number, count) → FrontWrites (Writes k form) s number count
+    written form skip s number count h =
+        let cut = found_in_cut k form skip s number count h in
+        let len : count ≡ length (take count s) = sym (length-take-le count s cut.1) in
+        let to_end : prefix_call k form skip (take count s) ≡ Ok (number, length (take count s)) = cut.2 ∙ ap (λ (n : ℕ). Ok (number, n)) len in
+        record {
+          front = (accepted_numbers k sized).written form skip (take count s) number (whole_of_prefix k form skip (take count s) number to_end);
+          some = omega (arith, cut.0);
+          within = cut.1;
+          ends = no_digit (drop count s) (λ lt.
+              let at : get_or (drop count s) 0 0 ≡ get_or s count 0 = get_or-drop count s 0 0 ∙ ap (λ (i : ℕ). get_or s i 0) (omega arith) in
+              elim (stops_at_rest k form skip s number count h) [ inl e ↦ absurd (omega (arith, length-drop count s)) | inr end ↦ rw at end.1 ]);
+        }
+
+    accepted : (form : SignForm) (s : List ℕ) (number : ℤ) (count : ℕ)
+        → FrontWrites (Writes k form) s number count → prefix_call k form true s ≡ Ok (number, count)
+    accepted (looked_for takes_plus) s number count h =
+        ok_prefix k (looked_for takes_plus) true s number count (found_text k sized takes_plus s number count h)
+    accepted positive s number count h = ok_prefix k positive true s number count (found_digits k sized false s number count h)
+    accepted negative s number count h = ok_prefix k negative true s number count (found_digits k sized true s number count h)

@@ -1,0 +1,120 @@
+//! A reader of dates.
+//! It stands on `atoi_simd::parse_pos`, which says which digits write a number.
+ghost use Rattle.std.specs.Prelude.{◌≡◌, ◌↔◌, ◌≤◌, ℕ, IsTrue, IfSome, IfNone, length};
+ghost use Rattle.atoi_uses.specs.Dates.{is_leap_year, days_of, IsDay, AreDigitsOf, HasDashes, IsDate};
+ghost use Rattle.atoi_uses.specs.declared.dates.Date.{Date as DateValue};
+
+use atoi_simd::parse_pos;
+
+/// A day of the calendar.
+#[derive(Clone, Copy, Debug, PartialEq, Eq)]
+pub struct Date {
+    /// The year, 0 to 9999.
+    pub year: u16,
+    /// The month, 1 to 12.
+    pub month: u16,
+    /// The day of the month, from 1.
+    pub day: u16,
+}
+
+/// The date that `text` is, as `2024-02-29`: four digits, two and two, with dashes between them.
+///
+/// It is `None` for every other text, and where the calendar has no such day, as of `2023-02-29`.
+pub fn parse_date(text: &[u8]) -> Option<Date>
+    ensures some { IfSome result (λ date. IsDate text.now date) }
+    ensures none { IfNone result ((any : DateValue) → ¬ IsDate text.now any) }
+{
+    if !has_dashes(text) {
+        return None;
+    }
+    let year = number(&text[..4])?;
+    let month = number(&text[5..7])?;
+    let day = number(&text[8..10])?;
+    if is_day(year, month, day) {
+        Some(Date { year, month, day })
+    } else {
+        None
+    }
+}
+
+// Whether `text` has ten bytes, with dashes where a date has them.
+fn has_dashes(text: &[u8]) -> bool
+    ensures { IsTrue result ↔ HasDashes text.now }
+{
+    text.len() == 10 && text[4] == b'-' && text[7] == b'-'
+}
+
+// The number that `digits` write, where these are digits alone.
+fn number(digits: &[u8]) -> Option<u16>
+    requires { length digits.now ≤ 4 }
+    ensures some { IfSome result (λ number. AreDigitsOf digits.now number) }
+    ensures none { IfNone result ((any : ℕ) → ¬ AreDigitsOf digits.now any) }
+{
+    match parse_pos::<u16, true>(digits) {
+        Ok(number) => Some(number),
+        Err(_) => None,
+    }
+}
+
+// Whether the calendar has that day.
+fn is_day(year: u16, month: u16, day: u16) -> bool
+    ensures { IsTrue result ↔ IsDay year month day }
+{
+    1 <= month && month <= 12 && 1 <= day && day <= days_in(year, month)
+}
+
+// How many days the month has.
+fn days_in(year: u16, month: u16) -> u16
+    ensures { result ≡ days_of year month }
+{
+    match month {
+        2 if is_leap(year) => 29,
+        2 => 28,
+        4 | 6 | 9 | 11 => 30,
+        _ => 31,
+    }
+}
+
+// Whether the year has a 29th of February.
+fn is_leap(year: u16) -> bool
+    ensures { result ≡ is_leap_year year }
+{
+    year % 4 == 0 && year % 100 != 0 || year % 400 == 0
+}
+
+#[cfg(test)]
+mod tests {
+    use super::*;
+
+    fn at(year: u16, month: u16, day: u16) -> Option<Date> {
+        Some(Date { year, month, day })
+    }
+
+    #[test]
+    fn dates_of_a_calendar(rt: HostRuntime) {
+        assert_eq!(rt; parse_date(b"2026-11-23"), at(2026, 11, 23));
+        assert_eq!(rt; parse_date(b"2024-02-29"), at(2024, 2, 29));
+        assert_eq!(rt; parse_date(b"2000-02-29"), at(2000, 2, 29));
+        assert_eq!(rt; parse_date(b"0000-01-31"), at(0, 1, 31));
+    }
+
+    #[test]
+    fn days_that_no_month_has(rt: HostRuntime) {
+        assert_eq!(rt; parse_date(b"2023-02-29"), None);
+        assert_eq!(rt; parse_date(b"1900-02-29"), None);
+        assert_eq!(rt; parse_date(b"2026-04-31"), None);
+        assert_eq!(rt; parse_date(b"2026-13-01"), None);
+        assert_eq!(rt; parse_date(b"2026-00-10"), None);
+        assert_eq!(rt; parse_date(b"2026-10-00"), None);
+    }
+
+    #[test]
+    fn what_is_no_date(rt: HostRuntime) {
+        assert_eq!(rt; parse_date(b"2026-1-023"), None);
+        assert_eq!(rt; parse_date(b"2026-11-23T"), None);
+        assert_eq!(rt; parse_date(b"2026/11/23"), None);
+        assert_eq!(rt; parse_date(b"+026-11-23"), None);
+        assert_eq!(rt; parse_date(b"2026-11-2 "), None);
+        assert_eq!(rt; parse_date(b""), None);
+    }
+}

@@ -1,0 +1,86 @@
+//! A reader of the integers of JSON.
+//! It stands on `atoi_simd::parse_prefix`, which says what front of a slice writes a number.
+ghost use Rattle.std.specs.Prelude.{◌≡◌, ℕ, ℤ, List, IfSome, IfNone};
+ghost use Rattle.atoi_uses.specs.Json.{IsJsonInteger, after_minus, begins_with_zero_and_digit};
+
+use atoi_simd::parse_prefix;
+
+/// The integer at the front of `text`, as JSON writes one, and what stands after it: of `-40,7`
+/// these are -40 and `,7`.
+///
+/// It is `None` where no integer of JSON stands there, as of `+1`, `-`, `007` and ` 1`, and where
+/// the integer is out of the range of an `i64`.
+pub fn json_integer(text: &[u8]) -> Option<(i64, &[u8])>
+    ensures some { IfSome result (λ found. IsJsonInteger text.now found.0 found.1.now) }
+    ensures none { IfNone result ((number : ℤ) (rest : List ℕ)
+        → ¬ IsJsonInteger text.now number rest) }
+{
+    if has_leading_zero(without_minus(text)) {
+        return None;
+    }
+    match parse_prefix::<i64, true, false>(text) {
+        Ok((number, count)) => Some((number, &text[count..])),
+        Err(_) => None,
+    }
+}
+
+// `text` without a minus at its front.
+fn without_minus(text: &[u8]) -> &[u8]
+    ensures { result.now ≡ after_minus text.now }
+{
+    match text {
+        [b'-', digits @ ..] => digits,
+        _ => text,
+    }
+}
+
+// Whether `digits` begins with a zero and another digit.
+fn has_leading_zero(digits: &[u8]) -> bool
+    ensures { result ≡ begins_with_zero_and_digit digits.now }
+{
+    matches!(digits, [b'0', b'0'..=b'9', ..])
+}
+
+#[cfg(test)]
+mod tests {
+    use super::*;
+
+    fn read(text: &[u8]) -> Option<(i64, &[u8])> {
+        json_integer(text)
+    }
+
+    #[test]
+    fn integers_of_a_document(rt: HostRuntime) {
+        let document = br#"{"id":40712,"delta":-8,"zero":0}"#;
+        assert_eq!(rt; read(&document[6..]), Some((40712, &document[11..])));
+        assert_eq!(rt; read(&document[20..]), Some((-8, &document[22..])));
+        assert_eq!(rt; read(&document[30..]), Some((0, b"}".as_slice())));
+    }
+
+    #[test]
+    fn what_the_grammar_refuses(rt: HostRuntime) {
+        assert_eq!(rt; read(b"007"), None);
+        assert_eq!(rt; read(b"-01"), None);
+        assert_eq!(rt; read(b"+1"), None);
+        assert_eq!(rt; read(b"-"), None);
+        assert_eq!(rt; read(b"--1"), None);
+        assert_eq!(rt; read(b" 1"), None);
+        assert_eq!(rt; read(b""), None);
+        assert_eq!(rt; read(b"-0.5"), Some((0, b".5".as_slice())));
+    }
+
+    #[test]
+    fn the_range_of_an_i64(rt: HostRuntime) {
+        assert_eq!(rt;
+            read(b"9223372036854775807]"),
+            Some((i64::MAX, b"]".as_slice()))
+        );
+        assert_eq!(rt;
+            read(b"-9223372036854775808"),
+            Some((i64::MIN, b"".as_slice()))
+        );
+        assert_eq!(rt; read(b"9223372036854775808"), None);
+        assert_eq!(rt; read(b"-9223372036854775809"), None);
+        assert_eq!(rt; read(b"100000000000000000000000000"), None);
+    }
+}
