@@ -135,7 +135,7 @@ fn put_prefix<T: Number>(
     }
 }
 
-// What a row is answered whose type has no such call: it is the answer of no row, so the test fails.
+// What a row whose type has no such call is answered: no row has that answer, so the test fails.
 fn put_unknown(line: &mut Vec<u8>) -> Result<(), AllocError> {
     line.extend_from_slice(b"unknown")
 }
