@@ -11,11 +11,67 @@ use std::alloc::{AllocError, Global};
 use std::process::Abort;
 use std::test::Fail;
 
+#[derive(Clone, Copy)]
+enum Call {
+    Parse,
+    Prefix,
+    Pos,
+    PrefixPos,
+    Neg,
+    PrefixNeg,
+}
+
+fn call_of(word: &[u8]) -> Option<Call> {
+    match word {
+        b"parse" => Some(Call::Parse),
+        b"prefix" => Some(Call::Prefix),
+        b"pos" => Some(Call::Pos),
+        b"prefix_pos" => Some(Call::PrefixPos),
+        b"neg" => Some(Call::Neg),
+        b"prefix_neg" => Some(Call::PrefixNeg),
+        _ => None,
+    }
+}
+
+#[derive(Clone, Copy)]
+enum Integer {
+    U8,
+    I8,
+    U16,
+    I16,
+    U32,
+    I32,
+    U64,
+    I64,
+    U128,
+    I128,
+    Usize,
+    Isize,
+}
+
+fn integer_of(word: &[u8]) -> Option<Integer> {
+    match word {
+        b"u8" => Some(Integer::U8),
+        b"i8" => Some(Integer::I8),
+        b"u16" => Some(Integer::U16),
+        b"i16" => Some(Integer::I16),
+        b"u32" => Some(Integer::U32),
+        b"i32" => Some(Integer::I32),
+        b"u64" => Some(Integer::U64),
+        b"i64" => Some(Integer::I64),
+        b"u128" => Some(Integer::U128),
+        b"i128" => Some(Integer::I128),
+        b"usize" => Some(Integer::Usize),
+        b"isize" => Some(Integer::Isize),
+        _ => None,
+    }
+}
+
 // A row without its engine.
 #[derive(Clone, Copy)]
 struct Row<'a> {
-    call: &'a [u8],
-    integer: &'a [u8],
+    call: Call,
+    integer: Integer,
     skip_zeroes: bool,
     skip_plus: bool,
     text: &'a [u8],
@@ -24,8 +80,8 @@ struct Row<'a> {
 fn row_of(line: &[u8]) -> Option<Row<'_>> {
     let mut words = line.splitn(5, |byte| *byte == b' ');
     let _engine = words.next()?;
-    let call = words.next()?;
-    let integer = words.next()?;
+    let call = call_of(words.next()?)?;
+    let integer = integer_of(words.next()?)?;
     let flags = words.next()?;
     Some(Row {
         call,
@@ -79,10 +135,9 @@ fn put_prefix<T: Number>(
     }
 }
 
-// What a row with an unknown word is answered: it is the answer of no row, so the test fails.
-fn put_unknown(word: &[u8], line: &mut Vec<u8>) -> Result<(), AllocError> {
-    line.extend_from_slice(b"unknown ")?;
-    line.extend_from_slice(word)
+// What a row whose type has no such call is answered: no row has that answer, so the test fails.
+fn put_unknown(line: &mut Vec<u8>) -> Result<(), AllocError> {
+    line.extend_from_slice(b"unknown")
 }
 
 // A call whose const flags are those of the row.
@@ -110,11 +165,11 @@ macro_rules! by_flags {
 macro_rules! put_answer {
     ($surface:ident, $row:expr, $line:expr) => {
         match $row.call {
-            b"parse" => put_whole(by_flags!($surface::parse, $row), $line),
-            b"prefix" => put_prefix(by_flags!($surface::parse_prefix, $row), $line),
-            b"pos" => put_whole(by_flag!($surface::parse_pos, $row), $line),
-            b"prefix_pos" => put_prefix(by_flag!($surface::parse_prefix_pos, $row), $line),
-            unknown => put_unknown(unknown, $line),
+            Call::Parse => put_whole(by_flags!($surface::parse, $row), $line),
+            Call::Prefix => put_prefix(by_flags!($surface::parse_prefix, $row), $line),
+            Call::Pos => put_whole(by_flag!($surface::parse_pos, $row), $line),
+            Call::PrefixPos => put_prefix(by_flag!($surface::parse_prefix_pos, $row), $line),
+            _ => put_unknown($line),
         }
     };
 }
@@ -122,9 +177,9 @@ macro_rules! put_answer {
 macro_rules! put_negative_answer {
     ($surface:ident, $row:expr, $line:expr) => {
         match $row.call {
-            b"neg" => put_whole(by_flag!($surface::parse_neg, $row), $line),
-            b"prefix_neg" => put_prefix(by_flag!($surface::parse_prefix_neg, $row), $line),
-            unknown => put_unknown(unknown, $line),
+            Call::Neg => put_whole(by_flag!($surface::parse_neg, $row), $line),
+            Call::PrefixNeg => put_prefix(by_flag!($surface::parse_prefix_neg, $row), $line),
+            _ => put_unknown($line),
         }
     };
 }
@@ -154,19 +209,18 @@ fn in_lanes_negative<T: lanes::ParseNeg>(
 macro_rules! by_type {
     ($answer:ident, $row:expr, $line:expr) => {
         match $row.integer {
-            b"u8" => $answer::<u8>($row, $line),
-            b"i8" => $answer::<i8>($row, $line),
-            b"u16" => $answer::<u16>($row, $line),
-            b"i16" => $answer::<i16>($row, $line),
-            b"u32" => $answer::<u32>($row, $line),
-            b"i32" => $answer::<i32>($row, $line),
-            b"u64" => $answer::<u64>($row, $line),
-            b"i64" => $answer::<i64>($row, $line),
-            b"u128" => $answer::<u128>($row, $line),
-            b"i128" => $answer::<i128>($row, $line),
-            b"usize" => $answer::<usize>($row, $line),
-            b"isize" => $answer::<isize>($row, $line),
-            unknown => put_unknown(unknown, $line),
+            Integer::U8 => $answer::<u8>($row, $line),
+            Integer::I8 => $answer::<i8>($row, $line),
+            Integer::U16 => $answer::<u16>($row, $line),
+            Integer::I16 => $answer::<i16>($row, $line),
+            Integer::U32 => $answer::<u32>($row, $line),
+            Integer::I32 => $answer::<i32>($row, $line),
+            Integer::U64 => $answer::<u64>($row, $line),
+            Integer::I64 => $answer::<i64>($row, $line),
+            Integer::U128 => $answer::<u128>($row, $line),
+            Integer::I128 => $answer::<i128>($row, $line),
+            Integer::Usize => $answer::<usize>($row, $line),
+            Integer::Isize => $answer::<isize>($row, $line),
         }
     };
 }
@@ -174,27 +228,27 @@ macro_rules! by_type {
 macro_rules! by_signed_type {
     ($answer:ident, $row:expr, $line:expr) => {
         match $row.integer {
-            b"i8" => $answer::<i8>($row, $line),
-            b"i16" => $answer::<i16>($row, $line),
-            b"i32" => $answer::<i32>($row, $line),
-            b"i64" => $answer::<i64>($row, $line),
-            b"i128" => $answer::<i128>($row, $line),
-            b"isize" => $answer::<isize>($row, $line),
-            unknown => put_unknown(unknown, $line),
+            Integer::I8 => $answer::<i8>($row, $line),
+            Integer::I16 => $answer::<i16>($row, $line),
+            Integer::I32 => $answer::<i32>($row, $line),
+            Integer::I64 => $answer::<i64>($row, $line),
+            Integer::I128 => $answer::<i128>($row, $line),
+            Integer::Isize => $answer::<isize>($row, $line),
+            _ => put_unknown($line),
         }
     };
 }
 
 fn put_root(row: &Row<'_>, line: &mut Vec<u8>) -> Result<(), AllocError> {
     match row.call {
-        b"neg" | b"prefix_neg" => by_signed_type!(root_negative, row, line),
+        Call::Neg | Call::PrefixNeg => by_signed_type!(root_negative, row, line),
         _ => by_type!(root, row, line),
     }
 }
 
 fn put_lanes(row: &Row<'_>, line: &mut Vec<u8>) -> Result<(), AllocError> {
     match row.call {
-        b"neg" | b"prefix_neg" => by_signed_type!(in_lanes_negative, row, line),
+        Call::Neg | Call::PrefixNeg => by_signed_type!(in_lanes_negative, row, line),
         _ => by_type!(in_lanes, row, line),
     }
 }
