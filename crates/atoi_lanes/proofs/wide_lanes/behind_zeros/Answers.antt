@@ -40,8 +40,7 @@ loop-front-preserved c =
     let s = c.args.s.now in
     let w = c.loop-front.front.window in
     let done = c.next_front-front-in-loop-front.ensures in
-    let some : 0 < w.zeroes = omega (arith, c.if-front-eq0.false) in
-    (
+    let some : 0 < w.zeroes = omega (arith, c.if-front-eq0.false) in (
       dropped c.reading_decides.ensures s c.loop-front.front.at _ _ _ w.zeroes _ c.loop-front.invariant.0 c.loop-front.invariant.1.leading_are some done.dropped done.one_step,
       done.reading,
     )
