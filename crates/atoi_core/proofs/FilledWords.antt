@@ -1,6 +1,6 @@
 -- Words whose highest bytes are those of a short slice: the others are 0, or zeros that are filled in.
-use Rattle.std.proofs.Common.{◌≡◌, ℕ, zero, suc, ◌+◌, ◌-◌, ◌*◌, ◌/◌, ◌^◌, ◌<◌, ◌≤◌, List, [], ◌∷◌, ◌++◌, length, take, get_or, replicate, refl, sym, ap, ap₂, ◌∙◌, arith}
-use Rattle.std.proofs.Math.Nat.{suc-mul, pow-suc}
+use Rattle.std.proofs.Common.{◌≡◌, ℕ, zero, suc, ◌+◌, ◌-◌, ◌*◌, ◌/◌, ◌%◌, ◌^◌, ◌<◌, ◌≤◌, List, [], ◌∷◌, ◌++◌, length, take, get_or, replicate, refl, sym, ap, ap₂, ◌∙◌, arith}
+use Rattle.std.proofs.Math.Nat.{zero-add, suc-add, suc-mul, pow-suc}
 use Rattle.std.proofs.lemmas.Nat.{pow-add, pow_pos, div-mul-add}
 use Rattle.std.proofs.lemmas.List.{take_all}
 use Rattle.std.proofs.lemmas.List.Sums.{prefix_len-le-length}
@@ -10,7 +10,6 @@ use Rattle.atoi_core.specs.Run.{run_len, zeros, value}
 use Rattle.atoi_core.specs.Window.{window_of}
 use Rattle.atoi_core.specs.declared.window.Window.{Window}
 use Rattle.atoi_core.specs.Words.{low_bytes, word_of, low_value}
-use Rattle.atoi_core.proofs.Fields.{low_value_shifted}
 use Rattle.atoi_core.proofs.WordWindows.{loaded_run, loaded_sum, told_none, window_from}
 
 -- bytes of 0 before others move these up
@@ -85,15 +84,28 @@ filled_digits s few fits word filling digits word_is filling_is digits_is =
     ∙ ap (run_len decimal_table) all
     ∙ filled_run m s
 
--- THE SHORT WINDOW: of the word with bytes of 0 as many as are filled in, and the digits behind them, the sum is their value
-pub filled_window : (s : List ℕ) → length s ≤ 8 → ((i : ℕ) → get_or s i 0 < 256) → (word digits found number : ℕ)
-    → word ≡ word_of (replicate (8 - length s) 0 ++ s)
+-- zeros below the other bytes add nothing to their sum
+low_value_filled : (z k : ℕ) (s : List ℕ) → low_value (digits_l 256 (z + k) (word_of (replicate z 48 ++ s))) ≡ low_value (digits_l 256 k (word_of s))
+unfolding word_of
+low_value_filled zero k s = ap (λ n. low_value (digits_l 256 n (number_l 256 s))) (zero-add k)
+low_value_filled (suc z) k s =
+    let rest = number_l 256 (replicate z 48 ++ s) in
+    let low : (48 + 256 * rest) % 256 ≡ 48 = omega arith in
+    let high : (48 + 256 * rest) / 256 ≡ rest = omega arith in
+    ap (λ n. low_value (digits_l 256 n (48 + 256 * rest))) (suc-add z k)
+    ∙ ap₂ (λ x y. low_value (x ∷ digits_l 256 (z + k) y)) low high
+    ∙ omega arith
+    ∙ low_value_filled z k s
+
+-- THE SHORT WINDOW: of the word with zeros filled in, and the digits after them, the sum is their value
+pub filled_window : (s : List ℕ) → length s ≤ 8 → ((i : ℕ) → get_or s i 0 < 256) → (filled digits found number : ℕ)
+    → filled ≡ word_of (replicate (8 - length s) 48 ++ s)
     → digits ≡ 8 - length s + run_len decimal_table s
     → found ≡ digits - (8 - length s)
-    → number ≡ low_value (low_bytes digits word)
+    → number ≡ low_value (low_bytes digits filled)
     → ◌≡◌ {A = Window} (record { len = found; zeroes = 0; number = number }) (window_of decimal_table 16 s)
 unfolding low_bytes
-filled_window s few fits word digits found number word_is digits_is found_is number_is =
+filled_window s few fits filled digits found number filled_is digits_is found_is number_is =
     let m = 8 - length s in
     let len = run_len decimal_table s in
     let eight : take 8 s ≡ s = take_all 8 s few in
@@ -101,9 +113,9 @@ filled_window s few fits word digits found number word_is digits_is found_is num
     let within : len ≤ length s = prefix_len-le-length (is_digit decimal_table) s in
     let run : len ≡ run_len decimal_table (low_bytes 8 (word_of (take 8 s))) =
     ap (run_len decimal_table) (sym eight) ∙ sym (loaded_run s fits (word_of (take 8 s)) refl) in
-    let shifted : word ≡ word_of (take 8 s) * 2 ^ (m * 8) = word_is ∙ word_shifted m s ∙ ap (λ x. word_of x * 2 ^ (m * 8)) (sym eight) in
+    let word_is : filled ≡ word_of (replicate m 48 ++ take 8 s) = filled_is ∙ ap (λ x. word_of (replicate m 48 ++ x)) (sym eight) in
     let sum : number ≡ value decimal_table (take len s) =
-    number_is ∙ ap₂ (λ n w. low_value (digits_l 256 n w)) digits_is shifted ∙ low_value_shifted m len (word_of (take 8 s))
+    number_is ∙ ap₂ (λ n w. low_value (digits_l 256 n w)) digits_is word_is ∙ low_value_filled m len (take 8 s)
     ∙ loaded_sum s fits (word_of (take 8 s)) len refl run in
     let left : found ≡ len = omega arith in
     ap (λ n. let w : Window = record { len = n; zeroes = 0; number = number } in w) left

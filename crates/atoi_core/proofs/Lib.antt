@@ -31,3 +31,4 @@ pub mod WordWindows
 pub mod WholeLemmas
 pub mod ReadingLemmas
 pub mod FilledWords
+pub mod ShortRuns

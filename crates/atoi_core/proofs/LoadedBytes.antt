@@ -81,20 +81,21 @@ bytes_above (suc k) (b ∷ bs) fits =
     ap (λ p. (b + 256 * word) / p) up ∙ sym (div-div-eq-div-mul (b + 256 * word) 256 (2 ^ (k * 8)))
     ∙ ap (λ w. w / 2 ^ (k * 8)) rest ∙ bytes_above k bs (λ i. fits (suc i))
 
--- nine to fifteen bytes: those from 8 on are the highest of the last eight
-pub last_bytes : (s last : List ℕ) → 8 ≤ length s → length s < 16 → ((i : ℕ) → get_or s i 0 < 256) → last ≡ drop (length s - 8) s
-    → from_le_bytes w64 last / 2 ^ (120 - 8 * length s) / 2 ^ 8 ≡ word_of (take 8 (drop 8 s))
-last_bytes s last enough few fits is =
+-- where a slice ends among the eight bytes from a place on, these are the highest of its last eight
+pub last_bytes : (s last : List ℕ) (at : ℕ) → 8 ≤ length s → at ≤ length s → length s < at + 8 → ((i : ℕ) → get_or s i 0 < 256) → last ≡ drop (length s - 8) s
+    → from_le_bytes w64 last / 2 ^ (8 * (at + 7 - length s)) / 2 ^ 8 ≡ word_of (take 8 (drop at s))
+last_bytes s last at enough inside few fits is =
     let back = drop (length s - 8) s in
+    let missing = at + 8 - length s in
     let whole : take 8 back ≡ back = take_all 8 back (omega (arith, length-drop (length s - 8) s)) in
-    let rest : take 8 (drop 8 s) ≡ drop 8 s = take_all 8 (drop 8 s) (omega (arith, length-drop 8 s)) in
-    let twice : 2 ^ (120 - 8 * length s) * 2 ^ 8 ≡ 2 ^ ((16 - length s) * 8) = sym (pow-add 2 (120 - 8 * length s) 8) ∙ ap (λ e. 2 ^ e) (omega arith) in
-    let above : length s - 8 + (16 - length s) ≡ 8 = omega arith in
-    div-div-eq-div-mul (from_le_bytes w64 last) (2 ^ (120 - 8 * length s)) (2 ^ 8)
+    let rest : take 8 (drop at s) ≡ drop at s = take_all 8 (drop at s) (omega (arith, length-drop at s)) in
+    let twice : 2 ^ (8 * (at + 7 - length s)) * 2 ^ 8 ≡ 2 ^ (missing * 8) = sym (pow-add 2 (8 * (at + 7 - length s)) 8) ∙ ap (λ e. 2 ^ e) (omega arith) in
+    let above : length s - 8 + missing ≡ at = omega arith in
+    div-div-eq-div-mul (from_le_bytes w64 last) (2 ^ (8 * (at + 7 - length s))) (2 ^ 8)
     ∙ ap₂ (λ bytes p. from_le_bytes w64 bytes / p) is twice
-    ∙ ap (λ w. w / 2 ^ ((16 - length s) * 8)) (word_from_bytes back ∙ ap word_of whole)
-    ∙ bytes_above (16 - length s) back (λ i. rw get_or-drop (fits (length s - 8 + i)))
-    ∙ ap word_of (drop-drop (16 - length s) (length s - 8) s ∙ ap (λ n. drop n s) above ∙ sym rest)
+    ∙ ap (λ w. w / 2 ^ (missing * 8)) (word_from_bytes back ∙ ap word_of whole)
+    ∙ bytes_above missing back (λ i. rw get_or-drop (fits (length s - 8 + i)))
+    ∙ ap word_of (drop-drop missing (length s - 8) s ∙ ap (λ n. drop n s) above ∙ sym rest)
 
 -- THE SHORT LOAD. One to eight bytes are put where they stand in the highest bytes of a word: the
 -- first four, of which the first two are a part, the last four and the last. Below four bytes the

@@ -107,7 +107,7 @@ module _ (table : Table) (class : Class) (bound limit : ℕ) (extent : Extent) (
   followed = invalid class (value table (run table body)) (run_len table body) body
 
   -- the refusal is the first reason whose test holds
-  refusal-is : refusal table class bound limit extent skip body
+  pub refusal-is : refusal table class bound limit extent skip body
       ≡ first_of is_empty is_long is_over is_followed empty too_long over followed
   unfolding refusal
   refusal-is =

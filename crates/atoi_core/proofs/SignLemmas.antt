@@ -1,12 +1,12 @@
 -- The sign at the front of a slice: what it leaves, and when it is taken again.
 use Rattle.std.proofs.Common.{◌≡◌, ℕ, ◌+◌, ◌<◌, ◌≤◌, Bool, true, false, cond, ◌&&◌, eqb, List, [], ◌∷◌, ◌++◌, length, take, drop, refl, arith, ne_eqb}
-use Rattle.std.proofs.lemmas.Bool.{and_parts, and_right}
+use Rattle.std.proofs.lemmas.Bool.{and_right}
 use Rattle.std.proofs.lemmas.Bool.Decides.{nat_tests}
 use Rattle.atoi_core.specs.Digit.{decimal_table, is_digit}
 use Rattle.atoi_core.specs.Run.{run_len}
 use Rattle.atoi_core.specs.Kind.{Kind}
 use Rattle.atoi_core.specs.Sign.{Sign, sign_of, plus_sign, minus_sign}
-use Rattle.atoi_core.specs.Laws.{SignForm, looked_for, positive, negative, HasForm, sign_in}
+use Rattle.atoi_core.specs.Laws.{SignForm, looked_for, positive, negative, sign_in}
 
 -- a fact of each of the three ways to take a sign, by the tests
 one_of_three : (a b : Bool) (x y z : Sign) (P : Sign → Type 0)

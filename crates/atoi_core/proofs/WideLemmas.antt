@@ -2,11 +2,12 @@
 use Rattle.std.proofs.Common.{◌≡◌, ℕ, ◌+◌, ◌-◌, ◌*◌, ◌^◌, ◌<◌, ◌≤◌, min, Bool, true, false, nat_lt, List, drop, Option, Some, None, Ok, Err, refl, sym, ap, ◌∙◌, lit<, inl, inr, arith, le-ltb, if◌then◌else◌}
 use Rattle.std.proofs.Math.Nat.{pow-le-pow_right}
 use Rattle.std.proofs.lemmas.Bool.Decides.{nat_tests}
-use Rattle.std.proofs.lemmas.Bool.{cases_lt, lt-ltb}
+use Rattle.std.proofs.lemmas.Bool.{cases_lt, lt-ltb, ne_eqb}
 use Rattle.atoi_core.specs.Digit.{Table}
 use Rattle.atoi_core.specs.Run.{run_len, run, value}
 use Rattle.atoi_core.specs.Refusal.{empty, size, overflow}
 use Rattle.atoi_core.specs.Magnitude.{Class, wide64, wide128, Extent, prefix, skipped_zeros, Rule, rule_of, is_above, HasDigits, prefix_magnitude}
+use Rattle.atoi_core.specs.Reading.{answer_by_digits}
 use Rattle.atoi_core.specs.declared.window.Window.{Window}
 use Rattle.atoi_core.proofs.RefusalLemmas.{limit_at, counting_digits, IsAccepted, refusal-none, refused_empty, refused_size, refused_overflow}
 use Rattle.atoi_core.proofs.WindowLemmas.{Reads, Shows, Reads-join, Reads-widen}
@@ -128,6 +129,29 @@ answers_ok t class bound limit skip s at before now w m x number len wide so ful
     let all : run_len t (drop at s) ≡ m = reads.ends ends in
     answers_value t class bound limit skip s len number wide (omega (arith, so.run_is)) (so.value_is ∙ reads.value_is ends ∙ sym number_is)
     (omega (arith, so.run_is, so.shown.reads.inside)) (omega (arith, counted_most t skip s at before now w so)) (omega arith)
+
+-- what was read from a full window on decides the answer of 64 bits by its digits
+pub answers_full : (t : Table) (bound limit : ℕ) (skip : Bool) (s : List ℕ) (at before now : ℕ) (w : Window) (m x : ℕ) →
+    Skipped t skip s at before now w → 16 ≤ w.len → Reads t 24 (drop at s) m x → 0 < m → limit ≤ 20 →
+    answer_by_digits wide64 bound limit at m x s ≡ prefix_magnitude t wide64 bound limit skip s
+answers_full t bound limit skip s at before now w m x so full reads some less =
+    let told : min m 24 ≡ m = omega (arith, reads.within) in
+    rw (ne_eqb (at + m) 0 (omega arith))
+    (elim (cases_lt limit m) [
+      | inl long ↦
+          rw (lt-ltb limit m long, told)
+          (answers_size t wide64 bound limit skip s at before now w m x (at + m) (drop at s) wide_64 so full reads long refl refl)
+      | inr fits ↦
+          rw (le-ltb limit m fits)
+          (elim (cases_lt bound x) [
+            | inl over ↦
+                rw (lt-ltb bound x over)
+                (answers_overflow t wide64 bound limit skip s at before now w m x (drop at s) wide_64 so full reads fits (omega arith) over refl)
+            | inr within ↦
+                rw (le-ltb bound x within)
+                (answers_ok t wide64 bound limit skip s at before now w m x x (at + m) wide_64 so full reads fits (omega arith) within refl refl)
+          ])
+    ])
 
 -- a full window, and behind it one that is not full
 pub answers_two : (t : Table) (bound : ℕ) (skip : Bool) (s : List ℕ) (at before now : ℕ) (first second : Window) (number len : ℕ) →

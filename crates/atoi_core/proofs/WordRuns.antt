@@ -1,9 +1,13 @@
 -- How many lowest bytes of a word are digits, and how many are zeros, as the kernels count them.
-use Rattle.std.proofs.Common.{◌≡◌, ℕ, zero, suc, ◌+◌, ◌*◌, ◌/◌, ◌%◌, ◌^◌, ◌<◌, ◌≤◌, ◌-◌, Bool, true, false, cond, ◌==◌, List, [], ◌∷◌, map, refl, ap, ap₂, ◌∙◌, arith, mod-lt, zero-lt-suc}
+use Rattle.std.proofs.Common.{◌≡◌, ℕ, zero, suc, ◌+◌, ◌*◌, ◌/◌, ◌%◌, ◌^◌, ◌<◌, ◌≤◌, ◌-◌, Bool, true, false, cond, ◌==◌, List, [], ◌∷◌, map, refl, sym, ap, ap₂, ◌∙◌, arith, mod-lt, zero-lt-suc}
 use Rattle.std.proofs.Math.Dec.{lit<}
 use Rattle.std.proofs.lemmas.Bool.{agree_below_at}
+use Rattle.std.proofs.lemmas.Nat.{pow_pos, pow-add, mod-pow-add, and_mask, and_block, div-mul-add, mod-mul-add}
+use Rattle.std.proofs.Math.Nat.{zero-add, suc-mul, suc-add, add_comm}
+use Rattle.std.proofs.Math.Pow.{mod-mod-pow}
+use Rattle.std.proofs.lemmas.Bool.Decides.{nat_tests}
 use Rattle.std.specs.List.{prefix_len}
-use Rattle.std.specs.Int.Bits.{bit_and, bit_or, bit_xor}
+use Rattle.std.specs.Int.Bits.{bit_and, bit_or, bit_xor, and_zero_r}
 use Rattle.std.specs.Int.Count.{count_trailing_zeros}
 use Rattle.std.specs.Simd.Lanes.{digits_l, zip2}
 use Rattle.atoi_core.specs.Digit.{decimal_table, is_digit, is_zero}
@@ -173,3 +177,103 @@ marks_counted k word =
     (or_bytes k above below ∙ ap₂ (zip2 bit_or) (digits_cut 8 k (word + repeated 70 k)) (digits_cut 8 k (word + without_48 k)))
     ∙ marked (λ x. bit_and x 128) bit_or (digits_l 256 k (word + repeated 70 k)) (digits_l 256 k (word + without_48 k)))
     ∙ carried_run (added 70 (lit< tt)) lowered engine_mark engine_byte k word
+
+-- ---- the word with 48 taken from each byte
+
+-- its lowest byte is 0 exactly where the word's is the zero
+lowered_zero : (b : ℕ) → b < 256 → ((b + 208) % 256 == 0) ≡ is_zero decimal_table b
+lowered_zero b h = agree_below_at (λ x. (x + 208) % 256 == 0) (is_zero decimal_table) 256 b refl h
+
+-- a zero is a digit
+zero_is_digit : (b : ℕ) → b < 256 → is_zero decimal_table b ≡ true → is_digit decimal_table b ≡ true
+zero_is_digit b h e = grind (arith, nat_tests)
+
+-- so its lowest bytes of 0 are the zeros that the word begins with
+lowered_zeros : (k word : ℕ) → prefix_len (λ b. b == 0) (digits_l 256 k (word + without_48 k)) ≡ prefix_len (is_zero decimal_table) (digits_l 256 k word)
+lowered_zeros zero word = refl
+lowered_zeros (suc k) word =
+    let byte = word % 256 in
+    let fits : byte < 256 = mod-lt word (zero-lt-suc 255) in
+    let now = prefix_len (λ b. b == 0) (digits_l 256 k ((word + without_48 (suc k)) / 256)) in
+    ap (λ x. cond (x == 0) (1 + now) 0) (lowered.low k word)
+    ∙ ap (λ t. cond t (1 + now) 0) (lowered_zero byte fits)
+    ∙ run_goes_on (is_zero decimal_table byte) now (prefix_len (is_zero decimal_table) (digits_l 256 k (word / 256)))
+    (λ e. ap (λ x. prefix_len (λ b. b == 0) (digits_l 256 k x)) (lowered.rest k word (zero_is_digit byte fits e)) ∙ lowered_zeros k (word / 256))
+
+-- the zeros, by the trailing bytes of 0
+pub lowered_zeros_counted : (k word : ℕ) → count_trailing_zeros (k * 8) ((word + without_48 k) % 2 ^ (k * 8)) / 8 ≡ zeros decimal_table (low_bytes k word)
+unfolding low_bytes
+lowered_zeros_counted k word =
+    trailing_bytes k ((word + without_48 k) % 2 ^ (k * 8))
+    ∙ ap (prefix_len (λ b. b == 0)) (digits_cut 8 k (word + without_48 k))
+    ∙ lowered_zeros k word
+
+-- a front that has n + 1 digits has the first of them, and n after it
+first_digit : (t : Bool) (n m : ℕ) → suc n ≤ cond t (1 + m) 0 → (t ≡ true) × (n ≤ m)
+first_digit true n m h = (refl, omega arith)
+first_digit false n m h = absurd (omega arith)
+
+-- the lower half of a digit is what is left of it
+lower_half : (b : ℕ) → is_digit decimal_table b ≡ true → bit_and b 15 ≡ (b + 208) % 256
+lower_half b digit = and_mask b 4 ∙ (let range = digit_in_range b digit in omega arith)
+
+-- the lowest k bytes, where these are digits, keep their lower halves
+lowered_digits : (j k word : ℕ) → k ≤ prefix_len (is_digit decimal_table) (digits_l 256 (k + j) word)
+    → (word + without_48 (k + j)) % 2 ^ (k * 8) ≡ bit_and (word % 2 ^ (k * 8)) (repeated 15 k)
+lowered_digits j zero word digits = omega (arith, and_zero_r (word % 2 ^ (zero * 8)))
+lowered_digits j (suc k) word digits =
+    let byte = word % 256 in
+    let passes = first_digit (is_digit decimal_table byte) k (prefix_len (is_digit decimal_table) (digits_l 256 (k + j) (word / 256))) (rw (suc-add k j) at digits) in
+    let bits : suc k * 8 ≡ k * 8 + 8 = suc-mul k 8 in
+    let lower = word + without_48 (suc (k + j)) in
+    ap (λ n. (word + without_48 n) % 2 ^ (suc k * 8)) (suc-add k j)
+    ∙ ap (λ e. lower % 2 ^ e) bits
+    ∙ mod-pow-add lower (k * 8) 8
+    ∙ ap₂ (λ x y. x % 2 ^ (k * 8) * 256 + y) (lowered.rest (k + j) word passes.0) (lowered.low (k + j) word ∙ sym (lower_half byte passes.0))
+    ∙ ap (λ x. x * 256 + bit_and byte 15) (lowered_digits j k (word / 256) passes.1)
+    ∙ sym (and_block 8 (word / 256 % 2 ^ (k * 8)) (repeated 15 k) byte 15 (mod-lt word (zero-lt-suc 255)) (lit< tt))
+    ∙ ap (λ x. bit_and x (repeated 15 (suc k))) (sym (mod-pow-add word (k * 8) 8))
+    ∙ ap (λ e. bit_and (word % 2 ^ e) (repeated 15 (suc k))) (sym bits)
+
+-- bytes of 0 below them have lower halves of 0
+shifted_halves : (z k word : ℕ) → bit_and word (repeated 15 k) * 2 ^ (z * 8) ≡ bit_and (word * 2 ^ (z * 8)) (repeated 15 (z + k))
+shifted_halves zero k word =
+    let one : bit_and word (repeated 15 k) * 2 ^ (zero * 8) ≡ bit_and word (repeated 15 k) = omega arith in
+    let same : word ≡ word * 2 ^ (zero * 8) = omega arith in
+    one ∙ ap₂ (λ x n. bit_and x (repeated 15 n)) same (sym (zero-add k))
+shifted_halves (suc z) k word =
+    let up : 2 ^ (suc z * 8) ≡ 2 ^ (z * 8) * 256 = ap (λ e. 2 ^ e) (suc-mul z 8) ∙ pow-add 2 (z * 8) 8 in
+    let next : word * 2 ^ (suc z * 8) ≡ word * 2 ^ (z * 8) * 256 + 0 = ap (λ p. word * p) up ∙ omega arith in
+    ap (λ p. bit_and word (repeated 15 k) * p) up
+    ∙ omega (arith, shifted_halves z k word, and_block 8 (word * 2 ^ (z * 8)) (repeated 15 (z + k)) 0 15 (lit< tt) (lit< tt))
+    ∙ ap₂ (λ x n. bit_and x (repeated 15 n)) (sym next) (sym (suc-add z k))
+
+-- a shifted number under a bound that is shifted as far
+shift_cut : (a j z : ℕ) → a * 2 ^ z % 2 ^ (j + z) ≡ a % 2 ^ j * 2 ^ z
+shift_cut a j z =
+    let p = 2 ^ z in
+    let none : a * p ≡ a * p + 0 = omega arith in
+    let high : a * p / p ≡ a = ap (λ x. x / p) none ∙ div-mul-add a p 0 (pow_pos z) in
+    let low : a * p % p ≡ 0 = ap (λ x. x % p) none ∙ mod-mul-add a p 0 (pow_pos z) in
+    mod-pow-add (a * p) j z ∙ ap₂ (λ x y. x % 2 ^ j * p + y) high low ∙ omega arith
+
+-- THE DIGITS BY SUBTRACTION: the lowest bytes, which are digits, moved to the top of a word of eight. Less
+-- 48 each they are their lower halves
+pub lowered_at_top : (len word : ℕ) → len ≤ 8 → len ≤ run_len decimal_table (low_bytes 8 word)
+    → (word + without_48 8) % 2 ^ 64 * 2 ^ (64 - 8 * len) % 2 ^ 64 ≡ bit_and (word * 2 ^ (64 - 8 * len) % 2 ^ 64) (repeated 15 8)
+unfolding low_bytes
+lowered_at_top len word few digits =
+    let z = 8 - len in
+    let all : len + z ≡ 8 = omega arith in
+    let places : 64 - 8 * len ≡ z * 8 = omega arith in
+    let bits : 64 ≡ len * 8 + z * 8 = omega arith in
+    let lower = word + without_48 8 in
+    let kept : lower % 2 ^ (len * 8) ≡ bit_and (word % 2 ^ (len * 8)) (repeated 15 len) =
+    ap (λ n. (word + without_48 n) % 2 ^ (len * 8)) (sym all) ∙ lowered_digits z len word (rw all digits) in
+    let cut : (x : ℕ) → x * 2 ^ (64 - 8 * len) % 2 ^ 64 ≡ x % 2 ^ (len * 8) * 2 ^ (z * 8) =
+    λ x. ap₂ (λ e f. x * 2 ^ e % 2 ^ f) places bits ∙ shift_cut x (len * 8) (z * 8) in
+    cut (lower % 2 ^ 64)
+    ∙ ap (λ e. lower % 2 ^ e % 2 ^ (len * 8) * 2 ^ (z * 8)) (bits ∙ add_comm (len * 8) (z * 8))
+    ∙ ap (λ x. x * 2 ^ (z * 8)) (mod-mod-pow lower (z * 8) (len * 8) ∙ kept)
+    ∙ shifted_halves z len (word % 2 ^ (len * 8))
+    ∙ ap₂ (λ x n. bit_and x (repeated 15 n)) (sym (cut word)) (add_comm z len ∙ all)

@@ -1,13 +1,11 @@
 -- What the word of a slice's first bytes tells of these bytes.
-use Rattle.std.proofs.Common.{◌≡◌, ℕ, zero, suc, ◌+◌, ◌*◌, ◌/◌, ◌%◌, ◌^◌, ◌<◌, ◌≤◌, ◌≢◌, min, Bool, true, false, cond, ◌==◌, List, [], ◌∷◌, length, take, drop, get_or, ◌++◌, mod-lt, zero-lt-suc, if◌then◌else◌, refl, sym, ap, ap₂, ◌∙◌, arith}
-use Rattle.std.proofs.lemmas.Bool.{agree_below_at, eq-eqb, ne_eqb}
+use Rattle.std.proofs.Common.{◌≡◌, ℕ, zero, suc, ◌+◌, ◌*◌, ◌/◌, ◌%◌, ◌^◌, ◌<◌, ◌≤◌, ◌≢◌, min, Bool, true, false, cond, ◌==◌, List, [], ◌∷◌, length, take, drop, get_or, ◌++◌, if◌then◌else◌, refl, sym, ap, ap₂, ◌∙◌, arith}
+use Rattle.std.proofs.lemmas.Bool.{eq-eqb, ne_eqb}
 use Rattle.std.proofs.lemmas.Bool.Decides.{nat_tests}
 use Rattle.std.proofs.lemmas.List.{length-take, length-take-le, get_or-drop, take-take, take_all}
 use Rattle.std.proofs.lemmas.List.Sums.{prefix_len-le-length}
 use Rattle.std.proofs.lemmas.List.Folds.{prefix_len-append}
-use Rattle.std.proofs.lemmas.Nat.{and_mask}
 use Rattle.std.proofs.Math.Seq.{take-add}
-use Rattle.std.specs.Int.Bits.{bit_and}
 use Rattle.std.specs.List.{prefix_len}
 use Rattle.std.specs.Simd.Lanes.{digits_l, number_l}
 use Rattle.atoi_core.specs.Digit.{decimal_table, is_digit, is_zero, worth}
@@ -106,20 +104,6 @@ pub sum_of_none : (word len : ℕ) → len ≡ 0 → 0 ≡ low_value (low_bytes 
 unfolding low_bytes
 sum_of_none word len e = ap (λ l. low_value (low_bytes l word)) (sym e)
 
--- the only zero is the byte 48
-is_zero_byte : (b : ℕ) → b < 256 → is_zero decimal_table b ≡ (b == 48)
-is_zero_byte b h = agree_below_at (is_zero decimal_table) (λ x. x == 48) 256 b refl h
-
--- a word whose lowest byte is no zero begins with none
-pub no_zero_first : (word : ℕ) → bit_and word 255 ≢ 48 → 0 ≡ zeros decimal_table (low_bytes 8 word)
-unfolding low_bytes
-no_zero_first word other =
-    let byte = word % 256 in
-    let is : bit_and word 255 ≡ byte = and_mask word 8 in
-    let differs : byte ≢ 48 = λ e. other (is ∙ e) in
-    sym (ap (λ t. cond t (1 + zeros decimal_table (digits_l 256 7 (word / 256))) 0)
-    (is_zero_byte byte (mod-lt word (zero-lt-suc 255)) ∙ ne_eqb byte 48 differs))
-
 -- the zeros of two words go on from the first to the next where the first holds zeros only
 pub zeros_of_two : (first next : ℕ) → zeros decimal_table (low_bytes 8 first ++ low_bytes 8 next)
     ≡ (if zeros decimal_table (low_bytes 8 first) == 8 then 8 + zeros decimal_table (low_bytes 8 next) else zeros decimal_table (low_bytes 8 first))
@@ -149,6 +133,18 @@ window_from c s len leading number len_is leading_is number_is =
     let same_number : number ≡ value decimal_table (take (run_len decimal_table (take c s)) (take c s)) =
     number_is ∙ ap (value decimal_table) (sym (take-take len c s (omega arith)) ∙ ap (λ n. take n (take c s)) len_is) in
     λ i. record { len = len_is i; zeroes = same_leading i; number = same_number i }
+
+-- what a loaded word tells is the window of its bytes
+pub loaded_window : (s : List ℕ) → ((i : ℕ) → get_or s i 0 < 256) → (word : ℕ) (w : Window) → word ≡ word_of (take 8 s)
+    → w.len ≡ run_len decimal_table (low_bytes 8 word)
+    → w.zeroes ≡ (if w.len == 8 then zeros decimal_table (low_bytes 8 word) else 0)
+    → w.number ≡ low_value (low_bytes w.len word)
+    → w ≡ window_of decimal_table 8 s
+loaded_window s fits word w is len_is zeroes_are number_is =
+    window_from 8 s w.len w.zeroes w.number
+    (len_is ∙ loaded_run s fits word is)
+    (zeroes_are ∙ ap (λ z. if w.len == 8 then z else 0) (loaded_zeros s fits word is))
+    (number_is ∙ loaded_sum s fits word w.len is len_is)
 
 -- where the first eight bytes are not all digits, sixteen tell no more than they
 pub window_short : (s : List ℕ) (len number : ℕ) → len ≡ run_len decimal_table (take 8 s) → len ≢ 8

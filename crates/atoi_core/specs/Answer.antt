@@ -3,7 +3,7 @@ use Rattle.std.specs.Prelude.{ℕ, ◌+◌, Bool, List, ℤ, Result, Ok, Err}
 use Rattle.atoi_core.specs.Digit.{Table, decimal_table}
 use Rattle.atoi_core.specs.Refusal.{Refusal, answer_of}
 use Rattle.atoi_core.specs.declared.error.AtoiSimdError.{AtoiSimdError}
-use Rattle.atoi_core.specs.Magnitude.{Class, narrow, wide64, wide128, whole_magnitude, prefix_magnitude}
+use Rattle.atoi_core.specs.Magnitude.{whole_magnitude, prefix_magnitude}
 use Rattle.atoi_core.specs.Kind.{Kind, class_of, bound_of, limit_of}
 use Rattle.atoi_core.specs.Sign.{sign_of, number_of}
 

@@ -10,7 +10,7 @@ ghost use Rattle.atoi_core.specs.Refusal.{answer_of};
 
 use crate::engine::Engine;
 use crate::error::AtoiSimdError;
-use crate::front::{front_64, front_128};
+use crate::front::front_128;
 use crate::narrow::{narrow_prefix, narrow_whole_windows};
 use crate::number::{Number, Signed};
 use crate::steps::Steps;
@@ -160,14 +160,13 @@ fn prefix_by_class<'a, E: Engine, T: Number>(
         widened_prefix(narrow_prefix::<E>(narrow_bound::<T>(minus), skip, s, steps))
     } else if T::BITS == 64 {
         let bound = bound_64::<T>(minus);
-        widened_prefix(front_64::<E>(bound, limit_64::<T>(), skip, s, steps))
+        widened_prefix(E::prefix_64(bound, limit_64::<T>(), skip, s, steps))
     } else {
         front_128::<E>(bound_128::<T>(minus), skip, s, steps)
     }
 }
 
 // The greatest magnitude of a type of at most 32 bits.
-#[inline(always)]
 fn narrow_bound<T: Number>(minus: bool) -> u64
     requires class { class_of T.kind ≡ narrow }
     requires signed { minus ≡ true → T.SIGNED ≡ true }
@@ -179,7 +178,6 @@ fn narrow_bound<T: Number>(minus: bool) -> u64
 }
 
 // The greatest magnitude of a type of 64 bits.
-#[inline(always)]
 fn bound_64<T: Number>(minus: bool) -> u64
     requires class { class_of T.kind ≡ wide64 }
     requires signed { minus ≡ true → T.SIGNED ≡ true }
@@ -190,7 +188,6 @@ fn bound_64<T: Number>(minus: bool) -> u64
 }
 
 // The greatest magnitude of a type of 128 bits.
-#[inline(always)]
 fn bound_128<T: Number>(minus: bool) -> u128
     requires class { class_of T.kind ≡ wide128 }
     requires signed { minus ≡ true → T.SIGNED ≡ true }
@@ -201,7 +198,6 @@ fn bound_128<T: Number>(minus: bool) -> u128
 }
 
 // How many digits the greatest magnitude of a type of 64 bits has.
-#[inline(always)]
 fn limit_64<T: Number>() -> u32
     requires { class_of T.kind ≡ wide64 }
     ensures value { result ≡ limit_of T.kind }
@@ -212,7 +208,6 @@ fn limit_64<T: Number>() -> u32
 }
 
 // The same answer, with a number of 128 bits.
-#[inline(always)]
 fn widened(answer: Result<u64, AtoiSimdError<'_>>) -> Result<u128, AtoiSimdError<'_>>
     ensures { result ≡ answer.entry }
 {
@@ -223,7 +218,6 @@ fn widened(answer: Result<u64, AtoiSimdError<'_>>) -> Result<u128, AtoiSimdError
 }
 
 // The same answer with a count, with a number of 128 bits.
-#[inline(always)]
 fn widened_prefix(
     answer: Result<(u64, usize), AtoiSimdError<'_>>,
 ) -> Result<(u128, usize), AtoiSimdError<'_>>

@@ -8,7 +8,7 @@ ghost use Rattle.atoi_core.specs.Refusal.{answer_of};
 ghost use Rattle.atoi_core.specs.Window.{window_of};
 
 use crate::error::AtoiSimdError;
-use crate::join::{joined_128, power_of_ten, up_to_64};
+use crate::join::{answer_64, joined_128, power_of_ten};
 use crate::steps::Steps;
 use crate::window::Window;
 
@@ -85,19 +85,7 @@ pub trait Engine {
         }
         let rest = &s[at..];
         let back = Self::window_8(&rest[16..], steps);
-        let digits = 16 + back.len;
-        let len = at + digits as usize;
-        if digits > limit {
-            return Err(AtoiSimdError::Size(len, rest));
-        }
-        let power = power_of_ten(back.len);
-        if digits < limit {
-            return Ok((front.number * power + back.number, len));
-        }
-        match up_to_64(bound, front.number, power, back.number) {
-            Some(number) => Ok((number, len)),
-            None => Err(AtoiSimdError::Overflow(rest)),
-        }
+        answer_64(bound, limit, at, front, back, s)
     }
 
     /// The number at the front of `s`, and how many bytes it has, for an integer of 128 bits.

@@ -1,9 +1,9 @@
-//! The parses of wide integers from the front of a slice: a run that ends in the first window (for
-//! 128 bits in the first two) is answered in line, a longer one by the engine. It stands on
-//! `engine`, `window`, `join`, `steps` and `error`.
+//! The parses of integers of 128 bits from the front of a slice: a run that ends in the first two
+//! windows is answered in line, a longer one by the engine. It stands on `engine`, `window`, `join`,
+//! `steps` and `error`.
 ghost use Rattle.std.specs.Prelude.{◌≡◌, ◌-◌, ◌≤◌, IsTrue};
 ghost use Rattle.atoi_core.specs.Loads.{LoadsWithin, most_loads};
-ghost use Rattle.atoi_core.specs.Magnitude.{HasDigits, wide64, wide128, prefix_magnitude};
+ghost use Rattle.atoi_core.specs.Magnitude.{HasDigits, wide128, prefix_magnitude};
 ghost use Rattle.atoi_core.specs.Refusal.{answer_of};
 ghost use Rattle.atoi_core.specs.Window.{window_of};
 
@@ -12,69 +12,6 @@ use crate::error::{AtoiSimdError, out_of_line};
 use crate::join::power_of_ten;
 use crate::steps::Steps;
 use crate::window::Window;
-
-/// What `Engine::prefix_64` answers, where the first window is read in line. Fewer than 16 digits
-/// are never above the bound; for more of them the engine is called, and loads that window again.
-///
-/// # Errors
-///
-/// `Empty`, `Size` and `Overflow`, as of `Engine::prefix_64`.
-#[inline(always)]
-pub(crate) fn front_64<'a, E: Engine>(
-    bound: u64,
-    limit: u32,
-    skip: bool,
-    s: &'a [u8],
-    steps: &mut Steps,
-) -> Result<(u64, usize), AtoiSimdError<'a>>
-    requires limit_low { 17 ≤ limit }
-    requires limit_high { limit ≤ 20 }
-    requires digits { HasDigits limit bound }
-    ensures answer { answer_of result ≡ prefix_magnitude E.table wide64 bound limit skip s.now }
-    ensures loads { LoadsWithin (most_loads E.table wide64 s.now) E.table skip s.now
-        steps.old steps.new }
-{
-    let window = E::window(s, steps);
-    if window.len == 0 {
-        Err(AtoiSimdError::Empty)
-    } else if window.len < 16 {
-        Ok((window.number, window.len as usize))
-    } else {
-        out_of_line(E::prefix_64(bound, limit, skip, s, steps))
-    }
-}
-
-/// What `Engine::prefix_64` answers, for a slice that is to be read whole: where it has fewer than
-/// 16 bytes, one window is read in line, and else the engine is called at once.
-///
-/// # Errors
-///
-/// `Empty`, `Size` and `Overflow`, as of `Engine::prefix_64`.
-#[inline(always)]
-pub(crate) fn front_of_whole_64<'a, E: Engine>(
-    bound: u64,
-    limit: u32,
-    skip: bool,
-    s: &'a [u8],
-    steps: &mut Steps,
-) -> Result<(u64, usize), AtoiSimdError<'a>>
-    requires limit_low { 17 ≤ limit }
-    requires limit_high { limit ≤ 20 }
-    requires digits { HasDigits limit bound }
-    ensures answer { answer_of result ≡ prefix_magnitude E.table wide64 bound limit skip s.now }
-    ensures loads { LoadsWithin (most_loads E.table wide64 s.now) E.table skip s.now
-        steps.old steps.new }
-{
-    if s.len() >= 16 {
-        return out_of_line(E::prefix_64(bound, limit, skip, s, steps));
-    }
-    let window = E::window(s, steps);
-    if window.len == 0 {
-        Err(AtoiSimdError::Empty)
-    } else {
-        Ok((window.number, window.len as usize))
-    }
-}
 
 /// What `Engine::prefix_128` answers, where the first two windows are read in line. Fewer than 32
 /// digits are never above the bound; for more of them, and where the first window begins with zeros

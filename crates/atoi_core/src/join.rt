@@ -1,7 +1,11 @@
-//! Numbers joined from the digits of two windows, or of three.
-//! It stands on `window`.
-ghost use Rattle.std.specs.Prelude.{◌≡◌, ◌+◌, ◌*◌, ◌^◌, ◌<◌, ◌≤◌, nat_lt, if◌then◌else◌};
+//! Numbers joined from the digits of two windows, or of three, and the answers that they decide.
+//! It stands on `window` and `error`.
+ghost use Rattle.std.specs.Prelude.{◌≡◌, ◌+◌, ◌*◌, ◌^◌, ◌<◌, ◌≤◌, nat_lt, if◌then◌else◌, length};
+ghost use Rattle.atoi_core.specs.Magnitude.{HasDigits, wide64};
+ghost use Rattle.atoi_core.specs.Reading.{answer_by_digits};
+ghost use Rattle.atoi_core.specs.Refusal.{answer_of};
 
+use crate::error::AtoiSimdError;
 use crate::window::Window;
 
 // The powers of ten, from the one with no zero to the one with 16.
@@ -39,8 +43,47 @@ pub(crate) fn power_of_ten(digits: u32) -> u64
     POWERS[digits as usize]
 }
 
-/// `high * power + low` where that is at most `bound`; else none.
-pub(crate) fn up_to_64(bound: u64, high: u64, power: u64, low: u64) -> Option<u64>
+/// The answer of 64 bits where the window at the place `at`, behind zeros that are skipped, is full of
+/// digits, from it and from the window of the 8 bytes after it.
+///
+/// # Errors
+///
+/// `Size` where there are more than `limit` digits, and `Overflow` where their number is above
+/// `bound`. Both hold `s` from `at` on.
+#[inline(always)]
+pub(crate) fn answer_64<'a>(
+    bound: u64,
+    limit: u32,
+    at: usize,
+    front: Window,
+    back: Window,
+    s: &'a [u8],
+) -> Result<(u64, usize), AtoiSimdError<'a>>
+    requires digits { HasDigits limit bound }
+    requires front_high { front.number < 10 ^ 16 }
+    requires back_short { back.len ≤ 8 }
+    requires back_high { back.number < 10 ^ back.len }
+    requires inside { at + (16 + back.len) ≤ length s.now }
+    ensures { answer_of result ≡ answer_by_digits wide64 bound limit at (16 + back.len)
+        (front.number * 10 ^ back.len + back.number) s.now }
+{
+    let digits = 16 + back.len;
+    let len = at + digits as usize;
+    if digits > limit {
+        return Err(AtoiSimdError::Size(len, &s[at..]));
+    }
+    let power = power_of_ten(back.len);
+    if digits < limit {
+        return Ok((front.number * power + back.number, len));
+    }
+    match up_to_64(bound, front.number, power, back.number) {
+        Some(number) => Ok((number, len)),
+        None => Err(AtoiSimdError::Overflow(&s[at..])),
+    }
+}
+
+// `high * power + low` where that is at most `bound`; else none.
+fn up_to_64(bound: u64, high: u64, power: u64, low: u64) -> Option<u64>
     ensures { result ≡ (if nat_lt bound (high * power + low) then None
         else Some (high * power + low)) }
 {

@@ -101,9 +101,52 @@ pub fn narrow_whole_windows<'a, E: Engine>(
     ensures loads { LoadsWithin (most_loads E.table narrow s.now) E.table true s.now
         steps.old steps.new }
 {
-    match narrow_prefix::<E>(bound, true, s, steps) {
-        Ok((number, len)) if len == s.len() => Ok(number),
-        Ok((number, len)) => Err(AtoiSimdError::Invalid64(number, len, s)),
+    if s.len() >= 16 {
+        return out_of_line(long_whole::<E>(bound, s, steps));
+    }
+    let only = E::window(s, steps);
+    if only.len == 0 {
+        Err(AtoiSimdError::Empty)
+    } else {
+        whole_of::<E>(bound, answer_at(bound, 0, only, s), s)
+    }
+}
+
+// What `narrow_whole_windows` answers for 16 bytes or more, which begin with zeros or hold another
+// byte where the number fits.
+#[inline(never)]
+fn long_whole<'a, E: Engine>(
+    bound: u64,
+    s: &'a [u8],
+    steps: &mut Steps,
+) -> Result<u64, AtoiSimdError<'a>>
+    requires low { 9 ≤ bound }
+    requires high { bound ≤ 4294967295 }
+    ensures answer { answer_of result ≡ whole_magnitude E.table narrow bound 0 false s.now }
+    ensures loads { LoadsWithin (most_loads E.table narrow s.now) E.table true s.now
+        steps.old steps.new }
+{
+    whole_of::<E>(bound, narrow_prefix::<E>(bound, true, s, steps), s)
+}
+
+// The answer for a whole slice, from that for its front where zeros are skipped: an overflow holds
+// all of the slice, and digits that end before it are invalid.
+fn whole_of<'a, E: Engine>(
+    bound: u64,
+    front: Result<(u64, usize), AtoiSimdError<'_>>,
+    s: &'a [u8],
+) -> Result<u64, AtoiSimdError<'a>>
+    requires { answer_of front ≡ prefix_magnitude E.table narrow bound 0 true s.now }
+    ensures { answer_of result ≡ whole_magnitude E.table narrow bound 0 false s.now }
+{
+    match front {
+        Ok((number, len)) => {
+            if len == s.len() {
+                Ok(number)
+            } else {
+                Err(AtoiSimdError::Invalid64(number, len, s))
+            }
+        }
         Err(error) => Err(of_whole(error, s)),
     }
 }
@@ -149,7 +192,6 @@ fn behind_zeros<'a, E: Engine>(
 
 // What the window at the place `at` answers, where only zeros that are skipped stand before it, and
 // there is a digit.
-#[inline(always)]
 fn answer_at(
     bound: u64,
     at: usize,

@@ -7,7 +7,7 @@ ghost use Rattle.atoi_core.specs.Refusal.{answer_of};
 
 use crate::engine::Engine;
 use crate::error::AtoiSimdError;
-use crate::front::{front_of_whole_64, front_of_whole_128};
+use crate::front::front_of_whole_128;
 use crate::steps::Steps;
 
 /// The number that `s` as a whole is, for an integer of 64 bits.
@@ -39,7 +39,7 @@ pub fn whole_64<'a, E: Engine>(
     ensures loads { LoadsWithin (most_loads E.table wide64 s.now) E.table skip s.now
         steps.old steps.new }
 {
-    let (number, len) = front_of_whole_64::<E>(bound, limit, skip, s, steps)?;
+    let (number, len) = E::prefix_64(bound, limit, skip, s, steps)?;
     if len == s.len() {
         Ok(number)
     } else {

@@ -1,19 +1,25 @@
 //! The engine that reads a window as one word of eight bytes, or as two. It stands on `words`,
-//! `engine`, `join`, `window`, `steps` and `digit_loop`.
-ghost use Rattle.std.specs.Prelude.{◌≡◌, ◌+◌, ◌-◌, ◌^◌, ◌<◌, ◌≤◌, ◌++◌, length, take, drop, replicate};
+//! `engine`, `join`, `window`, `steps` and `error`.
+ghost use Rattle.std.specs.Prelude.{◌≡◌, ◌+◌, ◌-◌, ◌^◌, ◌<◌, ◌≤◌, ◌==◌, ◌++◌, true, if◌then◌else◌, length, take, drop, replicate};
 ghost use Rattle.atoi_core.specs.Digit.{decimal_table};
+ghost use Rattle.atoi_core.specs.Loads.{LoadsWithin, most_loads};
+ghost use Rattle.atoi_core.specs.Magnitude.{HasDigits, wide64, prefix_magnitude};
+ghost use Rattle.atoi_core.specs.Refusal.{answer_of};
 ghost use Rattle.atoi_core.specs.Run.{run_len, zeros};
 ghost use Rattle.atoi_core.specs.Window.{window_of};
 ghost use Rattle.atoi_core.specs.Words.{low_bytes, low_value, word_of};
 ghost use Rattle.std.proofs.Common.{arith};
 ghost use Rattle.std.proofs.lemmas.Bool.Decides.{nat_tests};
 
-use crate::digit_loop::ZERO;
 use crate::engine::Engine;
-use crate::join;
+use crate::error::{AtoiSimdError, out_of_line};
+use crate::join::{self, answer_64};
 use crate::steps::Steps;
 use crate::window::Window;
-use crate::words::{len_zeroes, load_8, load_high, process_8};
+use crate::words::{load_8, load_high};
+
+// The zero, the byte 48, eight times.
+const ZEROS: u64 = 0x3030_3030_3030_3030;
 
 /// The engine that reads eight bytes at once, as a word. Its digits are the decimal ones.
 pub struct Words;
@@ -45,17 +51,78 @@ impl Engine for Words {
         if s.len() < 8 {
             return part(s);
         }
-        let word = load_8(s);
-        let len = digits_of(word);
-        let zeroes = if len == 8 { zeroes_of(word) } else { 0 };
-        Window {
-            len,
-            zeroes,
-            number: number_of(word, len),
+        told(load_8(s))
+    }
+
+    /// As the provided body, but a loop is entered only where there are zeros to skip.
+    #[inline(always)]
+    fn prefix_64<'a>(
+        bound: u64,
+        limit: u32,
+        skip: bool,
+        s: &'a [u8],
+        steps: &mut Steps,
+    ) -> Result<(u64, usize), AtoiSimdError<'a>> {
+        let front = Words::window(s, steps);
+        if skip && front.zeroes > 0 {
+            return out_of_line(behind_zeros(bound, limit, front.zeroes, s, steps));
+        }
+        if front.len == 0 {
+            Err(AtoiSimdError::Empty)
+        } else if front.len < 16 {
+            Ok((front.number, front.len as usize))
+        } else {
+            answer_64(bound, limit, 0, front, window_from_16(s, steps), s)
         }
     }
 
     ghost below_ten = { λ byte. Prim.grind (arith, nat_tests) };
+}
+
+// What `prefix_64` with zeros to skip answers, where the first window told `zeroes`: these and those
+// after them are skipped.
+#[inline(never)]
+fn behind_zeros<'a>(
+    bound: u64,
+    limit: u32,
+    zeroes: u32,
+    s: &'a [u8],
+    steps: &mut Steps,
+) -> Result<(u64, usize), AtoiSimdError<'a>>
+    requires limit_low { 17 ≤ limit }
+    requires limit_high { limit ≤ 20 }
+    requires digits { HasDigits limit bound }
+    requires some { 0 < zeroes }
+    requires told { zeroes ≡ (window_of decimal_table 16 s.now).zeroes }
+    ensures answer { answer_of result
+        ≡ prefix_magnitude decimal_table wide64 bound limit true s.now }
+    ensures loads { LoadsWithin (most_loads decimal_table wide64 s.now - 2) decimal_table true s.now
+        steps.old steps.new }
+{
+    let mut at = zeroes as usize;
+    let front = loop {
+        let window = Words::window(&s[at..], steps);
+        if window.zeroes == 0 {
+            break window;
+        }
+        at += window.zeroes as usize;
+    };
+    if front.len < 16 {
+        return Ok((front.number, at + front.len as usize));
+    }
+    let rest = &s[at..];
+    answer_64(bound, limit, at, front, window_from_16(rest, steps), s)
+}
+
+// The window of the 8 bytes from the 17th on, or of those that are there. Adds one step.
+#[inline(always)]
+fn window_from_16(s: &[u8], steps: &mut Steps) -> Window
+    requires { 16 ≤ length s.now }
+    ensures window { result ≡ window_of decimal_table 8 (drop 16 s.now) }
+    ensures one_step { steps.new ≡ steps.old + 1 }
+{
+    steps.tick();
+    told(load_from(s, 16))
 }
 
 // The window of at most 8 bytes. A slice of fewer is read as if zeros stood before it that count for
@@ -69,12 +136,12 @@ fn part(s: &[u8]) -> Window
     if s.is_empty() {
         return not_full(0, 0);
     }
-    let word = load_high(s);
-    let digits = digits_of(word + zeros_before(s.len()));
+    let filled = load_high(s) + zeros_before(s.len());
+    let digits = digits_of(filled);
     if digits == 8 {
-        not_full(s.len() as u32, process_8(word, 8))
+        not_full(s.len() as u32, value_of(filled, 8))
     } else {
-        not_full(digits - (8 - s.len() as u32), number_of(word, digits))
+        not_full(digits - (8 - s.len() as u32), number_of(filled, digits))
     }
 }
 
@@ -85,7 +152,7 @@ fn zeros_before(len: usize) -> u64
     requires few { len ≤ 8 }
     ensures { result ≡ word_of (replicate (8 - len) 48) }
 {
-    0x30_3030_3030_3030 >> (8 * (len - 1))
+    ZEROS - (ZEROS << (64 - 8 * len))
 }
 
 // The window of 16 bytes where the first 8, which `first` holds, are digits.
@@ -95,16 +162,16 @@ fn joined(s: &[u8], first: u64) -> Window
     requires full { run_len decimal_table (low_bytes 8 first) ≡ 8 }
     ensures { result ≡ window_of decimal_table 16 s.now }
 {
-    let next = load_next(s);
+    let next = load_from(s, 8);
     let more = digits_of(next);
     if more == 8 {
         Window {
             len: 16,
             zeroes: zeroes_of_two(first, next),
-            number: process_8(first, 8) * power_of_ten(8) + process_8(next, 8),
+            number: value_of(first, 8) * power_of_ten(8) + value_of(next, 8),
         }
     } else {
-        let high = process_8(first, 8) * power_of_ten(more);
+        let high = value_of(first, 8) * power_of_ten(more);
         not_full(8 + more, high + number_of(next, more))
     }
 }
@@ -120,25 +187,62 @@ fn not_full(len: u32, number: u64) -> Window
     }
 }
 
-// The word of the bytes from 8 on, at most 8. Where the slice ends among them, its last 8 hold them
-// all, and are shifted twice: by 64 bits at once, where none is left, a word cannot be.
-fn load_next(s: &[u8]) -> u64
-    requires { 8 ≤ length s.now }
-    ensures { result ≡ word_of (take 8 (drop 8 s.now)) }
+// The word of the bytes from `at` on, at most 8. Where the slice ends among them, its last 8 hold
+// them all, and are shifted twice: by 64 bits at once, where none is left, a word cannot be.
+#[inline(always)]
+fn load_from(s: &[u8], at: usize) -> u64
+    requires enough { 8 ≤ length s.now }
+    requires inside { at ≤ length s.now }
+    requires low { at ≤ 16 }
+    ensures { result ≡ word_of (take 8 (drop at s.now)) }
 {
     match s.last_chunk::<8>() {
-        Some(last) if s.len() < 16 => (u64::from_le_bytes(*last) >> (120 - 8 * s.len())) >> 8,
-        _ => load_8(&s[8..]),
+        Some(last) if s.len() < at + 8 => {
+            (u64::from_le_bytes(*last) >> (8 * (at + 7 - s.len()))) >> 8
+        }
+        _ => load_8(&s[at..]),
     }
 }
 
-// The number that the first `len` bytes write.
+// What a word of 8 bytes tells: a byte that is missing is 0, and no digit.
+#[inline(always)]
+fn told(word: u64) -> Window
+    ensures len { result.len ≡ run_len decimal_table (low_bytes 8 word) }
+    ensures zeroes { result.zeroes
+        ≡ (if result.len == 8 then zeros decimal_table (low_bytes 8 word) else 0) }
+    ensures number { result.number ≡ low_value (low_bytes result.len word) }
+{
+    let len = digits_of(word);
+    Window {
+        len,
+        zeroes: if len == 8 { zeroes_of(word) } else { 0 },
+        number: number_of(word, len),
+    }
+}
+
+// The number that the first `len` bytes write, which are all digits, or none.
 fn number_of(word: u64, len: u32) -> u64
-    requires { len ≤ 8 }
+    requires few { len ≤ 8 }
+    requires digits { len ≡ run_len decimal_table (low_bytes 8 word) }
     ensures sum { result ≡ low_value (low_bytes len word) }
     ensures most { result ≤ 166666665 }
 {
-    if len == 0 { 0 } else { process_8(word, len) }
+    if len == 0 { 0 } else { value_of(word, len) }
+}
+
+// The number that the first `len` bytes write, which are digits. It is what `process_8` answers: 48
+// is taken from each byte, as `digits_of` does it too, in place of a mask.
+fn value_of(word: u64, len: u32) -> u64
+    requires some { 1 ≤ len }
+    requires few { len ≤ 8 }
+    requires digits { len ≤ run_len decimal_table (low_bytes 8 word) }
+    ensures sum { result ≡ low_value (low_bytes len word) }
+    ensures most { result ≤ 166666665 }
+{
+    let ones = word.wrapping_sub(ZEROS) << (64 - 8 * len);
+    let tens = (ones.wrapping_mul(0xA01) >> 8) & 0x00FF_00FF_00FF_00FF;
+    let hundreds = (tens.wrapping_mul(0x64_0001) >> 16) & 0x0000_FFFF_0000_FFFF;
+    hundreds.wrapping_mul(0x2710_0000_0001) >> 32
 }
 
 // What `check_len_8` answers, in fewer steps. A byte's top bit marks that it is no digit: 70 added
@@ -148,7 +252,7 @@ fn digits_of(word: u64) -> u32
     ensures most { result ≤ 8 }
 {
     let above = word.wrapping_add(0x4646_4646_4646_4646);
-    let below = word.wrapping_sub(0x3030_3030_3030_3030);
+    let below = word.wrapping_sub(ZEROS);
     let marks = (above | below) & 0x8080_8080_8080_8080;
     if marks == 0 {
         8
@@ -157,24 +261,22 @@ fn digits_of(word: u64) -> u32
     }
 }
 
-// How many zeros the word begins with. Most begin with none.
+// How many zeros the word begins with: what `len_zeroes` answers, from the difference that
+// `digits_of` and `value_of` make too.
 fn zeroes_of(word: u64) -> u32
-    ensures { result ≡ zeros decimal_table (low_bytes 8 word) }
+    ensures zeroes { result ≡ zeros decimal_table (low_bytes 8 word) }
+    ensures most { result ≤ 8 }
 {
-    if word & 0xFF == ZERO {
-        len_zeroes(word)
-    } else {
-        0
-    }
+    word.wrapping_sub(ZEROS).trailing_zeros() / 8
 }
 
-// How many zeros two words begin with, one behind the other. Most begin with none.
+// How many zeros two words begin with, one after the other.
 fn zeroes_of_two(first: u64, next: u64) -> u32
     ensures { result ≡ zeros decimal_table (low_bytes 8 first ++ low_bytes 8 next) }
 {
     let zeroes = zeroes_of(first);
     if zeroes == 8 {
-        8 + len_zeroes(next)
+        8 + zeroes_of(next)
     } else {
         zeroes
     }

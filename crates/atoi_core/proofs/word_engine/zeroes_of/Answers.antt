@@ -1,6 +1,6 @@
--- A word whose lowest byte is no zero begins with none.
-use Rattle.atoi_core.proofs.WordWindows.{no_zero_first}
+-- The trailing bytes of 0 are the zeros.
+use Rattle.atoi_core.proofs.WordRuns.{lowered_zeros_counted}
 use Rattle.atoi_core.proofs.word_engine.zeroes_of.Goals as goal
 
-pub returns-else-word-eq-ZERO : goal.returns-else-word-eq-ZERO
-returns-else-word-eq-ZERO c = no_zero_first c.args.word c.if-word-eq-ZERO.false
+pub returns-clause-zeroes : goal.returns-clause-zeroes
+returns-clause-zeroes c = lowered_zeros_counted 8 c.args.word

@@ -1,13 +1,15 @@
 -- The loop leaves what `Skipped` says; the answers and the loads follow from it.
-use Rattle.std.proofs.Common.{◌≡◌, ◌+◌, ◌-◌, ◌*◌, ◌^◌, ◌<◌, ℕ, ap, refl, arith, drop}
-use Rattle.std.proofs.lemmas.List.{take_rest}
+use Rattle.std.proofs.Common.{◌+◌, ◌-◌, ◌*◌, ◌^◌, ◌∙◌, refl, arith, drop}
+use Rattle.std.proofs.lemmas.List.{length-drop}
+use Rattle.std.proofs.lemmas.List.Sums.{prefix_len-le-length}
+use Rattle.atoi_core.specs.Digit.{is_digit}
 use Rattle.atoi_core.specs.Loads.{LoadsWithin, most_loads}
 use Rattle.atoi_core.specs.Magnitude.{wide64}
-use Rattle.atoi_core.proofs.WindowLemmas.{Reads, Shows, Reads-join}
+use Rattle.atoi_core.proofs.WindowLemmas.{Reads, Shows, Shows-below, Reads-join}
 use Rattle.atoi_core.proofs.SkipLemmas.{Skipping-none, Skipping-more, Skipped, Skipped-end, Skipped-loads, shows_behind}
-use Rattle.atoi_core.proofs.WideLemmas.{wide_64, answers_empty, answers_short, answers_size, answers_overflow, answers_ok, below_bound, some_within, none_above}
+use Rattle.atoi_core.proofs.WideLemmas.{wide_64, answers_empty, answers_short, answers_full}
 use Rattle.atoi_core.proofs.engine.Engine.prefix_64.Goals as goal
-use Rattle.atoi_core.proofs.engine.Engine.prefix_64.Goals.{After-window_8-back, After-power_of_ten-power}
+use Rattle.atoi_core.proofs.engine.Engine.prefix_64.Goals.{After-window_8-back}
 
 pub loop-window-init : goal.loop-window-init
 loop-window-init g c = Skipping-none _ c.args.skip c.args.s.now c.args.steps.now
@@ -64,67 +66,26 @@ loads : (g : _) (c : After-window_8-back g)
     → LoadsWithin (most_loads g.Self.Engine.table wide64 c.args.s.now - 1) g.Self.Engine.table c.args.skip c.args.s.now c.args.steps.now c.window_8-back.new.steps
 loads g c = Skipped-loads _ _ _ _ _ _ _ _ _ (ended g c) 1 (omega (arith, c.window_8-back.ensures.one_step)) (omega arith)
 
-pub overflow_add-digits : goal.overflow_add-digits
-overflow_add-digits g c = omega (arith, (behind g (goal.at.overflow_add-digits g c).After-window_8-back).reads.within)
+pub answer_64-requires-clause-front_high : goal.answer_64-requires-clause-front_high
+answer_64-requires-clause-front_high g c =
+    let both = (goal.at.answer_64-requires-clause-front_high g c).After-window_8-back in
+    Shows-below _ _ _ _ (ended g both).shown
 
-pub returns-then-digits-limit-clause-answer : goal.returns-then-digits-limit-clause-answer
-returns-then-digits-limit-clause-answer g c =
-    let both = (goal.at.returns-then-digits-limit-clause-answer g c).After-window_8-back in
-    answers_size _ _ _ _ _ _ _ _ _ _ _ _ _ _ wide_64 (ended g both) c.if-front-lt16.false (read g both) c.if-digits-limit.true
-    refl (take_rest c.args.s.now c.loop-window.at)
+pub answer_64-requires-clause-back_short : goal.answer_64-requires-clause-back_short
+answer_64-requires-clause-back_short g c = (behind g (goal.at.answer_64-requires-clause-back_short g c).After-window_8-back).reads.within
 
-pub returns-then-digits-limit-clause-loads : goal.returns-then-digits-limit-clause-loads
-returns-then-digits-limit-clause-loads g c = loads g (goal.at.returns-then-digits-limit-clause-loads g c).After-window_8-back
+pub answer_64-requires-clause-back_high : goal.answer_64-requires-clause-back_high
+answer_64-requires-clause-back_high g c = (behind g (goal.at.answer_64-requires-clause-back_high g c).After-window_8-back).reads.below
 
-pub returns-then-digits-limit-2-clause-loads : goal.returns-then-digits-limit-2-clause-loads
-returns-then-digits-limit-2-clause-loads g c = loads g (goal.at.returns-then-digits-limit-2-clause-loads g c).After-window_8-back
+pub answer_64-requires-clause-inside : goal.answer_64-requires-clause-inside
+answer_64-requires-clause-inside g c =
+    let both = (goal.at.answer_64-requires-clause-inside g c).After-window_8-back in
+    omega (arith, (read g both).inside, (ended g both).within, prefix_len-le-length (is_digit g.Self.Engine.table) (drop c.loop-window.at c.args.s.now), length-drop c.loop-window.at c.args.s.now)
 
-pub returns-in-Some-clause-loads : goal.returns-in-Some-clause-loads
-returns-in-Some-clause-loads g c = loads g (goal.at.returns-in-Some-clause-loads g c).After-window_8-back
+pub returns-clause-answer : goal.returns-clause-answer
+returns-clause-answer g c =
+    let both = (goal.at.returns-clause-answer g c).After-window_8-back in
+    c.answer_64.ensures ∙ answers_full _ _ _ _ _ _ _ _ _ _ _ (ended g both) c.if-front-lt16.false (read g both) (omega arith) c.requires.limit_high
 
-pub returns-in-None-clause-loads : goal.returns-in-None-clause-loads
-returns-in-None-clause-loads g c = loads g (goal.at.returns-in-None-clause-loads g c).After-window_8-back
-
--- the power of ten is that of the bytes behind
-product : (g : _) (c : After-power_of_ten-power g)
-    → c.window-window.result.number * c.power_of_ten-power.result ≡ c.window-window.result.number * 10 ^ c.window_8-back.result.len
-product g c = ap (λ (e : ℕ). c.window-window.result.number * e) c.power_of_ten-power.ensures
-
--- fewer digits than the bound has write less
-less : (g : _) (c : After-window_8-back g) → 16 + c.window_8-back.result.len < c.args.limit
-    → c.window-window.result.number * 10 ^ c.window_8-back.result.len + c.window_8-back.result.number < c.args.bound
-less g c short = below_bound c.args.limit c.args.bound (16 + c.window_8-back.result.len) _ c.requires.digits short (read g c).below
-
-pub overflow_mul-result : goal.overflow_mul-result
-overflow_mul-result g c =
-    let at = goal.at.overflow_mul-result g c in
-    omega (arith, product g at.After-power_of_ten-power, less g at.After-window_8-back c.if-digits-limit-2.true, c.ranges.bound.fits)
-
-pub overflow_add-result : goal.overflow_add-result
-overflow_add-result g c =
-    let at = goal.at.overflow_add-result g c in
-    omega (arith, product g at.After-power_of_ten-power, less g at.After-window_8-back c.if-digits-limit-2.true, c.ranges.bound.fits)
-
-pub returns-then-digits-limit-2-clause-answer : goal.returns-then-digits-limit-2-clause-answer
-returns-then-digits-limit-2-clause-answer g c =
-    let both = (goal.at.returns-then-digits-limit-2-clause-answer g c).After-window_8-back in
-    let power = product g (goal.at.returns-then-digits-limit-2-clause-answer g c).After-power_of_ten-power in
-    let within = less g both c.if-digits-limit-2.true in
-    answers_ok _ _ _ _ _ _ _ _ _ _ _ _ _ _ wide_64 (ended g both) c.if-front-lt16.false (read g both) (omega arith) (omega arith) (omega arith)
-    (omega arith) refl
-
-pub returns-in-Some-clause-answer : goal.returns-in-Some-clause-answer
-returns-in-Some-clause-answer g c =
-    let both = (goal.at.returns-in-Some-clause-answer g c).After-window_8-back in
-    let power = product g (goal.at.returns-in-Some-clause-answer g c).After-power_of_ten-power in
-    let told = some_within c.args.bound _ c.in-Some.number _ c.in-Some.is c.up_to_64.ensures in
-    answers_ok _ _ _ _ _ _ _ _ _ _ _ _ _ _ wide_64 (ended g both) c.if-front-lt16.false (read g both) (omega arith) (omega arith) (omega (arith, told.1))
-    (omega (arith, told.0)) refl
-
-pub returns-in-None-clause-answer : goal.returns-in-None-clause-answer
-returns-in-None-clause-answer g c =
-    let both = (goal.at.returns-in-None-clause-answer g c).After-window_8-back in
-    let power = product g (goal.at.returns-in-None-clause-answer g c).After-power_of_ten-power in
-    let over = none_above c.args.bound _ _ c.in-None.is c.up_to_64.ensures in
-    answers_overflow _ _ _ _ _ _ _ _ _ _ _ _ _ wide_64 (ended g both) c.if-front-lt16.false (read g both) (omega arith) (omega arith) (omega (arith, over))
-    (take_rest c.args.s.now c.loop-window.at)
+pub returns-clause-loads : goal.returns-clause-loads
+returns-clause-loads g c = loads g (goal.at.returns-clause-loads g c).After-window_8-back

@@ -1,0 +1,104 @@
+-- The loop goes on after the zeros of the first window; the answers and the loads follow from where it ends.
+use Rattle.std.proofs.Common.{◌≡◌, ◌+◌, ◌-◌, ◌*◌, ◌^◌, ◌≤◌, ℕ, List, true, inr, refl, ap, ◌∙◌, arith, drop, length}
+use Rattle.std.proofs.lemmas.List.{length-drop, take_rest}
+use Rattle.std.proofs.lemmas.List.Sums.{prefix_len-le-length}
+use Rattle.atoi_core.specs.Digit.{decimal_table, is_digit}
+use Rattle.atoi_core.specs.Window.{window_of}
+use Rattle.atoi_core.proofs.Digits.{decimal_below_ten}
+use Rattle.atoi_core.proofs.SkipLemmas.{Skipping-told, Skipping-more, Skipped, Skipped-end}
+use Rattle.atoi_core.proofs.WideLemmas.{wide_64, answers_short, answers_full}
+use Rattle.atoi_core.proofs.WindowLemmas.{Reads, Shows, Shows-below, Reads-join, shows}
+use Rattle.atoi_core.proofs.word_engine.behind_zeros.Goals as goal
+use Rattle.atoi_core.proofs.word_engine.behind_zeros.Goals.{After-window-window, After-window_from_16}
+
+pub loop-window-init : goal.loop-window-init
+loop-window-init c =
+    record {
+      skipping = Skipping-told decimal_table decimal_below_ten c.args.s.now c.args.steps.now c.args.zeroes c.requires.told c.requires.some;
+      some = c.requires.some;
+    }
+
+pub loop-window-preserved : goal.loop-window-preserved
+loop-window-preserved c =
+    record {
+      skipping = Skipping-more decimal_table decimal_below_ten true c.args.s.now _ _ _ (c.window-window.new.steps + 1) c.window-window.result
+          c.loop-window.invariant.skipping c.window-window.ensures.window (omega arith) refl (omega arith);
+      some = omega (arith, c.loop-window.invariant.some);
+    }
+
+-- where the loop ends
+ended : (c : After-window-window) → c.window-window.result.zeroes ≡ 0
+    → Skipped decimal_table true c.args.s.now c.loop-window.at c.args.steps.now (c.window-window.new.steps + 1) c.window-window.result
+ended c none =
+    Skipped-end decimal_table decimal_below_ten true c.args.s.now _ _ _ (c.window-window.new.steps + 1) c.window-window.result
+    c.loop-window.invariant.skipping c.window-window.ensures.window (omega arith) (inr (refl, none))
+
+pub returns-then-front-lt16-clause-answer : goal.returns-then-front-lt16-clause-answer
+returns-then-front-lt16-clause-answer c =
+    let so = ended (goal.at.returns-then-front-lt16-clause-answer c).After-window-window c.if-window-eq0.true in
+    answers_short _ _ _ _ _ _ _ _ _ _ _ _ wide_64 so c.if-front-lt16.true (omega (arith, c.loop-window.invariant.some)) (omega arith) c.requires.digits refl refl
+
+pub returns-then-front-lt16-clause-loads : goal.returns-then-front-lt16-clause-loads
+returns-then-front-lt16-clause-loads c =
+    let so = ended (goal.at.returns-then-front-lt16-clause-loads c).After-window-window c.if-window-eq0.true in
+    record {
+      at_most = omega (arith, so.most);
+      at_least = λ _. omega (arith, so.more);
+      at_least_skipping = λ _. omega (arith, so.least refl);
+    }
+
+-- the slice has so many bytes
+long : (c : After-window-window) → 16 ≤ c.window-window.result.len → c.window-window.result.zeroes ≡ 0 → 16 ≤ length c.args.s.now - c.loop-window.at
+long c full none =
+    omega (arith, full, (ended c none).shown.reads.inside, prefix_len-le-length (is_digit decimal_table) (drop c.loop-window.at c.args.s.now), length-drop c.loop-window.at c.args.s.now)
+
+pub window_from_16-requires : goal.window_from_16-requires
+window_from_16-requires c =
+    let at = (goal.at.window_from_16-requires c).After-window-window in
+    rw (take_rest c.args.s.now c.loop-window.at, length-drop c.loop-window.at c.args.s.now) (long at c.if-front-lt16.false c.if-window-eq0.true)
+
+-- the eight bytes after it
+behind : (c : After-window_from_16) → Shows decimal_table 8 (drop 16 (drop c.loop-window.at c.args.s.now)) c.window_from_16.result
+behind c =
+    shows decimal_table decimal_below_ten 8 (drop 16 (drop c.loop-window.at c.args.s.now)) c.window_from_16.result
+    (c.window_from_16.ensures.window ∙ ap (λ (r : List ℕ). window_of decimal_table 8 (drop 16 r)) (take_rest c.args.s.now c.loop-window.at))
+
+-- what both read together
+read : (c : After-window_from_16) → 16 ≤ c.window-window.result.len
+    → Skipped decimal_table true c.args.s.now c.loop-window.at c.args.steps.now (c.window-window.new.steps + 1) c.window-window.result
+    → Reads decimal_table 24 (drop c.loop-window.at c.args.s.now) (16 + c.window_from_16.result.len)
+    (c.window-window.result.number * 10 ^ c.window_from_16.result.len + c.window_from_16.result.number)
+read c full so =
+    Reads-join decimal_table 16 8 (drop c.loop-window.at c.args.s.now) c.window-window.result c.window_from_16.result.len c.window_from_16.result.number
+    so.shown full (behind c).reads
+
+pub answer_64-requires-clause-front_high : goal.answer_64-requires-clause-front_high
+answer_64-requires-clause-front_high c =
+    Shows-below _ _ _ _ (ended (goal.at.answer_64-requires-clause-front_high c).After-window-window c.if-window-eq0.true).shown
+
+pub answer_64-requires-clause-back_short : goal.answer_64-requires-clause-back_short
+answer_64-requires-clause-back_short c = (behind (goal.at.answer_64-requires-clause-back_short c).After-window_from_16).reads.within
+
+pub answer_64-requires-clause-back_high : goal.answer_64-requires-clause-back_high
+answer_64-requires-clause-back_high c = (behind (goal.at.answer_64-requires-clause-back_high c).After-window_from_16).reads.below
+
+pub answer_64-requires-clause-inside : goal.answer_64-requires-clause-inside
+answer_64-requires-clause-inside c =
+    let both = (goal.at.answer_64-requires-clause-inside c).After-window_from_16 in
+    let so = ended (goal.at.answer_64-requires-clause-inside c).After-window-window c.if-window-eq0.true in
+    omega (arith, (read both c.if-front-lt16.false so).inside, so.within, prefix_len-le-length (is_digit decimal_table) (drop c.loop-window.at c.args.s.now), length-drop c.loop-window.at c.args.s.now)
+
+pub returns-clause-answer : goal.returns-clause-answer
+returns-clause-answer c =
+    let both = (goal.at.returns-clause-answer c).After-window_from_16 in
+    let so = ended (goal.at.returns-clause-answer c).After-window-window c.if-window-eq0.true in
+    c.answer_64.ensures ∙ answers_full _ _ _ _ _ _ _ _ _ _ _ so c.if-front-lt16.false (read both c.if-front-lt16.false so) (omega arith) c.requires.limit_high
+
+pub returns-clause-loads : goal.returns-clause-loads
+returns-clause-loads c =
+    let so = ended (goal.at.returns-clause-loads c).After-window-window c.if-window-eq0.true in
+    record {
+      at_most = omega (arith, so.most, c.window_from_16.ensures.one_step);
+      at_least = λ _. omega (arith, so.more, c.window_from_16.ensures.one_step);
+      at_least_skipping = λ _. omega (arith, so.least refl, c.window_from_16.ensures.one_step);
+    }
