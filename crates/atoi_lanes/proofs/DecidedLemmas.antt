@@ -6,8 +6,8 @@ use Rattle.std.proofs.lemmas.Bool.Decides.{nat_tests}
 use Rattle.atoi_core.specs.Digit.{IsBelowTen, decimal_table}
 use Rattle.atoi_core.specs.Run.{zeros}
 use Rattle.atoi_core.specs.Refusal.{empty, size, overflow}
-use Rattle.atoi_core.specs.Magnitude.{wide64, wide128, HasDigits, prefix_magnitude}
-use Rattle.atoi_core.specs.Reading.{Reading, IsSkipped, counting_digits, answer_by_digits, ReadingDecides}
+use Rattle.atoi_core.specs.Magnitude.{Class, wide64, wide128, HasDigits, prefix_magnitude}
+use Rattle.atoi_core.specs.Reading.{Reading, cap, counting_digits, answer_by_digits, ReadingDecides}
 use Rattle.atoi_core.specs.Window.{window_of}
 use Rattle.atoi_core.specs.declared.window.Window.{Window}
 use Rattle.atoi_lanes.specs.ReadsBehind.{ReadsBehind}
@@ -40,45 +40,21 @@ counted-le : (skip : Bool) (len told : ℕ) → counting_digits skip len told �
 counted-le true len told = omega arith
 counted-le false len told = omega arith
 
--- 64 bits: a window of the first 16 bytes that is not full of digits decides
-pub decided_first : ReadingDecides → IsBelowTen decimal_table → (bound limit : ℕ) (skip : Bool) (s : List ℕ) (w : Window) → 17 ≤ limit → limit ≤ 20 → HasDigits limit bound
-    → w ≡ window_of decimal_table 16 s → w.len < 16
-    → cond (eqb w.len 0) (Err empty) (Ok (w.number, w.len)) ≡ prefix_magnitude decimal_table wide64 bound limit skip s
-decided_first law ten bound limit skip s w long low digits e short =
-    let leading : ℕ = zeros decimal_table (take 16 s) in
-    let reading : Reading decimal_table 16 (drop 0 s) w.len leading w.number =
-    record { digits_are = ap (λ v. v.len) e; leading_are = refl; number_is = ap (λ v. v.number) e } in
-    let counting : ℕ = counting_digits skip w.len leading in
-    let most : counting ≤ w.len = counted-le skip w.len leading in
-    let power : 10 ^ w.len ≤ 10 ^ (limit - 1) = pow-le-pow_right {n = 10} (lit< tt) {i = w.len} {j = limit - 1} (omega arith) in
-    let below : w.number < 10 ^ w.len = law.below decimal_table ten 16 (drop 0 s) w.len leading w.number reading in
-    let few : ltb limit counting ≡ false = le-ltb limit counting (omega arith) in
-    let less : ltb bound w.number ≡ false = le-ltb bound w.number (omega (arith, digits.0)) in
-    let total : 0 + (w.len - counting) + counting ≡ w.len = omega arith in
-    let skipped : IsSkipped decimal_table skip s 0 = record { zeros_only = omega arith; asked = λ _. refl } in
-    sym (law.decided decimal_table wide64 bound limit (omega arith) skip s 0 16 w.len leading w.number skipped reading (inl short) ∙ rw (few, less, total) refl)
-
--- and it holds all zeros that the slice begins with
-pub few_zeros : ReadingDecides → (s : List ℕ) (w : Window) → w ≡ window_of decimal_table 16 s → w.len < 16 → zeros decimal_table s < 16
-few_zeros law s w e short =
-    let leading : ℕ = zeros decimal_table (take 16 s) in
-    let reading : Reading decimal_table 16 (drop 0 s) w.len leading w.number =
-    record { digits_are = ap (λ v. v.len) e; leading_are = refl; number_is = ap (λ v. v.number) e } in
-    omega (arith, (law.within decimal_table 16 (drop 0 s) w.len leading w.number reading).0, law.zeros_left decimal_table 16 s 0 (omega arith))
-
--- 128 bits: a window that is not full of digits decides, since these are too few to pass the bound
-pub decided_short : ReadingDecides → IsBelowTen decimal_table → (bound : ℕ) (skip : Bool) (s : List ℕ) (at : ℕ) (w : Window32) → HasDigits 39 bound
-    → ReadsBehind skip s at w.len w.zeroes w.number → w.len < 32
-    → cond (eqb (at + w.len) 0) (Err empty) (Ok (w.number, at + w.len)) ≡ prefix_magnitude decimal_table wide128 bound 39 skip s
-decided_short law ten bound skip s at w digits front short =
+-- a window that is not full of digits decides, and tells fewer than the limit: these are too few to pass the bound
+pub decided_short : ReadingDecides → IsBelowTen decimal_table → (class : Class) (bound limit : ℕ) → limit < cap class → HasDigits limit bound
+    → (skip : Bool) (s : List ℕ) (at : ℕ) (w : Window32) → ReadsBehind skip s at w.len w.zeroes w.number → w.len < 32 → w.len < limit
+    → (w.number ≤ bound)
+    × (cond (eqb (at + w.len) 0) (Err empty) (Ok (w.number, at + w.len)) ≡ prefix_magnitude decimal_table class bound limit skip s)
+decided_short law ten class bound limit capped digits skip s at w front short few =
     let counting : ℕ = counting_digits skip w.len w.zeroes in
     let most : counting ≤ w.len = counted-le skip w.len w.zeroes in
-    let power : 10 ^ w.len ≤ 10 ^ 38 = pow-le-pow_right {n = 10} (lit< tt) {i = w.len} {j = 38} (omega arith) in
+    let power : 10 ^ w.len ≤ 10 ^ (limit - 1) = pow-le-pow_right {n = 10} (lit< tt) {i = w.len} {j = limit - 1} (omega arith) in
     let below : w.number < 10 ^ w.len = law.below decimal_table ten 32 (drop at s) w.len w.zeroes w.number front.reading in
-    let few : ltb 39 counting ≡ false = le-ltb 39 counting (omega arith) in
-    let less : ltb bound w.number ≡ false = le-ltb bound w.number (omega (arith, digits.0)) in
+    let size : ltb limit counting ≡ false = le-ltb limit counting (omega arith) in
+    let within : w.number ≤ bound = omega (arith, digits.0) in
+    let less : ltb bound w.number ≡ false = le-ltb bound w.number within in
     let total : at + (w.len - counting) + counting ≡ at + w.len = omega arith in
-    sym (law.decided decimal_table wide128 bound 39 (lit< tt) skip s at 32 w.len w.zeroes w.number front.skipped front.reading (inl short) ∙ rw (few, less, total) refl)
+    (within, sym (law.decided decimal_table class bound limit capped skip s at 32 w.len w.zeroes w.number front.skipped front.reading (inl short) ∙ rw (size, less, total) refl))
 
 -- behind a window that begins with no zero that is skipped, all digits count
 all_count : (skip : Bool) (n told others : ℕ) → (skip ≡ true → told ≡ 0) → counting_digits skip n (cond (eqb told 32) (32 + others) told) ≡ n

@@ -1,11 +1,10 @@
 -- The loop that drops zeros by whole windows: how far it comes, and how many windows it loads.
-use Rattle.std.proofs.Common.{◌≡◌, ◌⊎◌, ℕ, ◌+◌, ◌-◌, ◌*◌, ◌/◌, ◌<◌, ◌≤◌, min, Bool, true, false, List, length, take, refl, sym, ◌∙◌, inl, inr, arith}
+use Rattle.std.proofs.Common.{◌≡◌, ◌⊎◌, ℕ, ◌+◌, ◌-◌, ◌*◌, ◌/◌, ◌<◌, ◌≤◌, min, Bool, true, false, List, length, refl, sym, ◌∙◌, inl, inr, arith}
 use Rattle.std.proofs.lemmas.Bool.{cases_lt, false≢true}
-use Rattle.std.proofs.lemmas.List.{length-take}
 use Rattle.std.proofs.lemmas.List.Sums.{prefix_len-le-length}
-use Rattle.atoi_core.specs.Digit.{decimal_table, is_digit, is_zero}
+use Rattle.atoi_core.specs.Digit.{decimal_table, is_zero}
 use Rattle.atoi_core.specs.Reading.{Reading, IsSkipped, ReadingDecides}
-use Rattle.atoi_core.specs.Run.{run_len, zeros}
+use Rattle.atoi_core.specs.Run.{zeros}
 use Rattle.atoi_lanes.specs.ReadsBehind.{ReadsBehind}
 
 -- before a window is loaded at a place: only zeros that are skipped stand before it, a window was
@@ -47,31 +46,32 @@ pub Skipping-loads : (skip : Bool) (s : List ℕ) (at before now leading : ℕ) 
     → leading ≡ min 32 (zeros decimal_table s - at) → leading < 32 → before + zeros decimal_table s / 32 ≤ now
 Skipping-loads skip s at before now leading so told few = omega (arith, so.least)
 
--- before the first window nothing is skipped
-pub reads-first : (skip : Bool) (s : List ℕ) (len leading number : ℕ) → Reading decimal_table 32 s len leading number
+-- where the first window does not begin with zeros that are skipped and fill it, or is not full
+pub first-ends : (skip : Bool) (len leading : ℕ) → len ≤ 32
     → ((skip ≡ true) × (0 < leading) × (len ≡ 32 → ⊥)) ⊎ (((skip ≡ true) × (leading ≤ 0)) ⊎ (skip ≡ false))
-    → ReadsBehind skip s 0 len leading number
-reads-first skip s len leading number reading ends =
-    let most : run_len decimal_table (take 32 s) ≤ length (take 32 s) = prefix_len-le-length (is_digit decimal_table) (take 32 s) in
-    let within : (len ≤ 32) × (len ≤ length s) = (omega (arith, reading.digits_are, most, length-take 32 s), omega (arith, reading.digits_are, most, length-take 32 s)) in
+    → skip ≡ true → 32 ≤ len → leading ≡ 0
+first-ends skip len leading most ends on full =
+    elim ends [
+      | inl short ↦ absurd (short.2 (omega arith))
+      | inr rest ↦ (elim rest [ inl none ↦ omega (arith, none.1) | inr off ↦ absurd (false≢true (sym off ∙ on)) ])
+    ]
+
+-- before it nothing is skipped
+pub reads-first : ReadingDecides → (skip : Bool) (s : List ℕ) (len leading number : ℕ) → Reading decimal_table 32 s len leading number
+    → (skip ≡ true → 32 ≤ len → leading ≡ 0) → ReadsBehind skip s 0 len leading number
+reads-first law skip s len leading number reading ends =
+    let most = law.within decimal_table 32 s len leading number reading in
     record {
       skipped = (Skipping-none skip s 0).skipped;
       reading = reading;
-      within = omega (arith, within.1);
-      ends = λ on full. elim ends [
-        | inl short ↦ absurd (short.2 (omega (arith, within.0)))
-        | inr rest ↦ (elim rest [ inl none ↦ omega (arith, none.1) | inr off ↦ absurd (false≢true (sym off ∙ on)) ])
-      ];
+      within = omega (arith, most.1);
+      ends = ends;
     }
 
 -- and fewer zeros than it has bytes stand in front, where they are skipped
 pub few-zeros : ReadingDecides → (skip : Bool) (s : List ℕ) (len leading number : ℕ) → Reading decimal_table 32 s len leading number
-    → ((skip ≡ true) × (0 < leading) × (len ≡ 32 → ⊥)) ⊎ (((skip ≡ true) × (leading ≤ 0)) ⊎ (skip ≡ false))
-    → skip ≡ true → zeros decimal_table s < 32
+    → (skip ≡ true → 32 ≤ len → leading ≡ 0) → skip ≡ true → zeros decimal_table s < 32
 few-zeros law skip s len leading number reading ends on =
     let told : leading ≡ min 32 (zeros decimal_table s - 0) = reading.leading_are ∙ law.zeros_left decimal_table 32 s 0 (omega arith) in
     let most = law.within decimal_table 32 s len leading number reading in
-    elim ends [
-      | inl short ↦ elim (cases_lt len 32) [ inl less ↦ omega (arith, most.0, told) | inr more ↦ absurd (short.2 (omega (arith, most.1))) ]
-      | inr rest ↦ (elim rest [ inl none ↦ omega (arith, none.1, told) | inr off ↦ absurd (false≢true (sym off ∙ on)) ])
-    ]
+    elim (cases_lt len 32) [ inl less ↦ omega (arith, most.0, told) | inr more ↦ omega (arith, ends on more, told) ]

@@ -1,13 +1,11 @@
 -- Thirty-two bytes in the lanes of two halves.
-use Rattle.std.proofs.Common.{◌≡◌, ℕ, zero, suc, min, ◌+◌, ◌-◌, ◌*◌, ◌^◌, ◌≤◌, true, false, cond, eqb, List, [], ◌∷◌, ◌++◌, length, take, drop, replicate, refl, sym, ap, ap₂, ◌∙◌, inl, inr, arith}
+use Rattle.std.proofs.Common.{◌≡◌, ℕ, zero, suc, min, ◌<◌, ◌==◌, ◌&&◌, Bool, ne_eqb, ◌+◌, ◌-◌, ◌*◌, ◌^◌, ◌≤◌, true, false, cond, List, [], ◌∷◌, ◌++◌, length, take, drop, replicate, refl, sym, ap, ap₂, ◌∙◌, inl, inr, arith}
 use Rattle.std.specs.List.{prefix_len}
 use Rattle.std.proofs.Math.Seq.{take-add, take-append-add}
-use Rattle.std.proofs.Math.Nat.{sub-zero}
-use Rattle.std.proofs.lemmas.Bool.{eqb-true, cases_lt}
+use Rattle.std.proofs.lemmas.Bool.{eq-eqb, cases_lt}
 use Rattle.std.proofs.lemmas.Nat.{pow-add}
-use Rattle.std.proofs.lemmas.List.{append-nil, take_all, take-append-le, drop-drop, drop_all, length-append, length-take-le, length-drop, length-replicate, take-append-drop, take-replicate, take-take}
+use Rattle.std.proofs.lemmas.List.{append-nil, take_all, take-append-le, drop-drop, drop_all, length-append, length-take-le, length-drop, length-replicate, take-replicate}
 use Rattle.std.proofs.lemmas.List.Folds.{prefix_len-append}
-use Rattle.std.proofs.lemmas.List.Sums.{prefix_len-le-length}
 use Rattle.atoi_core.specs.Digit.{Table, decimal_table, is_digit, is_zero, worth}
 use Rattle.atoi_core.specs.Run.{run_len, run, zeros, value}
 use Rattle.atoi_core.specs.Reading.{Reading}
@@ -57,39 +55,78 @@ value_append t (x ∷ xs) ys =
     ap (λ n. worth t x * 10 ^ n) (length-append xs ys) ∙ ap (λ p. worth t x * p) (pow-add 10 (length xs) (length ys)) in
     omega (arith, power, value_append t xs ys)
 
--- the run of the lanes, cut in two
-pub halves_run : (k n : ℕ) (v : List ℕ) → k ≤ length v → n ≤ run_len decimal_table v
-    → (n - (n - k) ≤ run_len decimal_table (take k v)) × (n - k ≤ run_len decimal_table (drop k v))
-halves_run k n v long within =
-    let p = is_digit decimal_table in
-    let whole = ap (prefix_len p) (sym (take-append-drop k v)) ∙ prefix_len-append p (take k v) (drop k v) in
-    let first : length (take k v) ≡ k = length-take-le k v long in
-    (elim (eqb (prefix_len p (take k v)) (length (take k v))) as
-    (λ b. eqb (prefix_len p (take k v)) (length (take k v)) ≡ b → prefix_len p v ≡ cond b (length (take k v) + prefix_len p (drop k v)) (prefix_len p (take k v))
-    → (n - (n - k) ≤ prefix_len p (take k v)) × (n - k ≤ prefix_len p (drop k v))) [
-      | true ↦ λ e is. let full : prefix_len p (take k v) ≡ length (take k v) = eqb-true _ _ e in (omega arith, omega arith)
-      | false ↦ λ e is. let most : prefix_len p (take k v) ≤ length (take k v) = prefix_len-le-length p (take k v) in (omega arith, omega arith)
-    ]) refl whole
+-- a front that fails within the first lanes ends there
+front-short : (p : ℕ → Bool) (xs ys : List ℕ) → prefix_len p xs < length xs → prefix_len p (xs ++ ys) ≡ prefix_len p xs
+front-short p xs ys short =
+    prefix_len-append p xs ys ∙ ap (λ b. cond b (length xs + prefix_len p ys) (prefix_len p xs)) (ne_eqb (prefix_len p xs) (length xs) (omega arith))
 
--- and their number, joined from those of both
-pub halves_value : (k n : ℕ) (v : List ℕ) → n ≤ length v
-    → value decimal_table (take (n - (n - k)) (take k v)) * 10 ^ (n - k) + value decimal_table (take (n - k) (drop k v)) ≡ value decimal_table (take n v)
-halves_value k n v long =
-    let t = decimal_table in
-    elim (cases_lt n k) [
-      | inl h ↦
-          let none : n - k ≡ 0 = omega arith in
-          rw (none, sub-zero n) (omega (arith, ap (value t) (take-take n k v (omega arith))))
-      | inr h ↦
-          let high : n - (n - k) ≡ k = omega arith in
-          let all : k + (n - k) ≡ n = omega arith in
-          let behind : length (take (n - k) (drop k v)) ≡ n - k = length-take-le (n - k) (drop k v) (rw length-drop (omega arith)) in
-          ap (λ m. value t (take m (take k v)) * 10 ^ (n - k) + value t (take (n - k) (drop k v))) high
-          ∙ ap₂ (λ xs m. value t xs * 10 ^ m + value t (take (n - k) (drop k v))) (take-take k k v (omega arith)) (sym behind)
-          ∙ sym (value_append t (take k v) (take (n - k) (drop k v)))
-          ∙ ap (value t) (sym (take-add k (n - k) v))
-          ∙ ap (λ m. value t (take m v)) all
+-- one that does not goes on in the lanes behind them
+front-full : (p : ℕ → Bool) (xs ys : List ℕ) → prefix_len p xs ≡ length xs → prefix_len p (xs ++ ys) ≡ length xs + prefix_len p ys
+front-full p xs ys full =
+    prefix_len-append p xs ys ∙ ap (λ b. cond b (length xs + prefix_len p ys) (prefix_len p xs)) (eq-eqb (prefix_len p xs) (length xs) full)
+
+-- zeros are digits
+zeros-run : (xs : List ℕ) → zeros decimal_table xs ≤ run_len decimal_table xs
+zeros-run [] = omega arith
+zeros-run (x ∷ xs) =
+    elim (is_digit decimal_table x) as (λ b. cond (b && (worth decimal_table x == 0)) (1 + zeros decimal_table xs) 0 ≤ cond b (1 + run_len decimal_table xs) 0) [
+      | true ↦ (elim (worth decimal_table x == 0) as (λ b. cond b (1 + zeros decimal_table xs) 0 ≤ 1 + run_len decimal_table xs) [
+        | true ↦ omega (arith, zeros-run xs)
+        | false ↦ omega arith
+      ])
+      | false ↦ omega arith
     ]
+
+-- the zeros of two vectors
+pub zeros-of_two : (xs ys : List ℕ) (leading more : ℕ) → leading ≡ zeros decimal_table xs → more ≡ zeros decimal_table ys
+    → (leading ≡ length xs → length xs + more ≡ zeros decimal_table (xs ++ ys)) × (leading < length xs → leading ≡ zeros decimal_table (xs ++ ys))
+zeros-of_two xs ys leading more told others = (
+  λ full. ap (λ n. length xs + n) others ∙ sym (front-full (is_zero decimal_table) xs ys (sym told ∙ full)),
+  λ short. told ∙ sym (front-short (is_zero decimal_table) xs ys (omega (arith, told, short))),
+)
+
+-- what the lanes of a window tell that ends in the first 16
+pub reading-short : (s first : List ℕ) (len leading number : ℕ) → first ≡ padded_front 16 s → len < 16
+    → len ≡ run_len decimal_table first → leading ≡ zeros decimal_table first → number ≡ value decimal_table (take len first)
+    → Reading decimal_table 32 s len leading number
+reading-short s first len leading number lanes short digits zeroes writes =
+    let second : List ℕ = padded_front 16 (drop 16 s) in
+    let both : first ++ second ≡ padded_front 32 s = ap (λ l. l ++ second) lanes ∙ padded_halves s in
+    let long : length first ≡ 16 = ap length lanes ∙ length-padded 16 s in
+    let run = front-short (is_digit decimal_table) first second (omega (arith, digits, long)) in
+    let none = front-short (is_zero decimal_table) first second (omega (arith, digits, long, zeros-run first)) in
+    let told = reading-of_lanes 32 s in
+    let len-is : len ≡ run_len decimal_table (padded_front 32 s) = digits ∙ sym run ∙ ap (run_len decimal_table) both in
+    record {
+      digits_are = len-is ∙ told.digits_are;
+      leading_are = zeroes ∙ sym none ∙ ap (zeros decimal_table) both ∙ told.leading_are;
+      number_is = writes ∙ ap (value decimal_table) (sym (take-append-le len first second (omega (arith, long))))
+          ∙ ap₂ (λ n l. value decimal_table (take n l)) len-is both ∙ told.number_is;
+    }
+
+-- and of one whose first 16 are digits
+pub reading-both : (s first second : List ℕ) (len more leading number : ℕ) → first ≡ padded_front 16 s → second ≡ padded_front 16 (drop 16 s)
+    → len ≡ 16 + more → run_len decimal_table first ≡ 16 → more ≡ run_len decimal_table second → leading ≡ zeros decimal_table (first ++ second)
+    → number ≡ value decimal_table (first ++ take more second) → Reading decimal_table 32 s len leading number
+reading-both s first second len more leading number lanes others sum full digits zeroes writes =
+    let both : first ++ second ≡ padded_front 32 s = ap₂ (λ a b. a ++ b) lanes others ∙ padded_halves s in
+    let long : length first ≡ 16 = ap length lanes ∙ length-padded 16 s in
+    let run = front-full (is_digit decimal_table) first second (full ∙ sym long) in
+    let told = reading-of_lanes 32 s in
+    let len-is : len ≡ run_len decimal_table (padded_front 32 s) = omega (arith, sum, digits, long, run, ap (run_len decimal_table) both) in
+    let count : length first + more ≡ len = omega (arith, long, sum) in
+    record {
+      digits_are = len-is ∙ told.digits_are;
+      leading_are = zeroes ∙ ap (zeros decimal_table) both ∙ told.leading_are;
+      number_is = writes ∙ ap (value decimal_table) (sym (take-append-add first second more) ∙ ap (λ n. take n (first ++ second)) count)
+          ∙ ap₂ (λ n l. value decimal_table (take n l)) len-is both ∙ told.number_is;
+    }
+
+-- the number of two vectors, joined from those of both
+pub value-of_two : (xs ys : List ℕ) (more : ℕ) → more ≤ length ys
+    → value decimal_table xs * 10 ^ more + value decimal_table (take more ys) ≡ value decimal_table (xs ++ take more ys)
+value-of_two xs ys more le =
+    ap (λ n. value decimal_table xs * 10 ^ n + value decimal_table (take more ys)) (sym (length-take-le more ys le)) ∙ sym (value_append decimal_table xs (take more ys))
 
 -- what stands behind the first 16 bytes, of the last 16 of the first 32
 pub behind_first : (s : List ℕ) (end : ℕ) → 16 ≤ length s → end ≡ min (length s) 32

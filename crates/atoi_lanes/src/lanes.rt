@@ -10,7 +10,6 @@ ghost use Rattle.atoi_lanes.specs.LaneWindow.{lane_window};
 
 use crate::kernels::{len_lanes, load_lanes, sum_lanes, zeroes_lanes};
 use crate::wide_lanes::{prefix_64_lanes, prefix_128_lanes};
-use atoi_core::reading::reading_decides;
 use atoi_core::{AtoiSimdError, Engine, Steps, Window};
 use std::simd::prelude::*;
 
@@ -58,7 +57,6 @@ impl Engine for Lanes {
         lane_window(load_lanes(&s[..s.len().min(8)]), 8)
     }
 
-    /// What `prefix_64_lanes` answers. A run that ends in the first 16 bytes needs their window alone.
     #[inline(always)]
     fn prefix_64<'a>(
         bound: u64,
@@ -67,15 +65,7 @@ impl Engine for Lanes {
         s: &'a [u8],
         steps: &mut Steps,
     ) -> Result<(u64, usize), AtoiSimdError<'a>> {
-        reading_decides();
-        let front = Lanes::window(s, steps);
-        if front.len == 0 {
-            Err(AtoiSimdError::Empty)
-        } else if front.len < 16 {
-            Ok((front.number, front.len as usize))
-        } else {
-            prefix_64_lanes(bound, limit, skip, s, steps)
-        }
+        prefix_64_lanes(bound, limit, skip, s, steps)
     }
 
     fn prefix_128<'a>(

@@ -43,13 +43,16 @@ pub fn prefix_64_lanes<'a>(
     // A window tells the zeros of the slice, but for those behind it.
     reading_decides();
     let first = window_32(s, steps);
-    if skip && first.zeroes > 0 && first.len == 32 {
-        return out_of_line(behind_zeros_64(bound, limit, first.zeroes, s, steps));
-    }
     let front = Front {
         at: 0,
         window: first,
     };
+    if first.len < limit {
+        return short_64(bound, limit, skip, front, s);
+    }
+    if skip && first.zeroes > 0 && first.len == 32 {
+        return out_of_line(behind_zeros_64(bound, limit, first.zeroes, s, steps));
+    }
     told_64(bound, limit, skip, front, s)
 }
 
@@ -221,6 +224,32 @@ fn behind_32(s: &[u8]) -> &[u8]
     ensures { result.now ≡ drop 32 s.now }
 {
     s.split_at(32).1
+}
+
+// The answer of 64 bits, where a window tells fewer digits than `limit`: these are too few to pass the
+// bound, whatever zeros they begin with.
+#[inline(always)]
+fn short_64<'a>(
+    bound: u64,
+    limit: u32,
+    skip: bool,
+    front: Front,
+    s: &'a [u8],
+) -> Result<(u64, usize), AtoiSimdError<'a>>
+    requires limit_high { limit ≤ 20 }
+    requires digits { HasDigits limit bound }
+    requires front { ReadsBehind skip s.now front.at front.window.len front.window.zeroes
+        front.window.number }
+    requires short { front.window.len < limit }
+    ensures { answer_of result ≡ prefix_magnitude decimal_table wide64 bound limit skip s.now }
+{
+    reading_decides();
+    let len = front.at + front.window.len as usize;
+    if len == 0 {
+        Err(AtoiSimdError::Empty)
+    } else {
+        Ok((front.window.number as u64, len))
+    }
 }
 
 // The answer of 64 bits, which the last window decides.

@@ -1,17 +1,44 @@
 use Rattle.std.proofs.Common.{arith}
-use Rattle.atoi_lanes.proofs.SkipLemmas.{reads-first, few-zeros}
+use Rattle.atoi_core.specs.Digit.{decimal_table}
+use Rattle.atoi_lanes.proofs.SkipLemmas.{first-ends, reads-first, few-zeros}
 use Rattle.atoi_lanes.proofs.wide_lanes.prefix_64_lanes.Goals as goal
+
+pub short_64-requires-clause-front : goal.short_64-requires-clause-front
+short_64-requires-clause-front c =
+    let w = c.window_32-first.result in
+    let law = c.reading_decides.ensures in
+    let reading = c.window_32-first.ensures.reading in
+    let most = law.within decimal_table 32 c.args.s.now w.len w.zeroes w.number reading in
+    reads-first law c.args.skip c.args.s.now w.len w.zeroes w.number reading (λ _ full. absurd (omega (arith, c.requires.limit_high, c.if-first-limit.true)))
+
+pub returns-then-first-limit-clause-loads : goal.returns-then-first-limit-clause-loads
+returns-then-first-limit-clause-loads c =
+    let w = c.window_32-first.result in
+    let law = c.reading_decides.ensures in
+    let told = c.window_32-first.ensures in
+    let most = law.within decimal_table 32 c.args.s.now w.len w.zeroes w.number told.reading in
+    let few = few-zeros law c.args.skip c.args.s.now w.len w.zeroes w.number told.reading (λ _ full. absurd (omega (arith, c.requires.limit_high, c.if-first-limit.true))) in
+    record {
+      at_most = omega (arith, told.one_step);
+      at_least = λ _. omega (arith, told.one_step);
+      at_least_skipping = λ on. omega (arith, few on, told.one_step);
+    }
 
 pub told_64-requires-clause-front : goal.told_64-requires-clause-front
 told_64-requires-clause-front c =
     let w = c.window_32-first.result in
-    reads-first c.args.skip c.args.s.now w.len w.zeroes w.number c.window_32-first.ensures.reading c.else-skip.either
+    let law = c.reading_decides.ensures in
+    let reading = c.window_32-first.ensures.reading in
+    let most = law.within decimal_table 32 c.args.s.now w.len w.zeroes w.number reading in
+    reads-first law c.args.skip c.args.s.now w.len w.zeroes w.number reading (first-ends c.args.skip w.len w.zeroes (omega (arith, most.1)) c.else-skip.either)
 
 pub returns-clause-loads : goal.returns-clause-loads
 returns-clause-loads c =
     let w = c.window_32-first.result in
+    let law = c.reading_decides.ensures in
     let told = c.window_32-first.ensures in
-    let few = few-zeros c.reading_decides.ensures c.args.skip c.args.s.now w.len w.zeroes w.number told.reading c.else-skip.either in
+    let most = law.within decimal_table 32 c.args.s.now w.len w.zeroes w.number told.reading in
+    let few = few-zeros law c.args.skip c.args.s.now w.len w.zeroes w.number told.reading (first-ends c.args.skip w.len w.zeroes (omega (arith, most.1)) c.else-skip.either) in
     record {
       at_most = omega (arith, told.one_step);
       at_least = λ _. omega (arith, told.one_step);
