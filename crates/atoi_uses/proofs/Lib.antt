@@ -1,2 +1,3 @@
 pub mod TotalLemmas
 pub mod JsonLemmas
+pub mod VersionLemmas

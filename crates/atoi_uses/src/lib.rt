@@ -7,9 +7,11 @@ mod dates;
 mod json;
 mod settings;
 mod totals;
+mod versions;
 
 pub use crate::cents::Cents;
 pub use crate::dates::{Date, parse_date};
 pub use crate::json::json_integer;
 pub use crate::settings::{number_and_rest, setting};
 pub use crate::totals::total;
+pub use crate::versions::{Version, parse_version};
