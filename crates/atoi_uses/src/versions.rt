@@ -1,6 +1,6 @@
 //! A reader of versions.
-//! It stands on `atoi_simd::parse_prefix_pos`, which says what front of a slice writes a number, and
-//! on the law that there is one such front.
+//! It uses `atoi_simd::parse_prefix_pos`, which says what front of a slice writes a number, and the
+//! law that there is one such front.
 ghost use Rattle.std.specs.Prelude.{◌≡◌, ℕ, List, ◌∷◌, IfSome, IfNone};
 ghost use Rattle.atoi_uses.specs.Versions.{IsPart, IsVersion, dot};
 ghost use Rattle.atoi_uses.specs.declared.versions.Version.{Version as VersionValue};
