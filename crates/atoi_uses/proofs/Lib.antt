@@ -3,3 +3,4 @@ pub mod CommandLemmas
 pub mod EbcdicLemmas
 pub mod LogLemmas
 pub mod JsonLemmas
+pub mod VersionLemmas

@@ -3,3 +3,4 @@ pub mod LogLines
 pub mod OwnEngine
 pub mod Json
 pub mod Dates
+pub mod Versions

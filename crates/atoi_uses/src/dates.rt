@@ -1,5 +1,5 @@
 //! A reader of dates.
-//! It stands on `atoi_simd::parse_pos`, which says which digits write a number.
+//! It uses `atoi_simd::parse_pos`, which says which digits write a number.
 ghost use Rattle.std.specs.Prelude.{◌≡◌, ◌↔◌, ◌≤◌, ℕ, IsTrue, IfSome, IfNone, length};
 ghost use Rattle.atoi_uses.specs.Dates.{is_leap_year, days_of, IsDay, AreDigitsOf, HasDashes, IsDate};
 ghost use Rattle.atoi_uses.specs.declared.dates.Date.{Date as DateValue};

@@ -1,5 +1,5 @@
 //! A reader of the integers of JSON.
-//! It stands on `atoi_simd::parse_prefix`, which says what front of a slice writes a number.
+//! It uses `atoi_simd::parse_prefix`, which says what front of a slice writes a number.
 ghost use Rattle.std.specs.Prelude.{◌≡◌, ℕ, ℤ, List, IfSome, IfNone};
 ghost use Rattle.atoi_uses.specs.Json.{IsJsonInteger, after_minus, begins_with_zero_and_digit};
 

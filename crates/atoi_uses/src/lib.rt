@@ -10,6 +10,7 @@ mod log_lines;
 mod own_engine;
 mod settings;
 mod totals;
+mod versions;
 
 pub use crate::cents::Cents;
 pub use crate::commands::{Command, CommandError, Word, read_command};
@@ -18,4 +19,6 @@ pub use crate::json::json_integer;
 pub use crate::log_lines::{LogError, columns_total};
 pub use crate::own_engine::{Ebcdic, amount};
 pub use crate::settings::{number_and_rest, setting};
+pub use crate::totals::total;
 pub use crate::totals::{column_total, total};
+pub use crate::versions::{Version, parse_version};

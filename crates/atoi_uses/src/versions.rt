@@ -1,0 +1,99 @@
+//! A reader of versions.
+//! It uses `atoi_simd::parse_prefix_pos`, which says what front of a slice writes a number, and the
+//! law that there is one such front.
+ghost use Rattle.std.specs.Prelude.{◌≡◌, ℕ, List, ◌∷◌, IfSome, IfNone};
+ghost use Rattle.atoi_uses.specs.Versions.{IsPart, IsVersion, dot};
+ghost use Rattle.atoi_uses.specs.declared.versions.Version.{Version as VersionValue};
+
+use atoi_simd::laws::accepted_fronts;
+use atoi_simd::parse_prefix_pos;
+
+/// A version of three numbers.
+#[derive(Clone, Copy, Debug, PartialEq, Eq)]
+pub struct Version {
+    /// The first number.
+    pub major: u32,
+    /// The second number.
+    pub minor: u32,
+    /// The third number.
+    pub patch: u32,
+}
+
+/// The version that `text` is, as `1.22.333`: three numbers of 32 bits with dots between them.
+///
+/// It is `None` for every other text, as `1.2`, `1..3`, `1.2.3-rc1` and `v1.2.3`.
+pub fn parse_version(text: &[u8]) -> Option<Version>
+    ensures some { IfSome result (λ version. IsVersion text.now version) }
+    ensures none { IfNone result ((any : VersionValue) → ¬ IsVersion text.now any) }
+{
+    let (major, after_major) = part(text)?;
+    let (minor, after_minor) = part(after_dot(after_major)?)?;
+    let (patch, rest) = part(after_dot(after_minor)?)?;
+    if rest.is_empty() {
+        Some(Version {
+            major,
+            minor,
+            patch,
+        })
+    } else {
+        None
+    }
+}
+
+// The number at the front of `text`, and what stands after it.
+fn part(text: &[u8]) -> Option<(u32, &[u8])>
+    ensures some { IfSome result (λ found. IsPart text.now found.0 found.1.now) }
+    ensures only { IfSome result (λ found. (number : ℕ) (rest : List ℕ)
+        → IsPart text.now number rest → (number ≡ found.0) × (rest ≡ found.1.now)) }
+    ensures none { IfNone result ((number : ℕ) (rest : List ℕ) → ¬ IsPart text.now number rest) }
+{
+    // The law that a slice has one front that writes a number. The call does nothing.
+    accepted_fronts::<u32>();
+    match parse_prefix_pos::<u32, true>(text) {
+        Ok((number, count)) => Some((number, &text[count..])),
+        Err(_) => None,
+    }
+}
+
+// What stands after the dot that `text` begins with.
+fn after_dot(text: &[u8]) -> Option<&[u8]>
+    ensures some { IfSome result (λ rest. text.now ≡ dot ∷ rest.now) }
+    ensures none { IfNone result ((rest : List ℕ) → ¬ (text.now ≡ dot ∷ rest)) }
+{
+    match text {
+        [b'.', rest @ ..] => Some(rest),
+        _ => None,
+    }
+}
+
+#[cfg(test)]
+mod tests {
+    use super::*;
+
+    #[test]
+    fn versions_of_releases(rt: HostRuntime) {
+        let version = |major, minor, patch| Some(Version {
+            major,
+            minor,
+            patch,
+        });
+        assert_eq!(rt; parse_version(b"1.22.333"), version(1, 22, 333));
+        assert_eq!(rt; parse_version(b"0.18.1"), version(0, 18, 1));
+        assert_eq!(rt;
+            parse_version(b"4294967295.0.007"),
+            version(4294967295, 0, 7)
+        );
+    }
+
+    #[test]
+    fn what_is_no_version(rt: HostRuntime) {
+        assert_eq!(rt; parse_version(b"1.22"), None);
+        assert_eq!(rt; parse_version(b"1..3"), None);
+        assert_eq!(rt; parse_version(b"1.2.3.4"), None);
+        assert_eq!(rt; parse_version(b"1.2.3-rc1"), None);
+        assert_eq!(rt; parse_version(b"v1.2.3"), None);
+        assert_eq!(rt; parse_version(b"1.-2.3"), None);
+        assert_eq!(rt; parse_version(b"1.4294967296.3"), None);
+        assert_eq!(rt; parse_version(b""), None);
+    }
+}
