@@ -1,5 +1,5 @@
-//! Builds the static library of exports from `diff/exports`, proved as `rt lib` proves it, and
-//! writes the table of what is timed from `diff/mixes.txt`.
+//! Builds the static libraries of exports, proved as `rt lib` proves them: the calls that are
+//! compared from `diff/exports`, those that are timed from `diff/mixes.txt`.
 
 #[path = "build/library.rs"]
 mod library;

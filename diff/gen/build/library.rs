@@ -1,5 +1,5 @@
-//! The static library: a copy of the three crates, with the exports beside them, in a folder out of
-//! the repository, since the gate refuses a Rattle file that no crate of it owns.
+//! The static libraries: a copy of the three crates, with the exports beside them, in a folder out
+//! of the repository, since the gate refuses a Rattle file that no crate of it owns.
 
 use std::env;
 use std::ffi::OsStr;
@@ -11,7 +11,8 @@ const LIBRARIES: [&str; 3] = ["atoi_core", "atoi_lanes", "atoi_simd"];
 const CRATES: &str = "atoi_core:
 atoi_lanes: atoi_core
 atoi_simd: atoi_core atoi_lanes
-atoi_diff staticlib: atoi_core atoi_simd
+atoi_ask staticlib: atoi_core atoi_simd
+atoi_timed staticlib: atoi_simd
 ";
 
 /// The top of this repository, which has `crates.txt`.
@@ -24,28 +25,38 @@ pub fn repository() -> PathBuf {
         .to_path_buf()
 }
 
-/// Builds `libatoi_diff.a` into `out` and has cargo link it. `timed` is the text of its module
-/// `timed`. The first time it proves the libraries, unless `rt check` or `rt lib` has done so in
-/// the repository.
+/// Builds two static libraries into `out` and has cargo link them: that of `diff/exports`, and one
+/// whose text is `timed`. They are two so that LLVM puts as much in line in the timed calls as it
+/// does for a caller of few of them. The first time it proves the libraries under them, unless
+/// `rt check` or `rt lib` has done so in the repository.
 pub fn build(repository: &Path, timed: &str, out: &Path) {
     let work = work_folder(repository);
-    let exports = work.join("crates/atoi_diff");
-    fs::create_dir_all(exports.join("src")).expect("the folder of the exports is made");
+    let crates = work.join("crates");
+    for name in ["atoi_ask", "atoi_timed"] {
+        fs::create_dir_all(crates.join(name).join("src")).expect("a crate's folder is made");
+    }
     fs::write(work.join("crates.txt"), CRATES).expect("crates.txt is written");
     for name in LIBRARIES {
-        copy_crate(&repository.join("crates").join(name), &work.join("crates").join(name));
+        copy_crate(&repository.join("crates").join(name), &crates.join(name));
     }
-    copy_exports(&repository.join("diff/exports"), &exports.join("src"));
-    fs::write(exports.join("src/timed.rt"), timed).expect("the timed exports are written");
+    copy_exports(&repository.join("diff/exports"), &crates.join("atoi_ask/src"));
+    fs::write(crates.join("atoi_timed/src/lib.rt"), timed).expect("the timed calls are written");
 
     println!("cargo::rerun-if-env-changed=DIFF_CPU");
     let cpu = env::var("DIFF_CPU").unwrap_or_else(|_| String::from("x86-64-v2"));
     println!("cargo::rustc-env=DIFF_CPU={cpu}");
-    run(Command::new("rt").args(["lib", "--cpu", &cpu]).current_dir(&exports));
-    fs::copy(exports.join("out/libatoi_diff.a"), out.join("libatoi_diff.a"))
-        .expect("the static library is copied");
     println!("cargo::rustc-link-search=native={}", out.display());
-    println!("cargo::rustc-link-lib=static=atoi_diff");
+    for name in ["atoi_ask", "atoi_timed"] {
+        link(&crates.join(name), name, &cpu, out);
+    }
+}
+
+// Builds one static library of this name.
+fn link(folder: &Path, name: &str, cpu: &str, out: &Path) {
+    run(Command::new("rt").args(["lib", "--cpu", cpu]).current_dir(folder));
+    let file = format!("lib{name}.a");
+    fs::copy(folder.join("out").join(&file), out.join(&file)).expect("the library is copied");
+    println!("cargo::rustc-link-lib=static={name}");
 }
 
 // The folder of the copy, one for each checkout of the repository. It is kept for the next build.

@@ -3,6 +3,8 @@
 use std::collections::BTreeSet;
 
 const HEAD: &str = "//! The calls that are timed: the build of `diff/gen` wrote them.
+#![tactic(auto)]
+
 ghost use Rattle.std.specs.Prelude.{◌≤◌};
 ";
 
@@ -33,7 +35,7 @@ pub fn read(text: &str) -> Vec<Mix> {
         .collect()
 }
 
-/// The module `timed` of the exports: one for each library, call, type and flags.
+/// The library of the timed calls: an export for each library, call, type and flags.
 pub fn rattle(mixes: &[Mix]) -> String {
     let mut exports = BTreeSet::new();
     for mix in mixes {

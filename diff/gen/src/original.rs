@@ -1,7 +1,7 @@
 //! The Rust crate `atoi_simd`, and the differences from it that docs/DIFFERENCES.md names.
 //!
-//! Two of them show here. A count of zeros that 32 bits cannot hold needs too long a text, and a
-//! release build has no overflow of a negation.
+//! Two of them show here. The others need a text of more than 4294967295 zeros, a debug build, or
+//! vector instructions.
 
 use crate::answer::{Answer, RawAnswer};
 use crate::question::{Call, Integer, Question};
@@ -58,9 +58,9 @@ fn expected(question: &Question, text: &[u8]) -> (Answer, &'static str) {
         answer => answer,
     };
     if is_cut {
-        (answer, "a prefix of a narrow type with more than 16 digits")
+        (answer, "a prefix of a type of up to 32 bits with more than 16 digits")
     } else {
-        (answer, "the count of a prefix with a taken plus")
+        (answer, "parse_prefix counts a taken plus")
     }
 }
 
