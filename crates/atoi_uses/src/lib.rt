@@ -19,6 +19,5 @@ pub use crate::json::json_integer;
 pub use crate::log_lines::{LogError, columns_total};
 pub use crate::own_engine::{Ebcdic, amount};
 pub use crate::settings::{number_and_rest, setting};
-pub use crate::totals::total;
 pub use crate::totals::{column_total, total};
 pub use crate::versions::{Version, parse_version};
