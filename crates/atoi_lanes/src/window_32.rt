@@ -1,4 +1,4 @@
-//! What one step tells of 32 bytes, read at once into the lanes of a vector.
+//! What one step tells of 32 bytes, in the lanes of two vectors of sixteen.
 //! It stands on `std::simd`, on the kernels and on `atoi_core`'s steps.
 ghost use Rattle.std.specs.Prelude.{◌≡◌, ◌+◌, ◌*◌, ◌^◌, ◌≤◌, ◌++◌, take, drop, replicate};
 ghost use Rattle.atoi_core.specs.Digit.{decimal_table};
