@@ -98,8 +98,8 @@ struct Front {
     window: Window32,
 }
 
-// What `prefix_64_lanes` answers where zeros are skipped, and the first window tells some and is full
-// of digits.
+// What `prefix_64_lanes` answers where zeros are skipped, and the first window tells some and is
+// full of digits.
 #[inline(never)]
 fn behind_zeros_64<'a>(
     bound: u64,
@@ -111,7 +111,8 @@ fn behind_zeros_64<'a>(
     requires limit_high { limit ≤ 20 }
     requires some { 0 < zeroes }
     requires told { zeroes ≡ zeros decimal_table (take 32 s.now) }
-    ensures answer { answer_of result ≡ prefix_magnitude decimal_table wide64 bound limit true s.now }
+    ensures answer { answer_of result
+        ≡ prefix_magnitude decimal_table wide64 bound limit true s.now }
     ensures most { steps.new ≤ steps.old + zeros decimal_table s.now / 32 + 1 }
     ensures least { steps.old + zeros decimal_table s.now / 32 ≤ steps.new }
 {
@@ -226,8 +227,8 @@ fn behind_32(s: &[u8]) -> &[u8]
     s.split_at(32).1
 }
 
-// The answer of 64 bits, where a window tells fewer digits than `limit`: these are too few to pass the
-// bound, whatever zeros they begin with.
+// The answer of 64 bits, where a window tells fewer digits than `limit`: these are too few to pass
+// the bound, whatever zeros they begin with.
 #[inline(always)]
 fn short_64<'a>(
     bound: u64,

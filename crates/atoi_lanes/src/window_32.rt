@@ -1,4 +1,4 @@
-//! What one step tells of 32 bytes, read at once into the lanes of a vector.
+//! What one step tells of 32 bytes, in the lanes of two vectors of sixteen.
 //! It stands on `std::simd`, on the kernels and on `atoi_core`'s steps.
 ghost use Rattle.std.specs.Prelude.{◌≡◌, ◌+◌, ◌*◌, ◌^◌, ◌≤◌, ◌++◌, take, drop, replicate};
 ghost use Rattle.atoi_core.specs.Digit.{decimal_table};
@@ -94,7 +94,8 @@ fn moved_to_front(v: u8x16, from: usize) -> u8x16
     v.swizzle_dyn_within::<16>(u8x16::from_slice(&FROM[from..]))
 }
 
-// How many first lanes of two vectors in a row are zeros, the byte 48: 0 to 32. Most begin with none.
+// How many first lanes of two vectors in a row are zeros, the byte 48: 0 to 32. Most begin with
+// none.
 fn zeroes_of_two(first: u8x16, second: u8x16) -> u32
     ensures { result ≡ zeros decimal_table (first ++ second) }
 {
