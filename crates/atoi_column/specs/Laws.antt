@@ -1,6 +1,6 @@
 -- Laws of fields and items. Each is a statement about the definitions alone.
-use Rattle.std.specs.Prelude.{◌≡◌, ℕ, ◌+◌, ◌≤◌, ◌==◌, true, List, [], ◌∷◌, ◌++◌, length, drop, map, All, ℤ, Result, Ok, Err}
-use Rattle.std.specs.List.{AllZip, before_first, position_or_len, sum_by}
+use Rattle.std.specs.Prelude.{◌≡◌, ℕ, ◌+◌, ◌<◌, ◌≤◌, ◌==◌, true, List, [], ◌∷◌, ◌++◌, length, drop, map, All, ℤ, Result, Ok, Err}
+use Rattle.std.specs.List.{AllZip, before_first, after_first, position_or_len, sum_by}
 use Rattle.atoi_core.specs.Digit.{decimal_table}
 use Rattle.atoi_core.specs.Run.{value}
 use Rattle.atoi_core.specs.Refusal.{Refusal}
@@ -86,3 +86,11 @@ pub record ItemsDecide (k : Kind) : Type 0 where
   pub first_bad : (separator : ℕ) (input : List ℕ) (numbers : List ℤ) (flaw : Flaw)
       → items_of k separator input ≡ map Ok numbers ++ Err flaw ∷ []
       → IsFirstBad k separator input (index_of flaw) (place_of flaw)
+
+-- an input that has a byte begins with a field, which its first separator ends, and the other fields
+-- are those of what stands after that separator
+abbrev pub FirstField : Type 0
+FirstField =
+    (separator : ℕ) (input : List ℕ) → 0 < length input
+    → fields_of separator input
+    ≡ before_first (λ byte. byte == separator) input ∷ fields_of separator (after_first (λ byte. byte == separator) input)

@@ -1,6 +1,6 @@
 //! The laws of columns: each function's contract says one, and calling it does nothing.
 //! They use the law of the accepted texts of `atoi_core`, and no parse.
-ghost use Rattle.atoi_column.specs.Laws.{TextsAndItems, ItemsDecide};
+ghost use Rattle.atoi_column.specs.Laws.{TextsAndItems, ItemsDecide, FirstField};
 
 use atoi_core::Number;
 use atoi_core::laws::accepted_texts;
@@ -24,3 +24,9 @@ pub fn items_decide<T: Number>()
 {
     texts_and_items::<T>();
 }
+
+/// The first field of an input that has a byte ends before its first separator, and the other
+/// fields are those of what stands after that separator.
+pub fn first_field()
+    ensures { FirstField }
+{}

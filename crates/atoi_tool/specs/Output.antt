@@ -1,6 +1,7 @@
 -- The output to an input.
-use Rattle.std.specs.Prelude.{Bool, ℕ, ◌==◌, List, [], ◌∷◌, ◌++◌, length, if◌then◌else◌}
-use Rattle.std.specs.List.{flat_map, list_all, slice_split}
+use Rattle.std.specs.Prelude.{Bool, ℕ, List, [], ◌∷◌, ◌++◌}
+use Rattle.std.specs.List.{flat_map, list_all}
+use Rattle.atoi_column.specs.Fields.{fields_of}
 use Rattle.atoi_tool.specs.declared.request.Query.{Query}
 use Rattle.atoi_tool.specs.Answer.{query_text, is_good_line, line_answer}
 
@@ -8,18 +9,9 @@ use Rattle.atoi_tool.specs.Answer.{query_text, is_good_line, line_answer}
 abbrev pub newline : ℕ
 newline = 10
 
-abbrev pub is_newline : ℕ → Bool
-is_newline byte = byte == newline
-
--- the pieces, but for a last one that is empty
-abbrev pub without_empty_last : List (List ℕ) → List (List ℕ)
-without_empty_last [] = []
-without_empty_last (piece ∷ []) = if length piece == 0 then [] else piece ∷ []
-without_empty_last (piece ∷ next ∷ pieces) = piece ∷ without_empty_last (next ∷ pieces)
-
--- the lines of an input: it is cut at each newline, and what stands behind the last counts where it is not empty
+-- the lines of an input: its fields, ended by newlines
 abbrev pub lines_of : List ℕ → List (List ℕ)
-lines_of input = without_empty_last (slice_split is_newline input)
+lines_of input = fields_of newline input
 
 -- the answer to a row, ended by a newline
 abbrev pub row_output : Query → List ℕ → List ℕ

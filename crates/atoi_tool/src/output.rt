@@ -17,6 +17,7 @@ use crate::request::Query;
 use crate::row::row_of;
 use crate::sink::Sink;
 use crate::status::ToolError;
+use atoi_column::laws::first_field;
 
 // The first line of an input that has one, and what stands behind it.
 fn first_line(input: &[u8]) -> (&[u8], &[u8])
@@ -24,6 +25,8 @@ fn first_line(input: &[u8]) -> (&[u8], &[u8])
     ensures lines { lines_of input.now ≡ result.0.now ∷ lines_of result.1.now }
     ensures shorter { length result.1.now < length input.now }
 {
+    // The law of the first line. The call does nothing.
+    first_field();
     match place_of(b'\n', input) {
         Some(end) => (&input[..end], &input[end + 1..]),
         None => (input, &input[input.len()..]),
