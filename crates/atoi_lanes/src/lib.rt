@@ -1,7 +1,6 @@
 //! The engine of `atoi_core` on vector lanes, which compares sixteen bytes at once, and multiplies
 //! and adds four or eight, and the ten functions of `atoi_simd` on it, under the same names, with
-//! the same signatures and answers. A whole slice for a type of at most 32 bits they read digit by
-//! digit, as those do. It stands on `atoi_core`.
+//! the same signatures and answers. It uses `atoi_core`.
 #![tactic(auto)]
 
 mod any_sign;

@@ -3,8 +3,7 @@
 //!
 //! The names and answers are those of the Rust crate `atoi_simd` 0.18.1 in its portable
 //! configuration. The parses read eight bytes at once, as a word; the module `lanes` has the same
-//! functions with the same answers on `std::simd`. Both read a whole slice for a type of at most 32
-//! bits digit by digit. It stands on `atoi_core` and `atoi_lanes`.
+//! functions with the same answers on `std::simd`. It uses `atoi_core` and `atoi_lanes`.
 #![tactic(auto)]
 
 mod any_sign;

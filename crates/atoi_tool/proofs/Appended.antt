@@ -18,13 +18,6 @@ Appends-append (Some held) (Some more) None xs ys first second = absurd second
 Appends-append (Some held) (Some more) (Some most) xs ys first second =
     second ∙ (ap (λ front. front ++ ys) first ∙ append_assoc held xs ys)
 
--- what stays was appended nothing
-pub Appends-keep : (old mid new : Option (List ℕ)) (xs : List ℕ) → Appends old mid xs → Keeps mid new → Appends old new xs
-Appends-keep None mid new xs first kept = tt
-Appends-keep (Some held) None new xs first kept = absurd first
-Appends-keep (Some held) (Some more) None xs first kept = absurd kept
-Appends-keep (Some held) (Some more) (Some most) xs first kept = kept ∙ first
-
 -- what was put so far is the front of the whole, and the rest is still to be put
 pub record IsPutUpTo (old new : Option (List ℕ)) (whole rest : List ℕ) : Type 0 where
   pub front : List ℕ
@@ -42,10 +35,6 @@ IsPutUpTo-more old mid new whole part rest before more = record {
   parts = before.parts ∙ sym (append_assoc before.front part rest);
   put = Appends-append old mid new before.front part before.put more;
 }
-
--- at the end all is put
-pub IsPutUpTo-end : (old new : Option (List ℕ)) (whole : List ℕ) → IsPutUpTo old new whole [] → Appends old new whole
-IsPutUpTo-end old new whole done = rw (done.parts, append-nil) done.put
 
 -- one more part is put in part
 pub IsPutUpTo-refused : (old mid new : Option (List ℕ)) (whole part rest : List ℕ) → IsPutUpTo old mid whole (part ++ rest) → AppendsFront mid new part → AppendsFront old new whole

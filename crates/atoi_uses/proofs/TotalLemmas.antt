@@ -19,10 +19,6 @@ pub record IsAddedUpTo (items left : List (Result ℤ Flaw)) (total : ℕ) : Typ
   pub sum_is : total ≡ sum numbers
   pub room : total + 2 ^ 64 * length left ≤ 2 ^ 64 * length items
 
--- at the start nothing is added
-pub IsAddedUpTo-start : (items : List (Result ℤ Flaw)) → IsAddedUpTo items items 0
-IsAddedUpTo-start items = record { numbers = []; parts = refl; sum_is = refl; room = omega arith }
-
 -- one more number is added
 pub IsAddedUpTo-more : (items left after : List (Result ℤ Flaw)) (total number : ℕ) → IsAddedUpTo items left total
     → left ≡ number_item number ∷ after → number < 2 ^ 64 → IsAddedUpTo items after (total + number)
