@@ -1,5 +1,5 @@
-//! A field read as a whole, and the number at the front of the rest of the input.
-//! It stands on the laws of `atoi_core` alone.
+//! A field read as a whole, and the number at the front of the rest of the input. It uses the laws
+//! of `atoi_core` alone.
 ghost use Rattle.atoi_column.specs.Laws.{FieldsArePrefixes};
 
 use atoi_core::Number;

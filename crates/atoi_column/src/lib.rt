@@ -1,7 +1,7 @@
 //! Columns of decimal integers: the fields of a byte slice between separators, as an iterator of
 //! their values up to the first field that is refused.
 //!
-//! It stands on `atoi_simd::parse_prefix` with both flags on, and on the definitions and laws of
+//! It uses `atoi_simd::parse_prefix` with both flags on, and the definitions and laws of
 //! `atoi_core`. It takes no memory and copies nothing.
 #![tactic(auto)]
 

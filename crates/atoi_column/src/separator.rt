@@ -1,5 +1,4 @@
-//! The bytes that may stand between fields.
-//! It stands on nothing.
+//! The bytes that may stand between fields. It uses no other module.
 ghost use Rattle.std.specs.Prelude.{◌≡◌};
 ghost use Rattle.atoi_column.specs.Fields.{is_separator};
 

@@ -1,5 +1,5 @@
-//! The parse of a whole slice into a narrow integer, digit by digit.
-//! It stands on `error` alone, and loads no window.
+//! The parse of a whole slice into a narrow integer, digit by digit. It uses `error` alone, and
+//! loads no window.
 ghost use Rattle.std.specs.Prelude.{◌≡◌, ◌≤◌, ◌==◌, false, if◌then◌else◌};
 ghost use Rattle.atoi_core.specs.Digit.{decimal_table};
 ghost use Rattle.atoi_core.specs.Refusal.{answer_of, refusal_of, empty, invalid64};

@@ -1,6 +1,6 @@
 //! The four core calls: the parses of any integer type. The sign gives the bound, and the class of
-//! the type, of at most 32 bits, of 64 or of 128, the loop. It stands on `narrow`, `wide`, `front`
-//! and `number`, and on what these speak of: `engine`, `steps` and `error`.
+//! the type, of at most 32 bits, of 64 or of 128, the loop. It uses `narrow`, `wide`, `front` and
+//! `number`, and what these speak of: `engine`, `steps` and `error`.
 ghost use Rattle.std.specs.Prelude.{◌≡◌, ◌≤◌, true, false, IfOk, length};
 ghost use Rattle.atoi_core.specs.Answer.{typed_answer, typed_prefix_answer, whole_answer, prefix_answer};
 ghost use Rattle.atoi_core.specs.Kind.{class_of, bound_of, limit_of};

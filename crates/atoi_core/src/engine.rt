@@ -1,5 +1,5 @@
-//! What reads windows of a slice, and the parses of wide integers over any such engine.
-//! It stands on `window`, `join`, `steps` and `error`, and on no particular engine.
+//! What reads windows of a slice, and the parses of wide integers over any such engine. It uses
+//! `window`, `join`, `steps` and `error`, and no particular engine.
 ghost use Rattle.std.specs.Prelude.{◌≡◌, ◌+◌, ◌-◌, ◌≤◌, ℕ};
 ghost use Rattle.atoi_core.specs.Digit.{Table, IsBelowTen};
 ghost use Rattle.atoi_core.specs.Loads.{LoadsWithin, most_loads};

@@ -1,5 +1,4 @@
-//! Why a parse refuses, the text of the reason, and how two reasons compare.
-//! It stands on `text`.
+//! Why a parse refuses, the text of the reason, and how two reasons compare. It uses `text`.
 ghost use Rattle.std.specs.Prelude.{◌≡◌, ◌+◌, ◌^◌, ◌<◌, ◌≤◌, ◌++◌, ◌↔◌, IsTrue, Some, length, take, codes, decimal, IsAscii};
 ghost use Rattle.atoi_core.specs.Refusal.{refusal_of, refusal_cmp};
 ghost use Rattle.atoi_core.specs.ErrorText.{input_text, error_text};

@@ -1,5 +1,5 @@
 //! The parses of integers of 128 bits from the front of a slice: a run that ends in the first two
-//! windows is answered in line, a longer one by the engine. It stands on `engine`, `window`, `join`,
+//! windows is answered in line, a longer one by the engine. It uses `engine`, `window`, `join`,
 //! `steps` and `error`.
 ghost use Rattle.std.specs.Prelude.{◌≡◌, ◌-◌, ◌≤◌, IsTrue};
 ghost use Rattle.atoi_core.specs.Loads.{LoadsWithin, most_loads};

@@ -1,5 +1,5 @@
-//! Numbers joined from the digits of two windows, or of three, and the answers that they decide.
-//! It stands on `window` and `error`.
+//! Numbers joined from the digits of two windows, or of three, and the answers that they decide. It
+//! uses `window` and `error`.
 ghost use Rattle.std.specs.Prelude.{◌≡◌, ◌+◌, ◌*◌, ◌^◌, ◌<◌, ◌≤◌, nat_lt, if◌then◌else◌, length};
 ghost use Rattle.atoi_core.specs.Magnitude.{HasDigits, wide64};
 ghost use Rattle.atoi_core.specs.Reading.{answer_by_digits};

@@ -1,5 +1,5 @@
-//! Laws of the answers: each function's contract says one, and calling it does nothing.
-//! They stand on the definitions and on `number`, and on no parse.
+//! Laws of the answers: each function's contract says one, and calling it does nothing. They use
+//! the definitions and `number`, and no parse.
 ghost use Rattle.atoi_core.specs.Kind.{kind};
 ghost use Rattle.atoi_core.specs.Laws.{TextOfValue, AcceptedTexts, AcceptedNumbers, WholeResults, AcceptedFronts, PrefixResults, DecimalDigits, ErrorsInOrder, PrefixIsWhole, PrefixOfCut, PrefixStopsAtRest, RestChangesNothing, SkippingAgrees, OrderAndSuffix, ZerosChangeNothing};
 

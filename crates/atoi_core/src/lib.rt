@@ -1,6 +1,6 @@
 //! The engines, loops and definitions under `atoi_simd`: exact parses of decimal digits at the
-//! front of a byte slice into integers. It stands on std alone. But for `AtoiSimdError` nothing
-//! here is public in the Rust crate.
+//! front of a byte slice into integers. It uses std alone. But for `AtoiSimdError` nothing here is
+//! public in the Rust crate.
 #![tactic(auto)]
 
 mod digit_loop;

@@ -1,6 +1,5 @@
 //! The parses of integers of up to 32 bits by windows, of a front and of a whole slice, over any
-//! engine.
-//! It stands on `engine`, `window`, `steps` and `error`.
+//! engine. It uses `engine`, `window`, `steps` and `error`.
 ghost use Rattle.std.specs.Prelude.{◌≡◌, ◌+◌, ◌-◌, ◌<◌, ◌≤◌, ◌==◌, true, false, not, ◌&&◌, ◌||◌, nat_lt, if◌then◌else◌, Ok, Err, length, drop};
 ghost use Rattle.atoi_core.specs.Loads.{LoadsWithin, most_loads};
 ghost use Rattle.atoi_core.specs.Magnitude.{narrow, whole_magnitude, prefix_magnitude};

@@ -1,5 +1,5 @@
-//! The integer types that the parses answer.
-//! It stands on nothing: what a parse has to know of a type are the constants here.
+//! The integer types that the parses answer. It uses no other module: what a parse has to know of a
+//! type are the constants here.
 ghost use Rattle.std.specs.Prelude.{◌≡◌, ◌+◌, ◌≤◌, ◌<ℤ◌, ◌↔◌, ℕ, ℤ, pos, Bool, true, false, IsTrue, refl};
 ghost use Rattle.std.proofs.Common.{inl, inr};
 ghost use Rattle.atoi_core.specs.Kind.{Kind, IsSized, IsKindOf, bound_of};

@@ -1,5 +1,5 @@
-//! The engine that reads a window byte by byte: the reference for the faster ones.
-//! It stands on `engine`, `window`, `steps` and the one decimal digit of `digit_loop`.
+//! The engine that reads a window byte by byte: the reference for the faster ones. It uses
+//! `engine`, `window`, `steps` and the one decimal digit of `digit_loop`.
 ghost use Rattle.std.specs.Prelude.{◌≡◌, ◌<◌, ◌≤◌, length};
 ghost use Rattle.atoi_core.specs.Digit.{Table, IsBelowTen, decimal_table};
 ghost use Rattle.atoi_core.specs.Run.{run_len, run, value, zeros};

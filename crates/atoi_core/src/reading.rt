@@ -1,5 +1,5 @@
 //! What digits that were read tell of an answer, for an engine that reads wide integers by a loop
-//! of its own. It stands on the definitions alone.
+//! of its own. It uses the definitions alone.
 ghost use Rattle.atoi_core.specs.Reading.{ReadingDecides};
 
 /// What was read of a slice decides the answer of `Engine::prefix_64` and `Engine::prefix_128`:

@@ -1,5 +1,5 @@
-//! The sign at the front of a slice, and its byte in the count of a prefix.
-//! It stands on `error` and on `number`.
+//! The sign at the front of a slice, and its byte in the count of a prefix. It uses `error` and
+//! `number`.
 ghost use Rattle.std.specs.Prelude.{◌≡◌, ◌+◌, ◌<◌, ◌^◌, length};
 ghost use Rattle.std.specs.Result.{ForOk};
 ghost use Rattle.atoi_core.specs.Answer.{typed_prefix_answer, with_more};

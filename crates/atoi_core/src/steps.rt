@@ -1,5 +1,5 @@
-//! A count of window loads that takes no bytes at run time.
-//! It stands on nothing; the two functions of `Count` alone are proved by hand.
+//! A count of window loads that takes no bytes at run time. It uses no other module; the two
+//! functions of `Count` alone are proved by hand.
 ghost use Rattle.std.specs.Prelude.{◌≡◌, ◌+◌, ℕ};
 ghost use Rattle.std.specs.Borrow.{ftrue};
 

@@ -1,5 +1,5 @@
-//! Bytes, hexadecimal numbers and decimal numbers written into a slice from a place on.
-//! It stands on nothing.
+//! Bytes, hexadecimal numbers and decimal numbers written into a slice from a place on. It uses no
+//! other module.
 ghost use Rattle.std.specs.Prelude.{◌≡◌, ◌+◌, ◌-◌, ◌*◌, ◌^◌, ◌<◌, ◌≤◌, ◌∷◌, [], ◌++◌, true, length, take, decimal, IsAscii};
 ghost use Rattle.std.specs.Fmt.{digit_glyph};
 ghost use Rattle.atoi_core.specs.ErrorText.{hex_text, hex_list};

@@ -1,5 +1,5 @@
-//! The parses of integers of 64 and of 128 bits that read a whole slice, over any engine.
-//! It stands on `front`, `engine`, `steps` and `error`.
+//! The parses of integers of 64 and of 128 bits that read a whole slice, over any engine. It uses
+//! `front`, `engine`, `steps` and `error`.
 ghost use Rattle.std.specs.Prelude.{◌≡◌, ◌≤◌};
 ghost use Rattle.atoi_core.specs.Loads.{LoadsWithin, most_loads};
 ghost use Rattle.atoi_core.specs.Magnitude.{HasDigits, wide64, wide128, whole_magnitude};

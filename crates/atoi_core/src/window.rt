@@ -1,5 +1,4 @@
-//! What one load tells of a slice.
-//! It stands on nothing.
+//! What one load tells of a slice. It uses no other module.
 
 /// What a window of 8 or 16 bytes tells of the front of a slice.
 #[derive(Clone, Copy, PartialEq, Eq)]

@@ -1,5 +1,5 @@
-//! The engine that reads a window as one word of eight bytes, or as two. It stands on `words`,
-//! `engine`, `join`, `window`, `steps` and `error`.
+//! The engine that reads a window as one word of eight bytes, or as two. It uses `words`, `engine`,
+//! `join`, `window`, `steps` and `error`.
 ghost use Rattle.std.specs.Prelude.{◌≡◌, ◌+◌, ◌-◌, ◌^◌, ◌<◌, ◌≤◌, ◌==◌, ◌++◌, true, if◌then◌else◌, length, take, drop, replicate};
 ghost use Rattle.atoi_core.specs.Digit.{decimal_table};
 ghost use Rattle.atoi_core.specs.Loads.{LoadsWithin, most_loads};

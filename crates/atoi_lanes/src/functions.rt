@@ -1,5 +1,5 @@
-//! The ten functions. Each hands its const flags to the trait of its type.
-//! It stands on the three traits, and on the laws of `atoi_core` on accepted texts and on results.
+//! The ten functions. Each hands its const flags to the trait of its type. It uses the three
+//! traits, and the laws of `atoi_core` on accepted texts and results.
 ghost use Rattle.std.specs.Prelude.{◌≡◌, ◌≤◌, ◌↔◌, ℕ, ℤ, true, false, IsTrue, IsOk, IfOk, OnErr, length};
 ghost use Rattle.atoi_core.specs.Answer.{typed_answer, typed_prefix_answer, whole_answer, prefix_answer, parse_answer, parse_prefix_answer};
 ghost use Rattle.atoi_core.specs.Digit.{decimal_table};

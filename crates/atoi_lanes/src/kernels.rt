@@ -1,6 +1,5 @@
 //! Sixteen bytes in the lanes of one vector: a load, how many digits or zeros they begin with, and
-//! the number that they write. It stands on `std::simd`, and on `words` for the load of a short
-//! slice.
+//! the number that they write. It uses `std::simd`, and `words` for the load of a short slice.
 ghost use Rattle.std.specs.Prelude.{◌≡◌, ◌-◌, ◌≤◌, ◌<◌, ◌++◌, length, take, drop, replicate};
 ghost use Rattle.std.specs.Simd.Lanes.{Each1};
 ghost use Rattle.atoi_core.specs.Digit.{decimal_table};

@@ -1,6 +1,5 @@
-//! The engine that reads a window into sixteen vector lanes at once.
-//! It stands on the four kernels, on `wide_lanes` for long runs, and on `atoi_core`'s trait, window
-//! and steps.
+//! The engine that reads a window into sixteen vector lanes at once. It uses the four kernels,
+//! `wide_lanes` for wide types, and `atoi_core`'s trait, window and steps.
 ghost use Rattle.std.specs.Prelude.{◌≡◌, ◌+◌};
 ghost use Rattle.std.proofs.Common.{arith};
 ghost use Rattle.std.proofs.lemmas.Bool.Decides.{nat_tests};

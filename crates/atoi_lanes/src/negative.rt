@@ -1,5 +1,5 @@
-//! `ParseNeg` and its six types: the digits of a negative number, without a sign. It stands on
-//! `Signed`, `Steps` and the core calls `whole_neg` and `prefix_neg`, over the crate's reader.
+//! `ParseNeg` and its six types: the digits of a negative number, without a sign. It uses `Signed`,
+//! `Steps` and the core calls `whole_neg` and `prefix_neg`, over the crate's reader.
 ghost use Rattle.std.specs.Prelude.{◌≡◌, ◌≤◌, true, IfOk, length};
 ghost use Rattle.atoi_core.specs.Answer.{typed_answer, typed_prefix_answer, whole_answer, prefix_answer};
 ghost use Rattle.atoi_core.specs.Digit.{decimal_table};

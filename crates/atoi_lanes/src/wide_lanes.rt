@@ -1,5 +1,5 @@
-//! The parses of wide integers at the front of a slice, by windows of 32 lanes.
-//! It stands on `window_32`, on the engine's `window_8`, and on `atoi_core`'s law of what was read.
+//! The parses of wide integers at the front of a slice, by windows of 32 lanes. It uses
+//! `window_32`, the engine's `window_8`, and `atoi_core`'s law of what was read.
 ghost use Rattle.std.specs.Prelude.{◌≡◌, ◌+◌, ◌*◌, ◌/◌, ◌<◌, ◌≤◌, nat_lt, if◌then◌else◌, length, take, drop, true, IsTrue};
 ghost use Rattle.atoi_core.specs.Digit.{decimal_table};
 ghost use Rattle.atoi_core.specs.Loads.{LoadsWithin};

@@ -1,5 +1,5 @@
-//! What one step tells of 32 bytes, in the lanes of two vectors of sixteen.
-//! It stands on `std::simd`, on the kernels and on `atoi_core`'s steps.
+//! What one step tells of 32 bytes, in the lanes of two vectors of sixteen. It uses `std::simd`,
+//! the kernels and `atoi_core`'s steps.
 ghost use Rattle.std.specs.Prelude.{◌≡◌, ◌+◌, ◌*◌, ◌^◌, ◌≤◌, ◌++◌, take, drop, replicate};
 ghost use Rattle.atoi_core.specs.Digit.{decimal_table};
 ghost use Rattle.atoi_core.specs.Reading.{Reading};

@@ -1,5 +1,5 @@
-//! `Parse` and its twelve types: a number with the sign that may stand before it.
-//! It stands on `ParsePos`, `ParseNeg` and the sign of `atoi_core`.
+//! `Parse` and its twelve types: a number with the sign that may stand before it. It uses
+//! `ParsePos`, `ParseNeg` and the sign of `atoi_core`.
 ghost use Rattle.std.specs.Prelude.{◌≡◌, ◌≤◌, IfOk, length};
 ghost use Rattle.atoi_core.specs.Answer.{typed_answer, typed_prefix_answer, parse_answer, parse_prefix_answer};
 

@@ -1,6 +1,5 @@
 //! `ParsePos` and its twelve types: the digits of a number that is not negative, without a sign. It
-//! stands on `Number`, `Steps` and the core calls `whole_pos` and `prefix_pos`, over the crate's
-//! reader.
+//! uses `Number`, `Steps` and the core calls `whole_pos` and `prefix_pos`, over the crate's reader.
 ghost use Rattle.std.specs.Prelude.{◌≡◌, ◌≤◌, false, IfOk, length};
 ghost use Rattle.atoi_core.specs.Answer.{typed_answer, typed_prefix_answer, whole_answer, prefix_answer};
 ghost use Rattle.atoi_core.specs.Digit.{decimal_table};

@@ -1,5 +1,4 @@
-//! The answer to a row about one number.
-//! It stands on `request`, `calls`, `printed` and `line`.
+//! The answer to a row about one number. It uses `request`, `calls`, `printed` and `line`.
 ghost use Rattle.std.specs.Prelude.{◌≡◌, ◌≤◌, [], true, false, length};
 ghost use Rattle.atoi_tool.specs.Request.{is_known, is_negative};
 ghost use Rattle.atoi_tool.specs.Answer.{call_text, row_text};

@@ -1,6 +1,6 @@
 //! The calls of both libraries, with the engine and the flags as values. Both answer alike, so no
-//! clause tells which was called. It stands on `request`, on six functions of `atoi_simd`, and on
-//! those of its module `lanes`.
+//! clause tells which was called. It uses `request`, six functions of `atoi_simd`, and those of its
+//! module `lanes`.
 ghost use Rattle.std.specs.Prelude.{◌≡◌, true, false};
 ghost use Rattle.atoi_core.specs.Answer.{typed_answer, typed_prefix_answer, whole_answer, prefix_answer, parse_answer, parse_prefix_answer};
 ghost use Rattle.atoi_core.specs.Digit.{decimal_table};

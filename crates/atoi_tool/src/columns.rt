@@ -1,5 +1,5 @@
-//! The answer to a row about a column, written item by item, since it has no bound.
-//! It stands on `atoi_column`, and on `request`, `printed`, `line`, `put` and `refused`.
+//! The answer to a row about a column, written item by item, since it has no bound. It uses
+//! `atoi_column`, and `request`, `printed`, `line`, `put` and `refused`.
 ghost use Rattle.std.specs.Prelude.{◌≡◌, ◌+◌, ◌++◌, true, codes, OnOk, OnErr};
 ghost use Rattle.std.specs.List.{flat_map};
 ghost use Rattle.std.specs.Io.KnownBytes.{Appends};

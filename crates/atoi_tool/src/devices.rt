@@ -1,5 +1,5 @@
-//! Readers, writers and a standard error of the tests' own, which fail where a test says so.
-//! They stand on std alone.
+//! Readers, writers and a standard error of the tests' own, which fail where a test says so. They
+//! use std alone.
 
 use std::alloc::Global;
 use std::cell::RefCell;

@@ -1,5 +1,4 @@
-//! The input as a whole.
-//! It stands on the trait `Source`, and on `status` for what stops it.
+//! The input as a whole. It uses the trait `Source`, and `status` for what stops it.
 ghost use Rattle.std.specs.Prelude.{◌≡◌, ◌≢◌, IfOk, IfErr, OnOk};
 ghost use Rattle.std.specs.Io.KnownBytes.{Consumes, IsAtEnd};
 ghost use Rattle.atoi_tool.specs.ReadAll.{ReadAllCounts};

@@ -1,5 +1,4 @@
-//! A line of output while it is made.
-//! It stands on nothing.
+//! A line of output while it is made. It uses no other module.
 ghost use Rattle.std.specs.Prelude.{◌≡◌, ◌+◌, ◌≤◌, ℕ, List, [], ◌++◌, length, take};
 
 use std::marker::Model;

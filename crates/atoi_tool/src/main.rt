@@ -1,5 +1,5 @@
 //! Reads rows of an engine, a call, an integer type, flags and a text, and answers each by a parse.
-//! It joins a run to the standard input, output and error; every other module stands below it.
+//! It joins a run to the standard input, output and error; every other module is used by it.
 #![tactic(auto)]
 
 use crate::run::{Ended, run};

@@ -1,5 +1,6 @@
-//! The answers to all lines of an input, written to a sink. It stands on the trait `Sink`, on
-//! `row`, on `answer` and `columns`, and on `line`, `place`, `put`, `refused` and `status`.
+//! The answers to all lines of an input, written to a sink. It uses the trait `Sink`, `row`,
+//! `answer` and `columns`, `line`, `place`, `put`, `refused` and `status`, and a law of
+//! `atoi_column`.
 ghost use Rattle.std.specs.Prelude.{◌≡◌, ◌+◌, ◌<◌, [], ◌∷◌, length, IfOk, IfErr, OnOk, OnErr};
 ghost use Rattle.std.specs.Io.KnownBytes.{Appends};
 ghost use Rattle.atoi_tool.specs.Failures.{failures_of, AppendsFront};

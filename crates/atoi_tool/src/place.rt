@@ -1,5 +1,4 @@
-//! The place of a byte in a slice.
-//! It stands on nothing.
+//! The place of a byte in a slice. It uses no other module.
 ghost use Rattle.std.specs.Prelude.{◌≡◌, ◌<◌, ◌==◌, IfSome, length, position};
 
 /// The place of the first `sought` among `bytes`, if there is one.

@@ -1,5 +1,5 @@
-//! The text of an answer, for a value of any integer type.
-//! It stands on `line`, and on the texts of `atoi_core`.
+//! The text of an answer, for a value of any integer type. It uses `line`, and the texts of
+//! `atoi_core`.
 ghost use Rattle.std.specs.Prelude.{◌≡◌, ◌+◌, ◌≤◌, [], ◌++◌, length, decimal, codes};
 ghost use Rattle.std.specs.Fmt.{signed_decimal};
 ghost use Rattle.atoi_core.specs.Refusal.{refusal_of};

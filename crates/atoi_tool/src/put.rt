@@ -1,5 +1,4 @@
-//! All of some bytes, put to a sink.
-//! It stands on the trait `Sink`, and on `refused`.
+//! All of some bytes, put to a sink. It uses the trait `Sink`, and `refused`.
 ghost use Rattle.std.specs.Prelude.{◌≡◌, ◌+◌, OnOk, OnErr};
 ghost use Rattle.std.specs.Io.KnownBytes.{Appends};
 ghost use Rattle.atoi_tool.specs.Failures.{failures_of, AppendsFront};

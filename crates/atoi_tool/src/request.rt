@@ -1,5 +1,4 @@
-//! What a row asks for, but for its text, and the words that say it.
-//! It stands on nothing.
+//! What a row asks for, but for its text, and the words that say it. It uses no other module.
 ghost use Rattle.std.specs.Prelude.{◌≡◌};
 ghost use Rattle.atoi_tool.specs.Request.{engine_of, call_of, integer_of, flags_of, kind_of, takes_sign, is_negative, is_known};
 

@@ -1,5 +1,5 @@
-//! A line as a row: four words and a text.
-//! It stands on `request` and `place`, and on the separators of `atoi_column`.
+//! A line as a row: four words and a text. It uses `request` and `place`, and the separators of
+//! `atoi_column`.
 ghost use Rattle.std.specs.Prelude.{◌≡◌, ◌<◌, true, IfSome};
 ghost use Rattle.std.specs.Option.{option_map};
 ghost use Rattle.atoi_tool.specs.Request.{is_known};

@@ -1,5 +1,5 @@
-//! The tool between its input and its output, and how it ends.
-//! It stands on `input`, `output` and `status`, and on the traits `Source` and `Sink`.
+//! The tool between its input and its output, and how it ends. It uses `input`, `output` and
+//! `status`, and the traits `Source` and `Sink`.
 ghost use Rattle.std.specs.Prelude.{◌≡◌, ◌+◌, IfOk, IfErr};
 ghost use Rattle.std.specs.Process.{exit_status};
 ghost use Rattle.atoi_tool.specs.Run.{outcome_of, IsAnswered, IsStopped, refused_reads, refused_writes};

@@ -1,5 +1,5 @@
-//! Where the answers go, and std's writers as such a place.
-//! It stands on `refused`, on std's `Write`, and on the count of steps of `atoi_core`.
+//! Where the answers go, and std's writers as such a place. It uses `refused`, std's `Write`, and
+//! the count of steps of `atoi_core`.
 ghost use Rattle.std.specs.Prelude.{◌≡◌, ◌+◌, ◌<◌, ◌≤◌, ℕ, List, Option, None, length, IfOk};
 ghost use Rattle.std.specs.Io.KnownBytes.{WriteAppends};
 ghost use Rattle.atoi_tool.specs.Failures.{failures_of};

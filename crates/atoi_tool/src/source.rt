@@ -1,5 +1,5 @@
-//! Where the input comes from, and std's readers as such a place.
-//! It stands on `refused`, on std's `Read`, and on the count of steps of `atoi_core`.
+//! Where the input comes from, and std's readers as such a place. It uses `refused`, std's `Read`,
+//! and the count of steps of `atoi_core`.
 ghost use Rattle.std.specs.Prelude.{◌≡◌, ◌+◌, ◌<◌, ◌≤◌, ℕ, List, Option, None, length, IfOk};
 ghost use Rattle.std.specs.Io.KnownBytes.{ReadConsumes};
 ghost use Rattle.atoi_tool.specs.Failures.{failures_of};

@@ -1,5 +1,4 @@
-//! What stopped the program, and the status that it ends with.
-//! It stands on nothing.
+//! What stopped the program, and the status that it ends with. It uses no other module.
 ghost use Rattle.std.specs.Prelude.{◌≡◌, Some};
 ghost use Rattle.atoi_tool.specs.Status.{status_of, tool_error_text};
 

@@ -1,4 +1,4 @@
-//! Callers of `atoi_simd` and `atoi_column`, proved by their public clauses alone.
+//! Callers of `atoi_simd` and `atoi_column`, proved by their public clauses and laws.
 //! They use these two, and the definitions, laws, traits and core calls of `atoi_core`.
 #![tactic(auto)]
 

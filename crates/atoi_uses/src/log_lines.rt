@@ -1,5 +1,5 @@
 //! The columns of a log line, summed: the numbers between commas after its last space.
-//! They use `totals`, which sums the column, and the law of `atoi_column`.
+//! They use `totals`, which sums the column, and a law of `atoi_column`.
 ghost use Rattle.std.specs.Prelude.{◌≡◌, ◌+◌, ◌^◌, ◌<◌, IfOk, IfErr};
 ghost use Rattle.atoi_column.specs.Items.{flaw_of, index_of, place_of};
 ghost use Rattle.atoi_uses.specs.LogLines.{columns_of, HasTotal, Refuses};

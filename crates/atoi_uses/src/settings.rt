@@ -1,5 +1,5 @@
-//! A reader of settings, each a letter, `=` and a number.
-//! It stands on `atoi_simd::parse_prefix`: the count tells where the rest begins.
+//! A reader of settings, each a letter, `=` and a number. It uses `atoi_simd::parse_prefix`: the
+//! count tells where the rest begins.
 ghost use Rattle.std.specs.Prelude.{◌≡◌, ◌++◌, ℕ, List, ◌∷◌, true, IfOk, IfErr, IfSome, IfNone, IsErr, Ok, Err, take, drop, codes};
 ghost use Rattle.atoi_core.specs.Answer.{parse_prefix_answer};
 ghost use Rattle.atoi_core.specs.Kinds.{i64_kind};

@@ -1,5 +1,5 @@
-//! That the three engines answer alike on a slice, in each call that an engine serves.
-//! It stands on `answers`, on the engines and on the loops of `atoi_core`.
+//! That the three engines answer alike on a slice, in each call that an engine serves. It uses
+//! `answers`, the engines and the loops of `atoi_core`.
 
 use crate::answers::gives;
 use crate::differences::{LONG_ROWS, PLUS_ROWS};

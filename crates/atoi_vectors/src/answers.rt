@@ -1,5 +1,5 @@
 //! That a call gives the answer that is expected, stated once for all tests: an assertion by itself
-//! costs the proof of each test that makes it. It stands on std alone.
+//! costs the proof of each test that makes it. It uses std alone.
 
 use std::fmt::Debug;
 use std::process::Abort;

@@ -1,5 +1,5 @@
-//! The decimal text of every u8 and every i8, under the four choices of flags.
-//! It stands on `answers`, on `decimal` of `atoi_core` and on the public calls of `atoi_simd`.
+//! The decimal text of every u8 and every i8, under the four choices of flags. It uses `answers`,
+//! `decimal` of `atoi_core` and the public calls of `atoi_simd`.
 ghost use Rattle.std.specs.Prelude.{◌≤◌};
 
 use crate::answers::both_give;

@@ -1,6 +1,6 @@
-//! Rows of the tool's form that the Rust crate `atoi_simd` 0.18.1 and this port answer otherwise, by
-//! the rule in which they differ, with both answers. It stands on nothing; the crate's README.md
-//! says how the original's answers were made.
+//! Rows of the tool's form that the Rust crate `atoi_simd` 0.18.1 and this port answer otherwise,
+//! by the rule in which they differ, with both answers. It uses no other module; the crate's
+//! README.md says how the original's answers were made.
 
 /// `parse_prefix` counts a plus that it takes: the rows with SKIP_PLUS and a text that begins with a
 /// plus and digits that are accepted, one a line.

@@ -1,6 +1,5 @@
 //! That each engine answers by the plain rules, in each call that an engine serves, on every byte
-//! at every place. It stands on `plain_rules` and `answers`, on the engines and on the loops of
-//! `atoi_core`.
+//! at every place. It uses `plain_rules` and `answers`, the engines and the loops of `atoi_core`.
 ghost use Rattle.std.specs.Prelude.{◌<◌, ◌≤◌};
 ghost use Rattle.atoi_core.specs.Magnitude.{HasDigits};
 

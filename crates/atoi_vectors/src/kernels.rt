@@ -1,5 +1,5 @@
 //! The kernels on words and on lanes, on every byte at every place and on loads of every kind of
-//! length. It stands on `plain_rules` and `answers`, on the kernels and on the engines.
+//! length. It uses `plain_rules` and `answers`, the kernels and the engines.
 ghost use Rattle.std.specs.Prelude.{◌<◌};
 
 use crate::answers::gives;

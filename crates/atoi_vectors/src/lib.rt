@@ -1,5 +1,5 @@
 //! Worked rows of the ten functions and of the engines under them, and comparisons of the three
-//! engines and of the two surfaces. It stands on the three libraries, and has no contract of its
+//! engines and of the root and `lanes`. It uses the three libraries, and has no contract of its
 //! own.
 #![tactic(auto)]
 

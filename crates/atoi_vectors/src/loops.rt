@@ -1,5 +1,5 @@
-//! The worked rows of the loops under the ten functions, on each of the three engines.
-//! It stands on `answers`, on `atoi_core` and on `Lanes`.
+//! The worked rows of the loops under the ten functions, on each of the three engines. It uses
+//! `answers`, `atoi_core` and `Lanes`.
 
 use crate::answers::gives;
 use atoi_core::AtoiSimdError::{Invalid64, Invalid128, Overflow, Size};

@@ -1,5 +1,5 @@
 //! Narrow whole slices by windows: the worked rows on each of the three engines, and that each
-//! answers as the digit loop does. It stands on `answers`, on `atoi_core` and on `Lanes`.
+//! answers as the digit loop does. It uses `answers`, `atoi_core` and `Lanes`.
 
 use crate::answers::{each_gives, gives};
 use atoi_core::AtoiSimdError::{Empty, Invalid64, Overflow};

@@ -1,6 +1,6 @@
 //! Rows of the tool's form that the Rust crate `atoi_simd` 0.18.1 and this port answer alike, and
-//! their answers, which are the original's. It stands on nothing; the rows with two answers stand in
-//! `differences`, and the crate's README.md says how all answers were made.
+//! their answers, which are the original's. It uses no other module; the rows with two answers are
+//! in `differences`, and the crate's README.md says how all answers were made.
 
 /// The rows, one a line: `ENGINE CALL TYPE FLAGS TEXT`. Engine `l` answers as engine `w`, so each
 /// row serves both.

@@ -1,5 +1,5 @@
-//! What each call of an engine answers to a slice, counted digit by digit from the rules alone.
-//! It stands on the error type, and on no engine and no loop of the libraries.
+//! What each call of an engine answers to a slice, counted digit by digit from the rules alone. It
+//! uses the error type, and no engine and no loop of the libraries.
 ghost use Rattle.std.specs.Prelude.{◌≤◌, length};
 
 use atoi_simd::AtoiSimdError::{self, Empty, Invalid64, Overflow, Size};

@@ -1,5 +1,5 @@
-//! Both ends of each of the twelve types, and one past each, behind zeros.
-//! It stands on `answers` and on the public calls of `atoi_simd`.
+//! Both ends of each of the twelve types, and one past each, behind zeros. It uses `answers` and
+//! the public calls of `atoi_simd`.
 
 use crate::answers::both_give;
 use atoi_simd::AtoiSimdError::Overflow;

@@ -1,5 +1,4 @@
-//! What one window tells, on each of the three engines.
-//! It stands on `agreement` and on the engines.
+//! What one window tells, on each of the three engines. It uses `agreement` and the engines.
 
 use crate::agreement::told;
 use atoi_core::{Engine, Plain, Steps, Words};

@@ -1,5 +1,5 @@
 //! The worked rows of the ten functions. Each is stated once and runs on the root and on `lanes`.
-//! It stands on `answers` and on the public calls of `atoi_simd`.
+//! It uses `answers` and the public calls of `atoi_simd`.
 
 use crate::answers::both_give;
 use atoi_simd::AtoiSimdError::{self, Empty, Invalid64, Overflow, Size};

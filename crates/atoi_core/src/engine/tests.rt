@@ -1,5 +1,5 @@
 //! Worked rows of the wide loops and of the parses above, on `Plain` and on two other alphabets.
-//! They stand on `engine`, `wide`, `dispatch`, `steps`, `error` and these engines.
+//! They use `engine`, `wide`, `dispatch`, `steps`, `error` and these engines.
 ghost use Rattle.atoi_core.specs.Magnitude.{HasDigits};
 
 use super::alphabets::{BothCases, Letters};

@@ -1,5 +1,5 @@
-//! Tests of reading all of an input, of readers that fail, and of want of memory.
-//! They stand on the tests' own `devices`, and on the heaps of `linked_list_allocator`.
+//! Tests of reading all of an input, of readers that fail, and of want of memory. They use the
+//! tests' own `devices`, and the heaps of `linked_list_allocator`.
 
 use super::{PART, read_all, read_all_in};
 use crate::devices::FailingReader;

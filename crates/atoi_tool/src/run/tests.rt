@@ -1,5 +1,5 @@
-//! Tests of whole runs: what reaches the output and the standard error, and the status.
-//! They stand on the tests' own `devices`.
+//! Tests of whole runs: what reaches the output and the standard error, and the status. They use
+//! the tests' own `devices`.
 
 use super::{Ended, run};
 use crate::devices::{Errors, FailingReader, Full, LimitedWriter};

@@ -1,5 +1,5 @@
-//! Each row of the original crate, answered by the root and by `lanes`.
-//! It stands on the public calls of `atoi_simd`, and on what `atoi_core` prints.
+//! Each row of the original crate, answered by the root and by `lanes`. It uses the public calls of
+//! `atoi_simd`, and what `atoi_core` prints.
 
 use super::{ANSWERS, ROWS};
 use crate::differences::{

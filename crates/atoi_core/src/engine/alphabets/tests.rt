@@ -1,5 +1,5 @@
-//! Long runs of letters in each call, answered by what each run was built of.
-//! They stand on the engine `Letters` and on the calls above it.
+//! Long runs of letters in each call, answered by what each run was built of. They use the engine
+//! `Letters` and the calls above it.
 ghost use Rattle.std.specs.Prelude.{◌≤◌};
 ghost use Rattle.atoi_core.specs.Magnitude.{HasDigits};
 
