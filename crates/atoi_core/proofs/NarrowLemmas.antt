@@ -1,13 +1,16 @@
 -- The answers of the narrow class for a front, from the last window behind the zeros that are skipped.
-use Rattle.std.proofs.Common.{◌≡◌, ℕ, ◌+◌, ◌*◌, ◌/◌, ◌^◌, ◌<◌, ◌≤◌, ◌==◌, min, Bool, true, false, nat_lt, List, length, take, drop, Some, None, Result, Ok, Err, refl, sym, ap, ◌∙◌, lit<, ltb-true, not, ◌&&◌, inl, inr, arith, if◌then◌else◌}
+use Rattle.std.proofs.Common.{◌≡◌, ℕ, ◌+◌, ◌-◌, ◌*◌, ◌/◌, ◌^◌, ◌<◌, ◌≤◌, ◌==◌, min, Bool, true, false, nat_lt, List, length, take, drop, Some, None, Result, Ok, Err, refl, sym, ap, ◌∙◌, lit<, ltb-true, not, ◌&&◌, inl, inr, arith, if◌then◌else◌}
 use Rattle.std.proofs.Math.Nat.{le-mul_of_pos_right, one-le-pow}
 use Rattle.std.proofs.lemmas.Bool.{cases_lt, lt-ltb, le-ltb}
-use Rattle.atoi_core.specs.Digit.{Table}
+use Rattle.std.proofs.lemmas.Bool.Decides.{nat_tests}
+use Rattle.std.proofs.lemmas.List.{take_rest}
+use Rattle.atoi_core.specs.Digit.{Table, is_digit}
 use Rattle.atoi_core.specs.Run.{run_len, run, zeros, value}
 use Rattle.atoi_core.specs.Refusal.{Refusal, rank, empty, size, overflow, invalid64}
 use Rattle.atoi_core.specs.Magnitude.{narrow, prefix, skipped_zeros, rule_of, is_above, refusal, unless_refused, whole_magnitude, prefix_magnitude}
 use Rattle.atoi_core.specs.declared.window.Window.{Window}
 use Rattle.atoi_core.proofs.RefusalLemmas.{limit_at, counting_digits, IsAccepted, refusal-none, refused_size, refused_overflow}
+use Rattle.atoi_core.proofs.RunLemmas.{prefix_len-take, prefix_len-drop}
 use Rattle.atoi_core.proofs.SkipLemmas.{Skipped}
 use Rattle.atoi_core.proofs.Magnitudes.{narrow_whole_is}
 
@@ -105,6 +108,14 @@ narrow_size t bound limit false s long =
     let too_long = lt-ltb 16 (counting_digits t false s) (omega arith) in
     let told : 0 + min (counting_digits t false s) 17 ≡ 17 = omega arith in
     rw (refused_size t narrow bound limit prefix false s (omega arith) too_long) (rw told refl)
+
+-- behind 16 digits stands one more where there are more than 16
+pub digit_after_16 : (t : Table) (s : List ℕ) → run_len t (take 16 s) ≡ 16 →
+    nat_lt 0 (run_len t (take (length s - 16) (drop 16 s))) ≡ nat_lt 16 (run_len t s)
+digit_after_16 t s full =
+    let first : 16 ≡ min 16 (run_len t s) = sym full ∙ prefix_len-take (is_digit t) 16 s in
+    let run_is : run_len t s ≡ 16 + run_len t (drop 16 s) = prefix_len-drop (is_digit t) 16 s (omega arith) in
+    rw (take_rest s 16) (grind (arith, nat_tests))
 
 -- a narrow whole slice is answered by its front where zeros are skipped: an overflow holds the whole
 -- slice, and a front that ends before the slice is invalid

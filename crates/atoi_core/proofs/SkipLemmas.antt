@@ -1,5 +1,5 @@
 -- The loop that skips zeros by whole windows: how far it comes, and how many windows it loads.
-use Rattle.std.proofs.Common.{◌≡◌, ℕ, ◌+◌, ◌-◌, ◌*◌, ◌/◌, ◌<◌, ◌≤◌, ◌⊎◌, ◌||◌, nat_lt, if◌then◌else◌, min, Bool, true, false, List, length, take, drop, IsTrue, refl, sym, ap, ◌∙◌, inl, inr, subst, arith}
+use Rattle.std.proofs.Common.{◌≡◌, ℕ, ◌+◌, ◌-◌, ◌*◌, ◌/◌, ◌<◌, ◌≤◌, ◌⊎◌, ◌||◌, nat_lt, if◌then◌else◌, min, Bool, true, false, List, length, take, drop, IsTrue, refl, sym, ap, ◌∙◌, inl, inr, arith}
 use Rattle.std.proofs.lemmas.Bool.{cases_lt, false≢true}
 use Rattle.std.proofs.lemmas.Bool.Decides.{nat_tests}
 use Rattle.std.proofs.lemmas.List.{take_rest}
@@ -49,10 +49,10 @@ Skipping-none t skip s n = record {
 }
 
 -- a window that tells zeros is skipped by them
-pub Skipping-more : (t : Table) → IsBelowTen t → (skip : Bool) (s : List ℕ) (at before now next : ℕ) (w : Window) →
+pub Skipping-more : (t : Table) → IsBelowTen t → (skip : Bool) (s : List ℕ) (at after before now next : ℕ) (w : Window) →
     Skipping t skip s at before now → w ≡ window_of t 16 (take (length s - at) (drop at s)) → next ≡ now + 1 →
-    skip ≡ true → 0 < w.zeroes → Skipping t skip s (at + w.zeroes) before next
-Skipping-more t below skip s at before now next w so e one on some =
+    skip ≡ true → 0 < w.zeroes → after ≡ at + w.zeroes → Skipping t skip s after before next
+Skipping-more t below skip s at after before now next w so e one on some dropped =
     let tell : Shows t 16 (drop at s) w = shows_rest t below 16 s at w e in
     let zeros_are : zeros t s ≡ at + zeros t (drop at s) = prefix_len-drop (is_zero t) at s so.bounded in
     let run_is : run_len t s ≡ at + run_len t (drop at s) = prefix_len-drop (is_digit t) at s (omega (arith, so.bounded, zeros-le t s)) in
@@ -157,10 +157,8 @@ pub Skipping-told : (t : Table) → IsBelowTen t → (s : List ℕ) (n zeroes : 
     Skipping t true s zeroes n (n + 1)
 Skipping-told t below s n zeroes e some =
     let w : Window = window_of t 16 s in
-    let more : Skipping t true s (0 + w.zeroes) n (n + 1) =
-    Skipping-more t below true s 0 n n (n + 1) w (Skipping-none t true s n) (ap (window_of t 16) (sym (take_rest s 0))) refl refl (omega arith) in
-    let place : 0 + w.zeroes ≡ zeroes = omega arith in
-    subst (λ (at : ℕ). Skipping t true s at n (n + 1)) place more
+    Skipping-more t below true s 0 zeroes n n (n + 1) w (Skipping-none t true s n) (ap (window_of t 16) (sym (take_rest s 0))) refl refl
+    (omega arith) (omega arith)
 
 -- a first window is the last one where no zeros are skipped
 pub Skipped-at_once : (t : Table) → IsBelowTen t → (skip : Bool) (s : List ℕ) (before next : ℕ) (w : Window) →

@@ -73,7 +73,7 @@ pub trait Engine {
             if !skip || window.zeroes == 0 {
                 break window;
             }
-            at += window.zeroes as usize;
+            at = window.after_zeros(at);
         };
         if front.len < 16 {
             let len = at + front.len as usize;
@@ -122,7 +122,7 @@ pub trait Engine {
             if !skip || next.zeroes == 0 {
                 break next;
             }
-            at += next.zeroes as usize;
+            at = next.after_zeros(at);
         };
         if first.len < 16 {
             let len = at + first.len as usize;

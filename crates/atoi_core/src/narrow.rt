@@ -57,6 +57,7 @@ pub fn narrow_prefix<'a, E: Engine>(
 
 // Whether zeros count, and more than 16 digits stand at the front of `s`, whose first window is
 // given. Only where that is full of digits a second one is loaded.
+#[tactic(auto, using(crate::proofs::NarrowLemmas::digit_after_16))]
 fn is_too_long<E: Engine>(skip: bool, window: Window, s: &[u8], steps: &mut Steps) -> bool
     requires told { window ≡ window_of E.table 16 s.now }
     ensures answer { result ≡ (not skip && nat_lt 16 (run_len E.table s.now)) }
@@ -184,7 +185,7 @@ fn behind_zeros<'a, E: Engine>(
         if window.zeroes == 0 {
             break window;
         }
-        at += window.zeroes as usize;
+        at = window.after_zeros(at);
     };
     answer_at(bound, at, window, s)
 }

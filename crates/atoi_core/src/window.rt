@@ -1,4 +1,5 @@
 //! What one load tells of a slice. It uses no other module.
+ghost use Rattle.std.specs.Prelude.{◌≡◌, ◌+◌, ◌^◌, ◌<◌};
 
 /// What a window of 8 or 16 bytes tells of the front of a slice.
 #[derive(Clone, Copy, PartialEq, Eq)]
@@ -10,4 +11,14 @@ pub struct Window {
     pub zeroes: u32,
     /// The number that its first `len` digits write.
     pub number: u64,
+}
+
+impl Window {
+    /// The place after the zeros that the window at the place `at` has.
+    pub(crate) fn after_zeros(self, at: usize) -> usize
+        requires { at + self.zeroes < 2 ^ 64 }
+        ensures dropped { result ≡ at + self.zeroes }
+    {
+        at + self.zeroes as usize
+    }
 }

@@ -105,7 +105,7 @@ fn behind_zeros<'a>(
         if window.zeroes == 0 {
             break window;
         }
-        at += window.zeroes as usize;
+        at = window.after_zeros(at);
     };
     if front.len < 16 {
         return Ok((front.number, at + front.len as usize));

@@ -15,8 +15,8 @@ loop-window-init g c =
 pub loop-window-preserved : goal.loop-window-preserved
 loop-window-preserved g c =
     record {
-      skipping = Skipping-more g.E.Engine.table g.met.E.Engine.below_ten true c.args.s.now _ _ _ (c.window-window.new.steps + 1) c.window-window.result
-          c.loop-window.invariant.skipping c.window-window.ensures.window (omega arith) refl (omega arith);
+      skipping = Skipping-more g.E.Engine.table g.met.E.Engine.below_ten true c.args.s.now _ _ _ _ (c.window-window.new.steps + 1) c.window-window.result
+          c.loop-window.invariant.skipping c.window-window.ensures.window (omega arith) refl (omega arith) c.after_zeros-at.ensures.dropped;
       some = omega (arith, c.loop-window.invariant.some);
     }
 

@@ -18,9 +18,9 @@ slice_bounds-window-count g c = c.loop-next.invariant.within
 
 pub loop-next-preserved : goal.loop-next-preserved
 loop-next-preserved g c =
-    Skipping-more _ g.met.Self.Engine.below_ten _ _ _ _ _ _ c.window-next.result
+    Skipping-more _ g.met.Self.Engine.below_ten _ _ _ _ _ _ _ c.window-next.result
     c.loop-next.invariant c.window-next.ensures.window c.window-next.ensures.one_step
-    c.if-not-skip.false (omega arith)
+    c.if-not-skip.false (omega arith) c.after_zeros-at.ensures.dropped
 
 pub returns-then-len-eq0-clause-answer : goal.returns-then-len-eq0-clause-answer
 returns-then-len-eq0-clause-answer g c =

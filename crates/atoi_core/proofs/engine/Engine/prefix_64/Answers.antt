@@ -19,9 +19,9 @@ slice_bounds-window-count g c = c.loop-window.invariant.within
 
 pub loop-window-preserved : goal.loop-window-preserved
 loop-window-preserved g c =
-    Skipping-more _ g.met.Self.Engine.below_ten _ _ _ _ _ _ c.window-window.result
+    Skipping-more _ g.met.Self.Engine.below_ten _ _ _ _ _ _ _ c.window-window.result
     c.loop-window.invariant c.window-window.ensures.window c.window-window.ensures.one_step
-    c.if-not-skip.false (omega arith)
+    c.if-not-skip.false (omega arith) c.after_zeros-at.ensures.dropped
 
 pub returns-then-len-eq0-clause-answer : goal.returns-then-len-eq0-clause-answer
 returns-then-len-eq0-clause-answer g c =
