@@ -1,4 +1,4 @@
-use Rattle.std.proofs.Common.{◌≡◌, pos, length, refl, sym, ◌∙◌}
+use Rattle.std.proofs.Common.{◌≡◌, pos, refl, sym, ◌∙◌}
 use Rattle.std.proofs.lemmas.List.{take_rest}
 use Rattle.std.proofs.lemmas.List.Prefix.{front_rest}
 use Rattle.atoi_simd.specs.Laws.{positive}
