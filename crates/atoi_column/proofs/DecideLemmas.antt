@@ -5,10 +5,11 @@ use Rattle.std.proofs.lemmas.List.Elements.{All-nil, All-cons}
 use Rattle.atoi_core.specs.Refusal.{Refusal}
 use Rattle.atoi_core.specs.Kind.{Kind}
 use Rattle.atoi_core.specs.Answer.{parse_prefix_answer}
-use Rattle.atoi_core.specs.Text.{IsText}
+use Rattle.atoi_core.specs.Text.{IsText, TextWrites}
+use Rattle.atoi_core.specs.Laws.{looked_for, AcceptedTexts, AcceptedNumbers}
 use Rattle.atoi_column.specs.Fields.{fields_of}
 use Rattle.atoi_column.specs.Items.{Flaw, flaw_at, index_of, place_of}
-use Rattle.atoi_column.specs.Laws.{Writes, HasItems, EndsItems, TextsAndItems, IsFirstBad, ItemsDecide, place_behind, number_len}
+use Rattle.atoi_column.specs.Laws.{HasItems, EndsItems, TextsAndItems, IsFirstBad, ItemsDecide, place_behind, number_len}
 
 -- a list of values is no list of values and then an error
 no_error : (numbers values : List ℤ) (flaw : Flaw) → map Ok numbers ≡ map Ok values ++ Err flaw ∷ [] → ⊥
@@ -40,29 +41,33 @@ place_of-flaw_at : (index place : ℕ) (read : Result (ℤ × ℕ) Refusal) → 
 place_of-flaw_at index place (Ok found) = refl
 place_of-flaw_at index place (Err reason) = omega arith
 
-texts_of : (k : Kind) (texts : List (List ℕ)) (values : List ℤ) → AllZip (Writes k) texts values → All (IsText k) texts
-texts_of k [] [] written = All-nil (IsText k)
-texts_of k [] (value ∷ values) written = elim written [ ]
-texts_of k (text ∷ texts) [] written = elim written [ ]
-texts_of k (text ∷ texts) (value ∷ values) written = All-cons (IsText k) text texts written.0.0 (texts_of k texts values written.1)
+-- what writes a number is a text of the type
+module _ (k : Kind) (law : AcceptedTexts k) (numbers : AcceptedNumbers k) where
+  texts_of : (texts : List (List ℕ)) (values : List ℤ) → AllZip (TextWrites k true) texts values → All (IsText k) texts
+  texts_of [] [] written = All-nil (IsText k)
+  texts_of [] (value ∷ values) written = elim written [ ]
+  texts_of (text ∷ texts) [] written = elim written [ ]
+  texts_of (text ∷ texts) (value ∷ values) written =
+      let is : IsText k text = (law.accepted text).0 (rw (numbers.accepted (looked_for true) text value written.0) refl) in
+      All-cons (IsText k) text texts is (texts_of texts values written.1)
 
 module _ (k : Kind) (separator : ℕ) (input : List ℕ) (has : HasItems k separator input) (numbers : List ℤ) where
   whole_of : (others : List (List ℕ)) (last : List (Result ℤ Flaw)) → fields_of separator input ≡ has.texts ++ others
       → EndsItems k (parse_prefix_answer k true true) (length has.texts) (place_behind has.texts) (drop (place_behind has.texts) input) others last
-      → map Ok numbers ≡ map Ok has.numbers ++ last → AllZip (Writes k) (fields_of separator input) numbers
+      → map Ok numbers ≡ map Ok has.numbers ++ last → AllZip (TextWrites k true) (fields_of separator input) numbers
   whole_of [] last parts end same =
       let all : fields_of separator input ≡ has.texts = parts ∙ append-nil has.texts in
       let alone : map Ok numbers ≡ map Ok has.numbers = same ∙ (ap (λ l. map Ok has.numbers ++ l) end ∙ append-nil (map Ok has.numbers)) in
-      subst (λ fields. AllZip (Writes k) fields numbers) (sym all) (subst (AllZip (Writes k) has.texts) (sym (same_values numbers has.numbers alone)) has.written)
+      subst (λ fields. AllZip (TextWrites k true) fields numbers) (sym all) (subst (AllZip (TextWrites k true) has.texts) (sym (same_values numbers has.numbers alone)) has.written)
   whole_of (field ∷ others) last parts end same =
       absurd (no_error numbers has.numbers _ (same ∙ ap (λ l. map Ok has.numbers ++ l) end.1))
 
-  bad_of : (flaw : Flaw) (others : List (List ℕ)) (last : List (Result ℤ Flaw)) → fields_of separator input ≡ has.texts ++ others
+  bad_of : All (IsText k) has.texts → (flaw : Flaw) (others : List (List ℕ)) (last : List (Result ℤ Flaw)) → fields_of separator input ≡ has.texts ++ others
       → EndsItems k (parse_prefix_answer k true true) (length has.texts) (place_behind has.texts) (drop (place_behind has.texts) input) others last
       → map Ok numbers ++ Err flaw ∷ [] ≡ map Ok has.numbers ++ last → IsFirstBad k separator input (index_of flaw) (place_of flaw)
-  bad_of flaw [] last parts end same =
+  bad_of good flaw [] last parts end same =
       absurd (no_error has.numbers numbers flaw (sym (append-nil (map Ok has.numbers)) ∙ (ap (λ l. map Ok has.numbers ++ l) (sym end) ∙ sym same)))
-  bad_of flaw (field ∷ others) last parts end same =
+  bad_of good flaw (field ∷ others) last parts end same =
       let place : ℕ = place_behind has.texts in
       let read : Result (ℤ × ℕ) Refusal = parse_prefix_answer k true true (drop place input) in
       let flaw_is : flaw ≡ flaw_at (length has.texts) place read =
@@ -72,18 +77,18 @@ module _ (k : Kind) (separator : ℕ) (input : List ℕ) (has : HasItems k separ
         field = field;
         others = others;
         parts = parts;
-        good = texts_of k has.texts has.numbers has.written;
+        good = good;
         bad = end.0;
         index_is = ap index_of flaw_is ∙ index_of-flaw_at (length has.texts) place read;
         place_is = ap place_of flaw_is ∙ place_of-flaw_at (length has.texts) place read;
       }
 
-pub items_decide : (k : Kind) → TextsAndItems k → ItemsDecide k
-items_decide k law = record {
+pub items_decide : (k : Kind) → AcceptedTexts k → AcceptedNumbers k → TextsAndItems k → ItemsDecide k
+items_decide k texts written law = record {
   whole = λ separator input numbers same.
       let has = law separator input in
       whole_of k separator input has numbers has.others has.last has.fields has.end (sym same ∙ has.items);
   first_bad = λ separator input numbers flaw same.
       let has = law separator input in
-      bad_of k separator input has numbers flaw has.others has.last has.fields has.end (sym same ∙ has.items);
+      bad_of k separator input has numbers (texts_of k texts written has.texts has.numbers has.written) flaw has.others has.last has.fields has.end (sym same ∙ has.items);
 }

@@ -6,16 +6,16 @@ use Rattle.std.proofs.lemmas.List.Sums.{sum_by-cons}
 use Rattle.atoi_core.specs.Refusal.{Refusal}
 use Rattle.atoi_core.specs.Kind.{Kind}
 use Rattle.atoi_core.specs.Answer.{parse_answer, parse_prefix_answer}
-use Rattle.atoi_core.specs.Text.{IsText}
-use Rattle.atoi_core.specs.Laws.{AcceptedTexts}
+use Rattle.atoi_core.specs.Text.{IsText, TextWrites}
+use Rattle.atoi_core.specs.Laws.{looked_for, AcceptedTexts, AcceptedNumbers}
 use Rattle.atoi_column.specs.Fields.{fields_of}
 use Rattle.atoi_column.specs.Items.{Flaw, flaw_at, items_from, items_left}
-use Rattle.atoi_column.specs.Laws.{Writes, place_behind, EndsItems, TextsAndItems}
+use Rattle.atoi_column.specs.Laws.{place_behind, EndsItems, TextsAndItems}
 use Rattle.atoi_column.proofs.ItemLemmas.{items_from-ok, items_from-err}
 
 -- what a field is: a text that writes a number, or none
 data IsRead (k : Kind) (whole : List ℕ → Result ℤ Refusal) (text : List ℕ) : Type 0 where
-  accepted : (v : ℤ) → whole text ≡ Ok v → Writes k text v → IsRead k whole text
+  accepted : (v : ℤ) → whole text ≡ Ok v → TextWrites k true text v → IsRead k whole text
   refused : ((v : ℤ) → whole text ≡ Ok v → ⊥) → ¬ IsText k text → IsRead k whole text
 
 module _ (k : Kind) (whole : List ℕ → Result ℤ Refusal) (prefix : List ℕ → Result (ℤ × ℕ) Refusal) (read : (text : List ℕ) → IsRead k whole text) where
@@ -26,7 +26,7 @@ module _ (k : Kind) (whole : List ℕ → Result ℤ Refusal) (prefix : List ℕ
     numbers : List ℤ
     last : List (Result ℤ Flaw)
     parts : fields ≡ texts ++ others
-    written : AllZip (Writes k) texts numbers
+    written : AllZip (TextWrites k true) texts numbers
     items : items_from whole prefix index place rest fields ≡ map Ok numbers ++ last
     end : EndsItems k prefix (index + length texts) (place + place_behind texts) (drop (place_behind texts) rest) others last
 
@@ -67,30 +67,24 @@ module _ (k : Kind) (whole : List ℕ → Result ℤ Refusal) (prefix : List ℕ
         }
       ]
 
--- an answer has one value, or none
-ok_same : (r : Result ℤ Refusal) (v w : ℤ) → r ≡ Ok v → r ≡ Ok w → v ≡ w
-ok_same r v w h other = cc
-
 ok_or_err : (r : Result ℤ Refusal) (v : ℤ) (reason : Refusal) → r ≡ Ok v → r ≡ Err reason → ⊥
 ok_or_err r v reason h other = absurd (cc)
 
 -- the accepted texts are read as their numbers, and no others
-module _ (k : Kind) (law : AcceptedTexts k) (text : List ℕ) where
+module _ (k : Kind) (texts : AcceptedTexts k) (numbers : AcceptedNumbers k) (text : List ℕ) where
   read_as : (r : Result ℤ Refusal) → parse_answer k true true text ≡ r → IsRead k (parse_answer k true true) text
-  read_as (Ok v) h =
-      let is : IsText k text = (law.accepted text).0 (rw h refl) in
-      accepted v h (is, ok_same (parse_answer k true true text) v _ h (law.number text is))
+  read_as (Ok v) h = accepted v h (numbers.written (looked_for true) true text v h)
   read_as (Err reason) h =
       refused (λ v ok. ok_or_err (parse_answer k true true text) v reason ok h)
-      (λ is. ok_or_err (parse_answer k true true text) _ reason (law.number text is) h)
+      (λ is. ok_or_err (parse_answer k true true text) _ reason (texts.number text is) h)
 
   read_by_law : IsRead k (parse_answer k true true) text
   read_by_law = read_as (parse_answer k true true text) refl
 
-pub texts_and_items : (k : Kind) → AcceptedTexts k → TextsAndItems k
+pub texts_and_items : (k : Kind) → AcceptedTexts k → AcceptedNumbers k → TextsAndItems k
 unfolding items_left
-texts_and_items k law separator input =
-    let from = has_items_from k (parse_answer k true true) (parse_prefix_answer k true true) (read_by_law k law) 0 0 input (fields_of separator input) in
+texts_and_items k texts numbers separator input =
+    let from = has_items_from k (parse_answer k true true) (parse_prefix_answer k true true) (read_by_law k texts numbers) 0 0 input (fields_of separator input) in
     record {
       texts = from.texts;
       others = from.others;

@@ -1,13 +1,10 @@
 -- Laws of fields and items. Each is a statement about the definitions alone.
 use Rattle.std.specs.Prelude.{◌≡◌, ℕ, ◌+◌, ◌<◌, ◌≤◌, ◌==◌, true, List, [], ◌∷◌, ◌++◌, length, drop, map, All, ℤ, Result, Ok, Err}
 use Rattle.std.specs.List.{AllZip, before_first, after_first, position_or_len, sum_by}
-use Rattle.atoi_core.specs.Digit.{decimal_table}
-use Rattle.atoi_core.specs.Run.{value}
 use Rattle.atoi_core.specs.Refusal.{Refusal}
 use Rattle.atoi_core.specs.Kind.{Kind}
-use Rattle.atoi_core.specs.Sign.{number_of}
 use Rattle.atoi_core.specs.Answer.{parse_answer, parse_prefix_answer}
-use Rattle.atoi_core.specs.Text.{IsText, is_minus}
+use Rattle.atoi_core.specs.Text.{IsText, TextWrites}
 use Rattle.atoi_column.specs.Fields.{is_separator, fields_of}
 use Rattle.atoi_column.specs.Items.{Flaw, flaw_at, index_of, place_of, items_of}
 
@@ -28,10 +25,6 @@ FieldsArePrefixes k =
     (separator : ℕ) → is_separator separator ≡ true → (rest : List ℕ)
     → FieldIsPrefix (parse_answer k true true) (parse_prefix_answer k true true) separator rest
 
--- the text is one of the type, and writes the number
-abbrev pub Writes : Kind → List ℕ → ℤ → Type 0
-Writes k text number = (is : IsText k text) × (number ≡ number_of (is_minus is.sign) (value decimal_table is.digits))
-
 -- the place behind fields that stand at the front of an input, each with its separator
 abbrev pub place_behind : List (List ℕ) → ℕ
 place_behind texts = sum_by (λ text. length text + 1) texts
@@ -51,7 +44,7 @@ pub record HasItems (k : Kind) (separator : ℕ) (input : List ℕ) : Type 0 whe
   pub numbers : List ℤ
   pub last : List (Result ℤ Flaw)
   pub fields : fields_of separator input ≡ texts ++ others
-  pub written : AllZip (Writes k) texts numbers
+  pub written : AllZip (TextWrites k true) texts numbers
   pub items : items_of k separator input ≡ map Ok numbers ++ last
   pub end : EndsItems k (parse_prefix_answer k true true) (length texts) (place_behind texts) (drop (place_behind texts) input) others last
 
@@ -82,7 +75,7 @@ pub record IsFirstBad (k : Kind) (separator : ℕ) (input : List ℕ) (index pla
 -- writes its value; and where an error comes after values, it is that of the first bad field
 pub record ItemsDecide (k : Kind) : Type 0 where
   pub whole : (separator : ℕ) (input : List ℕ) (numbers : List ℤ) → items_of k separator input ≡ map Ok numbers
-      → AllZip (Writes k) (fields_of separator input) numbers
+      → AllZip (TextWrites k true) (fields_of separator input) numbers
   pub first_bad : (separator : ℕ) (input : List ℕ) (numbers : List ℤ) (flaw : Flaw)
       → items_of k separator input ≡ map Ok numbers ++ Err flaw ∷ []
       → IsFirstBad k separator input (index_of flaw) (place_of flaw)

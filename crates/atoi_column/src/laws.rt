@@ -1,9 +1,9 @@
 //! The laws of columns: each function's contract says one, and calling it does nothing.
-//! They use the law of the accepted texts of `atoi_core`, and no parse.
+//! They use the laws of `atoi_core` on accepted texts and the numbers that they write, and no parse.
 ghost use Rattle.atoi_column.specs.Laws.{TextsAndItems, ItemsDecide, FirstField};
 
 use atoi_core::Number;
-use atoi_core::laws::accepted_texts;
+use atoi_core::laws::{accepted_numbers, accepted_texts};
 
 /// The items of every input are the numbers of its fields before the first that is no text of the
 /// type: an optional `+`, or `-` where the type is signed, one or more digits, nothing behind them,
@@ -13,6 +13,7 @@ pub fn texts_and_items<T: Number>()
     ensures { TextsAndItems T.kind }
 {
     accepted_texts::<T>();
+    accepted_numbers::<T>();
 }
 
 /// What a column's items say of its fields. Where all items are values, every field is a text of
@@ -22,6 +23,8 @@ pub fn texts_and_items<T: Number>()
 pub fn items_decide<T: Number>()
     ensures { ItemsDecide T.kind }
 {
+    accepted_texts::<T>();
+    accepted_numbers::<T>();
     texts_and_items::<T>();
 }
 

@@ -25,6 +25,7 @@ pub mod TextLemmas
 pub mod DecimalLemmas
 pub mod PrefixLemmas
 pub mod FrontLemmas
+pub mod FrontsAndRests
 pub mod ResultLemmas
 pub mod SuffixLemmas
 pub mod ReasonLemmas

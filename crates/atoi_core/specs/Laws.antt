@@ -13,7 +13,7 @@ use Rattle.atoi_core.specs.declared.error.AtoiSimdError.{AtoiSimdError}
 use Rattle.atoi_core.specs.Kind.{Kind, class_of, bound_of, limit_of}
 use Rattle.atoi_core.specs.Sign.{Sign, sign_of, number_of}
 use Rattle.atoi_core.specs.Answer.{typed_answer, typed_prefix_answer, whole_answer, prefix_answer, with_more, parse_answer, parse_prefix_answer}
-use Rattle.atoi_core.specs.Text.{IsText, is_minus, DigitsWrite, TextWrites, FrontWrites}
+use Rattle.atoi_core.specs.Text.{IsText, is_minus, DigitsWrite, TextWrites, BeginsWithDigit, FrontWrites}
 
 -- how a call comes by its sign: it looks for one at the front of its slice, for a plus only where
 -- that is asked for; or it looks for none, and the number is positive, or negative
@@ -145,6 +145,16 @@ pub record PrefixResults {T : Type 0} (k : Kind) (number : T → ℤ) (skip : Bo
   pub no_digits : (is_negative : Bool) (s : List ℕ) (result : Result (T × ℕ) AtoiSimdError)
       → typed_prefix_answer number result ≡ prefix_answer decimal_table k is_negative skip s
       → IsTrue skip → OnErr result ((any : ℤ) (count : ℕ) → ¬ FrontWrites (DigitsWrite k is_negative) s any count)
+
+-- a front that writes a number is known by its bytes and the rest, which begins with no digit; and
+-- a slice has at most one such front
+pub record FrontsAndRests (k : Kind) : Type 0 where
+  pub joined : (form : SignForm) (s front rest : List ℕ) (number : ℤ)
+      → s ≡ front ++ rest → Writes k form front number → ¬ BeginsWithDigit rest
+      → FrontWrites (Writes k form) s number (length front)
+  pub only : (form : SignForm) (s : List ℕ) (number other : ℤ) (count len : ℕ)
+      → FrontWrites (Writes k form) s number count → FrontWrites (Writes k form) s other len
+      → (number ≡ other) × (count ≡ len)
 
 -- a prefix that is read to the slice's end is a whole parse with the same value; and where a prefix
 -- may have as many digits, the other way round

@@ -1,7 +1,7 @@
 //! Laws of the answers: each function's contract says one, and calling it does nothing. They use
 //! the definitions and `number`, and no parse.
 ghost use Rattle.atoi_core.specs.Kind.{kind};
-ghost use Rattle.atoi_core.specs.Laws.{TextOfValue, AcceptedTexts, AcceptedNumbers, WholeResults, AcceptedFronts, PrefixResults, DecimalDigits, ErrorsInOrder, PrefixIsWhole, PrefixOfCut, PrefixStopsAtRest, RestChangesNothing, SkippingAgrees, OrderAndSuffix, ZerosChangeNothing};
+ghost use Rattle.atoi_core.specs.Laws.{TextOfValue, AcceptedTexts, AcceptedNumbers, WholeResults, AcceptedFronts, PrefixResults, FrontsAndRests, DecimalDigits, ErrorsInOrder, PrefixIsWhole, PrefixOfCut, PrefixStopsAtRest, RestChangesNothing, SkippingAgrees, OrderAndSuffix, ZerosChangeNothing};
 
 use crate::number::Number;
 
@@ -42,6 +42,12 @@ pub fn whole_results<T: Number, const SKIP_ZEROES: bool>()
 /// the number, and no digit stands after it; or no front writes a number.
 pub fn prefix_results<T: Number, const SKIP_ZEROES: bool>()
     ensures { PrefixResults T.kind T.number SKIP_ZEROES }
+{}
+
+/// Where a slice is bytes that write a number and a rest that begins with no digit, its front of so
+/// many bytes writes the number, with no digit after it. A slice has at most one such front.
+pub fn fronts_and_rests<T: Number>()
+    ensures { FrontsAndRests T.kind }
 {}
 
 /// A prefix that succeeds with the slice's length is a whole parse that succeeds with the same
@@ -147,6 +153,7 @@ mod tests {
         zeros_change_nothing::<i64>();
         assert_eq!(rt; prefix(true, b"00000007"), Ok((7, 8)));
         accepted_fronts::<i64>();
+        fronts_and_rests::<i64>();
         prefix_results::<i64, true>();
         assert_eq!(rt;
             prefix(true, b"00009223372036854775807,1"),

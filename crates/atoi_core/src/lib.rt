@@ -28,7 +28,7 @@ pub use crate::engine::Engine;
 pub use crate::error::AtoiSimdError;
 pub use crate::narrow::{narrow_prefix, narrow_whole_windows};
 pub use crate::number::{Number, Signed};
-pub use crate::plain::Plain;
+pub use crate::plain::{Alphabet, Plain, front_of};
 pub use crate::sign::{take_sign, with_sign};
 pub use crate::steps::Steps;
 pub use crate::text::decimal;

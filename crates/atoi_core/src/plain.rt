@@ -12,8 +12,11 @@ use crate::engine::Engine;
 use crate::steps::Steps;
 use crate::window::Window;
 
-/// What each byte is worth, as code can ask. The tests have engines of other digits.
-pub(crate) trait Alphabet {
+/// What each byte is worth, as code can ask.
+///
+/// With `worth` alone `front_of` is a window of these digits, so an `Engine` of other digits than
+/// the decimal ones needs no more.
+pub trait Alphabet {
     /// What each byte is worth as a digit.
     ghost table: { Table };
 
@@ -55,8 +58,12 @@ impl Engine for Plain {
     ghost below_ten = { λ byte. Prim.grind (arith, nat_tests) };
 }
 
-// The window of `size` bytes.
-pub(crate) fn front_of<A: Alphabet>(size: usize, s: &[u8]) -> Window
+/// The window of the first `size` bytes of `s`, or of all where there are fewer, read byte by byte
+/// in the digits of `A`.
+///
+/// `front_of::<Plain>(16, b"0012x")` has `len` 4 and `number` 12. It has `zeroes` 0: a window counts
+/// its zeros only where all its bytes are digits.
+pub fn front_of<A: Alphabet>(size: usize, s: &[u8]) -> Window
     requires { size ≤ 16 }
     ensures { result ≡ window_of A.table size s.now }
 {

@@ -1,6 +1,4 @@
 pub mod TotalLemmas
 pub mod CommandLemmas
-pub mod EbcdicLemmas
 pub mod LogLemmas
-pub mod JsonLemmas
 pub mod VersionLemmas

@@ -1,36 +1,18 @@
--- The fronts that write a number, as parts of a version.
-use Rattle.std.proofs.Common.{◌≡◌, ℕ, false, List, [], ◌∷◌, length, take, drop, pos, ℤ, Result, Ok, sym, ap, ◌∙◌, subst, arith, length-append}
-use Rattle.std.proofs.Math.Seq.{take-append_seam}
-use Rattle.std.proofs.lemmas.List.Prefix.{front_rest}
+-- The parts of a version: the first is a front that writes its number, and the others stand after it.
+use Rattle.std.proofs.Common.{◌≡◌, ℕ, false, List, [], ◌∷◌, length, pos, ap, ◌∙◌, subst, arith}
 use Rattle.atoi_simd.specs.Kinds.{u32_kind}
+use Rattle.atoi_simd.specs.Laws.{positive, FrontsAndRests}
 use Rattle.atoi_simd.specs.Text.{DigitsWrite, FrontWrites}
 use Rattle.atoi_uses.specs.Versions.{IsPart, IsVersion, dot}
 use Rattle.atoi_uses.specs.declared.versions.Version.{Version}
 
 -- a part is a front that writes its number
-pub front_of : (text : List ℕ) (number : ℕ) (rest : List ℕ) → IsPart text number rest
-    → (count : ℕ) × FrontWrites (DigitsWrite u32_kind false) text (pos number) count × (drop count text ≡ rest)
-front_of text number rest h =
-    let cut : take (length h.digits) text ≡ h.digits = ap (take (length h.digits)) h.parts ∙ take-append_seam h.digits rest in
-    let after = front_rest text h.digits rest h.parts in (
-      length h.digits,
-      record {
-        front = rw cut (record { numeral = h.numeral; in_range = omega (arith, h.value_is, h.in_range); value_is = ap pos h.value_is });
-        some = omega (arith, h.numeral.0);
-        within = omega (arith, ap length h.parts, length-append h.digits rest);
-        ends = rw after h.ends;
-      },
-      after,
-    )
-
--- two answers of one call are the same number and count
-pub same_answer : {E : Type 0} (a b m n : ℕ) (answer : Result (ℤ × ℕ) E) → Ok (pos a, m) ≡ answer → answer ≡ Ok (pos b, n) → (b ≡ a) × (n ≡ m)
-same_answer a b m n answer h k =
-    let both = h ∙ k in
-    let pair : (pos a, m) ≡ (pos b, n) = cc in
-    let first : pos a ≡ pos b = ap (λ (p : ℤ × ℕ). p.0) pair in
-    let number_is : b ≡ a = cc in
-    (number_is, sym (ap (λ (p : ℤ × ℕ). p.1) pair))
+pub front_of : FrontsAndRests u32_kind → (text : List ℕ) (number : ℕ) (rest : List ℕ) (h : IsPart text number rest)
+    → FrontWrites (DigitsWrite u32_kind false) text (pos number) (length h.digits)
+front_of law text number rest h =
+    let written : DigitsWrite u32_kind false h.digits (pos number) =
+    record { numeral = h.numeral; in_range = omega (arith, h.value_is, h.in_range); value_is = ap pos h.value_is } in
+    law.joined positive text h.digits rest (pos number) h.parts written h.ends
 
 -- there is one part at the front of a text: the number, and what stands after it
 abbrev pub IsOnlyPart : List ℕ → ℕ → List ℕ → Type 0

@@ -1,9 +1,10 @@
 -- The columns of a log line: the fields between commas after its last space.
-use Rattle.std.specs.Prelude.{◌≡◌, ℕ, ◌+◌, ◌-◌, ◌^◌, ◌≤◌, ◌==◌, List, length, map, sum, pos}
+use Rattle.std.specs.Prelude.{◌≡◌, ℕ, ◌+◌, ◌-◌, ◌^◌, ◌≤◌, ◌==◌, true, List, length, map, sum, pos}
 use Rattle.std.specs.List.{AllZip, after_last}
 use Rattle.atoi_core.specs.Kinds.{u64_kind}
+use Rattle.atoi_core.specs.Text.{TextWrites}
 use Rattle.atoi_column.specs.Fields.{fields_of}
-use Rattle.atoi_column.specs.Laws.{Writes, IsFirstBad}
+use Rattle.atoi_column.specs.Laws.{IsFirstBad}
 use Rattle.atoi_uses.specs.declared.log_lines.LogError.{LogError}
 use Rattle.atoi_uses.specs.declared.log_lines.LogError.TheVariants.{BadField, TooLarge}
 
@@ -21,7 +22,7 @@ columns_of line = after_last (λ byte. byte == space) line
 abbrev pub HasTotal : List ℕ → ℕ → Type 0
 HasTotal line total =
     (numbers : List ℕ)
-    × (AllZip (Writes u64_kind) (fields_of comma (columns_of line)) (map pos numbers)
+    × (AllZip (TextWrites u64_kind true) (fields_of comma (columns_of line)) (map pos numbers)
     × (total ≡ sum numbers))
 
 -- what an error says of the line: that field is the first of its columns that is no text of a

@@ -5,7 +5,3 @@ use Rattle.atoi_core.specs.Digit.{Table}
 -- the bytes 240 to 249, worth 0 to 9
 abbrev pub ebcdic_table : Table
 ebcdic_table byte = if nat_le 240 byte && nat_le byte 249 then Some (byte - 240) else None
-
--- a digit in ASCII; 0, which is no digit there, for any other byte
-abbrev pub ascii_of : ℕ → ℕ
-ascii_of byte = if nat_le 240 byte && nat_le byte 249 then byte - 192 else 0

@@ -1,8 +1,9 @@
 //! A reader of the integers of JSON.
 //! It uses `atoi_simd::parse_prefix`, which says what front of a slice writes a number.
 ghost use Rattle.std.specs.Prelude.{◌≡◌, ℕ, ℤ, List, IfSome, IfNone};
-ghost use Rattle.atoi_uses.specs.Json.{IsJsonInteger, after_minus, begins_with_zero_and_digit};
+ghost use Rattle.atoi_uses.specs.Json.{IsJsonInteger, leads_with_zero};
 
+use atoi_simd::laws::fronts_and_rests;
 use atoi_simd::parse_prefix;
 
 /// The integer at the front of `text`, as JSON writes one, and what stands after it: of `-40,7`
@@ -15,30 +16,23 @@ pub fn json_integer(text: &[u8]) -> Option<(i64, &[u8])>
     ensures none { IfNone result ((number : ℤ) (rest : List ℕ)
         → ¬ IsJsonInteger text.now number rest) }
 {
-    if has_leading_zero(without_minus(text)) {
+    // The law that a slice has one front that writes a number. The call does nothing.
+    fronts_and_rests::<i64>();
+    let Ok((number, count)) = parse_prefix::<i64, true, false>(text) else {
         return None;
-    }
-    match parse_prefix::<i64, true, false>(text) {
-        Ok((number, count)) => Some((number, &text[count..])),
-        Err(_) => None,
-    }
-}
-
-// `text` without a minus at its front.
-fn without_minus(text: &[u8]) -> &[u8]
-    ensures { result.now ≡ after_minus text.now }
-{
-    match text {
-        [b'-', digits @ ..] => digits,
-        _ => text,
+    };
+    if has_leading_zero(&text[..count]) {
+        None
+    } else {
+        Some((number, &text[count..]))
     }
 }
 
-// Whether `digits` begins with a zero and another digit.
-fn has_leading_zero(digits: &[u8]) -> bool
-    ensures { result ≡ begins_with_zero_and_digit digits.now }
+// Whether `integer` begins with a zero, or a minus and a zero, and goes on after it.
+fn has_leading_zero(integer: &[u8]) -> bool
+    ensures { result ≡ leads_with_zero integer.now }
 {
-    matches!(digits, [b'0', b'0'..=b'9', ..])
+    matches!(integer, [b'0', _, ..] | [b'-', b'0', _, ..])
 }
 
 #[cfg(test)]

@@ -1,33 +1,44 @@
 //! An engine of one's own: numbers in EBCDIC, as mainframes write them.
-//! It uses the trait `Engine` of `atoi_core`, and its parse of a prefix, for the type `Cents`.
-ghost use Rattle.std.specs.Prelude.{◌≡◌, ◌≤◌, true, false, IfOk, length, map, take};
+//! It uses the traits `Alphabet` and `Engine` of `atoi_core`, and its parse of a prefix, for the
+//! type `Cents`.
+ghost use Rattle.std.specs.Prelude.{◌≡◌, ◌≤◌, true, false, IfOk, length};
 ghost use Rattle.std.proofs.Common.{arith};
 ghost use Rattle.std.proofs.lemmas.Bool.Decides.{nat_tests};
 ghost use Rattle.atoi_core.specs.Answer.{typed_prefix_answer, prefix_answer};
-ghost use Rattle.atoi_core.specs.Digit.{decimal_table};
 ghost use Rattle.atoi_core.specs.Kinds.{i64_kind};
-ghost use Rattle.atoi_uses.specs.OwnEngine.{ascii_of, ebcdic_table};
+ghost use Rattle.atoi_uses.specs.OwnEngine.{ebcdic_table};
 
 use crate::cents::Cents;
-use atoi_core::{Engine, Steps, Window, Words, prefix_pos};
+use atoi_core::{Alphabet, Engine, Steps, Window, front_of, prefix_pos};
 use atoi_simd::AtoiSimdError;
 
-/// The engine of EBCDIC: its digits are the bytes `0xF0` to `0xF9`.
-///
-/// A window is translated to ASCII, and then read by the engine `Words`.
+/// The engine of EBCDIC: its digits are the bytes `0xF0` to `0xF9`, and it reads byte by byte.
 pub struct Ebcdic;
+
+impl Alphabet for Ebcdic {
+    ghost table = { ebcdic_table };
+
+    fn worth(byte: u8) -> Option<u64> {
+        match byte {
+            0xF0..=0xF9 => Some(u64::from(byte - 0xF0)),
+            _ => None,
+        }
+    }
+
+    ghost below_ten = { λ byte. Prim.grind (arith, nat_tests) };
+}
 
 impl Engine for Ebcdic {
     ghost table = { ebcdic_table };
 
     fn window(s: &[u8], steps: &mut Steps) -> Window {
-        let (text, len) = in_ascii(16, s);
-        Words::window(&text[..len], steps)
+        steps.tick();
+        front_of::<Ebcdic>(16, s)
     }
 
     fn window_8(s: &[u8], steps: &mut Steps) -> Window {
-        let (text, len) = in_ascii(8, s);
-        Words::window_8(&text[..len], steps)
+        steps.tick();
+        front_of::<Ebcdic>(8, s)
     }
 
     ghost below_ten = { λ byte. Prim.grind (arith, nat_tests) };
@@ -46,30 +57,6 @@ pub fn amount(field: &[u8]) -> Result<(Cents, usize), AtoiSimdError<'_>>
     ensures within { IfOk result (λ found. found.1 ≤ length field.now) }
 {
     prefix_pos::<Ebcdic, Cents>(true, field, &mut Steps::new())
-}
-
-// The first `size` bytes of `s` in ASCII, or all where there are fewer, and how many they are.
-fn in_ascii(size: usize, s: &[u8]) -> ([u8; 16], usize)
-    requires { size ≤ 16 }
-    ensures text { take result.1 result.0 ≡ map ascii_of (take size s.now) }
-    ensures within { result.1 ≤ 16 }
-{
-    let front = &s[..s.len().min(size)];
-    let mut text = [0; 16];
-    for (at, byte) in front.iter().enumerate() {
-        text[at] = to_ascii(*byte);
-    }
-    (text, front.len())
-}
-
-// A digit in ASCII, or 0 for a byte that is none.
-fn to_ascii(byte: u8) -> u8
-    ensures { result ≡ ascii_of byte }
-{
-    match byte {
-        0xF0..=0xF9 => byte - 0xC0,
-        _ => 0,
-    }
 }
 
 #[cfg(test)]
