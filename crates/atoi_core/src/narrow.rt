@@ -67,7 +67,7 @@ fn is_too_long<E: Engine>(skip: bool, window: Window, s: &[u8], steps: &mut Step
 }
 
 // Whether `rest` begins with a digit.
-#[inline(never)]
+#[inline(always)]
 fn goes_on<E: Engine>(rest: &[u8], steps: &mut Steps) -> bool
     ensures answer { result ≡ nat_lt 0 (run_len E.table rest.now) }
     ensures one_step { steps.new ≡ steps.old + 1 }
@@ -120,7 +120,7 @@ fn most_digits(bound: u64) -> usize
     } else if bound < 100_000 {
         5
     } else {
-        10
+        15
     }
 }
 
