@@ -38,7 +38,7 @@ pub(crate) fn front_128<'a, E: Engine>(
     } else if window.len < 16 {
         Ok((u128::from(window.number), window.len as usize))
     } else if skip && window.zeroes > 0 {
-        out_of_line(E::prefix_128(bound, skip, s, steps))
+        by_engine::<E>(bound, skip, s, steps)
     } else {
         second_128::<E>(bound, skip, window, s, steps)
     }
@@ -63,9 +63,26 @@ pub(crate) fn front_of_whole_128<'a, E: Engine>(
         steps.old steps.new }
 {
     if s.len() >= 32 {
-        return out_of_line(E::prefix_128(bound, skip, s, steps));
+        return by_engine::<E>(bound, skip, s, steps);
     }
     front_128::<E>(bound, skip, s, steps)
+}
+
+// The call of `E::prefix_128`, in a function of its own: the place of its result is then cleared only
+// where the call is made.
+#[inline(always)]
+fn by_engine<'a, E: Engine>(
+    bound: u128,
+    skip: bool,
+    s: &'a [u8],
+    steps: &mut Steps,
+) -> Result<(u128, usize), AtoiSimdError<'a>>
+    requires digits { HasDigits 39 bound }
+    ensures answer { answer_of result ≡ prefix_magnitude E.table wide128 bound 39 skip s.now }
+    ensures loads { LoadsWithin (most_loads E.table wide128 s.now - 2) E.table skip s.now
+        steps.old steps.new }
+{
+    out_of_line(E::prefix_128(bound, skip, s, steps))
 }
 
 // What `front_128` answers behind a first window that is full of digits and tells no zeros that are
@@ -91,6 +108,6 @@ fn second_128<'a, E: Engine>(
         let high = u128::from(first.number) * u128::from(power_of_ten(second.len));
         Ok((high + u128::from(second.number), 16 + second.len as usize))
     } else {
-        out_of_line(E::prefix_128(bound, skip, s, steps))
+        by_engine::<E>(bound, skip, s, steps)
     }
 }

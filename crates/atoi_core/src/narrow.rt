@@ -47,7 +47,7 @@ pub fn narrow_prefix<'a, E: Engine>(
     if window.len == 0 {
         Err(AtoiSimdError::Empty)
     } else if skip && window.zeroes > 0 {
-        out_of_line(behind_zeros::<E>(bound, window.zeroes, s, steps))
+        called_behind_zeros::<E>(bound, window.zeroes, s, steps)
     } else if is_too_long::<E>(skip, window, s, steps) {
         Err(AtoiSimdError::Size(17, s))
     } else {
@@ -68,7 +68,7 @@ fn is_too_long<E: Engine>(skip: bool, window: Window, s: &[u8], steps: &mut Step
 }
 
 // Whether `rest` begins with a digit.
-#[inline(never)]
+#[inline(always)]
 fn goes_on<E: Engine>(rest: &[u8], steps: &mut Steps) -> bool
     ensures answer { result ≡ nat_lt 0 (run_len E.table rest.now) }
     ensures one_step { steps.new ≡ steps.old + 1 }
@@ -101,7 +101,7 @@ pub fn narrow_whole_windows<'a, E: Engine>(
     ensures loads { LoadsWithin (most_loads E.table narrow s.now) E.table true s.now
         steps.old steps.new }
 {
-    if s.len() >= 16 {
+    if s.len() > most_digits(bound) {
         return out_of_line(long_whole::<E>(bound, s, steps));
     }
     let only = E::window(s, steps);
@@ -112,8 +112,21 @@ pub fn narrow_whole_windows<'a, E: Engine>(
     }
 }
 
-// What `narrow_whole_windows` answers for 16 bytes or more, which begin with zeros or hold another
-// byte where the number fits.
+// As many digits as a number up to `bound` has, or more.
+fn most_digits(bound: u64) -> usize
+    ensures { result < 16 }
+{
+    if bound < 1_000 {
+        3
+    } else if bound < 100_000 {
+        5
+    } else {
+        15
+    }
+}
+
+// What `narrow_whole_windows` answers for more bytes than the bound has digits, which begin with
+// zeros or hold another byte where the number fits.
 #[inline(never)]
 fn long_whole<'a, E: Engine>(
     bound: u64,
@@ -160,6 +173,26 @@ fn of_whole<'a>(error: AtoiSimdError<'_>, s: &'a [u8]) -> AtoiSimdError<'a>
         AtoiSimdError::Empty => AtoiSimdError::Empty,
         _ => AtoiSimdError::Overflow(s),
     }
+}
+
+// The call of `behind_zeros`, in a function of its own: the place of its result is then cleared only
+// where the call is made.
+#[inline(always)]
+fn called_behind_zeros<'a, E: Engine>(
+    bound: u64,
+    zeroes: u32,
+    s: &'a [u8],
+    steps: &mut Steps,
+) -> Result<(u64, usize), AtoiSimdError<'a>>
+    requires low { 9 ≤ bound }
+    requires high { bound ≤ 4294967295 }
+    requires some { 0 < zeroes }
+    requires told { zeroes ≡ (window_of E.table 16 s.now).zeroes }
+    ensures answer { answer_of result ≡ prefix_magnitude E.table narrow bound 0 true s.now }
+    ensures loads { LoadsWithin (most_loads E.table narrow s.now - 1) E.table true s.now
+        steps.old steps.new }
+{
+    out_of_line(behind_zeros::<E>(bound, zeroes, s, steps))
 }
 
 // What `narrow_prefix` with `skip` answers, where the first window told `zeroes`: these and those

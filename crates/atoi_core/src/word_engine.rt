@@ -16,7 +16,7 @@ use crate::error::{AtoiSimdError, out_of_line};
 use crate::join::{self, answer_64};
 use crate::steps::Steps;
 use crate::window::Window;
-use crate::words::{load_8, load_high};
+use crate::words::load_high;
 
 // The zero, the byte 48, eight times.
 const ZEROS: u64 = 0x3030_3030_3030_3030;
@@ -35,7 +35,7 @@ impl Engine for Words {
         if s.len() <= 8 {
             return part(s);
         }
-        let first = load_8(s);
+        let first = load_full(s);
         let len = digits_of(first);
         if len == 8 {
             joined(s, first)
@@ -51,7 +51,7 @@ impl Engine for Words {
         if s.len() < 8 {
             return part(s);
         }
-        told(load_8(s))
+        told(load_full(s))
     }
 
     /// As the provided body, but a loop is entered only where there are zeros to skip.
@@ -65,7 +65,7 @@ impl Engine for Words {
     ) -> Result<(u64, usize), AtoiSimdError<'a>> {
         let front = Words::window(s, steps);
         if skip && front.zeroes > 0 {
-            return out_of_line(behind_zeros(bound, limit, front.zeroes, s, steps));
+            return called_behind_zeros(bound, limit, front.zeroes, s, steps);
         }
         if front.len == 0 {
             Err(AtoiSimdError::Empty)
@@ -77,6 +77,29 @@ impl Engine for Words {
     }
 
     ghost below_ten = { λ byte. Prim.grind (arith, nat_tests) };
+}
+
+// The call of `behind_zeros`, in a function of its own: the place of its result is then cleared only
+// where the call is made.
+#[inline(always)]
+fn called_behind_zeros<'a>(
+    bound: u64,
+    limit: u32,
+    zeroes: u32,
+    s: &'a [u8],
+    steps: &mut Steps,
+) -> Result<(u64, usize), AtoiSimdError<'a>>
+    requires limit_low { 17 ≤ limit }
+    requires limit_high { limit ≤ 20 }
+    requires digits { HasDigits limit bound }
+    requires some { 0 < zeroes }
+    requires told { zeroes ≡ (window_of decimal_table 16 s.now).zeroes }
+    ensures answer { answer_of result
+        ≡ prefix_magnitude decimal_table wide64 bound limit true s.now }
+    ensures loads { LoadsWithin (most_loads decimal_table wide64 s.now - 2) decimal_table true s.now
+        steps.old steps.new }
+{
+    out_of_line(behind_zeros(bound, limit, zeroes, s, steps))
 }
 
 // What `prefix_64` with zeros to skip answers, where the first window told `zeroes`: these and those
@@ -196,11 +219,23 @@ fn load_from(s: &[u8], at: usize) -> u64
     requires low { at ≤ 16 }
     ensures { result ≡ word_of (take 8 (drop at s.now)) }
 {
+    if s.len() >= at + 8 {
+        return load_full(&s[at..]);
+    }
     match s.last_chunk::<8>() {
-        Some(last) if s.len() < at + 8 => {
-            (u64::from_le_bytes(*last) >> (8 * (at + 7 - s.len()))) >> 8
-        }
-        _ => load_8(&s[at..]),
+        Some(last) => (u64::from_le_bytes(*last) >> (8 * (at + 7 - s.len()))) >> 8,
+        None => 0,
+    }
+}
+
+// The word of the first 8 bytes, which are there: so the way for fewer takes no room in a window.
+fn load_full(s: &[u8]) -> u64
+    requires { 8 ≤ length s.now }
+    ensures { result ≡ word_of (take 8 s.now) }
+{
+    match s.first_chunk::<8>() {
+        Some(bytes) => u64::from_le_bytes(*bytes),
+        None => 0,
     }
 }
 

@@ -7,10 +7,10 @@ pub returns-else-len-eq8-clause-window : goal.returns-else-len-eq8-clause-window
 returns-else-len-eq8-clause-window c =
     let s = c.args.s.now in
     let fits : (i : ℕ) → get_or s i 0 < 256 = λ i. (c.type_inv.s i).fits in
-    let first = c.load_8-first.result in
+    let first = c.load_full-first.result in
     let len = c.digits_of-len.result in
     c.not_full.ensures
     ∙ window_short s len c.number_of.result
-    (c.digits_of-len.ensures.len ∙ loaded_run s fits first c.load_8-first.ensures)
+    (c.digits_of-len.ensures.len ∙ loaded_run s fits first c.load_full-first.ensures)
     c.if-len-eq8.false
-    (c.number_of.ensures.sum ∙ loaded_sum s fits first len c.load_8-first.ensures c.digits_of-len.ensures.len)
+    (c.number_of.ensures.sum ∙ loaded_sum s fits first len c.load_full-first.ensures c.digits_of-len.ensures.len)

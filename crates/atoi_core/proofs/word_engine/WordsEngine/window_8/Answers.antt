@@ -4,4 +4,4 @@ use Rattle.atoi_core.proofs.word_engine.WordsEngine.window_8.Goals as goal
 
 pub returns-clause-window : goal.returns-clause-window
 returns-clause-window c =
-    loaded_window c.args.s.now (λ i. (c.type_inv.s i).fits) c.load_8.result c.told.result c.load_8.ensures c.told.ensures.len c.told.ensures.zeroes c.told.ensures.number
+    loaded_window c.args.s.now (λ i. (c.type_inv.s i).fits) c.load_full.result c.told.result c.load_full.ensures c.told.ensures.len c.told.ensures.zeroes c.told.ensures.number
