@@ -7,7 +7,7 @@ ghost use Rattle.atoi_core.specs.Digit.{decimal_table};
 ghost use Rattle.atoi_core.specs.Window.{window_of};
 ghost use Rattle.atoi_lanes.specs.LaneWindow.{lane_window};
 
-use crate::kernels::{len_lanes, load_lanes, sum_lanes, zeroes_lanes};
+use crate::kernels::{len_lanes, load_lanes, load_words, sum_lanes, zeroes_lanes};
 use crate::wide_lanes::{prefix_64_lanes, prefix_128_lanes};
 use atoi_core::{AtoiSimdError, Engine, Steps, Window, Words};
 use std::simd::prelude::*;
@@ -42,7 +42,7 @@ pub(crate) fn short_window(s: &[u8], steps: &mut Steps) -> Window
         return Words::window_8(s, steps);
     }
     steps.tick();
-    lane_window(load_lanes(s), 16)
+    lane_window(load_words(s), 16)
 }
 
 impl Engine for Lanes {
@@ -56,7 +56,7 @@ impl Engine for Lanes {
             return short_window(s, steps);
         }
         steps.tick();
-        lane_window(load_lanes(s), 16)
+        lane_window(u8x16::from_slice(s), 16)
     }
 
     /// The same of the first 8 bytes. Adds one step.
