@@ -56,6 +56,16 @@ decided_short law ten class bound limit capped digits skip s at w front short fe
     let total : at + (w.len - counting) + counting ≡ at + w.len = omega arith in
     (within, sym (law.decided decimal_table class bound limit capped skip s at 32 w.len w.zeroes w.number front.skipped front.reading (inl short) ∙ rw (size, less, total) refl))
 
+-- at the front, 64 bits
+pub decided_front : ReadingDecides → IsBelowTen decimal_table → (bound limit : ℕ) → limit ≤ 20 → HasDigits limit bound
+    → (skip : Bool) (s : List ℕ) (len leading number : ℕ) → ReadsBehind skip s 0 len leading number → len < limit
+    → (number ≤ bound) × (cond (eqb len 0) (Err empty) (Ok (number, len)) ≡ prefix_magnitude decimal_table wide64 bound limit skip s)
+decided_front law ten bound limit high digits skip s len leading number front few =
+    let w : Window32 = record { len = len; zeroes = leading; number = number } in
+    let same : 0 + len ≡ len = omega arith in
+    let told = decided_short law ten wide64 bound limit (omega arith) digits skip s 0 w front (omega arith) few in
+    (told.0, ap (λ n. cond (eqb n 0) (Err empty) (Ok (number, n))) (sym same) ∙ told.1)
+
 -- behind a window that begins with no zero that is skipped, all digits count
 all_count : (skip : Bool) (n told others : ℕ) → (skip ≡ true → told ≡ 0) → counting_digits skip n (cond (eqb told 32) (32 + others) told) ≡ n
 all_count true n told others kept = let none : told ≡ 0 = kept refl in rw none (omega arith)

@@ -128,26 +128,23 @@ pub value-of_two : (xs ys : List ℕ) (more : ℕ) → more ≤ length ys
 value-of_two xs ys more le =
     ap (λ n. value decimal_table xs * 10 ^ n + value decimal_table (take more ys)) (sym (length-take-le more ys le)) ∙ sym (value_append decimal_table xs (take more ys))
 
--- what stands behind the first 16 bytes, of the last 16 of the first 32
-pub behind_first : (s : List ℕ) (end : ℕ) → 16 ≤ length s → end ≡ min (length s) 32
-    → drop (32 - end) (take 16 (drop (end - 16) s)) ++ replicate (32 - end) 0 ≡ padded_front 16 (drop 16 s)
-behind_first s end enough is =
+-- the 16 bytes behind the first 16, where there are as many
+pub behind_all : (s : List ℕ) → 32 ≤ length s → take 16 (drop 16 s) ≡ padded_front 16 (drop 16 s)
+behind_all s enough = sym (take-append-le 16 (drop 16 s) (replicate 16 0) (omega (arith, length-drop 16 s)))
+
+-- and where there are fewer, of the last 16 of the slice
+pub behind_some : (s : List ℕ) → 16 ≤ length s → length s < 32
+    → drop (32 - length s) (take 16 (drop (length s - 16) s)) ++ replicate (32 - length s) 0 ≡ padded_front 16 (drop 16 s)
+behind_some s enough short =
+    let end : ℕ = length s in
     let last : List ℕ = take 16 (drop (end - 16) s) in
     let behind : List ℕ = drop 16 s in
     let count : length behind ≡ length s - 16 = length-drop 16 s in
-    elim (cases_lt (length s) 32) [
-      | inl short ↦
-          let all : last ≡ drop (end - 16) s = take_all 16 (drop (end - 16) s) (omega (arith, length-drop (end - 16) s)) in
-          let place : end - 16 + (32 - end) ≡ 16 = omega arith in
-          let fill : length behind + (32 - end) ≡ 16 = omega arith in
-          ap (λ l. drop (32 - end) l ++ replicate (32 - end) 0) all
-          ∙ ap (λ l. l ++ replicate (32 - end) 0) (drop-drop (32 - end) (end - 16) s ∙ ap (λ k. drop k s) place)
-          ∙ ap (λ l. behind ++ l) (sym (take-replicate (32 - end) 16 0 (omega arith)))
-          ∙ sym (take-append-add behind (replicate 16 0) (32 - end))
-          ∙ ap (λ n. take n (behind ++ replicate 16 0)) fill
-      | inr long ↦
-          let whole : end ≡ 32 = omega arith in
-          ap (λ e. drop (32 - e) (take 16 (drop (e - 16) s)) ++ replicate (32 - e) 0) whole
-          ∙ append-nil (take 16 behind)
-          ∙ sym (take-append-le 16 behind (replicate 16 0) (omega arith))
-    ]
+    let all : last ≡ drop (end - 16) s = take_all 16 (drop (end - 16) s) (omega (arith, length-drop (end - 16) s)) in
+    let place : end - 16 + (32 - end) ≡ 16 = omega arith in
+    let fill : length behind + (32 - end) ≡ 16 = omega arith in
+    ap (λ l. drop (32 - end) l ++ replicate (32 - end) 0) all
+    ∙ ap (λ l. l ++ replicate (32 - end) 0) (drop-drop (32 - end) (end - 16) s ∙ ap (λ k. drop k s) place)
+    ∙ ap (λ l. behind ++ l) (sym (take-replicate (32 - end) 16 0 (omega arith)))
+    ∙ sym (take-append-add behind (replicate 16 0) (32 - end))
+    ∙ ap (λ n. take n (behind ++ replicate 16 0)) fill

@@ -1,8 +1,9 @@
 -- Zeros in the lanes behind a slice do not show in what the lanes tell.
-use Rattle.std.proofs.Common.{◌≡◌, ℕ, zero, suc, ◌+◌, ◌==◌, Bool, true, false, cond, List, [], ◌∷◌, ◌++◌, take, replicate, refl, ap, ap₂, ◌∙◌, arith, if◌then◌else◌}
+use Rattle.std.proofs.Common.{◌≡◌, ℕ, zero, suc, ◌+◌, ◌<◌, ◌==◌, Bool, true, false, cond, List, [], ◌∷◌, ◌++◌, length, take, replicate, refl, sym, ap, ap₂, ◌∙◌, arith, if◌then◌else◌}
 use Rattle.std.specs.List.{prefix_len}
 use Rattle.std.proofs.lemmas.List.{take_all, length-take}
 use Rattle.atoi_core.specs.Digit.{decimal_table, is_digit, is_zero}
+use Rattle.atoi_core.specs.Reading.{Reading}
 use Rattle.atoi_core.specs.Run.{run_len, run, zeros, value}
 use Rattle.atoi_core.specs.Window.{window_of}
 use Rattle.atoi_core.specs.declared.window.Window.{Window}
@@ -46,3 +47,14 @@ window-of_lanes s = lanes_tell 16 s
 -- and so are eight
 pub window-of_half_the_lanes : (s : List ℕ) → lane_window 8 (padded_front 16 (take 8 s)) ≡ window_of decimal_table 8 s
 window-of_half_the_lanes s = lanes_tell 8 (take 8 s) ∙ ap (lane_window 8) (take_all 16 (take 8 s) (omega (arith, length-take 8 s)))
+
+-- the window of fewer than 16 bytes is what 32 bytes tell
+pub reading-of_few : (s : List ℕ) (w : Window) → length s < 16 → w ≡ window_of decimal_table 16 s
+    → Reading decimal_table 32 s w.len (zeros decimal_table (take 32 s)) w.number
+reading-of_few s w few e =
+    let all : take 16 s ≡ take 32 s = take_all 16 s (omega arith) ∙ sym (take_all 32 s (omega arith)) in
+    record {
+      digits_are = ap (λ v. v.len) e ∙ ap (run_len decimal_table) all;
+      leading_are = refl;
+      number_is = ap (λ v. v.number) e ∙ ap (λ l. value decimal_table (run decimal_table l)) all;
+    }

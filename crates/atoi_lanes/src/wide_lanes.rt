@@ -1,5 +1,5 @@
 //! The parses of wide integers at the front of a slice, by windows of 32 lanes. It uses
-//! `window_32`, the engine's `window_8`, and `atoi_core`'s law of what was read.
+//! `window_32`, the engine's `short_window` and `window_8`, and `atoi_core`'s law of what was read.
 ghost use Rattle.std.specs.Prelude.{◌≡◌, ◌+◌, ◌*◌, ◌/◌, ◌<◌, ◌≤◌, nat_lt, if◌then◌else◌, length, take, drop, true, IsTrue};
 ghost use Rattle.atoi_core.specs.Digit.{decimal_table};
 ghost use Rattle.atoi_core.specs.Loads.{LoadsWithin};
@@ -10,7 +10,7 @@ ghost use Rattle.atoi_core.specs.Run.{zeros};
 ghost use Rattle.atoi_core.specs.Window.{window_of};
 ghost use Rattle.atoi_lanes.specs.ReadsBehind.{ReadsBehind};
 
-use crate::lanes::Lanes;
+use crate::lanes::{Lanes, short_window};
 use crate::window_32::{Window32, power_of_ten, window_32};
 use atoi_core::reading::reading_decides;
 use atoi_core::{AtoiSimdError, Engine, Steps, Window};
@@ -42,17 +42,21 @@ pub fn prefix_64_lanes<'a>(
 {
     // A window tells the zeros of the slice, but for those behind it.
     reading_decides();
+    if s.len() < 16 {
+        let only = short_window(s, steps);
+        return short_64(bound, limit, skip, only.len, u128::from(only.number), s);
+    }
     let first = window_32(s, steps);
+    if first.len < limit {
+        return short_64(bound, limit, skip, first.len, first.number, s);
+    }
+    if skip && first.zeroes > 0 && first.len == 32 {
+        return skipping_64(bound, limit, first.zeroes, s, steps);
+    }
     let front = Front {
         at: 0,
         window: first,
     };
-    if first.len < limit {
-        return short_64(bound, limit, skip, front, s);
-    }
-    if skip && first.zeroes > 0 && first.len == 32 {
-        return out_of_line(behind_zeros_64(bound, limit, first.zeroes, s, steps));
-    }
     told_64(bound, limit, skip, front, s)
 }
 
@@ -82,7 +86,7 @@ pub fn prefix_128_lanes<'a>(
     reading_decides();
     let first = window_32(s, steps);
     if skip && first.zeroes > 0 && first.len == 32 {
-        return out_of_line(behind_zeros_128(bound, first.zeroes, s, steps));
+        return skipping_128(bound, first.zeroes, s, steps);
     }
     let front = Front {
         at: 0,
@@ -96,6 +100,51 @@ pub fn prefix_128_lanes<'a>(
 struct Front {
     at: usize,
     window: Window32,
+}
+
+// What `behind_zeros_64` answers, whose call is out of line. The place of its result is cleared
+// where this function is put in line: on the way that makes the call, and on no other.
+#[inline(always)]
+fn skipping_64<'a>(
+    bound: u64,
+    limit: u32,
+    zeroes: u32,
+    s: &'a [u8],
+    steps: &mut Steps,
+) -> Result<(u64, usize), AtoiSimdError<'a>>
+    requires limit_high { limit ≤ 20 }
+    requires some { 0 < zeroes }
+    requires told { zeroes ≡ zeros decimal_table (take 32 s.now) }
+    ensures answer { answer_of result
+        ≡ prefix_magnitude decimal_table wide64 bound limit true s.now }
+    ensures most { steps.new ≤ steps.old + zeros decimal_table s.now / 32 + 1 }
+    ensures least { steps.old + zeros decimal_table s.now / 32 ≤ steps.new }
+{
+    match behind_zeros_64(bound, limit, zeroes, s, steps) {
+        Ok(found) => Ok(found),
+        Err(error) => Err(error),
+    }
+}
+
+// The same for 128 bits.
+#[inline(always)]
+fn skipping_128<'a>(
+    bound: u128,
+    zeroes: u32,
+    s: &'a [u8],
+    steps: &mut Steps,
+) -> Result<(u128, usize), AtoiSimdError<'a>>
+    requires digits { HasDigits 39 bound }
+    requires some { 0 < zeroes }
+    requires told { zeroes ≡ zeros decimal_table (take 32 s.now) }
+    ensures answer { answer_of result ≡ prefix_magnitude decimal_table wide128 bound 39 true s.now }
+    ensures most { steps.new ≤ steps.old + zeros decimal_table s.now / 32 + 2 }
+    ensures least { steps.old + zeros decimal_table s.now / 32 ≤ steps.new }
+{
+    match behind_zeros_128(bound, zeroes, s, steps) {
+        Ok(found) => Ok(found),
+        Err(error) => Err(error),
+    }
 }
 
 // What `prefix_64_lanes` answers where zeros are skipped, and the first window tells some and is
@@ -175,17 +224,6 @@ fn next_front(place: usize, zeroes: u32, s: &[u8], steps: &mut Steps) -> Front
     }
 }
 
-// What a call out of line answers. It is matched here, so that the caller need not clear the place
-// of the result on the way that does not make the call.
-fn out_of_line<A>(answer: Result<A, AtoiSimdError<'_>>) -> Result<A, AtoiSimdError<'_>>
-    ensures { result ≡ answer.entry }
-{
-    match answer {
-        Ok(found) => Ok(found),
-        Err(error) => Err(error),
-    }
-}
-
 // The answer of 128 bits, which the last window of 32 bytes decides, or the eight bytes behind it
 // too, where it is full of digits.
 #[inline(always)]
@@ -227,29 +265,28 @@ fn behind_32(s: &[u8]) -> &[u8]
     s.split_at(32).1
 }
 
-// The answer of 64 bits, where a window tells fewer digits than `limit`: these are too few to pass
-// the bound, whatever zeros they begin with.
+// The answer of 64 bits, where the slice begins with fewer digits than `limit`: these are too few to
+// pass the bound, whatever zeros they begin with.
 #[inline(always)]
 fn short_64<'a>(
     bound: u64,
     limit: u32,
     skip: bool,
-    front: Front,
+    len: u32,
+    number: u128,
     s: &'a [u8],
 ) -> Result<(u64, usize), AtoiSimdError<'a>>
     requires limit_high { limit ≤ 20 }
     requires digits { HasDigits limit bound }
-    requires front { ReadsBehind skip s.now front.at front.window.len front.window.zeroes
-        front.window.number }
-    requires short { front.window.len < limit }
+    requires front { ReadsBehind skip s.now 0 len (zeros decimal_table (take 32 s.now)) number }
+    requires short { len < limit }
     ensures { answer_of result ≡ prefix_magnitude decimal_table wide64 bound limit skip s.now }
 {
     reading_decides();
-    let len = front.at + front.window.len as usize;
     if len == 0 {
         Err(AtoiSimdError::Empty)
     } else {
-        Ok((front.window.number as u64, len))
+        Ok((number as u64, len as usize))
     }
 }
 

@@ -82,8 +82,10 @@ fn load_behind_16(s: &[u8]) -> u8x16
     if s.len() < 16 {
         return u8x16::splat(0);
     }
-    let end = s.len().min(32);
-    moved_to_front(u8x16::from_slice(&s[end - 16..]), 32 - end)
+    if s.len() >= 32 {
+        return u8x16::from_slice(&s[16..]);
+    }
+    moved_to_front(u8x16::from_slice(&s[s.len() - 16..]), 32 - s.len())
 }
 
 // The lanes from place `from` on at the front, before lanes of 0.

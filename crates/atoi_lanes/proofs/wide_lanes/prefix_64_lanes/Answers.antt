@@ -1,15 +1,39 @@
-use Rattle.std.proofs.Common.{arith}
-use Rattle.atoi_core.specs.Digit.{decimal_table}
+use Rattle.std.proofs.Common.{take, refl, ◌∙◌, arith}
+use Rattle.std.proofs.lemmas.List.Sums.{prefix_len-le-length}
+use Rattle.atoi_core.specs.Digit.{decimal_table, is_zero}
+use Rattle.atoi_core.specs.Reading.{Reading}
+use Rattle.atoi_core.specs.Run.{zeros}
 use Rattle.atoi_lanes.proofs.SkipLemmas.{first-ends, reads-first, few-zeros}
+use Rattle.atoi_lanes.proofs.WindowLemmas.{reading-of_few}
 use Rattle.atoi_lanes.proofs.wide_lanes.prefix_64_lanes.Goals as goal
 
 pub short_64-requires-clause-front : goal.short_64-requires-clause-front
 short_64-requires-clause-front c =
-    let w = c.window_32-first.result in
+    let w = c.short_window-only.result in
     let law = c.reading_decides.ensures in
-    let reading = c.window_32-first.ensures.reading in
-    let most = law.within decimal_table 32 c.args.s.now w.len w.zeroes w.number reading in
-    reads-first law c.args.skip c.args.s.now w.len w.zeroes w.number reading (λ _ full. absurd (omega (arith, c.requires.limit_high, c.if-first-limit.true)))
+    let told = reading-of_few c.args.s.now w c.if-s-lt16.true c.short_window-only.ensures.window in
+    let reading : Reading decimal_table 32 c.args.s.now w.len (zeros decimal_table (take 32 c.args.s.now)) c.from.result =
+    record { digits_are = told.digits_are; leading_are = refl; number_is = c.from.ensures ∙ told.number_is } in
+    let most = law.within decimal_table 32 c.args.s.now _ _ _ reading in
+    reads-first law c.args.skip c.args.s.now _ _ _ reading (λ _ full. absurd (omega (arith, most.1, c.if-s-lt16.true)))
+
+pub returns-then-s-lt16-clause-loads : goal.returns-then-s-lt16-clause-loads
+returns-then-s-lt16-clause-loads c =
+    let few = prefix_len-le-length (is_zero decimal_table) c.args.s.now in
+    let step = c.short_window-only.ensures.one_step in
+    record {
+      at_most = omega (arith, step);
+      at_least = λ _. omega (arith, step);
+      at_least_skipping = λ _. omega (arith, few, c.if-s-lt16.true, step);
+    }
+
+pub short_64-requires-then-first-limit-clause-front : goal.short_64-requires-then-first-limit-clause-front
+short_64-requires-then-first-limit-clause-front c =
+    let w = c.window_32-first.result in
+    let told = c.window_32-first.ensures.reading in
+    let reading : Reading decimal_table 32 c.args.s.now w.len (zeros decimal_table (take 32 c.args.s.now)) w.number =
+    record { digits_are = told.digits_are; leading_are = refl; number_is = told.number_is } in
+    reads-first c.reading_decides.ensures c.args.skip c.args.s.now w.len _ w.number reading (λ _ full. absurd (omega (arith, c.requires.limit_high, c.if-first-limit.true)))
 
 pub returns-then-first-limit-clause-loads : goal.returns-then-first-limit-clause-loads
 returns-then-first-limit-clause-loads c =
