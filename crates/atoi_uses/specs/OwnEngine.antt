@@ -1,5 +1,5 @@
 -- The digits of EBCDIC.
-use Rattle.std.specs.Prelude.{ℕ, ◌-◌, ◌&&◌, nat_le, Some, None, if◌then◌else◌}
+use Rattle.std.specs.Prelude.{◌-◌, ◌&&◌, nat_le, Some, None, if◌then◌else◌}
 use Rattle.atoi_core.specs.Digit.{Table}
 
 -- the bytes 240 to 249, worth 0 to 9

@@ -1,4 +1,4 @@
-use Rattle.std.proofs.Common.{◌≡◌, ℕ, Bool, true, false, List, ◌++◌, length, take, drop, ℤ, refl, ap, ◌∙◌, sym, rules, w64, FitsSigned}
+use Rattle.std.proofs.Common.{◌≡◌, ℕ, Bool, true, false, List, ◌++◌, length, take, drop, ℤ, refl, ap, ◌∙◌, sym, rules, w64}
 use Rattle.std.proofs.Math.Seq.{take-append_seam}
 use Rattle.std.proofs.lemmas.Bool.{both_ways}
 use Rattle.std.proofs.lemmas.Int.{to_z-of_z}
@@ -18,16 +18,15 @@ same_sign minus h = refl
 text_of : (is_negative : Bool) (digits : List ℕ) (number : ℤ) → DigitsWrite i64_kind is_negative digits number
     → TextWrites i64_kind false (minus_of is_negative ++ digits) number
 text_of true digits number h =
-    record { sign = minus; digits = digits; parts = refl; signed = λ e. refl; plus_taken = λ e. absurd (cc e); written = h }
+    record { sign = minus; digits = digits; parts = refl; signed = λ e. refl; plus_taken = λ e. e; written = h }
 text_of false digits number h =
-    record { sign = no_sign; digits = digits; parts = refl; signed = λ e. absurd (cc e); plus_taken = λ e. absurd (cc e); written = h }
+    record { sign = no_sign; digits = digits; parts = refl; signed = λ e. refl; plus_taken = λ e. e; written = h }
 
 -- an integer of JSON is a front that writes its number
 front_of : FrontsAndRests i64_kind → (text : List ℕ) (number : ℤ) (rest : List ℕ) (h : IsJsonInteger text number rest)
     → FrontWrites (TextWrites i64_kind false) text number (length (minus_of h.is_negative ++ h.digits))
 front_of law text number rest h =
-    let integer = minus_of h.is_negative ++ h.digits in
-    law.joined (looked_for false) text integer rest number h.parts (text_of h.is_negative h.digits number h.written) h.ends
+    law.joined (looked_for false) text _ rest number h.parts (text_of h.is_negative h.digits number h.written) h.ends
 
 pub returns-in_default-clause-none : goal.returns-in_default-clause-none
 returns-in_default-clause-none c = λ number rest h.
@@ -36,8 +35,8 @@ returns-in_default-clause-none c = λ number rest h.
 pub returns-then-has_leading_zero-clause-none : goal.returns-then-has_leading_zero-clause-none
 returns-then-has_leading_zero-clause-none c = λ number rest h.
     let integer = minus_of h.is_negative ++ h.digits in
-    let front = front_of c.fronts_and_rests.ensures c.args.text.now number rest h in
-    let same = c.fronts_and_rests.ensures.only (looked_for false) c.args.text.now _ number _ _ c.in-Ok.ensures.front front in
+    let law = c.fronts_and_rests.ensures in
+    let same = law.only (looked_for false) c.args.text.now _ _ _ _ c.in-Ok.ensures.front (front_of law _ number rest h) in
     let cut : take c.in-Ok.count c.args.text.now ≡ integer =
     ap (λ n. take n c.args.text.now) same.1 ∙ ap (take (length integer)) h.parts ∙ take-append_seam integer rest in
     both_ways (leads_with_zero integer) h.no_leading_zero
@@ -45,15 +44,15 @@ returns-then-has_leading_zero-clause-none c = λ number rest h.
 
 pub returns-else-has_leading_zero-clause-some : goal.returns-else-has_leading_zero-clause-some
 returns-else-has_leading_zero-clause-some c =
+    let count = c.in-Ok.count in
     let front = c.in-Ok.ensures.front in
-    let integer : take c.in-Ok.count c.args.text.now ≡ minus_of (is_minus front.front.sign) ++ front.front.digits =
+    let integer : take count c.args.text.now ≡ minus_of (is_minus front.front.sign) ++ front.front.digits =
     front.front.parts ∙ ap (λ sign. sign ++ front.front.digits) (same_sign front.front.sign front.front.plus_taken) in
-    let fits : FitsSigned w64 c.in-Ok.number = search rules in
-    rw (to_z-of_z w64 c.in-Ok.number fits, take_rest c.args.text.now c.in-Ok.count)
+    rw (to_z-of_z w64 c.in-Ok.number (search rules), take_rest c.args.text.now count)
     (record {
       is_negative = is_minus front.front.sign;
       digits = front.front.digits;
-      parts = sym (take-append-drop c.in-Ok.count c.args.text.now) ∙ ap (λ s. s ++ drop c.in-Ok.count c.args.text.now) integer;
+      parts = sym (take-append-drop count c.args.text.now) ∙ ap (λ s. s ++ drop count c.args.text.now) integer;
       written = front.front.written;
       no_leading_zero = ap leads_with_zero (sym integer) ∙ sym c.has_leading_zero.ensures ∙ c.if-has_leading_zero.false;
       ends = front.ends;
