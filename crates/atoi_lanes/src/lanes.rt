@@ -1,6 +1,6 @@
 //! The engine that reads a window into sixteen vector lanes at once. It uses the four kernels,
 //! `wide_lanes` for wide types, and `atoi_core`'s trait, window, steps and engine of words.
-ghost use Rattle.std.specs.Prelude.{◌≡◌, ◌+◌, ◌<◌, length};
+ghost use Rattle.std.specs.Prelude.{◌≡◌, ◌+◌};
 ghost use Rattle.std.proofs.Common.{arith};
 ghost use Rattle.std.proofs.lemmas.Bool.Decides.{nat_tests};
 ghost use Rattle.atoi_core.specs.Digit.{decimal_table};
@@ -30,21 +30,6 @@ fn lane_window(lanes: u8x16, size: u32) -> Window
     }
 }
 
-/// The window of fewer than 16 bytes. Fewer than 8 are one word: to count and sum that takes fewer
-/// steps than to fill lanes.
-#[inline(always)]
-pub(crate) fn short_window(s: &[u8], steps: &mut Steps) -> Window
-    requires { length s.now < 16 }
-    ensures window { result ≡ window_of decimal_table 16 s.now }
-    ensures one_step { steps.new ≡ steps.old + 1 }
-{
-    if s.len() < 8 {
-        return Words::window_8(s, steps);
-    }
-    steps.tick();
-    lane_window(load_words(s), 16)
-}
-
 impl Engine for Lanes {
     ghost table = { decimal_table };
 
@@ -52,11 +37,16 @@ impl Engine for Lanes {
     /// number that these write, and the zeros among them where all 16 are digits. Adds one step.
     #[inline(always)]
     fn window(s: &[u8], steps: &mut Steps) -> Window {
-        if s.len() < 16 {
-            return short_window(s, steps);
-        }
+        let lanes = if s.len() >= 16 {
+            u8x16::from_slice(s)
+        } else if s.len() >= 8 {
+            load_words(s)
+        } else {
+            // Fewer bytes are one word: to count and sum that takes fewer steps than to fill lanes.
+            return Words::window_8(s, steps);
+        };
         steps.tick();
-        lane_window(u8x16::from_slice(s), 16)
+        lane_window(lanes, 16)
     }
 
     /// The same of the first 8 bytes. Adds one step.

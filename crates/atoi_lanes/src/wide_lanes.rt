@@ -1,5 +1,5 @@
 //! The parses of wide integers at the front of a slice, by windows of 32 lanes. It uses
-//! `window_32`, the engine's `short_window` and `window_8`, and `atoi_core`'s law of what was read.
+//! `window_32`, the engine's windows, and `atoi_core`'s law of what was read.
 ghost use Rattle.std.specs.Prelude.{◌≡◌, ◌+◌, ◌*◌, ◌/◌, ◌<◌, ◌≤◌, nat_lt, if◌then◌else◌, length, take, drop, true, IsTrue};
 ghost use Rattle.atoi_core.specs.Digit.{decimal_table};
 ghost use Rattle.atoi_core.specs.Loads.{LoadsWithin};
@@ -10,7 +10,7 @@ ghost use Rattle.atoi_core.specs.Run.{zeros};
 ghost use Rattle.atoi_core.specs.Window.{window_of};
 ghost use Rattle.atoi_lanes.specs.ReadsBehind.{ReadsBehind};
 
-use crate::lanes::{Lanes, short_window};
+use crate::lanes::Lanes;
 use crate::window_32::{Window32, power_of_ten, window_32};
 use atoi_core::reading::reading_decides;
 use atoi_core::{AtoiSimdError, Engine, Steps, Window};
@@ -43,7 +43,7 @@ pub fn prefix_64_lanes<'a>(
     // A window tells the zeros of the slice, but for those behind it.
     reading_decides();
     if s.len() < 16 {
-        let only = short_window(s, steps);
+        let only = Lanes::window(s, steps);
         return short_64(bound, limit, skip, only.len, u128::from(only.number), s);
     }
     let first = window_32(s, steps);

@@ -9,9 +9,9 @@ use Rattle.atoi_lanes.proofs.wide_lanes.prefix_64_lanes.Goals as goal
 
 pub short_64-requires-clause-front : goal.short_64-requires-clause-front
 short_64-requires-clause-front c =
-    let w = c.short_window-only.result in
+    let w = c.window-only.result in
     let law = c.reading_decides.ensures in
-    let told = reading-of_few c.args.s.now w c.if-s-lt16.true c.short_window-only.ensures.window in
+    let told = reading-of_few c.args.s.now w c.if-s-lt16.true c.window-only.ensures.window in
     let reading : Reading decimal_table 32 c.args.s.now w.len (zeros decimal_table (take 32 c.args.s.now)) c.from.result =
     record { digits_are = told.digits_are; leading_are = refl; number_is = c.from.ensures ∙ told.number_is } in
     let most = law.within decimal_table 32 c.args.s.now _ _ _ reading in
@@ -20,7 +20,7 @@ short_64-requires-clause-front c =
 pub returns-then-s-lt16-clause-loads : goal.returns-then-s-lt16-clause-loads
 returns-then-s-lt16-clause-loads c =
     let few = prefix_len-le-length (is_zero decimal_table) c.args.s.now in
-    let step = c.short_window-only.ensures.one_step in
+    let step = c.window-only.ensures.one_step in
     record {
       at_most = omega (arith, step);
       at_least = λ _. omega (arith, step);
