@@ -109,7 +109,7 @@ narrow_size t bound limit false s long =
     let told : 0 + min (counting_digits t false s) 17 ≡ 17 = omega arith in
     rw (refused_size t narrow bound limit prefix false s (omega arith) too_long) (rw told refl)
 
--- behind 16 digits stands one more where there are more than 16
+-- after 16 digits there is one more where there are more than 16
 pub digit_after_16 : (t : Table) (s : List ℕ) → run_len t (take 16 s) ≡ 16 →
     nat_lt 0 (run_len t (take (length s - 16) (drop 16 s))) ≡ nat_lt 16 (run_len t s)
 digit_after_16 t s full =
