@@ -229,6 +229,7 @@ fn load_from(s: &[u8], at: usize) -> u64
 }
 
 // The word of the first 8 bytes, which are there: so the way for fewer takes no room in a window.
+#[tactic(auto, using(crate::proofs::LoadedBytes::word_of_first))]
 fn load_full(s: &[u8]) -> u64
     requires { 8 ≤ length s.now }
     ensures { result ≡ word_of (take 8 s.now) }
