@@ -219,11 +219,11 @@ fn load_from(s: &[u8], at: usize) -> u64
     requires low { at ≤ 16 }
     ensures { result ≡ word_of (take 8 (drop at s.now)) }
 {
-    if s.len() >= at + 8 {
-        return load_full(&s[at..]);
-    }
     match s.last_chunk::<8>() {
-        Some(last) => (u64::from_le_bytes(*last) >> (8 * (at + 7 - s.len()))) >> 8,
+        Some(last) if s.len() < at + 8 => {
+            (u64::from_le_bytes(*last) >> (8 * (at + 7 - s.len()))) >> 8
+        }
+        Some(_) => load_full(&s[at..]),
         None => 0,
     }
 }
