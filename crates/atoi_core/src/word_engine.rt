@@ -219,16 +219,17 @@ fn load_from(s: &[u8], at: usize) -> u64
     requires low { at ≤ 16 }
     ensures { result ≡ word_of (take 8 (drop at s.now)) }
 {
-    if s.len() >= at + 8 {
-        return load_full(&s[at..]);
-    }
     match s.last_chunk::<8>() {
-        Some(last) => (u64::from_le_bytes(*last) >> (8 * (at + 7 - s.len()))) >> 8,
+        Some(last) if s.len() < at + 8 => {
+            (u64::from_le_bytes(*last) >> (8 * (at + 7 - s.len()))) >> 8
+        }
+        Some(_) => load_full(&s[at..]),
         None => 0,
     }
 }
 
 // The word of the first 8 bytes, which are there: so the way for fewer takes no room in a window.
+#[tactic(auto, using(crate::proofs::LoadedBytes::word_of_first))]
 fn load_full(s: &[u8]) -> u64
     requires { 8 ≤ length s.now }
     ensures { result ≡ word_of (take 8 s.now) }
