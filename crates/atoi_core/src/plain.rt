@@ -14,8 +14,8 @@ use crate::window::Window;
 
 /// What each byte is worth, as code can ask.
 ///
-/// With `worth` alone `front_of` is a window of these digits, so an `Engine` of other digits than
-/// the decimal ones needs no more.
+/// `front_of` reads windows by it, so an `Engine` of other digits than the decimal ones needs no
+/// proof of its windows.
 pub trait Alphabet {
     /// What each byte is worth as a digit.
     ghost table: { Table };
@@ -59,10 +59,9 @@ impl Engine for Plain {
 }
 
 /// The window of the first `size` bytes of `s`, or of all where there are fewer, read byte by byte
-/// in the digits of `A`.
+/// in the digits of `A`. `size` is at most 16.
 ///
-/// `front_of::<Plain>(16, b"0012x")` has `len` 4 and `number` 12. It has `zeroes` 0: a window counts
-/// its zeros only where all its bytes are digits.
+/// `front_of::<Plain>(8, b"00000012x")` has `len` 8, `zeroes` 6 and `number` 12.
 pub fn front_of<A: Alphabet>(size: usize, s: &[u8]) -> Window
     requires { size ≤ 16 }
     ensures { result ≡ window_of A.table size s.now }
@@ -124,6 +123,12 @@ mod tests {
         let mut steps = Steps::new();
         let window = Plain::window_8(s, &mut steps);
         (window.len, window.zeroes, window.number)
+    }
+
+    #[test]
+    fn a_window_of_a_size(rt: HostRuntime) {
+        let front = front_of::<Plain>(8, b"00000012x");
+        assert_eq!(rt; (front.len, front.zeroes, front.number), (8, 6, 12));
     }
 
     #[test]

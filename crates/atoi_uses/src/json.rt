@@ -1,5 +1,6 @@
 //! A reader of the integers of JSON.
-//! It uses `atoi_simd::parse_prefix`, which says what front of a slice writes a number.
+//! It uses `atoi_simd::parse_prefix`, which says what front of a slice writes a number, and the law
+//! that there is one such front.
 ghost use Rattle.std.specs.Prelude.{◌≡◌, ℕ, ℤ, List, IfSome, IfNone};
 ghost use Rattle.atoi_uses.specs.Json.{IsJsonInteger, leads_with_zero};
 
