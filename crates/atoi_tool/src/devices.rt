@@ -2,23 +2,38 @@
 //! use std alone.
 
 use std::alloc::Global;
-use std::cell::RefCell;
+use std::cell::{Cell, RefCell};
 use std::fmt::Display;
 use std::io;
 use std::io::{ErrorKind, Read, Write};
 
 /// A reader of `rest`, `part` bytes a call, whose call of the number `failing` fails with `error`.
-/// None fails where the number is 0.
+/// None fails where the number is 0. It counts its calls.
 #[derive(Drop)]
 pub(crate) struct FailingReader<'a> {
     pub(crate) rest: &'a [u8],
     pub(crate) part: usize,
     pub(crate) failing: usize,
     pub(crate) error: ErrorKind,
+    pub(crate) reads: usize,
+}
+
+impl<'a> FailingReader<'a> {
+    /// A reader of `rest`, `part` bytes a call, of which no call fails.
+    pub(crate) fn new(rest: &'a [u8], part: usize) -> FailingReader<'a> {
+        FailingReader {
+            rest,
+            part,
+            failing: 0,
+            error: ErrorKind::Other,
+            reads: 0,
+        }
+    }
 }
 
 impl Read for FailingReader<'_> {
     fn read(&mut self, space: &mut [u8]) -> io::Result<usize> {
+        self.reads = self.reads.saturating_add(1);
         if self.failing == 1 {
             self.failing = 0;
             return Err(io::Error::from(self.error));
@@ -40,7 +55,7 @@ pub(crate) enum Full {
 }
 
 /// A writer that takes `part` bytes a call at most, and `room` bytes until it is full. It is full
-/// for one call, and then has room for `room_then` bytes more.
+/// for one call, and then has room for `room_then` bytes more. It counts its calls.
 #[derive(Drop)]
 pub(crate) struct LimitedWriter {
     pub(crate) held: Vec<u8>,
@@ -48,6 +63,7 @@ pub(crate) struct LimitedWriter {
     pub(crate) room: usize,
     pub(crate) room_then: usize,
     pub(crate) full: Full,
+    pub(crate) writes: usize,
     pub(crate) flushes: usize,
 }
 
@@ -60,6 +76,7 @@ impl LimitedWriter {
             room,
             room_then: 0,
             full,
+            writes: 0,
             flushes: 0,
         }
     }
@@ -67,6 +84,7 @@ impl LimitedWriter {
 
 impl Write for LimitedWriter {
     fn write(&mut self, bytes: &[u8]) -> io::Result<usize> {
+        self.writes = self.writes.saturating_add(1);
         let count = bytes.len().min(self.part).min(self.room);
         if count == 0 {
             self.room = self.room_then;
@@ -87,14 +105,32 @@ impl Write for LimitedWriter {
     }
 }
 
-/// A standard error that keeps what it is told.
+/// A standard error that keeps what it is told, from the call of the number `first` on, and refuses
+/// what comes before. It counts its calls from 1.
 #[derive(Drop)]
 pub(crate) struct Errors {
     pub(crate) told: RefCell<Vec<u8>>,
+    pub(crate) calls: Cell<usize>,
+    pub(crate) first: usize,
+}
+
+impl Errors {
+    /// A standard error that was told nothing yet.
+    pub(crate) fn new(alloc: Global, first: usize) -> Errors {
+        Errors {
+            told: RefCell::new(Vec::new(alloc)),
+            calls: Cell::new(0),
+            first,
+        }
+    }
 }
 
 impl Eprint for Errors {
     fn eprint<D: Display + Drop>(&self, value: D) -> io::Result<()> {
+        self.calls.set(self.calls.get().saturating_add(1));
+        if self.calls.get() < self.first {
+            return Err(io::Error::from(ErrorKind::BrokenPipe));
+        }
         match self.told.try_borrow_mut() {
             Ok(mut told) => write!(told, "{value}"),
             Err(_) => Err(io::Error::from(ErrorKind::WouldBlock)),

@@ -76,3 +76,6 @@ impl<W: Write> Sink for ToWriter<W> {
         }
     }
 }
+
+#[cfg(test)]
+mod tests;

@@ -74,3 +74,6 @@ impl<R: Read> Source for FromReader<R> {
         }
     }
 }
+
+#[cfg(test)]
+mod tests;

@@ -10,19 +10,26 @@ use std::alloc::{AllocError, Global};
 use std::io::ErrorKind;
 use std::test::Fail;
 
+// Each read is of one part of at most 4096 bytes, and one is at the end.
 #[test]
 fn reads_to_the_end(rt: HostRuntime) -> Result<(), Fail> {
-    let input = vec![in rt.alloc(); b'7'; 10_000]?;
-    for part in [1, 4095, 4096, 4097] {
-        let mut source = FromReader::new(FailingReader {
-            rest: &input,
-            part,
-            failing: 0,
-            error: ErrorKind::Other,
-        });
+    for (len, part, reads) in [
+        (10_000, 1, 10_001),
+        (10_000, 4095, 4),
+        (10_000, 4096, 4),
+        (10_000, 4097, 4),
+        (2_000_000, 4096, 490),
+    ] {
+        let input = vec![in rt.alloc(); b'7'; len]?;
+        let mut source = FromReader::new(FailingReader::new(&input, part));
         let bytes = read_all(rt.alloc(), &mut source)?;
-        assert_eq!(rt; bytes.as_slice(), input.as_slice());
-        assert!(rt; source.into_inner().rest.is_empty());
+        let reader = source.into_inner();
+        assert!(rt;
+            bytes.as_slice() == input.as_slice(),
+            "{len} bytes, {part} a read"
+        );
+        assert!(rt; reader.rest.is_empty());
+        assert_eq!(rt; reader.reads, reads);
     }
     Ok(())
 }
@@ -30,10 +37,9 @@ fn reads_to_the_end(rt: HostRuntime) -> Result<(), Fail> {
 // How many bytes are read where the call of the number `failing` fails with `error`.
 fn read_failing(alloc: Global, failing: usize, error: ErrorKind) -> Result<usize, ToolError> {
     let mut source = FromReader::new(FailingReader {
-        rest: b"ab",
-        part: 1,
         failing,
         error,
+        ..FailingReader::new(b"ab", 1)
     });
     Ok(read_all(alloc, &mut source)?.len())
 }
@@ -52,12 +58,7 @@ fn tells_a_refused_read(rt: HostRuntime) {
 
 // A source of `input`, which gives one whole part a call.
 fn parts_of(input: &[u8]) -> FromReader<FailingReader<'_>> {
-    FromReader::new(FailingReader {
-        rest: input,
-        part: PART,
-        failing: 0,
-        error: ErrorKind::Other,
-    })
+    FromReader::new(FailingReader::new(input, PART))
 }
 
 // Five parts take four requests for memory: for 1, 2, 4 and 8 parts, each while the one before it

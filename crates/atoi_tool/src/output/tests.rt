@@ -271,16 +271,19 @@ const LINES: &[u8] = b"w pos u8 -- 255\nw pos u8 -- 256x\n\nw neg i8 -- 128";
 const ANSWERS: &[u8] =
     b"ok 255\nerr atoi_simd overflow, input: [32, 35, 36, 78]\nbad row\nok -128\n";
 
+// The answers have 7, 48, 8 and 8 bytes, and one write holds bytes of one of them alone.
 #[test]
 fn writes_in_parts_of_any_size(rt: HostRuntime) -> Result<(), Fail> {
-    for part in [1, 2, 7, 1000] {
+    for (part, writes) in [(1, 71), (2, 36), (7, 12), (1000, 4)] {
         let mut sink = ToWriter::new(LimitedWriter {
             part,
             ..LimitedWriter::new(rt.alloc(), ANSWERS.len(), Full::Fails)
         });
         let outcome = answer_lines(LINES, &mut sink);
         assert_eq!(rt; outcome, Ok(false));
-        assert_eq!(rt; sink.into_inner().held.as_slice(), ANSWERS);
+        let writer = sink.into_inner();
+        assert_eq!(rt; writer.held.as_slice(), ANSWERS);
+        assert_eq!(rt; writer.writes, writes);
     }
     Ok(())
 }

@@ -7,19 +7,27 @@ use crate::sink::ToWriter;
 use crate::source::FromReader;
 use crate::status::ToolError;
 use std::alloc::{AllocError, Global};
-use std::cell::RefCell;
 use std::io::ErrorKind;
 use std::process::{Abort, ExitCode, Termination};
 use std::test::Fail;
 
 // That the program ends with a status and a line on the standard error.
 fn check_end(rt: &impl Abort, alloc: Global, ended: Ended, number: u8, line: &[u8]) {
-    let errors = Errors {
-        told: RefCell::new(Vec::new(alloc)),
-    };
+    let errors = Errors::new(alloc, 1);
     let status = ended.report(&errors);
     assert_eq!(rt; status, ExitCode::from(number));
+    assert_eq!(rt; errors.calls.get(), if line.is_empty() { 0 } else { 1 });
     assert_eq!(rt; errors.told.into_inner().as_slice(), line);
+}
+
+// A fault is told by one call, also where that call is refused.
+#[test]
+fn a_fault_is_told_once(rt: HostRuntime) {
+    let outcome = Err(ToolError::Write);
+    let errors = Errors::new(rt.alloc(), 2);
+    let status = Ended { outcome }.report(&errors);
+    assert_eq!(rt; status, ExitCode::from(5));
+    assert_eq!(rt; errors.calls.get(), 1);
 }
 
 #[test]
@@ -54,23 +62,19 @@ fn rows(alloc: Global, count: usize, has_last_newline: bool) -> Result<Vec<u8>, 
     Ok(rows)
 }
 
-// That all of `count` rows is answered, `part` bytes a call, and that nothing is flushed.
+// That all of `count` rows is answered, `part` bytes a call, by so many reads and writes, and that
+// nothing is flushed.
 fn check_rows(
     rt: &impl Abort,
     alloc: Global,
-    count: usize,
-    has_last_newline: bool,
+    (count, has_last_newline): (usize, bool),
     part: usize,
+    (reads, writes): (usize, usize),
 ) -> Result<(), Fail> {
     let rows = rows(alloc, count, has_last_newline)?;
     let answers = b"ok 255\n".repeat(alloc, count)?;
     assert_eq!(rt; rows.len(), count.saturating_mul(16));
-    let mut input = FromReader::new(FailingReader {
-        rest: &rows,
-        part,
-        failing: 0,
-        error: ErrorKind::Other,
-    });
+    let mut input = FromReader::new(FailingReader::new(&rows, part));
     let mut output = ToWriter::new(LimitedWriter {
         part,
         ..LimitedWriter::new(alloc, usize::MAX, Full::Fails)
@@ -78,18 +82,26 @@ fn check_rows(
     let ended = run(alloc, &mut input, &mut output);
     let writer = output.into_inner();
     assert_eq!(rt; writer.held.as_slice(), answers.as_slice());
+    assert_eq!(rt; input.into_inner().reads, reads);
+    assert_eq!(rt; writer.writes, writes);
     assert_eq!(rt; writer.flushes, 0);
     check_end(rt, alloc, ended, 0, b"");
     Ok(())
 }
 
+// One full read, two and three, and a hundred kilobytes, and one read at the end of each. An answer
+// is one write. By one byte a call, a row is sixteen reads, and its answer is seven writes.
 #[test]
 fn answers_inputs_of_whole_reads(rt: HostRuntime) -> Result<(), Fail> {
-    // One read, two and three, and a hundred kilobytes.
-    for count in [256, 512, 768, 6400] {
-        check_rows(&rt, rt.alloc(), count, true, 100_000)?;
-        check_rows(&rt, rt.alloc(), count, false, 100_000)?;
-        check_rows(&rt, rt.alloc(), count, false, 1)?;
+    for (count, reads) in [(256usize, 2), (512, 3), (768, 4), (6400, 26)] {
+        let calls = (reads, count);
+        let single = (
+            count.saturating_mul(16).saturating_add(1),
+            count.saturating_mul(7),
+        );
+        check_rows(&rt, rt.alloc(), (count, true), 100_000, calls)?;
+        check_rows(&rt, rt.alloc(), (count, false), 100_000, calls)?;
+        check_rows(&rt, rt.alloc(), (count, false), 1, single)?;
     }
     Ok(())
 }
@@ -98,7 +110,7 @@ const LINES: &[u8] = b"w pos u8 -- 255\nx\nw neg i8 -- 128\n";
 
 const ANSWERS: &[u8] = b"ok 255\nbad row\nok -128\n";
 
-// That a run over these two ends with a status and a line, and has written `written`.
+// That a run over these two ends with a status and a line, has written `written` and not flushed.
 fn check_run(
     rt: &impl Abort,
     alloc: Global,
@@ -108,16 +120,17 @@ fn check_run(
 ) {
     let mut output = ToWriter::new(writer);
     let ended = run(alloc, &mut FromReader::new(reader), &mut output);
-    assert_eq!(rt; output.into_inner().held.as_slice(), written);
+    let writer = output.into_inner();
+    assert_eq!(rt; writer.held.as_slice(), written);
+    assert_eq!(rt; writer.flushes, 0);
     check_end(rt, alloc, ended, number, line);
 }
 
 fn reader<'a>(failing: usize, error: ErrorKind) -> FailingReader<'a> {
     FailingReader {
-        rest: LINES,
-        part: 20,
         failing,
         error,
+        ..FailingReader::new(LINES, 20)
     }
 }
 

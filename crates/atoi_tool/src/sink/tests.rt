@@ -1,0 +1,20 @@
+//! Tests of a writer as a sink, at sizes that no answer has. They use the tests' own `devices`.
+
+use super::ToWriter;
+use crate::devices::{Full, LimitedWriter};
+use crate::put::put_all;
+use std::test::Fail;
+
+#[test]
+fn puts_many_bytes_by_one_write(rt: HostRuntime) -> Result<(), Fail> {
+    let bytes = vec![in rt.alloc(); b'7'; 100_000]?;
+    let mut sink = ToWriter::new(LimitedWriter {
+        part: 100_000,
+        ..LimitedWriter::new(rt.alloc(), 100_000, Full::Fails)
+    });
+    assert!(rt; put_all(&bytes, &mut sink).is_ok());
+    let writer = sink.into_inner();
+    assert!(rt; writer.held.as_slice() == bytes.as_slice());
+    assert_eq!(rt; writer.writes, 1);
+    Ok(())
+}

@@ -1,0 +1,17 @@
+//! Tests of a reader as a source, into space of any size. They use the tests' own `devices`.
+
+use super::{FromReader, Source};
+use crate::devices::FailingReader;
+
+#[test]
+fn takes_into_space_of_any_size(rt: HostRuntime) {
+    let mut space = [0; 9000];
+    for room in [1, 2, 4095, 4097, 9000] {
+        let input = [b'7'; 9000];
+        let mut source = FromReader::new(FailingReader::new(&input, 9000));
+        let count = source.take(&mut space[..room]);
+        assert_eq!(rt; count.ok(), Some(room));
+        assert!(rt; space[..room] == input[..room]);
+        assert_eq!(rt; source.into_inner().reads, 1);
+    }
+}
