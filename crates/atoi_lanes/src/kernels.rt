@@ -38,15 +38,6 @@ pub fn load_lanes(s: &[u8]) -> u8x16
     }
 }
 
-/// The same of 8 to 15 bytes, which are two words.
-pub(crate) fn load_words(s: &[u8]) -> u8x16
-    requires enough { 8 ≤ length s.now }
-    requires few { length s.now < LANES }
-    ensures { result ≡ padded_front 16 s.now }
-{
-    u64x2::from_array([load_8(&s[..8]), load_behind_8(s)]).to_le_bytes()
-}
-
 // The bytes behind the first 8, of fewer than 16: they are those of the last 8 that are left. These
 // are shifted twice: by 64 bits at once, where none is left, a word cannot be.
 fn load_behind_8(s: &[u8]) -> u64

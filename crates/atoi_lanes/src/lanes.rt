@@ -1,5 +1,5 @@
 //! The engine that reads a window into sixteen vector lanes at once. It uses the four kernels,
-//! `wide_lanes` for wide types, and `atoi_core`'s trait, window, steps and engine of words.
+//! `wide_lanes` for wide types, and `atoi_core`'s trait, window and steps.
 ghost use Rattle.std.specs.Prelude.{◌≡◌, ◌+◌};
 ghost use Rattle.std.proofs.Common.{arith};
 ghost use Rattle.std.proofs.lemmas.Bool.Decides.{nat_tests};
@@ -7,9 +7,9 @@ ghost use Rattle.atoi_core.specs.Digit.{decimal_table};
 ghost use Rattle.atoi_core.specs.Window.{window_of};
 ghost use Rattle.atoi_lanes.specs.LaneWindow.{lane_window};
 
-use crate::kernels::{len_lanes, load_lanes, load_words, sum_lanes, zeroes_lanes};
+use crate::kernels::{len_lanes, load_lanes, sum_lanes, zeroes_lanes};
 use crate::wide_lanes::{prefix_64_lanes, prefix_128_lanes};
-use atoi_core::{AtoiSimdError, Engine, Steps, Window, Words};
+use atoi_core::{AtoiSimdError, Engine, Steps, Window};
 use std::simd::prelude::*;
 
 /// The engine that reads sixteen bytes at once, in vector lanes. Its digits are the decimal ones.
@@ -37,16 +37,8 @@ impl Engine for Lanes {
     /// number that these write, and the zeros among them where all 16 are digits. Adds one step.
     #[inline(always)]
     fn window(s: &[u8], steps: &mut Steps) -> Window {
-        let lanes = if s.len() >= 16 {
-            u8x16::from_slice(s)
-        } else if s.len() >= 8 {
-            load_words(s)
-        } else {
-            // Fewer bytes are one word: to count and sum that takes fewer steps than to fill lanes.
-            return Words::window_8(s, steps);
-        };
         steps.tick();
-        lane_window(lanes, 16)
+        lane_window(load_lanes(s), 16)
     }
 
     /// The same of the first 8 bytes. Adds one step.
