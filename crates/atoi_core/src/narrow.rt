@@ -101,7 +101,7 @@ pub fn narrow_whole_windows<'a, E: Engine>(
     ensures loads { LoadsWithin (most_loads E.table narrow s.now) E.table true s.now
         steps.old steps.new }
 {
-    if s.len() > most_digits(bound) {
+    if s.len() >= 16 {
         return out_of_line(long_whole::<E>(bound, s, steps));
     }
     let only = E::window(s, steps);
@@ -112,21 +112,8 @@ pub fn narrow_whole_windows<'a, E: Engine>(
     }
 }
 
-// As many digits as a number up to `bound` has, or more.
-fn most_digits(bound: u64) -> usize
-    ensures { result < 16 }
-{
-    if bound < 1_000 {
-        3
-    } else if bound < 100_000 {
-        5
-    } else {
-        15
-    }
-}
-
-// What `narrow_whole_windows` answers for more bytes than the bound has digits, which begin with
-// zeros or hold another byte where the number fits.
+// What `narrow_whole_windows` answers for 16 bytes or more, which begin with zeros or hold another
+// byte where the number fits.
 #[inline(never)]
 fn long_whole<'a, E: Engine>(
     bound: u64,

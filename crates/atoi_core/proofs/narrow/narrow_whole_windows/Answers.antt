@@ -10,7 +10,7 @@ use Rattle.atoi_core.proofs.narrow.narrow_whole_windows.Goals.{After-window-only
 
 -- the window is short
 short : (g : _) (c : After-window-only g) → c.window-only.result.len < 16
-short g c = few_bytes_short g.E.Engine.table g.met.E.Engine.below_ten c.args.s.now c.window-only.result c.window-only.ensures.window (omega (arith, c.if-s-most_digits.false))
+short g c = few_bytes_short g.E.Engine.table g.met.E.Engine.below_ten c.args.s.now c.window-only.result c.window-only.ensures.window (omega (arith, c.if-s-ge16.false))
 
 pub whole_of-requires : goal.whole_of-requires
 whole_of-requires g c =
