@@ -76,6 +76,7 @@ impl<'a, T: Parse> Column<'a, T> {
     }
 }
 
+// There is no `size_hint`: how many fields are left is not known before they are read.
 impl<'a, T: Parse> Iterator for Column<'a, T> {
     type Item = Result<T, ColumnError<'a>>;
 

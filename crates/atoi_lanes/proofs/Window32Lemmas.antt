@@ -1,10 +1,10 @@
 -- Thirty-two bytes in the lanes of two halves.
-use Rattle.std.proofs.Common.{◌≡◌, ℕ, zero, suc, min, ◌<◌, ◌==◌, ◌&&◌, Bool, ne_eqb, ◌+◌, ◌-◌, ◌*◌, ◌^◌, ◌≤◌, true, false, cond, List, [], ◌∷◌, ◌++◌, length, take, drop, replicate, refl, sym, ap, ap₂, ◌∙◌, inl, inr, arith}
+use Rattle.std.proofs.Common.{◌≡◌, ℕ, zero, suc, ◌<◌, ◌==◌, ◌&&◌, Bool, ne_eqb, ◌+◌, ◌-◌, ◌*◌, ◌^◌, ◌≤◌, true, false, cond, List, [], ◌∷◌, ◌++◌, length, take, drop, replicate, refl, sym, ap, ap₂, ◌∙◌, arith}
 use Rattle.std.specs.List.{prefix_len}
 use Rattle.std.proofs.Math.Seq.{take-add, take-append-add}
-use Rattle.std.proofs.lemmas.Bool.{eq-eqb, cases_lt}
+use Rattle.std.proofs.lemmas.Bool.{eq-eqb}
 use Rattle.std.proofs.lemmas.Nat.{pow-add}
-use Rattle.std.proofs.lemmas.List.{append-nil, take_all, take-append-le, drop-drop, drop_all, length-append, length-take-le, length-drop, length-replicate, take-replicate}
+use Rattle.std.proofs.lemmas.List.{take_all, take-append-le, drop-drop, drop_all, length-append, length-take-le, length-drop, length-replicate, take-replicate}
 use Rattle.std.proofs.lemmas.List.Folds.{prefix_len-append}
 use Rattle.atoi_core.specs.Digit.{Table, decimal_table, is_digit, is_zero, worth}
 use Rattle.atoi_core.specs.Run.{run_len, run, zeros, value}

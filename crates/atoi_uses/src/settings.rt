@@ -24,8 +24,10 @@ pub fn number_and_rest(text: &[u8]) -> Result<(i64, &[u8]), AtoiSimdError<'_>>
     Ok((number, &text[count..]))
 }
 
-/// The letter and the number of the setting that `line` begins with, and what stands behind it: of
+/// The letter and the number of the setting that `line` begins with, and what stands after it: of
 /// `w=+12px` these are `w`, 12 and `px`.
+//
+// A key is one letter: a cut by `strip_prefix` left goals that needed a proof by hand.
 pub fn setting(line: &[u8]) -> Option<(u8, i64, &[u8])>
     ensures some { IfSome result (λ found. (count : ℕ)
         × (take 2 line.now ≡ found.0 ∷ codes "=")

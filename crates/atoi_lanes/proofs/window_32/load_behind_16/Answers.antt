@@ -1,4 +1,4 @@
-use Rattle.std.proofs.Common.{◌∙◌, arith}
+use Rattle.std.proofs.Common.{◌∙◌}
 use Rattle.atoi_lanes.proofs.Window32Lemmas.{behind_all, behind_some}
 use Rattle.atoi_lanes.proofs.window_32.load_behind_16.Goals as goal
 
