@@ -71,7 +71,7 @@ below t ten count s digits leading number reading =
     omega (arith, reading.number_is, subst P len (value-below t ten (run t front)))
 
 -- the answer by the tests of its three refusals, with the count of all digits told by itself
-abbrev by_tests : Class → (bound limit total skipped counting number : ℕ) → List ℕ → Result (ℕ × ℕ) Refusal
+abbrev pub by_tests : Class → (bound limit total skipped counting number : ℕ) → List ℕ → Result (ℕ × ℕ) Refusal
 by_tests class bound limit total skipped counting number s =
     cond (eqb total 0) (Err empty) (cond (ltb limit counting) (Err (size (skipped + min counting (cap class)) (drop skipped s)))
     (cond (ltb bound number) (Err (overflow (drop skipped s))) (Ok (number, total))))
@@ -97,7 +97,7 @@ counting-parts true n z within = (omega arith, omega arith)
 counting-parts false n z within = (omega arith, omega arith)
 
 -- the answer of a wide class by all digits of the slice
-by_tests-all : (t : Table) (class : Class) (bound limit : ℕ) (skip : Bool) (s : List ℕ) → limit < cap class
+pub by_tests-all : (t : Table) (class : Class) (bound limit : ℕ) (skip : Bool) (s : List ℕ) → limit < cap class
     → prefix_magnitude t class bound limit skip s
     ≡ by_tests class bound limit (run_len t s) (skipped_zeros t skip s) (run_len t s - skipped_zeros t skip s) (value t (run t s)) s
 unfolding refusal
@@ -106,23 +106,28 @@ by_tests-all t wide64 bound limit skip s less = by_tests-refusal wide64 bound li
 by_tests-all t wide128 bound limit skip s less = by_tests-refusal wide128 bound limit (run_len t s) (skipped_zeros t skip s) (value t (run t s)) s
 
 -- and with the zeros and the digits that count told apart
-by_all_digits : (t : Table) (class : Class) (bound limit : ℕ) (skip : Bool) (s : List ℕ) (skipped counting : ℕ) → limit < cap class
-    → counting ≡ counting_digits skip (run_len t s) (zeros t s) → skipped ≡ run_len t s - counting
+pub by_counting : (t : Table) (class : Class) (bound limit : ℕ) (skip : Bool) (s : List ℕ) (skipped counting : ℕ) → limit < cap class
+    → skipped_zeros t skip s ≡ skipped → run_len t s ≡ skipped + counting
     → prefix_magnitude t class bound limit skip s ≡ answer_by_digits class bound limit skipped counting (value t (run t s)) s
-by_all_digits t class bound limit skip s skipped counting less e d =
+by_counting t class bound limit skip s skipped counting less zeros_are total =
     let n : ℕ = run_len t s in
     let v : ℕ = value t (run t s) in
-    let parts = counting-parts skip n (zeros t s) (zeros-le t s) in
-    let zeros_are : skipped_zeros t skip s ≡ skipped = omega (arith, parts.0, parts.1) in
-    let total : n ≡ skipped + counting = omega (arith, parts.0) in
     let others_are : n - skipped ≡ counting = omega arith in
     by_tests-all t class bound limit skip s less
     ∙ ap (λ (k : ℕ). by_tests class bound limit n k (n - k) v s) zeros_are
     ∙ ap (λ (c : ℕ). by_tests class bound limit n skipped c v s) others_are
     ∙ ap (λ (m : ℕ). by_tests class bound limit m skipped counting v s) total
 
+-- and with the digits that count by the flag
+by_all_digits : (t : Table) (class : Class) (bound limit : ℕ) (skip : Bool) (s : List ℕ) (skipped counting : ℕ) → limit < cap class
+    → counting ≡ counting_digits skip (run_len t s) (zeros t s) → skipped ≡ run_len t s - counting
+    → prefix_magnitude t class bound limit skip s ≡ answer_by_digits class bound limit skipped counting (value t (run t s)) s
+by_all_digits t class bound limit skip s skipped counting less e d =
+    let parts = counting-parts skip (run_len t s) (zeros t s) (zeros-le t s) in
+    by_counting t class bound limit skip s skipped counting less (omega (arith, parts.0, parts.1)) (omega (arith, parts.0))
+
 -- as many digits as a size tells are too many, whatever they write
-by_many_digits : (class : Class) (bound limit skipped counting number : ℕ) (s : List ℕ) → limit < cap class → cap class ≤ counting
+pub by_many_digits : (class : Class) (bound limit skipped counting number : ℕ) (s : List ℕ) → limit < cap class → cap class ≤ counting
     → answer_by_digits class bound limit skipped counting number s ≡ Err (size (skipped + cap class) (drop skipped s))
 by_many_digits class bound limit skipped counting number s less many =
     let some : eqb (skipped + counting) 0 ≡ false = ne_eqb (skipped + counting) 0 (omega arith) in

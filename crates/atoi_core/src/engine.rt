@@ -8,7 +8,7 @@ ghost use Rattle.atoi_core.specs.Refusal.{answer_of};
 ghost use Rattle.atoi_core.specs.Window.{window_of};
 
 use crate::error::AtoiSimdError;
-use crate::join::{answer_64, joined_128, power_of_ten};
+use crate::join::{answer_64, answer_128, power_of_ten};
 use crate::steps::Steps;
 use crate::window::Window;
 
@@ -140,14 +140,7 @@ pub trait Engine {
             return Ok((high + u128::from(second.number), len));
         }
         let third = Self::window_8(&body[32..], steps);
-        let len = at + 32 + third.len as usize;
-        if third.len == 8 {
-            return Err(AtoiSimdError::Size(len, body));
-        }
-        match joined_128(bound, first.number, second.number, third) {
-            Some(number) => Ok((number, len)),
-            None => Err(AtoiSimdError::Overflow(body)),
-        }
+        answer_128(bound, at, first, second, third, s)
     }
 
     /// No digit is worth more than nine.

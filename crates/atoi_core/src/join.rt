@@ -1,7 +1,7 @@
 //! Numbers joined from the digits of two windows, or of three, and the answers that they decide. It
 //! uses `window` and `error`.
 ghost use Rattle.std.specs.Prelude.{◌≡◌, ◌+◌, ◌*◌, ◌^◌, ◌<◌, ◌≤◌, nat_lt, if◌then◌else◌, length};
-ghost use Rattle.atoi_core.specs.Magnitude.{HasDigits, wide64};
+ghost use Rattle.atoi_core.specs.Magnitude.{HasDigits, wide64, wide128};
 ghost use Rattle.atoi_core.specs.Reading.{answer_by_digits};
 ghost use Rattle.atoi_core.specs.Refusal.{answer_of};
 
@@ -72,13 +72,45 @@ pub(crate) fn answer_64<'a>(
     if digits > limit {
         return Err(AtoiSimdError::Size(len, &s[at..]));
     }
-    let power = power_of_ten(back.len);
-    if digits < limit {
-        return Ok((front.number * power + back.number, len));
-    }
-    match up_to_64(bound, front.number, power, back.number) {
+    match joined_64(bound, limit, front.number, back) {
         Some(number) => Ok((number, len)),
         None => Err(AtoiSimdError::Overflow(&s[at..])),
+    }
+}
+
+/// The answer of 128 bits where two windows full of digits stand at the place `at`, behind zeros that
+/// are skipped, from them and from the window of the 8 bytes after them.
+///
+/// # Errors
+///
+/// `Size` where there are more than 39 digits, and `Overflow` where their number is above `bound`.
+/// Both hold `s` from `at` on.
+#[inline(always)]
+pub(crate) fn answer_128<'a>(
+    bound: u128,
+    at: usize,
+    first: Window,
+    second: Window,
+    third: Window,
+    s: &'a [u8],
+) -> Result<(u128, usize), AtoiSimdError<'a>>
+    requires digits { HasDigits 39 bound }
+    requires first_high { first.number < 10 ^ 16 }
+    requires second_high { second.number < 10 ^ 16 }
+    requires third_short { third.len ≤ 8 }
+    requires third_high { third.number < 10 ^ third.len }
+    requires inside { at + (32 + third.len) ≤ length s.now }
+    ensures { answer_of result ≡ answer_by_digits wide128 bound 39 at (32 + third.len)
+        (first.number * 10 ^ (16 + third.len) + (second.number * 10 ^ third.len + third.number)) s.now }
+{
+    let body = &s[at..];
+    let len = at + 32 + third.len as usize;
+    if third.len == 8 {
+        return Err(AtoiSimdError::Size(len, body));
+    }
+    match joined_128(bound, first.number, second.number, third) {
+        Some(number) => Ok((number, len)),
+        None => Err(AtoiSimdError::Overflow(body)),
     }
 }
 
@@ -92,6 +124,24 @@ fn up_to_64(bound: u64, high: u64, power: u64, low: u64) -> Option<u64>
         None
     } else {
         Some(number as u64)
+    }
+}
+
+// The number of the digits of a full window and of `back` behind it, where that is at most `bound`;
+// else none. There are at most `limit` digits, and `bound` has that many.
+fn joined_64(bound: u64, limit: u32, front: u64, back: Window) -> Option<u64>
+    requires digits { HasDigits limit bound }
+    requires front_high { front < 10 ^ 16 }
+    requires back_short { back.len ≤ 8 }
+    requires back_high { back.number < 10 ^ back.len }
+    ensures { let number = front * 10 ^ back.len + back.number in
+        result ≡ (if nat_lt bound number then None else Some number) }
+{
+    let power = power_of_ten(back.len);
+    if 16 + back.len < limit {
+        Some(front * power + back.number)
+    } else {
+        up_to_64(bound, front, power, back.number)
     }
 }
 
@@ -111,9 +161,9 @@ fn up_to_128(bound: u128, high: u64, low: u128) -> Option<u128>
     }
 }
 
-/// The number of the digits of two full windows and of `back` behind them, where that is at most
-/// `bound`; else none.
-pub(crate) fn joined_128(bound: u128, front: u64, middle: u64, back: Window) -> Option<u128>
+// The number of the digits of two full windows and of `back` behind them, where that is at most
+// `bound`; else none.
+fn joined_128(bound: u128, front: u64, middle: u64, back: Window) -> Option<u128>
     requires bound_low { 10 ^ 38 ≤ bound }
     requires front_high { front < 10 ^ 16 }
     requires middle_high { middle < 10 ^ 16 }

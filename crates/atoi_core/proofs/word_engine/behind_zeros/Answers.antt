@@ -6,7 +6,7 @@ use Rattle.atoi_core.specs.Digit.{decimal_table, is_digit}
 use Rattle.atoi_core.specs.Window.{window_of}
 use Rattle.atoi_core.proofs.Digits.{decimal_below_ten}
 use Rattle.atoi_core.proofs.SkipLemmas.{Skipping-told, Skipping-more, Skipped, Skipped-end}
-use Rattle.atoi_core.proofs.WideLemmas.{wide_64, answers_short, answers_full}
+use Rattle.atoi_core.proofs.WideLemmas.{answers_short, answers_full}
 use Rattle.atoi_core.proofs.WindowLemmas.{Reads, Shows, Shows-below, Reads-join, shows}
 use Rattle.atoi_core.proofs.word_engine.behind_zeros.Goals as goal
 use Rattle.atoi_core.proofs.word_engine.behind_zeros.Goals.{After-window-window, After-window_from_16}
@@ -36,7 +36,7 @@ ended c none =
 pub returns-then-front-lt16-clause-answer : goal.returns-then-front-lt16-clause-answer
 returns-then-front-lt16-clause-answer c =
     let so = ended (goal.at.returns-then-front-lt16-clause-answer c).After-window-window c.if-window-eq0.true in
-    answers_short _ _ _ _ _ _ _ _ _ _ _ _ wide_64 so c.if-front-lt16.true (omega (arith, c.loop-window.invariant.some)) (omega arith) c.requires.digits refl refl
+    answers_short _ _ _ _ _ _ _ _ _ _ _ _ (omega arith) so c.if-front-lt16.true (omega (arith, c.loop-window.invariant.some)) (omega arith) c.requires.digits refl refl
 
 pub returns-then-front-lt16-clause-loads : goal.returns-then-front-lt16-clause-loads
 returns-then-front-lt16-clause-loads c =
@@ -92,7 +92,7 @@ pub returns-clause-answer : goal.returns-clause-answer
 returns-clause-answer c =
     let both = (goal.at.returns-clause-answer c).After-window_from_16 in
     let so = ended (goal.at.returns-clause-answer c).After-window-window c.if-window-eq0.true in
-    c.answer_64.ensures ∙ answers_full _ _ _ _ _ _ _ _ _ _ _ so c.if-front-lt16.false (read both c.if-front-lt16.false so) (omega arith) c.requires.limit_high
+    answers_full _ _ _ _ _ _ _ _ _ _ _ _ _ (omega arith) so c.if-front-lt16.false (read both c.if-front-lt16.false so) c.answer_64.ensures
 
 pub returns-clause-loads : goal.returns-clause-loads
 returns-clause-loads c =

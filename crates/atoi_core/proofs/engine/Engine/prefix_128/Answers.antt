@@ -1,12 +1,12 @@
 -- The loop leaves what `Skipped` says; the answers and the loads follow from it.
-use Rattle.std.proofs.Common.{◌+◌, ◌*◌, ◌^◌, ◌≤◌, ℕ, ap, refl, arith, lit<, length, drop}
-use Rattle.std.proofs.lemmas.List.{take_rest}
+use Rattle.std.proofs.Common.{◌+◌, ◌*◌, ◌^◌, ◌≤◌, ap, refl, arith, lit<, length, drop}
+use Rattle.std.proofs.lemmas.List.{take_rest, length-drop}
 use Rattle.std.proofs.lemmas.List.Sums.{prefix_len-le-length}
 use Rattle.atoi_core.specs.Digit.{is_digit}
 use Rattle.atoi_core.specs.declared.window.Window.{Window}
 use Rattle.atoi_core.proofs.WindowLemmas.{Reads, Shows, Shows-below, Reads-join_two}
 use Rattle.atoi_core.proofs.SkipLemmas.{Skipping-none, Skipping-more, Skipped, Skipped-end, Skipped-loads, shows_behind}
-use Rattle.atoi_core.proofs.WideLemmas.{wide_128, answers_empty, answers_short, answers_size, answers_overflow, answers_ok, answers_two, some_within, none_above}
+use Rattle.atoi_core.proofs.WideLemmas.{answers_empty, answers_short, answers_full, answers_two}
 use Rattle.atoi_core.proofs.engine.Engine.prefix_128.Goals as goal
 use Rattle.atoi_core.proofs.engine.Engine.prefix_128.Goals.{After-window-second, After-window_8-third}
 
@@ -32,7 +32,7 @@ pub returns-else-len-eq0-clause-answer : goal.returns-else-len-eq0-clause-answer
 returns-else-len-eq0-clause-answer g c =
     let so = Skipped-end _ g.met.Self.Engine.below_ten _ _ _ _ _ _ c.window-next.result
     c.loop-next.invariant c.window-next.ensures.window c.window-next.ensures.one_step c.then-not-skip.either in
-    answers_short _ _ _ _ _ _ _ _ _ _ _ _ wide_128 so c.if-first-lt16.true (omega arith) (lit< tt) c.requires.digits c.from.ensures refl
+    answers_short _ _ _ _ _ _ _ _ _ _ _ _ (lit< tt) so c.if-first-lt16.true (omega arith) (lit< tt) c.requires.digits c.from.ensures refl
 
 pub returns-else-len-eq0-clause-loads : goal.returns-else-len-eq0-clause-loads
 returns-else-len-eq0-clause-loads g c =
@@ -57,14 +57,11 @@ third : (g : _) (c : After-window_8-third g) → Shows g.Self.Engine.table 8 (dr
 third g c =
     shows_behind g.Self.Engine.table g.met.Self.Engine.below_ten 8 32 c.args.s.now c.loop-next.at c.window_8-third.result c.window_8-third.ensures.window
 
--- the number of two full windows and a third
-abbrev joined_number : (front middle back : Window) → ℕ
-joined_number front middle back = front.number * 10 ^ (16 + back.len) + (middle.number * 10 ^ back.len + back.number)
-
 -- what three windows read together
 read_three : (g : _) (c : After-window-second g) → 16 ≤ c.window-second.result.len
     → (last : Window) → Shows g.Self.Engine.table 8 (drop 32 (drop c.loop-next.at c.args.s.now)) last
-    → Reads g.Self.Engine.table 40 (drop c.loop-next.at c.args.s.now) (32 + last.len) (joined_number c.window-next.result c.window-second.result last)
+    → Reads g.Self.Engine.table 40 (drop c.loop-next.at c.args.s.now) (32 + last.len) 
+    (c.window-next.result.number * 10 ^ (16 + last.len) + (c.window-second.result.number * 10 ^ last.len + last.number))
 read_three g c more last back =
     Reads-join_two g.Self.Engine.table (drop c.loop-next.at c.args.s.now) c.window-next.result c.window-second.result last.len last.number
     (ended g c).shown c.if-first-lt16.false (middle g c) more back.reads
@@ -96,61 +93,33 @@ slice_bounds-window_8-start g c =
     let long = two_long g (goal.at.slice_bounds-window_8-start g c).After-window-second c.if-second-lt16.false in
     rw (take_rest c.args.s.now c.loop-next.at) long
 
-pub returns-then-third-eq8-clause-answer : goal.returns-then-third-eq8-clause-answer
-returns-then-third-eq8-clause-answer g c =
-    let at = goal.at.returns-then-third-eq8-clause-answer g c in
-    let two = at.After-window-second in
-    let reads = read_three g two c.if-second-lt16.false c.window_8-third.result (third g at.After-window_8-third) in
-    answers_size _ _ c.args.bound 39 _ _ _ _ _ _ _ _ _ _ wide_128 (ended g two) c.if-first-lt16.false reads (omega arith)
-    (omega arith) (take_rest c.args.s.now c.loop-next.at)
+pub answer_128-requires-clause-first_high : goal.answer_128-requires-clause-first_high
+answer_128-requires-clause-first_high g c =
+    Shows-below _ _ _ _ (ended g (goal.at.answer_128-requires-clause-first_high g c).After-window-second).shown
 
-pub returns-then-third-eq8-clause-loads : goal.returns-then-third-eq8-clause-loads
-returns-then-third-eq8-clause-loads g c =
-    Skipped-loads _ _ _ _ _ _ _ _ _ (ended g (goal.at.returns-then-third-eq8-clause-loads g c).After-window-second)
-    2 (omega (arith, c.window-second.ensures.one_step, c.window_8-third.ensures.one_step)) (omega arith)
+pub answer_128-requires-clause-second_high : goal.answer_128-requires-clause-second_high
+answer_128-requires-clause-second_high g c =
+    Shows-below _ _ _ _ (middle g (goal.at.answer_128-requires-clause-second_high g c).After-window-second)
 
-pub joined_128-requires-clause-front_high : goal.joined_128-requires-clause-front_high
-joined_128-requires-clause-front_high g c =
-    Shows-below _ _ _ _ (ended g (goal.at.joined_128-requires-clause-front_high g c).After-window-second).shown
+pub answer_128-requires-clause-third_short : goal.answer_128-requires-clause-third_short
+answer_128-requires-clause-third_short g c = (third g (goal.at.answer_128-requires-clause-third_short g c).After-window_8-third).reads.within
 
-pub joined_128-requires-clause-middle_high : goal.joined_128-requires-clause-middle_high
-joined_128-requires-clause-middle_high g c =
-    Shows-below _ _ _ _ (middle g (goal.at.joined_128-requires-clause-middle_high g c).After-window-second)
+pub answer_128-requires-clause-third_high : goal.answer_128-requires-clause-third_high
+answer_128-requires-clause-third_high g c = (third g (goal.at.answer_128-requires-clause-third_high g c).After-window_8-third).reads.below
 
-pub joined_128-requires-clause-back_short : goal.joined_128-requires-clause-back_short
-joined_128-requires-clause-back_short g c =
-    omega (arith, (third g (goal.at.joined_128-requires-clause-back_short g c).After-window_8-third).reads.within)
+pub answer_128-requires-clause-inside : goal.answer_128-requires-clause-inside
+answer_128-requires-clause-inside g c =
+    let at = goal.at.answer_128-requires-clause-inside g c in
+    omega (arith, (read_three g at.After-window-second c.if-second-lt16.false c.window_8-third.result (third g at.After-window_8-third)).inside, (ended g at.After-window-second).within,
+    prefix_len-le-length (is_digit g.Self.Engine.table) (drop c.loop-next.at c.args.s.now), length-drop c.loop-next.at c.args.s.now)
 
-pub joined_128-requires-clause-back_high : goal.joined_128-requires-clause-back_high
-joined_128-requires-clause-back_high g c =
-    (third g (goal.at.joined_128-requires-clause-back_high g c).After-window_8-third).reads.below
+pub returns-clause-answer : goal.returns-clause-answer
+returns-clause-answer g c =
+    let at = goal.at.returns-clause-answer g c in
+    answers_full _ _ _ _ _ _ _ _ _ _ _ _ _ (lit< tt) (ended g at.After-window-second) c.if-first-lt16.false
+    (read_three g at.After-window-second c.if-second-lt16.false c.window_8-third.result (third g at.After-window_8-third)) c.answer_128.ensures
 
-pub returns-in-Some-clause-answer : goal.returns-in-Some-clause-answer
-returns-in-Some-clause-answer g c =
-    let at = goal.at.returns-in-Some-clause-answer g c in
-    let two = at.After-window-second in
-    let back = third g at.After-window_8-third in
-    let reads = read_three g two c.if-second-lt16.false c.window_8-third.result back in
-    let told = some_within c.args.bound (joined_number c.window-next.result c.window-second.result c.window_8-third.result) c.in-Some.number _ c.in-Some.is c.joined_128.ensures in
-    answers_ok _ _ _ 39 _ _ _ _ _ _ _ _ _ _ wide_128 (ended g two) c.if-first-lt16.false reads (omega (arith, back.reads.within)) (lit< tt) told.1
-    told.0 (omega arith)
-
-pub returns-in-Some-clause-loads : goal.returns-in-Some-clause-loads
-returns-in-Some-clause-loads g c =
-    Skipped-loads _ _ _ _ _ _ _ _ _ (ended g (goal.at.returns-in-Some-clause-loads g c).After-window-second)
-    2 (omega (arith, c.window-second.ensures.one_step, c.window_8-third.ensures.one_step)) (omega arith)
-
-pub returns-in-None-clause-answer : goal.returns-in-None-clause-answer
-returns-in-None-clause-answer g c =
-    let at = goal.at.returns-in-None-clause-answer g c in
-    let two = at.After-window-second in
-    let back = third g at.After-window_8-third in
-    let reads = read_three g two c.if-second-lt16.false c.window_8-third.result back in
-    let over = none_above c.args.bound (joined_number c.window-next.result c.window-second.result c.window_8-third.result) _ c.in-None.is c.joined_128.ensures in
-    answers_overflow _ _ _ 39 _ _ _ _ _ _ _ _ _ wide_128 (ended g two) c.if-first-lt16.false reads (omega (arith, back.reads.within)) (lit< tt) over
-    (take_rest c.args.s.now c.loop-next.at)
-
-pub returns-in-None-clause-loads : goal.returns-in-None-clause-loads
-returns-in-None-clause-loads g c =
-    Skipped-loads _ _ _ _ _ _ _ _ _ (ended g (goal.at.returns-in-None-clause-loads g c).After-window-second)
+pub returns-clause-loads : goal.returns-clause-loads
+returns-clause-loads g c =
+    Skipped-loads _ _ _ _ _ _ _ _ _ (ended g (goal.at.returns-clause-loads g c).After-window-second)
     2 (omega (arith, c.window-second.ensures.one_step, c.window_8-third.ensures.one_step)) (omega arith)

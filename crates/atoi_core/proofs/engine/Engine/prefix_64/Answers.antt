@@ -1,5 +1,5 @@
 -- The loop leaves what `Skipped` says; the answers and the loads follow from it.
-use Rattle.std.proofs.Common.{◌+◌, ◌-◌, ◌*◌, ◌^◌, ◌∙◌, refl, arith, drop}
+use Rattle.std.proofs.Common.{◌+◌, ◌-◌, ◌*◌, ◌^◌, refl, arith, drop}
 use Rattle.std.proofs.lemmas.List.{length-drop}
 use Rattle.std.proofs.lemmas.List.Sums.{prefix_len-le-length}
 use Rattle.atoi_core.specs.Digit.{is_digit}
@@ -7,7 +7,7 @@ use Rattle.atoi_core.specs.Loads.{LoadsWithin, most_loads}
 use Rattle.atoi_core.specs.Magnitude.{wide64}
 use Rattle.atoi_core.proofs.WindowLemmas.{Reads, Shows, Shows-below, Reads-join}
 use Rattle.atoi_core.proofs.SkipLemmas.{Skipping-none, Skipping-more, Skipped, Skipped-end, Skipped-loads, shows_behind}
-use Rattle.atoi_core.proofs.WideLemmas.{wide_64, answers_empty, answers_short, answers_full}
+use Rattle.atoi_core.proofs.WideLemmas.{answers_empty, answers_short, answers_full}
 use Rattle.atoi_core.proofs.engine.Engine.prefix_64.Goals as goal
 use Rattle.atoi_core.proofs.engine.Engine.prefix_64.Goals.{After-window_8-back}
 
@@ -33,7 +33,7 @@ pub returns-else-len-eq0-clause-answer : goal.returns-else-len-eq0-clause-answer
 returns-else-len-eq0-clause-answer g c =
     let so = Skipped-end _ g.met.Self.Engine.below_ten _ _ _ _ _ _ c.window-window.result
     c.loop-window.invariant c.window-window.ensures.window c.window-window.ensures.one_step c.then-not-skip.either in
-    answers_short _ _ _ _ _ _ _ _ _ _ _ _ wide_64 so c.if-front-lt16.true (omega arith) (omega arith) c.requires.digits refl refl
+    answers_short _ _ _ _ _ _ _ _ _ _ _ _ (omega arith) so c.if-front-lt16.true (omega arith) (omega arith) c.requires.digits refl refl
 
 pub returns-else-len-eq0-clause-loads : goal.returns-else-len-eq0-clause-loads
 returns-else-len-eq0-clause-loads g c =
@@ -85,7 +85,7 @@ answer_64-requires-clause-inside g c =
 pub returns-clause-answer : goal.returns-clause-answer
 returns-clause-answer g c =
     let both = (goal.at.returns-clause-answer g c).After-window_8-back in
-    c.answer_64.ensures ∙ answers_full _ _ _ _ _ _ _ _ _ _ _ (ended g both) c.if-front-lt16.false (read g both) (omega arith) c.requires.limit_high
+    answers_full _ _ _ _ _ _ _ _ _ _ _ _ _ (omega arith) (ended g both) c.if-front-lt16.false (read g both) c.answer_64.ensures
 
 pub returns-clause-loads : goal.returns-clause-loads
 returns-clause-loads g c = loads g (goal.at.returns-clause-loads g c).After-window_8-back

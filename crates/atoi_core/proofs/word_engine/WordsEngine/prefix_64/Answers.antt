@@ -1,10 +1,10 @@
 -- A first window that tells no zeros to skip is the last one of those that skip; the answers follow from it.
-use Rattle.std.proofs.Common.{◌≡◌, ◌⊎◌, ◌+◌, ◌*◌, ◌^◌, ◌≤◌, true, false, inl, inr, refl, ◌∙◌, arith, drop}
+use Rattle.std.proofs.Common.{◌≡◌, ◌⊎◌, ◌+◌, ◌*◌, ◌^◌, ◌≤◌, true, false, inl, inr, refl, arith, drop}
 use Rattle.std.proofs.lemmas.List.Sums.{prefix_len-le-length}
 use Rattle.atoi_core.specs.Digit.{decimal_table, is_digit}
 use Rattle.atoi_core.proofs.Digits.{decimal_below_ten}
 use Rattle.atoi_core.proofs.SkipLemmas.{Skipped, Skipped-at_once, Skipped-loads}
-use Rattle.atoi_core.proofs.WideLemmas.{wide_64, answers_empty, answers_short, answers_full}
+use Rattle.atoi_core.proofs.WideLemmas.{answers_empty, answers_short, answers_full}
 use Rattle.atoi_core.proofs.WindowLemmas.{Reads, Shows, Shows-below, Reads-join, shows}
 use Rattle.atoi_core.proofs.word_engine.WordsEngine.prefix_64.Goals as goal
 use Rattle.atoi_core.proofs.word_engine.WordsEngine.prefix_64.Goals.{After-window-front, After-window_from_16}
@@ -24,7 +24,7 @@ returns-then-front-eq0-clause-answer c =
 pub returns-then-front-lt16-clause-answer : goal.returns-then-front-lt16-clause-answer
 returns-then-front-lt16-clause-answer c =
     let so = last (goal.at.returns-then-front-lt16-clause-answer c).After-window-front c.else-skip.either in
-    answers_short _ _ c.args.bound c.args.limit _ _ 0 _ _ _ _ _ wide_64 so c.if-front-lt16.true (omega arith) (omega arith) c.requires.digits refl (omega arith)
+    answers_short _ _ c.args.bound c.args.limit _ _ 0 _ _ _ _ _ (omega arith) so c.if-front-lt16.true (omega arith) (omega arith) c.requires.digits refl (omega arith)
 
 pub returns-then-front-lt16-clause-loads : goal.returns-then-front-lt16-clause-loads
 returns-then-front-lt16-clause-loads c =
@@ -68,7 +68,7 @@ pub returns-else-front-lt16-clause-answer : goal.returns-else-front-lt16-clause-
 returns-else-front-lt16-clause-answer c =
     let both = (goal.at.returns-else-front-lt16-clause-answer c).After-window_from_16 in
     let so = last (goal.at.returns-else-front-lt16-clause-answer c).After-window-front c.else-skip.either in
-    c.answer_64.ensures ∙ answers_full _ _ _ _ _ _ _ _ _ _ _ so c.if-front-lt16.false (read both c.if-front-lt16.false so) (omega arith) c.requires.limit_high
+    answers_full _ _ _ _ _ _ _ _ _ _ _ _ _ (omega arith) so c.if-front-lt16.false (read both c.if-front-lt16.false so) c.answer_64.ensures
 
 pub returns-else-front-lt16-clause-loads : goal.returns-else-front-lt16-clause-loads
 returns-else-front-lt16-clause-loads c =
