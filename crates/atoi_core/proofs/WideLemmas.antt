@@ -92,5 +92,10 @@ answers_two t bound skip s at before now first second number len so full behind 
     let wide = Reads-widen t 32 40 (drop at s) (16 + second.len) _ reads (omega arith) (omega arith) in
     let less = below_bound 39 bound (16 + second.len) _ digits (omega arith) reads.below in
     answers_full t wide128 bound 39 skip s at before now first _ _ _ (lit< tt) so full wide
-    (rw (number_is, len_is, ne_eqb (at + (16 + second.len)) 0 (omega arith), le-ltb 39 (16 + second.len) (omega arith),
-    le-ltb bound (first.number * 10 ^ second.len + second.number) (omega arith)) refl)
+    (rw (
+      number_is,
+      len_is,
+      ne_eqb (at + (16 + second.len)) 0 (omega arith),
+      le-ltb 39 (16 + second.len) (omega arith),
+      le-ltb bound (first.number * 10 ^ second.len + second.number) (omega arith),
+    ) refl)

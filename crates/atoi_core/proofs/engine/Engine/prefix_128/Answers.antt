@@ -60,7 +60,7 @@ third g c =
 -- what three windows read together
 read_three : (g : _) (c : After-window-second g) → 16 ≤ c.window-second.result.len
     → (last : Window) → Shows g.Self.Engine.table 8 (drop 32 (drop c.loop-next.at c.args.s.now)) last
-    → Reads g.Self.Engine.table 40 (drop c.loop-next.at c.args.s.now) (32 + last.len) 
+    → Reads g.Self.Engine.table 40 (drop c.loop-next.at c.args.s.now) (32 + last.len)
     (c.window-next.result.number * 10 ^ (16 + last.len) + (c.window-second.result.number * 10 ^ last.len + last.number))
 read_three g c more last back =
     Reads-join_two g.Self.Engine.table (drop c.loop-next.at c.args.s.now) c.window-next.result c.window-second.result last.len last.number
@@ -110,8 +110,13 @@ answer_128-requires-clause-third_high g c = (third g (goal.at.answer_128-require
 pub answer_128-requires-clause-inside : goal.answer_128-requires-clause-inside
 answer_128-requires-clause-inside g c =
     let at = goal.at.answer_128-requires-clause-inside g c in
-    omega (arith, (read_three g at.After-window-second c.if-second-lt16.false c.window_8-third.result (third g at.After-window_8-third)).inside, (ended g at.After-window-second).within,
-    prefix_len-le-length (is_digit g.Self.Engine.table) (drop c.loop-next.at c.args.s.now), length-drop c.loop-next.at c.args.s.now)
+    omega (
+      arith,
+      (read_three g at.After-window-second c.if-second-lt16.false c.window_8-third.result (third g at.After-window_8-third)).inside,
+      (ended g at.After-window-second).within,
+      prefix_len-le-length (is_digit g.Self.Engine.table) (drop c.loop-next.at c.args.s.now),
+      length-drop c.loop-next.at c.args.s.now,
+    )
 
 pub returns-clause-answer : goal.returns-clause-answer
 returns-clause-answer g c =
