@@ -127,8 +127,8 @@ fn up_to_64(bound: u64, high: u64, power: u64, low: u64) -> Option<u64>
     }
 }
 
-// The number of the digits of a full window and of `back` behind it, where that is at most `bound`;
-// else none. There are at most `limit` digits, and `bound` has that many.
+// The number of the digits of a full window and of `back` behind it, where that is at most `bound`,
+// which has `limit` digits; else none. Fewer digits are never above it.
 fn joined_64(bound: u64, limit: u32, front: u64, back: Window) -> Option<u64>
     requires digits { HasDigits limit bound }
     requires front_high { front < 10 ^ 16 }

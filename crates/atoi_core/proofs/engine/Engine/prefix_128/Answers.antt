@@ -93,30 +93,20 @@ slice_bounds-window_8-start g c =
     let long = two_long g (goal.at.slice_bounds-window_8-start g c).After-window-second c.if-second-lt16.false in
     rw (take_rest c.args.s.now c.loop-next.at) long
 
-pub answer_128-requires-clause-first_high : goal.answer_128-requires-clause-first_high
-answer_128-requires-clause-first_high g c =
-    Shows-below _ _ _ _ (ended g (goal.at.answer_128-requires-clause-first_high g c).After-window-second).shown
-
-pub answer_128-requires-clause-second_high : goal.answer_128-requires-clause-second_high
-answer_128-requires-clause-second_high g c =
-    Shows-below _ _ _ _ (middle g (goal.at.answer_128-requires-clause-second_high g c).After-window-second)
-
-pub answer_128-requires-clause-third_short : goal.answer_128-requires-clause-third_short
-answer_128-requires-clause-third_short g c = (third g (goal.at.answer_128-requires-clause-third_short g c).After-window_8-third).reads.within
-
-pub answer_128-requires-clause-third_high : goal.answer_128-requires-clause-third_high
-answer_128-requires-clause-third_high g c = (third g (goal.at.answer_128-requires-clause-third_high g c).After-window_8-third).reads.below
-
-pub answer_128-requires-clause-inside : goal.answer_128-requires-clause-inside
-answer_128-requires-clause-inside g c =
-    let at = goal.at.answer_128-requires-clause-inside g c in
-    omega (
-      arith,
-      (read_three g at.After-window-second c.if-second-lt16.false c.window_8-third.result (third g at.After-window_8-third)).inside,
-      (ended g at.After-window-second).within,
-      prefix_len-le-length (is_digit g.Self.Engine.table) (drop c.loop-next.at c.args.s.now),
-      length-drop c.loop-next.at c.args.s.now,
-    )
+pub answer_128-requires : goal.answer_128-requires
+answer_128-requires g c =
+    let at = goal.at.answer_128-requires g c in
+    let front = ended g at.After-window-second in
+    let back = third g at.After-window_8-third in
+    let read = read_three g at.After-window-second c.if-second-lt16.false c.window_8-third.result back in
+    record {
+      digits = c.requires.digits;
+      first_high = Shows-below _ _ _ _ front.shown;
+      second_high = Shows-below _ _ _ _ (middle g at.After-window-second);
+      third_short = back.reads.within;
+      third_high = back.reads.below;
+      inside = omega (arith, read.inside, front.within, prefix_len-le-length (is_digit g.Self.Engine.table) (drop c.loop-next.at c.args.s.now), length-drop c.loop-next.at c.args.s.now);
+    }
 
 pub returns-clause-answer : goal.returns-clause-answer
 returns-clause-answer g c =

@@ -66,21 +66,18 @@ loads : (g : _) (c : After-window_8-back g)
     → LoadsWithin (most_loads g.Self.Engine.table wide64 c.args.s.now - 1) g.Self.Engine.table c.args.skip c.args.s.now c.args.steps.now c.window_8-back.new.steps
 loads g c = Skipped-loads _ _ _ _ _ _ _ _ _ (ended g c) 1 (omega (arith, c.window_8-back.ensures.one_step)) (omega arith)
 
-pub answer_64-requires-clause-front_high : goal.answer_64-requires-clause-front_high
-answer_64-requires-clause-front_high g c =
-    let both = (goal.at.answer_64-requires-clause-front_high g c).After-window_8-back in
-    Shows-below _ _ _ _ (ended g both).shown
-
-pub answer_64-requires-clause-back_short : goal.answer_64-requires-clause-back_short
-answer_64-requires-clause-back_short g c = (behind g (goal.at.answer_64-requires-clause-back_short g c).After-window_8-back).reads.within
-
-pub answer_64-requires-clause-back_high : goal.answer_64-requires-clause-back_high
-answer_64-requires-clause-back_high g c = (behind g (goal.at.answer_64-requires-clause-back_high g c).After-window_8-back).reads.below
-
-pub answer_64-requires-clause-inside : goal.answer_64-requires-clause-inside
-answer_64-requires-clause-inside g c =
-    let both = (goal.at.answer_64-requires-clause-inside g c).After-window_8-back in
-    omega (arith, (read g both).inside, (ended g both).within, prefix_len-le-length (is_digit g.Self.Engine.table) (drop c.loop-window.at c.args.s.now), length-drop c.loop-window.at c.args.s.now)
+pub answer_64-requires : goal.answer_64-requires
+answer_64-requires g c =
+    let both = (goal.at.answer_64-requires g c).After-window_8-back in
+    let front = ended g both in
+    let back = behind g both in
+    record {
+      digits = c.requires.digits;
+      front_high = Shows-below _ _ _ _ front.shown;
+      back_short = back.reads.within;
+      back_high = back.reads.below;
+      inside = omega (arith, (read g both).inside, front.within, prefix_len-le-length (is_digit g.Self.Engine.table) (drop c.loop-window.at c.args.s.now), length-drop c.loop-window.at c.args.s.now);
+    }
 
 pub returns-clause-answer : goal.returns-clause-answer
 returns-clause-answer g c =
