@@ -186,9 +186,3 @@ Skipped-first t below skip s before next w e one short =
     let stops : (skip ≡ false) ⊎ ((skip ≡ true) × (w.zeroes ≡ 0)) =
     elim skip as (λ b. (b ≡ false) ⊎ ((b ≡ true) × (w.zeroes ≡ 0))) [ true ↦ inr (refl, none) | false ↦ inl refl ] in
     Skipped-at_once t below skip s before next w e one stops
-
--- a window of fewer than 16 bytes is not full
-pub few_bytes_short : (t : Table) → IsBelowTen t → (s : List ℕ) (w : Window) → w ≡ window_of t 16 s → length s < 16 → w.len < 16
-few_bytes_short t below s w e few =
-    let tell : Shows t 16 s w = shows t below 16 s w e in
-    omega (arith, tell.reads.inside, prefix_len-le-length (is_digit t) s)
