@@ -60,10 +60,10 @@ accepted_of_sign k false table extent skip s h within = accepted_by_both table (
 
 -- and refuses what it refuses
 refused_of_sign : (k : Kind) (minus : Bool) (table : Table) (extent : Extent) (skip : Bool) (s : List ℕ) (reason : Refusal)
-    → refusal table (class_of k) (bound_of k true) (limit_of k) extent skip s ≡ Some reason → (minus ≡ false → number_in reason ≤ k.greatest)
+    → refusal table (class_of k) (bound_of k true) (limit_of k) extent skip s ≡ Some reason → number_in reason ≤ k.greatest
     → refusal table (class_of k) (bound_of k minus) (limit_of k) extent skip s ≡ Some reason
 refused_of_sign k true table extent skip s reason h within = h
-refused_of_sign k false table extent skip s reason h within = refused_by_both table (class_of k) k.greatest (limit_of k) extent skip s reason h (within refl)
+refused_of_sign k false table extent skip s reason h within = refused_by_both table (class_of k) k.greatest (limit_of k) extent skip s reason h within
 
 module _ (k : Kind) (minus : Bool) where
   -- a whole slice whose number is in range
@@ -74,7 +74,7 @@ module _ (k : Kind) (minus : Bool) where
       rw (accepted_of_sign k minus table whole skip s both.0 number.1) (ap Ok number.0)
 
   -- a whole slice that is refused
-  pub whole_err : (reason : Refusal) → (minus ≡ false → number_in reason ≤ k.greatest) → IsWholeOfSign k minus (Err reason) (Err reason)
+  pub whole_err : (reason : Refusal) → number_in reason ≤ k.greatest → IsWholeOfSign k minus (Err reason) (Err reason)
   whole_err reason within table skip s h =
       rw (refused_of_sign k minus table whole skip s reason (map_unless_err (number_of true) _ _ reason (sym h)) within) refl
 
@@ -87,6 +87,6 @@ module _ (k : Kind) (minus : Bool) where
       rw (accepted_of_sign k minus table prefix skip s both.0 number.1) (ap₂ (λ (n : ℤ) (m : ℕ). Ok (n, m)) number.0 count)
 
   -- a front that is refused
-  pub prefix_err : (reason : Refusal) → (minus ≡ false → number_in reason ≤ k.greatest) → IsPrefixOfSign k minus (Err reason) (Err reason)
+  pub prefix_err : (reason : Refusal) → number_in reason ≤ k.greatest → IsPrefixOfSign k minus (Err reason) (Err reason)
   prefix_err reason within table skip s h =
       rw (refused_of_sign k minus table prefix skip s reason (map_unless_err (counted_number true) _ _ reason (sym h)) within) refl

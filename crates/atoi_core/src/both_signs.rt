@@ -1,6 +1,6 @@
 //! One parse for both signs: what digits answer with any sign, from their answer behind a minus. It
 //! uses `error` and `number`.
-ghost use Rattle.std.specs.Prelude.{◌≡◌, ◌≤◌, ℕ, true, false, None, IfOk, IfSome};
+ghost use Rattle.std.specs.Prelude.{◌≡◌, ◌≤◌, ℕ, true, IfOk, IfSome};
 ghost use Rattle.atoi_core.specs.Answer.{typed_answer, typed_prefix_answer};
 ghost use Rattle.atoi_core.specs.BothSigns.{IsOfSign, number_in, IsWholeOfSign, IsPrefixOfSign};
 ghost use Rattle.atoi_core.specs.Refusal.{refusal_of};
@@ -11,8 +11,8 @@ use crate::number::Signed;
 /// The answer for a whole slice of digits with the sign `minus`, from `negative`, their answer
 /// behind a minus.
 ///
-/// It is none where the sign decides whether the number is in range: at the magnitude of the least
-/// number of `T`, without a minus. That slice is to be parsed again, as one without a sign.
+/// It is none where the magnitude is that of the least number of `T`, which only a minus allows: such
+/// a slice is to be parsed again, by its sign.
 #[inline(always)]
 pub fn whole_of_sign<'a, T: Signed>(
     minus: bool,
@@ -20,14 +20,13 @@ pub fn whole_of_sign<'a, T: Signed>(
 ) -> Option<Result<T, AtoiSimdError<'a>>>
     ensures answer { IfSome result (λ either. IsWholeOfSign T.kind minus
         (typed_answer T.number negative.entry) (typed_answer T.number either)) }
-    ensures open { result ≡ None → minus ≡ false }
 {
     match negative {
         Ok(number) => match with_sign_of(minus, number) {
             Some(number) => Some(Ok(number)),
             None => None,
         },
-        Err(error) if is_of_both::<T>(minus, error) => Some(Err(error)),
+        Err(error) if is_of_both::<T>(error) => Some(Err(error)),
         Err(_) => None,
     }
 }
@@ -42,14 +41,13 @@ pub fn prefix_of_sign<'a, T: Signed>(
         (typed_prefix_answer T.number negative.entry) (typed_prefix_answer T.number either)) }
     ensures within { (room : ℕ) → IfOk negative.entry (λ found. found.1 ≤ room)
         → IfSome result (λ either. IfOk either (λ found. found.1 ≤ room)) }
-    ensures open { result ≡ None → minus ≡ false }
 {
     match negative {
         Ok(found) => match with_sign_of(minus, found.0) {
             Some(number) => Some(Ok((number, found.1))),
             None => None,
         },
-        Err(error) if is_of_both::<T>(minus, error) => Some(Err(error)),
+        Err(error) if is_of_both::<T>(error) => Some(Err(error)),
         Err(_) => None,
     }
 }
@@ -57,11 +55,11 @@ pub fn prefix_of_sign<'a, T: Signed>(
 // The number with the sign `minus`, from the same digits behind a minus; none where it is above the
 // greatest. The sign is data here: no branch depends on it.
 fn with_sign_of<T: Signed>(minus: bool, negative: T) -> Option<T>
-    ensures of_sign { IfSome result (λ either. IsOfSign T.kind minus (T.number negative) (T.number either)) }
-    ensures open { result ≡ None → minus ≡ false }
+    ensures { IfSome result (λ either.
+        IsOfSign T.kind minus (T.number negative) (T.number either)) }
 {
     let (_, magnitude) = negative.parts();
-    if magnitude > T::GREATEST && !minus {
+    if magnitude > T::GREATEST {
         None
     } else if minus {
         Some(negative)
@@ -70,16 +68,14 @@ fn with_sign_of<T: Signed>(minus: bool, negative: T) -> Option<T>
     }
 }
 
-// Whether an error behind a minus is also that of the same digits with the sign `minus`: it carries
-// no number, or one that is at most the greatest.
-fn is_of_both<T: Signed>(minus: bool, error: AtoiSimdError<'_>) -> bool
-    ensures behind_minus { minus ≡ true → result ≡ true }
-    ensures in_range { result ≡ true → minus ≡ false → number_in (refusal_of error.entry) ≤ T.kind.greatest }
+// Whether an error behind a minus is that of the same digits with any sign: it carries no number, or
+// one that is at most the greatest.
+fn is_of_both<T: Signed>(error: AtoiSimdError<'_>) -> bool
+    ensures { result ≡ true → number_in (refusal_of error.entry) ≤ T.kind.greatest }
 {
-    minus
-        || match error {
-            AtoiSimdError::Invalid64(number, _, _) => u128::from(number) <= T::GREATEST,
-            AtoiSimdError::Invalid128(number, _, _) => number <= T::GREATEST,
-            _ => true,
-        }
+    match error {
+        AtoiSimdError::Invalid64(number, _, _) => u128::from(number) <= T::GREATEST,
+        AtoiSimdError::Invalid128(number, _, _) => number <= T::GREATEST,
+        _ => true,
+    }
 }

@@ -1,6 +1,6 @@
 //! `Parse` and its twelve types: a number with the sign that may stand before it. It uses
 //! `ParsePos`, `ParseNeg` and the sign of `atoi_core`.
-ghost use Rattle.std.specs.Prelude.{◌≡◌, ◌≤◌, false, IfOk, length};
+ghost use Rattle.std.specs.Prelude.{◌≡◌, ◌≤◌, IfOk, length};
 ghost use Rattle.atoi_core.specs.Answer.{typed_answer, typed_prefix_answer, whole_answer, prefix_answer, parse_answer, parse_prefix_answer};
 ghost use Rattle.atoi_core.specs.Digit.{decimal_table};
 
@@ -68,7 +68,7 @@ fn either_sign<T: ParseNeg + ParsePos>(
 {
     match whole_of_sign(minus, T::atoi_simd_parse_neg(s, skip_zeroes)) {
         Some(answer) => answer,
-        None => one_above(s, skip_zeroes),
+        None => by_sign(minus, s, skip_zeroes),
     }
 }
 
@@ -85,30 +85,43 @@ fn either_sign_prefix<T: ParseNeg + ParsePos>(
 {
     match prefix_of_sign(minus, T::atoi_simd_parse_prefix_neg(s, skip_zeroes)) {
         Some(answer) => answer,
-        None => one_above_prefix(s, skip_zeroes),
+        None => by_sign_prefix(minus, s, skip_zeroes),
     }
 }
 
-// What is left to refuse: the number one above the greatest of `T`, without a minus.
+// The whole of `s`, by the parse of its sign: for the magnitude of the least number of `T`.
 #[inline(never)]
-fn one_above<T: ParsePos>(s: &[u8], skip_zeroes: bool) -> Result<T, AtoiSimdError<'_>>
+fn by_sign<T: ParseNeg + ParsePos>(
+    minus: bool,
+    s: &[u8],
+    skip_zeroes: bool,
+) -> Result<T, AtoiSimdError<'_>>
     ensures answer { typed_answer T.number result
-        ≡ whole_answer decimal_table T.kind false skip_zeroes s.now }
+        ≡ whole_answer decimal_table T.kind minus skip_zeroes s.now }
 {
-    T::atoi_simd_parse_pos(s, skip_zeroes)
+    if minus {
+        T::atoi_simd_parse_neg(s, skip_zeroes)
+    } else {
+        T::atoi_simd_parse_pos(s, skip_zeroes)
+    }
 }
 
-// The same at the front of a slice.
+// The same of the front of `s`.
 #[inline(never)]
-fn one_above_prefix<T: ParsePos>(
+fn by_sign_prefix<T: ParseNeg + ParsePos>(
+    minus: bool,
     s: &[u8],
     skip_zeroes: bool,
 ) -> Result<(T, usize), AtoiSimdError<'_>>
     ensures answer { typed_prefix_answer T.number result
-        ≡ prefix_answer decimal_table T.kind false skip_zeroes s.now }
+        ≡ prefix_answer decimal_table T.kind minus skip_zeroes s.now }
     ensures within { IfOk result (λ found. found.1 ≤ length s.now) }
 {
-    T::atoi_simd_parse_prefix_pos(s, skip_zeroes)
+    if minus {
+        T::atoi_simd_parse_prefix_neg(s, skip_zeroes)
+    } else {
+        T::atoi_simd_parse_prefix_pos(s, skip_zeroes)
+    }
 }
 
 impl Parse for u8 {
