@@ -68,7 +68,7 @@ fn either_sign<T: ParseNeg + ParsePos>(
 {
     match whole_of_sign(minus, T::atoi_simd_parse_neg(s, skip_zeroes)) {
         Some(answer) => answer,
-        None => by_sign(minus, s, skip_zeroes),
+        None => called_by_sign(minus, s, skip_zeroes),
     }
 }
 
@@ -85,7 +85,41 @@ fn either_sign_prefix<T: ParseNeg + ParsePos>(
 {
     match prefix_of_sign(minus, T::atoi_simd_parse_prefix_neg(s, skip_zeroes)) {
         Some(answer) => answer,
-        None => by_sign_prefix(minus, s, skip_zeroes),
+        None => called_by_sign_prefix(minus, s, skip_zeroes),
+    }
+}
+
+// The call of `by_sign`, in a function of its own: the place of its result is then cleared only where
+// the call is made.
+#[inline(always)]
+fn called_by_sign<T: ParseNeg + ParsePos>(
+    minus: bool,
+    s: &[u8],
+    skip_zeroes: bool,
+) -> Result<T, AtoiSimdError<'_>>
+    ensures answer { typed_answer T.number result
+        ≡ whole_answer decimal_table T.kind minus skip_zeroes s.now }
+{
+    match by_sign(minus, s, skip_zeroes) {
+        Ok(number) => Ok(number),
+        Err(error) => Err(error),
+    }
+}
+
+// The same of `by_sign_prefix`.
+#[inline(always)]
+fn called_by_sign_prefix<T: ParseNeg + ParsePos>(
+    minus: bool,
+    s: &[u8],
+    skip_zeroes: bool,
+) -> Result<(T, usize), AtoiSimdError<'_>>
+    ensures answer { typed_prefix_answer T.number result
+        ≡ prefix_answer decimal_table T.kind minus skip_zeroes s.now }
+    ensures within { IfOk result (λ found. found.1 ≤ length s.now) }
+{
+    match by_sign_prefix(minus, s, skip_zeroes) {
+        Ok(found) => Ok(found),
+        Err(error) => Err(error),
     }
 }
 
