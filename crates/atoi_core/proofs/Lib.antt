@@ -37,3 +37,4 @@ pub mod WholeLemmas
 pub mod ReadingLemmas
 pub mod FilledWords
 pub mod ShortRuns
+pub mod SignsAgree

@@ -76,6 +76,13 @@ narrow_overflow t bound limit skip s at before now w so few some over =
     rw (refused_overflow t narrow bound limit prefix skip s digits (short t skip limit s few) above)
     (rw (dropped_is t skip limit s at before now w so) refl)
 
+-- a first window full of digits that tells no zeros is above the bound
+pub narrow_full : (t : Table) (bound limit : ℕ) (s : List ℕ) (before now : ℕ) (w : Window) →
+    Skipped t true s 0 before now w → bound ≤ 4294967295 → 16 ≤ w.len → Err (overflow s) ≡ prefix_magnitude t narrow bound limit true s
+narrow_full t bound limit s before now w so high full =
+    let least : 10 ^ 15 ≤ w.number = so.shown.least (omega (arith, so.shown.reads.within)) (lit< tt) (so.last refl) in
+    narrow_overflow t bound limit true s 0 before now w so (λ no. absurd (cc no)) (omega arith) (omega arith)
+
 -- a number within the bound
 narrow_ok : (t : Table) (bound limit : ℕ) (skip : Bool) (s : List ℕ) (at before now : ℕ) (w : Window) →
     Skipped t skip s at before now w → bound ≤ 4294967295 → (skip ≡ false → run_len t s ≤ 16) → 0 < at + w.len → w.number ≤ bound →

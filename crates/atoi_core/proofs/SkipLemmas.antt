@@ -167,12 +167,6 @@ Skipped-at_once t below skip s before next w e one stops =
     Skipped-end t below skip s 0 before before next w (Skipping-none t skip s before)
     (e ∙ ap (window_of t 16) (sym (take_rest s 0))) one stops
 
--- so it is where it tells no zeros that are skipped
-pub Skipped-kept : (t : Table) → IsBelowTen t → (skip : Bool) (s : List ℕ) (before : ℕ) (w : Window) →
-    w ≡ window_of t 16 s → (IsTrue skip → w.zeroes ≡ 0) → Skipped t skip s 0 before (before + 1) w
-Skipped-kept t below true s before w e kept = Skipped-at_once t below true s before (before + 1) w e refl (inr (refl, kept refl))
-Skipped-kept t below false s before w e kept = Skipped-at_once t below false s before (before + 1) w e refl (inl refl)
-
 -- one that is not full tells no zeros, and holds the whole run
 pub Skipped-first : (t : Table) → IsBelowTen t → (skip : Bool) (s : List ℕ) (before next : ℕ) (w : Window) →
     w ≡ window_of t 16 s → next ≡ before + 1 → w.len < 16 → Skipped t skip s 0 before next w
@@ -186,9 +180,3 @@ Skipped-first t below skip s before next w e one short =
     let stops : (skip ≡ false) ⊎ ((skip ≡ true) × (w.zeroes ≡ 0)) =
     elim skip as (λ b. (b ≡ false) ⊎ ((b ≡ true) × (w.zeroes ≡ 0))) [ true ↦ inr (refl, none) | false ↦ inl refl ] in
     Skipped-at_once t below skip s before next w e one stops
-
--- a window of fewer than 16 bytes is not full
-pub few_bytes_short : (t : Table) → IsBelowTen t → (s : List ℕ) (w : Window) → w ≡ window_of t 16 s → length s < 16 → w.len < 16
-few_bytes_short t below s w e few =
-    let tell : Shows t 16 s w = shows t below 16 s w e in
-    omega (arith, tell.reads.inside, prefix_len-le-length (is_digit t) s)

@@ -15,3 +15,4 @@ pub mod Window
 pub mod Reading
 pub mod Words
 pub mod Examples
+pub mod BothSigns

@@ -37,8 +37,6 @@ pub(crate) fn front_128<'a, E: Engine>(
         Err(AtoiSimdError::Empty)
     } else if window.len < 16 {
         Ok((u128::from(window.number), window.len as usize))
-    } else if skip && window.zeroes > 0 {
-        by_engine::<E>(bound, skip, s, steps)
     } else {
         second_128::<E>(bound, skip, window, s, steps)
     }
@@ -85,8 +83,7 @@ fn by_engine<'a, E: Engine>(
     out_of_line(E::prefix_128(bound, skip, s, steps))
 }
 
-// What `front_128` answers behind a first window that is full of digits and tells no zeros that are
-// skipped.
+// What `front_128` answers after a first window that is full of digits.
 #[inline(always)]
 fn second_128<'a, E: Engine>(
     bound: u128,
@@ -98,16 +95,16 @@ fn second_128<'a, E: Engine>(
     requires digits { HasDigits 39 bound }
     requires told { first ≡ window_of E.table 16 s.now }
     requires full { first.len ≡ 16 }
-    requires kept { IsTrue skip → first.zeroes ≡ 0 }
     ensures answer { answer_of result ≡ prefix_magnitude E.table wide128 bound 39 skip s.now }
     ensures loads { LoadsWithin (most_loads E.table wide128 s.now - 1) E.table skip s.now
         steps.old steps.new }
 {
-    let second = E::window(&s[16..], steps);
-    if second.len < 16 {
-        let high = u128::from(first.number) * u128::from(power_of_ten(second.len));
-        Ok((high + u128::from(second.number), 16 + second.len as usize))
-    } else {
-        by_engine::<E>(bound, skip, s, steps)
+    if !skip || first.zeroes == 0 {
+        let second = E::window(&s[16..], steps);
+        if second.len < 16 {
+            let high = u128::from(first.number) * u128::from(power_of_ten(second.len));
+            return Ok((high + u128::from(second.number), 16 + second.len as usize));
+        }
     }
+    by_engine::<E>(bound, skip, s, steps)
 }

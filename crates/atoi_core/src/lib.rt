@@ -3,6 +3,7 @@
 //! public in the Rust crate.
 #![tactic(auto)]
 
+mod both_signs;
 mod digit_loop;
 mod dispatch;
 mod engine;
@@ -22,6 +23,7 @@ mod window;
 mod word_engine;
 pub mod words;
 
+pub use crate::both_signs::{prefix_of_sign, whole_of_sign};
 pub use crate::digit_loop::narrow_whole;
 pub use crate::dispatch::{prefix_neg, prefix_pos, whole_neg, whole_pos};
 pub use crate::engine::Engine;

@@ -101,32 +101,17 @@ pub fn narrow_whole_windows<'a, E: Engine>(
     ensures loads { LoadsWithin (most_loads E.table narrow s.now) E.table true s.now
         steps.old steps.new }
 {
-    if s.len() >= 16 {
-        return out_of_line(long_whole::<E>(bound, s, steps));
-    }
-    let only = E::window(s, steps);
-    if only.len == 0 {
+    let first = E::window(s, steps);
+    if first.len == 0 {
         Err(AtoiSimdError::Empty)
+    } else if first.len < 16 {
+        whole_of::<E>(bound, answer_at(bound, 0, first, s), s)
+    } else if first.zeroes > 0 {
+        let front = called_behind_zeros::<E>(bound, first.zeroes, s, steps);
+        whole_of::<E>(bound, front, s)
     } else {
-        whole_of::<E>(bound, answer_at(bound, 0, only, s), s)
+        Err(AtoiSimdError::Overflow(s))
     }
-}
-
-// What `narrow_whole_windows` answers for 16 bytes or more, which begin with zeros or hold another
-// byte where the number fits.
-#[inline(never)]
-fn long_whole<'a, E: Engine>(
-    bound: u64,
-    s: &'a [u8],
-    steps: &mut Steps,
-) -> Result<u64, AtoiSimdError<'a>>
-    requires low { 9 ≤ bound }
-    requires high { bound ≤ 4294967295 }
-    ensures answer { answer_of result ≡ whole_magnitude E.table narrow bound 0 false s.now }
-    ensures loads { LoadsWithin (most_loads E.table narrow s.now) E.table true s.now
-        steps.old steps.new }
-{
-    whole_of::<E>(bound, narrow_prefix::<E>(bound, true, s, steps), s)
 }
 
 // The answer for a whole slice, from that for its front where zeros are skipped: an overflow holds

@@ -19,11 +19,14 @@ pub fn take_sign(signed: bool, skip_plus: bool, s: &[u8]) -> (bool, &[u8])
     ensures body { result.1.now ≡ (sign_of signed skip_plus s.now).body }
     ensures taken { length result.1.now + (sign_of signed skip_plus s.now).taken ≡ length s.now }
 {
-    match s {
-        [b'+', body @ ..] if skip_plus => (false, body),
-        [b'-', body @ ..] if signed => (true, body),
-        _ => (false, s),
-    }
+    let [first, ..] = s else {
+        return (false, s);
+    };
+    let minus = signed & (*first == b'-');
+    let plus = skip_plus & (*first == b'+');
+    // Cut twice, by numbers: where signs vary, a branch on them would be mispredicted.
+    let body = &s[usize::from(minus)..];
+    (minus, &body[usize::from(plus)..])
 }
 
 /// The answer of a prefix of the body, with the bytes of the sign before it counted too. Both

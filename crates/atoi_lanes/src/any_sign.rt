@@ -1,11 +1,12 @@
 //! `Parse` and its twelve types: a number with the sign that may stand before it. It uses
 //! `ParsePos`, `ParseNeg` and the sign of `atoi_core`.
 ghost use Rattle.std.specs.Prelude.{◌≡◌, ◌≤◌, IfOk, length};
-ghost use Rattle.atoi_core.specs.Answer.{typed_answer, typed_prefix_answer, parse_answer, parse_prefix_answer};
+ghost use Rattle.atoi_core.specs.Answer.{typed_answer, typed_prefix_answer, whole_answer, prefix_answer, parse_answer, parse_prefix_answer};
+ghost use Rattle.atoi_core.specs.Digit.{decimal_table};
 
 use crate::negative::ParseNeg;
 use crate::positive::ParsePos;
-use atoi_core::{AtoiSimdError, take_sign, with_sign};
+use atoi_core::{AtoiSimdError, prefix_of_sign, take_sign, whole_of_sign, with_sign};
 
 /// A type that a number with a sign before it is parsed to.
 ///
@@ -54,6 +55,109 @@ pub trait Parse: ParsePos {
         ensures within { IfOk result (λ found. found.1 ≤ length s.now) };
 }
 
+// The whole of `s`, digits behind a sign. Both signs go by one parse: where signs vary from call to
+// call, a branch on them would be mispredicted.
+#[inline(always)]
+fn either_sign<T: ParseNeg + ParsePos>(
+    minus: bool,
+    s: &[u8],
+    skip_zeroes: bool,
+) -> Result<T, AtoiSimdError<'_>>
+    ensures answer { typed_answer T.number result
+        ≡ whole_answer decimal_table T.kind minus skip_zeroes s.now }
+{
+    match whole_of_sign(minus, T::atoi_simd_parse_neg(s, skip_zeroes)) {
+        Some(answer) => answer,
+        None => called_by_sign(minus, s, skip_zeroes),
+    }
+}
+
+// The same of the front of `s`.
+#[inline(always)]
+fn either_sign_prefix<T: ParseNeg + ParsePos>(
+    minus: bool,
+    s: &[u8],
+    skip_zeroes: bool,
+) -> Result<(T, usize), AtoiSimdError<'_>>
+    ensures answer { typed_prefix_answer T.number result
+        ≡ prefix_answer decimal_table T.kind minus skip_zeroes s.now }
+    ensures within { IfOk result (λ found. found.1 ≤ length s.now) }
+{
+    match prefix_of_sign(minus, T::atoi_simd_parse_prefix_neg(s, skip_zeroes)) {
+        Some(answer) => answer,
+        None => called_by_sign_prefix(minus, s, skip_zeroes),
+    }
+}
+
+// The call of `by_sign`, in a function of its own: the place of its result is then cleared only where
+// the call is made.
+#[inline(always)]
+fn called_by_sign<T: ParseNeg + ParsePos>(
+    minus: bool,
+    s: &[u8],
+    skip_zeroes: bool,
+) -> Result<T, AtoiSimdError<'_>>
+    ensures answer { typed_answer T.number result
+        ≡ whole_answer decimal_table T.kind minus skip_zeroes s.now }
+{
+    match by_sign(minus, s, skip_zeroes) {
+        Ok(number) => Ok(number),
+        Err(error) => Err(error),
+    }
+}
+
+// The same of `by_sign_prefix`.
+#[inline(always)]
+fn called_by_sign_prefix<T: ParseNeg + ParsePos>(
+    minus: bool,
+    s: &[u8],
+    skip_zeroes: bool,
+) -> Result<(T, usize), AtoiSimdError<'_>>
+    ensures answer { typed_prefix_answer T.number result
+        ≡ prefix_answer decimal_table T.kind minus skip_zeroes s.now }
+    ensures within { IfOk result (λ found. found.1 ≤ length s.now) }
+{
+    match by_sign_prefix(minus, s, skip_zeroes) {
+        Ok(found) => Ok(found),
+        Err(error) => Err(error),
+    }
+}
+
+// The whole of `s`, by the parse of its sign: for the magnitude of the least number of `T`.
+#[inline(never)]
+fn by_sign<T: ParseNeg + ParsePos>(
+    minus: bool,
+    s: &[u8],
+    skip_zeroes: bool,
+) -> Result<T, AtoiSimdError<'_>>
+    ensures answer { typed_answer T.number result
+        ≡ whole_answer decimal_table T.kind minus skip_zeroes s.now }
+{
+    if minus {
+        T::atoi_simd_parse_neg(s, skip_zeroes)
+    } else {
+        T::atoi_simd_parse_pos(s, skip_zeroes)
+    }
+}
+
+// The same of the front of `s`.
+#[inline(never)]
+fn by_sign_prefix<T: ParseNeg + ParsePos>(
+    minus: bool,
+    s: &[u8],
+    skip_zeroes: bool,
+) -> Result<(T, usize), AtoiSimdError<'_>>
+    ensures answer { typed_prefix_answer T.number result
+        ≡ prefix_answer decimal_table T.kind minus skip_zeroes s.now }
+    ensures within { IfOk result (λ found. found.1 ≤ length s.now) }
+{
+    if minus {
+        T::atoi_simd_parse_prefix_neg(s, skip_zeroes)
+    } else {
+        T::atoi_simd_parse_prefix_pos(s, skip_zeroes)
+    }
+}
+
 impl Parse for u8 {
     #[inline(always)]
     fn atoi_simd_parse(
@@ -85,11 +189,7 @@ impl Parse for i8 {
         skip_plus: bool,
     ) -> Result<i8, AtoiSimdError<'_>> {
         let (minus, body) = take_sign(true, skip_plus, s);
-        if minus {
-            i8::atoi_simd_parse_neg(body, skip_zeroes)
-        } else {
-            i8::atoi_simd_parse_pos(body, skip_zeroes)
-        }
+        either_sign(minus, body, skip_zeroes)
     }
 
     #[inline(always)]
@@ -100,11 +200,7 @@ impl Parse for i8 {
     ) -> Result<(i8, usize), AtoiSimdError<'_>> {
         let (minus, body) = take_sign(true, skip_plus, s);
         let taken = s.len() - body.len();
-        if minus {
-            with_sign(taken, i8::atoi_simd_parse_prefix_neg(body, skip_zeroes))
-        } else {
-            with_sign(taken, i8::atoi_simd_parse_prefix_pos(body, skip_zeroes))
-        }
+        with_sign(taken, either_sign_prefix(minus, body, skip_zeroes))
     }
 }
 
@@ -139,11 +235,7 @@ impl Parse for i16 {
         skip_plus: bool,
     ) -> Result<i16, AtoiSimdError<'_>> {
         let (minus, body) = take_sign(true, skip_plus, s);
-        if minus {
-            i16::atoi_simd_parse_neg(body, skip_zeroes)
-        } else {
-            i16::atoi_simd_parse_pos(body, skip_zeroes)
-        }
+        either_sign(minus, body, skip_zeroes)
     }
 
     #[inline(always)]
@@ -154,11 +246,7 @@ impl Parse for i16 {
     ) -> Result<(i16, usize), AtoiSimdError<'_>> {
         let (minus, body) = take_sign(true, skip_plus, s);
         let taken = s.len() - body.len();
-        if minus {
-            with_sign(taken, i16::atoi_simd_parse_prefix_neg(body, skip_zeroes))
-        } else {
-            with_sign(taken, i16::atoi_simd_parse_prefix_pos(body, skip_zeroes))
-        }
+        with_sign(taken, either_sign_prefix(minus, body, skip_zeroes))
     }
 }
 
@@ -193,11 +281,7 @@ impl Parse for i32 {
         skip_plus: bool,
     ) -> Result<i32, AtoiSimdError<'_>> {
         let (minus, body) = take_sign(true, skip_plus, s);
-        if minus {
-            i32::atoi_simd_parse_neg(body, skip_zeroes)
-        } else {
-            i32::atoi_simd_parse_pos(body, skip_zeroes)
-        }
+        either_sign(minus, body, skip_zeroes)
     }
 
     #[inline(always)]
@@ -208,11 +292,7 @@ impl Parse for i32 {
     ) -> Result<(i32, usize), AtoiSimdError<'_>> {
         let (minus, body) = take_sign(true, skip_plus, s);
         let taken = s.len() - body.len();
-        if minus {
-            with_sign(taken, i32::atoi_simd_parse_prefix_neg(body, skip_zeroes))
-        } else {
-            with_sign(taken, i32::atoi_simd_parse_prefix_pos(body, skip_zeroes))
-        }
+        with_sign(taken, either_sign_prefix(minus, body, skip_zeroes))
     }
 }
 
@@ -247,11 +327,7 @@ impl Parse for isize {
         skip_plus: bool,
     ) -> Result<isize, AtoiSimdError<'_>> {
         let (minus, body) = take_sign(true, skip_plus, s);
-        if minus {
-            isize::atoi_simd_parse_neg(body, skip_zeroes)
-        } else {
-            isize::atoi_simd_parse_pos(body, skip_zeroes)
-        }
+        either_sign(minus, body, skip_zeroes)
     }
 
     #[inline(always)]
@@ -262,11 +338,7 @@ impl Parse for isize {
     ) -> Result<(isize, usize), AtoiSimdError<'_>> {
         let (minus, body) = take_sign(true, skip_plus, s);
         let taken = s.len() - body.len();
-        if minus {
-            with_sign(taken, isize::atoi_simd_parse_prefix_neg(body, skip_zeroes))
-        } else {
-            with_sign(taken, isize::atoi_simd_parse_prefix_pos(body, skip_zeroes))
-        }
+        with_sign(taken, either_sign_prefix(minus, body, skip_zeroes))
     }
 }
 
@@ -301,11 +373,7 @@ impl Parse for i64 {
         skip_plus: bool,
     ) -> Result<i64, AtoiSimdError<'_>> {
         let (minus, body) = take_sign(true, skip_plus, s);
-        if minus {
-            i64::atoi_simd_parse_neg(body, skip_zeroes)
-        } else {
-            i64::atoi_simd_parse_pos(body, skip_zeroes)
-        }
+        either_sign(minus, body, skip_zeroes)
     }
 
     #[inline(always)]
@@ -316,11 +384,7 @@ impl Parse for i64 {
     ) -> Result<(i64, usize), AtoiSimdError<'_>> {
         let (minus, body) = take_sign(true, skip_plus, s);
         let taken = s.len() - body.len();
-        if minus {
-            with_sign(taken, i64::atoi_simd_parse_prefix_neg(body, skip_zeroes))
-        } else {
-            with_sign(taken, i64::atoi_simd_parse_prefix_pos(body, skip_zeroes))
-        }
+        with_sign(taken, either_sign_prefix(minus, body, skip_zeroes))
     }
 }
 
@@ -355,11 +419,7 @@ impl Parse for i128 {
         skip_plus: bool,
     ) -> Result<i128, AtoiSimdError<'_>> {
         let (minus, body) = take_sign(true, skip_plus, s);
-        if minus {
-            i128::atoi_simd_parse_neg(body, skip_zeroes)
-        } else {
-            i128::atoi_simd_parse_pos(body, skip_zeroes)
-        }
+        either_sign(minus, body, skip_zeroes)
     }
 
     #[inline(always)]
@@ -370,11 +430,7 @@ impl Parse for i128 {
     ) -> Result<(i128, usize), AtoiSimdError<'_>> {
         let (minus, body) = take_sign(true, skip_plus, s);
         let taken = s.len() - body.len();
-        if minus {
-            with_sign(taken, i128::atoi_simd_parse_prefix_neg(body, skip_zeroes))
-        } else {
-            with_sign(taken, i128::atoi_simd_parse_prefix_pos(body, skip_zeroes))
-        }
+        with_sign(taken, either_sign_prefix(minus, body, skip_zeroes))
     }
 }
 

@@ -1,9 +1,9 @@
 -- Two windows are read: the second goes on where the first is full.
-use Rattle.std.proofs.Common.{arith}
+use Rattle.std.proofs.Common.{refl, arith}
 use Rattle.std.proofs.lemmas.List.Sums.{prefix_len-le-length}
 use Rattle.atoi_core.specs.Digit.{is_digit}
 use Rattle.atoi_core.proofs.WindowLemmas.{shows}
-use Rattle.atoi_core.proofs.SkipLemmas.{shows_rest, Skipped-kept}
+use Rattle.atoi_core.proofs.SkipLemmas.{shows_rest, Skipped-at_once}
 use Rattle.atoi_core.proofs.WideLemmas.{answers_two}
 use Rattle.atoi_core.proofs.front.second_128.Goals as goal
 
@@ -15,6 +15,6 @@ slice_bounds-window-start g c =
 pub returns-then-second-lt16-clause-answer : goal.returns-then-second-lt16-clause-answer
 returns-then-second-lt16-clause-answer g c =
     let s = c.args.s.now in
-    let so = Skipped-kept g.E.Engine.table g.met.E.Engine.below_ten c.args.skip s 0 c.args.first c.requires.told c.requires.kept in
+    let so = Skipped-at_once g.E.Engine.table g.met.E.Engine.below_ten c.args.skip s 0 1 c.args.first c.requires.told refl c.then-not-skip.either in
     let second = shows_rest g.E.Engine.table g.met.E.Engine.below_ten 16 s 16 c.window-second.result c.window-second.ensures.window in
     answers_two _ c.args.bound _ _ 0 _ _ _ _ _ _ so (omega arith) second (omega arith) c.requires.digits (cc) (omega arith)
