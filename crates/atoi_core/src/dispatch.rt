@@ -30,6 +30,7 @@ use crate::wide::{whole_64, whole_128};
 /// - `Overflow` where the number is above the greatest of `T`;
 /// - `Invalid64`, or of 128 bits `Invalid128`, where another byte stands behind the digits.
 #[inline(always)]
+#[tactic(auto, using(crate::proofs::AnswerLemmas::whole_in_bounds))]
 pub fn whole_pos<'a, E: Engine, T: Number>(
     skip: bool,
     s: &'a [u8],
@@ -53,6 +54,7 @@ pub fn whole_pos<'a, E: Engine, T: Number>(
 ///
 /// As of `whole_pos`. An error tells the magnitude.
 #[inline(always)]
+#[tactic(auto, using(crate::proofs::AnswerLemmas::whole_in_bounds))]
 pub fn whole_neg<'a, E: Engine, T: Signed>(
     skip: bool,
     s: &'a [u8],
@@ -77,6 +79,7 @@ pub fn whole_neg<'a, E: Engine, T: Signed>(
 /// `Empty`, `Size` and `Overflow`, as of `whole_pos`. The `Size` and the slice of an `Overflow` of a
 /// type of at most 32 bits are told at `narrow_prefix`.
 #[inline(always)]
+#[tactic(auto, using(crate::proofs::AnswerLemmas::prefix_within, crate::proofs::AnswerLemmas::prefix_in_bounds))]
 pub fn prefix_pos<'a, E: Engine, T: Number>(
     skip: bool,
     s: &'a [u8],
@@ -103,6 +106,7 @@ pub fn prefix_pos<'a, E: Engine, T: Number>(
 ///
 /// As of `prefix_pos`. An error tells the magnitude.
 #[inline(always)]
+#[tactic(auto, using(crate::proofs::AnswerLemmas::prefix_within, crate::proofs::AnswerLemmas::prefix_in_bounds))]
 pub fn prefix_neg<'a, E: Engine, T: Signed>(
     skip: bool,
     s: &'a [u8],
