@@ -1,5 +1,5 @@
 -- One parse for both signs: what digits answer with any sign, from their answer behind a minus.
-use Rattle.std.specs.Prelude.{◌≡◌, ℕ, ◌≤◌, Bool, true, false, List, ℤ, Result}
+use Rattle.std.specs.Prelude.{◌≡◌, ℕ, ◌≤◌, Bool, true, List, ℤ, Result}
 use Rattle.atoi_core.specs.Digit.{Table}
 use Rattle.atoi_core.specs.Refusal.{Refusal, empty, size, overflow, invalid64, invalid128}
 use Rattle.atoi_core.specs.Answer.{whole_answer, prefix_answer}
