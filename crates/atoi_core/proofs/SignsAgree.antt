@@ -1,16 +1,15 @@
 -- Both signs answer alike, but for the one number that only the bound behind a minus allows.
-use Rattle.std.proofs.Common.{◌≡◌, ℕ, ◌+◌, ◌<◌, ◌≤◌, Bool, true, false, cond, ltb, List, [], length, Option, Some, None, Result, Ok, Err, refl, sym, ap, ap₂, ◌∙◌, arith, le-ltb}
-use Rattle.std.proofs.Math.IntN.{ℤ, pos, neg_ℤ, nat_abs}
+use Rattle.std.proofs.Common.{◌≡◌, ℕ, ◌+◌, ◌≤◌, Bool, true, false, ltb, List, Some, None, Ok, Err, refl, sym, ap, ap₂, ◌∙◌, arith, le-ltb}
+use Rattle.std.proofs.Math.IntN.{ℤ}
 use Rattle.std.proofs.lemmas.Bool.{lt-ltb, ltb-true}
 use Rattle.atoi_core.specs.Digit.{Table}
 use Rattle.atoi_core.specs.Run.{run_len, run, value}
-use Rattle.atoi_core.specs.Refusal.{Refusal, empty, size, overflow, invalid64, invalid128}
-use Rattle.atoi_core.specs.Magnitude.{Class, narrow, wide64, wide128, Extent, whole, prefix, leaves_rest, invalid, refusal, unless_refused}
+use Rattle.atoi_core.specs.Refusal.{Refusal, empty}
+use Rattle.atoi_core.specs.Magnitude.{Class, narrow, wide64, wide128, Extent, whole, prefix, invalid, refusal}
 use Rattle.atoi_core.specs.Kind.{Kind, class_of, bound_of, limit_of}
 use Rattle.atoi_core.specs.BothSigns.{IsOfSign, number_in, IsWholeOfSign, IsPrefixOfSign}
 use Rattle.atoi_core.specs.Sign.{number_of}
-use Rattle.atoi_core.specs.Answer.{map_answer, whole_answer, prefix_answer}
-use Rattle.atoi_core.proofs.RefusalLemmas.{first_of, limit_at, counting_digits, refusal-is, is_empty, is_long, is_over, is_followed, too_long, over, followed, IsAccepted, accepted, refusal-none}
+use Rattle.atoi_core.proofs.RefusalLemmas.{first_of, refusal-is, is_empty, is_long, is_followed, too_long, over, followed, accepted, refusal-none}
 use Rattle.atoi_core.proofs.CallLemmas.{counted_number, map_unless_ok, map_unless_err}
 
 -- that of `invalid` is its first
