@@ -1,8 +1,8 @@
 -- One parse for both signs: what digits answer with any sign, from their answer behind a minus.
-use Rattle.std.specs.Prelude.{◌≡◌, ℕ, ◌≤◌, Bool, true, List, ℤ, Result}
+use Rattle.std.specs.Prelude.{◌≡◌, ℕ, ◌<◌, ◌≤◌, Bool, true, List, ℤ, Result, Ok, Err}
 use Rattle.atoi_core.specs.Digit.{Table}
 use Rattle.atoi_core.specs.Refusal.{Refusal, empty, size, overflow, invalid64, invalid128}
-use Rattle.atoi_core.specs.Answer.{whole_answer, prefix_answer}
+use Rattle.atoi_core.specs.Answer.{map_answer, whole_answer, prefix_answer}
 use Rattle.atoi_core.specs.Kind.{Kind, bound_of}
 use Rattle.atoi_core.specs.Sign.{number_of}
 
@@ -19,6 +19,15 @@ number_in (size length input) = 0
 number_in (overflow input) = 0
 number_in (invalid64 number index input) = number
 number_in (invalid128 number index input) = number
+
+-- a number behind a minus, or one that a reason carries, is above the greatest: its sign decides
+abbrev pub IsAbove : Kind → Result ℤ Refusal → Type 0
+IsAbove k (Ok negative) = (magnitude : ℕ) → negative ≡ number_of true magnitude → k.greatest < magnitude
+IsAbove k (Err reason) = k.greatest < number_in reason
+
+-- the number of a front, without its count
+abbrev pub without_count : Result (ℤ × ℕ) Refusal → Result ℤ Refusal
+without_count answer = map_answer (λ (found : ℤ × ℕ). found.0) answer
 
 -- where `negative` is the answer for a whole slice behind a minus, `either` is that with the sign
 abbrev pub IsWholeOfSign : Kind → Bool → (negative either : Result ℤ Refusal) → Type 0

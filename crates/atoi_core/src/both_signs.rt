@@ -1,8 +1,8 @@
 //! One parse for both signs: what digits answer with any sign, from their answer behind a minus. It
 //! uses `error` and `number`.
-ghost use Rattle.std.specs.Prelude.{◌≡◌, ◌≤◌, ℕ, true, IfOk, IfSome};
+ghost use Rattle.std.specs.Prelude.{◌≡◌, ◌≤◌, ℕ, true, false, None, IfOk, IfSome, Ok, Err};
 ghost use Rattle.atoi_core.specs.Answer.{typed_answer, typed_prefix_answer};
-ghost use Rattle.atoi_core.specs.BothSigns.{IsOfSign, number_in, IsWholeOfSign, IsPrefixOfSign};
+ghost use Rattle.atoi_core.specs.BothSigns.{IsOfSign, IsAbove, number_in, without_count, IsWholeOfSign, IsPrefixOfSign};
 ghost use Rattle.atoi_core.specs.Refusal.{refusal_of};
 
 use crate::error::AtoiSimdError;
@@ -20,6 +20,7 @@ pub fn whole_of_sign<'a, T: Signed>(
 ) -> Option<Result<T, AtoiSimdError<'a>>>
     ensures answer { IfSome result (λ either. IsWholeOfSign T.kind minus
         (typed_answer T.number negative.entry) (typed_answer T.number either)) }
+    ensures open { result ≡ None → IsAbove T.kind (typed_answer T.number negative.entry) }
 {
     match negative {
         Ok(number) => match with_sign_of(minus, number) {
@@ -41,6 +42,8 @@ pub fn prefix_of_sign<'a, T: Signed>(
         (typed_prefix_answer T.number negative.entry) (typed_prefix_answer T.number either)) }
     ensures within { (room : ℕ) → IfOk negative.entry (λ found. found.1 ≤ room)
         → IfSome result (λ either. IfOk either (λ found. found.1 ≤ room)) }
+    ensures open { result ≡ None
+        → IsAbove T.kind (without_count (typed_prefix_answer T.number negative.entry)) }
 {
     match negative {
         Ok(found) => match with_sign_of(minus, found.0) {
@@ -55,8 +58,9 @@ pub fn prefix_of_sign<'a, T: Signed>(
 // The number with the sign `minus`, from the same digits behind a minus; none where it is above the
 // greatest. The sign is data here: no branch depends on it.
 fn with_sign_of<T: Signed>(minus: bool, negative: T) -> Option<T>
-    ensures { IfSome result (λ either.
+    ensures of_sign { IfSome result (λ either.
         IsOfSign T.kind minus (T.number negative) (T.number either)) }
+    ensures open { result ≡ None → IsAbove T.kind (Ok (T.number negative)) }
 {
     let (_, magnitude) = negative.parts();
     if magnitude > T::GREATEST {
@@ -71,7 +75,8 @@ fn with_sign_of<T: Signed>(minus: bool, negative: T) -> Option<T>
 // Whether an error behind a minus is that of the same digits with any sign: it carries no number, or
 // one that is at most the greatest.
 fn is_of_both<T: Signed>(error: AtoiSimdError<'_>) -> bool
-    ensures { result ≡ true → number_in (refusal_of error.entry) ≤ T.kind.greatest }
+    ensures in_range { result ≡ true → number_in (refusal_of error.entry) ≤ T.kind.greatest }
+    ensures above { result ≡ false → IsAbove T.kind (Err (refusal_of error.entry)) }
 {
     match error {
         AtoiSimdError::Invalid64(number, _, _) => u128::from(number) <= T::GREATEST,
