@@ -55,8 +55,9 @@ pub trait Parse: ParsePos {
         ensures within { IfOk result (λ found. found.1 ≤ length s.now) };
 }
 
-// The whole of `s`, digits behind a sign. Both signs go by one parse: where signs vary from call to
-// call, a branch on them would be mispredicted.
+// The whole of `s`, digits behind a sign. Both signs go by one parse, that behind a minus: where signs
+// vary from call to call, a branch on them would be mispredicted. Only the magnitude of the least
+// number is parsed again.
 #[inline(always)]
 fn either_sign<T: ParseNeg + ParsePos>(
     minus: bool,
