@@ -29,6 +29,12 @@ pub shows_rest : (t : Table) → IsBelowTen t → (c : ℕ) (s : List ℕ) (at :
     w ≡ window_of t c (take (length s - at) (drop at s)) → Shows t c (drop at s) w
 shows_rest t below c s at w e = shows t below c (drop at s) w (e ∙ ap (window_of t c) (take_rest s at))
 
+-- two windows full of digits are 32 digits
+pub two_full : (t : Table) → IsBelowTen t → (s : List ℕ) (first second : Window) → first ≡ window_of t 16 s → first.len ≡ 16
+    → second ≡ window_of t 16 (take (length s - 16) (drop 16 s)) → 16 ≤ second.len → 32 ≤ run_len t s
+two_full t below s first second is full next more =
+    omega (arith, (shows t below 16 s first is).goes_on full, (shows_rest t below 16 s 16 second next).reads.inside)
+
 -- a window k bytes behind such a place
 pub shows_behind : (t : Table) → IsBelowTen t → (c k : ℕ) (s : List ℕ) (at : ℕ) (w : Window) →
     w ≡ window_of t c (take (length (take (length s - at) (drop at s)) - k) (drop k (take (length s - at) (drop at s)))) →

@@ -20,23 +20,23 @@ number_in (overflow input) = 0
 number_in (invalid64 number index input) = number
 number_in (invalid128 number index input) = number
 
--- a number behind a minus, or one that a reason carries, is above the greatest: its sign decides
-abbrev pub IsAbove : Kind → Result ℤ Refusal → Type 0
-IsAbove k (Ok negative) = (magnitude : ℕ) → negative ≡ number_of true magnitude → k.greatest < magnitude
-IsAbove k (Err reason) = k.greatest < number_in reason
+-- the magnitude of a number behind a minus, or that which a reason carries, is above the bound of the sign
+abbrev pub IsAbove : Kind → Bool → Result ℤ Refusal → Type 0
+IsAbove k minus (Ok negative) = (magnitude : ℕ) → negative ≡ number_of true magnitude → bound_of k minus < magnitude
+IsAbove k minus (Err reason) = bound_of k minus < number_in reason
 
 -- the number of a front, without its count
 abbrev pub without_count : Result (ℤ × ℕ) Refusal → Result ℤ Refusal
 without_count answer = map_answer (λ (found : ℤ × ℕ). found.0) answer
 
--- where `negative` is the answer for a whole slice behind a minus, `either` is that with the sign
-abbrev pub IsWholeOfSign : Kind → Bool → (negative either : Result ℤ Refusal) → Type 0
-IsWholeOfSign k minus negative either =
-    (table : Table) (skip : Bool) (s : List ℕ)
+-- where `negative` is the answer for a slice as a whole behind a minus, `either` is that with the sign
+abbrev pub IsWholeOfSign : Kind → Bool → List ℕ → (negative either : Result ℤ Refusal) → Type 0
+IsWholeOfSign k minus s negative either =
+    (table : Table) (skip : Bool)
     → negative ≡ whole_answer table k true skip s → either ≡ whole_answer table k minus skip s
 
--- the same of a front
-abbrev pub IsPrefixOfSign : Kind → Bool → (negative either : Result (ℤ × ℕ) Refusal) → Type 0
-IsPrefixOfSign k minus negative either =
-    (table : Table) (skip : Bool) (s : List ℕ)
+-- the same of its front
+abbrev pub IsPrefixOfSign : Kind → Bool → List ℕ → (negative either : Result (ℤ × ℕ) Refusal) → Type 0
+IsPrefixOfSign k minus s negative either =
+    (table : Table) (skip : Bool)
     → negative ≡ prefix_answer table k true skip s → either ≡ prefix_answer table k minus skip s

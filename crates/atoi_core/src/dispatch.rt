@@ -166,7 +166,7 @@ fn prefix_by_class<'a, E: Engine, T: Number>(
         let bound = bound_64::<T>(minus);
         widened_prefix(E::prefix_64(bound, limit_64::<T>(), skip, s, steps))
     } else {
-        front_128::<E>(bound_128::<T>(minus), skip, s, steps)
+        front_128::<E>(bound_128::<T>(minus), skip, false, s, steps)
     }
 }
 

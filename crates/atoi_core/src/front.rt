@@ -1,10 +1,11 @@
 //! The parses of integers of 128 bits from the front of a slice: a run that ends in the first two
 //! windows is answered in line, a longer one by the engine. It uses `engine`, `window`, `join`,
 //! `steps` and `error`.
-ghost use Rattle.std.specs.Prelude.{◌≡◌, ◌-◌, ◌≤◌, IsTrue};
+ghost use Rattle.std.specs.Prelude.{◌≡◌, ◌+◌, ◌-◌, ◌<◌, ◌≤◌, ℕ, false, IsTrue, None, IfSome, Ok};
 ghost use Rattle.atoi_core.specs.Loads.{LoadsWithin, most_loads};
 ghost use Rattle.atoi_core.specs.Magnitude.{HasDigits, wide128, prefix_magnitude};
 ghost use Rattle.atoi_core.specs.Refusal.{answer_of};
+ghost use Rattle.atoi_core.specs.Run.{run_len};
 ghost use Rattle.atoi_core.specs.Window.{window_of};
 
 use crate::engine::Engine;
@@ -14,8 +15,9 @@ use crate::steps::Steps;
 use crate::window::Window;
 
 /// What `Engine::prefix_128` answers, where the first two windows are read in line. Fewer than 32
-/// digits are never above the bound; for more of them, and where the first window begins with zeros
-/// that are skipped, the engine is called, and loads these windows again.
+/// digits are never above the bound. The engine is called, and loads again what was read, for 32 digits
+/// or more, and after a first window full of digits that begins with zeros to be skipped, or where `s`
+/// is to be read `whole` and has at least 32 bytes.
 ///
 /// # Errors
 ///
@@ -24,6 +26,7 @@ use crate::window::Window;
 pub(crate) fn front_128<'a, E: Engine>(
     bound: u128,
     skip: bool,
+    whole: bool,
     s: &'a [u8],
     steps: &mut Steps,
 ) -> Result<(u128, usize), AtoiSimdError<'a>>
@@ -32,38 +35,10 @@ pub(crate) fn front_128<'a, E: Engine>(
     ensures loads { LoadsWithin (most_loads E.table wide128 s.now) E.table skip s.now
         steps.old steps.new }
 {
-    let window = E::window(s, steps);
-    if window.len == 0 {
-        Err(AtoiSimdError::Empty)
-    } else if window.len < 16 {
-        Ok((u128::from(window.number), window.len as usize))
-    } else {
-        second_128::<E>(bound, skip, window, s, steps)
+    match by_two_windows::<E>(skip, whole, s, steps) {
+        Some(answer) => answer,
+        None => by_engine::<E>(bound, skip, s, steps),
     }
-}
-
-/// What `Engine::prefix_128` answers, for a slice that is to be read whole: where it has fewer than
-/// 32 bytes as `front_128` does it, and else the engine is called at once.
-///
-/// # Errors
-///
-/// `Empty`, `Size` and `Overflow`, as of `Engine::prefix_128`.
-#[inline(always)]
-pub(crate) fn front_of_whole_128<'a, E: Engine>(
-    bound: u128,
-    skip: bool,
-    s: &'a [u8],
-    steps: &mut Steps,
-) -> Result<(u128, usize), AtoiSimdError<'a>>
-    requires digits { HasDigits 39 bound }
-    ensures answer { answer_of result ≡ prefix_magnitude E.table wide128 bound 39 skip s.now }
-    ensures loads { LoadsWithin (most_loads E.table wide128 s.now) E.table skip s.now
-        steps.old steps.new }
-{
-    if s.len() >= 32 {
-        return by_engine::<E>(bound, skip, s, steps);
-    }
-    front_128::<E>(bound, skip, s, steps)
 }
 
 // The call of `E::prefix_128`, in a function of its own: the place of its result is then cleared only
@@ -83,28 +58,62 @@ fn by_engine<'a, E: Engine>(
     out_of_line(E::prefix_128(bound, skip, s, steps))
 }
 
-// What `front_128` answers after a first window that is full of digits.
+// The answer of the first two windows; none where the engine is to be called.
 #[inline(always)]
-fn second_128<'a, E: Engine>(
-    bound: u128,
+fn by_two_windows<'a, E: Engine>(
     skip: bool,
-    first: Window,
+    whole: bool,
     s: &'a [u8],
     steps: &mut Steps,
-) -> Result<(u128, usize), AtoiSimdError<'a>>
-    requires digits { HasDigits 39 bound }
+) -> Option<Result<(u128, usize), AtoiSimdError<'a>>>
+    ensures answer { IfSome result (λ answer. (bound : ℕ) → HasDigits 39 bound
+        → answer_of answer ≡ prefix_magnitude E.table wide128 bound 39 skip s.now) }
+    ensures loads { IfSome result (λ answer.
+        LoadsWithin (most_loads E.table wide128 s.now) E.table skip s.now steps.old steps.new) }
+    ensures open { result ≡ None → skip ≡ false → whole ≡ false → 32 ≤ run_len E.table s.now }
+    ensures fewest { steps.old < steps.new }
+    ensures most { steps.new ≤ steps.old + 2 }
+{
+    let first = E::window(s, steps);
+    if first.len == 16 && whole && s.len() >= 32 {
+        None
+    } else if first.len == 0 {
+        Some(Err(AtoiSimdError::Empty))
+    } else if first.len < 16 {
+        Some(Ok((u128::from(first.number), first.len as usize)))
+    } else {
+        match second_128::<E>(skip, first, s, steps) {
+            Some(found) => Some(Ok(found)),
+            None => None,
+        }
+    }
+}
+
+// The number and count of a run that ends in the second window, behind a first that is full; none
+// where it goes on, or begins with zeros that are skipped.
+#[inline(always)]
+fn second_128<E: Engine>(
+    skip: bool,
+    first: Window,
+    s: &[u8],
+    steps: &mut Steps,
+) -> Option<(u128, usize)>
     requires told { first ≡ window_of E.table 16 s.now }
     requires full { first.len ≡ 16 }
-    ensures answer { answer_of result ≡ prefix_magnitude E.table wide128 bound 39 skip s.now }
-    ensures loads { LoadsWithin (most_loads E.table wide128 s.now - 1) E.table skip s.now
-        steps.old steps.new }
+    ensures answer { IfSome result (λ found. (bound : ℕ) → HasDigits 39 bound
+        → Ok found ≡ prefix_magnitude E.table wide128 bound 39 skip s.now) }
+    ensures loads { IfSome result (λ found. LoadsWithin (most_loads E.table wide128 s.now - 1) E.table skip s.now
+        steps.old steps.new) }
+    ensures open { result ≡ None → skip ≡ false → 32 ≤ run_len E.table s.now }
+    ensures fewest { steps.old ≤ steps.new }
+    ensures most { steps.new ≤ steps.old + 1 }
 {
     if !skip || first.zeroes == 0 {
         let second = E::window(&s[16..], steps);
         if second.len < 16 {
             let high = u128::from(first.number) * u128::from(power_of_ten(second.len));
-            return Ok((high + u128::from(second.number), 16 + second.len as usize));
+            return Some((high + u128::from(second.number), 16 + second.len as usize));
         }
     }
-    by_engine::<E>(bound, skip, s, steps)
+    None
 }

@@ -57,7 +57,7 @@ pub trait Parse: ParsePos {
 
 // The whole of `s`, digits behind a sign. Both signs go by one parse, that behind a minus: where signs
 // vary from call to call, a branch on them would be mispredicted. Only the magnitude of the least
-// number is parsed again.
+// number of a type of more than 32 bits is parsed again.
 #[inline(always)]
 fn either_sign<T: ParseNeg + ParsePos>(
     minus: bool,
@@ -67,13 +67,14 @@ fn either_sign<T: ParseNeg + ParsePos>(
     ensures answer { typed_answer T.number result
         ≡ whole_answer decimal_table T.kind minus skip_zeroes s.now }
 {
-    match whole_of_sign(minus, T::atoi_simd_parse_neg(s, skip_zeroes)) {
+    match whole_of_sign(minus, s, T::atoi_simd_parse_neg(s, skip_zeroes)) {
         Some(answer) => answer,
         None => called_by_sign(minus, s, skip_zeroes),
     }
 }
 
-// The same of the front of `s`.
+// The same of the front of `s`. Of at most 32 bits that magnitude is parsed again too, where it has 16
+// digits or more, zeros among them, and no minus.
 #[inline(always)]
 fn either_sign_prefix<T: ParseNeg + ParsePos>(
     minus: bool,
@@ -84,7 +85,7 @@ fn either_sign_prefix<T: ParseNeg + ParsePos>(
         ≡ prefix_answer decimal_table T.kind minus skip_zeroes s.now }
     ensures within { IfOk result (λ found. found.1 ≤ length s.now) }
 {
-    match prefix_of_sign(minus, T::atoi_simd_parse_prefix_neg(s, skip_zeroes)) {
+    match prefix_of_sign(minus, s, T::atoi_simd_parse_prefix_neg(s, skip_zeroes)) {
         Some(answer) => answer,
         None => called_by_sign_prefix(minus, s, skip_zeroes),
     }
@@ -124,7 +125,7 @@ fn called_by_sign_prefix<T: ParseNeg + ParsePos>(
     }
 }
 
-// The whole of `s`, by the parse of its sign: for the magnitude of the least number of `T`.
+// The whole of `s`, by the parse of its sign.
 #[inline(never)]
 fn by_sign<T: ParseNeg + ParsePos>(
     minus: bool,

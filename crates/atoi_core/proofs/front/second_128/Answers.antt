@@ -3,7 +3,7 @@ use Rattle.std.proofs.Common.{refl, arith}
 use Rattle.std.proofs.lemmas.List.Sums.{prefix_len-le-length}
 use Rattle.atoi_core.specs.Digit.{is_digit}
 use Rattle.atoi_core.proofs.WindowLemmas.{shows}
-use Rattle.atoi_core.proofs.SkipLemmas.{shows_rest, Skipped-at_once}
+use Rattle.atoi_core.proofs.SkipLemmas.{shows_rest, two_full, Skipped-at_once}
 use Rattle.atoi_core.proofs.WideLemmas.{answers_two}
 use Rattle.atoi_core.proofs.front.second_128.Goals as goal
 
@@ -13,8 +13,12 @@ slice_bounds-window-start g c =
     omega (arith, tell.reads.inside, prefix_len-le-length (is_digit g.E.Engine.table) c.args.s.now)
 
 pub returns-then-second-lt16-clause-answer : goal.returns-then-second-lt16-clause-answer
-returns-then-second-lt16-clause-answer g c =
+returns-then-second-lt16-clause-answer g c bound digits =
     let s = c.args.s.now in
     let so = Skipped-at_once g.E.Engine.table g.met.E.Engine.below_ten c.args.skip s 0 1 c.args.first c.requires.told refl c.then-not-skip.either in
     let second = shows_rest g.E.Engine.table g.met.E.Engine.below_ten 16 s 16 c.window-second.result c.window-second.ensures.window in
-    answers_two _ c.args.bound _ _ 0 _ _ _ _ _ _ so (omega arith) second (omega arith) c.requires.digits (cc) (omega arith)
+    answers_two _ bound _ _ 0 _ _ _ _ _ _ so (omega arith) second (omega arith) digits (cc) (omega arith)
+
+pub returns-else-second-lt16-clause-open : goal.returns-else-second-lt16-clause-open
+returns-else-second-lt16-clause-open g c none off =
+    two_full g.E.Engine.table g.met.E.Engine.below_ten c.args.s.now c.args.first c.window-second.result c.requires.told c.requires.full c.window-second.ensures.window (omega arith)
