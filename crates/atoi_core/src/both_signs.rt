@@ -1,6 +1,6 @@
 //! One parse for both signs: what digits answer with any sign, from their answer behind a minus. It
 //! uses `error` and `number`.
-ghost use Rattle.std.specs.Prelude.{◌≡◌, ◌<◌, ◌≤◌, ℕ, true, false, None, IfOk, IfSome, Ok, Err};
+ghost use Rattle.std.specs.Prelude.{◌≡◌, ◌&&◌, ◌<◌, ◌≤◌, ℕ, true, false, nat_lt, nat_le, None, IfOk, IfSome, Ok, Err};
 ghost use Rattle.atoi_core.specs.Answer.{typed_answer, typed_prefix_answer};
 ghost use Rattle.atoi_core.specs.BothSigns.{IsOfSign, IsAbove, number_in, without_count, IsWholeOfSign, IsPrefixOfSign};
 ghost use Rattle.atoi_core.specs.Kind.{bound_of};
@@ -87,13 +87,11 @@ fn with_sign_of<T: Signed>(minus: bool, negative: T) -> Option<T>
 
 // Whether a magnitude is above the bound of the sign `minus`, or, of more than 32 bits, above the
 // greatest whatever its sign. Of at most 32 bits a positive one is taken as one more, and not compared
-// with a bound of its own, which the compiler would choose by a branch. Of more bits the addition
-// would cost more than it saves.
+// with a bound of its own, which the compiler would choose by a branch; of more the addition would
+// cost more than it saves.
 fn is_above<T: Signed>(minus: bool, magnitude: u128) -> bool
     requires { magnitude ≤ T.LEAST_MAGNITUDE }
-    ensures above { result ≡ true → T.kind.greatest < magnitude }
-    ensures narrow { result ≡ true → T.BITS ≤ 32 → bound_of T.kind minus < magnitude }
-    ensures in_range { result ≡ false → magnitude ≤ bound_of T.kind minus }
+    ensures { result ≡ nat_lt (bound_of T.kind (minus && nat_le T.BITS 32)) magnitude }
 {
     if T::BITS <= 32 {
         magnitude as u64 + u64::from(!minus) > T::LEAST_MAGNITUDE as u64

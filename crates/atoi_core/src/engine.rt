@@ -20,8 +20,8 @@ mod tests;
 /// What reads windows of a slice.
 ///
 /// An engine says what each byte is worth as a digit, and reads the digits at the front of 8 or of
-/// 16 bytes. All parses read their slice by these two functions. An engine may override the two
-/// others under the same clauses.
+/// 16 bytes, by two functions. The two others parse integers of 64 and of 128 bits by these. An engine
+/// may override them under the same clauses.
 pub trait Engine {
     /// What each byte is worth as a digit. No code can read it.
     ghost table: { Table };

@@ -1,6 +1,6 @@
-//! The parses of integers of 128 bits from the front of a slice: a run that ends in the first two
-//! windows is answered in line, a longer one by the engine. It uses `engine`, `window`, `join`,
-//! `steps` and `error`.
+//! The parses of integers of 128 bits from the front of a slice: a run that ends in the first window,
+//! and mostly one that ends in the second, is answered in line, all others by the engine. It uses
+//! `engine`, `window`, `join`, `steps` and `error`.
 ghost use Rattle.std.specs.Prelude.{◌≡◌, ◌+◌, ◌-◌, ◌<◌, ◌≤◌, ℕ, false, IsTrue, None, IfSome, Ok};
 ghost use Rattle.atoi_core.specs.Loads.{LoadsWithin, most_loads};
 ghost use Rattle.atoi_core.specs.Magnitude.{HasDigits, wide128, prefix_magnitude};

@@ -1,5 +1,5 @@
 //! `Parse` and its twelve types: a number with the sign that may stand before it. It uses
-//! `ParsePos`, `ParseNeg` and the sign of `atoi_core`.
+//! `ParsePos`, `ParseNeg`, and `sign` and `both_signs` of `atoi_core`.
 ghost use Rattle.std.specs.Prelude.{◌≡◌, ◌≤◌, IfOk, length};
 ghost use Rattle.atoi_core.specs.Answer.{typed_answer, typed_prefix_answer, whole_answer, prefix_answer, parse_answer, parse_prefix_answer};
 ghost use Rattle.atoi_core.specs.Digit.{decimal_table};
