@@ -102,8 +102,8 @@ fn second_128<E: Engine>(
     requires full { first.len ≡ 16 }
     ensures answer { IfSome result (λ found. (bound : ℕ) → HasDigits 39 bound
         → Ok found ≡ prefix_magnitude E.table wide128 bound 39 skip s.now) }
-    ensures loads { IfSome result (λ found. LoadsWithin (most_loads E.table wide128 s.now - 1) E.table skip s.now
-        steps.old steps.new) }
+    ensures loads { IfSome result (λ found.
+        LoadsWithin (most_loads E.table wide128 s.now - 1) E.table skip s.now steps.old steps.new) }
     ensures open { result ≡ None → skip ≡ false → 32 ≤ run_len E.table s.now }
     ensures fewest { steps.old ≤ steps.new }
     ensures most { steps.new ≤ steps.old + 1 }
