@@ -37,4 +37,4 @@ pub mod WholeLemmas
 pub mod ReadingLemmas
 pub mod FilledWords
 pub mod ShortRuns
-pub mod SignsAgree
+pub mod NegativeBound

@@ -3,7 +3,6 @@
 //! public in the Rust crate.
 #![tactic(auto)]
 
-mod both_signs;
 mod digit_loop;
 mod dispatch;
 mod engine;
@@ -12,6 +11,7 @@ mod front;
 mod join;
 pub mod laws;
 mod narrow;
+mod negative_bound;
 mod number;
 mod plain;
 pub mod reading;
@@ -23,7 +23,6 @@ mod window;
 mod word_engine;
 pub mod words;
 
-pub use crate::both_signs::{prefix_of_sign, whole_of_sign};
 pub use crate::digit_loop::narrow_whole;
 pub use crate::dispatch::{prefix_neg, prefix_pos, whole_neg, whole_pos};
 pub use crate::engine::Engine;
@@ -31,7 +30,9 @@ pub use crate::error::AtoiSimdError;
 pub use crate::narrow::{narrow_prefix, narrow_whole_windows};
 pub use crate::number::{Number, Signed};
 pub use crate::plain::{Alphabet, Plain, front_of};
-pub use crate::sign::{take_sign, with_sign};
+pub use crate::sign::{
+    parse_prefix_signed, parse_prefix_unsigned, parse_signed, parse_unsigned, take_sign,
+};
 pub use crate::steps::Steps;
 pub use crate::text::decimal;
 pub use crate::wide::{whole_64, whole_128};
