@@ -71,7 +71,6 @@ module _ (k : Kind) (skip : Bool) (limit digits skipped : ℕ) where
       cases false true skips none = refl
       cases false false skips none = refl
 
-
 -- a run is within its slice
 pub run_within : (t : Table) (s : List ℕ) → run_len t s ≤ length s
 run_within t s = prefix_len-le-length (is_digit t) s
@@ -169,11 +168,13 @@ module _ (t : Table) (k : Kind) (minus : Bool) (extent : Extent) (skip : Bool) (
       let number_is : number ≡ number_in reason = sym (number_in-invalid (class_of k) number (run_len t s) s) ∙ ap number_in tests.3 in
       let index_is : run_len t s ≡ index_in reason = sym (index_in-invalid (class_of k) number (run_len t s) s) ∙ ap index_in tests.3 in
       let most : number ≤ bound_of k true = ltb-false (bound_of k true) number tests.2 in
-      let more : bound_of k minus < number = omega arith in
-      (record {
-        least = only_least k minus number most more;
-        refused_is = refused_overflow t (class_of k) (bound_of k minus) (limit_of k) extent skip s (omega (arith, eqb-false (run_len t s) 0 tests.0)) tests.1 more;
-      }, sym index_is)
+      let more : bound_of k minus < number = omega arith in (
+        record {
+          least = only_least k minus number most more;
+          refused_is = refused_overflow t (class_of k) (bound_of k minus) (limit_of k) extent skip s (omega (arith, eqb-false (run_len t s) 0 tests.0)) tests.1 more;
+        },
+        sym index_is,
+      )
 
 -- a value that is there is the one that was chosen
 chosen : (above : Bool) (y z : ℤ) → Some y ≡ cond above None (Some z) → (above ≡ false) × (y ≡ z)

@@ -63,34 +63,28 @@ pub(crate) fn prefix_with_sign<'a, E: Engine, T: Signed>(
     }
 }
 
-// The number with the sign `minus` whose magnitude is that of `negative`, or none if it is out of range.
-// The sign is data here: it selects one of two numbers.
+// The number with the sign `minus` whose magnitude is that of `negative`, or none if it is out of
+// range. The sign is data here: it selects one of two numbers.
 fn in_range<T: Signed>(minus: bool, negative: T) -> Option<T>
     ensures { (magnitude : ℕ) → T.number negative ≡ number_of true magnitude
         → option_map T.number result ≡ (if nat_lt (bound_of T.kind minus) magnitude then None
         else Some (number_of minus magnitude)) }
 {
     let (_, magnitude) = negative.parts();
-    if is_above::<T>(minus, magnitude) {
+    // Types of at most 32 bits take a magnitude without a minus as one more, so that one comparison
+    // serves both signs. In wider types that addition costs more than it saves: there the sign is read
+    // only of a magnitude above `T::MAX`.
+    let is_above = if T::BITS <= 32 {
+        magnitude as u64 + u64::from(!minus) > T::LEAST_MAGNITUDE as u64
+    } else {
+        magnitude > T::GREATEST && has_no_minus_cold(minus)
+    };
+    if is_above {
         None
     } else if minus {
         Some(negative)
     } else {
         Some(T::from_pos(magnitude))
-    }
-}
-
-// Whether a magnitude is above the bound of the sign `minus`. Types of at most 32 bits take a
-// magnitude without a minus as one more, so that one comparison serves both signs. In wider types that
-// addition costs more than it saves: there the sign is read only of a magnitude above `T::MAX`.
-fn is_above<T: Signed>(minus: bool, magnitude: u128) -> bool
-    requires { magnitude ≤ T.LEAST_MAGNITUDE }
-    ensures { result ≡ nat_lt (bound_of T.kind minus) magnitude }
-{
-    if T::BITS <= 32 {
-        magnitude as u64 + u64::from(!minus) > T::LEAST_MAGNITUDE as u64
-    } else {
-        magnitude > T::GREATEST && has_no_minus_cold(minus)
     }
 }
 

@@ -107,10 +107,8 @@ pub fn parse_prefix_signed<'a, E: Engine, T: Signed>(
 {
     let (minus, body) = take_sign(true, skip_plus, s);
     let negative = prefix_neg::<E, T>(skip, body, steps);
-    match prefix_with_sign::<E, T>(minus, skip, body, negative) {
-        Ok((number, len)) => Ok((number, len + (s.len() - body.len()))),
-        Err(error) => Err(error),
-    }
+    let (number, len) = prefix_with_sign::<E, T>(minus, skip, body, negative)?;
+    Ok((number, len + (s.len() - body.len())))
 }
 
 /// Parses the number of the unsigned type `T` at the start of `s`, and returns how many bytes it has,
@@ -134,10 +132,8 @@ pub fn parse_prefix_unsigned<'a, E: Engine, T: Number>(
         steps.old steps.new }
 {
     let (_, body) = take_sign(false, skip_plus, s);
-    match prefix_pos::<E, T>(skip, body, steps) {
-        Ok((number, len)) => Ok((number, len + (s.len() - body.len()))),
-        Err(error) => Err(error),
-    }
+    let (number, len) = prefix_pos::<E, T>(skip, body, steps)?;
+    Ok((number, len + (s.len() - body.len())))
 }
 
 #[cfg(test)]

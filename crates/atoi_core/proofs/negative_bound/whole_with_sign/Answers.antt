@@ -31,28 +31,36 @@ whole_overflow-requires-in-Some-digits_above-clause-least g c =
 
 pub returns-in-Some : goal.returns-in-Some
 returns-in-Some g c =
-    record { answer =
-    whole_number g.E.Engine.table g.T.Number.kind c.args.minus c.args.skip c.args.s.now _ _
-    (ap (typed_answer g.T.Number.number) (sym c.in-Ok.is) ∙ c.requires.negative) c.in-Some.ensures }
+    record {
+      answer =
+          whole_number g.E.Engine.table g.T.Number.kind c.args.minus c.args.skip c.args.s.now _ _
+          (ap (typed_answer g.T.Number.number) (sym c.in-Ok.is) ∙ c.requires.negative) c.in-Some.ensures;
+    }
 
 pub returns-in-None : goal.returns-in-None
 returns-in-None g c =
     let found = whole_least g.E.Engine.table g.T.Number.kind c.args.minus c.args.skip c.args.s.now _
     (ap (typed_answer g.T.Number.number) (sym c.in-Ok.is) ∙ c.requires.negative) c.in-None.ensures in
-    record { answer =
-    whole_overflows g.E.Engine.table g.T.Number.kind c.args.minus c.args.skip c.args.s.now
-    (length c.args.s.now) _ found.0 found.1 c.whole_overflow.ensures }
+    record {
+      answer =
+          whole_overflows g.E.Engine.table g.T.Number.kind c.args.minus c.args.skip c.args.s.now
+          (length c.args.s.now) _ found.0 found.1 c.whole_overflow.ensures;
+    }
 
 pub returns-in-Some-digits_above : goal.returns-in-Some-digits_above
 returns-in-Some-digits_above g c =
     let found = whole_error_least g.E.Engine.table g.T.Number.kind c.args.minus c.args.skip c.args.s.now _ _
     (ap (typed_answer g.T.Number.number) (sym c.in-Err.is) ∙ c.requires.negative) c.in-Some-digits_above.ensures in
-    record { answer =
-    whole_overflows g.E.Engine.table g.T.Number.kind c.args.minus c.args.skip c.args.s.now
-    _ _ found.0 found.1 c.whole_overflow-in-Some-digits_above.ensures }
+    record {
+      answer =
+          whole_overflows g.E.Engine.table g.T.Number.kind c.args.minus c.args.skip c.args.s.now
+          _ _ found.0 found.1 c.whole_overflow-in-Some-digits_above.ensures;
+    }
 
 pub returns-in-None-digits_above : goal.returns-in-None-digits_above
 returns-in-None-digits_above g c =
-    record { answer =
-    whole_error g.E.Engine.table g.T.Number.kind c.args.minus c.args.skip c.args.s.now _
-    (ap (typed_answer g.T.Number.number) (sym c.in-Err.is) ∙ c.requires.negative) c.in-None-digits_above.ensures }
+    record {
+      answer =
+          whole_error g.E.Engine.table g.T.Number.kind c.args.minus c.args.skip c.args.s.now _
+          (ap (typed_answer g.T.Number.number) (sym c.in-Err.is) ∙ c.requires.negative) c.in-None-digits_above.ensures;
+    }
