@@ -8,5 +8,5 @@ use Rattle.atoi_lanes.proofs.window_32.number_of_two.Goals as goal
 pub returns : goal.returns
 returns c =
     let high = c.sum_lanes-high.ensures ∙ ap (value decimal_table) (take_all 16 c.args.first (omega (arith, c.fits-first.0))) in
-    c.joined.ensures ∙ ap₂ (λ a b. a * 10 ^ c.args.more + b) high c.sum_lanes.ensures
+    c.append_digits.ensures ∙ ap₂ (λ a b. a * 10 ^ c.args.more + b) high c.sum_lanes.ensures
     ∙ value-of_two c.args.first c.args.second c.args.more (omega (arith, c.fits-second.0, c.requires.within))
