@@ -32,7 +32,7 @@ pub(crate) fn front_128<'a, E: Engine>(
 ) -> Result<(u128, usize), AtoiSimdError<'a>>
     requires digits { HasDigits 39 bound }
     ensures answer { answer_of result ≡ prefix_magnitude E.table wide128 bound 39 skip s.now }
-    ensures loads { LoadsWithin (most_loads E.table wide128 s.now) E.table skip s.now
+    ensures loads { LoadsWithin (most_loads E.table wide128 s.now) 5 E.table skip s.now
         steps.old steps.new }
 {
     match by_two_windows::<E>(skip, whole, s, steps) {
@@ -52,7 +52,7 @@ fn by_engine<'a, E: Engine>(
 ) -> Result<(u128, usize), AtoiSimdError<'a>>
     requires digits { HasDigits 39 bound }
     ensures answer { answer_of result ≡ prefix_magnitude E.table wide128 bound 39 skip s.now }
-    ensures loads { LoadsWithin (most_loads E.table wide128 s.now - 2) E.table skip s.now
+    ensures loads { LoadsWithin (most_loads E.table wide128 s.now - 2) 3 E.table skip s.now
         steps.old steps.new }
 {
     out_of_line(E::prefix_128(bound, skip, s, steps))
@@ -69,7 +69,7 @@ fn by_two_windows<'a, E: Engine>(
     ensures answer { IfSome result (λ answer. (bound : ℕ) → HasDigits 39 bound
         → answer_of answer ≡ prefix_magnitude E.table wide128 bound 39 skip s.now) }
     ensures loads { IfSome result (λ answer.
-        LoadsWithin (most_loads E.table wide128 s.now) E.table skip s.now steps.old steps.new) }
+        LoadsWithin (most_loads E.table wide128 s.now) 2 E.table skip s.now steps.old steps.new) }
     ensures open { result ≡ None → skip ≡ false → whole ≡ false → 32 ≤ run_len E.table s.now }
     ensures fewest { steps.old < steps.new }
     ensures most { steps.new ≤ steps.old + 2 }
@@ -103,7 +103,7 @@ fn second_128<E: Engine>(
     ensures answer { IfSome result (λ found. (bound : ℕ) → HasDigits 39 bound
         → Ok found ≡ prefix_magnitude E.table wide128 bound 39 skip s.now) }
     ensures loads { IfSome result (λ found.
-        LoadsWithin (most_loads E.table wide128 s.now - 1) E.table skip s.now steps.old steps.new) }
+        LoadsWithin (most_loads E.table wide128 s.now - 1) 1 E.table skip s.now steps.old steps.new) }
     ensures open { result ≡ None → skip ≡ false → 32 ≤ run_len E.table s.now }
     ensures fewest { steps.old ≤ steps.new }
     ensures most { steps.new ≤ steps.old + 1 }

@@ -98,8 +98,8 @@ fn called_behind_zeros<'a>(
     requires told { zeroes ≡ (window_of decimal_table 16 s.now).zeroes }
     ensures answer { answer_of result
         ≡ prefix_magnitude decimal_table wide64 bound limit true s.now }
-    ensures loads { LoadsWithin (most_loads decimal_table wide64 s.now - 2) decimal_table true s.now
-        steps.old steps.new }
+    ensures loads { LoadsWithin (most_loads decimal_table wide64 s.now - 2) 1 decimal_table true
+        s.now steps.old steps.new }
 {
     out_of_line(behind_zeros(bound, limit, zeroes, s, steps))
 }
@@ -121,8 +121,8 @@ fn behind_zeros<'a>(
     requires told { zeroes ≡ (window_of decimal_table 16 s.now).zeroes }
     ensures answer { answer_of result
         ≡ prefix_magnitude decimal_table wide64 bound limit true s.now }
-    ensures loads { LoadsWithin (most_loads decimal_table wide64 s.now - 2) decimal_table true s.now
-        steps.old steps.new }
+    ensures loads { LoadsWithin (most_loads decimal_table wide64 s.now - 2) 1 decimal_table true
+        s.now steps.old steps.new }
 {
     let mut at = zeroes as usize;
     let front = loop {

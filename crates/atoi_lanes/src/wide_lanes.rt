@@ -38,7 +38,7 @@ pub fn prefix_64_lanes<'a>(
     requires limit_high { limit ≤ 20 }
     requires digits { HasDigits limit bound }
     ensures answer { answer_of result ≡ prefix_magnitude decimal_table wide64 bound limit skip s.now }
-    ensures loads { LoadsWithin (zeros decimal_table s.now / 32 + 2) decimal_table skip s.now
+    ensures loads { LoadsWithin (zeros decimal_table s.now / 32 + 2) 1 decimal_table skip s.now
         steps.old steps.new }
 {
     // A window tells the zeros of the slice, but for those behind it.
@@ -80,7 +80,7 @@ pub fn prefix_128_lanes<'a>(
 ) -> Result<(u128, usize), AtoiSimdError<'a>>
     requires digits { HasDigits 39 bound }
     ensures answer { answer_of result ≡ prefix_magnitude decimal_table wide128 bound 39 skip s.now }
-    ensures loads { LoadsWithin (zeros decimal_table s.now / 32 + 3) decimal_table skip s.now
+    ensures loads { LoadsWithin (zeros decimal_table s.now / 32 + 3) 2 decimal_table skip s.now
         steps.old steps.new }
 {
     // A window tells the zeros of the slice, but for those behind it.

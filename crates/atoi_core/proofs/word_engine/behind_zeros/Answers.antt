@@ -43,6 +43,7 @@ returns-then-front-lt16-clause-loads c =
     let so = ended (goal.at.returns-then-front-lt16-clause-loads c).After-window-window c.if-window-eq0.true in
     record {
       at_most = omega (arith, so.most);
+      at_most_unskipped = λ off. absurd (cc off);
       at_least = λ _. omega (arith, so.more);
       at_least_skipping = λ _. omega (arith, so.least refl);
     }
@@ -95,6 +96,7 @@ returns-clause-loads c =
     let so = ended (goal.at.returns-clause-loads c).After-window-window c.if-window-eq0.true in
     record {
       at_most = omega (arith, so.most, c.window_from_16-back.ensures.one_step);
+      at_most_unskipped = λ off. absurd (cc off);
       at_least = λ _. omega (arith, so.more, c.window_from_16-back.ensures.one_step);
       at_least_skipping = λ _. omega (arith, so.least refl, c.window_from_16-back.ensures.one_step);
     }

@@ -38,7 +38,7 @@ pub returns-else-len-eq0-clause-loads : goal.returns-else-len-eq0-clause-loads
 returns-else-len-eq0-clause-loads g c =
     let so = Skipped-end _ g.met.Self.Engine.below_ten _ _ _ _ _ _ c.window-next.result
     c.loop-next.invariant c.window-next.ensures.window c.window-next.ensures.one_step c.then-not-skip.either in
-    Skipped-loads _ _ _ _ _ _ _ _ _ so 0 (omega arith) (omega arith)
+    Skipped-loads so 0 (omega arith) (omega arith) (omega arith)
 
 -- where the loop ends, at a full window
 ended : (g : _) (c : After-window-second g)
@@ -73,8 +73,8 @@ returns-then-second-lt16-clause-answer g c =
 
 pub returns-then-second-lt16-clause-loads : goal.returns-then-second-lt16-clause-loads
 returns-then-second-lt16-clause-loads g c =
-    Skipped-loads _ _ _ _ _ _ _ _ _ (ended g (goal.at.returns-then-second-lt16-clause-loads g c).After-window-second)
-    1 (omega (arith, c.window-second.ensures.one_step)) (omega arith)
+    Skipped-loads (ended g (goal.at.returns-then-second-lt16-clause-loads g c).After-window-second)
+    1 (omega (arith, c.window-second.ensures.one_step)) (omega arith) (omega arith)
 
 -- two full windows stand within the slice
 two_long : (g : _) (c : After-window-second g) → 16 ≤ c.window-second.result.len → 32 ≤ length (drop c.loop-next.at c.args.s.now)
@@ -111,5 +111,5 @@ returns-clause-answer g c =
 
 pub returns-clause-loads : goal.returns-clause-loads
 returns-clause-loads g c =
-    Skipped-loads _ _ _ _ _ _ _ _ _ (ended g (goal.at.returns-clause-loads g c).After-window-second)
-    2 (omega (arith, c.window-second.ensures.one_step, c.window_8-third.ensures.one_step)) (omega arith)
+    Skipped-loads (ended g (goal.at.returns-clause-loads g c).After-window-second)
+    2 (omega (arith, c.window-second.ensures.one_step, c.window_8-third.ensures.one_step)) (omega arith) (omega arith)

@@ -29,7 +29,7 @@ returns-then-front-lt16-clause-answer c =
 pub returns-then-front-lt16-clause-loads : goal.returns-then-front-lt16-clause-loads
 returns-then-front-lt16-clause-loads c =
     let so = last (goal.at.returns-then-front-lt16-clause-loads c).After-window-front c.else-skip.either in
-    Skipped-loads _ _ _ _ _ _ _ _ _ so 0 (omega arith) (omega arith)
+    Skipped-loads so 0 (omega arith) (omega arith) (omega arith)
 
 pub window_from_16-back-requires : goal.window_from_16-back-requires
 window_from_16-back-requires c =
@@ -66,4 +66,4 @@ returns-else-front-lt16-clause-answer c =
 pub returns-else-front-lt16-clause-loads : goal.returns-else-front-lt16-clause-loads
 returns-else-front-lt16-clause-loads c =
     let so = last (goal.at.returns-else-front-lt16-clause-loads c).After-window-front c.else-skip.either in
-    Skipped-loads _ _ _ _ _ _ _ _ _ so 1 (omega (arith, c.window_from_16-back.ensures.one_step)) (omega arith)
+    Skipped-loads so 1 (omega (arith, c.window_from_16-back.ensures.one_step)) (omega arith) (omega arith)
