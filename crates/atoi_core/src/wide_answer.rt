@@ -1,7 +1,7 @@
 //! Powers of ten, and the answers of the parses of 64 and of 128 bits once their digits have been
 //! read. An engine that reads wide integers by loops of its own may use them too. It uses `error`.
-ghost use Rattle.std.specs.Prelude.{◌≡◌, ◌+◌, ◌*◌, ◌^◌, ◌≤◌, nat_lt, if◌then◌else◌, length};
-ghost use Rattle.atoi_core.specs.Magnitude.{wide64, wide128};
+ghost use Rattle.std.specs.Prelude.{◌≡◌, ◌+◌, ◌*◌, ◌^◌, ◌<◌, ◌≤◌, nat_lt, if◌then◌else◌, length};
+ghost use Rattle.atoi_core.specs.Magnitude.{HasDigits, wide64, wide128};
 ghost use Rattle.atoi_core.specs.Reading.{answer_by_digits};
 ghost use Rattle.atoi_core.specs.Refusal.{answer_of};
 
@@ -95,7 +95,9 @@ pub fn answer_128<'a>(
     low: u64,
     s: &'a [u8],
 ) -> Result<(u128, usize), AtoiSimdError<'a>>
+    requires digits { HasDigits 39 bound }
     requires few { more ≤ 8 }
+    requires below { high * 10 ^ more + low < 10 ^ (32 + more) }
     requires inside { skipped + (32 + more) ≤ length s.now }
     ensures { answer_of result ≡ answer_by_digits wide128 bound 39 skipped (32 + more)
         (high * 10 ^ more + low) s.now }
@@ -104,19 +106,22 @@ pub fn answer_128<'a>(
     if more == 8 {
         return Err(AtoiSimdError::Size(len, &s[skipped..]));
     }
-    match up_to(bound, high, power_of_ten(more), low) {
+    let power = u128::from(power_of_ten(more));
+    if more < 7 {
+        // Fewer than 39 digits are never above the bound.
+        return Ok((high * power + u128::from(low), len));
+    }
+    match up_to(bound, high, power, low) {
         Some(number) => Ok((number, len)),
         None => Err(AtoiSimdError::Overflow(&s[skipped..])),
     }
 }
 
 // Returns `high * power + low`, or `None` if that is above `bound`.
-fn up_to(bound: u128, high: u128, power: u64, low: u64) -> Option<u128>
+fn up_to(bound: u128, high: u128, power: u128, low: u64) -> Option<u128>
     ensures { result ≡ (if nat_lt bound (high * power + low) then None
         else Some (high * power + low)) }
 {
-    let number = high
-        .checked_mul(u128::from(power))?
-        .checked_add(u128::from(low))?;
+    let number = high.checked_mul(power)?.checked_add(u128::from(low))?;
     if number > bound { None } else { Some(number) }
 }

@@ -99,7 +99,9 @@ answer_128-requires g c =
     let back = third g at.After-window_8-third in
     let read = read_three g at.After-window-second c.if-second-lt16.false c.window_8-third.result back in
     record {
+      digits = c.requires.digits;
       few = back.reads.within;
+      below = rw c.append_digits-high.ensures read.below;
       inside = omega (arith, read.inside, (ended g at.After-window-second).within, prefix_len-le-length (is_digit g.Self.Engine.table) (drop c.loop-next.at c.args.s.now), length-drop c.loop-next.at c.args.s.now);
     }
 
