@@ -54,6 +54,21 @@ joined t count more s leading high digits others low front back =
       number_is = sym (cut ∙ sum);
     }
 
+-- a reading that does not end in digits tells of more bytes too
+pub widened : (t : Table) (count more : ℕ) (s : List ℕ) (digits leading number : ℕ) → Reading t count s digits leading number
+    → digits < count → count ≤ more → Reading t more s digits leading number
+widened t count more s digits leading number reading ends longer =
+    let all : run_len t s ≡ digits = omega (arith, reading.digits_are, prefix_len-take (is_digit t) count s) in
+    let few : digits ≤ count = omega arith in
+    let len : digits ≡ run_len t (take more s) = omega (arith, prefix_len-take (is_digit t) more s) in
+    record {
+      digits_are = len;
+      leading_are = omega (arith, reading.leading_are, prefix_len-take (is_zero t) count s, prefix_len-take (is_zero t) more s, zeros-le t s);
+      number_is = reading.number_is ∙ ap (λ (n : ℕ). value t (take n (take count s))) (sym reading.digits_are)
+          ∙ ap (value t) (take-take digits count s few ∙ sym (take-take digits more s (omega arith)))
+          ∙ ap (λ (n : ℕ). value t (take n (take more s))) len;
+    }
+
 -- zeros are digits, and digits are bytes
 pub within : (t : Table) (count : ℕ) (s : List ℕ) (digits leading number : ℕ) → Reading t count s digits leading number
     → (leading ≤ digits) × (digits ≤ min count (length s))

@@ -1,6 +1,6 @@
 //! The parses of integers of 128 bits from the front of a slice: a run that ends in the first window,
 //! and mostly one that ends in the second, is answered in line, all others by the engine. It uses
-//! `engine`, `window`, `join`, `steps` and `error`.
+//! `engine`, `window`, `wide_answer`, `steps` and `error`.
 ghost use Rattle.std.specs.Prelude.{◌≡◌, ◌+◌, ◌-◌, ◌<◌, ◌≤◌, ℕ, false, IsTrue, None, IfSome, Ok};
 ghost use Rattle.atoi_core.specs.Loads.{LoadsWithin, most_loads};
 ghost use Rattle.atoi_core.specs.Magnitude.{HasDigits, wide128, prefix_magnitude};
@@ -10,8 +10,8 @@ ghost use Rattle.atoi_core.specs.Window.{window_of};
 
 use crate::engine::Engine;
 use crate::error::{AtoiSimdError, out_of_line};
-use crate::join::power_of_ten;
 use crate::steps::Steps;
+use crate::wide_answer::append_digits;
 use crate::window::Window;
 
 /// What `Engine::prefix_128` answers, where the first two windows are read in line. Fewer than 32
@@ -111,8 +111,8 @@ fn second_128<E: Engine>(
     if !skip || first.zeroes == 0 {
         let second = E::window(&s[16..], steps);
         if second.len < 16 {
-            let high = u128::from(first.number) * u128::from(power_of_ten(second.len));
-            return Some((high + u128::from(second.number), 16 + second.len as usize));
+            let number = append_digits(first.number, second.len, second.number);
+            return Some((number, 16 + second.len as usize));
         }
     }
     None
