@@ -89,10 +89,9 @@ with_zeros k form count s =
     take sign.taken s ++ (replicate count zero_byte ++ sign.body)
 
 -- the decimal text of every number of the type is parsed to that number, whatever the flags
-abbrev pub TextOfValue : Kind → Type 0
-TextOfValue k =
-    (skip plus : Bool) (x : ℤ) → least_of k ≤ℤ x → x ≤ℤ pos k.greatest
-    → parse_answer k skip plus (signed_decimal x) ≡ Ok x
+pub record TextOfValue (k : Kind) : Type 0 where
+  pub parsed : (skip plus : Bool) (x : ℤ) → least_of k ≤ℤ x → x ≤ℤ pos k.greatest
+      → parse_answer k skip plus (signed_decimal x) ≡ Ok x
 
 -- `parse` with both flags accepts exactly the texts of the type, and answers a text's number
 pub record AcceptedTexts (k : Kind) : Type 0 where
@@ -165,11 +164,10 @@ pub record PrefixIsWhole (k : Kind) : Type 0 where
       → whole_call k form skip s ≡ Ok v → prefix_call k form skip s ≡ Ok (v, length s)
 
 -- a prefix ends within the slice, is not empty, and is answered alike where the slice ends with it
-abbrev pub PrefixOfCut : Kind → Type 0
-PrefixOfCut k =
-    (form : SignForm) → HasForm k form → (skip : Bool) (s : List ℕ) (v : ℤ) (count : ℕ)
-    → prefix_call k form skip s ≡ Ok (v, count)
-    → (1 ≤ count) × (count ≤ length s) × (prefix_call k form skip (take count s) ≡ Ok (v, count))
+pub record PrefixOfCut (k : Kind) : Type 0 where
+  pub cut : (form : SignForm) → HasForm k form → (skip : Bool) (s : List ℕ) (v : ℤ) (count : ℕ)
+      → prefix_call k form skip s ≡ Ok (v, count)
+      → (1 ≤ count) × (count ≤ length s) × (prefix_call k form skip (take count s) ≡ Ok (v, count))
 
 -- a prefix stops at the slice's end, or at a byte that is no digit
 abbrev pub PrefixStopsAtRest : Kind → Type 0
