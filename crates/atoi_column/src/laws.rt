@@ -25,8 +25,6 @@ pub fn texts_and_items<T: Number>()
 pub fn items_decide<T: Number>()
     ensures { ItemsDecide T.kind }
 {
-    accepted_texts::<T>();
-    accepted_numbers::<T>();
     texts_and_items::<T>();
 }
 
