@@ -3,6 +3,7 @@
 //! public in the Rust crate.
 #![tactic(auto)]
 
+mod alphabet;
 mod both_signs;
 mod digit_loop;
 mod dispatch;
@@ -23,6 +24,7 @@ mod window;
 mod word_engine;
 pub mod words;
 
+pub use crate::alphabet::{Alphabet, front_of};
 pub use crate::both_signs::{prefix_of_sign, whole_of_sign};
 pub use crate::digit_loop::narrow_whole;
 pub use crate::dispatch::{prefix_neg, prefix_pos, whole_neg, whole_pos};
@@ -30,7 +32,7 @@ pub use crate::engine::Engine;
 pub use crate::error::AtoiSimdError;
 pub use crate::narrow::{narrow_prefix, narrow_whole_windows};
 pub use crate::number::{Number, Signed};
-pub use crate::plain::{Alphabet, Plain, front_of};
+pub use crate::plain::Plain;
 pub use crate::sign::{take_sign, with_sign};
 pub use crate::steps::Steps;
 pub use crate::text::decimal;
