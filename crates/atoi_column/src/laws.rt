@@ -9,6 +9,7 @@ use atoi_core::laws::{accepted_numbers, accepted_texts};
 /// type: an optional `+`, or `-` where the type is signed, one or more digits, nothing behind them,
 /// and the value in range. Where there is such a field, one error follows, by what `parse_prefix`
 /// with both flags answers from the field's first byte on, and nothing behind it.
+#[tactic(auto, using(crate::proofs::TextLemmas::texts_and_items))]
 pub fn texts_and_items<T: Number>()
     ensures { TextsAndItems T.kind }
 {
@@ -20,16 +21,16 @@ pub fn texts_and_items<T: Number>()
 /// the type that writes its value. Where an error comes after values, it is that of the first field
 /// that is no such text: `index` is the field's number, and `place` is that of the first byte of it
 /// that belongs to no number.
+#[tactic(auto, using(crate::proofs::DecideLemmas::items_decide))]
 pub fn items_decide<T: Number>()
     ensures { ItemsDecide T.kind }
 {
-    accepted_texts::<T>();
-    accepted_numbers::<T>();
     texts_and_items::<T>();
 }
 
 /// The first field of an input that has a byte ends before its first separator, and the other
 /// fields are those of what stands after that separator.
+#[tactic(auto, using(crate::proofs::FieldLemmas::fields_of_first))]
 pub fn first_field()
     ensures { FirstField }
 {}

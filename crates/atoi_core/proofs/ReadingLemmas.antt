@@ -7,7 +7,7 @@ use Rattle.atoi_core.specs.Digit.{Table, IsBelowTen, is_digit, is_zero}
 use Rattle.atoi_core.specs.Run.{run_len, run, zeros, value}
 use Rattle.atoi_core.specs.Refusal.{Refusal, empty, size, overflow}
 use Rattle.atoi_core.specs.Magnitude.{Class, narrow, wide64, wide128, skipped_zeros, refusal, unless_refused, prefix_magnitude}
-use Rattle.atoi_core.specs.Reading.{Reading, IsSkipped, counting_digits, cap, answer_by_digits}
+use Rattle.atoi_core.specs.Reading.{Reading, IsSkipped, counting_digits, cap, answer_by_digits, ReadingDecides}
 use Rattle.atoi_core.proofs.RunLemmas.{prefix_len-take, prefix_len-drop, zeros-le}
 use Rattle.atoi_core.proofs.ValueLemmas.{value-below, value-take-add, value-drop_zeros}
 
@@ -194,3 +194,7 @@ decided t class bound limit less skip s place count digits leading number skippe
           ∙ by_many_digits class bound limit (place + (digits - counting)) (counting_digits skip (run_len t s) (zeros t s)) (value t (run t s)) s less tell.0
           ∙ sym (by_many_digits class bound limit (place + (digits - counting)) counting number s less many)
     ]
+
+-- the law that these add up to
+pub reading_decides : ReadingDecides
+reading_decides = record { zeros_left = zeros_left; joined = joined; widened = widened; within = within; below = below; decided = decided }

@@ -3,6 +3,7 @@
 //! public in the Rust crate.
 #![tactic(auto)]
 
+mod alphabet;
 mod digit_loop;
 mod dispatch;
 mod engine;
@@ -23,13 +24,14 @@ mod window;
 mod word_engine;
 pub mod words;
 
+pub use crate::alphabet::{Alphabet, front_of};
 pub use crate::digit_loop::narrow_whole;
 pub use crate::dispatch::{prefix_neg, prefix_pos, whole_neg, whole_pos};
 pub use crate::engine::Engine;
 pub use crate::error::AtoiSimdError;
 pub use crate::narrow::{narrow_prefix, narrow_whole_windows};
 pub use crate::number::{Number, Signed};
-pub use crate::plain::{Alphabet, Plain, front_of};
+pub use crate::plain::Plain;
 pub use crate::sign::{
     parse_prefix_signed, parse_prefix_unsigned, parse_signed, parse_unsigned, take_sign,
 };

@@ -1,7 +1,7 @@
 -- What the loop keeps: what it has read are digits, and it has their number.
 use Rattle.std.proofs.Common.{◌≡◌, ◌<◌, ◌+◌, ◌^◌, take, drop}
 use Rattle.atoi_core.specs.Run.{run_len, value}
-use Rattle.atoi_core.proofs.plain.read_run.Given as goal
+use Rattle.atoi_core.proofs.alphabet.read_run.Given as goal
 
 abbrev pub invariant-loop-len : goal.invariant-loop-len
 invariant-loop-len g l = record {

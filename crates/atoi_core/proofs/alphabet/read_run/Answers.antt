@@ -1,8 +1,8 @@
 -- A digit more keeps the number within 64 bits, and what the loop keeps.
 use Rattle.std.proofs.Common.{◌≡◌, ◌<◌, ◌+◌, ◌*◌, ◌^◌, ap, ◌∙◌, sym, Some, get_or, arith}
 use Rattle.atoi_core.proofs.Digits.{value_more, run_more, digit_worth, digit_joins, sixteen_digits}
-use Rattle.atoi_core.proofs.plain.read_run.Goals as goal
-use Rattle.atoi_core.proofs.plain.read_run.Goals.{In-Some}
+use Rattle.atoi_core.proofs.alphabet.read_run.Goals as goal
+use Rattle.atoi_core.proofs.alphabet.read_run.Goals.{In-Some}
 
 digit_of : (g : _) (c : goal.In-Some g) → g.A.Alphabet.table (get_or c.args.s.now c.loop-len.len 0) ≡ Some c.in-Some.worth
 digit_of g c = sym c.worth.ensures ∙ c.in-Some.is
