@@ -23,6 +23,7 @@ pub mod CallLemmas
 pub mod LimitLemmas
 pub mod TextLemmas
 pub mod DecimalLemmas
+pub mod DecimalTexts
 pub mod PrefixLemmas
 pub mod FrontLemmas
 pub mod FrontsAndRests
