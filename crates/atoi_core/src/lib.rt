@@ -4,6 +4,7 @@
 #![tactic(auto)]
 
 mod both_signs;
+pub mod derived;
 mod digit_loop;
 mod dispatch;
 mod engine;
