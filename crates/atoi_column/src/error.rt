@@ -1,7 +1,8 @@
 //! Why a field of a column gives no value.
-//! It uses the error of `atoi_simd`.
-ghost use Rattle.std.specs.Prelude.{◌≡◌};
+//! It uses the error of `atoi_simd`, and a law of `atoi_core`.
+ghost use Rattle.std.specs.Prelude.{◌≡◌, ◌↔◌, IsTrue};
 
+use atoi_core::derived::clones_are_the_same;
 use atoi_simd::AtoiSimdError;
 use std::error::Error;
 use std::fmt;
@@ -53,6 +54,18 @@ impl ColumnError<'_> {
             ColumnError::Field { place, .. } | ColumnError::Trailing { place, .. } => *place,
         }
     }
+
+    /// Whether both are one variant and hold equal numbers and equal errors: what `==` returns.
+    pub fn is_same_as(&self, other: &ColumnError<'_>) -> bool
+        ensures { IsTrue result ↔ (flaw_of self.now ≡ flaw_of other.now) }
+    {
+        self == other
+    }
+}
+
+// The law of `clone`, for errors of a column.
+fn clones() {
+    clones_are_the_same::<ColumnError<'_>>();
 }
 
 // The text has the index, the place and the cause.

@@ -4,6 +4,7 @@
 #![tactic(auto)]
 
 mod alphabet;
+pub mod derived;
 mod digit_loop;
 mod dispatch;
 mod engine;

@@ -5,6 +5,7 @@
 mod cents;
 mod commands;
 mod dates;
+mod derived;
 mod json;
 mod log_lines;
 mod own_engine;
