@@ -1,15 +1,15 @@
 -- What the items of an input say of its fields.
-use Rattle.std.proofs.Common.{◌≡◌, ℕ, ◌+◌, true, List, [], ◌∷◌, ◌++◌, length, drop, map, ℤ, Result, Ok, Err, refl, sym, ap, subst, ◌∙◌, arith, append-nil}
+use Rattle.std.proofs.Common.{◌≡◌, ℕ, ◌+◌, true, List, [], ◌∷◌, ◌++◌, length, drop, map, ℤ, Result, Ok, Err, refl, sym, ap, subst, ◌∙◌, arith, append-nil, length-append}
 use Rattle.std.specs.List.{All, AllZip}
 use Rattle.std.proofs.lemmas.List.Elements.{All-nil, All-cons}
 use Rattle.atoi_core.specs.Refusal.{Refusal}
 use Rattle.atoi_core.specs.Kind.{Kind}
 use Rattle.atoi_core.specs.Answer.{parse_prefix_answer}
 use Rattle.atoi_core.specs.Text.{IsText, TextWrites}
-use Rattle.atoi_core.specs.Laws.{looked_for, AcceptedTexts, AcceptedNumbers}
 use Rattle.atoi_column.specs.Fields.{fields_of}
 use Rattle.atoi_column.specs.Items.{Flaw, flaw_at, index_of, place_of}
 use Rattle.atoi_column.specs.Laws.{HasItems, EndsItems, TextsAndItems, IsFirstBad, ItemsDecide, place_behind, number_len}
+use Rattle.atoi_column.proofs.FieldLemmas.{length-fields_of}
 
 -- a list of values is no list of values and then an error
 no_error : (numbers values : List ℤ) (flaw : Flaw) → map Ok numbers ≡ map Ok values ++ Err flaw ∷ [] → ⊥
@@ -42,14 +42,12 @@ place_of-flaw_at index place (Ok found) = refl
 place_of-flaw_at index place (Err reason) = omega arith
 
 -- what writes a number is a text of the type
-module _ (k : Kind) (law : AcceptedTexts k) (numbers : AcceptedNumbers k) where
-  texts_of : (texts : List (List ℕ)) (values : List ℤ) → AllZip (TextWrites k true) texts values → All (IsText k) texts
-  texts_of [] [] written = All-nil (IsText k)
-  texts_of [] (value ∷ values) written = elim written [ ]
-  texts_of (text ∷ texts) [] written = elim written [ ]
-  texts_of (text ∷ texts) (value ∷ values) written =
-      let is : IsText k text = (law.accepted text).0 (rw (numbers.accepted (looked_for true) text value written.0) refl) in
-      All-cons (IsText k) text texts is (texts_of texts values written.1)
+texts_of : (k : Kind) (texts : List (List ℕ)) (values : List ℤ) → AllZip (TextWrites k true) texts values → All (IsText k) texts
+texts_of k [] [] written = All-nil (IsText k)
+texts_of k [] (value ∷ values) written = elim written [ ]
+texts_of k (text ∷ texts) [] written = elim written [ ]
+texts_of k (text ∷ texts) (value ∷ values) written =
+    All-cons (IsText k) text texts (record { number = value; written = written.0 }) (texts_of k texts values written.1)
 
 module _ (k : Kind) (separator : ℕ) (input : List ℕ) (has : HasItems k separator input) (numbers : List ℤ) where
   whole_of : (others : List (List ℕ)) (last : List (Result ℤ Flaw)) → fields_of separator input ≡ has.texts ++ others
@@ -80,15 +78,16 @@ module _ (k : Kind) (separator : ℕ) (input : List ℕ) (has : HasItems k separ
         good = good;
         bad = end.0;
         index_is = ap index_of flaw_is ∙ index_of-flaw_at (length has.texts) place read;
+        index_within = omega (arith, ap index_of flaw_is, index_of-flaw_at (length has.texts) place read, ap length parts, length-append has.texts (field ∷ others), length-fields_of separator input);
         place_is = ap place_of flaw_is ∙ place_of-flaw_at (length has.texts) place read;
       }
 
-pub items_decide : (k : Kind) → AcceptedTexts k → AcceptedNumbers k → TextsAndItems k → ItemsDecide k
-items_decide k texts written law = record {
+pub items_decide : (k : Kind) → TextsAndItems k → ItemsDecide k
+items_decide k law = record {
   whole = λ separator input numbers same.
       let has = law separator input in
       whole_of k separator input has numbers has.others has.last has.fields has.end (sym same ∙ has.items);
   first_bad = λ separator input numbers flaw same.
       let has = law separator input in
-      bad_of k separator input has numbers (texts_of k texts written has.texts has.numbers has.written) flaw has.others has.last has.fields has.end (sym same ∙ has.items);
+      bad_of k separator input has numbers (texts_of k has.texts has.numbers has.written) flaw has.others has.last has.fields has.end (sym same ∙ has.items);
 }

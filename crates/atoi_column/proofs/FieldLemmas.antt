@@ -38,9 +38,9 @@ module _ (p : ℕ → Bool) (xs : List ℕ) where
       let none : length xs ≢ 0 = omega arith in
       rw (one, ne_eqb _ _ none, take_all (position_or_len p xs) xs absent, drop_all (position_or_len p xs + 1) xs (omega arith)) refl
 
-pub fields_of-first : (separator : ℕ) (rest : List ℕ) → 0 < length rest
+pub fields_of_first : (separator : ℕ) (rest : List ℕ) → 0 < length rest
     → fields_of separator rest ≡ before_first (λ byte. byte == separator) rest ∷ fields_of separator (after_first (λ byte. byte == separator) rest)
-fields_of-first separator rest some =
+fields_of_first separator rest some =
     let p : ℕ → Bool = λ byte. byte == separator in
     elim (leb_tells (length rest) (position_or_len p rest)) [
       | inl absent ↦ pieces_last p rest some absent.1

@@ -12,7 +12,7 @@ use Rattle.atoi_core.specs.Answer.{parse_answer, parse_prefix_answer}
 use Rattle.atoi_column.specs.Fields.{fields_of}
 use Rattle.atoi_column.specs.Items.{Flaw, field, trailing, flaw_at, items_from, items_left}
 use Rattle.atoi_column.specs.Laws.{FieldIsPrefix}
-use Rattle.atoi_column.proofs.FieldLemmas.{fields_of-first, length-fields_of}
+use Rattle.atoi_column.proofs.FieldLemmas.{fields_of_first, length-fields_of}
 use Rattle.atoi_column.proofs.PrefixLemmas.{length-before_first}
 
 abbrev same_answer : (r q : Result (ℤ × ℕ) Refusal) → Type 0
@@ -64,7 +64,7 @@ module _ (whole : List ℕ → Result ℤ Refusal) (prefix : List ℕ → Result
     behind = after_first (λ byte. byte == separator) rest
 
     first_field : items_from whole prefix index place rest (fields_of separator rest) ≡ items_from whole prefix index place rest (text ∷ fields_of separator behind)
-    first_field = ap (items_from whole prefix index place rest) (fields_of-first separator rest some)
+    first_field = ap (items_from whole prefix index place rest) (fields_of_first separator rest some)
 
     -- a number that ends where the field does is the first item, and the others are those of what stands behind
     item-value : (v : ℤ) → prefix rest ≡ Ok (v, field_end)

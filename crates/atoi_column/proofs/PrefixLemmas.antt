@@ -127,7 +127,7 @@ fields_are_prefixes k is_whole of_cut rest_changes separator is rest =
           is_whole.whole (looked_for true) tt true text value
           (rw ends (same_kind-ok_back (prefix_call k (looked_for true) true text) (prefix_call k (looked_for true) true rest) (value, position_or_len p rest) same h));
       within = λ value count h.
-          let cut = of_cut (looked_for true) tt true text value count
+          let cut = of_cut.cut (looked_for true) tt true text value count
           (same_kind-ok_back (prefix_call k (looked_for true) true text) (prefix_call k (looked_for true) true rest) (value, count) same h) in
           omega (arith, cut.1, ends);
     }

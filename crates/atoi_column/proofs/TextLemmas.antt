@@ -76,7 +76,7 @@ module _ (k : Kind) (texts : AcceptedTexts k) (numbers : AcceptedNumbers k) (tex
   read_as (Ok v) h = accepted v h (numbers.written (looked_for true) true text v h)
   read_as (Err reason) h =
       refused (λ v ok. ok_or_err (parse_answer k true true text) v reason ok h)
-      (λ is. ok_or_err (parse_answer k true true text) _ reason (texts.number text is) h)
+      (λ is. ok_or_err (parse_answer k true true text) _ reason (texts.number text is.number is.written) h)
 
   read_by_law : IsRead k (parse_answer k true true) text
   read_by_law = read_as (parse_answer k true true text) refl

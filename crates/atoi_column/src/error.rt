@@ -4,6 +4,8 @@ ghost use Rattle.std.specs.Prelude.{◌≡◌, ◌↔◌, IsTrue};
 
 use atoi_core::derived::clones_are_the_same;
 use atoi_simd::AtoiSimdError;
+use std::error::Error;
+use std::fmt;
 
 /// Why a field of a column gives no value.
 ///
@@ -65,3 +67,27 @@ impl ColumnError<'_> {
 fn clones() {
     clones_are_the_same::<ColumnError<'_>>();
 }
+
+// The text has the index, the place and the cause.
+impl fmt::Display for ColumnError<'_> {
+    ghost use Rattle.std.specs.Prelude.{Some};
+    ghost use Rattle.atoi_column.specs.ErrorText.{flaw_text};
+    ghost use Rattle.atoi_column.specs.Items.{flaw_of};
+
+    ghost output = { λ error. Some (flaw_text (flaw_of error)) };
+
+    fn fmt<W: fmt::Write>(&self, f: &mut fmt::Formatter<W>) -> fmt::Result {
+        match *self {
+            ColumnError::Field {
+                index,
+                place,
+                cause,
+            } => write!(f, "field {index} at byte {place} is no number: {cause}"),
+            ColumnError::Trailing { index, place } => {
+                write!(f, "field {index} goes on after its number, at byte {place}")
+            }
+        }
+    }
+}
+
+impl Error for ColumnError<'_> {}

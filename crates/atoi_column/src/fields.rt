@@ -7,6 +7,7 @@ use atoi_core::laws::{prefix_is_whole, prefix_of_cut, rest_changes_nothing};
 
 /// A field is accepted as a whole exactly where the number at the front of the rest of the input
 /// ends with the field, and with the same value. Calling it does nothing.
+#[tactic(auto, using(crate::proofs::PrefixLemmas::fields_are_prefixes))]
 pub fn fields_are_prefixes<T: Number>()
     ensures { FieldsArePrefixes T.kind }
 {

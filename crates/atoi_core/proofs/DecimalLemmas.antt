@@ -1,5 +1,6 @@
 -- The decimal text of a number is parsed to that number.
 use Rattle.std.proofs.Common.{◌≡◌, ℕ, suc, ◌+◌, ◌-◌, ◌^◌, ◌<◌, ◌≤◌, Bool, true, false, cond, eqb, List, [], ◌∷◌, length, decimal, Ok, ℤ, pos, negsuc, neg_ℤ, ◌≤ℤ◌, refl, sym, ap, ◌∙◌, arith, inl, inr, add-one, leb→le, le-leb, lt_of_le_of_lt, Some}
+use Rattle.std.specs.Fmt.{signed_decimal}
 use Rattle.std.specs.Str.Parse.{AllDigits}
 use Rattle.std.proofs.lemmas.Str.Parse.{IsNumeralModel, numerals_by_weight, tells_digits, digit_from_value}
 use Rattle.std.proofs.lemmas.Fmt.{decimal_is_IsNumeral_wide, length-decimal-le_wide}
@@ -8,8 +9,8 @@ use Rattle.atoi_core.specs.Run.{run_len, run, value}
 use Rattle.atoi_core.specs.Magnitude.{whole, is_above}
 use Rattle.atoi_core.specs.Kind.{Kind, IsSized, class_of, bound_of, limit_of}
 use Rattle.atoi_core.specs.Sign.{Sign, sign_of, number_of}
-use Rattle.atoi_core.specs.Answer.{whole_answer}
-use Rattle.atoi_core.specs.Laws.{sign_in, TextOfValue, SkippingAgrees}
+use Rattle.atoi_core.specs.Answer.{whole_answer, parse_answer}
+use Rattle.atoi_core.specs.Laws.{sign_in, least_of, TextOfValue, SkippingAgrees}
 use Rattle.atoi_core.proofs.CutLemmas.{run_all}
 use Rattle.atoi_core.proofs.SignLemmas.{sign_of_digits}
 use Rattle.atoi_core.proofs.CallLemmas.{whole_call-is, from_whole, to_whole, is_whole, whole_is_run}
@@ -118,18 +119,21 @@ sign_of_minus signed true digits h = rw h refl
 sign_of_minus signed false digits h = rw h refl
 
 -- what the least number says of one below 0
-negative_in_range : (signed : Bool) (greatest n : ℕ) → cond signed (neg_ℤ (pos (greatest + 1))) (pos 0) ≤ℤ negsuc n
+pub negative_in_range : (signed : Bool) (greatest n : ℕ) → cond signed (neg_ℤ (pos (greatest + 1))) (pos 0) ≤ℤ negsuc n
     → (signed ≡ true) × (n ≤ greatest)
 negative_in_range false greatest n h = absurd h.le
 negative_in_range true greatest n h = let within = rw add-one at h in (refl, leb→le n greatest within.le)
 
 -- the law: the decimal text of every number of the type is parsed to it
 pub text_of_value : (k : Kind) → IsSized k → TextOfValue k
-text_of_value k sized skip plus (pos n) low high =
-    let text = decimal_text n (lt_of_le_of_lt (leb→le n k.greatest high.le) (bound_below-64 k sized false)) in
-    ap (λ (g : Sign). whole_answer decimal_table k g.minus skip g.body) (sign_of_digits k.signed plus (decimal n) (omega (arith, text.all, text.some)))
-    ∙ magnitude_text k sized false skip n (leb→le n k.greatest high.le)
-text_of_value k sized skip plus (negsuc n) low high =
-    let within = negative_in_range k.signed k.greatest n low in
-    ap (λ (g : Sign). whole_answer decimal_table k g.minus skip g.body) (sign_of_minus k.signed plus (decimal (suc n)) within.0)
-    ∙ magnitude_text k sized true skip (suc n) (omega (arith, within.1))
+text_of_value k sized = record { parsed = parsed }
+  where
+    parsed : (skip plus : Bool) (x : ℤ) → least_of k ≤ℤ x → x ≤ℤ pos k.greatest → parse_answer k skip plus (signed_decimal x) ≡ Ok x
+    parsed skip plus (pos n) low high =
+        let text = decimal_text n (lt_of_le_of_lt (leb→le n k.greatest high.le) (bound_below-64 k sized false)) in
+        ap (λ (g : Sign). whole_answer decimal_table k g.minus skip g.body) (sign_of_digits k.signed plus (decimal n) (omega (arith, text.all, text.some)))
+        ∙ magnitude_text k sized false skip n (leb→le n k.greatest high.le)
+    parsed skip plus (negsuc n) low high =
+        let within = negative_in_range k.signed k.greatest n low in
+        ap (λ (g : Sign). whole_answer decimal_table k g.minus skip g.body) (sign_of_minus k.signed plus (decimal (suc n)) within.0)
+        ∙ magnitude_text k sized true skip (suc n) (omega (arith, within.1))

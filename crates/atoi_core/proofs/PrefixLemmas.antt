@@ -116,4 +116,4 @@ found_in_cut k form skip s v count h =
 
 -- the law, for the calls of the type
 pub prefix_of_cut : (k : Kind) → PrefixOfCut k
-prefix_of_cut k form has skip s v count h = found_in_cut k form skip s v count h
+prefix_of_cut k = record { cut = λ form has. found_in_cut k form }

@@ -7,7 +7,7 @@ use Rattle.atoi_core.specs.Digit.{Table, IsBelowTen, is_digit, is_zero}
 use Rattle.atoi_core.specs.Run.{run_len, run, zeros, value}
 use Rattle.atoi_core.specs.Refusal.{Refusal, empty, size, overflow}
 use Rattle.atoi_core.specs.Magnitude.{Class, narrow, wide64, wide128, skipped_zeros, refusal, unless_refused, prefix_magnitude}
-use Rattle.atoi_core.specs.Reading.{Reading, IsSkipped, counting_digits, cap, answer_by_digits}
+use Rattle.atoi_core.specs.Reading.{Reading, IsSkipped, counting_digits, cap, answer_by_digits, ReadingDecides}
 use Rattle.atoi_core.proofs.RunLemmas.{prefix_len-take, prefix_len-drop, zeros-le}
 use Rattle.atoi_core.proofs.ValueLemmas.{value-below, value-take-add, value-drop_zeros}
 
@@ -52,6 +52,21 @@ joined t count more s leading high digits others low front back =
       digits_are = sym all;
       leading_are = sym (prefix_len-take (is_zero t) (count + more) s ∙ zeros_both ∙ ap (λ (n : ℕ). cond (eqb leading count) (count + n) leading) (sym zeros_behind));
       number_is = sym (cut ∙ sum);
+    }
+
+-- a reading that does not end in digits tells of more bytes too
+pub widened : (t : Table) (count more : ℕ) (s : List ℕ) (digits leading number : ℕ) → Reading t count s digits leading number
+    → digits < count → count ≤ more → Reading t more s digits leading number
+widened t count more s digits leading number reading ends longer =
+    let all : run_len t s ≡ digits = omega (arith, reading.digits_are, prefix_len-take (is_digit t) count s) in
+    let few : digits ≤ count = omega arith in
+    let len : digits ≡ run_len t (take more s) = omega (arith, prefix_len-take (is_digit t) more s) in
+    record {
+      digits_are = len;
+      leading_are = omega (arith, reading.leading_are, prefix_len-take (is_zero t) count s, prefix_len-take (is_zero t) more s, zeros-le t s);
+      number_is = reading.number_is ∙ ap (λ (n : ℕ). value t (take n (take count s))) (sym reading.digits_are)
+          ∙ ap (value t) (take-take digits count s few ∙ sym (take-take digits more s (omega arith)))
+          ∙ ap (λ (n : ℕ). value t (take n (take more s))) len;
     }
 
 -- zeros are digits, and digits are bytes
@@ -179,3 +194,7 @@ decided t class bound limit less skip s place count digits leading number skippe
           ∙ by_many_digits class bound limit (place + (digits - counting)) (counting_digits skip (run_len t s) (zeros t s)) (value t (run t s)) s less tell.0
           ∙ sym (by_many_digits class bound limit (place + (digits - counting)) counting number s less many)
     ]
+
+-- the law that these add up to
+pub reading_decides : ReadingDecides
+reading_decides = record { zeros_left = zeros_left; joined = joined; widened = widened; within = within; below = below; decided = decided }

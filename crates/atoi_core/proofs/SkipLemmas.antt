@@ -94,6 +94,7 @@ pub record Skipped (t : Table) (skip : Bool) (s : List ℕ) (at before now : ℕ
   pub last : skip ≡ true → w.zeroes ≡ 0
   pub more : before < now
   pub most : 16 * now ≤ 16 * before + zeros t s + 31
+  pub unskipped : skip ≡ false → now ≤ before + 1
   pub least : skip ≡ true → zeros t s + 16 * before ≤ 16 * now
   pub place : skip ≡ true → (at ≡ 16 * (zeros t s / 16)) ⊎ ((at ≡ zeros t s) × (zeros t s / 16 < run_len t s / 16))
 
@@ -121,6 +122,7 @@ Skipped-end t below skip s at before now next w so e one stops =
       last = last;
       more = omega (arith, so.least);
       most = omega (arith, so.most, so.bounded);
+      unskipped = λ h. omega (arith, so.off h, so.most);
       least = λ h. elim (cases_lt w.len 16) [
         | inl k ↦ omega (arith, short k, so.least)
         | inr k ↦ omega (arith, full h (omega (arith, tell.reads.within)), so.least)
@@ -135,25 +137,28 @@ Skipped-end t below skip s at before now next w so e one stops =
     }
 
 -- a call that loads so many windows more, where these are within its bound
-pub Skipped-loads : (t : Table) (skip : Bool) (s : List ℕ) (at before now : ℕ) (w : Window) (most last : ℕ) →
-    Skipped t skip s at before now w → (more : ℕ) → last ≡ now + more → zeros t s / 16 + 2 + more ≤ most →
-    LoadsWithin most t skip s before last
-Skipped-loads t skip s at before now w most last so more counted bounded = record {
+pub Skipped-loads : {t : Table} {skip : Bool} {s : List ℕ} {at before now last most unskipped : ℕ} {w : Window} →
+    Skipped t skip s at before now w → (more : ℕ) → last ≡ now + more → zeros t s / 16 + 2 + more ≤ most → 1 + more ≤ unskipped →
+    LoadsWithin most unskipped t skip s before last
+Skipped-loads so more counted bounded few = record {
   at_most = omega (arith, so.most);
+  at_most_unskipped = λ off. omega (arith, so.unskipped off);
   at_least = λ _. omega (arith, so.more);
   at_least_skipping = λ on. omega (arith, so.least on);
 }
 
 -- a first window is all that is loaded, and where zeros count and it is full one more
 pub Skipped-one : (t : Table) (skip : Bool) (s : List ℕ) (at before now last : ℕ) {w : Window} → Skipped t skip s at before now w →
-    now ≡ before + 1 → last ≡ now + (if skip || nat_lt (run_len t s) 16 then 0 else 1) → LoadsWithin (most_loads t narrow s) t skip s before last
+    now ≡ before + 1 → last ≡ now + (if skip || nat_lt (run_len t s) 16 then 0 else 1) → LoadsWithin (most_loads t narrow s) 2 t skip s before last
 Skipped-one t true s at before now last so one counted = record {
   at_most = omega arith;
+  at_most_unskipped = λ off. absurd (cc off);
   at_least = λ _. omega arith;
   at_least_skipping = λ on. omega (arith, so.least on);
 }
 Skipped-one t false s at before now last so one counted = record {
   at_most = grind (arith, nat_tests);
+  at_most_unskipped = λ _. grind (arith, nat_tests);
   at_least = λ _. grind (arith, nat_tests);
   at_least_skipping = λ on. absurd (cc on);
 }

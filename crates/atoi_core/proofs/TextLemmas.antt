@@ -4,9 +4,9 @@ use Rattle.std.proofs.lemmas.Bool.{and_parts}
 use Rattle.atoi_core.specs.Digit.{decimal_table}
 use Rattle.atoi_core.specs.Run.{run_len, run, value}
 use Rattle.atoi_core.specs.Kind.{Kind, IsSized, bound_of}
-use Rattle.atoi_core.specs.Sign.{Sign, sign_of, number_of, plus_sign, minus_sign}
+use Rattle.atoi_core.specs.Sign.{Sign, sign_of, plus_sign, minus_sign}
 use Rattle.atoi_core.specs.Answer.{whole_answer, parse_answer}
-use Rattle.atoi_core.specs.Text.{SignMark, no_sign, plus, minus, sign_bytes, is_minus, is_plus, IsText, DigitsWrite, TextWrites}
+use Rattle.atoi_core.specs.Text.{SignMark, no_sign, plus, minus, sign_bytes, is_minus, is_plus, DigitsWrite, TextWrites}
 use Rattle.atoi_core.specs.Laws.{SignForm, looked_for, positive, negative, whole_call, Writes, AcceptedTexts, AcceptedNumbers}
 use Rattle.atoi_core.proofs.CutLemmas.{digits_all, run_all}
 use Rattle.atoi_core.proofs.SignLemmas.{sign_cases, sign_of_digits}
@@ -115,45 +115,12 @@ accepted_numbers k sized = record { written = written; accepted = accepted }
     accepted positive s number h = digits_accepted k sized false s number h
     accepted negative s number h = digits_accepted k sized true s number h
 
--- a text of the type writes its number
-writes : (k : Kind) (s : List ℕ) (text : IsText k s) → TextWrites k true s (number_of (is_minus text.sign) (value decimal_table text.digits))
-writes k s text =
-    let digits = to_std text.digits text.all in
-    let same = own.same text.digits digits in
-    record {
-      sign = text.sign;
-      digits = text.digits;
-      parts = text.parts;
-      signed = text.signed;
-      plus_taken = λ e. refl;
-      written = record { numeral = (text.some, digits); in_range = rw same at text.in_range; value_is = rw same refl };
-    }
-
--- and what writes a number is a text
-is_text : (k : Kind) (s : List ℕ) (number : ℤ) → TextWrites k true s number → IsText k s
-is_text k s number text =
-    let same = own.same text.digits text.written.numeral.1 in
-    record {
-      sign = text.sign;
-      digits = text.digits;
-      parts = text.parts;
-      signed = text.signed;
-      some = text.written.numeral.0;
-      all = digits_all decimal_table text.digits (run_of_digits text.digits text.written.numeral.1);
-      in_range = rw same text.written.in_range;
-    }
-
--- a text is accepted, and its number is the value
-ok_of_text : (k : Kind) → IsSized k → (s : List ℕ) (text : IsText k s)
-    → parse_answer k true true s ≡ Ok (number_of (is_minus text.sign) (value decimal_table text.digits))
-ok_of_text k sized s text = text_accepted k sized true s _ (writes k s text)
-
 -- the law: what is accepted are the texts, and the answer is the number
 pub accepted_texts : (k : Kind) → IsSized k → AcceptedTexts k
 accepted_texts k sized = record {
   accepted = λ s. (
-    λ h. let found = ok_value (parse_answer k true true s) h in is_text k s found.0 (text_written k true true s found.0 found.1),
-    λ text. ok_is_ok _ _ (ok_of_text k sized s text),
+    λ h. let found = ok_value (parse_answer k true true s) h in record { number = found.0; written = text_written k true true s found.0 found.1 },
+    λ text. ok_is_ok _ _ (text_accepted k sized true s text.number text.written),
   );
-  number = ok_of_text k sized;
+  number = text_accepted k sized true;
 }

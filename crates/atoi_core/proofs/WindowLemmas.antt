@@ -130,11 +130,12 @@ Reads-widen t c d s m x reads ends more = record {
 -- two full windows, and what was read behind them
 pub Reads-join_two : (t : Table) (s : List ℕ) (front middle : Window) (m x : ℕ) →
     Shows t 16 s front → 16 ≤ front.len → Shows t 16 (drop 16 s) middle → 16 ≤ middle.len → Reads t 8 (drop 32 s) m x →
-    Reads t 40 s (32 + m) (front.number * 10 ^ (16 + m) + (middle.number * 10 ^ m + x))
+    Reads t 40 s (32 + m) ((front.number * 10 ^ 16 + middle.number) * 10 ^ m + x)
 Reads-join_two t s front middle m x first full second more back =
     let P : List ℕ → Type 0 = λ r. Reads t 8 r m x in
     let rest : Reads t 8 (drop 16 (drop 16 s)) m x = subst P (sym (drop-drop 16 16 s)) back in
     let inner = Reads-join t 16 8 (drop 16 s) middle m x second more rest in
-    let Q : ℕ → Type 0 = λ k. Reads t 40 s k (front.number * 10 ^ (16 + m) + (middle.number * 10 ^ m + x)) in
     let same : 16 + (16 + m) ≡ 32 + m = omega arith in
-    subst Q same (Reads-join t 16 24 s front (16 + m) (middle.number * 10 ^ m + x) first full inner)
+    let sum : front.number * 10 ^ (16 + m) + (middle.number * 10 ^ m + x) ≡ (front.number * 10 ^ 16 + middle.number) * 10 ^ m + x =
+    omega (arith, ap (λ (e : ℕ). front.number * e) (pow-add 10 16 m)) in
+    rw (← same, ← sum) (Reads-join t 16 24 s front (16 + m) (middle.number * 10 ^ m + x) first full inner)

@@ -45,6 +45,9 @@ pub record ReadingDecides : Type 0 where
   pub joined : (table : Table) (count more : ℕ) (s : List ℕ) (leading high digits others low : ℕ)
       → Reading table count s count leading high → Reading table more (drop count s) digits others low
       → Reading table (count + more) s (count + digits) (if leading == count then count + others else leading) (high * 10 ^ digits + low)
+  -- a reading that does not end in digits is also one of more bytes
+  pub widened : (table : Table) (count more : ℕ) (s : List ℕ) (digits leading number : ℕ)
+      → Reading table count s digits leading number → digits < count → count ≤ more → Reading table more s digits leading number
   -- a reading has no more zeros than digits, and no more of these than bytes
   pub within : (table : Table) (count : ℕ) (s : List ℕ) (digits leading number : ℕ)
       → Reading table count s digits leading number → (leading ≤ digits) × (digits ≤ min count (length s))

@@ -1,9 +1,7 @@
 -- The texts of the numbers of an integer type, and what it means that bytes write a number.
-use Rattle.std.specs.Prelude.{◌≡◌, ℕ, ◌<◌, ◌≤◌, Bool, true, false, List, [], ◌∷◌, ◌++◌, length, take, drop, All, IsTrue, ℤ}
+use Rattle.std.specs.Prelude.{◌≡◌, ℕ, ◌<◌, ◌≤◌, Bool, true, false, ◌==◌, List, [], ◌∷◌, ◌++◌, length, take, drop, ℤ}
 use Rattle.std.specs.Char.{IsAsciiDigit}
 use Rattle.std.specs.Str.Parse.{IsNumeral, digits_value}
-use Rattle.atoi_core.specs.Digit.{decimal_table, is_digit}
-use Rattle.atoi_core.specs.Run.{value}
 use Rattle.atoi_core.specs.Kind.{Kind, bound_of}
 use Rattle.atoi_core.specs.Sign.{plus_sign, minus_sign, number_of}
 
@@ -29,17 +27,6 @@ is_plus no_sign = false
 is_plus plus = true
 is_plus minus = false
 
--- s is a text of the type: an optional sign, a minus only where the type is signed, then one or
--- more digits whose value is in range, and nothing behind them
-pub record IsText (k : Kind) (s : List ℕ) : Type 0 where
-  pub sign : SignMark
-  pub digits : List ℕ
-  pub parts : s ≡ sign_bytes sign ++ digits
-  pub signed : is_minus sign ≡ true → k.signed ≡ true
-  pub some : 0 < length digits
-  pub all : All (λ byte. IsTrue (is_digit decimal_table byte)) digits
-  pub in_range : value decimal_table digits ≤ bound_of k (is_minus sign)
-
 -- the bytes are decimal digits alone, one or more, and write the number: it is their value, with a
 -- minus or without, in the range of the type. The words on digits are std's
 pub record DigitsWrite (k : Kind) (is_negative : Bool) (digits : List ℕ) (number : ℤ) : Type 0 where
@@ -57,6 +44,11 @@ pub record TextWrites (k : Kind) (takes_plus : Bool) (s : List ℕ) (number : �
   pub plus_taken : is_plus sign ≡ true → takes_plus ≡ true
   pub written : DigitsWrite k (is_minus sign) digits number
 
+-- s is a text of the type: with a plus allowed, it writes some number
+pub record IsText (k : Kind) (s : List ℕ) : Type 0 where
+  pub number : ℤ
+  pub written : TextWrites k true s number
+
 -- a decimal digit stands at the front
 abbrev pub BeginsWithDigit : List ℕ → Type 0
 BeginsWithDigit [] = ⊥
@@ -69,3 +61,9 @@ pub record FrontWrites (Writes : List ℕ → ℤ → Type 0) (s : List ℕ) (nu
   pub some : 0 < count
   pub within : count ≤ length s
   pub ends : ¬ BeginsWithDigit (drop count s)
+
+-- the digits begin with a zero and have more bytes after it: the number could be written without it
+abbrev pub has_needless_zero : List ℕ → Bool
+has_needless_zero [] = false
+has_needless_zero (digit ∷ []) = false
+has_needless_zero (digit ∷ next ∷ more) = digit == 48

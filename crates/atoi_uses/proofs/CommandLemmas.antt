@@ -4,7 +4,6 @@ use Rattle.std.specs.Prelude.{slice_index}
 use Rattle.atoi_core.specs.Answer.{parse_answer}
 use Rattle.atoi_core.specs.Kinds.{i64_kind}
 use Rattle.atoi_core.specs.Laws.{AcceptedTexts}
-use Rattle.atoi_core.specs.Text.{IsText}
 use Rattle.atoi_uses.specs.Commands.{HasWord, IsCommand}
 use Rattle.atoi_uses.specs.declared.commands.Command.{Command}
 use Rattle.atoi_uses.specs.declared.commands.Word.{Word}
@@ -21,15 +20,12 @@ one_word line Set IncrBy s t h k = absurd (first_apart line 83 73 (ap (λ l. sli
 one_word line IncrBy Set s t h k = absurd (first_apart line 73 83 (ap (λ l. slice_index l 0) h) (ap (λ l. slice_index l 0) k) (omega arith))
 one_word line IncrBy IncrBy s t h k = (refl, ap (drop 7) (sym h ∙ k))
 
-module _ (law : AcceptedTexts i64_kind) (line text : List ℕ) (word : Word) (number : ℤ) (has : HasWord line word text) (ok : parse_answer i64_kind true true text ≡ Ok number) where
-  -- the command of that word and number is the line's
-  pub is_command : IsText i64_kind text → IsCommand line (record { word = word; number = number })
-  is_command is = record { text = text; parts = has; written = is; number_is = let same = law.number text is in cc }
-
-  -- and the only one
-  pub only_command : (command : Command) → IsCommand line command → record { word = word; number = number } ≡ command
-  only_command command is =
-      let one = one_word line word command.word text is.text has is.parts in
-      let same = law.number is.text is.written in
-      let number_is : number ≡ command.number = cc in
-      ap (λ w. record { word = w; number = number }) one.0 ∙ ap (λ n. record { word = command.word; number = n }) number_is
+-- a line is one command at most: that of its word, and of the number that the text after it writes
+pub only_command : AcceptedTexts i64_kind → (line text : List ℕ) (word : Word) (number : ℤ) → HasWord line word text
+    → parse_answer i64_kind true true text ≡ Ok number
+    → (command : Command) → IsCommand line command → record { word = word; number = number } ≡ command
+only_command law line text word number has ok command is =
+    let one = one_word line word command.word text is.text has is.parts in
+    let same = law.number is.text command.number is.written in
+    let number_is : number ≡ command.number = cc in
+    ap (λ w. record { word = w; number = number }) one.0 ∙ ap (λ n. record { word = command.word; number = n }) number_is

@@ -1,12 +1,9 @@
 -- The commands of a protocol: a word, one space, and a number.
-use Rattle.std.specs.Prelude.{◌≡◌, ℕ, true, Option, Some, None, List, ◌++◌, Err, codes}
+use Rattle.std.specs.Prelude.{◌≡◌, ℕ, true, List, ◌++◌, Err, codes}
 use Rattle.atoi_core.specs.Answer.{parse_answer}
-use Rattle.atoi_core.specs.Digit.{decimal_table}
 use Rattle.atoi_core.specs.Kinds.{i64_kind}
-use Rattle.atoi_core.specs.Refusal.{Refusal, refusal_of}
-use Rattle.atoi_core.specs.Run.{value}
-use Rattle.atoi_core.specs.Sign.{number_of}
-use Rattle.atoi_core.specs.Text.{IsText, is_minus}
+use Rattle.atoi_core.specs.Refusal.{refusal_of}
+use Rattle.atoi_core.specs.Text.{TextWrites}
 use Rattle.atoi_uses.specs.declared.commands.Command.{Command}
 use Rattle.atoi_uses.specs.declared.commands.CommandError.{CommandError}
 use Rattle.atoi_uses.specs.declared.commands.CommandError.TheVariants.{UnknownWord, BadNumber}
@@ -26,9 +23,7 @@ HasWord line word text = line ≡ word_text word ++ codes " " ++ text
 pub record IsCommand (line : List ℕ) (command : Command) : Type 0 where
   pub text : List ℕ
   pub parts : HasWord line command.word text
-  pub written : IsText i64_kind text
-  pub number_is : command.number
-      ≡ number_of (is_minus written.sign) (value decimal_table written.digits)
+  pub written : TextWrites i64_kind true text command.number
 
 -- what an error says of the line: it begins with no word and space; or it does, and `parse` refuses
 -- the text after them for that reason
@@ -37,8 +32,3 @@ Refuses line UnknownWord = (word : Word) (text : List ℕ) → ¬ HasWord line w
 Refuses line (BadNumber cause) =
     (word : Word) × ((text : List ℕ)
     × (HasWord line word text × (parse_answer i64_kind true true text ≡ Err (refusal_of cause))))
-
--- what an error says of the number, if it says that there is none
-abbrev pub cause_of : CommandError → Option Refusal
-cause_of UnknownWord = None
-cause_of (BadNumber cause) = Some (refusal_of cause)

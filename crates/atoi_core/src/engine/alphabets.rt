@@ -1,11 +1,11 @@
 //! Two engines of other digits, for tests: what is generic over engines goes by any table. It uses
-//! `plain`, which reads byte by byte by any of them.
+//! `alphabet`, which reads byte by byte by any of them.
 ghost use Rattle.std.proofs.Common.{arith};
 ghost use Rattle.std.proofs.lemmas.Bool.Decides.{nat_tests};
 ghost use Rattle.std.specs.Prelude.{◌-◌, ◌&&◌, nat_le, Some, None, if◌then◌else◌};
 
+use crate::alphabet::{Alphabet, front_of};
 use crate::engine::Engine;
-use crate::plain::{Alphabet, front_of};
 use crate::steps::Steps;
 use crate::window::Window;
 

@@ -1,17 +1,16 @@
 use Rattle.std.proofs.Common.{◌≡◌, Ok, ap, sym, subst, rules, w64}
 use Rattle.std.proofs.lemmas.Int.{to_z-of_z}
 use Rattle.atoi_uses.specs.Commands.{IsCommand}
-use Rattle.atoi_uses.proofs.CommandLemmas.{is_command, only_command}
+use Rattle.atoi_uses.proofs.CommandLemmas.{only_command}
 use Rattle.atoi_uses.proofs.commands.read_command.Goals as goal
 
 pub returns-in-Ok-clause-exact : goal.returns-in-Ok-clause-exact
 returns-in-Ok-clause-exact c =
-    let law = c.accepted_texts.ensures in
     let has = c.in-Some.ensures.some in
-    let is = is_command law c.args.line.now c.in-Some.text.now c.in-Some.word c.in-Ok.number has (search rules) (search rules) in
+    let is : IsCommand c.args.line.now (record { word = c.in-Some.word; number = c.in-Ok.number }) = record { text = c.in-Some.text.now; parts = has; written = (search rules) } in
     rw (to_z-of_z w64 c.in-Ok.number (search rules)) (λ command. (
       λ same. let made : record { word = c.in-Some.word; number = c.in-Ok.number } ≡ command = cc in subst (IsCommand c.args.line.now) made is,
-      λ given. ap Ok (only_command law c.args.line.now c.in-Some.text.now c.in-Some.word c.in-Ok.number has (search rules) command given),
+      λ given. ap Ok (only_command c.accepted_texts.ensures c.args.line.now c.in-Some.text.now c.in-Some.word c.in-Ok.number has (search rules) command given),
     ))
 
 pub returns-in_default-clause-refused : goal.returns-in_default-clause-refused

@@ -4,7 +4,7 @@ use Rattle.std.proofs.lemmas.List.{take_rest, length-drop}
 use Rattle.std.proofs.lemmas.List.Sums.{prefix_len-le-length}
 use Rattle.atoi_core.specs.Digit.{is_digit}
 use Rattle.atoi_core.specs.declared.window.Window.{Window}
-use Rattle.atoi_core.proofs.WindowLemmas.{Reads, Shows, Shows-below, Reads-join_two}
+use Rattle.atoi_core.proofs.WindowLemmas.{Reads, Shows, Reads-join_two}
 use Rattle.atoi_core.proofs.SkipLemmas.{Skipping-none, Skipping-more, Skipped, Skipped-end, Skipped-loads, shows_behind}
 use Rattle.atoi_core.proofs.WideLemmas.{answers_empty, answers_short, answers_full, answers_two}
 use Rattle.atoi_core.proofs.engine.Engine.prefix_128.Goals as goal
@@ -38,7 +38,7 @@ pub returns-else-len-eq0-clause-loads : goal.returns-else-len-eq0-clause-loads
 returns-else-len-eq0-clause-loads g c =
     let so = Skipped-end _ g.met.Self.Engine.below_ten _ _ _ _ _ _ c.window-next.result
     c.loop-next.invariant c.window-next.ensures.window c.window-next.ensures.one_step c.then-not-skip.either in
-    Skipped-loads _ _ _ _ _ _ _ _ _ so 0 (omega arith) (omega arith)
+    Skipped-loads so 0 (omega arith) (omega arith) (omega arith)
 
 -- where the loop ends, at a full window
 ended : (g : _) (c : After-window-second g)
@@ -61,7 +61,7 @@ third g c =
 read_three : (g : _) (c : After-window-second g) → 16 ≤ c.window-second.result.len
     → (last : Window) → Shows g.Self.Engine.table 8 (drop 32 (drop c.loop-next.at c.args.s.now)) last
     → Reads g.Self.Engine.table 40 (drop c.loop-next.at c.args.s.now) (32 + last.len)
-    (c.window-next.result.number * 10 ^ (16 + last.len) + (c.window-second.result.number * 10 ^ last.len + last.number))
+    ((c.window-next.result.number * 10 ^ 16 + c.window-second.result.number) * 10 ^ last.len + last.number)
 read_three g c more last back =
     Reads-join_two g.Self.Engine.table (drop c.loop-next.at c.args.s.now) c.window-next.result c.window-second.result last.len last.number
     (ended g c).shown c.if-first-lt16.false (middle g c) more back.reads
@@ -73,8 +73,8 @@ returns-then-second-lt16-clause-answer g c =
 
 pub returns-then-second-lt16-clause-loads : goal.returns-then-second-lt16-clause-loads
 returns-then-second-lt16-clause-loads g c =
-    Skipped-loads _ _ _ _ _ _ _ _ _ (ended g (goal.at.returns-then-second-lt16-clause-loads g c).After-window-second)
-    1 (omega (arith, c.window-second.ensures.one_step)) (omega arith)
+    Skipped-loads (ended g (goal.at.returns-then-second-lt16-clause-loads g c).After-window-second)
+    1 (omega (arith, c.window-second.ensures.one_step)) (omega arith) (omega arith)
 
 -- two full windows stand within the slice
 two_long : (g : _) (c : After-window-second g) → 16 ≤ c.window-second.result.len → 32 ≤ length (drop c.loop-next.at c.args.s.now)
@@ -96,25 +96,22 @@ slice_bounds-window_8-start g c =
 pub answer_128-requires : goal.answer_128-requires
 answer_128-requires g c =
     let at = goal.at.answer_128-requires g c in
-    let front = ended g at.After-window-second in
     let back = third g at.After-window_8-third in
     let read = read_three g at.After-window-second c.if-second-lt16.false c.window_8-third.result back in
     record {
       digits = c.requires.digits;
-      first_high = Shows-below _ _ _ _ front.shown;
-      second_high = Shows-below _ _ _ _ (middle g at.After-window-second);
-      third_short = back.reads.within;
-      third_high = back.reads.below;
-      inside = omega (arith, read.inside, front.within, prefix_len-le-length (is_digit g.Self.Engine.table) (drop c.loop-next.at c.args.s.now), length-drop c.loop-next.at c.args.s.now);
+      few = back.reads.within;
+      below = rw c.append_digits-high.ensures read.below;
+      inside = omega (arith, read.inside, (ended g at.After-window-second).within, prefix_len-le-length (is_digit g.Self.Engine.table) (drop c.loop-next.at c.args.s.now), length-drop c.loop-next.at c.args.s.now);
     }
 
 pub returns-clause-answer : goal.returns-clause-answer
 returns-clause-answer g c =
     let at = goal.at.returns-clause-answer g c in
     answers_full _ _ _ _ _ _ _ _ _ _ _ _ _ (lit< tt) (ended g at.After-window-second) c.if-first-lt16.false
-    (read_three g at.After-window-second c.if-second-lt16.false c.window_8-third.result (third g at.After-window_8-third)) c.answer_128.ensures
+    (read_three g at.After-window-second c.if-second-lt16.false c.window_8-third.result (third g at.After-window_8-third)) (rw c.append_digits-high.ensures at c.answer_128.ensures)
 
 pub returns-clause-loads : goal.returns-clause-loads
 returns-clause-loads g c =
-    Skipped-loads _ _ _ _ _ _ _ _ _ (ended g (goal.at.returns-clause-loads g c).After-window-second)
-    2 (omega (arith, c.window-second.ensures.one_step, c.window_8-third.ensures.one_step)) (omega arith)
+    Skipped-loads (ended g (goal.at.returns-clause-loads g c).After-window-second)
+    2 (omega (arith, c.window-second.ensures.one_step, c.window_8-third.ensures.one_step)) (omega arith) (omega arith)

@@ -1,6 +1,0 @@
--- The lemma of this name, at the type's constants, which fit one another.
-use Rattle.atoi_core.proofs.TextLemmas.{accepted_texts}
-use Rattle.atoi_core.proofs.laws.accepted_texts.Goals as goal
-
-pub returns : goal.returns
-returns g c = accepted_texts g.T.Number.kind g.met.T.Number.sized

@@ -1,6 +1,0 @@
--- The lemmas of these names.
-use Rattle.atoi_core.proofs.ReadingLemmas.{zeros_left, joined, within, below, decided}
-use Rattle.atoi_core.proofs.reading.reading_decides.Goals as goal
-
-pub returns : goal.returns
-returns c = record { zeros_left = zeros_left; joined = joined; within = within; below = below; decided = decided }
