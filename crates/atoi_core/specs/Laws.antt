@@ -11,9 +11,9 @@ use Rattle.atoi_core.specs.Refusal.{Refusal, empty, size, overflow, invalid64, i
 use Rattle.atoi_core.specs.Magnitude.{Extent, whole, prefix, skipped_zeros, rule_of}
 use Rattle.atoi_core.specs.declared.error.AtoiSimdError.{AtoiSimdError}
 use Rattle.atoi_core.specs.Kind.{Kind, class_of, bound_of, limit_of}
-use Rattle.atoi_core.specs.Sign.{Sign, sign_of}
+use Rattle.atoi_core.specs.Sign.{Sign, sign_of, number_of}
 use Rattle.atoi_core.specs.Answer.{typed_answer, typed_prefix_answer, whole_answer, prefix_answer, with_more, parse_answer, parse_prefix_answer}
-use Rattle.atoi_core.specs.Text.{IsText, DigitsWrite, TextWrites, BeginsWithDigit, FrontWrites, has_needless_zero}
+use Rattle.atoi_core.specs.Text.{IsText, is_minus, DigitsWrite, TextWrites, BeginsWithDigit, FrontWrites, has_needless_zero}
 
 -- how a call comes by its sign: it looks for one at the front of its slice, for a plus only where
 -- that is asked for; or it looks for none, and the number is positive, or negative
