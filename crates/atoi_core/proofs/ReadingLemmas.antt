@@ -1,12 +1,13 @@
 -- What was read at the front of a slice decides the answer of a wide class.
-use Rattle.std.proofs.Common.{◌≡◌, ◌⊎◌, ℕ, ◌+◌, ◌-◌, ◌*◌, ◌^◌, ◌<◌, ◌≤◌, min, Bool, true, false, cond, eqb, ltb, List, length, take, drop, Some, None, Result, Ok, Err, refl, sym, ap, ◌∙◌, subst, inl, inr, arith, ne_eqb}
-use Rattle.std.proofs.lemmas.Bool.{eqb-true, eqb-false, lt-ltb}
+use Rattle.std.proofs.Common.{◌≡◌, ◌⊎◌, ℕ, ◌+◌, ◌-◌, ◌*◌, ◌^◌, ◌<◌, ◌≤◌, min, Bool, true, false, cond, eqb, ltb, List, length, take, drop, Some, None, Result, Ok, Err, refl, sym, ap, ◌∙◌, subst, inl, inr, arith, ne_eqb, le-ltb, lit<}
+use Rattle.std.proofs.Math.Nat.{pow-le-pow_right}
+use Rattle.std.proofs.lemmas.Bool.{cases_lt, eqb-true, eqb-false, lt-ltb}
 use Rattle.std.proofs.lemmas.List.{take-take, length-take, length-take-le}
 use Rattle.std.proofs.lemmas.List.Sums.{prefix_len-le-length}
 use Rattle.atoi_core.specs.Digit.{Table, IsBelowTen, is_digit, is_zero}
 use Rattle.atoi_core.specs.Run.{run_len, run, zeros, value}
 use Rattle.atoi_core.specs.Refusal.{Refusal, empty, size, overflow}
-use Rattle.atoi_core.specs.Magnitude.{Class, narrow, wide64, wide128, skipped_zeros, refusal, unless_refused, prefix_magnitude}
+use Rattle.atoi_core.specs.Magnitude.{Class, narrow, wide64, wide128, HasDigits, skipped_zeros, refusal, unless_refused, prefix_magnitude}
 use Rattle.atoi_core.specs.Reading.{Reading, IsSkipped, counting_digits, cap, answer_by_digits}
 use Rattle.atoi_core.proofs.RunLemmas.{prefix_len-take, prefix_len-drop, zeros-le}
 use Rattle.atoi_core.proofs.ValueLemmas.{value-below, value-take-add, value-drop_zeros}
@@ -194,3 +195,48 @@ decided t class bound limit less skip s place count digits leading number skippe
           ∙ by_many_digits class bound limit (place + (digits - counting)) (counting_digits skip (run_len t s) (zeros t s)) (value t (run t s)) s less tell.0
           ∙ sym (by_many_digits class bound limit (place + (digits - counting)) counting number s less many)
     ]
+
+-- fewer digits than the bound has write less than it
+pub below_bound : (limit bound digits number : ℕ) → HasDigits limit bound → digits < limit → number < 10 ^ digits → number < bound
+below_bound limit bound digits number bounds few small =
+    let most : 10 ^ digits ≤ 10 ^ (limit - 1) = pow-le-pow_right (lit< tt) (omega arith) in
+    omega (arith, bounds.0)
+
+-- no more digits count than were read
+counting_most : (skip : Bool) (digits leading : ℕ) → counting_digits skip digits leading ≤ digits
+counting_most true digits leading = omega arith
+counting_most false digits leading = omega arith
+
+-- fewer digits than the limit, with no digit after them, do not pass the bound
+pub short : (t : Table) → IsBelowTen t → (class : Class) (bound limit : ℕ) → limit < cap class → HasDigits limit bound
+    → (skip : Bool) (s : List ℕ) (place count digits leading number : ℕ) → IsSkipped t skip s place
+    → Reading t count (drop place s) digits leading number → digits < count → digits < limit
+    → (number ≤ bound) × (prefix_magnitude t class bound limit skip s ≡ cond (eqb (place + digits) 0) (Err empty) (Ok (number, place + digits)))
+short t ten class bound limit less bounds skip s place count digits leading number skipped reading ends few =
+    let counting : ℕ = counting_digits skip digits leading in
+    let most : counting ≤ digits = counting_most skip digits leading in
+    let within : number < bound = below_bound limit bound digits number bounds few (below t ten count (drop place s) digits leading number reading) in
+    let total : place + (digits - counting) + counting ≡ place + digits = omega arith in (
+      omega arith,
+      decided t class bound limit less skip s place count digits leading number skipped reading (inl ends)
+          ∙ rw (le-ltb limit counting (omega arith), le-ltb bound number (omega arith), total) refl,
+    )
+
+-- all digits count of a reading that begins with no zero to skip
+all_count : (skip : Bool) (digits leading : ℕ) → (skip ≡ true → leading ≡ 0) → counting_digits skip digits leading ≡ digits
+all_count true digits leading none = omega (arith, none refl)
+all_count false digits leading none = refl
+
+-- so they decide, where as many bytes were read as a size tells
+pub full : (t : Table) (class : Class) (bound limit : ℕ) → limit < cap class
+    → (skip : Bool) (s : List ℕ) (place digits leading number : ℕ) → IsSkipped t skip s place
+    → Reading t (cap class) (drop place s) digits leading number → (skip ≡ true → leading ≡ 0)
+    → prefix_magnitude t class bound limit skip s ≡ answer_by_digits class bound limit place digits number s
+full t class bound limit less skip s place digits leading number skipped reading none =
+    let counting : counting_digits skip digits leading ≡ digits = all_count skip digits leading none in
+    let enough : (digits < cap class) ⊎ (cap class ≤ counting_digits skip digits leading) =
+    elim (cases_lt digits (cap class)) [ inl h ↦ inl h | inr h ↦ inr (omega (arith, counting)) ] in
+    let at : place + (digits - counting_digits skip digits leading) ≡ place = omega (arith, counting) in
+    decided t class bound limit less skip s place (cap class) digits leading number skipped reading enough
+    ∙ ap (λ (n : ℕ). answer_by_digits class bound limit n (counting_digits skip digits leading) number s) at
+    ∙ ap (λ (n : ℕ). answer_by_digits class bound limit place n number s) counting
