@@ -208,19 +208,28 @@ counting_most true digits leading = omega arith
 counting_most false digits leading = omega arith
 
 -- fewer digits than the limit, with no digit after them, do not pass the bound
-pub short : (t : Table) → IsBelowTen t → (class : Class) (bound limit : ℕ) → limit < cap class → HasDigits limit bound
+pub short_below : (t : Table) (class : Class) (bound limit : ℕ) → limit < cap class → HasDigits limit bound
     → (skip : Bool) (s : List ℕ) (place count digits leading number : ℕ) → IsSkipped t skip s place
-    → Reading t count (drop place s) digits leading number → digits < count → digits < limit
+    → Reading t count (drop place s) digits leading number → digits < count → digits < limit → number < 10 ^ digits
     → (number ≤ bound) × (prefix_magnitude t class bound limit skip s ≡ cond (eqb (place + digits) 0) (Err empty) (Ok (number, place + digits)))
-short t ten class bound limit less bounds skip s place count digits leading number skipped reading ends few =
+short_below t class bound limit less bounds skip s place count digits leading number skipped reading ends few small =
     let counting : ℕ = counting_digits skip digits leading in
     let most : counting ≤ digits = counting_most skip digits leading in
-    let within : number < bound = below_bound limit bound digits number bounds few (below t ten count (drop place s) digits leading number reading) in
+    let within : number < bound = below_bound limit bound digits number bounds few small in
     let total : place + (digits - counting) + counting ≡ place + digits = omega arith in (
       omega arith,
       decided t class bound limit less skip s place count digits leading number skipped reading (inl ends)
           ∙ rw (le-ltb limit counting (omega arith), le-ltb bound number (omega arith), total) refl,
     )
+
+-- as no digit is worth more than nine
+pub short : (t : Table) → IsBelowTen t → (class : Class) (bound limit : ℕ) → limit < cap class → HasDigits limit bound
+    → (skip : Bool) (s : List ℕ) (place count digits leading number : ℕ) → IsSkipped t skip s place
+    → Reading t count (drop place s) digits leading number → digits < count → digits < limit
+    → (number ≤ bound) × (prefix_magnitude t class bound limit skip s ≡ cond (eqb (place + digits) 0) (Err empty) (Ok (number, place + digits)))
+short t ten class bound limit less bounds skip s place count digits leading number skipped reading ends few =
+    short_below t class bound limit less bounds skip s place count digits leading number skipped reading ends few
+    (below t ten count (drop place s) digits leading number reading)
 
 -- all digits count of a reading that begins with no zero to skip
 all_count : (skip : Bool) (digits leading : ℕ) → (skip ≡ true → leading ≡ 0) → counting_digits skip digits leading ≡ digits
@@ -228,11 +237,11 @@ all_count true digits leading none = omega (arith, none refl)
 all_count false digits leading none = refl
 
 -- so they decide, where as many bytes were read as a size tells
-pub full : (t : Table) (class : Class) (bound limit : ℕ) → limit < cap class
+pub all_decide : (t : Table) (class : Class) (bound limit : ℕ) → limit < cap class
     → (skip : Bool) (s : List ℕ) (place digits leading number : ℕ) → IsSkipped t skip s place
     → Reading t (cap class) (drop place s) digits leading number → (skip ≡ true → leading ≡ 0)
     → prefix_magnitude t class bound limit skip s ≡ answer_by_digits class bound limit place digits number s
-full t class bound limit less skip s place digits leading number skipped reading none =
+all_decide t class bound limit less skip s place digits leading number skipped reading none =
     let counting : counting_digits skip digits leading ≡ digits = all_count skip digits leading none in
     let enough : (digits < cap class) ⊎ (cap class ≤ counting_digits skip digits leading) =
     elim (cases_lt digits (cap class)) [ inl h ↦ inl h | inr h ↦ inr (omega (arith, counting)) ] in
