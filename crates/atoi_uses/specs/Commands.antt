@@ -2,6 +2,7 @@
 use Rattle.std.specs.Prelude.{◌≡◌, ℕ, true, List, ◌++◌, Err, codes}
 use Rattle.atoi_core.specs.Answer.{parse_answer}
 use Rattle.atoi_core.specs.Digit.{decimal_table}
+use Rattle.atoi_core.specs.ErrorText.{error_text as cause_text}
 use Rattle.atoi_core.specs.Kinds.{i64_kind}
 use Rattle.atoi_core.specs.Refusal.{refusal_of}
 use Rattle.atoi_core.specs.Run.{value}
@@ -37,3 +38,8 @@ Refuses line UnknownWord = (word : Word) (text : List ℕ) → ¬ HasWord line w
 Refuses line (BadNumber cause) =
     (word : Word) × ((text : List ℕ)
     × (HasWord line word text × (parse_answer i64_kind true true text ≡ Err (refusal_of cause))))
+
+-- the text of an error
+abbrev pub error_text : CommandError → List ℕ
+error_text UnknownWord = codes "unknown word"
+error_text (BadNumber cause) = codes "no number after the word: " ++ cause_text (refusal_of cause)
