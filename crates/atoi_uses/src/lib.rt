@@ -11,6 +11,7 @@ mod headers;
 mod json;
 mod log_lines;
 mod own_engine;
+mod samples;
 mod settings;
 mod signed_totals;
 mod totals;
