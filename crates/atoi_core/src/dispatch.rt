@@ -141,7 +141,8 @@ fn whole_by_class<'a, E: Engine, T: Number>(
     if T::BITS <= 32 {
         Ok(u128::from(narrow_whole_windows::<E>(bound as u64, s, steps)?))
     } else if T::BITS == 64 {
-        Ok(u128::from(whole_64::<E>(bound as u64, limit::<T>(), skip, s, steps)?))
+        let limit = if T::SIGNED { 19 } else { 20 };
+        Ok(u128::from(whole_64::<E>(bound as u64, limit, skip, s, steps)?))
     } else {
         whole_128::<E>(bound, skip, s, steps)
     }
@@ -166,7 +167,8 @@ fn prefix_by_class<'a, E: Engine, T: Number>(
         let (number, len) = narrow_prefix::<E>(bound as u64, skip, s, steps)?;
         Ok((u128::from(number), len))
     } else if T::BITS == 64 {
-        let (number, len) = E::prefix_64(bound as u64, limit::<T>(), skip, s, steps)?;
+        let limit = if T::SIGNED { 19 } else { 20 };
+        let (number, len) = E::prefix_64(bound as u64, limit, skip, s, steps)?;
         Ok((u128::from(number), len))
     } else {
         front_128::<E>(bound, skip, false, s, steps)
@@ -183,16 +185,6 @@ fn bound<T: Number>(minus: bool) -> u128
     ensures digits { 32 < T.BITS → HasDigits (limit_of T.kind) result }
 {
     T::GREATEST + u128::from(minus)
-}
-
-// How many digits the largest magnitude of a type of 64 bits has.
-fn limit<T: Number>() -> u32
-    requires { T.BITS ≡ 64 }
-    ensures value { result ≡ limit_of T.kind }
-    ensures low { 17 ≤ result }
-    ensures high { result ≤ 20 }
-{
-    if T::SIGNED { 19 } else { 20 }
 }
 
 #[cfg(test)]
