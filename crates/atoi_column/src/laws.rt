@@ -19,14 +19,9 @@ pub fn texts_and_items<T: Number>()
 
 /// What a column's items say of its fields. Where all items are values, every field is a text of
 /// the type that writes its value. Where an error comes after values, it is that of the first field
-<<<<<<< HEAD
-/// that is no such text: `index` is the field's number, and `place` is that of the first byte of it
-/// that belongs to no number.
-#[tactic(auto, using(crate::proofs::DecideLemmas::items_decide))]
-=======
 /// that is no such text: `index` is the field's number, which is below the input's length, and
 /// `place` is that of the first byte of it that belongs to no number.
->>>>>>> h-e
+#[tactic(auto, using(crate::proofs::DecideLemmas::items_decide))]
 pub fn items_decide<T: Number>()
     ensures { ItemsDecide T.kind }
 {

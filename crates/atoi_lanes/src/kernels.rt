@@ -1,7 +1,7 @@
 //! Sixteen bytes in the lanes of one vector: a load, how many digits or zeros they begin with, and
 //! the number that they write; and the number of a slice of fewer than eight bytes, in half of one.
 //! It uses `std::simd`, and `words` for the load of a short slice.
-ghost use Rattle.std.specs.Prelude.{◌≡◌, ◌-◌, ◌≤◌, ◌<◌, ◌==◌, ◌++◌, if◌then◌else◌, Some, None, length, map, take, drop, replicate};
+ghost use Rattle.std.specs.Prelude.{◌≡◌, ◌-◌, ◌/◌, ◌≤◌, ◌<◌, ◌==◌, ◌++◌, if◌then◌else◌, Some, None, length, map, take, drop, replicate};
 ghost use Rattle.std.specs.Simd.Lanes.{Each1, mask_l};
 ghost use Rattle.atoi_core.specs.Digit.{decimal_table, is_digit};
 ghost use Rattle.atoi_core.specs.Run.{run_len, zeros, value};
@@ -23,9 +23,9 @@ const SHIFTS: [u8; 32] = [
     5, 6, 7, 8, 9, 10, 11, 12, 13, 14, 15,
 ];
 
-// What the bytes of two neighbouring pairs are worth in the four digits that they make. The upper
-// byte of each pair is 0.
-const HUNDREDS: [u8; 16] = [100, 0, 1, 0, 100, 0, 1, 0, 100, 0, 1, 0, 100, 0, 1, 0];
+// What the bytes of two neighbouring pairs count in the four digits that they make. The value of a
+// pair is in the upper byte of its lane, and the lower byte counts nothing.
+const HUNDREDS: [u8; 16] = [0, 100, 0, 1, 0, 100, 0, 1, 0, 100, 0, 1, 0, 100, 0, 1];
 
 /// The first 16 bytes, or all where there are fewer: the first in the first lane. A lane whose byte
 /// is missing is 0.
@@ -145,19 +145,19 @@ fn number_of(digits: u8x16) -> u64
     high * 100_000_000 + low
 }
 
-// Each two digits as one lane.
+// Each two digits as the upper byte of one lane.
 fn pairs(digits: u8x16) -> u16x8
     requires { Each1 (λ digit. digit < 10) digits }
-    ensures { result ≡ paired 10 digits }
+    ensures { map (λ lane. lane / 256) result ≡ paired 10 digits }
 {
     // The first digit is the lower byte. The product adds ten times it to the second.
-    (u16x8::from_le_bytes(digits) * u16x8::splat(0xA01)) >> u16x8::splat(8)
+    u16x8::from_le_bytes(digits) * u16x8::splat(0xA01)
 }
 
-// Each four digits as one lane.
+// Each four digits as one lane, from pairs in the upper bytes.
 fn fours(pairs: u16x8) -> u32x4
-    requires { Each1 (λ pair. pair < 100) pairs }
-    ensures { result ≡ paired 100 pairs }
+    requires { Each1 (λ pair. pair < 100) (map (λ lane. lane / 256) pairs) }
+    ensures { result ≡ paired 100 (map (λ lane. lane / 256) pairs) }
 {
     pairs.to_le_bytes().dot4(u8x16::from_array(HUNDREDS))
 }

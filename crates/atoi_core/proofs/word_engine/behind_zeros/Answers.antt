@@ -1,13 +1,13 @@
 -- The loop goes on after the zeros of the first window; the answers and the loads follow from where it ends.
-use Rattle.std.proofs.Common.{◌≡◌, ◌+◌, ◌-◌, ◌*◌, ◌^◌, ◌≤◌, ℕ, List, true, inr, refl, ap, ◌∙◌, arith, drop, length}
+use Rattle.std.proofs.Common.{◌≡◌, ◌+◌, ◌-◌, ◌≤◌, ℕ, List, true, inr, refl, ap, ◌∙◌, arith, drop, length}
 use Rattle.std.proofs.lemmas.List.{length-drop, take_rest}
 use Rattle.std.proofs.lemmas.List.Sums.{prefix_len-le-length}
 use Rattle.atoi_core.specs.Digit.{decimal_table, is_digit}
 use Rattle.atoi_core.specs.Window.{window_of}
 use Rattle.atoi_core.proofs.Digits.{decimal_below_ten}
 use Rattle.atoi_core.proofs.SkipLemmas.{Skipping-told, Skipping-more, Skipped, Skipped-end}
-use Rattle.atoi_core.proofs.WideLemmas.{answers_short, answers_full}
-use Rattle.atoi_core.proofs.WindowLemmas.{Reads, Shows, Reads-join, shows}
+use Rattle.atoi_core.proofs.WideLemmas.{answers_short, answers_64}
+use Rattle.atoi_core.proofs.WindowLemmas.{Shows, shows}
 use Rattle.atoi_core.proofs.word_engine.behind_zeros.Goals as goal
 use Rattle.atoi_core.proofs.word_engine.behind_zeros.Goals.{After-window-window, After-window_from_16-back}
 
@@ -51,7 +51,7 @@ returns-then-front-lt16-clause-loads c =
 -- the slice has so many bytes
 long : (c : After-window-window) → 16 ≤ c.window-window.result.len → c.window-window.result.zeroes ≡ 0 → 16 ≤ length c.args.s.now - c.loop-window.at
 long c full none =
-    omega (arith, full, (ended c none).shown.reads.inside, prefix_len-le-length (is_digit decimal_table) (drop c.loop-window.at c.args.s.now), length-drop c.loop-window.at c.args.s.now)
+    omega (arith, full, (ended c none).shown.len_is, prefix_len-le-length (is_digit decimal_table) (drop c.loop-window.at c.args.s.now), length-drop c.loop-window.at c.args.s.now)
 
 pub window_from_16-back-requires : goal.window_from_16-back-requires
 window_from_16-back-requires c =
@@ -64,32 +64,24 @@ behind c =
     shows decimal_table decimal_below_ten 8 (drop 16 (drop c.loop-window.at c.args.s.now)) c.window_from_16-back.result
     (c.window_from_16-back.ensures.window ∙ ap (λ (r : List ℕ). window_of decimal_table 8 (drop 16 r)) (take_rest c.args.s.now c.loop-window.at))
 
--- what both read together
-read : (c : After-window_from_16-back) → 16 ≤ c.window-window.result.len
-    → Skipped decimal_table true c.args.s.now c.loop-window.at c.args.steps.now (c.window-window.new.steps + 1) c.window-window.result
-    → Reads decimal_table 24 (drop c.loop-window.at c.args.s.now) (16 + c.window_from_16-back.result.len)
-    (c.window-window.result.number * 10 ^ c.window_from_16-back.result.len + c.window_from_16-back.result.number)
-read c full so =
-    Reads-join decimal_table 16 8 (drop c.loop-window.at c.args.s.now) c.window-window.result c.window_from_16-back.result.len c.window_from_16-back.result.number
-    so.shown full (behind c).reads
-
 pub append_digits-number-requires : goal.append_digits-number-requires
-append_digits-number-requires c = omega (arith, (behind (goal.at.append_digits-number-requires c).After-window_from_16-back).reads.within)
+append_digits-number-requires c = omega (arith, (behind (goal.at.append_digits-number-requires c).After-window_from_16-back).len_is)
 
 pub overflow_add-back : goal.overflow_add-back
-overflow_add-back c = omega (arith, (behind (goal.at.overflow_add-back c).After-window_from_16-back).reads.within)
+overflow_add-back c = omega (arith, (behind (goal.at.overflow_add-back c).After-window_from_16-back).len_is)
 
 pub answer_64-requires : goal.answer_64-requires
 answer_64-requires c =
-    let both = (goal.at.answer_64-requires c).After-window_from_16-back in
+    let back = behind (goal.at.answer_64-requires c).After-window_from_16-back in
     let so = ended (goal.at.answer_64-requires c).After-window-window c.if-window-eq0.true in
-    omega (arith, (read both c.if-front-lt16.false so).inside, so.within, prefix_len-le-length (is_digit decimal_table) (drop c.loop-window.at c.args.s.now), length-drop c.loop-window.at c.args.s.now)
+    record { inside = (answers_64 decimal_table c.args.bound c.args.limit true c.args.s.now _ _ _ _ _ (omega arith) so c.if-front-lt16.false back).0 }
 
 pub returns-clause-answer : goal.returns-clause-answer
 returns-clause-answer c =
-    let both = (goal.at.returns-clause-answer c).After-window_from_16-back in
+    let back = behind (goal.at.returns-clause-answer c).After-window_from_16-back in
     let so = ended (goal.at.returns-clause-answer c).After-window-window c.if-window-eq0.true in
-    answers_full _ _ _ _ _ _ _ _ _ _ _ _ _ (omega arith) so c.if-front-lt16.false (read both c.if-front-lt16.false so) (rw c.append_digits-number.ensures at c.answer_64.ensures)
+    rw c.append_digits-number.ensures at c.answer_64.ensures
+    ∙ (answers_64 decimal_table c.args.bound c.args.limit true c.args.s.now _ _ _ _ _ (omega arith) so c.if-front-lt16.false back).1
 
 pub returns-clause-loads : goal.returns-clause-loads
 returns-clause-loads c =
