@@ -1,9 +1,9 @@
 //! Eight or sixteen bytes in one word, the first the lowest: a load, the digits or zeros that a
 //! word begins with, and the number that its bytes write.
 //!
-//! The engine `Words` uses the load of a short slice, `load_high`. It counts and sums in shorter
-//! ways, the sum for digits alone; the other functions here are for users of words. It uses no other
-//! module.
+//! Of these functions a parse runs only the loads: `load_high` in `Words` and in `Lanes`, and
+//! `load_8` in `Lanes`. `Words` counts and sums in shorter ways of its own, and sums digits only. The
+//! other five kernels are for users of words. It uses no other module.
 ghost use Rattle.std.specs.Prelude.{◌≡◌, ℕ, ◌-◌, ◌<◌, ◌≤◌, ◌++◌, length, take, drop, replicate};
 ghost use Rattle.atoi_core.specs.Digit.{decimal_table};
 ghost use Rattle.atoi_core.specs.Run.{run_len, zeros};

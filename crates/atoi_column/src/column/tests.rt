@@ -113,6 +113,20 @@ fn an_error_prints_its_index_place_and_cause(rt: HostRuntime) -> Result<(), Fail
 }
 
 #[test]
+fn the_longest_error_prints_all_of_its_text(rt: HostRuntime) -> Result<(), Fail> {
+    let field = ColumnError::Field {
+        index: usize::MAX,
+        place: usize::MAX,
+        cause: AtoiSimdError::Invalid128(u128::MAX, usize::MAX, &[255; 48]),
+    };
+    assert_eq!(rt;
+        printed(rt.alloc(), &field)?.as_str(),
+        "field 18446744073709551615 at byte 18446744073709551615 is no number: atoi_simd invalid at index: 18446744073709551615 it must contain only digits, starting with: 340282366920938463463374607431768211455 input: [FF, FF, FF, FF, FF, FF, FF, FF, FF, FF, FF, FF, FF, FF, FF, FF, FF, FF, FF, FF, FF, FF, FF, FF, FF, FF, FF, FF, FF, FF, FF, FF, FF, FF, FF, FF, FF, FF, FF, FF, FF, FF, FF, FF, FF, FF, FF, FF]"
+    );
+    Ok(())
+}
+
+#[test]
 fn an_empty_input_has_no_field(rt: HostRuntime) {
     assert_eq!(rt; Column::<u8>::new(b"", b'\n').next(), None);
 }
