@@ -23,5 +23,10 @@ loop-item-preserved c =
     let few : length c.args.input.now < 2 ^ 64 = search rules in
     let more = length-append before.0 (number ∷ []) in
     let sum : to_z w128 (of_z w128 (total +ℤ to_z w128 (of_z w128 c.from-total.result))) ≡ total +ℤ number = omega (arith, ints, before.1.1.0, before.1.1.1, read.count, more) in
-    rw sum (before.0 ++ number ∷ [], ((read, ap (λ t. t +ℤ number) before.1.0.1 ∙ sym (fold-append ◌+ℤ◌ (pos 0) before.0 (number ∷ []))),
-      (omega (arith, ints, before.1.1.0, more), omega (arith, ints, before.1.1.1, more))))
+    rw sum (
+      before.0 ++ number ∷ [],
+      (
+        (read, ap (λ t. t +ℤ number) before.1.0.1 ∙ sym (fold-append ◌+ℤ◌ (pos 0) before.0 (number ∷ []))),
+        (omega (arith, ints, before.1.1.0, more), omega (arith, ints, before.1.1.1, more)),
+      ),
+    )
