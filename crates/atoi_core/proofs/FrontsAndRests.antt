@@ -1,5 +1,5 @@
 -- A front that writes a number by its bytes and the rest, and that there is one.
-use Rattle.std.proofs.Common.{◌≡◌, ℕ, ◌<◌, true, List, ◌++◌, length, take, ℤ, Result, Ok, sym, ap, ◌∙◌, arith, length-append}
+use Rattle.std.proofs.Common.{◌≡◌, ℕ, ◌<◌, true, List, ◌++◌, length, take, drop, ℤ, Result, Ok, sym, ap, ◌∙◌, arith, length-append}
 use Rattle.std.proofs.Math.Seq.{take-append_seam}
 use Rattle.std.proofs.lemmas.List.Prefix.{front_rest}
 use Rattle.atoi_core.specs.Kind.{Kind, IsSized}
@@ -30,11 +30,22 @@ same_answer a b m n answer h k =
     let both = sym h ∙ k in
     let pair : (a, m) ≡ (b, n) = cc in (ap (λ (p : ℤ × ℕ). p.0) pair, ap (λ (p : ℤ × ℕ). p.1) pair)
 
--- the law: both are what a prefix that skips zeros answers
-pub fronts_and_rests : (k : Kind) → IsSized k → FrontsAndRests k
-fronts_and_rests k sized =
+-- both are what a prefix that skips zeros answers
+only : (k : Kind) → IsSized k → (form : SignForm) (s : List ℕ) (number other : ℤ) (count len : ℕ)
+    → FrontWrites (Writes k form) s number count → FrontWrites (Writes k form) s other len → (number ≡ other) × (count ≡ len)
+only k sized form s number other count len h g =
     let found = (accepted_fronts k sized).accepted in
-    record {
-      joined = joined k;
-      only = λ form s number other count len h g. same_answer number other count len (prefix_call k form true s) (found form s number count h) (found form s other len g);
-    }
+    same_answer number other count len (prefix_call k form true s) (found form s number count h) (found form s other len g)
+
+-- so a front that was found cuts the slice where these bytes end
+cut : (k : Kind) → IsSized k → (form : SignForm) (s front rest : List ℕ) (number other : ℤ) (count : ℕ)
+    → s ≡ front ++ rest → Writes k form front number → ¬ BeginsWithDigit rest → FrontWrites (Writes k form) s other count
+    → (number ≡ other) × ((take count s ≡ front) × (drop count s ≡ rest))
+cut k sized form s front rest number other count parts written ends found =
+    let same = only k sized form s number other (length front) count (joined k form s front rest number parts written ends) found in
+    (same.0, (ap (λ n. take n s) (sym same.1) ∙ (ap (take (length front)) parts ∙ take-append_seam front rest),
+      ap (λ n. drop n s) (sym same.1) ∙ front_rest s front rest parts))
+
+-- the law
+pub fronts_and_rests : (k : Kind) → IsSized k → FrontsAndRests k
+fronts_and_rests k sized = record { joined = joined k; only = only k sized; cut = cut k sized }

@@ -1,6 +1,6 @@
 -- Laws of the answers. Each is a statement about the definitions alone, for every slice; nothing
 -- of how a parse works occurs in it.
-use Rattle.std.specs.Prelude.{◌≡◌, ◌≢◌, ◌⊎◌, ◌↔◌, ℕ, ◌+◌, ◌-◌, ◌^◌, ◌<◌, ◌≤◌, Bool, true, false, if◌then◌else◌, ⊤, IsTrue, IsFalse, List, ◌++◌, length, take, replicate, slice_index, All, Option, Some, None, ℤ, pos, neg_ℤ, ◌≤ℤ◌, Result, Ok, Err, IsOk, IfOk, OnErr}
+use Rattle.std.specs.Prelude.{◌≡◌, ◌≢◌, ◌⊎◌, ◌↔◌, ℕ, ◌+◌, ◌-◌, ◌^◌, ◌<◌, ◌≤◌, Bool, true, false, if◌then◌else◌, ⊤, IsTrue, IsFalse, List, ◌++◌, length, take, drop, replicate, slice_index, All, Option, Some, None, ℤ, pos, neg_ℤ, ◌≤ℤ◌, Result, Ok, Err, IsOk, IfOk, OnErr}
 use Rattle.std.specs.Fmt.{decimal, signed_decimal}
 use Rattle.std.specs.Char.{IsAsciiDigit}
 use Rattle.std.specs.Str.Parse.{AllDigits, digits_value}
@@ -146,7 +146,7 @@ pub record PrefixResults {T : Type 0} (k : Kind) (number : T → ℤ) (skip : Bo
       → IsTrue skip → OnErr result ((any : ℤ) (count : ℕ) → ¬ FrontWrites (DigitsWrite k is_negative) s any count)
 
 -- a front that writes a number is known by its bytes and the rest, which begins with no digit; and
--- a slice has at most one such front
+-- a slice has at most one such front, so a front that was found cuts the slice there
 pub record FrontsAndRests (k : Kind) : Type 0 where
   pub joined : (form : SignForm) (s front rest : List ℕ) (number : ℤ)
       → s ≡ front ++ rest → Writes k form front number → ¬ BeginsWithDigit rest
@@ -154,6 +154,10 @@ pub record FrontsAndRests (k : Kind) : Type 0 where
   pub only : (form : SignForm) (s : List ℕ) (number other : ℤ) (count len : ℕ)
       → FrontWrites (Writes k form) s number count → FrontWrites (Writes k form) s other len
       → (number ≡ other) × (count ≡ len)
+  pub cut : (form : SignForm) (s front rest : List ℕ) (number other : ℤ) (count : ℕ)
+      → s ≡ front ++ rest → Writes k form front number → ¬ BeginsWithDigit rest
+      → FrontWrites (Writes k form) s other count
+      → (number ≡ other) × ((take count s ≡ front) × (drop count s ≡ rest))
 
 -- a prefix that is read to the slice's end is a whole parse with the same value; and where a prefix
 -- may have as many digits, the other way round

@@ -1,11 +1,11 @@
 -- Blanks round the digits of a header.
-use Rattle.std.proofs.Common.{◌≡◌, ℕ, suc, true, false, List, [], ◌∷◌, ◌++◌, length, if◌then◌else◌, pos, refl, sym, ap, subst, ◌∙◌, arith, append-nil}
+use Rattle.std.proofs.Common.{◌≡◌, ℕ, suc, true, false, List, [], ◌∷◌, ◌++◌, if◌then◌else◌, pos, refl, sym, ap, subst, ◌∙◌, arith, append-nil}
 use Rattle.std.specs.List.{AllPass}
 use Rattle.std.proofs.lemmas.Bool.{ne_eqb}
 use Rattle.std.proofs.lemmas.List.Elements.{All-nil, All-cons}
 use Rattle.atoi_simd.specs.Kinds.{u64_kind}
-use Rattle.atoi_simd.specs.Laws.{positive, DecimalTexts, FrontsAndRests}
-use Rattle.atoi_simd.specs.Text.{BeginsWithDigit, DigitsWrite, FrontWrites}
+use Rattle.atoi_simd.specs.Laws.{DecimalTexts}
+use Rattle.atoi_simd.specs.Text.{BeginsWithDigit}
 use Rattle.atoi_uses.specs.Headers.{IsContentLength, is_blank, without_blanks}
 
 blanks_gone : (before rest : List ℕ) → AllPass is_blank before → without_blanks (before ++ rest) ≡ without_blanks rest
@@ -27,7 +27,7 @@ blanks_before (byte ∷ bytes) =
       | false ↦ λ is. ([], (All-nil (λ byte. is_blank byte ≡ true), refl))
     ] refl
 
-module _ (decimals : DecimalTexts u64_kind) (fronts : FrontsAndRests u64_kind) (value : List ℕ) (any : ℕ) (h : IsContentLength value any) where
+module _ (decimals : DecimalTexts u64_kind) (value : List ℕ) (any : ℕ) (h : IsContentLength value any) where
   pub field_is : without_blanks value ≡ h.digits ++ h.after
   field_is = ap without_blanks h.parts ∙ blanks_gone h.before (h.digits ++ h.after) h.blank_before
       ∙ digit_kept h.digits h.after (decimals.begins false h.digits (pos any) h.written)
@@ -35,7 +35,6 @@ module _ (decimals : DecimalTexts u64_kind) (fronts : FrontsAndRests u64_kind) (
   pub none_after : without_blanks h.after ≡ []
   none_after = ap without_blanks (sym (append-nil h.after)) ∙ blanks_gone h.after [] h.blank_after
 
-  -- the digits are a front that writes the length
-  pub front_of : FrontWrites (DigitsWrite u64_kind false) (without_blanks value) (pos any) (length h.digits)
-  front_of = fronts.joined positive (without_blanks value) h.digits h.after (pos any) field_is h.written
-      (λ digit. subst BeginsWithDigit (sym (append-nil h.after) ∙ sym (digit_kept h.after [] digit) ∙ blanks_gone h.after [] h.blank_after) digit)
+  pub no_digit_after : ¬ BeginsWithDigit h.after
+  no_digit_after digit =
+      subst BeginsWithDigit (sym (append-nil h.after) ∙ sym (digit_kept h.after [] digit) ∙ blanks_gone h.after [] h.blank_after) digit

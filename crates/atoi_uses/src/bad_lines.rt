@@ -60,7 +60,7 @@ impl Error for BadLine<'_> {}
 #[cfg(test)]
 mod tests {
     use super::*;
-    use std::alloc::{AllocError, Global};
+    use crate::texts::printed;
     use std::test::Fail;
 
     fn line_of(lines: &[u8]) -> Option<usize> {
@@ -73,11 +73,6 @@ mod tests {
         assert_eq!(rt; line_of(b"7\n8x\n9"), Some(2));
         assert_eq!(rt; line_of(b"7\n8\n-9\n"), Some(3));
         assert_eq!(rt; total_or_bad_line(b"7\n8\n9\n"), Ok(24));
-    }
-
-    // The text of an error of which no more is known.
-    fn printed<E: Error>(alloc: Global, error: &E) -> Result<String, AllocError> {
-        format!(in alloc; "{error}")
     }
 
     #[test]

@@ -90,7 +90,7 @@ fn word_and_text(line: &[u8]) -> Option<(Word, &[u8])>
 #[cfg(test)]
 mod tests {
     use super::*;
-    use std::alloc::{AllocError, Global};
+    use crate::texts::printed;
     use std::test::Fail;
 
     fn set(number: i64) -> Result<Command, CommandError<'static>> {
@@ -126,11 +126,6 @@ mod tests {
         assert_eq!(rt; read_command(b" SET 42"), unknown);
         assert_eq!(rt; read_command(b"INCR 42"), unknown);
         assert_eq!(rt; read_command(b"INCRBY\t42"), unknown);
-    }
-
-    // The text of an error of which no more is known.
-    fn printed<E: Error>(alloc: Global, error: &E) -> Result<String, AllocError> {
-        format!(in alloc; "{error}")
     }
 
     #[test]

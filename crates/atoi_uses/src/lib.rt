@@ -15,6 +15,8 @@ mod own_engine;
 mod samples;
 mod settings;
 mod signed_totals;
+#[cfg(test)]
+mod texts;
 mod totals;
 mod versions;
 

@@ -95,7 +95,7 @@ fn columns(line: &[u8]) -> &[u8]
 #[cfg(test)]
 mod tests {
     use super::*;
-    use std::alloc::{AllocError, Global};
+    use crate::texts::printed;
     use std::test::Fail;
 
     fn refused_at(index: usize, place: usize) -> Result<u64, LogError> {
@@ -131,11 +131,6 @@ mod tests {
         );
         assert_eq!(rt; columns_total(b"a 1,,2"), refused_at(1, 4));
         assert_eq!(rt; columns_total(b"2026-11-22T10:00:00"), refused_at(0, 4));
-    }
-
-    // The text of an error of which no more is known.
-    fn printed<E: Error>(alloc: Global, error: &E) -> Result<String, AllocError> {
-        format!(in alloc; "{error}")
     }
 
     #[test]

@@ -68,7 +68,7 @@ impl Error for SignedTotalError<'_> {}
 #[cfg(test)]
 mod tests {
     use super::*;
-    use std::alloc::{AllocError, Global};
+    use crate::texts::printed;
     use std::test::Fail;
 
     #[test]
@@ -90,11 +90,6 @@ mod tests {
             signed_total(b"9223372036854775807\n1\n", b'\n'),
             Err(SignedTotalError::OutOfRange(9223372036854775808))
         );
-    }
-
-    // The text of an error of which no more is known.
-    fn printed<E: Error>(alloc: Global, error: &E) -> Result<String, AllocError> {
-        format!(in alloc; "{error}")
     }
 
     #[test]

@@ -1,5 +1,5 @@
 //! The total of a column of numbers: one a line, or between other separators. It uses
-//! `atoi_column::Column`, whose contract names the items, and a law of `atoi_column`.
+//! `atoi_column::Column`, whose contract names the items, and two laws of `atoi_column`.
 ghost use Rattle.std.specs.Prelude.{◌≡◌, ◌<◌, ◌≤◌, ◌++◌, ℕ, true, List, [], ◌∷◌, length, pos, Ok, Err, IfOk, IfErr, map, sum};
 ghost use Rattle.atoi_core.specs.Kinds.{u64_kind};
 ghost use Rattle.atoi_column.specs.Fields.{is_separator};

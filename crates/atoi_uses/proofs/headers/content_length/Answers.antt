@@ -2,16 +2,17 @@ use Rattle.std.proofs.Common.{◌≡◌, ℕ, ◌==◌, List, [], ◌++◌, leng
 use Rattle.std.specs.List.{AllPass}
 use Rattle.std.proofs.lemmas.Bool.{both_ways, eqb-true}
 use Rattle.std.proofs.lemmas.List.{take_rest, take-append-drop, nil_from_length}
-use Rattle.std.proofs.lemmas.List.Prefix.{front_rest}
 use Rattle.atoi_simd.specs.Laws.{positive}
 use Rattle.atoi_uses.specs.Headers.{is_blank, without_blanks}
-use Rattle.atoi_uses.proofs.HeaderLemmas.{blanks_before, field_is, none_after, front_of}
+use Rattle.atoi_uses.proofs.HeaderLemmas.{blanks_before, field_is, none_after, no_digit_after}
 use Rattle.atoi_uses.proofs.headers.content_length.Goals as goal
 
 pub returns-in_default-clause-none : goal.returns-in_default-clause-none
 returns-in_default-clause-none c = λ any h.
+    let decimals = c.decimal_texts.ensures in
+    let value = c.args.value.now in
     c.in_default.ensures.refused refl (pos any) (length h.digits)
-    (rw c.without_blanks-field.ensures (front_of c.decimal_texts.ensures c.fronts_and_rests.ensures c.args.value.now any h))
+    (c.fronts_and_rests.ensures.joined positive c.without_blanks-field.result.now h.digits h.after (pos any) (c.without_blanks-field.ensures ∙ field_is decimals value any h) h.written (no_digit_after decimals value any h))
 
 pub returns-then-is_empty-clause-some : goal.returns-then-is_empty-clause-some
 returns-then-is_empty-clause-some c =
@@ -35,11 +36,8 @@ pub returns-else-is_empty-clause-none : goal.returns-else-is_empty-clause-none
 returns-else-is_empty-clause-none c = λ any h.
     let field : List ℕ = c.without_blanks-field.result.now in
     let decimals = c.decimal_texts.ensures in
-    let fronts = c.fronts_and_rests.ensures in
     let value = c.args.value.now in
-    let same = fronts.only positive (without_blanks value) (pos any) (pos c.in-Ok.length) (length h.digits) c.in-Ok.count (front_of decimals fronts value any h) (rw (← c.without_blanks-field.ensures) c.in-Ok.ensures.front) in
-    let rest : drop c.in-Ok.count field ≡ h.after =
-    ap (λ k. drop k field) (sym same.1) ∙ front_rest field h.digits h.after (c.without_blanks-field.ensures ∙ field_is decimals fronts value any h) in
+    let cut = c.fronts_and_rests.ensures.cut positive field h.digits h.after (pos any) (pos c.in-Ok.length) c.in-Ok.count (c.without_blanks-field.ensures ∙ field_is decimals value any h) h.written (no_digit_after decimals value any h) c.in-Ok.ensures.front in
     let none : c.without_blanks.result.now ≡ [] =
-    c.without_blanks.ensures ∙ ap without_blanks (take_rest field c.in-Ok.count ∙ rest) ∙ none_after decimals fronts value any h in
+    c.without_blanks.ensures ∙ ap without_blanks (take_rest field c.in-Ok.count ∙ cut.1.1) ∙ none_after decimals value any h in
     both_ways (length c.without_blanks.result.now == 0) (sym c.is_empty.ensures ∙ c.if-is_empty.false) (ap (λ (s : List ℕ). length s == 0) none)
