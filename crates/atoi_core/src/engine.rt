@@ -12,11 +12,6 @@ use crate::join::{answer_64, answer_128, power_of_ten};
 use crate::steps::Steps;
 use crate::window::Window;
 
-#[cfg(test)]
-pub(crate) mod alphabets;
-#[cfg(test)]
-mod tests;
-
 /// What reads windows of a slice.
 ///
 /// An engine says what each byte is worth as a digit, and reads the digits at the front of 8 or of

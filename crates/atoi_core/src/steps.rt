@@ -67,13 +67,3 @@ impl Steps {
         self.count.tick();
     }
 }
-
-#[cfg(test)]
-mod tests {
-    use super::*;
-
-    #[test]
-    fn steps_have_no_bytes(rt: HostRuntime) {
-        assert_eq!(rt; std::mem::size_of::<Steps>(), 0);
-    }
-}
