@@ -25,7 +25,6 @@ pub mod TextLemmas
 pub mod DecimalLemmas
 pub mod PrefixLemmas
 pub mod FrontLemmas
-pub mod FrontsAndRests
 pub mod ResultLemmas
 pub mod SuffixLemmas
 pub mod ReasonLemmas

@@ -15,7 +15,7 @@ pub fn text_of_value<T: Number>()
 /// `parse` with both flags on answers `Ok` exactly on the texts of the type: an optional `+`, or
 /// `-` where the type is signed, one or more digits, nothing behind them, and the signed value in
 /// the type's range. The answer is the text's number.
-#[tactic(auto, using(crate::proofs::TextLemmas::accepted_texts))]
+#[tactic(auto, using(crate::proofs::FrontLemmas::accepted_texts))]
 pub fn accepted_texts<T: Number>()
     ensures { AcceptedTexts T.kind }
 {}
@@ -23,7 +23,7 @@ pub fn accepted_texts<T: Number>()
 /// A whole parse answers `Ok` only where its slice writes that number: digits alone, one or more,
 /// after a sign where the call takes one, with the value in the type's range. Where zeros are
 /// skipped, it answers every number that its slice writes.
-#[tactic(auto, using(crate::proofs::TextLemmas::accepted_numbers))]
+#[tactic(auto, using(crate::proofs::FrontLemmas::accepted_numbers))]
 pub fn accepted_numbers<T: Number>()
     ensures { AcceptedNumbers T.kind }
 {}
@@ -52,7 +52,7 @@ pub fn prefix_results<T: Number, const SKIP_ZEROES: bool>()
 
 /// Where a slice is bytes that write a number and a rest that begins with no digit, its front of so
 /// many bytes writes the number, with no digit after it. A slice has at most one such front.
-#[tactic(auto, using(crate::proofs::FrontsAndRests::fronts_and_rests))]
+#[tactic(auto, using(crate::proofs::FrontLemmas::fronts_and_rests))]
 pub fn fronts_and_rests<T: Number>()
     ensures { FrontsAndRests T.kind }
 {}
