@@ -1,5 +1,5 @@
 -- What the items of an input say of its fields.
-use Rattle.std.proofs.Common.{◌≡◌, ℕ, ◌+◌, true, List, [], ◌∷◌, ◌++◌, length, drop, map, ℤ, Result, Ok, Err, refl, sym, ap, subst, ◌∙◌, arith, append-nil}
+use Rattle.std.proofs.Common.{◌≡◌, ℕ, ◌+◌, true, List, [], ◌∷◌, ◌++◌, length, drop, map, ℤ, Result, Ok, Err, refl, sym, ap, subst, ◌∙◌, arith, append-nil, length-append}
 use Rattle.std.specs.List.{All, AllZip}
 use Rattle.std.proofs.lemmas.List.Elements.{All-nil, All-cons}
 use Rattle.atoi_core.specs.Refusal.{Refusal}
@@ -9,6 +9,7 @@ use Rattle.atoi_core.specs.Text.{IsText, TextWrites}
 use Rattle.atoi_column.specs.Fields.{fields_of}
 use Rattle.atoi_column.specs.Items.{Flaw, flaw_at, index_of, place_of}
 use Rattle.atoi_column.specs.Laws.{HasItems, EndsItems, TextsAndItems, IsFirstBad, ItemsDecide, place_behind, number_len}
+use Rattle.atoi_column.proofs.FieldLemmas.{length-fields_of}
 
 -- a list of values is no list of values and then an error
 no_error : (numbers values : List ℤ) (flaw : Flaw) → map Ok numbers ≡ map Ok values ++ Err flaw ∷ [] → ⊥
@@ -77,6 +78,7 @@ module _ (k : Kind) (separator : ℕ) (input : List ℕ) (has : HasItems k separ
         good = good;
         bad = end.0;
         index_is = ap index_of flaw_is ∙ index_of-flaw_at (length has.texts) place read;
+        index_within = omega (arith, ap index_of flaw_is, index_of-flaw_at (length has.texts) place read, ap length parts, length-append has.texts (field ∷ others), length-fields_of separator input);
         place_is = ap place_of flaw_is ∙ place_of-flaw_at (length has.texts) place read;
       }
 

@@ -4,3 +4,4 @@ pub mod ItemLemmas
 pub mod TextLemmas
 pub mod PlaceLemmas
 pub mod DecideLemmas
+pub mod TurnLemmas

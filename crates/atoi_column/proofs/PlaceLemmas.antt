@@ -1,4 +1,4 @@
--- Where a column's flaws stand: within its input.
+-- Where a column's flaws are: within its input.
 use Rattle.std.proofs.Common.{◌≡◌, ℕ, ◌+◌, ◌-◌, ◌<◌, ◌≤◌, ◌==◌, true, false, if◌then◌else◌, Bool, List, [], ◌∷◌, length, drop, ℤ, Result, Ok, Err, refl, arith, length-drop}
 use Rattle.std.specs.Prelude.{IfErr}
 use Rattle.std.specs.List.{All, slice_split, onto_first}
@@ -10,8 +10,9 @@ use Rattle.atoi_core.specs.Kind.{Kind}
 use Rattle.atoi_core.specs.Answer.{parse_answer, parse_prefix_answer}
 use Rattle.atoi_core.specs.Laws.{PrefixOfCut, looked_for}
 use Rattle.atoi_column.specs.Fields.{without_empty_last, fields_of}
-use Rattle.atoi_column.specs.Items.{Flaw, flaw_at, place_of, items_from, items_left}
+use Rattle.atoi_column.specs.Items.{Flaw, flaw_at, index_of, place_of, items_from, items_left}
 use Rattle.atoi_column.specs.Laws.{place_behind}
+use Rattle.atoi_column.proofs.FieldLemmas.{length-fields_of}
 
 place_behind-cons : (text : List ℕ) (texts : List (List ℕ)) → place_behind (text ∷ texts) ≡ length text + 1 + place_behind texts
 place_behind-cons text texts = sum_by-cons (λ t. length t + 1) text texts
@@ -48,40 +49,40 @@ fields_of-place : (separator : ℕ) (rest : List ℕ) → place_behind (fields_o
 fields_of-place separator rest =
     omega (arith, without_last-place (slice_split (λ byte. byte == separator) rest), split-place (λ byte. byte == separator) rest)
 
--- an item that tells no place, or one at most so many bytes from the start
+-- an item that is no error, or one at most so many bytes from the start, after fewer fields
 abbrev IsInside : ℕ → Result ℤ Flaw → Type 0
-IsInside bytes item = IfErr item (λ flaw. place_of flaw ≤ bytes)
+IsInside bytes item = IfErr item (λ flaw. (place_of flaw ≤ bytes) × (index_of flaw < bytes))
 
 module _ (whole : List ℕ → Result ℤ Refusal) (prefix : List ℕ → Result (ℤ × ℕ) Refusal)
     (within : (rest : List ℕ) (v : ℤ) (count : ℕ) → prefix rest ≡ Ok (v, count) → count ≤ length rest) (bytes : ℕ) where
-  flaw_at-inside : (index place : ℕ) (rest : List ℕ) → place + length rest ≤ bytes → place_of (flaw_at index place (prefix rest)) ≤ bytes
-  flaw_at-inside index place rest room =
-      elim (prefix rest) as (λ r. ((v : ℤ) (count : ℕ) → r ≡ Ok (v, count) → count ≤ length rest) → place_of (flaw_at index place r) ≤ bytes) [
-        | Ok found ↦ λ fits. omega (arith, fits found.0 found.1 refl)
-        | Err reason ↦ λ fits. omega arith
+  flaw_at-inside : (index place : ℕ) (rest : List ℕ) → place + length rest ≤ bytes → index < bytes → IsInside bytes (Err (flaw_at index place (prefix rest)))
+  flaw_at-inside index place rest room fewer =
+      elim (prefix rest) as (λ r. ((v : ℤ) (count : ℕ) → r ≡ Ok (v, count) → count ≤ length rest) → IsInside bytes (Err (flaw_at index place r))) [
+        | Ok found ↦ λ fits. (omega (arith, fits found.0 found.1 refl), fewer)
+        | Err reason ↦ λ fits. (omega arith, fewer)
       ] (within rest)
 
-  items_from-inside : (index place : ℕ) (rest : List ℕ) (texts : List (List ℕ)) → place_behind texts ≤ length rest + 1
+  items_from-inside : (index place : ℕ) (rest : List ℕ) (texts : List (List ℕ)) → place_behind texts ≤ length rest + 1 → index + length texts ≤ bytes
       → (0 < length texts → place + length rest ≤ bytes) → All (IsInside bytes) (items_from whole prefix index place rest texts)
-  items_from-inside index place rest [] fits room = All-nil (IsInside bytes)
-  items_from-inside index place rest (text ∷ texts) fits room =
+  items_from-inside index place rest [] fits fewer room = All-nil (IsInside bytes)
+  items_from-inside index place rest (text ∷ texts) fits fewer room =
       let here : place + length rest ≤ bytes = room (omega arith) in
       let cut : place_behind (text ∷ texts) ≡ length text + 1 + place_behind texts = place_behind-cons text texts in
       let left : length (drop (length text + 1) rest) ≡ length rest - (length text + 1) = length-drop (length text + 1) rest in
-      let behind = items_from-inside (index + 1) (place + length text + 1) (drop (length text + 1) rest) texts (omega arith) (λ some. omega (arith, place_behind-some texts some)) in
+      let behind = items_from-inside (index + 1) (place + length text + 1) (drop (length text + 1) rest) texts (omega arith) (omega arith) (λ some. omega (arith, place_behind-some texts some)) in
       elim (whole text) as (λ r. All (IsInside bytes) (elim r as (λ _. List (Result ℤ Flaw)) [
         | Ok value ↦ Ok value ∷ items_from whole prefix (index + 1) (place + length text + 1) (drop (length text + 1) rest) texts
         | Err reason ↦ Err (flaw_at index place (prefix rest)) ∷ []
       ])) [
         | Ok value ↦ All-cons (IsInside bytes) (Ok value) _ tt behind
-        | Err reason ↦ All-cons (IsInside bytes) (Err (flaw_at index place (prefix rest))) [] (flaw_at-inside index place rest here) (All-nil (IsInside bytes))
+        | Err reason ↦ All-cons (IsInside bytes) (Err (flaw_at index place (prefix rest))) [] (flaw_at-inside index place rest here (omega arith)) (All-nil (IsInside bytes))
       ]
 
--- each place that the items of an input tell lies in it, or at its end
+-- each place that the items of an input tell is in it, or at its end, and each index is below its length
 pub items_left-inside : (k : Kind) → PrefixOfCut k → (separator : ℕ) (input : List ℕ)
-    → All (λ item. IfErr item (λ flaw. place_of flaw ≤ length input)) (items_left k separator 0 0 input)
+    → All (λ item. IfErr item (λ flaw. (place_of flaw ≤ length input) × (index_of flaw < length input))) (items_left k separator 0 0 input)
 unfolding items_left
 items_left-inside k law separator input =
     items_from-inside (parse_answer k true true) (parse_prefix_answer k true true)
     (λ rest v count h. (law.cut (looked_for true) true rest v count h).1) (length input) 0 0 input (fields_of separator input)
-    (fields_of-place separator input) (λ some. omega arith)
+    (fields_of-place separator input) (omega (arith, length-fields_of separator input)) (λ some. omega arith)

@@ -68,6 +68,7 @@ pub record IsFirstBad (k : Kind) (separator : ℕ) (input : List ℕ) (index pla
   pub good : All (IsText k) before
   pub bad : ¬ IsText k field
   pub index_is : index ≡ length before
+  pub index_within : index < length input
   pub place_is : place
       ≡ place_behind before + number_len (parse_prefix_answer k true true (drop (place_behind before) input))
 
@@ -87,3 +88,23 @@ FirstField =
     (separator : ℕ) (input : List ℕ) → 0 < length input
     → fields_of separator input
     ≡ before_first (λ byte. byte == separator) input ∷ fields_of separator (after_first (λ byte. byte == separator) input)
+
+-- some of the items have been read, and all of these were values, `numbers` in turn; `left` are the
+-- others. A loop over a column keeps this
+pub record HaveRead (items : List (Result ℤ Flaw)) (numbers : List ℤ) (left : List (Result ℤ Flaw)) : Type 0 where
+  pub parts : items ≡ map Ok numbers ++ left
+  pub count : length items ≡ length numbers + length left
+
+-- reading items in turn: nothing is read at first; each value is one number more; if no item is left,
+-- all are numbers. Nothing follows an error, so at an error these numbers and it are all items
+pub record ItemsInTurn : Type 0 where
+  pub start : (items : List (Result ℤ Flaw)) → HaveRead items [] items
+  pub more : (items left after : List (Result ℤ Flaw)) (numbers : List ℤ) (number : ℤ) → HaveRead items numbers left
+      → left ≡ Ok number ∷ after → HaveRead items (numbers ++ number ∷ []) after
+  pub all : (items left : List (Result ℤ Flaw)) (numbers : List ℤ) → HaveRead items numbers left
+      → left ≡ [] → items ≡ map Ok numbers
+  pub after_error : (k : Kind) (separator : ℕ) (input : List ℕ) (numbers : List ℤ) (flaw : Flaw) (after : List (Result ℤ Flaw))
+      → items_of k separator input ≡ map Ok numbers ++ Err flaw ∷ after → after ≡ []
+  pub at_error : (k : Kind) (separator : ℕ) (input : List ℕ) (numbers : List ℤ) (left after : List (Result ℤ Flaw)) (flaw : Flaw)
+      → HaveRead (items_of k separator input) numbers left → left ≡ Err flaw ∷ after
+      → items_of k separator input ≡ map Ok numbers ++ Err flaw ∷ []

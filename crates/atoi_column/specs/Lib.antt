@@ -2,3 +2,4 @@ pub mod Fields
 pub mod Items
 pub mod Places
 pub mod Laws
+pub mod ErrorText

@@ -1,9 +1,9 @@
 //! A column as an iterator over the values of its fields.
 //! It uses `parse_prefix` of `atoi_simd`, `error`, the law of `fields` and one of `atoi_core`.
-ghost use Rattle.std.specs.Prelude.{◌≡◌, ◌≤◌, true, length, All, IfErr};
+ghost use Rattle.std.specs.Prelude.{◌≡◌, ◌<◌, ◌≤◌, true, length, All, IfErr};
 ghost use Rattle.std.specs.Iterator.{YieldsFirstBy, item_count};
 ghost use Rattle.atoi_column.specs.Fields.{is_separator};
-ghost use Rattle.atoi_column.specs.Items.{item_of, items_of, place_of};
+ghost use Rattle.atoi_column.specs.Items.{index_of, item_of, items_of, place_of};
 
 use crate::error::ColumnError;
 use crate::fields::fields_are_prefixes;
@@ -54,15 +54,15 @@ impl<'a, T: Parse> Column<'a, T> {
     /// The column that `input` is, its fields ended by `separator`, which has to be a byte that
     /// `is_separator` accepts.
     ///
-    /// There are no more items than bytes, and the place of each error lies in `input`, or at
-    /// its end.
+    /// There are no more items than bytes. The place of an error is in `input` or at its end, and
+    /// its index is less than the length of `input`, so `index + 1` cannot overflow.
     #[inline]
     pub fn new(input: &'a [u8], separator: u8) -> Column<'a, T>
         requires { is_separator separator ≡ true }
         ensures items { result ≡ items_of T.kind separator input.now }
         ensures fits { length result ≤ length input.now }
         ensures places { All (λ item. IfErr item (λ flaw.
-            place_of flaw ≤ length input.now)) result }
+            (place_of flaw ≤ length input.now) × (index_of flaw < length input.now))) result }
     {
         // The law that `places` follows from. The call does nothing.
         prefix_of_cut::<T>();

@@ -1,8 +1,11 @@
 //! Why a field of a column gives no value.
-//! It uses the error of `atoi_simd`.
-ghost use Rattle.std.specs.Prelude.{◌≡◌};
+//! It uses the error of `atoi_simd`, and a law of `atoi_core`.
+ghost use Rattle.std.specs.Prelude.{◌≡◌, ◌↔◌, IsTrue};
 
+use atoi_core::derived::clones_are_the_same;
 use atoi_simd::AtoiSimdError;
+use std::error::Error;
+use std::fmt;
 
 /// Why a field of a column gives no value.
 ///
@@ -51,4 +54,40 @@ impl ColumnError<'_> {
             ColumnError::Field { place, .. } | ColumnError::Trailing { place, .. } => *place,
         }
     }
+
+    /// Whether both are one variant and hold equal numbers and equal errors: what `==` returns.
+    pub fn is_same_as(&self, other: &ColumnError<'_>) -> bool
+        ensures { IsTrue result ↔ (flaw_of self.now ≡ flaw_of other.now) }
+    {
+        self == other
+    }
 }
+
+// The law of `clone`, for errors of a column.
+fn clones() {
+    clones_are_the_same::<ColumnError<'_>>();
+}
+
+// The text has the index, the place and the cause.
+impl fmt::Display for ColumnError<'_> {
+    ghost use Rattle.std.specs.Prelude.{Some};
+    ghost use Rattle.atoi_column.specs.ErrorText.{flaw_text};
+    ghost use Rattle.atoi_column.specs.Items.{flaw_of};
+
+    ghost output = { λ error. Some (flaw_text (flaw_of error)) };
+
+    fn fmt<W: fmt::Write>(&self, f: &mut fmt::Formatter<W>) -> fmt::Result {
+        match *self {
+            ColumnError::Field {
+                index,
+                place,
+                cause,
+            } => write!(f, "field {index} at byte {place} is no number: {cause}"),
+            ColumnError::Trailing { index, place } => {
+                write!(f, "field {index} goes on after its number, at byte {place}")
+            }
+        }
+    }
+}
+
+impl Error for ColumnError<'_> {}

@@ -1,10 +1,9 @@
 -- The answers for an integer type, from those of the loops.
-use Rattle.std.proofs.Common.{◌≡◌, ℕ, ◌≤◌, Bool, true, false, List, length, Result, Ok, refl, ap, ◌∙◌, sym, arith, subst}
+use Rattle.std.proofs.Common.{◌≡◌, ℕ, ◌≤◌, Bool, true, false, List, length, Ok, refl, ap, sym, arith, subst}
 use Rattle.std.proofs.lemmas.List.Sums.{prefix_len-le-length}
 use Rattle.atoi_core.specs.Digit.{Table, is_digit}
-use Rattle.atoi_core.specs.Run.{run_len, run, value}
-use Rattle.atoi_core.specs.Refusal.{Refusal}
-use Rattle.atoi_core.specs.Magnitude.{Class, narrow, whole, prefix, refusal, unless_refused, whole_magnitude, prefix_magnitude}
+use Rattle.atoi_core.specs.Run.{run_len}
+use Rattle.atoi_core.specs.Magnitude.{Class, narrow, whole, prefix, refusal, whole_magnitude, prefix_magnitude}
 use Rattle.atoi_core.specs.Answer.{map_answer}
 use Rattle.atoi_core.proofs.RefusalLemmas.{accepted}
 use Rattle.atoi_core.proofs.CallLemmas.{map_unless_ok}
@@ -26,17 +25,11 @@ whole_in_bounds table class bound limit skip s number found =
     subst P (sym both.1) (accepted table class bound limit whole skip s both.0).in_range
 
 -- the limit of a narrow prefix is its own
-narrow_prefix_limit : (table : Table) (bound limit : ℕ) (skip : Bool) (s : List ℕ)
+pub narrow_prefix_limit : (table : Table) (bound limit : ℕ) (skip : Bool) (s : List ℕ)
     → refusal table narrow bound limit prefix skip s ≡ refusal table narrow bound 0 prefix skip s
 unfolding refusal
 narrow_prefix_limit table bound limit true s = refl
 narrow_prefix_limit table bound limit false s = refl
-
--- so it is answered as of a narrow type
-pub narrow_prefix_of : (table : Table) (class : Class) (bound limit : ℕ) (skip : Bool) (s : List ℕ) (found : Result (ℕ × ℕ) Refusal) → class ≡ narrow
-    → found ≡ prefix_magnitude table narrow bound 0 skip s → found ≡ prefix_magnitude table class bound limit skip s
-narrow_prefix_of table class bound limit skip s found is answer =
-    rw is (answer ∙ ap (λ r. unless_refused r (value table (run table s), run_len table s)) (sym (narrow_prefix_limit table bound limit skip s)))
 
 -- a narrow whole slice has no limit, and it is no matter whether its zeros are skipped
 pub narrow_whole_limit : (table : Table) (bound limit : ℕ) (skip : Bool) (s : List ℕ)

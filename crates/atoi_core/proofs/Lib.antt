@@ -23,6 +23,7 @@ pub mod CallLemmas
 pub mod LimitLemmas
 pub mod TextLemmas
 pub mod DecimalLemmas
+pub mod DecimalTexts
 pub mod PrefixLemmas
 pub mod FrontLemmas
 pub mod ResultLemmas
@@ -36,4 +37,4 @@ pub mod WholeLemmas
 pub mod ReadingLemmas
 pub mod FilledWords
 pub mod ShortRuns
-pub mod SignsAgree
+pub mod NegativeBound

@@ -1,6 +1,5 @@
 -- The answers of the narrow class for a front, from the last window behind the zeros that are skipped.
-use Rattle.std.proofs.Common.{◌≡◌, ℕ, ◌+◌, ◌-◌, ◌*◌, ◌/◌, ◌^◌, ◌<◌, ◌≤◌, ◌==◌, min, Bool, true, false, nat_lt, List, length, take, drop, Some, None, Result, Ok, Err, refl, sym, ap, ◌∙◌, lit<, ltb-true, not, ◌&&◌, inl, inr, arith, if◌then◌else◌}
-use Rattle.std.proofs.Math.Nat.{le-mul_of_pos_right, one-le-pow}
+use Rattle.std.proofs.Common.{◌≡◌, ℕ, ◌+◌, ◌-◌, ◌/◌, ◌^◌, ◌<◌, ◌≤◌, ◌==◌, min, Bool, true, false, nat_lt, List, length, take, drop, Some, None, Result, Ok, Err, refl, sym, ap, ◌∙◌, ltb-true, not, ◌&&◌, inl, inr, arith, if◌then◌else◌}
 use Rattle.std.proofs.lemmas.Bool.{cases_lt, lt-ltb, le-ltb}
 use Rattle.std.proofs.lemmas.Bool.Decides.{nat_tests}
 use Rattle.std.proofs.lemmas.List.{take_rest}
@@ -12,6 +11,9 @@ use Rattle.atoi_core.specs.declared.window.Window.{Window}
 use Rattle.atoi_core.proofs.RefusalLemmas.{limit_at, counting_digits, IsAccepted, refusal-none, refused_size, refused_overflow}
 use Rattle.atoi_core.proofs.RunLemmas.{prefix_len-take, prefix_len-drop}
 use Rattle.atoi_core.proofs.SkipLemmas.{Skipped}
+use Rattle.atoi_core.proofs.Digits.{value-take-le}
+use Rattle.atoi_core.proofs.ValueLemmas.{value-least}
+use Rattle.atoi_core.proofs.WindowLemmas.{Shows}
 use Rattle.atoi_core.proofs.Magnitudes.{narrow_whole_is}
 
 -- how many zeros the slice of an overflow leaves out
@@ -38,15 +40,14 @@ dropped_is t true limit s at before now w so =
 number_most : (t : Table) (skip : Bool) (s : List ℕ) (at before now : ℕ) (w : Window) →
     Skipped t skip s at before now w → w.number ≤ value t (run t s)
 number_most t skip s at before now w so =
-    elim (cases_lt w.len 16) [
-      | inl h ↦ omega (arith, so.value_is, so.shown.reads.value_is h)
-      | inr h ↦
-          let full : w.len ≡ 16 = omega (arith, so.shown.reads.within) in
-          let places : ℕ = run_len t (drop 16 (drop at s)) in
-          let more : w.number ≤ w.number * 10 ^ places =
-          le-mul_of_pos_right w.number (one-le-pow places 10 (lit< tt)) in
-          omega (arith, so.value_is, so.shown.joins full)
-    ]
+    omega (arith, so.value_is, so.shown.number_is, value-take-le t (drop at s) w.len (run_len t (drop at s)) (omega (arith, so.shown.len_is)))
+
+-- a full window that begins with no zero has a number of 16 places
+least : (t : Table) (s : List ℕ) (w : Window) → Shows t 16 s w → 16 ≤ w.len → w.zeroes ≡ 0 → 10 ^ 15 ≤ w.number
+least t s w tell full none =
+    let len : w.len ≡ 16 = omega (arith, tell.len_is) in
+    let some : zeros t s ≡ 0 = omega (arith, tell.zeroes_of len) in
+    omega (arith, value-least t 15 s (omega (arith, tell.len_is)) some, tell.number_is ∙ ap (λ (n : ℕ). value t (take n s)) len)
 
 -- up to 16 digits are not too many, nor is any number of them where zeros are skipped
 short : (t : Table) (skip : Bool) (limit : ℕ) (s : List ℕ) → (skip ≡ false → run_len t s ≤ 16)
@@ -60,10 +61,9 @@ ends : (t : Table) (skip : Bool) (s : List ℕ) (at before now : ℕ) (w : Windo
 ends t false s at before now w so few small = omega (arith, few refl, so.off refl, so.run_is, so.shown.len_is)
 ends t true s at before now w so few small =
     elim (cases_lt w.len 16) [
-      | inl h ↦ so.shown.reads.ends h
+      | inl h ↦ omega (arith, so.shown.len_is)
       | inr h ↦
-          let least : 10 ^ 15 ≤ w.number = so.shown.least (omega (arith, so.shown.reads.within)) (lit< tt) (so.last refl) in
-          absurd (omega arith)
+          absurd (omega (arith, least t (drop at s) w so.shown h (so.last refl)))
     ]
 
 -- a number above the bound
@@ -71,7 +71,7 @@ narrow_overflow : (t : Table) (bound limit : ℕ) (skip : Bool) (s : List ℕ) (
     Skipped t skip s at before now w → (skip ≡ false → run_len t s ≤ 16) → 0 < at + w.len → bound < w.number →
     Err (overflow (drop at s)) ≡ prefix_magnitude t narrow bound limit skip s
 narrow_overflow t bound limit skip s at before now w so few some over =
-    let digits : 0 < run_len t s = omega (arith, so.run_is, so.shown.reads.inside) in
+    let digits : 0 < run_len t s = omega (arith, so.run_is, so.shown.len_is) in
     let above : bound < value t (run t s) = omega (arith, number_most t skip s at before now w so) in
     rw (refused_overflow t narrow bound limit prefix skip s digits (short t skip limit s few) above)
     (rw (dropped_is t skip limit s at before now w so) refl)
@@ -80,8 +80,7 @@ narrow_overflow t bound limit skip s at before now w so few some over =
 pub narrow_full : (t : Table) (bound limit : ℕ) (s : List ℕ) (before now : ℕ) (w : Window) →
     Skipped t true s 0 before now w → bound ≤ 4294967295 → 16 ≤ w.len → Err (overflow s) ≡ prefix_magnitude t narrow bound limit true s
 narrow_full t bound limit s before now w so high full =
-    let least : 10 ^ 15 ≤ w.number = so.shown.least (omega (arith, so.shown.reads.within)) (lit< tt) (so.last refl) in
-    narrow_overflow t bound limit true s 0 before now w so (λ no. absurd (cc no)) (omega arith) (omega arith)
+    narrow_overflow t bound limit true s 0 before now w so (λ no. absurd (cc no)) (omega arith) (omega (arith, least t s w so.shown full (so.last refl)))
 
 -- a number within the bound
 narrow_ok : (t : Table) (bound limit : ℕ) (skip : Bool) (s : List ℕ) (at before now : ℕ) (w : Window) →

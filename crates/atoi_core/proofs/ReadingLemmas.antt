@@ -1,12 +1,13 @@
 -- What was read at the front of a slice decides the answer of a wide class.
-use Rattle.std.proofs.Common.{◌≡◌, ◌⊎◌, ℕ, ◌+◌, ◌-◌, ◌*◌, ◌^◌, ◌<◌, ◌≤◌, min, Bool, true, false, cond, eqb, ltb, List, length, take, drop, Some, None, Result, Ok, Err, refl, sym, ap, ◌∙◌, subst, inl, inr, arith, ne_eqb}
-use Rattle.std.proofs.lemmas.Bool.{eqb-true, eqb-false, lt-ltb}
+use Rattle.std.proofs.Common.{◌≡◌, ◌⊎◌, ℕ, ◌+◌, ◌-◌, ◌*◌, ◌^◌, ◌<◌, ◌≤◌, min, Bool, true, false, cond, eqb, ltb, List, length, take, drop, Some, None, Ok, Err, refl, sym, ap, ◌∙◌, subst, inl, inr, arith, ne_eqb, le-ltb, lit<}
+use Rattle.std.proofs.Math.Nat.{pow-le-pow_right}
+use Rattle.std.proofs.lemmas.Bool.{cases_lt, eqb-true, eqb-false, lt-ltb}
 use Rattle.std.proofs.lemmas.List.{take-take, length-take, length-take-le}
 use Rattle.std.proofs.lemmas.List.Sums.{prefix_len-le-length}
 use Rattle.atoi_core.specs.Digit.{Table, IsBelowTen, is_digit, is_zero}
 use Rattle.atoi_core.specs.Run.{run_len, run, zeros, value}
 use Rattle.atoi_core.specs.Refusal.{Refusal, empty, size, overflow}
-use Rattle.atoi_core.specs.Magnitude.{Class, narrow, wide64, wide128, skipped_zeros, refusal, unless_refused, prefix_magnitude}
+use Rattle.atoi_core.specs.Magnitude.{Class, narrow, wide64, wide128, HasDigits, skipped_zeros, refusal, unless_refused, prefix_magnitude}
 use Rattle.atoi_core.specs.Reading.{Reading, IsSkipped, counting_digits, cap, answer_by_digits, ReadingDecides}
 use Rattle.atoi_core.proofs.RunLemmas.{prefix_len-take, prefix_len-drop, zeros-le}
 use Rattle.atoi_core.proofs.ValueLemmas.{value-below, value-take-add, value-drop_zeros}
@@ -54,6 +55,21 @@ joined t count more s leading high digits others low front back =
       number_is = sym (cut ∙ sum);
     }
 
+-- a reading that does not end in digits tells of more bytes too
+pub widened : (t : Table) (count more : ℕ) (s : List ℕ) (digits leading number : ℕ) → Reading t count s digits leading number
+    → digits < count → count ≤ more → Reading t more s digits leading number
+widened t count more s digits leading number reading ends longer =
+    let all : run_len t s ≡ digits = omega (arith, reading.digits_are, prefix_len-take (is_digit t) count s) in
+    let few : digits ≤ count = omega arith in
+    let len : digits ≡ run_len t (take more s) = omega (arith, prefix_len-take (is_digit t) more s) in
+    record {
+      digits_are = len;
+      leading_are = omega (arith, reading.leading_are, prefix_len-take (is_zero t) count s, prefix_len-take (is_zero t) more s, zeros-le t s);
+      number_is = reading.number_is ∙ ap (λ (n : ℕ). value t (take n (take count s))) (sym reading.digits_are)
+          ∙ ap (value t) (take-take digits count s few ∙ sym (take-take digits more s (omega arith)))
+          ∙ ap (λ (n : ℕ). value t (take n (take more s))) len;
+    }
+
 -- zeros are digits, and digits are bytes
 pub within : (t : Table) (count : ℕ) (s : List ℕ) (digits leading number : ℕ) → Reading t count s digits leading number
     → (leading ≤ digits) × (digits ≤ min count (length s))
@@ -70,12 +86,6 @@ below t ten count s digits leading number reading =
     let P : ℕ → Type 0 = λ (n : ℕ). value t (run t front) < 10 ^ n in
     omega (arith, reading.number_is, subst P len (value-below t ten (run t front)))
 
--- the answer by the tests of its three refusals, with the count of all digits told by itself
-abbrev pub by_tests : Class → (bound limit total skipped counting number : ℕ) → List ℕ → Result (ℕ × ℕ) Refusal
-by_tests class bound limit total skipped counting number s =
-    cond (eqb total 0) (Err empty) (cond (ltb limit counting) (Err (size (skipped + min counting (cap class)) (drop skipped s)))
-    (cond (ltb bound number) (Err (overflow (drop skipped s))) (Ok (number, total))))
-
 -- the first of three tests that holds refuses
 first_refusal : {A : Type 0} (a b c : Bool) (p q r : Refusal) (v : A)
     → unless_refused (cond a (Some p) (cond b (Some q) (cond c (Some r) None))) v ≡ cond a (Err p) (cond b (Err q) (cond c (Err r) (Ok v)))
@@ -84,50 +94,21 @@ first_refusal false true c p q r v = refl
 first_refusal false false true p q r v = refl
 first_refusal false false false p q r v = refl
 
--- so the tests answer
-by_tests-refusal : (class : Class) (bound limit n k v : ℕ) (s : List ℕ)
-    → unless_refused (cond (eqb n 0) (Some empty) (cond (ltb limit (n - k)) (Some (size (k + min (n - k) (cap class)) (drop k s)))
-    (cond (ltb bound v) (Some (overflow (drop k s))) None))) (v, n) ≡ by_tests class bound limit n k (n - k) v s
-by_tests-refusal class bound limit n k v s =
-    first_refusal (eqb n 0) (ltb limit (n - k)) (ltb bound v) empty (size (k + min (n - k) (cap class)) (drop k s)) (overflow (drop k s)) (v, n)
-
--- no more digits count than there are, and the others are skipped
-counting-parts : (skip : Bool) (n z : ℕ) → z ≤ n → (counting_digits skip n z ≤ n) × (cond skip z 0 ≡ n - counting_digits skip n z)
-counting-parts true n z within = (omega arith, omega arith)
-counting-parts false n z within = (omega arith, omega arith)
-
--- the answer of a wide class by all digits of the slice
-pub by_tests-all : (t : Table) (class : Class) (bound limit : ℕ) (skip : Bool) (s : List ℕ) → limit < cap class
-    → prefix_magnitude t class bound limit skip s
-    ≡ by_tests class bound limit (run_len t s) (skipped_zeros t skip s) (run_len t s - skipped_zeros t skip s) (value t (run t s)) s
-unfolding refusal
-by_tests-all t narrow bound limit skip s less = absurd (omega arith)
-by_tests-all t wide64 bound limit skip s less = by_tests-refusal wide64 bound limit (run_len t s) (skipped_zeros t skip s) (value t (run t s)) s
-by_tests-all t wide128 bound limit skip s less = by_tests-refusal wide128 bound limit (run_len t s) (skipped_zeros t skip s) (value t (run t s)) s
-
--- and with the zeros and the digits that count told apart
-pub by_counting : (t : Table) (class : Class) (bound limit : ℕ) (skip : Bool) (s : List ℕ) (skipped counting : ℕ) → limit < cap class
+-- the answer of a wide class by all digits of the slice, the zeros that are skipped told apart
+by_all_digits : (t : Table) (class : Class) (bound limit : ℕ) (skip : Bool) (s : List ℕ) (skipped counting : ℕ) → limit < cap class
     → skipped_zeros t skip s ≡ skipped → run_len t s ≡ skipped + counting
     → prefix_magnitude t class bound limit skip s ≡ answer_by_digits class bound limit skipped counting (value t (run t s)) s
-by_counting t class bound limit skip s skipped counting less zeros_are total =
-    let n : ℕ = run_len t s in
-    let v : ℕ = value t (run t s) in
-    let others_are : n - skipped ≡ counting = omega arith in
-    by_tests-all t class bound limit skip s less
-    ∙ ap (λ (k : ℕ). by_tests class bound limit n k (n - k) v s) zeros_are
-    ∙ ap (λ (c : ℕ). by_tests class bound limit n skipped c v s) others_are
-    ∙ ap (λ (m : ℕ). by_tests class bound limit m skipped counting v s) total
-
--- and with the digits that count by the flag
-by_all_digits : (t : Table) (class : Class) (bound limit : ℕ) (skip : Bool) (s : List ℕ) (skipped counting : ℕ) → limit < cap class
-    → counting ≡ counting_digits skip (run_len t s) (zeros t s) → skipped ≡ run_len t s - counting
-    → prefix_magnitude t class bound limit skip s ≡ answer_by_digits class bound limit skipped counting (value t (run t s)) s
-by_all_digits t class bound limit skip s skipped counting less e d =
-    let parts = counting-parts skip (run_len t s) (zeros t s) (zeros-le t s) in
-    by_counting t class bound limit skip s skipped counting less (omega (arith, parts.0, parts.1)) (omega (arith, parts.0))
+unfolding refusal
+by_all_digits t narrow bound limit skip s skipped counting less zeros_are total = absurd (omega arith)
+by_all_digits t wide64 bound limit skip s skipped counting less zeros_are total =
+    let others : skipped + counting - skipped ≡ counting = omega arith in
+    rw (zeros_are, total, others) (first_refusal (eqb (skipped + counting) 0) (ltb limit counting) _ empty (size (skipped + min counting 24) (drop skipped s)) (overflow (drop skipped s)) _)
+by_all_digits t wide128 bound limit skip s skipped counting less zeros_are total =
+    let others : skipped + counting - skipped ≡ counting = omega arith in
+    rw (zeros_are, total, others) (first_refusal (eqb (skipped + counting) 0) (ltb limit counting) _ empty (size (skipped + min counting 40) (drop skipped s)) (overflow (drop skipped s)) _)
 
 -- as many digits as a size tells are too many, whatever they write
-pub by_many_digits : (class : Class) (bound limit skipped counting number : ℕ) (s : List ℕ) → limit < cap class → cap class ≤ counting
+by_many_digits : (class : Class) (bound limit skipped counting number : ℕ) (s : List ℕ) → limit < cap class → cap class ≤ counting
     → answer_by_digits class bound limit skipped counting number s ≡ Err (size (skipped + cap class) (drop skipped s))
 by_many_digits class bound limit skipped counting number s less many =
     let some : eqb (skipped + counting) 0 ≡ false = ne_eqb (skipped + counting) 0 (omega arith) in
@@ -135,18 +116,16 @@ by_many_digits class bound limit skipped counting number s less many =
     let most : min counting (cap class) ≡ cap class = omega arith in
     rw (some, long, most) refl
 
--- what counts of all digits, and of those that were read
-counted : (skip : Bool) (n z place digits leading : ℕ) → n ≡ place + digits → z ≡ place + leading → (skip ≡ false → place ≡ 0)
-    → (counting_digits skip digits leading ≡ counting_digits skip n z) × (place + (digits - counting_digits skip digits leading) ≡ n - counting_digits skip digits leading)
-counted true n z place digits leading n_is z_is asked = (omega arith, omega arith)
-counted false n z place digits leading n_is z_is asked = (omega (arith, asked refl), omega (arith, asked refl))
+-- the zeros that are skipped are those before the place and those that were read
+skipped_is : (skip : Bool) (z place digits leading : ℕ) → leading ≤ digits → (skip ≡ false → place ≡ 0) → (skip ≡ true → z ≡ place + leading)
+    → cond skip z 0 ≡ place + (digits - counting_digits skip digits leading)
+skipped_is true z place digits leading most asked zeros_are = omega (arith, zeros_are refl)
+skipped_is false z place digits leading most asked zeros_are = omega (arith, asked refl)
 
--- also where more digits follow, for the zeros in front
-counted_more : (skip : Bool) (n z place digits leading cap : ℕ) → 0 < cap → place + digits ≤ n → z ≤ n → (leading < digits → z ≡ place + leading)
-    → (skip ≡ false → place ≡ 0) → cap ≤ counting_digits skip digits leading
-    → (cap ≤ counting_digits skip n z) × (place + (digits - counting_digits skip digits leading) ≡ n - counting_digits skip n z)
-counted_more true n z place digits leading cap some n_is most z_is asked many = (omega (arith, z_is (omega arith)), omega (arith, z_is (omega arith)))
-counted_more false n z place digits leading cap some n_is most z_is asked many = (omega (arith, asked refl), omega (arith, asked refl))
+-- no more digits count than were read
+counting_most : (skip : Bool) (digits leading : ℕ) → counting_digits skip digits leading ≤ digits
+counting_most true digits leading = omega arith
+counting_most false digits leading = omega arith
 
 -- behind zeros that are skipped, what was read decides
 pub decided : (t : Table) (class : Class) (bound limit : ℕ) → limit < cap class
@@ -163,23 +142,76 @@ decided t class bound limit less skip s place count digits leading number skippe
     let digits_are : digits ≡ min count (run_len t body) = reading.digits_are ∙ prefix_len-take (is_digit t) count body in
     let leading_are : leading ≡ min count (zeros t body) = reading.leading_are ∙ prefix_len-take (is_zero t) count body in
     let counting : ℕ = counting_digits skip digits leading in
+    let most : counting ≤ digits = counting_most skip digits leading in
+    let all_zeros : skip ≡ true → zeros t s ≡ place + leading =
+    λ on. elim enough [ inl ends ↦ omega arith | inr many ↦ omega (arith, many, ap (λ b. counting_digits b digits leading) on) ] in
+    let front : ℕ = place + (digits - counting) in
+    let skipped_are : skipped_zeros t skip s ≡ front = skipped_is skip (zeros t s) place digits leading (omega arith) skipped.asked all_zeros in
     elim enough [
       | inl ends ↦
           let all : run_len t body ≡ digits = omega arith in
-          let tell = counted skip (run_len t s) (zeros t s) place digits leading (omega arith) (omega arith) skipped.asked in
           let number_is : value t (run t s) ≡ number =
           value-drop_zeros t place s skipped.zeros_only ∙ ap (λ (n : ℕ). value t (take n body)) all
           ∙ ap (value t) (sym (take-take digits count body (omega arith)))
           ∙ ap (λ (n : ℕ). value t (take n (take count body))) reading.digits_are ∙ sym reading.number_is in
-          by_all_digits t class bound limit skip s (place + (digits - counting)) counting less tell.0 tell.1
-          ∙ ap (λ (n : ℕ). answer_by_digits class bound limit (place + (digits - counting)) counting n s) number_is
+          by_all_digits t class bound limit skip s front counting less skipped_are (omega arith)
+          ∙ ap (λ (n : ℕ). answer_by_digits class bound limit front counting n s) number_is
       | inr many ↦
-          let tell = counted_more skip (run_len t s) (zeros t s) place digits leading (cap class) (omega arith) (omega arith) (omega arith) (λ h. omega arith) skipped.asked many in
-          by_all_digits t class bound limit skip s (place + (digits - counting)) (counting_digits skip (run_len t s) (zeros t s)) less refl tell.1
-          ∙ by_many_digits class bound limit (place + (digits - counting)) (counting_digits skip (run_len t s) (zeros t s)) (value t (run t s)) s less tell.0
-          ∙ sym (by_many_digits class bound limit (place + (digits - counting)) counting number s less many)
+          let rest : ℕ = run_len t s - front in
+          by_all_digits t class bound limit skip s front rest less skipped_are (omega arith)
+          ∙ by_many_digits class bound limit front rest (value t (run t s)) s less (omega arith)
+          ∙ sym (by_many_digits class bound limit front counting number s less many)
     ]
+
+-- fewer digits than the bound has write less than it
+pub below_bound : (limit bound digits number : ℕ) → HasDigits limit bound → digits < limit → number < 10 ^ digits → number < bound
+below_bound limit bound digits number bounds few small =
+    let most : 10 ^ digits ≤ 10 ^ (limit - 1) = pow-le-pow_right (lit< tt) (omega arith) in
+    omega (arith, bounds.0)
+
+-- fewer digits than the limit, with no digit after them, do not pass the bound
+pub short_below : (t : Table) (class : Class) (bound limit : ℕ) → limit < cap class → HasDigits limit bound
+    → (skip : Bool) (s : List ℕ) (place count digits leading number : ℕ) → IsSkipped t skip s place
+    → Reading t count (drop place s) digits leading number → digits < count → digits < limit → number < 10 ^ digits
+    → (number ≤ bound) × (prefix_magnitude t class bound limit skip s ≡ cond (eqb (place + digits) 0) (Err empty) (Ok (number, place + digits)))
+short_below t class bound limit less bounds skip s place count digits leading number skipped reading ends few small =
+    let counting : ℕ = counting_digits skip digits leading in
+    let most : counting ≤ digits = counting_most skip digits leading in
+    let within : number < bound = below_bound limit bound digits number bounds few small in
+    let total : place + (digits - counting) + counting ≡ place + digits = omega arith in (
+      omega arith,
+      decided t class bound limit less skip s place count digits leading number skipped reading (inl ends)
+          ∙ rw (le-ltb limit counting (omega arith), le-ltb bound number (omega arith), total) refl,
+    )
+
+-- as no digit is worth more than nine
+pub short : (t : Table) → IsBelowTen t → (class : Class) (bound limit : ℕ) → limit < cap class → HasDigits limit bound
+    → (skip : Bool) (s : List ℕ) (place count digits leading number : ℕ) → IsSkipped t skip s place
+    → Reading t count (drop place s) digits leading number → digits < count → digits < limit
+    → (number ≤ bound) × (prefix_magnitude t class bound limit skip s ≡ cond (eqb (place + digits) 0) (Err empty) (Ok (number, place + digits)))
+short t ten class bound limit less bounds skip s place count digits leading number skipped reading ends few =
+    short_below t class bound limit less bounds skip s place count digits leading number skipped reading ends few
+    (below t ten count (drop place s) digits leading number reading)
+
+-- all digits count of a reading that begins with no zero to skip
+all_count : (skip : Bool) (digits leading : ℕ) → (skip ≡ true → leading ≡ 0) → counting_digits skip digits leading ≡ digits
+all_count true digits leading none = omega (arith, none refl)
+all_count false digits leading none = refl
+
+-- so they decide, where as many bytes were read as a size tells
+pub all_decide : (t : Table) (class : Class) (bound limit : ℕ) → limit < cap class
+    → (skip : Bool) (s : List ℕ) (place digits leading number : ℕ) → IsSkipped t skip s place
+    → Reading t (cap class) (drop place s) digits leading number → (skip ≡ true → leading ≡ 0)
+    → prefix_magnitude t class bound limit skip s ≡ answer_by_digits class bound limit place digits number s
+all_decide t class bound limit less skip s place digits leading number skipped reading none =
+    let counting : counting_digits skip digits leading ≡ digits = all_count skip digits leading none in
+    let enough : (digits < cap class) ⊎ (cap class ≤ counting_digits skip digits leading) =
+    elim (cases_lt digits (cap class)) [ inl h ↦ inl h | inr h ↦ inr (omega (arith, counting)) ] in
+    let at : place + (digits - counting_digits skip digits leading) ≡ place = omega (arith, counting) in
+    decided t class bound limit less skip s place (cap class) digits leading number skipped reading enough
+    ∙ ap (λ (n : ℕ). answer_by_digits class bound limit n (counting_digits skip digits leading) number s) at
+    ∙ ap (λ (n : ℕ). answer_by_digits class bound limit place n number s) counting
 
 -- the law that these add up to
 pub reading_decides : ReadingDecides
-reading_decides = record { zeros_left = zeros_left; joined = joined; within = within; below = below; decided = decided }
+reading_decides = record { zeros_left = zeros_left; joined = joined; widened = widened; within = within; below = below; decided = decided; short = short; full = all_decide }

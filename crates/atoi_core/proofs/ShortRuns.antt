@@ -1,5 +1,5 @@
 -- Below 16 digits every class, extent and flag answers alike, but for the variant of one error.
-use Rattle.std.proofs.Common.{◌≡◌, ◌⊎◌, ℕ, ◌-◌, ◌*◌, ◌/◌, ◌^◌, ◌<◌, ◌≤◌, Bool, true, false, cond, eqb, ltb, List, length, drop, Option, Some, None, Ok, Err, refl, sym, ap, ap₂, ◌∙◌, inl, inr, arith, le-ltb, ne_eqb, lit<}
+use Rattle.std.proofs.Common.{◌≡◌, ◌⊎◌, ℕ, ◌-◌, ◌*◌, ◌/◌, ◌^◌, ◌<◌, ◌≤◌, Bool, true, false, cond, eqb, ltb, List, length, take, drop, Option, Some, None, Ok, Err, refl, sym, ap, ap₂, ◌∙◌, inl, inr, arith, le-ltb, ne_eqb, lit<}
 use Rattle.std.proofs.Math.Nat.{pow-le-pow_right}
 use Rattle.std.proofs.lemmas.Bool.{eq-eqb}
 use Rattle.atoi_core.specs.Digit.{Table, IsBelowTen}
@@ -84,13 +84,13 @@ module _ (t : Table) (ten : IsBelowTen t) (class : Class) (bound limit : ℕ) (s
   pub short_number : w.number < 10 ^ 15
   short_number =
       let most : 10 ^ w.len ≤ 10 ^ 15 = pow-le-pow_right {n = 10} (lit< tt) {i = w.len} {j = 15} (omega arith) in
-      omega (arith, told.reads.below)
+      omega (arith, told.below)
 
   -- and decides the answer for a front
   short_front : cond (eqb w.len 0) (Err empty) (cond (ltb bound w.number) (Err (overflow s)) (Ok (w.number, w.len))) ≡ prefix_magnitude t class bound limit skip s
   short_front =
-      let len : run_len t s ≡ w.len = told.reads.ends short in
-      let number : value t (run t s) ≡ w.number = told.reads.value_is short in
+      let len : run_len t s ≡ w.len = omega (arith, told.len_is) in
+      let number : value t (run t s) ≡ w.number = ap (λ (n : ℕ). value t (take n s)) len ∙ sym told.number_is in
       let small : value t (run t s) < 10 ^ 15 = omega (arith, short_number) in
       picked (eqb w.len 0) (ltb bound w.number) empty (overflow s) (w.number, w.len)
       ∙ sym (ap₂ (λ (n m : ℕ). unless_refused (cond (eqb m 0) (Some empty) (cond (ltb bound n) (Some (overflow s)) None)) (n, m)) number len)

@@ -33,7 +33,7 @@ shows_rest t below c s at w e = shows t below c (drop at s) w (e ∙ ap (window_
 pub two_full : (t : Table) → IsBelowTen t → (s : List ℕ) (first second : Window) → first ≡ window_of t 16 s → first.len ≡ 16
     → second ≡ window_of t 16 (take (length s - 16) (drop 16 s)) → 16 ≤ second.len → 32 ≤ run_len t s
 two_full t below s first second is full next more =
-    omega (arith, (shows t below 16 s first is).goes_on full, (shows_rest t below 16 s 16 second next).reads.inside)
+    omega (arith, prefix_len-drop (is_digit t) 16 s (omega (arith, full, (shows t below 16 s first is).len_is)), (shows_rest t below 16 s 16 second next).len_is)
 
 -- a window k bytes behind such a place
 pub shows_behind : (t : Table) → IsBelowTen t → (c k : ℕ) (s : List ℕ) (at : ℕ) (w : Window) →
@@ -66,7 +66,7 @@ Skipping-more t below skip s at after before now next w so e one on some dropped
     let zero_most : zeros t s ≤ run_len t s = zeros-le t s in
     let told : w.zeroes ≡ min 16 (zeros t (drop at s)) = tell.zeroes_of (tell.full some) in
     let full : w.len ≡ 16 = tell.full some in
-    let run_more : w.len ≤ run_len t (drop at s) = tell.reads.inside in
+    let run_more : w.len ≤ run_len t (drop at s) = omega (arith, tell.len_is) in
     let exact : 16 * now ≡ 16 * before + at =
     elim so.place [ inl h ↦ h | inr h ↦ absurd (omega (arith, h.0)) ] in
     record {
@@ -94,6 +94,7 @@ pub record Skipped (t : Table) (skip : Bool) (s : List ℕ) (at before now : ℕ
   pub last : skip ≡ true → w.zeroes ≡ 0
   pub more : before < now
   pub most : 16 * now ≤ 16 * before + zeros t s + 31
+  pub unskipped : skip ≡ false → now ≤ before + 1
   pub least : skip ≡ true → zeros t s + 16 * before ≤ 16 * now
   pub place : skip ≡ true → (at ≡ 16 * (zeros t s / 16)) ⊎ ((at ≡ zeros t s) × (zeros t s / 16 < run_len t s / 16))
 
@@ -109,7 +110,7 @@ Skipped-end t below skip s at before now next w so e one stops =
     let run_is : run_len t s ≡ at + run_len t (drop at s) = prefix_len-drop (is_digit t) at s (omega (arith, so.bounded, zeros-le t s)) in
     let zero_most : zeros t (drop at s) ≤ run_len t (drop at s) = zeros-le t (drop at s) in
     let full : skip ≡ true → w.len ≡ 16 → at ≡ zeros t s = λ h k. omega (arith, last h, tell.zeroes_of k) in
-    let short : w.len < 16 → zeros t (drop at s) < 16 = λ h. omega (arith, tell.reads.ends h) in
+    let short : w.len < 16 → zeros t (drop at s) < 16 = λ h. omega (arith, tell.len_is) in
     record {
       shown = tell;
       within = so.within;
@@ -121,39 +122,43 @@ Skipped-end t below skip s at before now next w so e one stops =
       last = last;
       more = omega (arith, so.least);
       most = omega (arith, so.most, so.bounded);
+      unskipped = λ h. omega (arith, so.off h, so.most);
       least = λ h. elim (cases_lt w.len 16) [
         | inl k ↦ omega (arith, short k, so.least)
-        | inr k ↦ omega (arith, full h (omega (arith, tell.reads.within)), so.least)
+        | inr k ↦ omega (arith, full h (omega (arith, tell.len_is)), so.least)
       ];
       place = λ h. elim so.place [
         | inr k ↦ inr k
         | inl k ↦ (elim (cases_lt w.len 16) [
           | inl m ↦ inl (omega (arith, short m))
-          | inr m ↦ inl (omega (arith, full h (omega (arith, tell.reads.within))))
+          | inr m ↦ inl (omega (arith, full h (omega (arith, tell.len_is))))
         ])
       ];
     }
 
 -- a call that loads so many windows more, where these are within its bound
-pub Skipped-loads : (t : Table) (skip : Bool) (s : List ℕ) (at before now : ℕ) (w : Window) (most last : ℕ) →
-    Skipped t skip s at before now w → (more : ℕ) → last ≡ now + more → zeros t s / 16 + 2 + more ≤ most →
-    LoadsWithin most t skip s before last
-Skipped-loads t skip s at before now w most last so more counted bounded = record {
+pub Skipped-loads : {t : Table} {skip : Bool} {s : List ℕ} {at before now last most unskipped : ℕ} {w : Window} →
+    Skipped t skip s at before now w → (more : ℕ) → last ≡ now + more → zeros t s / 16 + 2 + more ≤ most → 1 + more ≤ unskipped →
+    LoadsWithin most unskipped t skip s before last
+Skipped-loads so more counted bounded few = record {
   at_most = omega (arith, so.most);
+  at_most_unskipped = λ off. omega (arith, so.unskipped off);
   at_least = λ _. omega (arith, so.more);
   at_least_skipping = λ on. omega (arith, so.least on);
 }
 
 -- a first window is all that is loaded, and where zeros count and it is full one more
 pub Skipped-one : (t : Table) (skip : Bool) (s : List ℕ) (at before now last : ℕ) {w : Window} → Skipped t skip s at before now w →
-    now ≡ before + 1 → last ≡ now + (if skip || nat_lt (run_len t s) 16 then 0 else 1) → LoadsWithin (most_loads t narrow s) t skip s before last
+    now ≡ before + 1 → last ≡ now + (if skip || nat_lt (run_len t s) 16 then 0 else 1) → LoadsWithin (most_loads t narrow s) 2 t skip s before last
 Skipped-one t true s at before now last so one counted = record {
   at_most = omega arith;
+  at_most_unskipped = λ off. absurd (cc off);
   at_least = λ _. omega arith;
   at_least_skipping = λ on. omega (arith, so.least on);
 }
 Skipped-one t false s at before now last so one counted = record {
   at_most = grind (arith, nat_tests);
+  at_most_unskipped = λ _. grind (arith, nat_tests);
   at_least = λ _. grind (arith, nat_tests);
   at_least_skipping = λ on. absurd (cc on);
 }

@@ -33,18 +33,26 @@ prefix_answer table k minus skip body =
     map_answer (λ (found : ℕ × ℕ). (number_of minus found.0, found.1))
     (prefix_magnitude table (class_of k) (bound_of k minus) (limit_of k) skip body)
 
--- what `parse` answers: the sign is taken, and the body is read as a whole
-abbrev pub parse_answer : Kind → (skip plus : Bool) → List ℕ → Result ℤ Refusal
-parse_answer k skip plus s =
+-- a text as a whole: the sign is taken, and the body is read with it
+abbrev pub text_answer : Table → Kind → (skip plus : Bool) → List ℕ → Result ℤ Refusal
+text_answer table k skip plus s =
     let sign = sign_of k.signed plus s in
-    whole_answer decimal_table k sign.minus skip sign.body
+    whole_answer table k sign.minus skip sign.body
+
+-- what `parse` returns: its digits are the decimal ones
+abbrev pub parse_answer : Kind → (skip plus : Bool) → List ℕ → Result ℤ Refusal
+parse_answer k skip plus s = text_answer decimal_table k skip plus s
 
 -- a prefix's answer with a count that is greater by `more`
 abbrev pub with_more : ℕ → Result (ℤ × ℕ) Refusal → Result (ℤ × ℕ) Refusal
 with_more more answer = map_answer (λ (found : ℤ × ℕ). (found.0, found.1 + more)) answer
 
--- what `parse_prefix` answers: the count is of the sign's byte too
-abbrev pub parse_prefix_answer : Kind → (skip plus : Bool) → List ℕ → Result (ℤ × ℕ) Refusal
-parse_prefix_answer k skip plus s =
+-- the text at the front of a slice: the count includes the sign's byte
+abbrev pub text_prefix_answer : Table → Kind → (skip plus : Bool) → List ℕ → Result (ℤ × ℕ) Refusal
+text_prefix_answer table k skip plus s =
     let sign = sign_of k.signed plus s in
-    with_more sign.taken (prefix_answer decimal_table k sign.minus skip sign.body)
+    with_more sign.taken (prefix_answer table k sign.minus skip sign.body)
+
+-- what `parse_prefix` returns: its digits are the decimal ones
+abbrev pub parse_prefix_answer : Kind → (skip plus : Bool) → List ℕ → Result (ℤ × ℕ) Refusal
+parse_prefix_answer k skip plus s = text_prefix_answer decimal_table k skip plus s

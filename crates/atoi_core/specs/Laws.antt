@@ -1,7 +1,7 @@
 -- Laws of the answers. Each is a statement about the definitions alone, for every slice; nothing
 -- of how a parse works occurs in it.
-use Rattle.std.specs.Prelude.{◌≡◌, ◌⊎◌, ◌↔◌, ℕ, ◌+◌, ◌-◌, ◌^◌, ◌<◌, ◌≤◌, Bool, true, false, if◌then◌else◌, IsTrue, IsFalse, List, ◌++◌, length, take, replicate, slice_index, All, Option, Some, None, ℤ, pos, neg_ℤ, ◌≤ℤ◌, Result, Ok, Err, IsOk, IfOk, OnErr}
-use Rattle.std.specs.Fmt.{signed_decimal}
+use Rattle.std.specs.Prelude.{◌≡◌, ◌≢◌, ◌⊎◌, ◌↔◌, ℕ, ◌+◌, ◌-◌, ◌^◌, ◌<◌, ◌≤◌, Bool, true, false, if◌then◌else◌, IsTrue, IsFalse, List, ◌++◌, length, take, replicate, slice_index, All, Option, Some, None, ℤ, pos, neg_ℤ, ◌≤ℤ◌, Result, Ok, Err, IsOk, IfOk, OnErr}
+use Rattle.std.specs.Fmt.{decimal, signed_decimal}
 use Rattle.std.specs.Char.{IsAsciiDigit}
 use Rattle.std.specs.Str.Parse.{AllDigits, digits_value}
 use Rattle.std.specs.declared.cmp.Ordering.TheVariants.{Equal}
@@ -11,9 +11,9 @@ use Rattle.atoi_core.specs.Refusal.{Refusal, empty, size, overflow, invalid64, i
 use Rattle.atoi_core.specs.Magnitude.{Extent, whole, prefix, skipped_zeros, rule_of}
 use Rattle.atoi_core.specs.declared.error.AtoiSimdError.{AtoiSimdError}
 use Rattle.atoi_core.specs.Kind.{Kind, class_of, bound_of, limit_of}
-use Rattle.atoi_core.specs.Sign.{Sign, sign_of}
+use Rattle.atoi_core.specs.Sign.{Sign, sign_of, number_of}
 use Rattle.atoi_core.specs.Answer.{typed_answer, typed_prefix_answer, whole_answer, prefix_answer, with_more, parse_answer, parse_prefix_answer}
-use Rattle.atoi_core.specs.Text.{IsText, DigitsWrite, TextWrites, BeginsWithDigit, FrontWrites}
+use Rattle.atoi_core.specs.Text.{IsText, is_minus, DigitsWrite, TextWrites, BeginsWithDigit, FrontWrites, has_needless_zero}
 
 -- how a call gets its sign: it looks for one at the front of its slice, for a plus only if that is
 -- asked for; or it looks for none, and is given whether the number is negative
@@ -253,3 +253,21 @@ pub record ErrorsInOrder (k : Kind) : Type 0 where
   pub prefix : (form : SignForm) (skip : Bool) (s : List ℕ) (reason : Refusal) → prefix_call k form skip s ≡ Err reason
       → Explains k prefix (sign_in k form s).minus skip (sign_in k form s).body reason
   pub never_followed : (form : SignForm) (skip : Bool) (s : List ℕ) (reason : Refusal) → prefix_call k form skip s ≡ Err reason → rank reason ≤ 2
+
+-- bytes that write a number begin with a digit. The decimal text of a number in range writes it and
+-- has no needless zero, and no other digits do both. So it is with a sign, where the number 0 has none
+pub record DecimalTexts (k : Kind) : Type 0 where
+  pub begins : (is_negative : Bool) (digits : List ℕ) (number : ℤ)
+      → DigitsWrite k is_negative digits number → BeginsWithDigit digits
+  pub written : (is_negative : Bool) (n : ℕ) → n ≤ bound_of k is_negative
+      → DigitsWrite k is_negative (decimal n) (number_of is_negative n)
+  pub shortest : (is_negative : Bool) (n : ℕ) → n ≤ bound_of k is_negative
+      → IsFalse (has_needless_zero (decimal n))
+  pub only : (is_negative : Bool) (digits : List ℕ) (n : ℕ)
+      → DigitsWrite k is_negative digits (number_of is_negative n) → IsFalse (has_needless_zero digits)
+      → digits ≡ decimal n
+  pub text : (takes_plus : Bool) (x : ℤ) → least_of k ≤ℤ x → x ≤ℤ pos k.greatest
+      → TextWrites k takes_plus (signed_decimal x) x
+  pub only_text : (s : List ℕ) (x : ℤ) (text : TextWrites k false s x)
+      → IsFalse (has_needless_zero text.digits) → (is_minus text.sign ≡ true → x ≢ pos 0)
+      → s ≡ signed_decimal x

@@ -15,4 +15,3 @@ pub mod Window
 pub mod Reading
 pub mod Words
 pub mod Examples
-pub mod BothSigns

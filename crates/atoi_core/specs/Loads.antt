@@ -1,5 +1,5 @@
 -- How many windows a call loads.
-use Rattle.std.specs.Prelude.{ℕ, ◌+◌, ◌*◌, ◌/◌, ◌<◌, ◌≤◌, Bool, true, IsTrue, List, length}
+use Rattle.std.specs.Prelude.{◌≡◌, ℕ, ◌+◌, ◌*◌, ◌/◌, ◌<◌, ◌≤◌, Bool, true, false, IsTrue, List, length}
 use Rattle.atoi_core.specs.Digit.{Table}
 use Rattle.atoi_core.specs.Run.{zeros}
 use Rattle.atoi_core.specs.Magnitude.{Class, Extent, narrow, wide64, wide128, whole, prefix}
@@ -15,6 +15,12 @@ loads_a_turn wide128 = 3
 abbrev pub most_loads : Table → Class → List ℕ → ℕ
 most_loads table class s = loads_a_turn class * (zeros table s / 16 + 2)
 
+-- the most windows that a call loads when it does not skip zeros, however many there are
+abbrev pub most_unskipped : Class → ℕ
+most_unskipped narrow = 2
+most_unskipped wide64 = 2
+most_unskipped wide128 = 5
+
 -- whether a call skips zeros: as its flag says, but for a narrow whole slice always
 abbrev pub skips_zeros : Class → Extent → Bool → Bool
 skips_zeros narrow whole skip = true
@@ -22,14 +28,16 @@ skips_zeros narrow prefix skip = skip
 skips_zeros wide64 extent skip = skip
 skips_zeros wide128 extent skip = skip
 
--- the count of windows before a call and after it: at most so many were loaded; at least one, where
--- the slice has a byte; and at least one for each 32 zeros, where zeros are skipped
-pub record LoadsWithin (most : ℕ) (table : Table) (skip : Bool) (s : List ℕ) (before after : ℕ) : Type 0 where
+-- the count of windows before a call and after it: the call loads at most `most`, and at most
+-- `unskipped` when it does not skip zeros; at least one, if the slice has a byte; and at least one for
+-- each 32 zeros, if zeros are skipped
+pub record LoadsWithin (most unskipped : ℕ) (table : Table) (skip : Bool) (s : List ℕ) (before after : ℕ) : Type 0 where
   pub at_most : after ≤ before + most
+  pub at_most_unskipped : skip ≡ false → after ≤ before + unskipped
   pub at_least : 0 < length s → before < after
   pub at_least_skipping : IsTrue skip → before + zeros table s / 32 ≤ after
 
 -- the windows that a parse of an integer type loads
 abbrev pub TypedLoads : Table → Kind → Extent → Bool → List ℕ → (before after : ℕ) → Type 0
 TypedLoads table k extent skip s before after =
-    LoadsWithin (most_loads table (class_of k) s) table (skips_zeros (class_of k) extent skip) s before after
+    LoadsWithin (most_loads table (class_of k) s) (most_unskipped (class_of k)) table (skips_zeros (class_of k) extent skip) s before after

@@ -4,7 +4,7 @@ use Rattle.std.specs.Prelude.{◌≡◌, ◌⊎◌, ℕ, ◌+◌, ◌-◌, ◌*�
 use Rattle.atoi_core.specs.Digit.{Table, IsBelowTen}
 use Rattle.atoi_core.specs.Run.{run_len, run, zeros, value}
 use Rattle.atoi_core.specs.Refusal.{Refusal, empty, size, overflow}
-use Rattle.atoi_core.specs.Magnitude.{Class, prefix, rule_of, prefix_magnitude}
+use Rattle.atoi_core.specs.Magnitude.{Class, prefix, rule_of, HasDigits, prefix_magnitude}
 
 -- what the first `count` bytes of a slice tell, or all where there are fewer: how many digits they
 -- begin with, how many zeros, and the number that these digits write
@@ -45,6 +45,9 @@ pub record ReadingDecides : Type 0 where
   pub joined : (table : Table) (count more : ℕ) (s : List ℕ) (leading high digits others low : ℕ)
       → Reading table count s count leading high → Reading table more (drop count s) digits others low
       → Reading table (count + more) s (count + digits) (if leading == count then count + others else leading) (high * 10 ^ digits + low)
+  -- a reading that does not end in digits is also one of more bytes
+  pub widened : (table : Table) (count more : ℕ) (s : List ℕ) (digits leading number : ℕ)
+      → Reading table count s digits leading number → digits < count → count ≤ more → Reading table more s digits leading number
   -- a reading has no more zeros than digits, and no more of these than bytes
   pub within : (table : Table) (count : ℕ) (s : List ℕ) (digits leading number : ℕ)
       → Reading table count s digits leading number → (leading ≤ digits) × (digits ≤ min count (length s))
@@ -60,3 +63,13 @@ pub record ReadingDecides : Type 0 where
       → prefix_magnitude table class bound limit skip s
       ≡ (let counting = counting_digits skip digits leading in
       answer_by_digits class bound limit (place + (digits - counting)) counting number s)
+  -- a reading that does not end in digits, of fewer digits than the limit, has too few to pass the bound
+  pub short : (table : Table) → IsBelowTen table → (class : Class) (bound limit : ℕ) → limit < cap class → HasDigits limit bound
+      → (skip : Bool) (s : List ℕ) (place count digits leading number : ℕ) → IsSkipped table skip s place
+      → Reading table count (drop place s) digits leading number → digits < count → digits < limit
+      → (number ≤ bound) × (prefix_magnitude table class bound limit skip s ≡ (if place + digits == 0 then Err empty else Ok (number, place + digits)))
+  -- a reading of as many bytes as a size tells, with no zero to skip in front, decides by all its digits
+  pub full : (table : Table) (class : Class) (bound limit : ℕ) → limit < cap class
+      → (skip : Bool) (s : List ℕ) (place digits leading number : ℕ) → IsSkipped table skip s place
+      → Reading table (cap class) (drop place s) digits leading number → (skip ≡ true → leading ≡ 0)
+      → prefix_magnitude table class bound limit skip s ≡ answer_by_digits class bound limit place digits number s

@@ -43,6 +43,22 @@ numbers (overflow input) = []
 numbers (invalid64 number index input) = number ∷ index ∷ []
 numbers (invalid128 number index input) = number ∷ index ∷ []
 
+-- the number that the digits before an invalid byte spell; 0 in the other errors
+abbrev pub number_in : Refusal → ℕ
+number_in empty = 0
+number_in (size length input) = 0
+number_in (overflow input) = 0
+number_in (invalid64 number index input) = number
+number_in (invalid128 number index input) = number
+
+-- the index of the invalid byte; 0 in the other errors
+abbrev pub index_in : Refusal → ℕ
+index_in empty = 0
+index_in (size length input) = 0
+index_in (overflow input) = 0
+index_in (invalid64 number index input) = index
+index_in (invalid128 number index input) = index
+
 -- the slice that a reason carries; none is as the empty one
 abbrev pub input_of : Refusal → List ℕ
 input_of empty = []

@@ -1,5 +1,5 @@
 -- The texts of the numbers of an integer type, and what it means that bytes write a number.
-use Rattle.std.specs.Prelude.{◌≡◌, ℕ, ◌<◌, ◌≤◌, Bool, true, false, List, [], ◌∷◌, ◌++◌, length, take, drop, ℤ}
+use Rattle.std.specs.Prelude.{◌≡◌, ℕ, ◌<◌, ◌≤◌, Bool, true, false, ◌==◌, List, [], ◌∷◌, ◌++◌, length, take, drop, ℤ}
 use Rattle.std.specs.Char.{IsAsciiDigit}
 use Rattle.std.specs.Str.Parse.{IsNumeral, digits_value}
 use Rattle.atoi_core.specs.Kind.{Kind, bound_of}
@@ -61,3 +61,9 @@ pub record FrontWrites (Writes : List ℕ → ℤ → Type 0) (s : List ℕ) (nu
   pub some : 0 < count
   pub within : count ≤ length s
   pub ends : ¬ BeginsWithDigit (drop count s)
+
+-- the digits begin with a zero and have more bytes after it: the number could be written without it
+abbrev pub has_needless_zero : List ℕ → Bool
+has_needless_zero [] = false
+has_needless_zero (digit ∷ []) = false
+has_needless_zero (digit ∷ next ∷ more) = digit == 48

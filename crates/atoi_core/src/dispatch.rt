@@ -1,11 +1,11 @@
 //! The four core calls: the parses of any integer type. The sign gives the bound, and the class of
 //! the type, of at most 32 bits, of 64 or of 128, the loop. It uses `narrow`, `wide`, `front` and
 //! `number`, and what these speak of: `engine`, `steps` and `error`.
-ghost use Rattle.std.specs.Prelude.{◌≡◌, ◌≤◌, true, false, IfOk, length};
+ghost use Rattle.std.specs.Prelude.{◌≡◌, ◌^◌, ◌<◌, ◌≤◌, true, false, IfOk, length};
 ghost use Rattle.atoi_core.specs.Answer.{typed_answer, typed_prefix_answer, whole_answer, prefix_answer};
 ghost use Rattle.atoi_core.specs.Kind.{class_of, bound_of, limit_of};
 ghost use Rattle.atoi_core.specs.Loads.{TypedLoads};
-ghost use Rattle.atoi_core.specs.Magnitude.{HasDigits, narrow, wide64, wide128, whole, prefix, whole_magnitude, prefix_magnitude};
+ghost use Rattle.atoi_core.specs.Magnitude.{HasDigits, whole, prefix, whole_magnitude, prefix_magnitude};
 ghost use Rattle.atoi_core.specs.Refusal.{answer_of};
 
 use crate::engine::Engine;
@@ -137,18 +137,19 @@ fn whole_by_class<'a, E: Engine, T: Number>(
         (bound_of T.kind minus) (limit_of T.kind) skip s.now }
     ensures loads { TypedLoads E.table T.kind whole skip s.now steps.old steps.new }
 {
+    let bound = bound::<T>(minus);
     if T::BITS <= 32 {
-        widened(narrow_whole_windows::<E>(narrow_bound::<T>(minus), s, steps))
+        Ok(u128::from(narrow_whole_windows::<E>(bound as u64, s, steps)?))
     } else if T::BITS == 64 {
-        let bound = bound_64::<T>(minus);
-        widened(whole_64::<E>(bound, limit_64::<T>(), skip, s, steps))
+        Ok(u128::from(whole_64::<E>(bound as u64, limit::<T>(), skip, s, steps)?))
     } else {
-        whole_128::<E>(bound_128::<T>(minus), skip, s, steps)
+        whole_128::<E>(bound, skip, s, steps)
     }
 }
 
 // The magnitude at the front of `s`, behind a minus or not, and its length in bytes.
 #[inline(always)]
+#[tactic(auto, using(crate::proofs::AnswerLemmas::narrow_prefix_limit))]
 fn prefix_by_class<'a, E: Engine, T: Number>(
     minus: bool,
     skip: bool,
@@ -160,75 +161,36 @@ fn prefix_by_class<'a, E: Engine, T: Number>(
         (bound_of T.kind minus) (limit_of T.kind) skip s.now }
     ensures loads { TypedLoads E.table T.kind prefix skip s.now steps.old steps.new }
 {
+    let bound = bound::<T>(minus);
     if T::BITS <= 32 {
-        widened_prefix(narrow_prefix::<E>(narrow_bound::<T>(minus), skip, s, steps))
+        let (number, len) = narrow_prefix::<E>(bound as u64, skip, s, steps)?;
+        Ok((u128::from(number), len))
     } else if T::BITS == 64 {
-        let bound = bound_64::<T>(minus);
-        widened_prefix(E::prefix_64(bound, limit_64::<T>(), skip, s, steps))
+        let (number, len) = E::prefix_64(bound as u64, limit::<T>(), skip, s, steps)?;
+        Ok((u128::from(number), len))
     } else {
-        front_128::<E>(bound_128::<T>(minus), skip, false, s, steps)
+        front_128::<E>(bound, skip, false, s, steps)
     }
 }
 
-// The greatest magnitude of a type of at most 32 bits.
-fn narrow_bound<T: Number>(minus: bool) -> u64
-    requires class { class_of T.kind ≡ narrow }
+// The largest magnitude: of `T::MAX`, or with a minus of `T::MIN`.
+fn bound<T: Number>(minus: bool) -> u128
     requires signed { minus ≡ true → T.SIGNED ≡ true }
     ensures value { result ≡ bound_of T.kind minus }
-    ensures low { 9 ≤ result }
-    ensures high { result ≤ 4294967295 }
-{
-    T::GREATEST as u64 + u64::from(minus)
-}
-
-// The greatest magnitude of a type of 64 bits.
-fn bound_64<T: Number>(minus: bool) -> u64
-    requires class { class_of T.kind ≡ wide64 }
-    requires signed { minus ≡ true → T.SIGNED ≡ true }
-    ensures value { result ≡ bound_of T.kind minus }
-    ensures digits { HasDigits (limit_of T.kind) result }
-{
-    T::GREATEST as u64 + u64::from(minus)
-}
-
-// The greatest magnitude of a type of 128 bits.
-fn bound_128<T: Number>(minus: bool) -> u128
-    requires class { class_of T.kind ≡ wide128 }
-    requires signed { minus ≡ true → T.SIGNED ≡ true }
-    ensures value { result ≡ bound_of T.kind minus }
-    ensures digits { HasDigits 39 result }
+    ensures narrow_low { T.BITS ≤ 32 → 9 ≤ result }
+    ensures narrow_high { T.BITS ≤ 32 → result ≤ 4294967295 }
+    ensures fits_64 { T.BITS ≡ 64 → result < 2 ^ 64 }
+    ensures digits { 32 < T.BITS → HasDigits (limit_of T.kind) result }
 {
     T::GREATEST + u128::from(minus)
 }
 
-// How many digits the greatest magnitude of a type of 64 bits has.
-fn limit_64<T: Number>() -> u32
-    requires { class_of T.kind ≡ wide64 }
+// How many digits the largest magnitude of a type of 64 bits has.
+fn limit<T: Number>() -> u32
+    requires { T.BITS ≡ 64 }
     ensures value { result ≡ limit_of T.kind }
     ensures low { 17 ≤ result }
     ensures high { result ≤ 20 }
 {
     if T::SIGNED { 19 } else { 20 }
-}
-
-// The same answer, with a number of 128 bits.
-fn widened(answer: Result<u64, AtoiSimdError<'_>>) -> Result<u128, AtoiSimdError<'_>>
-    ensures { result ≡ answer.entry }
-{
-    match answer {
-        Ok(number) => Ok(u128::from(number)),
-        Err(error) => Err(error),
-    }
-}
-
-// The same answer with a count, with a number of 128 bits.
-fn widened_prefix(
-    answer: Result<(u64, usize), AtoiSimdError<'_>>,
-) -> Result<(u128, usize), AtoiSimdError<'_>>
-    ensures { result ≡ answer.entry }
-{
-    match answer {
-        Ok((number, len)) => Ok((u128::from(number), len)),
-        Err(error) => Err(error),
-    }
 }

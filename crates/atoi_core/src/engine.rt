@@ -1,5 +1,5 @@
 //! What reads windows of a slice, and the parses of wide integers over any such engine. It uses
-//! `window`, `join`, `steps` and `error`, and no particular engine.
+//! `window`, `wide_answer`, `steps` and `error`, and no particular engine.
 ghost use Rattle.std.specs.Prelude.{◌≡◌, ◌+◌, ◌-◌, ◌≤◌, ℕ};
 ghost use Rattle.atoi_core.specs.Digit.{Table, IsBelowTen};
 ghost use Rattle.atoi_core.specs.Loads.{LoadsWithin, most_loads};
@@ -8,8 +8,8 @@ ghost use Rattle.atoi_core.specs.Refusal.{answer_of};
 ghost use Rattle.atoi_core.specs.Window.{window_of};
 
 use crate::error::AtoiSimdError;
-use crate::join::{answer_64, answer_128, power_of_ten};
 use crate::steps::Steps;
+use crate::wide_answer::{answer_64, answer_128, append_digits};
 use crate::window::Window;
 
 /// What reads windows of a slice.
@@ -59,7 +59,7 @@ pub trait Engine {
         requires limit_high { limit ≤ 20 }
         requires digits { HasDigits limit bound }
         ensures answer { answer_of result ≡ prefix_magnitude table wide64 bound limit skip s.now }
-        ensures loads { LoadsWithin (most_loads table wide64 s.now - 1) table skip s.now
+        ensures loads { LoadsWithin (most_loads table wide64 s.now - 1) 2 table skip s.now
             steps.old steps.new }
     {
         let mut at = 0;
@@ -80,7 +80,8 @@ pub trait Engine {
         }
         let rest = &s[at..];
         let back = Self::window_8(&rest[16..], steps);
-        answer_64(bound, limit, at, front, back, s)
+        let number = append_digits(front.number, back.len, back.number);
+        answer_64(bound, limit, at, 16 + back.len, number, s)
     }
 
     /// The number at the front of `s`, and how many bytes it has, for an integer of 128 bits.
@@ -108,7 +109,7 @@ pub trait Engine {
     ) -> Result<(u128, usize), AtoiSimdError<'a>>
         requires digits { HasDigits 39 bound }
         ensures answer { answer_of result ≡ prefix_magnitude table wide128 bound 39 skip s.now }
-        ensures loads { LoadsWithin (most_loads table wide128 s.now - 2) table skip s.now
+        ensures loads { LoadsWithin (most_loads table wide128 s.now - 2) 3 table skip s.now
             steps.old steps.new }
     {
         let mut at = 0;
@@ -130,12 +131,12 @@ pub trait Engine {
         let body = &s[at..];
         let second = Self::window(&body[16..], steps);
         if second.len < 16 {
-            let high = u128::from(first.number) * u128::from(power_of_ten(second.len));
-            let len = at + 16 + second.len as usize;
-            return Ok((high + u128::from(second.number), len));
+            let number = append_digits(first.number, second.len, second.number);
+            return Ok((number, at + 16 + second.len as usize));
         }
         let third = Self::window_8(&body[32..], steps);
-        answer_128(bound, at, first, second, third, s)
+        let high = append_digits(first.number, 16, second.number);
+        answer_128(bound, at, high, third.len, third.number, s)
     }
 
     /// No digit is worth more than nine.

@@ -1,6 +1,6 @@
 //! The parses of integers of 128 bits from the front of a slice: a run that ends in the first window,
 //! and mostly one that ends in the second, is answered in line, all others by the engine. It uses
-//! `engine`, `window`, `join`, `steps` and `error`.
+//! `engine`, `window`, `wide_answer`, `steps` and `error`.
 ghost use Rattle.std.specs.Prelude.{◌≡◌, ◌+◌, ◌-◌, ◌<◌, ◌≤◌, ℕ, false, IsTrue, None, IfSome, Ok};
 ghost use Rattle.atoi_core.specs.Loads.{LoadsWithin, most_loads};
 ghost use Rattle.atoi_core.specs.Magnitude.{HasDigits, wide128, prefix_magnitude};
@@ -10,8 +10,8 @@ ghost use Rattle.atoi_core.specs.Window.{window_of};
 
 use crate::engine::Engine;
 use crate::error::{AtoiSimdError, out_of_line};
-use crate::join::power_of_ten;
 use crate::steps::Steps;
+use crate::wide_answer::append_digits;
 use crate::window::Window;
 
 /// What `Engine::prefix_128` answers, where the first two windows are read in line. Fewer than 32
@@ -32,7 +32,7 @@ pub(crate) fn front_128<'a, E: Engine>(
 ) -> Result<(u128, usize), AtoiSimdError<'a>>
     requires digits { HasDigits 39 bound }
     ensures answer { answer_of result ≡ prefix_magnitude E.table wide128 bound 39 skip s.now }
-    ensures loads { LoadsWithin (most_loads E.table wide128 s.now) E.table skip s.now
+    ensures loads { LoadsWithin (most_loads E.table wide128 s.now) 5 E.table skip s.now
         steps.old steps.new }
 {
     match by_two_windows::<E>(skip, whole, s, steps) {
@@ -52,7 +52,7 @@ fn by_engine<'a, E: Engine>(
 ) -> Result<(u128, usize), AtoiSimdError<'a>>
     requires digits { HasDigits 39 bound }
     ensures answer { answer_of result ≡ prefix_magnitude E.table wide128 bound 39 skip s.now }
-    ensures loads { LoadsWithin (most_loads E.table wide128 s.now - 2) E.table skip s.now
+    ensures loads { LoadsWithin (most_loads E.table wide128 s.now - 2) 3 E.table skip s.now
         steps.old steps.new }
 {
     out_of_line(E::prefix_128(bound, skip, s, steps))
@@ -69,7 +69,7 @@ fn by_two_windows<'a, E: Engine>(
     ensures answer { IfSome result (λ answer. (bound : ℕ) → HasDigits 39 bound
         → answer_of answer ≡ prefix_magnitude E.table wide128 bound 39 skip s.now) }
     ensures loads { IfSome result (λ answer.
-        LoadsWithin (most_loads E.table wide128 s.now) E.table skip s.now steps.old steps.new) }
+        LoadsWithin (most_loads E.table wide128 s.now) 2 E.table skip s.now steps.old steps.new) }
     ensures open { result ≡ None → skip ≡ false → whole ≡ false → 32 ≤ run_len E.table s.now }
     ensures fewest { steps.old < steps.new }
     ensures most { steps.new ≤ steps.old + 2 }
@@ -103,7 +103,7 @@ fn second_128<E: Engine>(
     ensures answer { IfSome result (λ found. (bound : ℕ) → HasDigits 39 bound
         → Ok found ≡ prefix_magnitude E.table wide128 bound 39 skip s.now) }
     ensures loads { IfSome result (λ found.
-        LoadsWithin (most_loads E.table wide128 s.now - 1) E.table skip s.now steps.old steps.new) }
+        LoadsWithin (most_loads E.table wide128 s.now - 1) 1 E.table skip s.now steps.old steps.new) }
     ensures open { result ≡ None → skip ≡ false → 32 ≤ run_len E.table s.now }
     ensures fewest { steps.old ≤ steps.new }
     ensures most { steps.new ≤ steps.old + 1 }
@@ -111,8 +111,8 @@ fn second_128<E: Engine>(
     if !skip || first.zeroes == 0 {
         let second = E::window(&s[16..], steps);
         if second.len < 16 {
-            let high = u128::from(first.number) * u128::from(power_of_ten(second.len));
-            return Some((high + u128::from(second.number), 16 + second.len as usize));
+            let number = append_digits(first.number, second.len, second.number);
+            return Some((number, 16 + second.len as usize));
         }
     }
     None

@@ -1,7 +1,7 @@
 //! Laws of the answers: each function's contract says one, and calling it does nothing. They use
 //! the definitions and `number`, and no parse.
 ghost use Rattle.atoi_core.specs.Kind.{kind};
-ghost use Rattle.atoi_core.specs.Laws.{TextOfValue, AcceptedTexts, AcceptedNumbers, WholeResults, AcceptedFronts, PrefixResults, FrontsAndRests, DecimalDigits, ErrorsInOrder, PrefixIsWhole, PrefixOfCut, PrefixStopsAtRest, RestChangesNothing, SkippingAgrees, OrderAndSuffix, ZerosChangeNothing};
+ghost use Rattle.atoi_core.specs.Laws.{TextOfValue, AcceptedTexts, AcceptedNumbers, WholeResults, AcceptedFronts, PrefixResults, FrontsAndRests, DecimalDigits, DecimalTexts, ErrorsInOrder, PrefixIsWhole, PrefixOfCut, PrefixStopsAtRest, RestChangesNothing, SkippingAgrees, OrderAndSuffix, ZerosChangeNothing};
 
 use crate::number::Number;
 
@@ -115,6 +115,14 @@ pub fn decimal_digits()
     ensures { DecimalDigits }
 {}
 
+/// Bytes that write a number begin with a digit. `decimal n`, the text that `{}` prints, writes every
+/// `n` in the type's range, and no other digits without a needless zero write it. The same holds of
+/// `signed_decimal` for numbers with a sign, if 0 has no minus.
+#[tactic(auto, using(crate::proofs::DecimalTexts::decimal_texts))]
+pub fn decimal_texts<T: Number>()
+    ensures { DecimalTexts T.kind }
+{}
+
 /// Where zeros are skipped, zeros put before a body that begins with a digit change neither an
 /// answer's kind nor its value, and a prefix's count grows by their number.
 #[tactic(auto, using(crate::proofs::KindLemmas::zeros_change_nothing))]
@@ -155,6 +163,8 @@ mod tests {
         whole_results::<i64, true>();
         let number = b"00009223372036854775807";
         assert_eq!(rt; whole(true, number), Ok(i64::MAX));
+        decimal_texts::<i64>();
+        assert_eq!(rt; whole(false, &number[4..]), Ok(i64::MAX));
     }
 
     #[test]

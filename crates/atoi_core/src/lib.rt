@@ -4,15 +4,15 @@
 #![tactic(auto)]
 
 mod alphabet;
-mod both_signs;
+pub mod derived;
 mod digit_loop;
 mod dispatch;
 mod engine;
 mod error;
 mod front;
-mod join;
 pub mod laws;
 mod narrow;
+mod negative_bound;
 mod number;
 mod plain;
 pub mod reading;
@@ -20,12 +20,12 @@ mod sign;
 mod steps;
 mod text;
 mod wide;
+pub mod wide_answer;
 mod window;
 mod word_engine;
 pub mod words;
 
 pub use crate::alphabet::{Alphabet, front_of};
-pub use crate::both_signs::{prefix_of_sign, whole_of_sign};
 pub use crate::digit_loop::narrow_whole;
 pub use crate::dispatch::{prefix_neg, prefix_pos, whole_neg, whole_pos};
 pub use crate::engine::Engine;
@@ -33,7 +33,9 @@ pub use crate::error::AtoiSimdError;
 pub use crate::narrow::{narrow_prefix, narrow_whole_windows};
 pub use crate::number::{Number, Signed};
 pub use crate::plain::Plain;
-pub use crate::sign::{take_sign, with_sign};
+pub use crate::sign::{
+    parse_prefix_signed, parse_prefix_unsigned, parse_signed, parse_unsigned, take_sign,
+};
 pub use crate::steps::Steps;
 pub use crate::text::decimal;
 pub use crate::wide::{whole_64, whole_128};

@@ -38,7 +38,7 @@ pub fn narrow_prefix<'a, E: Engine>(
     requires low { 9 ≤ bound }
     requires high { bound ≤ 4294967295 }
     ensures answer { answer_of result ≡ prefix_magnitude E.table narrow bound 0 skip s.now }
-    ensures loads { LoadsWithin (most_loads E.table narrow s.now) E.table skip s.now
+    ensures loads { LoadsWithin (most_loads E.table narrow s.now) 2 E.table skip s.now
         steps.old steps.new }
     ensures unskipped { skip ≡ false → steps.new ≡ steps.old
         + (if nat_lt (run_len E.table s.now) 16 then 1 else 2) }
@@ -98,7 +98,7 @@ pub fn narrow_whole_windows<'a, E: Engine>(
     requires low { 9 ≤ bound }
     requires high { bound ≤ 4294967295 }
     ensures answer { answer_of result ≡ whole_magnitude E.table narrow bound 0 false s.now }
-    ensures loads { LoadsWithin (most_loads E.table narrow s.now) E.table true s.now
+    ensures loads { LoadsWithin (most_loads E.table narrow s.now) 2 E.table true s.now
         steps.old steps.new }
 {
     let first = E::window(s, steps);
@@ -161,7 +161,7 @@ fn called_behind_zeros<'a, E: Engine>(
     requires some { 0 < zeroes }
     requires told { zeroes ≡ (window_of E.table 16 s.now).zeroes }
     ensures answer { answer_of result ≡ prefix_magnitude E.table narrow bound 0 true s.now }
-    ensures loads { LoadsWithin (most_loads E.table narrow s.now - 1) E.table true s.now
+    ensures loads { LoadsWithin (most_loads E.table narrow s.now - 1) 2 E.table true s.now
         steps.old steps.new }
 {
     out_of_line(behind_zeros::<E>(bound, zeroes, s, steps))
@@ -181,7 +181,7 @@ fn behind_zeros<'a, E: Engine>(
     requires some { 0 < zeroes }
     requires told { zeroes ≡ (window_of E.table 16 s.now).zeroes }
     ensures answer { answer_of result ≡ prefix_magnitude E.table narrow bound 0 true s.now }
-    ensures loads { LoadsWithin (most_loads E.table narrow s.now - 1) E.table true s.now
+    ensures loads { LoadsWithin (most_loads E.table narrow s.now - 1) 2 E.table true s.now
         steps.old steps.new }
 {
     let mut at = zeroes as usize;

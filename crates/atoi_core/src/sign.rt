@@ -1,12 +1,17 @@
-//! The sign at the front of a slice, and its byte in the count of a prefix. It uses `error` and
-//! `number`.
-ghost use Rattle.std.specs.Prelude.{◌≡◌, ◌+◌, ◌<◌, ◌^◌, length};
-ghost use Rattle.std.specs.Result.{ForOk};
-ghost use Rattle.atoi_core.specs.Answer.{typed_prefix_answer, with_more};
+//! The sign at the start of a slice, and the parses that consume it: one core call on the body each.
+//! It uses `dispatch` and `negative_bound`, and what these speak of.
+ghost use Rattle.std.specs.Prelude.{◌≡◌, ◌+◌, ◌≤◌, false, IfOk, length};
+ghost use Rattle.atoi_core.specs.Answer.{typed_answer, typed_prefix_answer, text_answer, text_prefix_answer};
+ghost use Rattle.atoi_core.specs.Loads.{TypedLoads};
+ghost use Rattle.atoi_core.specs.Magnitude.{whole, prefix};
 ghost use Rattle.atoi_core.specs.Sign.{sign_of};
 
+use crate::dispatch::{prefix_neg, prefix_pos, whole_neg, whole_pos};
+use crate::engine::Engine;
 use crate::error::AtoiSimdError;
-use crate::number::Number;
+use crate::negative_bound::{prefix_with_sign, whole_with_sign};
+use crate::number::{Number, Signed};
+use crate::steps::Steps;
 
 /// Takes at most one sign from the front of `s`: a `+` where `skip_plus` holds, a `-` where
 /// `signed` does.
@@ -29,21 +34,106 @@ pub fn take_sign(signed: bool, skip_plus: bool, s: &[u8]) -> (bool, &[u8])
     (minus, &body[usize::from(plus)..])
 }
 
-/// The answer of a prefix of the body, with the bytes of the sign before it counted too. Both
-/// counts together have to stay below 2^64, as those of parts of one slice do.
+/// Parses all of `s` as an integer of the signed type `T`: at most one sign, then digits only.
+///
+/// The sign is a `-`, or a `+` if `skip_plus` is on. With `skip` any number of leading zeros is
+/// accepted; types of at most 32 bits always accept them. The digits are those of the engine `E`.
+/// `steps` counts the windows that are loaded: both signs take one parse of the body, under the
+/// negative bound.
+///
+/// # Errors
+///
+/// Those of `whole_neg` if there is a `-`, else those of `whole_pos`, on the body after the sign.
 #[inline(always)]
-pub fn with_sign<'a, T: Number>(
-    taken: usize,
-    found: Result<(T, usize), AtoiSimdError<'a>>,
-) -> Result<(T, usize), AtoiSimdError<'a>>
-    requires { ForOk found (λ answer. answer.1 + taken < 2 ^ 64) }
-    ensures { typed_prefix_answer T.number result
-        ≡ with_more taken (typed_prefix_answer T.number found.entry) }
+pub fn parse_signed<'a, E: Engine, T: Signed>(
+    skip: bool,
+    skip_plus: bool,
+    s: &'a [u8],
+    steps: &mut Steps,
+) -> Result<T, AtoiSimdError<'a>>
+    ensures answer { typed_answer T.number result ≡ text_answer E.table T.kind skip skip_plus s.now }
+    ensures loads { TypedLoads E.table T.kind whole skip (sign_of T.SIGNED skip_plus s.now).body
+        steps.old steps.new }
 {
-    match found {
-        Ok((value, len)) => Ok((value, len + taken)),
-        Err(error) => Err(error),
-    }
+    let (minus, body) = take_sign(true, skip_plus, s);
+    let negative = whole_neg::<E, T>(skip, body, steps);
+    whole_with_sign::<E, T>(minus, skip, body, negative)
+}
+
+/// Parses all of `s` as an integer of the unsigned type `T`: a `+` if `skip_plus` is on and there is
+/// one, then digits only.
+///
+/// Apart from the sign it is `parse_signed`.
+///
+/// # Errors
+///
+/// Those of `whole_pos`, on the body after the sign.
+#[inline(always)]
+pub fn parse_unsigned<'a, E: Engine, T: Number>(
+    skip: bool,
+    skip_plus: bool,
+    s: &'a [u8],
+    steps: &mut Steps,
+) -> Result<T, AtoiSimdError<'a>>
+    requires unsigned { T.SIGNED ≡ false }
+    ensures answer { typed_answer T.number result ≡ text_answer E.table T.kind skip skip_plus s.now }
+    ensures loads { TypedLoads E.table T.kind whole skip (sign_of T.SIGNED skip_plus s.now).body
+        steps.old steps.new }
+{
+    let (_, body) = take_sign(false, skip_plus, s);
+    whole_pos::<E, T>(skip, body, steps)
+}
+
+/// Parses the number of the signed type `T` at the start of `s`, and returns how many bytes it has,
+/// the sign included.
+///
+/// The sign is consumed as by `parse_signed`, and all digits that follow it belong to the number.
+///
+/// # Errors
+///
+/// Those of `prefix_neg` if there is a `-`, else those of `prefix_pos`, on the body after the sign.
+#[inline(always)]
+pub fn parse_prefix_signed<'a, E: Engine, T: Signed>(
+    skip: bool,
+    skip_plus: bool,
+    s: &'a [u8],
+    steps: &mut Steps,
+) -> Result<(T, usize), AtoiSimdError<'a>>
+    ensures answer { typed_prefix_answer T.number result
+        ≡ text_prefix_answer E.table T.kind skip skip_plus s.now }
+    ensures within { IfOk result (λ found. found.1 ≤ length s.now) }
+    ensures loads { TypedLoads E.table T.kind prefix skip (sign_of T.SIGNED skip_plus s.now).body
+        steps.old steps.new }
+{
+    let (minus, body) = take_sign(true, skip_plus, s);
+    let negative = prefix_neg::<E, T>(skip, body, steps);
+    let (number, len) = prefix_with_sign::<E, T>(minus, skip, body, negative)?;
+    Ok((number, len + (s.len() - body.len())))
+}
+
+/// Parses the number of the unsigned type `T` at the start of `s`, and returns how many bytes it has,
+/// a `+` that was consumed included.
+///
+/// # Errors
+///
+/// Those of `prefix_pos`, on the body after the sign.
+#[inline(always)]
+pub fn parse_prefix_unsigned<'a, E: Engine, T: Number>(
+    skip: bool,
+    skip_plus: bool,
+    s: &'a [u8],
+    steps: &mut Steps,
+) -> Result<(T, usize), AtoiSimdError<'a>>
+    requires unsigned { T.SIGNED ≡ false }
+    ensures answer { typed_prefix_answer T.number result
+        ≡ text_prefix_answer E.table T.kind skip skip_plus s.now }
+    ensures within { IfOk result (λ found. found.1 ≤ length s.now) }
+    ensures loads { TypedLoads E.table T.kind prefix skip (sign_of T.SIGNED skip_plus s.now).body
+        steps.old steps.new }
+{
+    let (_, body) = take_sign(false, skip_plus, s);
+    let (number, len) = prefix_pos::<E, T>(skip, body, steps)?;
+    Ok((number, len + (s.len() - body.len())))
 }
 
 #[cfg(test)]
@@ -58,12 +148,5 @@ mod tests {
         assert_eq!(rt; take_sign(true, false, b"-5"), (true, b"5".as_slice()));
         assert_eq!(rt; take_sign(true, false, b"-"), (true, b"".as_slice()));
         assert_eq!(rt; take_sign(true, true, b""), (false, b"".as_slice()));
-    }
-
-    #[test]
-    fn a_sign_is_counted_where_a_number_was_found(rt: HostRuntime) {
-        assert_eq!(rt; with_sign(1, Ok((7u8, 1))), Ok((7, 2)));
-        let refused = AtoiSimdError::Overflow(b"256");
-        assert_eq!(rt; with_sign::<u8>(1, Err(refused)), Err(refused));
     }
 }

@@ -36,7 +36,7 @@ pub fn whole_64<'a, E: Engine>(
     requires limit_high { limit ≤ 20 }
     requires digits { HasDigits limit bound }
     ensures answer { answer_of result ≡ whole_magnitude E.table wide64 bound limit skip s.now }
-    ensures loads { LoadsWithin (most_loads E.table wide64 s.now) E.table skip s.now
+    ensures loads { LoadsWithin (most_loads E.table wide64 s.now) 2 E.table skip s.now
         steps.old steps.new }
 {
     let (number, len) = E::prefix_64(bound, limit, skip, s, steps)?;
@@ -70,7 +70,7 @@ pub fn whole_128<'a, E: Engine>(
 ) -> Result<u128, AtoiSimdError<'a>>
     requires digits { HasDigits 39 bound }
     ensures answer { answer_of result ≡ whole_magnitude E.table wide128 bound 39 skip s.now }
-    ensures loads { LoadsWithin (most_loads E.table wide128 s.now) E.table skip s.now
+    ensures loads { LoadsWithin (most_loads E.table wide128 s.now) 5 E.table skip s.now
         steps.old steps.new }
 {
     let (number, len) = front_128::<E>(bound, skip, true, s, steps)?;

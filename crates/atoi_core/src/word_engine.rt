@@ -1,5 +1,5 @@
 //! The engine that reads a window as one word of eight bytes, or as two. It uses `words`, `engine`,
-//! `join`, `window`, `steps` and `error`.
+//! `wide_answer`, `window`, `steps` and `error`.
 ghost use Rattle.std.specs.Prelude.{◌≡◌, ◌+◌, ◌-◌, ◌^◌, ◌<◌, ◌≤◌, ◌==◌, ◌++◌, true, if◌then◌else◌, length, take, drop, replicate};
 ghost use Rattle.atoi_core.specs.Digit.{decimal_table};
 ghost use Rattle.atoi_core.specs.Loads.{LoadsWithin, most_loads};
@@ -13,8 +13,8 @@ ghost use Rattle.std.proofs.lemmas.Bool.Decides.{nat_tests};
 
 use crate::engine::Engine;
 use crate::error::{AtoiSimdError, out_of_line};
-use crate::join::{self, answer_64};
 use crate::steps::Steps;
+use crate::wide_answer::{answer_64, append_digits, power_of_ten};
 use crate::window::Window;
 use crate::words::load_high;
 
@@ -72,7 +72,9 @@ impl Engine for Words {
         } else if front.len < 16 {
             Ok((front.number, front.len as usize))
         } else {
-            answer_64(bound, limit, 0, front, window_from_16(s, steps), s)
+            let back = window_from_16(s, steps);
+            let number = append_digits(front.number, back.len, back.number);
+            answer_64(bound, limit, 0, 16 + back.len, number, s)
         }
     }
 
@@ -96,8 +98,8 @@ fn called_behind_zeros<'a>(
     requires told { zeroes ≡ (window_of decimal_table 16 s.now).zeroes }
     ensures answer { answer_of result
         ≡ prefix_magnitude decimal_table wide64 bound limit true s.now }
-    ensures loads { LoadsWithin (most_loads decimal_table wide64 s.now - 2) decimal_table true s.now
-        steps.old steps.new }
+    ensures loads { LoadsWithin (most_loads decimal_table wide64 s.now - 2) 1 decimal_table true
+        s.now steps.old steps.new }
 {
     out_of_line(behind_zeros(bound, limit, zeroes, s, steps))
 }
@@ -119,8 +121,8 @@ fn behind_zeros<'a>(
     requires told { zeroes ≡ (window_of decimal_table 16 s.now).zeroes }
     ensures answer { answer_of result
         ≡ prefix_magnitude decimal_table wide64 bound limit true s.now }
-    ensures loads { LoadsWithin (most_loads decimal_table wide64 s.now - 2) decimal_table true s.now
-        steps.old steps.new }
+    ensures loads { LoadsWithin (most_loads decimal_table wide64 s.now - 2) 1 decimal_table true
+        s.now steps.old steps.new }
 {
     let mut at = zeroes as usize;
     let front = loop {
@@ -134,7 +136,9 @@ fn behind_zeros<'a>(
         return Ok((front.number, at + front.len as usize));
     }
     let rest = &s[at..];
-    answer_64(bound, limit, at, front, window_from_16(rest, steps), s)
+    let back = window_from_16(rest, steps);
+    let number = append_digits(front.number, back.len, back.number);
+    answer_64(bound, limit, at, 16 + back.len, number, s)
 }
 
 // The window of the 8 bytes from the 17th on, or of those that are there. Adds one step.
@@ -316,13 +320,4 @@ fn zeroes_of_two(first: u64, next: u64) -> u32
     } else {
         zeroes
     }
-}
-
-// Ten to the power of the digits of one word.
-fn power_of_ten(digits: u32) -> u64
-    requires { digits ≤ 8 }
-    ensures value { result ≡ 10 ^ digits }
-    ensures most { result ≤ 100000000 }
-{
-    join::power_of_ten(digits)
 }

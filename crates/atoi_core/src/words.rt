@@ -34,7 +34,8 @@ fn load_part(s: &[u8]) -> u64
 
 /// The word whose highest bytes are those of `s`, the last the highest; the bytes below them are 0.
 /// It is put together from parts of `s` that overlap, without a branch on how many bytes there are.
-pub(crate) fn load_high(s: &[u8]) -> u64
+#[inline(always)]
+pub fn load_high(s: &[u8]) -> u64
     requires some { 0 < length s.now }
     requires few { length s.now ≤ 8 }
     ensures { result ≡ word_of (replicate (8 - length s.now) 0 ++ s.now) }

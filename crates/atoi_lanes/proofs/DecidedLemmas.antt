@@ -1,17 +1,20 @@
 -- What windows of 32 lanes told decides the answers.
-use Rattle.std.proofs.Common.{◌≡◌, ◌⊎◌, ℕ, ◌+◌, ◌-◌, ◌*◌, ◌^◌, ◌<◌, ◌≤◌, Bool, true, false, cond, eqb, ltb, List, take, drop, Option, Some, None, Ok, Err, refl, sym, ap, ◌∙◌, subst, inl, inr, arith, lit<, le-ltb, ne_eqb, if◌then◌else◌, nat_lt}
-use Rattle.std.proofs.Math.Nat.{pow-le-pow_right}
-use Rattle.std.proofs.lemmas.Bool.{cases_lt, lt-ltb, false≢true}
+use Rattle.std.proofs.Common.{◌≡◌, ◌⊎◌, ℕ, ◌+◌, ◌-◌, ◌*◌, ◌^◌, ◌<◌, ◌≤◌, Bool, true, false, cond, eqb, List, length, take, drop, refl, sym, ap, ◌∙◌, subst, inl, inr, arith, lit<}
+use Rattle.std.proofs.lemmas.Bool.{cases_lt, false≢true}
 use Rattle.std.proofs.lemmas.Bool.Decides.{nat_tests}
+use Rattle.std.proofs.lemmas.List.{take_rest, length-drop}
 use Rattle.atoi_core.specs.Digit.{IsBelowTen, decimal_table}
 use Rattle.atoi_core.specs.Run.{zeros}
-use Rattle.atoi_core.specs.Refusal.{empty, size, overflow}
-use Rattle.atoi_core.specs.Magnitude.{Class, wide64, wide128, HasDigits, prefix_magnitude}
-use Rattle.atoi_core.specs.Reading.{Reading, cap, counting_digits, answer_by_digits, ReadingDecides}
+use Rattle.atoi_core.specs.Magnitude.{wide64, wide128, prefix_magnitude}
+use Rattle.atoi_core.specs.Reading.{Reading, counting_digits, answer_by_digits, ReadingDecides}
 use Rattle.atoi_core.specs.Window.{window_of}
 use Rattle.atoi_core.specs.declared.window.Window.{Window}
 use Rattle.atoi_lanes.specs.ReadsBehind.{ReadsBehind}
 use Rattle.atoi_lanes.specs.declared.window_32.Window32.{Window32}
+
+-- no digit is worth more than nine
+pub below_ten : IsBelowTen decimal_table
+below_ten byte = grind (arith, nat_tests)
 
 -- what counts of the digits of a window, and the zeros before it that do not
 counted : (skip : Bool) (len told leading : ℕ) → told ≤ len → ((skip ≡ true) × (leading ≡ told)) ⊎ ((skip ≡ false) × (leading ≡ 0))
@@ -35,49 +38,14 @@ decided_64 law bound limit skip s at leading w few front is =
     ∙ ap (λ (n : ℕ). answer_by_digits wide64 bound limit (at + n) (counting_digits skip w.len w.zeroes) w.number s) count.1
     ∙ ap (λ (n : ℕ). answer_by_digits wide64 bound limit (at + leading) n w.number s) count.0)
 
--- no more digits count than there are
-counted-le : (skip : Bool) (len told : ℕ) → counting_digits skip len told ≤ len
-counted-le true len told = omega arith
-counted-le false len told = omega arith
-
--- a window that is not full of digits decides, and tells fewer than the limit: these are too few to pass the bound
-pub decided_short : ReadingDecides → IsBelowTen decimal_table → (class : Class) (bound limit : ℕ) → limit < cap class → HasDigits limit bound
-    → (skip : Bool) (s : List ℕ) (at : ℕ) (w : Window32) → ReadsBehind skip s at w.len w.zeroes w.number → w.len < 32 → w.len < limit
-    → (w.number ≤ bound)
-    × (cond (eqb (at + w.len) 0) (Err empty) (Ok (w.number, at + w.len)) ≡ prefix_magnitude decimal_table class bound limit skip s)
-decided_short law ten class bound limit capped digits skip s at w front short few =
-    let counting : ℕ = counting_digits skip w.len w.zeroes in
-    let most : counting ≤ w.len = counted-le skip w.len w.zeroes in
-    let power : 10 ^ w.len ≤ 10 ^ (limit - 1) = pow-le-pow_right {n = 10} (lit< tt) {i = w.len} {j = limit - 1} (omega arith) in
-    let below : w.number < 10 ^ w.len = law.below decimal_table ten 32 (drop at s) w.len w.zeroes w.number front.reading in
-    let size : ltb limit counting ≡ false = le-ltb limit counting (omega arith) in
-    let within : w.number ≤ bound = omega (arith, digits.0) in
-    let less : ltb bound w.number ≡ false = le-ltb bound w.number within in
-    let total : at + (w.len - counting) + counting ≡ at + w.len = omega arith in
-    (within, sym (law.decided decimal_table class bound limit capped skip s at 32 w.len w.zeroes w.number front.skipped front.reading (inl short) ∙ rw (size, less, total) refl))
-
--- at the front, 64 bits
-pub decided_front : ReadingDecides → IsBelowTen decimal_table → (bound limit : ℕ) → limit ≤ 20 → HasDigits limit bound
-    → (skip : Bool) (s : List ℕ) (len leading number : ℕ) → ReadsBehind skip s 0 len leading number → len < limit
-    → (number ≤ bound) × (cond (eqb len 0) (Err empty) (Ok (number, len)) ≡ prefix_magnitude decimal_table wide64 bound limit skip s)
-decided_front law ten bound limit high digits skip s len leading number front few =
-    let w : Window32 = record { len = len; zeroes = leading; number = number } in
-    let same : 0 + len ≡ len = omega arith in
-    let told = decided_short law ten wide64 bound limit (omega arith) digits skip s 0 w front (omega arith) few in
-    (told.0, ap (λ n. cond (eqb n 0) (Err empty) (Ok (number, n))) (sym same) ∙ told.1)
-
--- behind a window that begins with no zero that is skipped, all digits count
-all_count : (skip : Bool) (n told others : ℕ) → (skip ≡ true → told ≡ 0) → counting_digits skip n (cond (eqb told 32) (32 + others) told) ≡ n
-all_count true n told others kept = let none : told ≡ 0 = kept refl in rw none (omega arith)
-all_count false n told others kept = refl
-
--- and one that is, together with the eight bytes behind it
+-- 128 bits: a window that is full of digits decides together with the eight bytes behind it
 pub decided_full : ReadingDecides → (bound : ℕ) (skip : Bool) (s : List ℕ) (at : ℕ) (w : Window32) (back : Window)
     → ReadsBehind skip s at w.len w.zeroes w.number → 32 ≤ w.len
-    → back ≡ window_of decimal_table 8 (drop 32 (drop at s))
-    → (back.len ≤ 8) × (answer_by_digits wide128 bound 39 at (32 + back.len) (w.number * 10 ^ back.len + back.number) s ≡ prefix_magnitude decimal_table wide128 bound 39 skip s)
-decided_full law bound skip s at w back so full e =
+    → back ≡ window_of decimal_table 8 (drop 32 (take (length s - at) (drop at s)))
+    → (back.len ≤ 8) × (w.number * 10 ^ back.len + back.number < 10 ^ (32 + back.len)) × (at + (32 + back.len) ≤ length s) × (answer_by_digits wide128 bound 39 at (32 + back.len) (w.number * 10 ^ back.len + back.number) s ≡ prefix_magnitude decimal_table wide128 bound 39 skip s)
+decided_full law bound skip s at w back so full told =
     let t = decimal_table in
+    let e : back ≡ window_of t 8 (drop 32 (drop at s)) = told ∙ ap (λ (r : List ℕ). window_of t 8 (drop 32 r)) (take_rest s at) in
     let body : List ℕ = drop at s in
     let others : ℕ = zeros t (take 8 (drop 32 body)) in
     let number : ℕ = w.number * 10 ^ back.len + back.number in
@@ -89,38 +57,9 @@ decided_full law bound skip s at w back so full e =
     let few : back.len ≤ 8 = omega (arith, (law.within t 8 (drop 32 body) back.len others back.number behind).1) in
     let leading : ℕ = cond (eqb w.zeroes 32) (32 + others) w.zeroes in
     let both : Reading t 40 body (32 + back.len) leading number = law.joined t 32 8 body w.zeroes w.number back.len others back.number front behind in
-    let counting : counting_digits skip (32 + back.len) leading ≡ 32 + back.len = all_count skip (32 + back.len) w.zeroes others (λ h. so.ends h full) in
-    let enough : (32 + back.len < 40) ⊎ (40 ≤ counting_digits skip (32 + back.len) leading) =
-    elim (cases_lt back.len 8) [ inl h ↦ inl (omega arith) | inr h ↦ inr (omega arith) ] in
-    let none : at + (32 + back.len - (32 + back.len)) ≡ at = omega arith in (
+    let none : skip ≡ true → leading ≡ 0 = λ on. let first : w.zeroes ≡ 0 = so.ends on full in rw first refl in (
       few,
-      sym (law.decided t wide128 bound 39 (lit< tt) skip s at 40 (32 + back.len) leading number so.skipped both enough
-          ∙ ap (λ (n : ℕ). answer_by_digits wide128 bound 39 (at + (32 + back.len - n)) n number s) counting
-          ∙ ap (λ (n : ℕ). answer_by_digits wide128 bound 39 n (32 + back.len) number s) none),
+      law.below t below_ten 40 body (32 + back.len) leading number both,
+      omega (arith, so.within, law.within t 40 body (32 + back.len) leading number both, length-drop at s),
+      sym (law.full t wide128 bound 39 (lit< tt) skip s at (32 + back.len) leading number so.skipped both none),
     )
-
--- as many digits as a size of 128 bits tells are too many
-pub answer_size : (bound at n number : ℕ) (s : List ℕ) → n ≡ 40 → answer_by_digits wide128 bound 39 at n number s ≡ Err (size (at + n) (drop at s))
-answer_size bound at n number s e =
-    let some : eqb (at + 40) 0 ≡ false = ne_eqb (at + 40) 0 (omega arith) in
-    rw e (rw some refl)
-
--- at most 39 digits answer by their number: it is found where it is within the bound
-pub answer_within : (bound at n number x : ℕ) (found : Option ℕ) (s : List ℕ) → 0 < n → n ≤ 39 → found ≡ (if nat_lt bound number then None else Some number)
-    → found ≡ Some x → answer_by_digits wide128 bound 39 at n number s ≡ Ok (x, at + n)
-answer_within bound at n number x found s more few told is =
-    let some : eqb (at + n) 0 ≡ false = ne_eqb (at + n) 0 (omega arith) in
-    let short : ltb 39 n ≡ false = le-ltb 39 n few in
-    let same : (number ≡ x) × (number ≤ bound) = (grind (arith, nat_tests), grind (arith, nat_tests)) in
-    let less : ltb bound number ≡ false = le-ltb bound number same.1 in
-    rw (some, short, less, same.0) refl
-
--- and it is not found where it is above
-pub answer_above : (bound at n number : ℕ) (found : Option ℕ) (s : List ℕ) → 0 < n → n ≤ 39 → found ≡ (if nat_lt bound number then None else Some number)
-    → found ≡ None → answer_by_digits wide128 bound 39 at n number s ≡ Err (overflow (drop at s))
-answer_above bound at n number found s more few told is =
-    let some : eqb (at + n) 0 ≡ false = ne_eqb (at + n) 0 (omega arith) in
-    let short : ltb 39 n ≡ false = le-ltb 39 n few in
-    let above : bound < number = grind (arith, nat_tests) in
-    let over : ltb bound number ≡ true = lt-ltb bound number above in
-    rw (some, short, over) refl

@@ -1,5 +1,5 @@
 -- Fields of twice the width, and what joins the two halves of each.
-use Rattle.std.proofs.Common.{◌≡◌, ℕ, zero, suc, ◌+◌, ◌-◌, ◌*◌, ◌/◌, ◌%◌, ◌^◌, ◌<◌, ◌≤◌, List, [], ◌∷◌, map, length, refl, ap, ap₂, ◌∙◌, arith}
+use Rattle.std.proofs.Common.{◌≡◌, ℕ, zero, suc, ◌+◌, ◌-◌, ◌*◌, ◌/◌, ◌%◌, ◌^◌, ◌<◌, ◌≤◌, List, [], ◌∷◌, map, length, Fits, w16, refl, ap, ap₂, ◌∙◌, arith}
 use Rattle.std.proofs.Math.Arith.{digits_lt}
 use Rattle.std.proofs.Math.Nat.{pow-zero, pow-suc, mul-le-mul_left, mul-le-mul_right, mod-eq_of_lt, div-add-mod, div-lt_iff_lt-mul}
 use Rattle.std.proofs.lemmas.Nat.{div-mul-add, mod-mul-add, and_mask}
@@ -69,18 +69,22 @@ level h t n m room bytes xs long below =
     ap (λ k. map (step h t) (digits_l (2 ^ h * 2 ^ h) m k)) (recast (2 ^ h) n xs (ap (λ k. (2 ^ h) ^ k) long ∙ bytes) (Each1-weaker (λ x. x < t) (λ x. x < 2 ^ h) (λ x lt. omega arith) xs below))
     ∙ joined (2 ^ h) t (step h t) le (step-joins h t room) m xs long below
 
--- the weights of the bytes of pairs, and how many bytes these are
+-- what the bytes of lanes count that hold a pair in the upper byte, and how many bytes these are
 abbrev hundreds : ℕ → List ℕ
 hundreds zero = []
-hundreds (suc m) = 100 ∷ 0 ∷ 1 ∷ 0 ∷ hundreds m
+hundreds (suc m) = 0 ∷ 100 ∷ 0 ∷ 1 ∷ hundreds m
 
 abbrev four_each : ℕ → ℕ
 four_each zero = zero
 four_each (suc m) = suc (suc (suc (suc (four_each m))))
 
--- the bytes of lanes of 16 bits that hold pairs, by these weights
-pub weighed : (m : ℕ) (xs : List ℕ) → length xs ≡ m + m → Each1 (λ x. x < 100) xs
-    → dots (digits_l 256 (four_each m) (number_l 65536 xs)) (hundreds m) ≡ paired 100 xs
+-- the upper byte
+abbrev pub upper : ℕ → ℕ
+upper lane = lane / 256
+
+-- the bytes of such lanes, counted so
+pub weighed : (m : ℕ) (xs : List ℕ) → length xs ≡ m + m → Each1 (Fits w16) xs
+    → dots (digits_l 256 (four_each m) (number_l 65536 xs)) (hundreds m) ≡ paired 100 (map upper xs)
 weighed zero [] long h = refl
 weighed zero (x ∷ xs) long h = absurd (omega arith)
 weighed (suc m) [] long h = absurd (omega arith)
@@ -88,8 +92,10 @@ weighed (suc m) (x ∷ []) long h = absurd (omega arith)
 weighed (suc m) (x ∷ y ∷ rest) long h =
     let n = number_l 65536 rest in
     let all = x + 65536 * (y + 65536 * n) in
-    let first : all % 256 ≡ x = omega (arith, h.0) in
-    let second : all / 256 / 256 % 256 ≡ y = omega (arith, h.0, h.1.0) in
-    let behind : all / 256 / 256 / 256 / 256 ≡ n = omega (arith, h.0, h.1.0) in
+    let low : x < 65536 = h.0.fits in
+    let high : y < 65536 = h.1.0.fits in
+    let first : all / 256 % 256 ≡ x / 256 = omega (arith, low) in
+    let second : all / 256 / 256 / 256 % 256 ≡ y / 256 = omega (arith, low, high) in
+    let behind : all / 256 / 256 / 256 / 256 ≡ n = omega (arith, low, high) in
     ap₂ (λ d ds. d ∷ ds) (omega (arith, first, second))
     (ap (λ k. dots (digits_l 256 (four_each m) k) (hundreds m)) behind ∙ weighed m rest (omega arith) h.1.1)

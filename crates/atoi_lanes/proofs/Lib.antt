@@ -7,3 +7,4 @@ pub mod SkipLemmas
 pub mod DecidedLemmas
 pub mod WindowLemmas
 pub mod Window32Lemmas
+pub mod HalfLemmas

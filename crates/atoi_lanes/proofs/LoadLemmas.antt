@@ -48,7 +48,7 @@ number-drop p (suc n) (x ∷ xs) h =
     ap (λ q. all / q) power ∙ sym (div-div-eq-div-mul all p (p ^ n)) ∙ ap (λ m. m / p ^ n) (lowest-digit p x (number_l p xs) h.0).1 ∙ number-drop p n xs h.1
 
 -- a number's digits are those that it was made of, and zeros
-digits-number : (p n m : ℕ) (xs : List ℕ) → Each1 (λ x. x < p) xs → n ≤ length xs + m → digits_l p n (number_l p xs) ≡ take n (xs ++ replicate m 0)
+pub digits-number : (p n m : ℕ) (xs : List ℕ) → Each1 (λ x. x < p) xs → n ≤ length xs + m → digits_l p n (number_l p xs) ≡ take n (xs ++ replicate m 0)
 digits-number p zero m xs h room = refl
 digits-number p (suc n) zero [] h room = absurd (omega arith)
 digits-number p (suc n) (suc m) [] h room =

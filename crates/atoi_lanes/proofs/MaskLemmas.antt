@@ -1,5 +1,5 @@
 -- From the mask of a comparison of lanes to the first lanes that pass a test.
-use Rattle.std.proofs.Common.{◌≡◌, ℕ, zero, suc, ◌+◌, ◌-◌, ◌*◌, ◌/◌, ◌%◌, ◌^◌, ◌<◌, Bool, true, false, cond, List, [], ◌∷◌, map, length, Fits, w8, w64, refl, ap, ◌∙◌, arith, pow_pos}
+use Rattle.std.proofs.Common.{◌≡◌, ℕ, zero, suc, ◌+◌, ◌-◌, ◌*◌, ◌/◌, ◌%◌, ◌^◌, ◌<◌, Bool, true, false, cond, List, [], ◌∷◌, map, length, Fits, w8, w64, refl, ap, ap₂, ◌∙◌, arith, pow_pos}
 use Rattle.std.specs.Int.{trailing_ones}
 use Rattle.std.specs.List.{prefix_len}
 use Rattle.std.proofs.Math.Nat.{pow-suc, lt_of_lt_of_le}
@@ -42,17 +42,20 @@ trailing-complement p (suc k) (x ∷ xs) h =
           ap (count_trailing_zeros (suc k)) odd ∙ trailing-odd k ((2 ^ k - 1) - m)
     ]
 
--- two tests that agree at each byte have the same front of a list of bytes
-prefix_len-agree : (p q : ℕ → Bool) → agree_below p q 256 ≡ true → (xs : List ℕ) → Each1 (Fits w8) xs → prefix_len p xs ≡ prefix_len q xs
-prefix_len-agree p q all [] fits = refl
-prefix_len-agree p q all (x ∷ xs) fits =
-    ap (λ b. cond b (1 + prefix_len p xs) 0) (agree_below_at p q 256 x all fits.0.fits)
-    ∙ ap (λ n. cond (q x) (1 + n) 0) (prefix_len-agree p q all xs fits.1)
+-- two tests that agree at each byte pass the same bytes of a list
+map-agree : (p q : ℕ → Bool) → agree_below p q 256 ≡ true → (xs : List ℕ) → Each1 (Fits w8) xs → map p xs ≡ map q xs
+map-agree p q all [] fits = refl
+map-agree p q all (x ∷ xs) fits = ap₂ (λ b bs. b ∷ bs) (agree_below_at p q 256 x all fits.0.fits) (map-agree p q all xs fits.1)
 
--- the ones at the low end of a mask are the first lanes that pass, where f of a lane is set just where the lane passes
-pub ones-of_mask : (q : ℕ → Bool) (v : List ℕ) (f : ℕ → ℕ) (z : List ℕ) → length v < 64 → Each1 (Fits w8) v → z ≡ map f v
-    → agree_below (λ x. top 7 (f x)) q 256 ≡ true → trailing_ones w64 (mask_l (map (top 7) z) % 2 ^ 64) ≡ prefix_len q v
-ones-of_mask q v f z long fits lanes all =
+-- the mask of the lanes that pass, where f of a lane is set just where the lane passes
+pub mask-of_lanes : (q : ℕ → Bool) (v : List ℕ) (f : ℕ → ℕ) (z : List ℕ) → length v < 64 → Each1 (Fits w8) v → z ≡ map f v
+    → agree_below (λ x. top 7 (f x)) q 256 ≡ true → mask_l (map (top 7) z) % 2 ^ 64 ≡ mask_l (map q v)
+mask-of_lanes q v f z long fits lanes all =
     let set = λ (x : ℕ). top 7 (f x) in
-    let mask = ap (λ l. mask_l l % 2 ^ 64) (ap (map (top 7)) lanes ∙ map-map (top 7) f v) ∙ mask_l-mod (map set v) 64 (omega (arith, length-map v set)) in
-    ap (trailing_ones w64) mask ∙ trailing-complement set 64 v (omega arith) ∙ prefix_len-agree set q all v fits
+    ap (λ l. mask_l l % 2 ^ 64) (ap (map (top 7)) lanes ∙ map-map (top 7) f v)
+    ∙ mask_l-mod (map set v) 64 (omega (arith, length-map v set))
+    ∙ ap mask_l (map-agree set q all v fits)
+
+-- the ones at the low end of a mask are the first lanes that pass
+pub ones-of_mask : (q : ℕ → Bool) (v : List ℕ) → length v < 64 → (mask : ℕ) → mask ≡ mask_l (map q v) → trailing_ones w64 mask ≡ prefix_len q v
+ones-of_mask q v long mask is = ap (trailing_ones w64) is ∙ trailing-complement q 64 v (omega arith)

@@ -1,15 +1,16 @@
 //! Sixteen bytes in the lanes of one vector: a load, how many digits or zeros they begin with, and
-//! the number that they write. It uses `std::simd`, and `words` for the load of a short slice.
-ghost use Rattle.std.specs.Prelude.{◌≡◌, ◌-◌, ◌≤◌, ◌<◌, ◌++◌, length, take, drop, replicate};
-ghost use Rattle.std.specs.Simd.Lanes.{Each1};
-ghost use Rattle.atoi_core.specs.Digit.{decimal_table};
+//! the number that they write; and the number of a slice of fewer than eight bytes, in half of one.
+//! It uses `std::simd`, and `words` for the load of a short slice.
+ghost use Rattle.std.specs.Prelude.{◌≡◌, ◌-◌, ◌/◌, ◌≤◌, ◌<◌, ◌==◌, ◌++◌, if◌then◌else◌, Some, None, length, map, take, drop, replicate};
+ghost use Rattle.std.specs.Simd.Lanes.{Each1, mask_l};
+ghost use Rattle.atoi_core.specs.Digit.{decimal_table, is_digit};
 ghost use Rattle.atoi_core.specs.Run.{run_len, zeros, value};
 ghost use Rattle.atoi_core.specs.Words.{word_of};
 ghost use Rattle.atoi_lanes.specs.Itself.{itself};
 ghost use Rattle.atoi_lanes.specs.Padded.{padded_front};
 ghost use Rattle.atoi_lanes.specs.Paired.{paired};
 
-use atoi_core::words::load_8;
+use atoi_core::words::{load_8, load_high};
 use std::simd::prelude::*;
 
 // How many bytes a vector holds.
@@ -22,9 +23,9 @@ const SHIFTS: [u8; 32] = [
     5, 6, 7, 8, 9, 10, 11, 12, 13, 14, 15,
 ];
 
-// What the bytes of two neighbouring pairs are worth in the four digits that they make. The upper
-// byte of each pair is 0.
-const HUNDREDS: [u8; 16] = [100, 0, 1, 0, 100, 0, 1, 0, 100, 0, 1, 0, 100, 0, 1, 0];
+// What the bytes of two neighbouring pairs count in the four digits that they make. The value of a
+// pair is in the upper byte of its lane, and the lower byte counts nothing.
+const HUNDREDS: [u8; 16] = [0, 100, 0, 1, 0, 100, 0, 1, 0, 100, 0, 1, 0, 100, 0, 1];
 
 /// The first 16 bytes, or all where there are fewer: the first in the first lane. A lane whose byte
 /// is missing is 0.
@@ -55,8 +56,15 @@ pub fn len_lanes(v: u8x16) -> u32
     ensures len { result ≡ run_len decimal_table v }
     ensures most { result ≤ 16 }
 {
+    digit_mask(v).trailing_ones()
+}
+
+// A bit for each lane, the lowest for the first: whether it is a digit.
+fn digit_mask(v: u8x16) -> u64
+    ensures { result ≡ mask_l (map (is_digit decimal_table) v) }
+{
     let digits = v.simd_ge(u8x16::splat(b'0')) & v.simd_le(u8x16::splat(b'9'));
-    digits.to_bitmask().trailing_ones()
+    digits.to_bitmask()
 }
 
 /// How many first lanes in a row are zeros, the byte 48: 0 to 16.
@@ -88,6 +96,46 @@ fn moved_to_end(v: u8x16, len: u32) -> u8x16
     v.swizzle_dyn_within::<16>(u8x16::from_slice(&SHIFTS[len as usize..]))
 }
 
+/// The number that a slice of fewer than 8 bytes writes in decimal, or `None` if not all of its bytes
+/// are digits. The number of an empty slice is 0. It is computed without a count of digits, so that
+/// the processor need not wait for one.
+#[inline(always)]
+pub fn sum_short(s: &[u8]) -> Option<u64>
+    requires few { length s.now < 8 }
+    ensures { result ≡ (if run_len decimal_table s.now == length s.now
+        then Some (value decimal_table s.now) else None) }
+{
+    if s.is_empty() {
+        return Some(0);
+    }
+    let lanes = load_to_half(s);
+    if digit_mask(lanes).count_ones() as usize == s.len() {
+        // Of a digit the lower half is its value. A lane whose byte is missing stays 0.
+        Some(number_of_half(lanes & u8x16::splat(0x0F)))
+    } else {
+        None
+    }
+}
+
+// The bytes of a slice of at most 8, the last of them in the eighth lane. All other lanes are 0.
+#[inline(always)]
+fn load_to_half(s: &[u8]) -> u8x16
+    requires some { 0 < length s.now }
+    requires few { length s.now ≤ 8 }
+    ensures { result ≡ (replicate (8 - length s.now) 0 ++ s.now) ++ replicate 8 0 }
+{
+    u64x2::from_array([load_high(s), 0]).to_le_bytes()
+}
+
+// The number that the first eight of sixteen digits write.
+fn number_of_half(digits: u8x16) -> u64
+    requires { Each1 (λ digit. digit < 10) digits }
+    ensures { result ≡ value itself (take 8 digits) }
+{
+    let [number, _] = eights(fours(pairs(digits))).to_array();
+    number
+}
+
 // The number that sixteen digits write: at each level two neighbours become one.
 fn number_of(digits: u8x16) -> u64
     requires { Each1 (λ digit. digit < 10) digits }
@@ -97,19 +145,19 @@ fn number_of(digits: u8x16) -> u64
     high * 100_000_000 + low
 }
 
-// Each two digits as one lane.
+// Each two digits as the upper byte of one lane.
 fn pairs(digits: u8x16) -> u16x8
     requires { Each1 (λ digit. digit < 10) digits }
-    ensures { result ≡ paired 10 digits }
+    ensures { map (λ lane. lane / 256) result ≡ paired 10 digits }
 {
     // The first digit is the lower byte. The product adds ten times it to the second.
-    (u16x8::from_le_bytes(digits) * u16x8::splat(0xA01)) >> u16x8::splat(8)
+    u16x8::from_le_bytes(digits) * u16x8::splat(0xA01)
 }
 
-// Each four digits as one lane.
+// Each four digits as one lane, from pairs in the upper bytes.
 fn fours(pairs: u16x8) -> u32x4
-    requires { Each1 (λ pair. pair < 100) pairs }
-    ensures { result ≡ paired 100 pairs }
+    requires { Each1 (λ pair. pair < 100) (map (λ lane. lane / 256) pairs) }
+    ensures { result ≡ paired 100 (map (λ lane. lane / 256) pairs) }
 {
     pairs.to_le_bytes().dot4(u8x16::from_array(HUNDREDS))
 }
@@ -145,6 +193,15 @@ mod tests {
         let lanes = u8x16::from_array(*b"12\xFF9999999999999");
         assert_eq!(rt; len_lanes(lanes), 2);
         assert_eq!(rt; sum_lanes(lanes, 2), 12);
+    }
+
+    #[test]
+    fn a_short_slice_of_digits(rt: HostRuntime) {
+        assert_eq!(rt; sum_short(b""), Some(0));
+        assert_eq!(rt; sum_short(b"7"), Some(7));
+        assert_eq!(rt; sum_short(b"1234567"), Some(1_234_567));
+        assert_eq!(rt; sum_short(b"12:4"), None);
+        assert_eq!(rt; sum_short(b"\012"), None);
     }
 
     #[test]

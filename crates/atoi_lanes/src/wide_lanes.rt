@@ -1,18 +1,19 @@
 //! The parses of wide integers at the front of a slice, by windows of 32 lanes. It uses
-//! `window_32`, the engine's windows, and `atoi_core`'s law of what was read.
-ghost use Rattle.std.specs.Prelude.{◌≡◌, ◌+◌, ◌*◌, ◌/◌, ◌<◌, ◌≤◌, nat_lt, if◌then◌else◌, length, take, drop, true, IsTrue};
+//! `window_32`, the engine's windows, and `atoi_core`'s law of what was read and its wide answers.
+ghost use Rattle.std.specs.Prelude.{◌≡◌, ◌+◌, ◌/◌, ◌<◌, ◌≤◌, length, take, drop, true, IsTrue};
 ghost use Rattle.atoi_core.specs.Digit.{decimal_table};
 ghost use Rattle.atoi_core.specs.Loads.{LoadsWithin};
 ghost use Rattle.atoi_core.specs.Magnitude.{HasDigits, wide64, wide128, prefix_magnitude};
-ghost use Rattle.atoi_core.specs.Reading.{Reading, answer_by_digits};
+ghost use Rattle.atoi_core.specs.Reading.{Reading};
 ghost use Rattle.atoi_core.specs.Refusal.{answer_of};
 ghost use Rattle.atoi_core.specs.Run.{zeros};
 ghost use Rattle.atoi_core.specs.Window.{window_of};
 ghost use Rattle.atoi_lanes.specs.ReadsBehind.{ReadsBehind};
 
 use crate::lanes::Lanes;
-use crate::window_32::{Window32, power_of_ten, window_32};
+use crate::window_32::{Window32, window_32};
 use atoi_core::reading::reading_decides;
+use atoi_core::wide_answer::{answer_64, answer_128};
 use atoi_core::{AtoiSimdError, Engine, Steps, Window};
 
 /// The number at the front of `s`, and how many bytes it has, for an integer of 64 bits: what
@@ -37,7 +38,7 @@ pub fn prefix_64_lanes<'a>(
     requires limit_high { limit ≤ 20 }
     requires digits { HasDigits limit bound }
     ensures answer { answer_of result ≡ prefix_magnitude decimal_table wide64 bound limit skip s.now }
-    ensures loads { LoadsWithin (zeros decimal_table s.now / 32 + 2) decimal_table skip s.now
+    ensures loads { LoadsWithin (zeros decimal_table s.now / 32 + 2) 1 decimal_table skip s.now
         steps.old steps.new }
 {
     // A window tells the zeros of the slice, but for those behind it.
@@ -79,7 +80,7 @@ pub fn prefix_128_lanes<'a>(
 ) -> Result<(u128, usize), AtoiSimdError<'a>>
     requires digits { HasDigits 39 bound }
     ensures answer { answer_of result ≡ prefix_magnitude decimal_table wide128 bound 39 skip s.now }
-    ensures loads { LoadsWithin (zeros decimal_table s.now / 32 + 3) decimal_table skip s.now
+    ensures loads { LoadsWithin (zeros decimal_table s.now / 32 + 3) 2 decimal_table skip s.now
         steps.old steps.new }
 {
     // A window tells the zeros of the slice, but for those behind it.
@@ -244,8 +245,16 @@ fn ended_128<'a>(
     if front.window.len < 32 {
         return short_128(bound, skip, front, s);
     }
+    reading_decides();
     let back = window_behind(&s[front.at..], steps);
-    told_128(bound, skip, front, back, s)
+    answer_128(
+        bound,
+        front.at,
+        front.window.number,
+        back.len,
+        back.number,
+        s,
+    )
 }
 
 // The eight bytes behind the first 32.
@@ -332,75 +341,4 @@ fn short_128<'a>(
     } else {
         Ok((front.window.number, len))
     }
-}
-
-// The answer of 128 bits, where a window that is full of digits and the eight bytes behind it
-// decide it.
-fn told_128<'a>(
-    bound: u128,
-    skip: bool,
-    front: Front,
-    back: Window,
-    s: &'a [u8],
-) -> Result<(u128, usize), AtoiSimdError<'a>>
-    requires digits { HasDigits 39 bound }
-    requires front { ReadsBehind skip s.now front.at front.window.len front.window.zeroes
-        front.window.number }
-    requires full { 32 ≤ front.window.len }
-    requires back { back ≡ window_of decimal_table 8 (drop 32 (drop front.at s.now)) }
-    ensures { answer_of result ≡ prefix_magnitude decimal_table wide128 bound 39 skip s.now }
-{
-    reading_decides();
-    let body = &s[front.at..];
-    let len = front.at + 32 + back.len as usize;
-    if back.len == 8 {
-        return Err(AtoiSimdError::Size(len, body));
-    }
-    match up_to(
-        bound,
-        front.window.number,
-        power_of_ten(back.len),
-        back.number,
-    ) {
-        Some(number) => Ok((number, len)),
-        None => Err(AtoiSimdError::Overflow(body)),
-    }
-}
-
-// The answer of 64 bits by its digits: behind zeros that are skipped, those that count, and the
-// number that they write.
-#[inline(always)]
-fn answer_64<'a>(
-    bound: u64,
-    limit: u32,
-    skipped: usize,
-    counting: u32,
-    number: u128,
-    s: &'a [u8],
-) -> Result<(u64, usize), AtoiSimdError<'a>>
-    requires { skipped + counting ≤ length s.now }
-    ensures { answer_of result ≡ answer_by_digits wide64 bound limit skipped counting number s.now }
-{
-    let len = skipped + counting as usize;
-    let body = &s[skipped..];
-    if len == 0 {
-        Err(AtoiSimdError::Empty)
-    } else if counting > limit {
-        Err(AtoiSimdError::Size(skipped + counting.min(24) as usize, body))
-    } else if number > u128::from(bound) {
-        Err(AtoiSimdError::Overflow(body))
-    } else {
-        Ok((number as u64, len))
-    }
-}
-
-// `high * power + low` where that is at most `bound`; else none.
-fn up_to(bound: u128, high: u128, power: u64, low: u64) -> Option<u128>
-    ensures { result ≡ (if nat_lt bound (high * power + low) then None
-        else Some (high * power + low)) }
-{
-    let number = high
-        .checked_mul(u128::from(power))?
-        .checked_add(u128::from(low))?;
-    if number > bound { None } else { Some(number) }
 }

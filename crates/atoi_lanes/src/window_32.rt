@@ -1,6 +1,6 @@
 //! What one step tells of 32 bytes, in the lanes of two vectors of sixteen. It uses `std::simd`,
-//! the kernels and `atoi_core`'s steps.
-ghost use Rattle.std.specs.Prelude.{◌≡◌, ◌+◌, ◌*◌, ◌^◌, ◌≤◌, ◌++◌, take, drop, replicate};
+//! the kernels, and `atoi_core`'s steps and joined numbers.
+ghost use Rattle.std.specs.Prelude.{◌≡◌, ◌+◌, ◌*◌, ◌^◌, ◌≤◌, ◌==◌, ◌++◌, if◌then◌else◌, take, drop, replicate};
 ghost use Rattle.atoi_core.specs.Digit.{decimal_table};
 ghost use Rattle.atoi_core.specs.Reading.{Reading};
 ghost use Rattle.atoi_core.specs.Run.{run_len, zeros, value};
@@ -8,6 +8,8 @@ ghost use Rattle.atoi_lanes.specs.Padded.{padded_front};
 
 use crate::kernels::{len_lanes, load_lanes, sum_lanes, zeroes_lanes};
 use atoi_core::Steps;
+use atoi_core::reading::reading_decides;
+use atoi_core::wide_answer::append_digits;
 use std::simd::prelude::*;
 
 // From entry `n` on: for each place of a vector the lane that goes there, so that the lanes from
@@ -15,27 +17,6 @@ use std::simd::prelude::*;
 const FROM: [u8; 32] = [
     0, 1, 2, 3, 4, 5, 6, 7, 8, 9, 10, 11, 12, 13, 14, 15, 128, 128, 128, 128, 128, 128, 128, 128,
     128, 128, 128, 128, 128, 128, 128, 128,
-];
-
-// The powers of ten, from the one with no zero to the one with 16.
-const POWERS: [u64; 17] = [
-    1,
-    10,
-    100,
-    1_000,
-    10_000,
-    100_000,
-    1_000_000,
-    10_000_000,
-    100_000_000,
-    1_000_000_000,
-    10_000_000_000,
-    100_000_000_000,
-    1_000_000_000_000,
-    10_000_000_000_000,
-    100_000_000_000_000,
-    1_000_000_000_000_000,
-    10_000_000_000_000_000,
 ];
 
 /// What a window of 32 bytes tells of the front of a slice.
@@ -55,6 +36,8 @@ pub(crate) fn window_32(s: &[u8], steps: &mut Steps) -> Window32
     ensures reading { Reading decimal_table 32 s.now result.len result.zeroes result.number }
     ensures one_step { steps.new ≡ steps.old + 1 }
 {
+    // Two readings of 16 bytes make one of 32.
+    reading_decides();
     steps.tick();
     let first = load_lanes(s);
     let len = len_lanes(first);
@@ -99,7 +82,8 @@ fn moved_to_front(v: u8x16, from: usize) -> u8x16
 // How many first lanes of two vectors in a row are zeros, the byte 48: 0 to 32. Most begin with
 // none.
 fn zeroes_of_two(first: u8x16, second: u8x16) -> u32
-    ensures { result ≡ zeros decimal_table (first ++ second) }
+    ensures { result ≡ (if zeros decimal_table first == 16 then 16 + zeros decimal_table second
+        else zeros decimal_table first) }
 {
     if first.to_array()[0] != b'0' {
         return 0;
@@ -118,28 +102,12 @@ fn number_of_two(first: u8x16, second: u8x16, more: u32) -> u128
     requires within { more ≤ 16 }
     requires full { 16 ≤ run_len decimal_table first }
     requires digits { more ≤ run_len decimal_table second }
-    ensures { result ≡ value decimal_table (first ++ take more second) }
+    ensures { result ≡ value decimal_table (take 16 first) * 10 ^ more
+        + value decimal_table (take more second) }
 {
     let high = sum_lanes(first, 16);
     if more == 0 {
         return u128::from(high);
     }
-    joined(high, sum_lanes(second, more), more)
-}
-
-// The number of so many digits behind others: `high` is that of the first, `low` that of the last.
-fn joined(high: u64, low: u64, digits: u32) -> u128
-    requires { digits ≤ 16 }
-    ensures { result ≡ high * 10 ^ digits + low }
-{
-    u128::from(high) * u128::from(power_of_ten(digits)) + u128::from(low)
-}
-
-/// Ten to the power of a count of digits, at most 16.
-pub(crate) fn power_of_ten(digits: u32) -> u64
-    requires { digits ≤ 16 }
-    ensures power { result ≡ 10 ^ digits }
-    ensures most { result ≤ 10000000000000000 }
-{
-    POWERS[digits as usize]
+    append_digits(high, more, sum_lanes(second, more))
 }

@@ -1,12 +1,13 @@
-//! `Parse` and its twelve types: a number with the sign that may stand before it. It uses
-//! `ParsePos`, `ParseNeg`, and `sign` and `both_signs` of `atoi_core`.
+//! `Parse` and its twelve types: numbers that may have a sign. Each method is one call of a parse of
+//! `atoi_core`, over the crate's engine.
 ghost use Rattle.std.specs.Prelude.{◌≡◌, ◌≤◌, IfOk, length};
-ghost use Rattle.atoi_core.specs.Answer.{typed_answer, typed_prefix_answer, whole_answer, prefix_answer, parse_answer, parse_prefix_answer};
-ghost use Rattle.atoi_core.specs.Digit.{decimal_table};
+ghost use Rattle.atoi_core.specs.Answer.{typed_answer, typed_prefix_answer, parse_answer, parse_prefix_answer};
 
-use crate::negative::ParseNeg;
 use crate::positive::ParsePos;
-use atoi_core::{AtoiSimdError, prefix_of_sign, take_sign, whole_of_sign, with_sign};
+use crate::reader::Reader;
+use atoi_core::{
+    AtoiSimdError, Steps, parse_prefix_signed, parse_prefix_unsigned, parse_signed, parse_unsigned,
+};
 
 /// A type that a number with a sign before it is parsed to.
 ///
@@ -55,111 +56,6 @@ pub trait Parse: ParsePos {
         ensures within { IfOk result (λ found. found.1 ≤ length s.now) };
 }
 
-// The whole of `s`, digits behind a sign. Both signs go by one parse, that behind a minus: where signs
-// vary from call to call, a branch on them would be mispredicted. Only the magnitude of the least
-// number of a type of more than 32 bits is parsed again.
-#[inline(always)]
-fn either_sign<T: ParseNeg + ParsePos>(
-    minus: bool,
-    s: &[u8],
-    skip_zeroes: bool,
-) -> Result<T, AtoiSimdError<'_>>
-    ensures answer { typed_answer T.number result
-        ≡ whole_answer decimal_table T.kind minus skip_zeroes s.now }
-{
-    match whole_of_sign(minus, s, T::atoi_simd_parse_neg(s, skip_zeroes)) {
-        Some(answer) => answer,
-        None => called_by_sign(minus, s, skip_zeroes),
-    }
-}
-
-// The same of the front of `s`. Of at most 32 bits that magnitude is parsed again too, where it has 16
-// digits or more, zeros among them, and no minus.
-#[inline(always)]
-fn either_sign_prefix<T: ParseNeg + ParsePos>(
-    minus: bool,
-    s: &[u8],
-    skip_zeroes: bool,
-) -> Result<(T, usize), AtoiSimdError<'_>>
-    ensures answer { typed_prefix_answer T.number result
-        ≡ prefix_answer decimal_table T.kind minus skip_zeroes s.now }
-    ensures within { IfOk result (λ found. found.1 ≤ length s.now) }
-{
-    match prefix_of_sign(minus, s, T::atoi_simd_parse_prefix_neg(s, skip_zeroes)) {
-        Some(answer) => answer,
-        None => called_by_sign_prefix(minus, s, skip_zeroes),
-    }
-}
-
-// The call of `by_sign`, in a function of its own: the place of its result is then cleared only where
-// the call is made.
-#[inline(always)]
-fn called_by_sign<T: ParseNeg + ParsePos>(
-    minus: bool,
-    s: &[u8],
-    skip_zeroes: bool,
-) -> Result<T, AtoiSimdError<'_>>
-    ensures answer { typed_answer T.number result
-        ≡ whole_answer decimal_table T.kind minus skip_zeroes s.now }
-{
-    match by_sign(minus, s, skip_zeroes) {
-        Ok(number) => Ok(number),
-        Err(error) => Err(error),
-    }
-}
-
-// The same of `by_sign_prefix`.
-#[inline(always)]
-fn called_by_sign_prefix<T: ParseNeg + ParsePos>(
-    minus: bool,
-    s: &[u8],
-    skip_zeroes: bool,
-) -> Result<(T, usize), AtoiSimdError<'_>>
-    ensures answer { typed_prefix_answer T.number result
-        ≡ prefix_answer decimal_table T.kind minus skip_zeroes s.now }
-    ensures within { IfOk result (λ found. found.1 ≤ length s.now) }
-{
-    match by_sign_prefix(minus, s, skip_zeroes) {
-        Ok(found) => Ok(found),
-        Err(error) => Err(error),
-    }
-}
-
-// The whole of `s`, by the parse of its sign.
-#[inline(never)]
-fn by_sign<T: ParseNeg + ParsePos>(
-    minus: bool,
-    s: &[u8],
-    skip_zeroes: bool,
-) -> Result<T, AtoiSimdError<'_>>
-    ensures answer { typed_answer T.number result
-        ≡ whole_answer decimal_table T.kind minus skip_zeroes s.now }
-{
-    if minus {
-        T::atoi_simd_parse_neg(s, skip_zeroes)
-    } else {
-        T::atoi_simd_parse_pos(s, skip_zeroes)
-    }
-}
-
-// The same of the front of `s`.
-#[inline(never)]
-fn by_sign_prefix<T: ParseNeg + ParsePos>(
-    minus: bool,
-    s: &[u8],
-    skip_zeroes: bool,
-) -> Result<(T, usize), AtoiSimdError<'_>>
-    ensures answer { typed_prefix_answer T.number result
-        ≡ prefix_answer decimal_table T.kind minus skip_zeroes s.now }
-    ensures within { IfOk result (λ found. found.1 ≤ length s.now) }
-{
-    if minus {
-        T::atoi_simd_parse_prefix_neg(s, skip_zeroes)
-    } else {
-        T::atoi_simd_parse_prefix_pos(s, skip_zeroes)
-    }
-}
-
 impl Parse for u8 {
     #[inline(always)]
     fn atoi_simd_parse(
@@ -167,8 +63,7 @@ impl Parse for u8 {
         skip_zeroes: bool,
         skip_plus: bool,
     ) -> Result<u8, AtoiSimdError<'_>> {
-        let (_, body) = take_sign(false, skip_plus, s);
-        u8::atoi_simd_parse_pos(body, skip_zeroes)
+        parse_unsigned::<Reader, u8>(skip_zeroes, skip_plus, s, &mut Steps::new())
     }
 
     #[inline(always)]
@@ -177,9 +72,7 @@ impl Parse for u8 {
         skip_zeroes: bool,
         skip_plus: bool,
     ) -> Result<(u8, usize), AtoiSimdError<'_>> {
-        let (_, body) = take_sign(false, skip_plus, s);
-        let taken = s.len() - body.len();
-        with_sign(taken, u8::atoi_simd_parse_prefix_pos(body, skip_zeroes))
+        parse_prefix_unsigned::<Reader, u8>(skip_zeroes, skip_plus, s, &mut Steps::new())
     }
 }
 
@@ -190,8 +83,7 @@ impl Parse for i8 {
         skip_zeroes: bool,
         skip_plus: bool,
     ) -> Result<i8, AtoiSimdError<'_>> {
-        let (minus, body) = take_sign(true, skip_plus, s);
-        either_sign(minus, body, skip_zeroes)
+        parse_signed::<Reader, i8>(skip_zeroes, skip_plus, s, &mut Steps::new())
     }
 
     #[inline(always)]
@@ -200,9 +92,7 @@ impl Parse for i8 {
         skip_zeroes: bool,
         skip_plus: bool,
     ) -> Result<(i8, usize), AtoiSimdError<'_>> {
-        let (minus, body) = take_sign(true, skip_plus, s);
-        let taken = s.len() - body.len();
-        with_sign(taken, either_sign_prefix(minus, body, skip_zeroes))
+        parse_prefix_signed::<Reader, i8>(skip_zeroes, skip_plus, s, &mut Steps::new())
     }
 }
 
@@ -213,8 +103,7 @@ impl Parse for u16 {
         skip_zeroes: bool,
         skip_plus: bool,
     ) -> Result<u16, AtoiSimdError<'_>> {
-        let (_, body) = take_sign(false, skip_plus, s);
-        u16::atoi_simd_parse_pos(body, skip_zeroes)
+        parse_unsigned::<Reader, u16>(skip_zeroes, skip_plus, s, &mut Steps::new())
     }
 
     #[inline(always)]
@@ -223,9 +112,7 @@ impl Parse for u16 {
         skip_zeroes: bool,
         skip_plus: bool,
     ) -> Result<(u16, usize), AtoiSimdError<'_>> {
-        let (_, body) = take_sign(false, skip_plus, s);
-        let taken = s.len() - body.len();
-        with_sign(taken, u16::atoi_simd_parse_prefix_pos(body, skip_zeroes))
+        parse_prefix_unsigned::<Reader, u16>(skip_zeroes, skip_plus, s, &mut Steps::new())
     }
 }
 
@@ -236,8 +123,7 @@ impl Parse for i16 {
         skip_zeroes: bool,
         skip_plus: bool,
     ) -> Result<i16, AtoiSimdError<'_>> {
-        let (minus, body) = take_sign(true, skip_plus, s);
-        either_sign(minus, body, skip_zeroes)
+        parse_signed::<Reader, i16>(skip_zeroes, skip_plus, s, &mut Steps::new())
     }
 
     #[inline(always)]
@@ -246,9 +132,7 @@ impl Parse for i16 {
         skip_zeroes: bool,
         skip_plus: bool,
     ) -> Result<(i16, usize), AtoiSimdError<'_>> {
-        let (minus, body) = take_sign(true, skip_plus, s);
-        let taken = s.len() - body.len();
-        with_sign(taken, either_sign_prefix(minus, body, skip_zeroes))
+        parse_prefix_signed::<Reader, i16>(skip_zeroes, skip_plus, s, &mut Steps::new())
     }
 }
 
@@ -259,8 +143,7 @@ impl Parse for u32 {
         skip_zeroes: bool,
         skip_plus: bool,
     ) -> Result<u32, AtoiSimdError<'_>> {
-        let (_, body) = take_sign(false, skip_plus, s);
-        u32::atoi_simd_parse_pos(body, skip_zeroes)
+        parse_unsigned::<Reader, u32>(skip_zeroes, skip_plus, s, &mut Steps::new())
     }
 
     #[inline(always)]
@@ -269,9 +152,7 @@ impl Parse for u32 {
         skip_zeroes: bool,
         skip_plus: bool,
     ) -> Result<(u32, usize), AtoiSimdError<'_>> {
-        let (_, body) = take_sign(false, skip_plus, s);
-        let taken = s.len() - body.len();
-        with_sign(taken, u32::atoi_simd_parse_prefix_pos(body, skip_zeroes))
+        parse_prefix_unsigned::<Reader, u32>(skip_zeroes, skip_plus, s, &mut Steps::new())
     }
 }
 
@@ -282,8 +163,7 @@ impl Parse for i32 {
         skip_zeroes: bool,
         skip_plus: bool,
     ) -> Result<i32, AtoiSimdError<'_>> {
-        let (minus, body) = take_sign(true, skip_plus, s);
-        either_sign(minus, body, skip_zeroes)
+        parse_signed::<Reader, i32>(skip_zeroes, skip_plus, s, &mut Steps::new())
     }
 
     #[inline(always)]
@@ -292,9 +172,7 @@ impl Parse for i32 {
         skip_zeroes: bool,
         skip_plus: bool,
     ) -> Result<(i32, usize), AtoiSimdError<'_>> {
-        let (minus, body) = take_sign(true, skip_plus, s);
-        let taken = s.len() - body.len();
-        with_sign(taken, either_sign_prefix(minus, body, skip_zeroes))
+        parse_prefix_signed::<Reader, i32>(skip_zeroes, skip_plus, s, &mut Steps::new())
     }
 }
 
@@ -305,8 +183,7 @@ impl Parse for usize {
         skip_zeroes: bool,
         skip_plus: bool,
     ) -> Result<usize, AtoiSimdError<'_>> {
-        let (_, body) = take_sign(false, skip_plus, s);
-        usize::atoi_simd_parse_pos(body, skip_zeroes)
+        parse_unsigned::<Reader, usize>(skip_zeroes, skip_plus, s, &mut Steps::new())
     }
 
     #[inline(always)]
@@ -315,9 +192,7 @@ impl Parse for usize {
         skip_zeroes: bool,
         skip_plus: bool,
     ) -> Result<(usize, usize), AtoiSimdError<'_>> {
-        let (_, body) = take_sign(false, skip_plus, s);
-        let taken = s.len() - body.len();
-        with_sign(taken, usize::atoi_simd_parse_prefix_pos(body, skip_zeroes))
+        parse_prefix_unsigned::<Reader, usize>(skip_zeroes, skip_plus, s, &mut Steps::new())
     }
 }
 
@@ -328,8 +203,7 @@ impl Parse for isize {
         skip_zeroes: bool,
         skip_plus: bool,
     ) -> Result<isize, AtoiSimdError<'_>> {
-        let (minus, body) = take_sign(true, skip_plus, s);
-        either_sign(minus, body, skip_zeroes)
+        parse_signed::<Reader, isize>(skip_zeroes, skip_plus, s, &mut Steps::new())
     }
 
     #[inline(always)]
@@ -338,9 +212,7 @@ impl Parse for isize {
         skip_zeroes: bool,
         skip_plus: bool,
     ) -> Result<(isize, usize), AtoiSimdError<'_>> {
-        let (minus, body) = take_sign(true, skip_plus, s);
-        let taken = s.len() - body.len();
-        with_sign(taken, either_sign_prefix(minus, body, skip_zeroes))
+        parse_prefix_signed::<Reader, isize>(skip_zeroes, skip_plus, s, &mut Steps::new())
     }
 }
 
@@ -351,8 +223,7 @@ impl Parse for u64 {
         skip_zeroes: bool,
         skip_plus: bool,
     ) -> Result<u64, AtoiSimdError<'_>> {
-        let (_, body) = take_sign(false, skip_plus, s);
-        u64::atoi_simd_parse_pos(body, skip_zeroes)
+        parse_unsigned::<Reader, u64>(skip_zeroes, skip_plus, s, &mut Steps::new())
     }
 
     #[inline(always)]
@@ -361,9 +232,7 @@ impl Parse for u64 {
         skip_zeroes: bool,
         skip_plus: bool,
     ) -> Result<(u64, usize), AtoiSimdError<'_>> {
-        let (_, body) = take_sign(false, skip_plus, s);
-        let taken = s.len() - body.len();
-        with_sign(taken, u64::atoi_simd_parse_prefix_pos(body, skip_zeroes))
+        parse_prefix_unsigned::<Reader, u64>(skip_zeroes, skip_plus, s, &mut Steps::new())
     }
 }
 
@@ -374,8 +243,7 @@ impl Parse for i64 {
         skip_zeroes: bool,
         skip_plus: bool,
     ) -> Result<i64, AtoiSimdError<'_>> {
-        let (minus, body) = take_sign(true, skip_plus, s);
-        either_sign(minus, body, skip_zeroes)
+        parse_signed::<Reader, i64>(skip_zeroes, skip_plus, s, &mut Steps::new())
     }
 
     #[inline(always)]
@@ -384,9 +252,7 @@ impl Parse for i64 {
         skip_zeroes: bool,
         skip_plus: bool,
     ) -> Result<(i64, usize), AtoiSimdError<'_>> {
-        let (minus, body) = take_sign(true, skip_plus, s);
-        let taken = s.len() - body.len();
-        with_sign(taken, either_sign_prefix(minus, body, skip_zeroes))
+        parse_prefix_signed::<Reader, i64>(skip_zeroes, skip_plus, s, &mut Steps::new())
     }
 }
 
@@ -397,8 +263,7 @@ impl Parse for u128 {
         skip_zeroes: bool,
         skip_plus: bool,
     ) -> Result<u128, AtoiSimdError<'_>> {
-        let (_, body) = take_sign(false, skip_plus, s);
-        u128::atoi_simd_parse_pos(body, skip_zeroes)
+        parse_unsigned::<Reader, u128>(skip_zeroes, skip_plus, s, &mut Steps::new())
     }
 
     #[inline(always)]
@@ -407,9 +272,7 @@ impl Parse for u128 {
         skip_zeroes: bool,
         skip_plus: bool,
     ) -> Result<(u128, usize), AtoiSimdError<'_>> {
-        let (_, body) = take_sign(false, skip_plus, s);
-        let taken = s.len() - body.len();
-        with_sign(taken, u128::atoi_simd_parse_prefix_pos(body, skip_zeroes))
+        parse_prefix_unsigned::<Reader, u128>(skip_zeroes, skip_plus, s, &mut Steps::new())
     }
 }
 
@@ -420,8 +283,7 @@ impl Parse for i128 {
         skip_zeroes: bool,
         skip_plus: bool,
     ) -> Result<i128, AtoiSimdError<'_>> {
-        let (minus, body) = take_sign(true, skip_plus, s);
-        either_sign(minus, body, skip_zeroes)
+        parse_signed::<Reader, i128>(skip_zeroes, skip_plus, s, &mut Steps::new())
     }
 
     #[inline(always)]
@@ -430,9 +292,7 @@ impl Parse for i128 {
         skip_zeroes: bool,
         skip_plus: bool,
     ) -> Result<(i128, usize), AtoiSimdError<'_>> {
-        let (minus, body) = take_sign(true, skip_plus, s);
-        let taken = s.len() - body.len();
-        with_sign(taken, either_sign_prefix(minus, body, skip_zeroes))
+        parse_prefix_signed::<Reader, i128>(skip_zeroes, skip_plus, s, &mut Steps::new())
     }
 }
 

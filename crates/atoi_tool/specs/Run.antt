@@ -8,7 +8,7 @@ use Rattle.atoi_tool.specs.Failures.{AppendsFront}
 use Rattle.atoi_tool.specs.Output.{output_of, is_good_input}
 
 -- whether no line was bad, or what stopped the run
-abbrev pub outcome_of : Ended → Result Bool ToolError
+abbrev pub outcome_of : {I O : Type 0} → Ended I O → Result Bool ToolError
 outcome_of ended = ended.outcome
 
 -- the source gave its bytes up to the end, the sink got the whole output to them, and no line was bad just where `is_good`

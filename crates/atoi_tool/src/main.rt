@@ -5,6 +5,7 @@
 use crate::run::{Ended, run};
 use crate::sink::ToWriter;
 use crate::source::FromReader;
+use std::io::{Stdin, Stdout};
 
 mod answer;
 mod calls;
@@ -25,7 +26,7 @@ mod sink;
 mod source;
 mod status;
 
-fn main(rt: HostRuntime) -> Ended {
+fn main(rt: HostRuntime) -> Ended<FromReader<Stdin>, ToWriter<Stdout>> {
     let mut input = FromReader::new(rt.stdin());
     let mut output = ToWriter::new(rt.stdout());
     run(rt.alloc(), &mut input, &mut output)

@@ -1,9 +1,11 @@
-//! What a row asks for, but for its text, and the words that say it. It uses no other module.
+//! What a row asks for, but for its text, and the words that say it. It uses a law of `atoi_core`.
 ghost use Rattle.std.specs.Prelude.{◌≡◌};
 ghost use Rattle.atoi_tool.specs.Request.{engine_of, call_of, integer_of, flags_of, kind_of, takes_sign, is_negative, is_known};
 
+use atoi_core::derived::clones_are_the_same;
+
 /// Which library parses.
-#[derive(Clone, Copy, Debug, PartialEq, Eq)]
+#[derive(Clone, Copy)]
 pub enum Engine {
     /// `w`: on words.
     Words,
@@ -12,7 +14,7 @@ pub enum Engine {
 }
 
 /// Which function parses.
-#[derive(Clone, Copy, Debug, PartialEq, Eq)]
+#[derive(Clone, Copy)]
 pub enum Call {
     /// `parse`: at most one sign and a whole text.
     Parse,
@@ -46,7 +48,7 @@ impl Call {
 }
 
 /// Into which type.
-#[derive(Clone, Copy, Debug, PartialEq, Eq)]
+#[derive(Clone, Copy)]
 pub enum Integer {
     /// `u8`.
     U8,
@@ -92,7 +94,7 @@ impl Integer {
 }
 
 /// What is skipped at the front of a text.
-#[derive(Clone, Copy, Debug, PartialEq, Eq)]
+#[derive(Clone, Copy)]
 pub struct Flags {
     /// Leading zeros do not count as digits of the number.
     pub zeroes: bool,
@@ -162,7 +164,7 @@ pub fn flags_of(word: &[u8]) -> Option<Flags>
 }
 
 /// What a row asks for, but for its text.
-#[derive(Clone, Copy, Debug, PartialEq, Eq)]
+#[derive(Clone, Copy)]
 pub struct Request {
     /// Which library parses.
     pub engine: Engine,
@@ -186,7 +188,7 @@ impl Request {
 }
 
 /// What a row asks for, but for its text.
-#[derive(Clone, Copy, Debug, PartialEq, Eq)]
+#[derive(Clone, Copy)]
 pub enum Query {
     /// One number.
     Number(Request),
@@ -197,4 +199,14 @@ pub enum Query {
         /// The byte that ends a field.
         separator: u8,
     },
+}
+
+// The law of `clone`, for what a row asks for.
+fn clones() {
+    clones_are_the_same::<Engine>();
+    clones_are_the_same::<Call>();
+    clones_are_the_same::<Integer>();
+    clones_are_the_same::<Flags>();
+    clones_are_the_same::<Request>();
+    clones_are_the_same::<Query>();
 }

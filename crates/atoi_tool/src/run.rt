@@ -11,21 +11,27 @@ use crate::sink::Sink;
 use crate::source::Source;
 use crate::status::{ToolError, status};
 use std::alloc::Global;
+use std::marker::PhantomData;
 use std::process::{ExitCode, Termination};
 
-/// How a run ended: whether no line was bad, or what stopped it.
+/// How a run from an `I` to an `O` ended: whether no line was bad, or what stopped it.
 ///
-/// Only `run` makes one, and it cannot be let go of: a `main` that answers one ends as a run did.
-pub struct Ended {
+/// Only `run` makes one, and it cannot be let go of: a `main` that returns one ends as a run did,
+/// and its result type says between which streams.
+pub struct Ended<I, O> {
     outcome: Result<bool, ToolError>,
+    streams: PhantomData<(I, O)>,
 }
 
-impl Termination for Ended {
+impl<I, O> Termination for Ended<I, O> {
     /// Says on standard error what stopped the run, if something did, and answers its status.
     fn report<R: Eprint>(self, rt: &R) -> ExitCode
         ensures { exit_status result ≡ status_of (outcome_of self) }
     {
-        let Ended { outcome } = self;
+        let Ended {
+            outcome,
+            streams: _,
+        } = self;
         if let Err(error) = &outcome {
             // The status tells the error where this line cannot be written.
             let _ = eprintln!(rt; "atoi_tool: {error}");
@@ -42,7 +48,7 @@ impl Termination for Ended {
 /// The outcome is `Memory` or `Read` where the input could not be read, and then nothing was
 /// written. It is `Write` where a put was refused, and then a beginning of the whole output was
 /// written.
-pub fn run<I: Source, O: Sink>(alloc: Global, input: &mut I, output: &mut O) -> Ended
+pub fn run<I: Source, O: Sink>(alloc: Global, input: &mut I, output: &mut O) -> Ended<I, O>
     ensures answered { IfOk (outcome_of result)
         (IsAnswered (I.rest input.old) (I.rest input.new) (O.held output.old) (O.held output.new)) }
     ensures stopped { IfErr (outcome_of result)
@@ -54,7 +60,10 @@ pub fn run<I: Source, O: Sink>(alloc: Global, input: &mut I, output: &mut O) -> 
         Ok(rows) => answer_lines(&rows, output),
         Err(error) => Err(error),
     };
-    Ended { outcome }
+    Ended {
+        outcome,
+        streams: PhantomData,
+    }
 }
 
 #[cfg(test)]

@@ -1,7 +1,8 @@
-//! What stopped the program, and the status that it ends with. It uses no other module.
+//! What stopped the program, and the status that it ends with. It uses a law of `atoi_core`.
 ghost use Rattle.std.specs.Prelude.{◌≡◌, Some};
 ghost use Rattle.atoi_tool.specs.Status.{status_of, tool_error_text};
 
+use atoi_core::derived::equal_ones_are_the_same;
 use std::fmt;
 
 /// What stopped the program.
@@ -39,4 +40,9 @@ pub fn status(outcome: &Result<bool, ToolError>) -> u8
         Err(ToolError::Read) => 4,
         Err(ToolError::Write) => 5,
     }
+}
+
+// The law of `==`, for what stopped the program.
+fn equal_errors() {
+    equal_ones_are_the_same::<ToolError>();
 }

@@ -1,8 +1,9 @@
 -- The commands of a protocol: a word, one space, and a number.
-use Rattle.std.specs.Prelude.{◌≡◌, ℕ, true, List, ◌++◌, Err, codes}
+use Rattle.std.specs.Prelude.{◌≡◌, ℕ, true, Option, Some, None, List, ◌++◌, Err, codes}
 use Rattle.atoi_core.specs.Answer.{parse_answer}
+use Rattle.atoi_core.specs.ErrorText.{error_text as cause_text}
 use Rattle.atoi_core.specs.Kinds.{i64_kind}
-use Rattle.atoi_core.specs.Refusal.{refusal_of}
+use Rattle.atoi_core.specs.Refusal.{Refusal, refusal_of}
 use Rattle.atoi_core.specs.Text.{TextWrites}
 use Rattle.atoi_uses.specs.declared.commands.Command.{Command}
 use Rattle.atoi_uses.specs.declared.commands.CommandError.{CommandError}
@@ -32,3 +33,13 @@ Refuses line UnknownWord = (word : Word) (text : List ℕ) → ¬ HasWord line w
 Refuses line (BadNumber cause) =
     (word : Word) × ((text : List ℕ)
     × (HasWord line word text × (parse_answer i64_kind true true text ≡ Err (refusal_of cause))))
+
+-- what an error says of the number, if it says that there is none
+abbrev pub cause_of : CommandError → Option Refusal
+cause_of UnknownWord = None
+cause_of (BadNumber cause) = Some (refusal_of cause)
+
+-- the text of an error
+abbrev pub error_text : CommandError → List ℕ
+error_text UnknownWord = codes "unknown word"
+error_text (BadNumber cause) = codes "no number after the word: " ++ cause_text (refusal_of cause)

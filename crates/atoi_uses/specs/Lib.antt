@@ -4,3 +4,6 @@ pub mod OwnEngine
 pub mod Json
 pub mod Dates
 pub mod Versions
+pub mod SignedTotals
+pub mod Addresses
+pub mod Headers

@@ -1,5 +1,5 @@
 -- The columns of a log line: the fields between commas after its last space.
-use Rattle.std.specs.Prelude.{◌≡◌, ℕ, ◌+◌, ◌-◌, ◌^◌, ◌≤◌, ◌==◌, true, List, length, map, sum, pos}
+use Rattle.std.specs.Prelude.{◌≡◌, ℕ, ◌+◌, ◌-◌, ◌^◌, ◌≤◌, ◌==◌, true, List, ◌++◌, length, map, sum, pos, codes, decimal}
 use Rattle.std.specs.List.{AllZip, after_last}
 use Rattle.atoi_core.specs.Kinds.{u64_kind}
 use Rattle.atoi_core.specs.Text.{TextWrites}
@@ -33,3 +33,9 @@ Refuses line (BadField index place) =
     × (IsFirstBad u64_kind comma (columns_of line) index place_in_columns
     × (place ≡ length line - length (columns_of line) + place_in_columns))
 Refuses line (TooLarge total) = HasTotal line total × (2 ^ 64 ≤ total)
+
+-- the text of an error
+abbrev pub error_text : LogError → List ℕ
+error_text (BadField index place) =
+    codes "field " ++ decimal index ++ codes " is no number, at byte " ++ decimal place
+error_text (TooLarge total) = codes "the total " ++ decimal total ++ codes " is too large"

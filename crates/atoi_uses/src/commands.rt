@@ -7,6 +7,8 @@ ghost use Rattle.atoi_uses.specs.declared.commands.Word.{Word};
 
 use atoi_core::laws::accepted_texts;
 use atoi_simd::{AtoiSimdError, parse};
+use std::error::Error;
+use std::fmt;
 
 /// What a command does to a counter.
 #[derive(Clone, Copy, Debug, PartialEq, Eq)]
@@ -29,9 +31,25 @@ pub struct Command {
 pub enum CommandError<'a> {
     /// The line does not begin with a word in capitals and a space.
     UnknownWord,
-    /// After the space stands no number of `i64`: what `atoi_simd::parse` answers.
+    /// The rest of the line is no number of `i64`: the error of `atoi_simd::parse`.
     BadNumber(AtoiSimdError<'a>),
 }
+
+impl fmt::Display for CommandError<'_> {
+    ghost use Rattle.std.specs.Prelude.{Some};
+    ghost use Rattle.atoi_uses.specs.Commands.{error_text};
+
+    ghost output = { λ error. Some (error_text error) };
+
+    fn fmt<W: fmt::Write>(&self, f: &mut fmt::Formatter<W>) -> fmt::Result {
+        match *self {
+            CommandError::UnknownWord => write!(f, "unknown word"),
+            CommandError::BadNumber(cause) => write!(f, "no number after the word: {cause}"),
+        }
+    }
+}
+
+impl Error for CommandError<'_> {}
 
 /// The command that `line` is: a word in capitals, one space, and a number of `i64`, which may have
 /// a sign and zeros in front. Nothing else may stand in the line, not even a line feed at its end.
@@ -72,6 +90,8 @@ fn word_and_text(line: &[u8]) -> Option<(Word, &[u8])>
 #[cfg(test)]
 mod tests {
     use super::*;
+    use std::alloc::{AllocError, Global};
+    use std::test::Fail;
 
     fn set(number: i64) -> Result<Command, CommandError<'static>> {
         let word = Word::Set;
@@ -106,6 +126,23 @@ mod tests {
         assert_eq!(rt; read_command(b" SET 42"), unknown);
         assert_eq!(rt; read_command(b"INCR 42"), unknown);
         assert_eq!(rt; read_command(b"INCRBY\t42"), unknown);
+    }
+
+    // The text of an error of which no more is known.
+    fn printed<E: Error>(alloc: Global, error: &E) -> Result<String, AllocError> {
+        format!(in alloc; "{error}")
+    }
+
+    #[test]
+    fn errors_print(rt: HostRuntime) -> Result<(), Fail> {
+        let unknown = printed(rt.alloc(), &CommandError::UnknownWord)?;
+        assert_eq!(rt; unknown.as_str(), "unknown word");
+        let bad = printed(rt.alloc(), &CommandError::BadNumber(AtoiSimdError::Empty))?;
+        assert_eq!(rt;
+            bad.as_str(),
+            "no number after the word: atoi_simd string is empty"
+        );
+        Ok(())
     }
 
     #[test]

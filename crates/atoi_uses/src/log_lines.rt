@@ -7,6 +7,8 @@ ghost use Rattle.atoi_uses.specs.LogLines.{columns_of, HasTotal, Refuses};
 use crate::totals::column_total;
 use atoi_column::ColumnError;
 use atoi_column::laws::items_decide;
+use std::error::Error;
+use std::fmt;
 
 /// Why the columns of a log line have no total of 64 bits.
 #[derive(Clone, Copy, Debug, PartialEq, Eq)]
@@ -22,6 +24,24 @@ pub enum LogError {
     /// Every field is a number, and this sum of them is above the greatest `u64`.
     TooLarge(u128),
 }
+
+impl fmt::Display for LogError {
+    ghost use Rattle.std.specs.Prelude.{Some};
+    ghost use Rattle.atoi_uses.specs.LogLines.{error_text};
+
+    ghost output = { λ error. Some (error_text error) };
+
+    fn fmt<W: fmt::Write>(&self, f: &mut fmt::Formatter<W>) -> fmt::Result {
+        match *self {
+            LogError::BadField { index, place } => {
+                write!(f, "field {index} is no number, at byte {place}")
+            }
+            LogError::TooLarge(total) => write!(f, "the total {total} is too large"),
+        }
+    }
+}
+
+impl Error for LogError {}
 
 /// The sum of the numbers after the last space of `line`, between commas; of all of `line` where it
 /// has no space. A comma may stand after the last number too. The sum of no numbers is 0.
@@ -75,6 +95,8 @@ fn columns(line: &[u8]) -> &[u8]
 #[cfg(test)]
 mod tests {
     use super::*;
+    use std::alloc::{AllocError, Global};
+    use std::test::Fail;
 
     fn refused_at(index: usize, place: usize) -> Result<u64, LogError> {
         Err(LogError::BadField { index, place })
@@ -109,6 +131,28 @@ mod tests {
         );
         assert_eq!(rt; columns_total(b"a 1,,2"), refused_at(1, 4));
         assert_eq!(rt; columns_total(b"2026-11-22T10:00:00"), refused_at(0, 4));
+    }
+
+    // The text of an error of which no more is known.
+    fn printed<E: Error>(alloc: Global, error: &E) -> Result<String, AllocError> {
+        format!(in alloc; "{error}")
+    }
+
+    #[test]
+    fn errors_print(rt: HostRuntime) -> Result<(), Fail> {
+        let bad = LogError::BadField {
+            index: 1,
+            place: 24,
+        };
+        assert_eq!(rt;
+            printed(rt.alloc(), &bad)?.as_str(),
+            "field 1 is no number, at byte 24"
+        );
+        assert_eq!(rt;
+            printed(rt.alloc(), &LogError::TooLarge(18446744073709551616))?.as_str(),
+            "the total 18446744073709551616 is too large"
+        );
+        Ok(())
     }
 
     #[test]

@@ -1,5 +1,5 @@
-//! A reader of settings, each a letter, `=` and a number. It uses `atoi_simd::parse_prefix`: the
-//! count tells where the rest begins.
+//! A reader of settings, each a key of one byte, `=` and a number. It uses
+//! `atoi_simd::parse_prefix`, whose count says where the rest begins.
 ghost use Rattle.std.specs.Prelude.{◌≡◌, ◌++◌, ℕ, List, ◌∷◌, true, IfOk, IfErr, IfSome, IfNone, IsErr, Ok, Err, take, drop, codes};
 ghost use Rattle.atoi_core.specs.Answer.{parse_prefix_answer};
 ghost use Rattle.atoi_core.specs.Kinds.{i64_kind};
@@ -7,8 +7,7 @@ ghost use Rattle.atoi_core.specs.Refusal.{refusal_of};
 
 use atoi_simd::{AtoiSimdError, parse_prefix};
 
-/// The number at the front of `text`, with its sign and any number of zeros, and what stands behind
-/// it.
+/// The number that `text` begins with, which may have a sign and leading zeros, and what follows it.
 ///
 /// # Errors
 ///
@@ -24,23 +23,23 @@ pub fn number_and_rest(text: &[u8]) -> Result<(i64, &[u8]), AtoiSimdError<'_>>
     Ok((number, &text[count..]))
 }
 
-/// The letter and the number of the setting that `line` begins with, and what stands after it: of
-/// `w=+12px` these are `w`, 12 and `px`.
+/// The key and the number of the setting that `line` begins with, and what follows it: for
+/// `w=+12px` these are `w`, 12 and `px`. The key is any one byte.
 //
-// A key is one letter: a cut by `strip_prefix` left goals that needed a proof by hand.
+// A key of one byte needs no proof by hand; a cut by `strip_prefix` left goals that did.
 pub fn setting(line: &[u8]) -> Option<(u8, i64, &[u8])>
     ensures some { IfSome result (λ found. (count : ℕ)
         × (take 2 line.now ≡ found.0 ∷ codes "=")
         × (parse_prefix_answer i64_kind true true (drop 2 line.now) ≡ Ok (found.1, count))
         × (found.2.now ≡ drop count (drop 2 line.now))) }
-    ensures none { IfNone result ((letter : ℕ) (text : List ℕ) → line.now ≡ letter ∷ codes "=" ++ text
+    ensures none { IfNone result ((key : ℕ) (text : List ℕ) → line.now ≡ key ∷ codes "=" ++ text
         → IsErr (parse_prefix_answer i64_kind true true text)) }
 {
-    let [letter, b'=', text @ ..] = line else {
+    let [key, b'=', text @ ..] = line else {
         return None;
     };
     match number_and_rest(text) {
-        Ok((number, rest)) => Some((*letter, number, rest)),
+        Ok((number, rest)) => Some((*key, number, rest)),
         Err(_) => None,
     }
 }

@@ -1,11 +1,12 @@
 //! The total of a column of numbers: one a line, or between other separators. It uses
 //! `atoi_column::Column`, whose contract names the items, and a law of `atoi_column`.
-ghost use Rattle.std.specs.Prelude.{◌≡◌, ◌≤◌, ◌++◌, ℕ, true, List, [], ◌∷◌, length, pos, Ok, Err, IfOk, IfErr, map, sum};
+ghost use Rattle.std.specs.Prelude.{◌≡◌, ◌<◌, ◌≤◌, ◌++◌, ℕ, true, List, [], ◌∷◌, length, pos, Ok, Err, IfOk, IfErr, map, sum};
 ghost use Rattle.atoi_core.specs.Kinds.{u64_kind};
 ghost use Rattle.atoi_column.specs.Fields.{is_separator};
-ghost use Rattle.atoi_column.specs.Items.{flaw_of, items_of, place_of};
+ghost use Rattle.atoi_column.specs.Items.{flaw_of, index_of, items_of, place_of};
+ghost use Rattle.atoi_column.specs.Laws.{IsFirstBad};
 
-use atoi_column::laws::texts_and_items;
+use atoi_column::laws::{items_decide, items_in_turn};
 use atoi_column::{Column, ColumnError};
 
 const NEWLINE: u8 = b'\n';
@@ -14,14 +15,19 @@ const NEWLINE: u8 = b'\n';
 ///
 /// # Errors
 ///
-/// Why the first line that is no number is refused: the error tells its number, and a place.
+/// Why the first line that is no number is refused: the error holds the index of the line, from 0,
+/// and the place of a byte.
 pub fn total(lines: &[u8]) -> Result<u128, ColumnError<'_>>
     ensures all { IfOk result (λ total. (numbers : List ℕ)
-        × (items_of u64_kind NEWLINE lines.now ≡ map (λ number. Ok (pos number)) numbers)
+        × (items_of u64_kind NEWLINE lines.now ≡ map Ok (map pos numbers))
         × (total ≡ sum numbers)) }
     ensures refused { IfErr result (λ error. (numbers : List ℕ)
         × (items_of u64_kind NEWLINE lines.now
-        ≡ map (λ number. Ok (pos number)) numbers ++ Err (flaw_of error) ∷ [])) }
+        ≡ map Ok (map pos numbers) ++ Err (flaw_of error) ∷ [])) }
+    ensures first_bad { IfErr result (λ error. IsFirstBad u64_kind NEWLINE lines.now
+        (index_of (flaw_of error)) (place_of (flaw_of error))) }
+    ensures inside { IfErr result (λ error. (place_of (flaw_of error) ≤ length lines.now)
+        × (index_of (flaw_of error) < length lines.now)) }
 {
     column_total(lines, NEWLINE)
 }
@@ -30,20 +36,24 @@ pub fn total(lines: &[u8]) -> Result<u128, ColumnError<'_>>
 ///
 /// # Errors
 ///
-/// Why the first field that is no number is refused: the error tells its number, and a place in
-/// `input`.
+/// Why the first field that is no number is refused: the error holds the index of the field, from
+/// 0, and the place of a byte in `input`.
 pub fn column_total(input: &[u8], separator: u8) -> Result<u128, ColumnError<'_>>
     requires { is_separator separator ≡ true }
     ensures all { IfOk result (λ total. (numbers : List ℕ)
-        × (items_of u64_kind separator input.now ≡ map (λ number. Ok (pos number)) numbers)
+        × (items_of u64_kind separator input.now ≡ map Ok (map pos numbers))
         × (total ≡ sum numbers)) }
     ensures refused { IfErr result (λ error. (numbers : List ℕ)
         × (items_of u64_kind separator input.now
-        ≡ map (λ number. Ok (pos number)) numbers ++ Err (flaw_of error) ∷ [])) }
-    ensures inside { IfErr result (λ error. place_of (flaw_of error) ≤ length input.now) }
+        ≡ map Ok (map pos numbers) ++ Err (flaw_of error) ∷ [])) }
+    ensures first_bad { IfErr result (λ error. IsFirstBad u64_kind separator input.now
+        (index_of (flaw_of error)) (place_of (flaw_of error))) }
+    ensures inside { IfErr result (λ error. (place_of (flaw_of error) ≤ length input.now)
+        × (index_of (flaw_of error) < length input.now)) }
 {
-    // The law that nothing stands behind an error. The call does nothing.
-    texts_and_items::<u64>();
+    // The laws of reading items in turn, and of what they say of the fields. The calls do nothing.
+    items_in_turn();
+    items_decide::<u64>();
     let mut total = 0;
     for item in Column::<u64>::new(input, separator) {
         match item {

@@ -56,7 +56,7 @@ fn part(text: &[u8]) -> Option<(u32, &[u8])>
 }
 
 // What stands after the dot that `text` begins with.
-fn after_dot(text: &[u8]) -> Option<&[u8]>
+pub(crate) fn after_dot(text: &[u8]) -> Option<&[u8]>
     ensures some { IfSome result (λ rest. text.now ≡ dot ∷ rest.now) }
     ensures none { IfNone result ((rest : List ℕ) → ¬ (text.now ≡ dot ∷ rest)) }
 {

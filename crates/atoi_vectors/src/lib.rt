@@ -11,6 +11,8 @@ mod core_calls;
 mod decimal_texts;
 pub mod differences;
 #[cfg(test)]
+mod error_texts;
+#[cfg(test)]
 mod every_byte;
 #[cfg(test)]
 mod kernels;

@@ -1,4 +1,4 @@
-//! The static libraries: a copy of the three crates, with the exports beside them, in a folder out
+//! The static libraries: a copy of the four crates, with the exports beside them, in a folder out
 //! of the repository, since the gate refuses a Rattle file that no crate of it owns.
 
 use std::env;
@@ -7,12 +7,15 @@ use std::fs;
 use std::path::{Path, PathBuf};
 use std::process::Command;
 
-const LIBRARIES: [&str; 3] = ["atoi_core", "atoi_lanes", "atoi_simd"];
+const LIBRARIES: [&str; 4] = ["atoi_core", "atoi_lanes", "atoi_simd", "atoi_column"];
+const EXPORTS: [&str; 3] = ["atoi_ask", "atoi_timed", "atoi_summed"];
 const CRATES: &str = "atoi_core:
 atoi_lanes: atoi_core
 atoi_simd: atoi_core atoi_lanes
+atoi_column: atoi_core atoi_simd
 atoi_ask staticlib: atoi_core atoi_simd
 atoi_timed staticlib: atoi_simd
+atoi_summed staticlib: atoi_column
 ";
 
 /// The top of this repository, which has `crates.txt`.
@@ -25,14 +28,14 @@ pub fn repository() -> PathBuf {
         .to_path_buf()
 }
 
-/// Builds two static libraries into `out` and has cargo link them: that of `diff/exports`, and one
-/// whose text is `timed`. They are two so that LLVM puts as much in line in the timed calls as it
-/// does for a caller of few of them. The first time it proves the libraries under them, unless
-/// `rt check` or `rt lib` has done so in the repository.
-pub fn build(repository: &Path, timed: &str, out: &Path) {
+/// Builds three static libraries into `out` and has cargo link them: that of `diff/exports`, one
+/// whose text is `timed`, and one whose text is `summed`. They are separate so that LLVM inlines as
+/// much into the timed calls as it does for a caller of few of them. The first time it proves the
+/// libraries under them, unless `rt check` or `rt lib` has done so in the repository.
+pub fn build(repository: &Path, timed: &str, summed: &str, out: &Path) {
     let work = work_folder(repository);
     let crates = work.join("crates");
-    for name in ["atoi_ask", "atoi_timed"] {
+    for name in EXPORTS {
         fs::create_dir_all(crates.join(name).join("src")).expect("a crate's folder is made");
     }
     fs::write(work.join("crates.txt"), CRATES).expect("crates.txt is written");
@@ -41,12 +44,13 @@ pub fn build(repository: &Path, timed: &str, out: &Path) {
     }
     copy_exports(&repository.join("diff/exports"), &crates.join("atoi_ask/src"));
     fs::write(crates.join("atoi_timed/src/lib.rt"), timed).expect("the timed calls are written");
+    fs::write(crates.join("atoi_summed/src/lib.rt"), summed).expect("the columns are written");
 
     println!("cargo::rerun-if-env-changed=DIFF_CPU");
     let cpu = env::var("DIFF_CPU").unwrap_or_else(|_| String::from("x86-64-v2"));
     println!("cargo::rustc-env=DIFF_CPU={cpu}");
     println!("cargo::rustc-link-search=native={}", out.display());
-    for name in ["atoi_ask", "atoi_timed"] {
+    for name in EXPORTS {
         link(&crates.join(name), name, &cpu, out);
     }
 }

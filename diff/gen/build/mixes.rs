@@ -16,14 +16,17 @@ pub struct Mix {
     digits: String,
 }
 
-/// The lines of the file, but for comments.
+/// The words of each line of a table, except comments.
+pub fn words(text: &str) -> impl Iterator<Item = Vec<&str>> {
+    text.lines().filter(|line| !line.starts_with('#')).map(|line| line.split_whitespace().collect())
+}
+
+/// The lines of the file, except comments.
 pub fn read(text: &str) -> Vec<Mix> {
-    text.lines()
-        .filter(|line| !line.starts_with('#'))
-        .map(|line| {
-            let words: Vec<&str> = line.split_whitespace().collect();
+    words(text)
+        .map(|words| {
             let &[call, integer, flags, digits] = words.as_slice() else {
-                panic!("diff/mixes.txt: a line is CALL TYPE FLAGS DIGITS, and not {line}");
+                panic!("diff/mixes.txt: a line is CALL TYPE FLAGS DIGITS, and not {words:?}");
             };
             Mix {
                 call: call.to_string(),
@@ -133,8 +136,8 @@ pub extern "C" fn {name}(text: &[u8; 96], length: usize) -> u64
     }
 }
 
-// The low 64 bits of `value` in Rattle.
-fn low_bits(integer: &str) -> &'static str {
+/// The low 64 bits of `value` in Rattle.
+pub fn low_bits(integer: &str) -> &'static str {
     match integer {
         "u8" | "u16" | "u32" => "u64::from(value)",
         "i8" | "i16" | "i32" => "u64::from(value.cast_unsigned())",
@@ -144,6 +147,6 @@ fn low_bits(integer: &str) -> &'static str {
         "isize" => "value.cast_unsigned() as u64",
         "u128" => "(value & 0xFFFF_FFFF_FFFF_FFFF) as u64",
         "i128" => "(value.cast_unsigned() & 0xFFFF_FFFF_FFFF_FFFF) as u64",
-        _ => panic!("diff/mixes.txt: {integer} is no type"),
+        _ => panic!("{integer} is no type"),
     }
 }

@@ -9,7 +9,9 @@
 
 mod answer;
 mod chart;
+mod columns;
 mod compare;
+mod numbers;
 #[cfg(feature = "original")]
 mod original;
 mod question;
@@ -19,6 +21,7 @@ mod standard;
 mod texts;
 mod times;
 
+use columns::ColumnTimes;
 use compare::Counts;
 use std::env;
 use std::fs;
@@ -78,15 +81,20 @@ fn run(arguments: &Arguments) -> Result<bool, String> {
     println!("seed {}, {} texts", arguments.seed, arguments.texts);
     let counts = compare::compare(arguments.seed, arguments.texts);
     print_counts(&counts);
-    let times = if arguments.is_timed { times::time(arguments.seed) } else { Vec::new() };
+    let mut times = Vec::new();
+    let mut columns = Vec::new();
     if arguments.is_timed {
+        columns = columns::time(arguments.seed);
+        print_columns(&columns);
+        times = times::time(arguments.seed);
         print_times(&times);
         fs::write(&arguments.chart, chart::chart(&times))
             .map_err(|error| format!("{}: {error}", arguments.chart))?;
         println!("drawn in {}", arguments.chart);
     }
-    let unlike = times.iter().filter(|times| !times.is_alike).count() as u64;
-    let differences = counts.differences() + unlike;
+    let unlike = times.iter().filter(|times| !times.is_alike).count()
+        + columns.iter().filter(|times| !times.is_alike).count();
+    let differences = counts.differences() + unlike as u64;
     print_result(&counts, differences, &times);
     Ok(differences == 0)
 }
@@ -120,6 +128,25 @@ fn print_counts(counts: &Counts) {
     #[cfg(feature = "original")]
     if !original::IS_PORTABLE {
         println!("    the crate is built with vector instructions, so it may answer otherwise");
+    }
+}
+
+// Each column's time, and its ratio to that of each other side, whose times follow in brackets.
+fn print_columns(times: &[ColumnTimes]) {
+    println!("columns, ours built for {}; nanoseconds a field", env!("DIFF_CPU"));
+    for row in times {
+        print!("{:4} {:6} {:5.1}", row.shape.integer, row.shape.digits, row.column);
+        for other in row.others {
+            print!("   {:.2} ({other:5.1})", row.column / other);
+        }
+        println!("{}", if row.is_alike { "" } else { "  ANSWERS DIFFER" });
+    }
+    let sides = times.first().map_or(0, |row| row.others.len());
+    for (side, name) in columns::NAMES.iter().take(sides).enumerate() {
+        let ratios = times.iter().map(|row| row.column / row.others[side]);
+        let (mean, worst) = times::mean_and_worst(ratios.clone());
+        let best = ratios.fold(f64::INFINITY, f64::min);
+        println!("    {best:.2} to {worst:.2} of {name}, mean {mean:.2}");
     }
 }
 

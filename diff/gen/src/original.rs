@@ -6,7 +6,7 @@
 use crate::answer::{Answer, RawAnswer};
 use crate::question::{Call, Integer, Question};
 use crate::rules;
-use crate::standard::{Bits, ERROR};
+use crate::standard::{Bits, ERROR, sum_of};
 use atoi_simd::{AtoiSimdError, Parse, ParseNeg};
 
 /// Whether the crate is built without the vector instructions that it would choose: then it answers
@@ -166,4 +166,23 @@ pub fn whole<T: Bits>(parsed: Result<T, AtoiSimdError<'_>>) -> u64 {
 /// A prefix of the crate, as the timed exports answer it.
 pub fn prefix<T: Bits>(parsed: Result<(T, usize), AtoiSimdError<'_>>) -> u64 {
     parsed.map_or(ERROR, |(value, count)| value.low_bits().wrapping_add(count as u64))
+}
+
+/// The sum of a column's fields, which commas separate, by `split` and the crate's `parse`.
+pub fn split<T: Parse + Bits>(text: &[u8]) -> u64 {
+    sum_of(text.split(|byte| *byte == b','), |field| atoi_simd::parse::<T, true, true>(field).ok())
+}
+
+/// The sum of a column's fields, which commas separate, by a loop of the crate's `parse_prefix`.
+pub fn prefixes<T: Parse + Bits>(mut text: &[u8]) -> u64 {
+    let mut sum = 0_u64;
+    while let Ok((value, count)) = atoi_simd::parse_prefix::<T, true, true>(text) {
+        sum = sum.wrapping_add(value.low_bits());
+        match &text[count..] {
+            [] => return sum,
+            [b',', rest @ ..] => text = rest,
+            _ => return ERROR,
+        }
+    }
+    ERROR
 }

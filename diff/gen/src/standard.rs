@@ -44,6 +44,44 @@ pub fn prefix<T: FromStr + Bits>(text: &[u8; 96], length: usize) -> u64 {
     parsed::<T>(&text[..count]).map_or(ERROR, |value| value.low_bits().wrapping_add(count as u64))
 }
 
+/// The sum of a column's fields, which commas separate, by `split` and `str::parse`.
+pub fn split<T: FromStr + Bits>(text: &[u8]) -> u64 {
+    sum_of(text.split(|byte| *byte == b','), parsed::<T>)
+}
+
+/// The sum of the values of all fields, as the timed columns return it.
+pub fn sum_of<'a, T: Bits>(
+    mut fields: impl Iterator<Item = &'a [u8]>,
+    parsed: impl Fn(&[u8]) -> Option<T>,
+) -> u64 {
+    let added = |sum: u64, field| Some(sum.wrapping_add(parsed(field)?.low_bits()));
+    fields.try_fold(0, added).unwrap_or(ERROR)
+}
+
+/// The sum of a column's fields by a loop over its bytes that checks nothing: it takes each byte
+/// that is no comma for a digit, or for a sign if it is a minus, and values may be out of range.
+pub fn unchecked<T: Bits, const SIGNED: bool>(text: &[u8]) -> u64 {
+    let low_bits = |magnitude: u64, minus: bool| {
+        let value = if minus { magnitude.wrapping_neg() } else { magnitude };
+        value & (u64::MAX >> 64_usize.saturating_sub(8 * size_of::<T>()))
+    };
+    let (mut sum, mut magnitude, mut minus) = (0_u64, 0_u64, false);
+    for &byte in text {
+        match byte {
+            b',' => {
+                sum = sum.wrapping_add(low_bits(magnitude, minus));
+                (magnitude, minus) = (0, false);
+            }
+            b'-' if SIGNED => minus = true,
+            digit => {
+                let value = u64::from(digit.wrapping_sub(b'0'));
+                magnitude = magnitude.wrapping_mul(10).wrapping_add(value);
+            }
+        }
+    }
+    sum.wrapping_add(low_bits(magnitude, minus))
+}
+
 /// What a timed export answers of an error.
 pub const ERROR: u64 = 0x8000_0000_0000_0001;
 

@@ -1,5 +1,6 @@
 //! Times on mixes of lengths: the length changes from one call to the next, as it does for users.
 
+use crate::numbers::push_number;
 #[cfg(feature = "original")]
 use crate::original;
 use crate::random::Random;
@@ -36,19 +37,6 @@ impl Mix {
     /// Whether whole texts are read, and not the numbers at their front.
     pub fn is_whole(&self) -> bool {
         self.call == "parse"
-    }
-
-    // How many digits the next number has.
-    fn digits(&self, random: &mut Random) -> usize {
-        let number = |text: &str| -> usize { text.parse().expect("digits are numbers") };
-        if self.digits == "log" {
-            (1..10).find(|_| random.one_in(2)).unwrap_or(10)
-        } else if let Some((least, most)) = self.digits.split_once('-') {
-            number(least) + random.below(number(most) - number(least) + 1)
-        } else {
-            let all: Vec<&str> = self.digits.split('|').collect();
-            number(random.pick(&all))
-        }
     }
 }
 
@@ -108,13 +96,7 @@ impl Rows {
         let has_minus = mix.integer.starts_with('i') && mix.call != "prefix_pos";
         let row = |_| {
             let mut text = Vec::with_capacity(ROOM);
-            if has_minus && random.one_in(2) {
-                text.push(b'-');
-            }
-            text.push(b'1');
-            for _ in 1..mix.digits(random) {
-                text.push(random.digit());
-            }
+            push_number(random, mix.digits, has_minus, &mut text);
             if !mix.is_whole() {
                 text.extend_from_slice(b",0123456789012345");
             }

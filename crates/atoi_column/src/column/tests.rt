@@ -3,10 +3,11 @@
 
 use super::Column;
 use crate::error::ColumnError;
-use crate::laws::{items_decide, texts_and_items};
+use crate::laws::{items_decide, items_in_turn, texts_and_items};
 use crate::separator::is_separator;
 use atoi_simd::AtoiSimdError;
 use std::alloc::{AllocError, Global};
+use std::error::Error;
 use std::test::Fail;
 
 // Of a field that begins at `place` and has no number.
@@ -71,6 +72,7 @@ fn a_byte_behind_a_number_is_told_by_its_place(rt: HostRuntime) {
 #[test]
 fn an_error_has_the_number_and_the_place_of_its_field(rt: HostRuntime) {
     items_decide::<i8>();
+    items_in_turn();
     let trailing = ColumnError::Trailing { index: 1, place: 7 };
     assert_eq!(rt;
         Column::<i8>::new(b"-128,12a", b',').nth(1),
@@ -84,6 +86,30 @@ fn an_error_has_the_number_and_the_place_of_its_field(rt: HostRuntime) {
     };
     assert_eq!(rt; Column::<i8>::new(b"1,22,x", b',').nth(2), Some(Err(field)));
     assert_eq!(rt; (field.index(), field.place()), (2, 5));
+}
+
+// The text of an error of which no more is known.
+fn printed<E: Error>(alloc: Global, error: &E) -> Result<String, AllocError> {
+    format!(in alloc; "{error}")
+}
+
+#[test]
+fn an_error_prints_its_index_place_and_cause(rt: HostRuntime) -> Result<(), Fail> {
+    let trailing = ColumnError::Trailing { index: 1, place: 7 };
+    assert_eq!(rt;
+        printed(rt.alloc(), &trailing)?.as_str(),
+        "field 1 goes on after its number, at byte 7"
+    );
+    let field = ColumnError::Field {
+        index: 2,
+        place: 5,
+        cause: AtoiSimdError::Overflow(b"256"),
+    };
+    assert_eq!(rt;
+        printed(rt.alloc(), &field)?.as_str(),
+        "field 2 at byte 5 is no number: atoi_simd overflow, input: [32, 35, 36]"
+    );
+    Ok(())
 }
 
 #[test]

@@ -8,11 +8,20 @@ use crate::source::FromReader;
 use crate::status::ToolError;
 use std::alloc::{AllocError, Global};
 use std::io::ErrorKind;
+use std::marker::PhantomData;
 use std::process::{Abort, ExitCode, Termination};
 use std::test::Fail;
 
+// The end of a run, between no streams.
+fn ended(outcome: Result<bool, ToolError>) -> Ended<(), ()> {
+    Ended {
+        outcome,
+        streams: PhantomData,
+    }
+}
+
 // That the program ends with a status and a line on the standard error.
-fn check_end(rt: &impl Abort, alloc: Global, ended: Ended, number: u8, line: &[u8]) {
+fn check_end<I, O>(rt: &impl Abort, alloc: Global, ended: Ended<I, O>, number: u8, line: &[u8]) {
     let errors = Errors::new(alloc, 1);
     let status = ended.report(&errors);
     assert_eq!(rt; status, ExitCode::from(number));
@@ -25,7 +34,7 @@ fn check_end(rt: &impl Abort, alloc: Global, ended: Ended, number: u8, line: &[u
 fn a_fault_is_told_once(rt: HostRuntime) {
     let outcome = Err(ToolError::Write);
     let errors = Errors::new(rt.alloc(), 2);
-    let status = Ended { outcome }.report(&errors);
+    let status = ended(outcome).report(&errors);
     assert_eq!(rt; status, ExitCode::from(5));
     assert_eq!(rt; errors.calls.get(), 1);
 }
@@ -44,7 +53,7 @@ fn a_fault_is_told_on_one_line(rt: HostRuntime) {
         ),
     ];
     for (outcome, number, line) in ends {
-        check_end(&rt, rt.alloc(), Ended { outcome }, number, line);
+        check_end(&rt, rt.alloc(), ended(outcome), number, line);
     }
 }
 

@@ -19,4 +19,4 @@ pub returns-then-first-lt16-clause-loads : goal.returns-then-first-lt16-clause-l
 returns-then-first-lt16-clause-loads g c =
     let so = Skipped-first g.E.Engine.table g.met.E.Engine.below_ten c.args.skip c.args.s.now _ _ c.window-first.result
     c.window-first.ensures.window c.window-first.ensures.one_step (omega arith) in
-    Skipped-loads _ _ _ _ _ _ _ _ _ so 0 (omega arith) (omega arith)
+    Skipped-loads so 0 (omega arith) (omega arith) (omega arith)

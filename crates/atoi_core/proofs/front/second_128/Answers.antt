@@ -10,14 +10,14 @@ use Rattle.atoi_core.proofs.front.second_128.Goals as goal
 pub slice_bounds-window-start : goal.slice_bounds-window-start
 slice_bounds-window-start g c =
     let tell = shows g.E.Engine.table g.met.E.Engine.below_ten 16 c.args.s.now c.args.first c.requires.told in
-    omega (arith, tell.reads.inside, prefix_len-le-length (is_digit g.E.Engine.table) c.args.s.now)
+    omega (arith, tell.len_is, prefix_len-le-length (is_digit g.E.Engine.table) c.args.s.now)
 
 pub returns-then-second-lt16-clause-answer : goal.returns-then-second-lt16-clause-answer
 returns-then-second-lt16-clause-answer g c bound digits =
     let s = c.args.s.now in
     let so = Skipped-at_once g.E.Engine.table g.met.E.Engine.below_ten c.args.skip s 0 1 c.args.first c.requires.told refl c.then-not-skip.either in
     let second = shows_rest g.E.Engine.table g.met.E.Engine.below_ten 16 s 16 c.window-second.result c.window-second.ensures.window in
-    answers_two _ bound _ _ 0 _ _ _ _ _ _ so (omega arith) second (omega arith) digits (cc) (omega arith)
+    answers_two _ g.met.E.Engine.below_ten bound _ _ 0 _ _ _ _ _ _ so (omega arith) second (omega arith) digits (cc) (omega arith)
 
 pub returns-else-second-lt16-clause-open : goal.returns-else-second-lt16-clause-open
 returns-else-second-lt16-clause-open g c none off =

@@ -36,6 +36,7 @@ pub returns-clause-loads : goal.returns-clause-loads
 returns-clause-loads g c =
     record {
       at_most = omega (arith, (ended g c).most);
+      at_most_unskipped = λ off. absurd (cc off);
       at_least = λ _. omega (arith, (ended g c).more);
       at_least_skipping = λ _. omega (arith, (ended g c).least refl);
     }

@@ -1,15 +1,15 @@
 -- The loop goes on after the zeros of the first window; the answers and the loads follow from where it ends.
-use Rattle.std.proofs.Common.{◌≡◌, ◌+◌, ◌-◌, ◌*◌, ◌^◌, ◌≤◌, ℕ, List, true, inr, refl, ap, ◌∙◌, arith, drop, length}
+use Rattle.std.proofs.Common.{◌≡◌, ◌+◌, ◌-◌, ◌≤◌, ℕ, List, true, inr, refl, ap, ◌∙◌, arith, drop, length}
 use Rattle.std.proofs.lemmas.List.{length-drop, take_rest}
 use Rattle.std.proofs.lemmas.List.Sums.{prefix_len-le-length}
 use Rattle.atoi_core.specs.Digit.{decimal_table, is_digit}
 use Rattle.atoi_core.specs.Window.{window_of}
 use Rattle.atoi_core.proofs.Digits.{decimal_below_ten}
 use Rattle.atoi_core.proofs.SkipLemmas.{Skipping-told, Skipping-more, Skipped, Skipped-end}
-use Rattle.atoi_core.proofs.WideLemmas.{answers_short, answers_full}
-use Rattle.atoi_core.proofs.WindowLemmas.{Reads, Shows, Shows-below, Reads-join, shows}
+use Rattle.atoi_core.proofs.WideLemmas.{answers_short, answers_64}
+use Rattle.atoi_core.proofs.WindowLemmas.{Shows, shows}
 use Rattle.atoi_core.proofs.word_engine.behind_zeros.Goals as goal
-use Rattle.atoi_core.proofs.word_engine.behind_zeros.Goals.{After-window-window, After-window_from_16}
+use Rattle.atoi_core.proofs.word_engine.behind_zeros.Goals.{After-window-window, After-window_from_16-back}
 
 pub loop-window-init : goal.loop-window-init
 loop-window-init c =
@@ -43,6 +43,7 @@ returns-then-front-lt16-clause-loads c =
     let so = ended (goal.at.returns-then-front-lt16-clause-loads c).After-window-window c.if-window-eq0.true in
     record {
       at_most = omega (arith, so.most);
+      at_most_unskipped = λ off. absurd (cc off);
       at_least = λ _. omega (arith, so.more);
       at_least_skipping = λ _. omega (arith, so.least refl);
     }
@@ -50,55 +51,44 @@ returns-then-front-lt16-clause-loads c =
 -- the slice has so many bytes
 long : (c : After-window-window) → 16 ≤ c.window-window.result.len → c.window-window.result.zeroes ≡ 0 → 16 ≤ length c.args.s.now - c.loop-window.at
 long c full none =
-    omega (arith, full, (ended c none).shown.reads.inside, prefix_len-le-length (is_digit decimal_table) (drop c.loop-window.at c.args.s.now), length-drop c.loop-window.at c.args.s.now)
+    omega (arith, full, (ended c none).shown.len_is, prefix_len-le-length (is_digit decimal_table) (drop c.loop-window.at c.args.s.now), length-drop c.loop-window.at c.args.s.now)
 
-pub window_from_16-requires : goal.window_from_16-requires
-window_from_16-requires c =
-    let at = (goal.at.window_from_16-requires c).After-window-window in
+pub window_from_16-back-requires : goal.window_from_16-back-requires
+window_from_16-back-requires c =
+    let at = (goal.at.window_from_16-back-requires c).After-window-window in
     rw (take_rest c.args.s.now c.loop-window.at, length-drop c.loop-window.at c.args.s.now) (long at c.if-front-lt16.false c.if-window-eq0.true)
 
 -- the eight bytes after it
-behind : (c : After-window_from_16) → Shows decimal_table 8 (drop 16 (drop c.loop-window.at c.args.s.now)) c.window_from_16.result
+behind : (c : After-window_from_16-back) → Shows decimal_table 8 (drop 16 (drop c.loop-window.at c.args.s.now)) c.window_from_16-back.result
 behind c =
-    shows decimal_table decimal_below_ten 8 (drop 16 (drop c.loop-window.at c.args.s.now)) c.window_from_16.result
-    (c.window_from_16.ensures.window ∙ ap (λ (r : List ℕ). window_of decimal_table 8 (drop 16 r)) (take_rest c.args.s.now c.loop-window.at))
+    shows decimal_table decimal_below_ten 8 (drop 16 (drop c.loop-window.at c.args.s.now)) c.window_from_16-back.result
+    (c.window_from_16-back.ensures.window ∙ ap (λ (r : List ℕ). window_of decimal_table 8 (drop 16 r)) (take_rest c.args.s.now c.loop-window.at))
 
--- what both read together
-read : (c : After-window_from_16) → 16 ≤ c.window-window.result.len
-    → Skipped decimal_table true c.args.s.now c.loop-window.at c.args.steps.now (c.window-window.new.steps + 1) c.window-window.result
-    → Reads decimal_table 24 (drop c.loop-window.at c.args.s.now) (16 + c.window_from_16.result.len)
-    (c.window-window.result.number * 10 ^ c.window_from_16.result.len + c.window_from_16.result.number)
-read c full so =
-    Reads-join decimal_table 16 8 (drop c.loop-window.at c.args.s.now) c.window-window.result c.window_from_16.result.len c.window_from_16.result.number
-    so.shown full (behind c).reads
+pub append_digits-number-requires : goal.append_digits-number-requires
+append_digits-number-requires c = omega (arith, (behind (goal.at.append_digits-number-requires c).After-window_from_16-back).len_is)
 
-pub answer_64-requires-clause-front_high : goal.answer_64-requires-clause-front_high
-answer_64-requires-clause-front_high c =
-    Shows-below _ _ _ _ (ended (goal.at.answer_64-requires-clause-front_high c).After-window-window c.if-window-eq0.true).shown
+pub overflow_add-back : goal.overflow_add-back
+overflow_add-back c = omega (arith, (behind (goal.at.overflow_add-back c).After-window_from_16-back).len_is)
 
-pub answer_64-requires-clause-back_short : goal.answer_64-requires-clause-back_short
-answer_64-requires-clause-back_short c = (behind (goal.at.answer_64-requires-clause-back_short c).After-window_from_16).reads.within
-
-pub answer_64-requires-clause-back_high : goal.answer_64-requires-clause-back_high
-answer_64-requires-clause-back_high c = (behind (goal.at.answer_64-requires-clause-back_high c).After-window_from_16).reads.below
-
-pub answer_64-requires-clause-inside : goal.answer_64-requires-clause-inside
-answer_64-requires-clause-inside c =
-    let both = (goal.at.answer_64-requires-clause-inside c).After-window_from_16 in
-    let so = ended (goal.at.answer_64-requires-clause-inside c).After-window-window c.if-window-eq0.true in
-    omega (arith, (read both c.if-front-lt16.false so).inside, so.within, prefix_len-le-length (is_digit decimal_table) (drop c.loop-window.at c.args.s.now), length-drop c.loop-window.at c.args.s.now)
+pub answer_64-requires : goal.answer_64-requires
+answer_64-requires c =
+    let back = behind (goal.at.answer_64-requires c).After-window_from_16-back in
+    let so = ended (goal.at.answer_64-requires c).After-window-window c.if-window-eq0.true in
+    record { inside = (answers_64 decimal_table c.args.bound c.args.limit true c.args.s.now _ _ _ _ _ (omega arith) so c.if-front-lt16.false back).0 }
 
 pub returns-clause-answer : goal.returns-clause-answer
 returns-clause-answer c =
-    let both = (goal.at.returns-clause-answer c).After-window_from_16 in
+    let back = behind (goal.at.returns-clause-answer c).After-window_from_16-back in
     let so = ended (goal.at.returns-clause-answer c).After-window-window c.if-window-eq0.true in
-    answers_full _ _ _ _ _ _ _ _ _ _ _ _ _ (omega arith) so c.if-front-lt16.false (read both c.if-front-lt16.false so) c.answer_64.ensures
+    rw c.append_digits-number.ensures at c.answer_64.ensures
+    ∙ (answers_64 decimal_table c.args.bound c.args.limit true c.args.s.now _ _ _ _ _ (omega arith) so c.if-front-lt16.false back).1
 
 pub returns-clause-loads : goal.returns-clause-loads
 returns-clause-loads c =
     let so = ended (goal.at.returns-clause-loads c).After-window-window c.if-window-eq0.true in
     record {
-      at_most = omega (arith, so.most, c.window_from_16.ensures.one_step);
-      at_least = λ _. omega (arith, so.more, c.window_from_16.ensures.one_step);
-      at_least_skipping = λ _. omega (arith, so.least refl, c.window_from_16.ensures.one_step);
+      at_most = omega (arith, so.most, c.window_from_16-back.ensures.one_step);
+      at_most_unskipped = λ off. absurd (cc off);
+      at_least = λ _. omega (arith, so.more, c.window_from_16-back.ensures.one_step);
+      at_least_skipping = λ _. omega (arith, so.least refl, c.window_from_16-back.ensures.one_step);
     }

@@ -31,7 +31,7 @@ returns-then-more-eq8 c =
     let all_zeros = zeros decimal_table (take 8 s ++ take 8 rest) in
     let eight : 8 ≡ more = sym c.if-more-eq8.true in
     let len : 16 ≡ 8 + more = omega arith in
-    let power : c.power_of_ten.result ≡ 10 ^ more = c.power_of_ten.ensures.value ∙ ap (λ (n : ℕ). 10 ^ n) eight in
+    let power : c.power_of_ten.result ≡ 10 ^ more = c.power_of_ten.ensures.power ∙ ap (λ (n : ℕ). 10 ^ n) eight in
     let whole : zeros decimal_table (low_bytes 8 first ++ low_bytes 8 next) ≡ all_zeros =
     ap₂ (λ xs ys. zeros decimal_table (xs ++ ys))
     (loaded_bytes s fits first c.requires.loaded (enough_bytes s full))
@@ -56,7 +56,7 @@ returns-else-more-eq8 c =
     let more_is : more ≡ run_len decimal_table (take 8 rest) = c.digits_of-more.ensures.len ∙ loaded_run rest behind next c.load_from-next.ensures in
     let all_zeros = zeros decimal_table (take 8 s ++ take 8 rest) in
     c.not_full.ensures
-    ∙ ap (λ (p : ℕ). let w : Window = record { len = 8 + more; zeroes = 0; number = c.value_of-else-more-eq8.result * p + c.number_of.result } in w) c.power_of_ten-else-more-eq8.ensures.value
+    ∙ ap (λ (p : ℕ). let w : Window = record { len = 8 + more; zeroes = 0; number = c.value_of-else-more-eq8.result * p + c.number_of.result } in w) c.power_of_ten-else-more-eq8.ensures.power
     ∙ window_joined s more 0 c.value_of-else-more-eq8.result c.number_of.result full more_is
     (sym (told_none more 8 all_zeros c.if-more-eq8.false))
     (c.value_of-else-more-eq8.ensures.sum ∙ loaded_sum s fits first 8 c.requires.loaded (sym c.requires.full))

@@ -1,21 +1,12 @@
-use Rattle.std.proofs.Common.{ℕ, leb, cond, bit_and, refl, ◌∙◌, arith}
-use Rattle.std.proofs.lemmas.Simd.{zip2_splat, zip2_splat_left, zip2_of_maps}
+use Rattle.std.proofs.Common.{◌∙◌, arith}
 use Rattle.std.proofs.lemmas.List.Sums.{prefix_len-le-length}
 use Rattle.atoi_core.specs.Digit.{decimal_table, is_digit}
 use Rattle.atoi_lanes.proofs.MaskLemmas.{ones-of_mask}
 use Rattle.atoi_lanes.proofs.kernels.len_lanes.Goals as goal
 
--- the mask of the lanes that pass a comparison
-abbrev mask : (ℕ → ℕ → ℕ)
-mask a b = cond (leb a b) 255 0
-
 pub returns-clause-len : goal.returns-clause-len
 returns-clause-len c =
-    let v = c.args.v in
-    let above = zip2_splat_left mask 48 16 v c.fits-v.0 in
-    let below = zip2_splat mask v 16 57 c.fits-v.0 in
-    c.trailing_ones.ensures
-    ∙ ones-of_mask (is_digit decimal_table) v _ _ (omega (arith, c.fits-v.0)) c.fits-v.1 (zip2_of_maps bit_and _ _ v above below) refl
+    c.trailing_ones.ensures ∙ ones-of_mask (is_digit decimal_table) c.args.v (omega (arith, c.fits-v.0)) _ c.digit_mask.ensures
 
 pub returns-clause-most : goal.returns-clause-most
 returns-clause-most c = omega (arith, returns-clause-len c, prefix_len-le-length (is_digit decimal_table) c.args.v)

@@ -20,6 +20,7 @@ returns-clause-loads c =
     let few = few-zeros law c.args.skip c.args.s.now w.len w.zeroes w.number told.reading (first-ends c.args.skip w.len w.zeroes (omega (arith, most.1)) c.else-skip.either) in
     record {
       at_most = omega (arith, told.one_step, c.ended_128.ensures.most, c.ended_128.ensures.least);
+      at_most_unskipped = λ _. omega (arith, told.one_step, c.ended_128.ensures.most, c.ended_128.ensures.least);
       at_least = λ _. omega (arith, told.one_step, c.ended_128.ensures.most, c.ended_128.ensures.least);
       at_least_skipping = λ on. omega (arith, few on, told.one_step, c.ended_128.ensures.most, c.ended_128.ensures.least);
     }

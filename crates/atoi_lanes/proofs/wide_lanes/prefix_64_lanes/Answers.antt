@@ -23,6 +23,7 @@ returns-then-s-lt16-clause-loads c =
     let step = c.window-only.ensures.one_step in
     record {
       at_most = omega (arith, step);
+      at_most_unskipped = λ _. omega (arith, step);
       at_least = λ _. omega (arith, step);
       at_least_skipping = λ _. omega (arith, few, c.if-s-lt16.true, step);
     }
@@ -44,6 +45,7 @@ returns-then-first-limit-clause-loads c =
     let few = few-zeros law c.args.skip c.args.s.now w.len w.zeroes w.number told.reading (λ _ full. absurd (omega (arith, c.requires.limit_high, c.if-first-limit.true))) in
     record {
       at_most = omega (arith, told.one_step);
+      at_most_unskipped = λ _. omega (arith, told.one_step);
       at_least = λ _. omega (arith, told.one_step);
       at_least_skipping = λ on. omega (arith, few on, told.one_step);
     }
@@ -65,6 +67,7 @@ returns-clause-loads c =
     let few = few-zeros law c.args.skip c.args.s.now w.len w.zeroes w.number told.reading (first-ends c.args.skip w.len w.zeroes (omega (arith, most.1)) c.else-skip.either) in
     record {
       at_most = omega (arith, told.one_step);
+      at_most_unskipped = λ _. omega (arith, told.one_step);
       at_least = λ _. omega (arith, told.one_step);
       at_least_skipping = λ on. omega (arith, few on, told.one_step);
     }

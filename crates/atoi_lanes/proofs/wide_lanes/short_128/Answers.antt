@@ -1,27 +1,17 @@
 -- What the window told decides.
-use Rattle.std.proofs.Common.{◌+◌, cond, sym, ap, ◌∙◌, arith, ne_eqb, lit<, Ok, Err}
-use Rattle.std.proofs.lemmas.Bool.{eq-eqb}
+use Rattle.std.proofs.Common.{sym, ◌∙◌, arith, lit<}
 use Rattle.std.proofs.lemmas.Bool.Decides.{nat_tests}
-use Rattle.atoi_core.specs.Digit.{IsBelowTen, decimal_table}
+use Rattle.atoi_core.specs.Digit.{decimal_table}
 use Rattle.atoi_core.specs.Magnitude.{wide128}
-use Rattle.atoi_core.specs.Refusal.{empty}
-use Rattle.atoi_lanes.proofs.DecidedLemmas.{decided_short}
+use Rattle.atoi_lanes.proofs.DecidedLemmas.{below_ten}
 use Rattle.atoi_lanes.proofs.wide_lanes.short_128.Goals as goal
-
--- no digit is worth more than nine
-below_ten : IsBelowTen decimal_table
-below_ten byte = grind (arith, nat_tests)
 
 pub returns-then-len-eq0 : goal.returns-then-len-eq0
 returns-then-len-eq0 c =
-    let at = c.args.front.at in
-    let w = c.args.front.window in
-    ap (λ b. cond b (Err empty) (Ok (w.number, at + w.len))) (sym (eq-eqb (at + w.len) 0 c.if-len-eq0.true))
-    ∙ (decided_short c.reading_decides.ensures below_ten wide128 c.args.bound 39 (lit< tt) c.requires.digits _ _ _ w c.requires.front c.requires.short (omega (arith, c.requires.short))).1
+    let r = c.requires in
+    grind (arith, nat_tests) ∙ sym (c.reading_decides.ensures.short decimal_table below_ten wide128 c.args.bound 39 (lit< tt) r.digits _ _ _ 32 _ _ _ r.front.skipped r.front.reading r.short (omega (arith, r.short))).1
 
 pub returns-else-len-eq0 : goal.returns-else-len-eq0
 returns-else-len-eq0 c =
-    let at = c.args.front.at in
-    let w = c.args.front.window in
-    ap (λ b. cond b (Err empty) (Ok (w.number, at + w.len))) (sym (ne_eqb (at + w.len) 0 c.if-len-eq0.false))
-    ∙ (decided_short c.reading_decides.ensures below_ten wide128 c.args.bound 39 (lit< tt) c.requires.digits _ _ _ w c.requires.front c.requires.short (omega (arith, c.requires.short))).1
+    let r = c.requires in
+    grind (arith, nat_tests) ∙ sym (c.reading_decides.ensures.short decimal_table below_ten wide128 c.args.bound 39 (lit< tt) r.digits _ _ _ 32 _ _ _ r.front.skipped r.front.reading r.short (omega (arith, r.short))).1

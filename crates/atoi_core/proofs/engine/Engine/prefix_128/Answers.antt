@@ -1,12 +1,12 @@
 -- The loop leaves what `Skipped` says; the answers and the loads follow from it.
-use Rattle.std.proofs.Common.{◌+◌, ◌*◌, ◌^◌, ◌≤◌, ap, refl, arith, lit<, length, drop}
-use Rattle.std.proofs.lemmas.List.{take_rest, length-drop}
+use Rattle.std.proofs.Common.{◌≤◌, ◌∙◌, ap, refl, arith, lit<, length, drop}
+use Rattle.std.proofs.lemmas.List.{take_rest}
 use Rattle.std.proofs.lemmas.List.Sums.{prefix_len-le-length}
 use Rattle.atoi_core.specs.Digit.{is_digit}
-use Rattle.atoi_core.specs.declared.window.Window.{Window}
-use Rattle.atoi_core.proofs.WindowLemmas.{Reads, Shows, Shows-below, Reads-join_two}
+use Rattle.atoi_core.proofs.RunLemmas.{prefix_len-drop}
+use Rattle.atoi_core.proofs.WindowLemmas.{Shows}
 use Rattle.atoi_core.proofs.SkipLemmas.{Skipping-none, Skipping-more, Skipped, Skipped-end, Skipped-loads, shows_behind}
-use Rattle.atoi_core.proofs.WideLemmas.{answers_empty, answers_short, answers_full, answers_two}
+use Rattle.atoi_core.proofs.WideLemmas.{answers_empty, answers_short, answers_two, answers_128}
 use Rattle.atoi_core.proofs.engine.Engine.prefix_128.Goals as goal
 use Rattle.atoi_core.proofs.engine.Engine.prefix_128.Goals.{After-window-second, After-window_8-third}
 
@@ -38,7 +38,7 @@ pub returns-else-len-eq0-clause-loads : goal.returns-else-len-eq0-clause-loads
 returns-else-len-eq0-clause-loads g c =
     let so = Skipped-end _ g.met.Self.Engine.below_ten _ _ _ _ _ _ c.window-next.result
     c.loop-next.invariant c.window-next.ensures.window c.window-next.ensures.one_step c.then-not-skip.either in
-    Skipped-loads _ _ _ _ _ _ _ _ _ so 0 (omega arith) (omega arith)
+    Skipped-loads so 0 (omega arith) (omega arith) (omega arith)
 
 -- where the loop ends, at a full window
 ended : (g : _) (c : After-window-second g)
@@ -57,31 +57,22 @@ third : (g : _) (c : After-window_8-third g) → Shows g.Self.Engine.table 8 (dr
 third g c =
     shows_behind g.Self.Engine.table g.met.Self.Engine.below_ten 8 32 c.args.s.now c.loop-next.at c.window_8-third.result c.window_8-third.ensures.window
 
--- what three windows read together
-read_three : (g : _) (c : After-window-second g) → 16 ≤ c.window-second.result.len
-    → (last : Window) → Shows g.Self.Engine.table 8 (drop 32 (drop c.loop-next.at c.args.s.now)) last
-    → Reads g.Self.Engine.table 40 (drop c.loop-next.at c.args.s.now) (32 + last.len)
-    (c.window-next.result.number * 10 ^ (16 + last.len) + (c.window-second.result.number * 10 ^ last.len + last.number))
-read_three g c more last back =
-    Reads-join_two g.Self.Engine.table (drop c.loop-next.at c.args.s.now) c.window-next.result c.window-second.result last.len last.number
-    (ended g c).shown c.if-first-lt16.false (middle g c) more back.reads
-
 pub returns-then-second-lt16-clause-answer : goal.returns-then-second-lt16-clause-answer
 returns-then-second-lt16-clause-answer g c =
     let two = (goal.at.returns-then-second-lt16-clause-answer g c).After-window-second in
-    answers_two _ _ _ _ _ _ _ _ _ _ _ (ended g two) c.if-first-lt16.false (middle g two) c.if-second-lt16.true c.requires.digits (cc) (omega arith)
+    answers_two _ g.met.Self.Engine.below_ten _ _ _ _ _ _ _ _ _ _ (ended g two) c.if-first-lt16.false (middle g two) c.if-second-lt16.true c.requires.digits (cc) (omega arith)
 
 pub returns-then-second-lt16-clause-loads : goal.returns-then-second-lt16-clause-loads
 returns-then-second-lt16-clause-loads g c =
-    Skipped-loads _ _ _ _ _ _ _ _ _ (ended g (goal.at.returns-then-second-lt16-clause-loads g c).After-window-second)
-    1 (omega (arith, c.window-second.ensures.one_step)) (omega arith)
+    Skipped-loads (ended g (goal.at.returns-then-second-lt16-clause-loads g c).After-window-second)
+    1 (omega (arith, c.window-second.ensures.one_step)) (omega arith) (omega arith)
 
 -- two full windows stand within the slice
 two_long : (g : _) (c : After-window-second g) → 16 ≤ c.window-second.result.len → 32 ≤ length (drop c.loop-next.at c.args.s.now)
 two_long g c more =
-    let front = (ended g c).shown in
-    let on = front.goes_on (omega (arith, front.reads.within)) in
-    omega (arith, on, (middle g c).reads.inside, prefix_len-le-length (is_digit g.Self.Engine.table) (drop c.loop-next.at c.args.s.now))
+    let body = drop c.loop-next.at c.args.s.now in
+    let first = prefix_len-drop (is_digit g.Self.Engine.table) 16 body (omega (arith, c.if-first-lt16.false, (ended g c).shown.len_is)) in
+    omega (arith, first, (middle g c).len_is, prefix_len-le-length (is_digit g.Self.Engine.table) body)
 
 pub slice_bounds-window_8-count : goal.slice_bounds-window_8-count
 slice_bounds-window_8-count g c =
@@ -96,25 +87,25 @@ slice_bounds-window_8-start g c =
 pub answer_128-requires : goal.answer_128-requires
 answer_128-requires g c =
     let at = goal.at.answer_128-requires g c in
-    let front = ended g at.After-window-second in
+    let two = at.After-window-second in
     let back = third g at.After-window_8-third in
-    let read = read_three g at.After-window-second c.if-second-lt16.false c.window_8-third.result back in
+    let all = answers_128 _ g.met.Self.Engine.below_ten c.args.bound _ _ _ _ _ _ _ _ (ended g two) c.if-first-lt16.false (middle g two) c.if-second-lt16.false back in
     record {
       digits = c.requires.digits;
-      first_high = Shows-below _ _ _ _ front.shown;
-      second_high = Shows-below _ _ _ _ (middle g at.After-window-second);
-      third_short = back.reads.within;
-      third_high = back.reads.below;
-      inside = omega (arith, read.inside, front.within, prefix_len-le-length (is_digit g.Self.Engine.table) (drop c.loop-next.at c.args.s.now), length-drop c.loop-next.at c.args.s.now);
+      few = omega (arith, back.len_is);
+      below = rw c.append_digits-high.ensures all.0;
+      inside = all.1;
     }
 
 pub returns-clause-answer : goal.returns-clause-answer
 returns-clause-answer g c =
     let at = goal.at.returns-clause-answer g c in
-    answers_full _ _ _ _ _ _ _ _ _ _ _ _ _ (lit< tt) (ended g at.After-window-second) c.if-first-lt16.false
-    (read_three g at.After-window-second c.if-second-lt16.false c.window_8-third.result (third g at.After-window_8-third)) c.answer_128.ensures
+    let two = at.After-window-second in
+    let back = third g at.After-window_8-third in
+    rw c.append_digits-high.ensures at c.answer_128.ensures
+    ∙ (answers_128 _ g.met.Self.Engine.below_ten c.args.bound _ _ _ _ _ _ _ _ (ended g two) c.if-first-lt16.false (middle g two) c.if-second-lt16.false back).2
 
 pub returns-clause-loads : goal.returns-clause-loads
 returns-clause-loads g c =
-    Skipped-loads _ _ _ _ _ _ _ _ _ (ended g (goal.at.returns-clause-loads g c).After-window-second)
-    2 (omega (arith, c.window-second.ensures.one_step, c.window_8-third.ensures.one_step)) (omega arith)
+    Skipped-loads (ended g (goal.at.returns-clause-loads g c).After-window-second)
+    2 (omega (arith, c.window-second.ensures.one_step, c.window_8-third.ensures.one_step)) (omega arith) (omega arith)

@@ -1,13 +1,10 @@
 -- The loop leaves what `Skipped` says; the answers and the loads follow from it.
-use Rattle.std.proofs.Common.{◌+◌, ◌-◌, ◌*◌, ◌^◌, refl, arith, drop}
-use Rattle.std.proofs.lemmas.List.{length-drop}
-use Rattle.std.proofs.lemmas.List.Sums.{prefix_len-le-length}
-use Rattle.atoi_core.specs.Digit.{is_digit}
-use Rattle.atoi_core.specs.Loads.{LoadsWithin, most_loads}
-use Rattle.atoi_core.specs.Magnitude.{wide64}
-use Rattle.atoi_core.proofs.WindowLemmas.{Reads, Shows, Shows-below, Reads-join}
+use Rattle.std.proofs.Common.{◌≡◌, ◌+◌, ◌*◌, ◌^◌, ◌≤◌, ◌∙◌, refl, arith, length, drop}
+use Rattle.atoi_core.specs.Magnitude.{wide64, prefix_magnitude}
+use Rattle.atoi_core.specs.Reading.{answer_by_digits}
+use Rattle.atoi_core.proofs.WindowLemmas.{Shows}
 use Rattle.atoi_core.proofs.SkipLemmas.{Skipping-none, Skipping-more, Skipped, Skipped-end, Skipped-loads, shows_behind}
-use Rattle.atoi_core.proofs.WideLemmas.{answers_empty, answers_short, answers_full}
+use Rattle.atoi_core.proofs.WideLemmas.{answers_empty, answers_short, answers_64}
 use Rattle.atoi_core.proofs.engine.Engine.prefix_64.Goals as goal
 use Rattle.atoi_core.proofs.engine.Engine.prefix_64.Goals.{After-window_8-back}
 
@@ -39,7 +36,7 @@ pub returns-else-len-eq0-clause-loads : goal.returns-else-len-eq0-clause-loads
 returns-else-len-eq0-clause-loads g c =
     let so = Skipped-end _ g.met.Self.Engine.below_ten _ _ _ _ _ _ c.window-window.result
     c.loop-window.invariant c.window-window.ensures.window c.window-window.ensures.one_step c.then-not-skip.either in
-    Skipped-loads _ _ _ _ _ _ _ _ _ so 0 (omega arith) (omega arith)
+    Skipped-loads so 0 (omega arith) (omega arith) (omega arith)
 
 -- where the loop ends, at a full window
 ended : (g : _) (c : After-window_8-back g)
@@ -53,36 +50,26 @@ behind : (g : _) (c : After-window_8-back g) → Shows g.Self.Engine.table 8 (dr
 behind g c =
     shows_behind g.Self.Engine.table g.met.Self.Engine.below_ten 8 16 c.args.s.now c.loop-window.at c.window_8-back.result c.window_8-back.ensures.window
 
--- what both read together
-read : (g : _) (c : After-window_8-back g)
-    → Reads g.Self.Engine.table 24 (drop c.loop-window.at c.args.s.now) (16 + c.window_8-back.result.len)
-    (c.window-window.result.number * 10 ^ c.window_8-back.result.len + c.window_8-back.result.number)
-read g c =
-    Reads-join g.Self.Engine.table 16 8 (drop c.loop-window.at c.args.s.now) c.window-window.result c.window_8-back.result.len c.window_8-back.result.number
-    (ended g c).shown c.if-front-lt16.false (behind g c).reads
+-- what both decide
+decided : (g : _) (c : After-window_8-back g) →
+    (c.loop-window.at + (16 + c.window_8-back.result.len) ≤ length c.args.s.now)
+    × (answer_by_digits wide64 c.args.bound c.args.limit c.loop-window.at (16 + c.window_8-back.result.len) (c.window-window.result.number * 10 ^ c.window_8-back.result.len + c.window_8-back.result.number) c.args.s.now
+    ≡ prefix_magnitude g.Self.Engine.table wide64 c.args.bound c.args.limit c.args.skip c.args.s.now)
+decided g c = answers_64 _ c.args.bound c.args.limit _ _ _ _ _ _ _ (omega arith) (ended g c) c.if-front-lt16.false (behind g c)
 
--- both are counted
-loads : (g : _) (c : After-window_8-back g)
-    → LoadsWithin (most_loads g.Self.Engine.table wide64 c.args.s.now - 1) g.Self.Engine.table c.args.skip c.args.s.now c.args.steps.now c.window_8-back.new.steps
-loads g c = Skipped-loads _ _ _ _ _ _ _ _ _ (ended g c) 1 (omega (arith, c.window_8-back.ensures.one_step)) (omega arith)
+pub append_digits-number-requires : goal.append_digits-number-requires
+append_digits-number-requires g c = omega (arith, (behind g (goal.at.append_digits-number-requires g c).After-window_8-back).len_is)
+
+pub overflow_add-back : goal.overflow_add-back
+overflow_add-back g c = omega (arith, (behind g (goal.at.overflow_add-back g c).After-window_8-back).len_is)
 
 pub answer_64-requires : goal.answer_64-requires
-answer_64-requires g c =
-    let both = (goal.at.answer_64-requires g c).After-window_8-back in
-    let front = ended g both in
-    let back = behind g both in
-    record {
-      digits = c.requires.digits;
-      front_high = Shows-below _ _ _ _ front.shown;
-      back_short = back.reads.within;
-      back_high = back.reads.below;
-      inside = omega (arith, (read g both).inside, front.within, prefix_len-le-length (is_digit g.Self.Engine.table) (drop c.loop-window.at c.args.s.now), length-drop c.loop-window.at c.args.s.now);
-    }
+answer_64-requires g c = record { inside = (decided g (goal.at.answer_64-requires g c).After-window_8-back).0 }
 
 pub returns-clause-answer : goal.returns-clause-answer
 returns-clause-answer g c =
-    let both = (goal.at.returns-clause-answer g c).After-window_8-back in
-    answers_full _ _ _ _ _ _ _ _ _ _ _ _ _ (omega arith) (ended g both) c.if-front-lt16.false (read g both) c.answer_64.ensures
+    rw c.append_digits-number.ensures at c.answer_64.ensures ∙ (decided g (goal.at.returns-clause-answer g c).After-window_8-back).1
 
 pub returns-clause-loads : goal.returns-clause-loads
-returns-clause-loads g c = loads g (goal.at.returns-clause-loads g c).After-window_8-back
+returns-clause-loads g c =
+    Skipped-loads (ended g (goal.at.returns-clause-loads g c).After-window_8-back) 1 (omega (arith, c.window_8-back.ensures.one_step)) (omega arith) (omega arith)

@@ -1,13 +1,13 @@
 -- A first window that tells no zeros to skip is the last one of those that skip; the answers follow from it.
-use Rattle.std.proofs.Common.{◌≡◌, ◌⊎◌, ◌+◌, ◌*◌, ◌^◌, ◌≤◌, true, false, inl, inr, refl, arith, drop}
+use Rattle.std.proofs.Common.{◌≡◌, ◌⊎◌, ◌≤◌, true, false, inl, inr, refl, ◌∙◌, arith, drop}
 use Rattle.std.proofs.lemmas.List.Sums.{prefix_len-le-length}
 use Rattle.atoi_core.specs.Digit.{decimal_table, is_digit}
 use Rattle.atoi_core.proofs.Digits.{decimal_below_ten}
 use Rattle.atoi_core.proofs.SkipLemmas.{Skipped, Skipped-at_once, Skipped-loads}
-use Rattle.atoi_core.proofs.WideLemmas.{answers_empty, answers_short, answers_full}
-use Rattle.atoi_core.proofs.WindowLemmas.{Reads, Shows, Shows-below, Reads-join, shows}
+use Rattle.atoi_core.proofs.WideLemmas.{answers_empty, answers_short, answers_64}
+use Rattle.atoi_core.proofs.WindowLemmas.{Shows, shows}
 use Rattle.atoi_core.proofs.word_engine.WordsEngine.prefix_64.Goals as goal
-use Rattle.atoi_core.proofs.word_engine.WordsEngine.prefix_64.Goals.{After-window-front, After-window_from_16}
+use Rattle.atoi_core.proofs.word_engine.WordsEngine.prefix_64.Goals.{After-window-front, After-window_from_16-back}
 
 -- no zeros to skip are told
 last : (c : After-window-front) → (c.args.skip ≡ true × c.window-front.result.zeroes ≤ 0) ⊎ (c.args.skip ≡ false)
@@ -29,48 +29,34 @@ returns-then-front-lt16-clause-answer c =
 pub returns-then-front-lt16-clause-loads : goal.returns-then-front-lt16-clause-loads
 returns-then-front-lt16-clause-loads c =
     let so = last (goal.at.returns-then-front-lt16-clause-loads c).After-window-front c.else-skip.either in
-    Skipped-loads _ _ _ _ _ _ _ _ _ so 0 (omega arith) (omega arith)
+    Skipped-loads so 0 (omega arith) (omega arith) (omega arith)
 
-pub window_from_16-requires : goal.window_from_16-requires
-window_from_16-requires c =
-    let so = last (goal.at.window_from_16-requires c).After-window-front c.else-skip.either in
-    omega (arith, c.if-front-lt16.false, so.shown.reads.inside, prefix_len-le-length (is_digit decimal_table) c.args.s.now)
+pub window_from_16-back-requires : goal.window_from_16-back-requires
+window_from_16-back-requires c =
+    let so = last (goal.at.window_from_16-back-requires c).After-window-front c.else-skip.either in
+    omega (arith, c.if-front-lt16.false, so.shown.len_is, prefix_len-le-length (is_digit decimal_table) c.args.s.now)
 
 -- the eight bytes after it
-behind : (c : After-window_from_16) → Shows decimal_table 8 (drop 16 c.args.s.now) c.window_from_16.result
-behind c = shows decimal_table decimal_below_ten 8 (drop 16 c.args.s.now) c.window_from_16.result c.window_from_16.ensures.window
+behind : (c : After-window_from_16-back) → Shows decimal_table 8 (drop 16 c.args.s.now) c.window_from_16-back.result
+behind c = shows decimal_table decimal_below_ten 8 (drop 16 c.args.s.now) c.window_from_16-back.result c.window_from_16-back.ensures.window
 
--- what both read together
-read : (c : After-window_from_16) → 16 ≤ c.window-front.result.len
-    → Skipped decimal_table c.args.skip c.args.s.now 0 c.args.steps.now c.window-front.new.steps c.window-front.result
-    → Reads decimal_table 24 c.args.s.now (16 + c.window_from_16.result.len)
-    (c.window-front.result.number * 10 ^ c.window_from_16.result.len + c.window_from_16.result.number)
-read c full so =
-    Reads-join decimal_table 16 8 c.args.s.now c.window-front.result c.window_from_16.result.len c.window_from_16.result.number so.shown full (behind c).reads
+pub append_digits-number-requires : goal.append_digits-number-requires
+append_digits-number-requires c = omega (arith, (behind (goal.at.append_digits-number-requires c).After-window_from_16-back).len_is)
 
-pub answer_64-requires-clause-front_high : goal.answer_64-requires-clause-front_high
-answer_64-requires-clause-front_high c =
-    Shows-below _ _ _ _ (last (goal.at.answer_64-requires-clause-front_high c).After-window-front c.else-skip.either).shown
-
-pub answer_64-requires-clause-back_short : goal.answer_64-requires-clause-back_short
-answer_64-requires-clause-back_short c = (behind (goal.at.answer_64-requires-clause-back_short c).After-window_from_16).reads.within
-
-pub answer_64-requires-clause-back_high : goal.answer_64-requires-clause-back_high
-answer_64-requires-clause-back_high c = (behind (goal.at.answer_64-requires-clause-back_high c).After-window_from_16).reads.below
-
-pub answer_64-requires-clause-inside : goal.answer_64-requires-clause-inside
-answer_64-requires-clause-inside c =
-    let both = (goal.at.answer_64-requires-clause-inside c).After-window_from_16 in
-    let so = last (goal.at.answer_64-requires-clause-inside c).After-window-front c.else-skip.either in
-    omega (arith, (read both c.if-front-lt16.false so).inside, prefix_len-le-length (is_digit decimal_table) c.args.s.now)
+pub answer_64-requires : goal.answer_64-requires
+answer_64-requires c =
+    let back = behind (goal.at.answer_64-requires c).After-window_from_16-back in
+    let so = last (goal.at.answer_64-requires c).After-window-front c.else-skip.either in
+    record { inside = (answers_64 decimal_table c.args.bound c.args.limit c.args.skip c.args.s.now 0 _ _ _ _ (omega arith) so c.if-front-lt16.false back).0 }
 
 pub returns-else-front-lt16-clause-answer : goal.returns-else-front-lt16-clause-answer
 returns-else-front-lt16-clause-answer c =
-    let both = (goal.at.returns-else-front-lt16-clause-answer c).After-window_from_16 in
+    let back = behind (goal.at.returns-else-front-lt16-clause-answer c).After-window_from_16-back in
     let so = last (goal.at.returns-else-front-lt16-clause-answer c).After-window-front c.else-skip.either in
-    answers_full _ _ _ _ _ _ _ _ _ _ _ _ _ (omega arith) so c.if-front-lt16.false (read both c.if-front-lt16.false so) c.answer_64.ensures
+    rw c.append_digits-number.ensures at c.answer_64.ensures
+    ∙ (answers_64 decimal_table c.args.bound c.args.limit c.args.skip c.args.s.now 0 _ _ _ _ (omega arith) so c.if-front-lt16.false back).1
 
 pub returns-else-front-lt16-clause-loads : goal.returns-else-front-lt16-clause-loads
 returns-else-front-lt16-clause-loads c =
     let so = last (goal.at.returns-else-front-lt16-clause-loads c).After-window-front c.else-skip.either in
-    Skipped-loads _ _ _ _ _ _ _ _ _ so 1 (omega (arith, c.window_from_16.ensures.one_step)) (omega arith)
+    Skipped-loads so 1 (omega (arith, c.window_from_16-back.ensures.one_step)) (omega arith) (omega arith)

@@ -1,0 +1,62 @@
+-- Reading the items of a column in turn: nothing follows an error.
+use Rattle.std.proofs.Common.{◌≡◌, ℕ, ◌+◌, true, List, [], ◌∷◌, ◌++◌, length, drop, map, ℤ, Result, Ok, Err, refl, sym, ap, ◌∙◌, arith, append_assoc, append-nil, length-append}
+use Rattle.std.proofs.lemmas.List.{map-append}
+use Rattle.atoi_core.specs.Refusal.{Refusal}
+use Rattle.atoi_core.specs.Kind.{Kind}
+use Rattle.atoi_core.specs.Answer.{parse_answer, parse_prefix_answer}
+use Rattle.atoi_column.specs.Fields.{fields_of}
+use Rattle.atoi_column.specs.Items.{Flaw, flaw_at, items_from, items_left, items_of}
+use Rattle.atoi_column.specs.Laws.{HaveRead, ItemsInTurn}
+
+-- a first value is the first of the numbers
+behind_value : (value : ℤ) (items : List (Result ℤ Flaw)) (numbers : List ℤ) (flaw : Flaw) (after : List (Result ℤ Flaw))
+    → Ok value ∷ items ≡ map Ok numbers ++ Err flaw ∷ after → (others : List ℤ) × (items ≡ map Ok others ++ Err flaw ∷ after)
+behind_value value items [] flaw after same = absurd (cc)
+behind_value value items (number ∷ numbers) flaw after same = (numbers, cc)
+
+behind_flaw : (other : Flaw) (numbers : List ℤ) (flaw : Flaw) (after : List (Result ℤ Flaw))
+    → Err other ∷ [] ≡ map Ok numbers ++ Err flaw ∷ after → after ≡ []
+behind_flaw other [] flaw after same = cc
+behind_flaw other (number ∷ numbers) flaw after same = absurd (cc)
+
+module _ (whole : List ℕ → Result ℤ Refusal) (prefix : List ℕ → Result (ℤ × ℕ) Refusal) (flaw : Flaw) (after : List (Result ℤ Flaw)) where
+  behind_error : (index place : ℕ) (rest : List ℕ) (texts : List (List ℕ)) (numbers : List ℤ)
+      → items_from whole prefix index place rest texts ≡ map Ok numbers ++ Err flaw ∷ after → after ≡ []
+  behind_error index place rest [] [] same = absurd (cc)
+  behind_error index place rest [] (number ∷ numbers) same = absurd (cc)
+  behind_error index place rest (text ∷ texts) numbers same =
+      elim (whole text) as (λ r. elim r as (λ _. List (Result ℤ Flaw)) [
+        | Ok value ↦ Ok value ∷ items_from whole prefix (index + 1) (place + length text + 1) (drop (length text + 1) rest) texts
+        | Err reason ↦ Err (flaw_at index place (prefix rest)) ∷ []
+      ] ≡ map Ok numbers ++ Err flaw ∷ after → after ≡ []) [
+        | Ok value ↦ λ same. let others = behind_value value _ numbers flaw after same in
+            behind_error (index + 1) (place + length text + 1) (drop (length text + 1) rest) texts others.0 others.1
+        | Err reason ↦ behind_flaw (flaw_at index place (prefix rest)) numbers flaw after
+      ] same
+
+after_error : (k : Kind) (separator : ℕ) (input : List ℕ) (numbers : List ℤ) (flaw : Flaw) (after : List (Result ℤ Flaw))
+    → items_of k separator input ≡ map Ok numbers ++ Err flaw ∷ after → after ≡ []
+unfolding items_left
+after_error k separator input numbers flaw after same =
+    behind_error (parse_answer k true true) (parse_prefix_answer k true true) flaw after 0 0 input (fields_of separator input) numbers same
+
+one_more : (items left after : List (Result ℤ Flaw)) (numbers : List ℤ) (number : ℤ) → HaveRead items numbers left
+    → left ≡ Ok number ∷ after → HaveRead items (numbers ++ number ∷ []) after
+one_more items left after numbers number read next = record {
+  parts = read.parts ∙ (ap (λ rest. map Ok numbers ++ rest) next
+      ∙ (sym (append_assoc (map Ok numbers) (Ok number ∷ []) after)
+      ∙ ap (λ values. values ++ after) (sym (map-append Ok numbers (number ∷ [])))));
+  count = omega (arith, read.count, ap length next, length-append numbers (number ∷ []));
+}
+
+-- the law
+pub items_in_turn : ItemsInTurn
+items_in_turn = record {
+  start = λ items. record { parts = refl; count = omega arith };
+  more = one_more;
+  all = λ items left numbers read none. read.parts ∙ (ap (λ rest. map Ok numbers ++ rest) none ∙ append-nil (map Ok numbers));
+  after_error = after_error;
+  at_error = λ k separator input numbers left after flaw read next.
+      let same : items_of k separator input ≡ map Ok numbers ++ Err flaw ∷ after = read.parts ∙ ap (λ rest. map Ok numbers ++ rest) next in
+      same ∙ ap (λ rest. map Ok numbers ++ Err flaw ∷ rest) (after_error k separator input numbers flaw after same);
+}

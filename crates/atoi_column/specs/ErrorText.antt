@@ -1,0 +1,11 @@
+-- What the error of a field prints.
+use Rattle.std.specs.Prelude.{ℕ, List, ◌++◌, codes, decimal}
+use Rattle.atoi_core.specs.ErrorText.{error_text}
+use Rattle.atoi_column.specs.Items.{Flaw, field, trailing}
+
+-- the text of a flaw: the field's index, the place, and why the field is no number
+abbrev pub flaw_text : Flaw → List ℕ
+flaw_text (field index place reason) =
+    codes "field " ++ decimal index ++ codes " at byte " ++ decimal place ++ codes " is no number: " ++ error_text reason
+flaw_text (trailing index place) =
+    codes "field " ++ decimal index ++ codes " goes on after its number, at byte " ++ decimal place

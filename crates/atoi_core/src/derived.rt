@@ -1,0 +1,25 @@
+//! Laws of derived methods. Such a method takes no clause of its own, so its law is a condition
+//! here: whoever calls one of these functions for a type proves it of that type. They use `error`
+//! and `window`.
+ghost use Rattle.std.specs.Prelude.{◌≡◌, ◌↔◌, IsTrue};
+
+use crate::error::AtoiSimdError;
+use crate::window::Window;
+
+/// Law: `clone` of a `T` returns the value itself, and never fails.
+pub fn clones_are_the_same<T: Clone>()
+    requires same { (value copy : T) → T.is_clone value copy → copy ≡ value }
+    requires always { (value : T) → T.is_infallible value }
+{}
+
+/// Law: two values of `T` are `==` exactly if they are the same.
+pub fn equal_ones_are_the_same<T: PartialEq>()
+    requires { (one other : T) → IsTrue (T.eq one other) ↔ (one ≡ other) }
+{}
+
+// The types of this crate. How errors compare is said at `AtoiSimdError::is_same_as`.
+fn types_of_this_crate() {
+    clones_are_the_same::<AtoiSimdError<'_>>();
+    clones_are_the_same::<Window>();
+    equal_ones_are_the_same::<Window>();
+}

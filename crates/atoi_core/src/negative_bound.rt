@@ -1,0 +1,173 @@
+//! Both signs from one parse: a signed body is parsed under the negative bound, and the functions here
+//! make the answer with its sign from that. Of all magnitudes that the negative bound admits, only
+//! that of `T::MIN` is out of range without a minus, and where the slice of its `Overflow` begins
+//! follows from the number of its digits. It uses `error`, `engine` and `number`.
+ghost use Rattle.std.specs.Prelude.{List, ◌≡◌, ◌<◌, ◌≤◌, ℕ, true, not, nat_lt, if◌then◌else◌, Some, None, length, drop};
+ghost use Rattle.std.specs.Option.{option_map};
+ghost use Rattle.atoi_core.specs.Answer.{typed_answer, typed_prefix_answer, whole_answer, prefix_answer};
+ghost use Rattle.atoi_core.specs.Kind.{class_of, bound_of, limit_of};
+ghost use Rattle.atoi_core.specs.Magnitude.{HasDigits, whole, prefix, rule_of, skipped_zeros};
+ghost use Rattle.atoi_core.specs.Refusal.{refusal_of, number_in, index_in};
+ghost use Rattle.atoi_core.specs.Run.{run_len, run, value};
+ghost use Rattle.atoi_core.specs.Sign.{number_of};
+
+use crate::engine::Engine;
+use crate::error::AtoiSimdError;
+use crate::number::Signed;
+
+/// The answer for all of `s` with the sign `minus`, from `negative`, its answer as the digits of a
+/// negative number.
+#[inline(always)]
+pub(crate) fn whole_with_sign<'a, E: Engine, T: Signed>(
+    minus: bool,
+    skip: bool,
+    s: &'a [u8],
+    negative: Result<T, AtoiSimdError<'a>>,
+) -> Result<T, AtoiSimdError<'a>>
+    requires negative { typed_answer T.number negative
+        ≡ whole_answer E.table T.kind true skip s.now }
+    ensures answer { typed_answer T.number result
+        ≡ whole_answer E.table T.kind minus skip s.now }
+{
+    match negative {
+        Ok(number) => match in_range(minus, number) {
+            Some(number) => Ok(number),
+            None => Err(AtoiSimdError::Overflow(whole_overflow::<E, T>(skip, s.len(), s))),
+        },
+        Err(error) => match digits_above::<T>(minus, error) {
+            Some(count) => Err(AtoiSimdError::Overflow(whole_overflow::<E, T>(skip, count, s))),
+            None => Err(error),
+        },
+    }
+}
+
+/// The same for the number at the front of `s`, with the length of its digits.
+#[inline(always)]
+pub(crate) fn prefix_with_sign<'a, E: Engine, T: Signed>(
+    minus: bool,
+    skip: bool,
+    s: &'a [u8],
+    negative: Result<(T, usize), AtoiSimdError<'a>>,
+) -> Result<(T, usize), AtoiSimdError<'a>>
+    requires negative { typed_prefix_answer T.number negative
+        ≡ prefix_answer E.table T.kind true skip s.now }
+    ensures answer { typed_prefix_answer T.number result
+        ≡ prefix_answer E.table T.kind minus skip s.now }
+{
+    match negative {
+        Ok(found) => match in_range(minus, found.0) {
+            Some(number) => Ok((number, found.1)),
+            None => Err(AtoiSimdError::Overflow(prefix_overflow::<E, T>(skip, found.1, s))),
+        },
+        Err(error) => Err(error),
+    }
+}
+
+// The number with the sign `minus` whose magnitude is that of `negative`, or none if it is out of
+// range. The sign is data here: it selects one of two numbers.
+fn in_range<T: Signed>(minus: bool, negative: T) -> Option<T>
+    ensures { (magnitude : ℕ) → T.number negative ≡ number_of true magnitude
+        → option_map T.number result ≡ (if nat_lt (bound_of T.kind minus) magnitude then None
+        else Some (number_of minus magnitude)) }
+{
+    let (_, magnitude) = negative.parts();
+    // Types of at most 32 bits take a magnitude without a minus as one more, so that one comparison
+    // serves both signs. In wider types that addition costs more than it saves: there the sign is read
+    // only of a magnitude above `T::MAX`.
+    let is_above = if T::BITS <= 32 {
+        magnitude as u64 + u64::from(!minus) > T::LEAST_MAGNITUDE as u64
+    } else {
+        magnitude > T::GREATEST && has_no_minus_cold(minus)
+    };
+    if is_above {
+        None
+    } else if minus {
+        Some(negative)
+    } else {
+        Some(T::from_pos(magnitude))
+    }
+}
+
+// Never inlined: otherwise the compiler would read the sign first, for every number, by a branch that
+// is mispredicted where signs vary.
+#[inline(never)]
+fn has_no_minus_cold(minus: bool) -> bool
+    ensures { result ≡ not minus }
+{
+    !minus
+}
+
+// How many digits an error counts, if their number is above the bound of the sign `minus`.
+fn digits_above<T: Signed>(minus: bool, error: AtoiSimdError<'_>) -> Option<usize>
+    ensures { let reason = refusal_of error.entry in
+        result ≡ (if nat_lt (bound_of T.kind minus) (number_in reason) then Some (index_in reason)
+        else None) }
+{
+    let bound = T::GREATEST + u128::from(minus);
+    match error {
+        AtoiSimdError::Invalid64(number, index, _) if u128::from(number) > bound => Some(index),
+        AtoiSimdError::Invalid128(number, index, _) if number > bound => Some(index),
+        _ => None,
+    }
+}
+
+// The slice in the error `Overflow` for all of `s`, which begins with `count` digits that spell the
+// magnitude of `T::MIN`.
+#[tactic(auto, using(crate::proofs::NegativeBound::dropped_whole, crate::proofs::NegativeBound::run_within))]
+fn whole_overflow<'a, E: Engine, T: Signed>(skip: bool, count: usize, s: &'a [u8]) -> &'a [u8]
+    requires digits { count ≡ run_len E.table s.now }
+    requires least { value E.table (run E.table s.now) ≡ T.LEAST_MAGNITUDE }
+    ensures { result.now ≡ drop (rule_of (class_of T.kind) whole skip (limit_of T.kind) count
+        (skipped_zeros E.table skip s.now)).dropped s.now }
+{
+    if T::BITS > 32 {
+        &s[zeros_before::<E, T>(skip, count)..]
+    } else {
+        s
+    }
+}
+
+// The same for the front of `s`. Types of at most 32 bits drop the zeros that fill whole windows of 16
+// bytes, and all of them if more windows are full of digits.
+#[tactic(auto, using(crate::proofs::NegativeBound::dropped_prefix, crate::proofs::NegativeBound::run_within))]
+fn prefix_overflow<'a, E: Engine, T: Signed>(skip: bool, count: usize, s: &'a [u8]) -> &'a [u8]
+    requires digits { count ≡ run_len E.table s.now }
+    requires least { value E.table (run E.table s.now) ≡ T.LEAST_MAGNITUDE }
+    ensures { result.now ≡ drop (rule_of (class_of T.kind) prefix skip (limit_of T.kind) count
+        (skipped_zeros E.table skip s.now)).dropped s.now }
+{
+    let zeros = zeros_before::<E, T>(skip, count);
+    if T::BITS <= 32 && count / 16 <= zeros / 16 {
+        &s[16 * (zeros / 16)..]
+    } else {
+        &s[zeros..]
+    }
+}
+
+// How many leading zeros are skipped of `count` digits that spell the magnitude of `T::MIN`: all but
+// its own.
+#[tactic(auto, using(crate::proofs::NegativeBound::zeros_before))]
+fn zeros_before<E: Engine, T: Signed>(skip: bool, count: usize) -> usize
+    ensures zeros { (s : List ℕ) → count ≡ run_len E.table s
+        → value E.table (run E.table s) ≡ T.LEAST_MAGNITUDE → result ≡ skipped_zeros E.table skip s }
+    ensures within { result ≤ count }
+{
+    if skip {
+        count.saturating_sub(least_digits::<T>())
+    } else {
+        0
+    }
+}
+
+// How many digits the magnitude of `T::MIN` has.
+fn least_digits<T: Signed>() -> usize
+    ensures { HasDigits result T.LEAST_MAGNITUDE }
+{
+    match T::BITS {
+        8 => 3,
+        16 => 5,
+        32 => 10,
+        64 => 19,
+        _ => 39,
+    }
+}

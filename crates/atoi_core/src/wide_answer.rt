@@ -1,0 +1,127 @@
+//! Powers of ten, and the answers of the parses of 64 and of 128 bits once their digits have been
+//! read. An engine that reads wide integers by loops of its own may use them too. It uses `error`.
+ghost use Rattle.std.specs.Prelude.{◌≡◌, ◌+◌, ◌*◌, ◌^◌, ◌<◌, ◌≤◌, nat_lt, if◌then◌else◌, length};
+ghost use Rattle.atoi_core.specs.Magnitude.{HasDigits, wide64, wide128};
+ghost use Rattle.atoi_core.specs.Reading.{answer_by_digits};
+ghost use Rattle.atoi_core.specs.Refusal.{answer_of};
+
+use crate::error::AtoiSimdError;
+
+// The powers of ten, from the one with no zero to the one with 16.
+const POWERS: [u64; 17] = [
+    1,
+    10,
+    100,
+    1_000,
+    10_000,
+    100_000,
+    1_000_000,
+    10_000_000,
+    100_000_000,
+    1_000_000_000,
+    10_000_000_000,
+    100_000_000_000,
+    1_000_000_000_000,
+    10_000_000_000_000,
+    100_000_000_000_000,
+    1_000_000_000_000_000,
+    10_000_000_000_000_000,
+];
+
+/// Returns ten to the power of `digits`, which is at most 16.
+pub fn power_of_ten(digits: u32) -> u64
+    requires { digits ≤ 16 }
+    ensures power { result ≡ 10 ^ digits }
+    ensures most { result ≤ 10000000000000000 }
+    ensures few { digits ≤ 8 → result ≤ 100000000 }
+{
+    POWERS[digits as usize]
+}
+
+/// Returns the number that digits spell: those of `high`, and `digits` more after them, at most 16,
+/// which spell `low`.
+pub fn append_digits(high: u64, digits: u32, low: u64) -> u128
+    requires { digits ≤ 16 }
+    ensures { result ≡ high * 10 ^ digits + low }
+{
+    u128::from(high) * u128::from(power_of_ten(digits)) + u128::from(low)
+}
+
+/// Returns the answer of 64 bits for digits that have been read: after `skipped` zeros, which do not
+/// count, `counting` digits that spell `number`.
+///
+/// # Errors
+///
+/// `Empty` if there are no digits and no zeros, `Size` if more than `limit` digits count, and
+/// `Overflow` if `number` is above `bound`. The last two hold `s` from the first digit that counts on.
+#[inline(always)]
+pub fn answer_64<'a>(
+    bound: u64,
+    limit: u32,
+    skipped: usize,
+    counting: u32,
+    number: u128,
+    s: &'a [u8],
+) -> Result<(u64, usize), AtoiSimdError<'a>>
+    requires inside { skipped + counting ≤ length s.now }
+    ensures { answer_of result ≡ answer_by_digits wide64 bound limit skipped counting number s.now }
+{
+    let len = skipped + counting as usize;
+    let body = &s[skipped..];
+    if len == 0 {
+        Err(AtoiSimdError::Empty)
+    } else if counting > limit {
+        Err(AtoiSimdError::Size(skipped + counting.min(24) as usize, body))
+    } else if number > u128::from(bound) {
+        Err(AtoiSimdError::Overflow(body))
+    } else {
+        Ok((number as u64, len))
+    }
+}
+
+/// Returns the answer of 128 bits for 32 digits or more that have been read: after `skipped` zeros,
+/// which do not count, 32 digits that spell `high`, and `more` digits, at most 8, that spell `low`.
+///
+/// # Errors
+///
+/// `Size` if all 40 are digits, and `Overflow` if their number is above `bound`. Both hold `s` from the
+/// first digit that counts on.
+#[inline(always)]
+pub fn answer_128<'a>(
+    bound: u128,
+    skipped: usize,
+    high: u128,
+    more: u32,
+    low: u64,
+    s: &'a [u8],
+) -> Result<(u128, usize), AtoiSimdError<'a>>
+    requires digits { HasDigits 39 bound }
+    requires few { more ≤ 8 }
+    requires below { high * 10 ^ more + low < 10 ^ (32 + more) }
+    requires inside { skipped + (32 + more) ≤ length s.now }
+    ensures { answer_of result ≡ answer_by_digits wide128 bound 39 skipped (32 + more)
+        (high * 10 ^ more + low) s.now }
+{
+    let len = skipped + 32 + more as usize;
+    if more == 8 {
+        return Err(AtoiSimdError::Size(len, &s[skipped..]));
+    }
+    let power = u128::from(power_of_ten(more));
+    if more < 7 {
+        // Fewer than 39 digits are never above the bound.
+        return Ok((high * power + u128::from(low), len));
+    }
+    match up_to(bound, high, power, low) {
+        Some(number) => Ok((number, len)),
+        None => Err(AtoiSimdError::Overflow(&s[skipped..])),
+    }
+}
+
+// Returns `high * power + low`, or `None` if that is above `bound`.
+fn up_to(bound: u128, high: u128, power: u128, low: u64) -> Option<u128>
+    ensures { result ≡ (if nat_lt bound (high * power + low) then None
+        else Some (high * power + low)) }
+{
+    let number = high.checked_mul(power)?.checked_add(u128::from(low))?;
+    if number > bound { None } else { Some(number) }
+}

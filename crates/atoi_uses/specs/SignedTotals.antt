@@ -1,0 +1,34 @@
+-- The total of a column of signed numbers.
+use Rattle.std.specs.Prelude.{◌≡◌, ℕ, true, List, ◌++◌, ℤ, pos, ◌+ℤ◌, fold, codes, FitsSigned}
+use Rattle.std.specs.Int.{w64}
+use Rattle.std.specs.List.{AllZip}
+use Rattle.std.specs.Fmt.{signed_decimal}
+use Rattle.atoi_core.specs.Kinds.{i64_kind}
+use Rattle.atoi_core.specs.Text.{TextWrites}
+use Rattle.atoi_column.specs.ErrorText.{flaw_text}
+use Rattle.atoi_column.specs.Fields.{fields_of}
+use Rattle.atoi_column.specs.Items.{flaw_of, index_of, place_of}
+use Rattle.atoi_column.specs.Laws.{IsFirstBad}
+use Rattle.atoi_uses.specs.declared.signed_totals.SignedTotalError.{SignedTotalError}
+use Rattle.atoi_uses.specs.declared.signed_totals.SignedTotalError.TheVariants.{BadField, OutOfRange}
+
+abbrev pub sum_of : List ℤ → ℤ
+sum_of numbers = fold ◌+ℤ◌ (pos 0) numbers
+
+-- each field is a text of an `i64`, and the total is the sum of the numbers that they write
+abbrev pub HasTotal : (separator : ℕ) → List ℕ → ℤ → Type 0
+HasTotal separator input total =
+    (numbers : List ℤ)
+    × (AllZip (TextWrites i64_kind true) (fields_of separator input) numbers × (total ≡ sum_of numbers))
+
+-- what an error says of the input: that field is the first that is no text of an `i64`; or the total
+-- does not fit in one
+abbrev pub Refuses : (separator : ℕ) → List ℕ → SignedTotalError → Type 0
+Refuses separator input (BadField error) =
+    IsFirstBad i64_kind separator input (index_of (flaw_of error)) (place_of (flaw_of error))
+Refuses separator input (OutOfRange total) = HasTotal separator input total × ¬ FitsSigned w64 total
+
+-- the text of an error
+abbrev pub error_text : SignedTotalError → List ℕ
+error_text (BadField error) = flaw_text (flaw_of error)
+error_text (OutOfRange total) = codes "the total " ++ signed_decimal total ++ codes " is out of range"

@@ -1,0 +1,128 @@
+//! A reader of IPv4 addresses. It uses `atoi_simd::parse_pos` and `parse_prefix_pos`, and two laws:
+//! that a slice begins with one number at most, and which digits `decimal` writes.
+ghost use Rattle.std.specs.Prelude.{◌≡◌, ◌^◌, ◌<◌, ◌++◌, ℕ, List, ◌∷◌, IfSome, IfNone, decimal};
+ghost use Rattle.atoi_simd.specs.Text.{has_needless_zero};
+ghost use Rattle.atoi_uses.specs.Addresses.{IsAddress};
+ghost use Rattle.atoi_uses.specs.Versions.{dot};
+ghost use Rattle.atoi_uses.specs.declared.addresses.Address.{Address as AddressValue};
+
+use crate::versions::after_dot;
+use atoi_simd::laws::{decimal_texts, fronts_and_rests};
+use atoi_simd::{parse_pos, parse_prefix_pos};
+
+/// An IPv4 address.
+#[derive(Clone, Copy, Debug, PartialEq, Eq)]
+pub struct Address {
+    /// The first octet.
+    pub first: u8,
+    /// The second octet.
+    pub second: u8,
+    /// The third octet.
+    pub third: u8,
+    /// The fourth octet.
+    pub fourth: u8,
+}
+
+/// The address that `text` is, such as `192.168.0.1`: four numbers below 256, each without needless
+/// zeros, with dots between them.
+///
+/// Returns `None` for every other text, such as `1.2.3`, `1.2.3.04` and `1.2.3.256`.
+pub fn parse_address(text: &[u8]) -> Option<Address>
+    ensures some { IfSome result (λ address. IsAddress text.now address) }
+    ensures none { IfNone result ((any : AddressValue) → ¬ IsAddress text.now any) }
+{
+    let (first, after_first) = octet_and_dot(text)?;
+    let (second, after_second) = octet_and_dot(after_first)?;
+    let (third, after_third) = octet_and_dot(after_second)?;
+    let fourth = octet(after_third)?;
+    Some(Address {
+        first,
+        second,
+        third,
+        fourth,
+    })
+}
+
+// The octet that `text` begins with, and what follows the dot after it.
+fn octet_and_dot(text: &[u8]) -> Option<(u8, &[u8])>
+    ensures some { IfSome result (λ found. text.now ≡ decimal found.0 ++ dot ∷ found.1.now) }
+    ensures only { IfSome result (λ found. (n : ℕ) (rest : List ℕ) → n < 2 ^ 8
+        → text.now ≡ decimal n ++ dot ∷ rest → (n ≡ found.0) × (rest ≡ found.1.now)) }
+    ensures none { IfNone result ((n : ℕ) (rest : List ℕ) → n < 2 ^ 8
+        → ¬ (text.now ≡ decimal n ++ dot ∷ rest)) }
+{
+    // The laws. The calls do nothing.
+    decimal_texts::<u8>();
+    fronts_and_rests::<u8>();
+    let Ok((octet, count)) = parse_prefix_pos::<u8, true>(text) else {
+        return None;
+    };
+    let rest = after_dot(&text[count..])?;
+    if has_needless_zero(&text[..count]) {
+        None
+    } else {
+        Some((octet, rest))
+    }
+}
+
+// The octet that `text` is.
+fn octet(text: &[u8]) -> Option<u8>
+    ensures some { IfSome result (λ octet. text.now ≡ decimal octet) }
+    ensures none { IfNone result ((n : ℕ) → n < 2 ^ 8 → ¬ (text.now ≡ decimal n)) }
+{
+    // The law. The call does nothing.
+    decimal_texts::<u8>();
+    let Ok(octet) = parse_pos::<u8, true>(text) else {
+        return None;
+    };
+    if has_needless_zero(text) {
+        None
+    } else {
+        Some(octet)
+    }
+}
+
+// Whether `digits` begin with a zero and go on after it.
+fn has_needless_zero(digits: &[u8]) -> bool
+    ensures { result ≡ has_needless_zero digits.now }
+{
+    matches!(digits, [b'0', _, ..])
+}
+
+#[cfg(test)]
+mod tests {
+    use super::*;
+
+    fn address(first: u8, second: u8, third: u8, fourth: u8) -> Option<Address> {
+        Some(Address {
+            first,
+            second,
+            third,
+            fourth,
+        })
+    }
+
+    #[test]
+    fn addresses_of_four_octets(rt: HostRuntime) {
+        assert_eq!(rt; parse_address(b"192.168.0.1"), address(192, 168, 0, 1));
+        assert_eq!(rt; parse_address(b"0.0.0.0"), address(0, 0, 0, 0));
+        assert_eq!(rt;
+            parse_address(b"255.255.255.255"),
+            address(255, 255, 255, 255)
+        );
+    }
+
+    #[test]
+    fn what_is_no_address(rt: HostRuntime) {
+        assert_eq!(rt; parse_address(b""), None);
+        assert_eq!(rt; parse_address(b"1.2.3"), None);
+        assert_eq!(rt; parse_address(b"1.2.3."), None);
+        assert_eq!(rt; parse_address(b"1.2.3.4.5"), None);
+        assert_eq!(rt; parse_address(b"1.2.3.4 "), None);
+        assert_eq!(rt; parse_address(b"1.2.3.256"), None);
+        assert_eq!(rt; parse_address(b"01.2.3.4"), None);
+        assert_eq!(rt; parse_address(b"1.2.3.00"), None);
+        assert_eq!(rt; parse_address(b"1.-2.3.4"), None);
+        assert_eq!(rt; parse_address(b"1.+2.3.4"), None);
+    }
+}

@@ -1,0 +1,94 @@
+//! A total that names the first bad line by its number, from 1. It uses `totals`, and its function
+//! has no proof file.
+ghost use Rattle.std.specs.Prelude.{◌≡◌, ◌+◌, ◌++◌, ℕ, List, Ok, IfOk, IfErr, map, pos, sum, codes, decimal};
+ghost use Rattle.atoi_core.specs.Kinds.{u64_kind};
+ghost use Rattle.atoi_column.specs.ErrorText.{flaw_text};
+ghost use Rattle.atoi_column.specs.Items.{flaw_of, index_of, items_of, place_of};
+ghost use Rattle.atoi_column.specs.Laws.{IsFirstBad};
+
+use crate::totals::total;
+use atoi_column::ColumnError;
+use std::error::Error;
+use std::fmt;
+
+const NEWLINE: u8 = b'\n';
+
+/// The first line that is no number of `u64`.
+#[derive(Clone, Copy, Debug, PartialEq, Eq)]
+pub struct BadLine<'a> {
+    /// The number of the line, from 1.
+    pub line: usize,
+    /// Why it is no number.
+    pub error: ColumnError<'a>,
+}
+
+/// The sum of the numbers of `lines`, one a line.
+///
+/// # Errors
+///
+/// The first line that is no number of `u64`: `total_or_bad_line(b"7\n8x\n9")` names line 2.
+pub fn total_or_bad_line(lines: &[u8]) -> Result<u128, BadLine<'_>>
+    ensures all { IfOk result (λ total. (numbers : List ℕ)
+        × (items_of u64_kind NEWLINE lines.now ≡ map Ok (map pos numbers))
+        × (total ≡ sum numbers)) }
+    ensures first_bad { IfErr result (λ bad. IsFirstBad u64_kind NEWLINE lines.now
+        (index_of (flaw_of bad.error)) (place_of (flaw_of bad.error))) }
+    ensures line { IfErr result (λ bad. bad.line ≡ index_of (flaw_of bad.error) + 1) }
+{
+    match total(lines) {
+        Ok(total) => Ok(total),
+        Err(error) => Err(BadLine {
+            line: error.index() + 1,
+            error,
+        }),
+    }
+}
+
+impl fmt::Display for BadLine<'_> {
+    ghost use Rattle.std.specs.Prelude.{Some};
+
+    ghost output = { λ bad. Some (codes "line " ++ decimal bad.line
+        ++ codes ": " ++ flaw_text (flaw_of bad.error)) };
+
+    fn fmt<W: fmt::Write>(&self, f: &mut fmt::Formatter<W>) -> fmt::Result {
+        write!(f, "line {}: {}", self.line, self.error)
+    }
+}
+
+impl Error for BadLine<'_> {}
+
+#[cfg(test)]
+mod tests {
+    use super::*;
+    use std::alloc::{AllocError, Global};
+    use std::test::Fail;
+
+    fn line_of(lines: &[u8]) -> Option<usize> {
+        total_or_bad_line(lines).err().map(|bad| bad.line)
+    }
+
+    #[test]
+    fn lines_are_counted_from_1(rt: HostRuntime) {
+        assert_eq!(rt; line_of(b"x"), Some(1));
+        assert_eq!(rt; line_of(b"7\n8x\n9"), Some(2));
+        assert_eq!(rt; line_of(b"7\n8\n-9\n"), Some(3));
+        assert_eq!(rt; total_or_bad_line(b"7\n8\n9\n"), Ok(24));
+    }
+
+    // The text of an error of which no more is known.
+    fn printed<E: Error>(alloc: Global, error: &E) -> Result<String, AllocError> {
+        format!(in alloc; "{error}")
+    }
+
+    #[test]
+    fn the_text_has_the_line_and_the_cause(rt: HostRuntime) -> Result<(), Fail> {
+        let error = ColumnError::Trailing { index: 1, place: 3 };
+        let bad = BadLine { line: 2, error };
+        assert_eq!(rt; total_or_bad_line(b"7\n8x\n9"), Err(bad));
+        assert_eq!(rt;
+            printed(rt.alloc(), &bad)?.as_str(),
+            "line 2: field 1 goes on after its number, at byte 3"
+        );
+        Ok(())
+    }
+}

@@ -1,0 +1,35 @@
+//! The laws of `clone` and `==` for the types of this crate. It uses `atoi_core::derived`.
+ghost use Rattle.std.specs.Prelude.{◌≡◌, ◌↔◌, IsTrue};
+ghost use Rattle.atoi_uses.specs.Commands.{cause_of};
+
+use crate::cents::Cents;
+use crate::commands::{Command, CommandError, Word};
+use crate::dates::Date;
+use crate::log_lines::LogError;
+use crate::versions::Version;
+use atoi_core::derived::{clones_are_the_same, equal_ones_are_the_same};
+
+fn clones() {
+    clones_are_the_same::<Cents>();
+    clones_are_the_same::<Command>();
+    clones_are_the_same::<CommandError<'_>>();
+    clones_are_the_same::<Date>();
+    clones_are_the_same::<LogError>();
+    clones_are_the_same::<Version>();
+    clones_are_the_same::<Word>();
+}
+
+fn equal_ones() {
+    equal_ones_are_the_same::<Cents>();
+    equal_ones_are_the_same::<Command>();
+    equal_ones_are_the_same::<Date>();
+    equal_ones_are_the_same::<LogError>();
+    equal_ones_are_the_same::<Version>();
+    equal_ones_are_the_same::<Word>();
+}
+
+fn equal_command_errors(one: &CommandError<'_>, other: &CommandError<'_>) -> bool
+    ensures { IsTrue result ↔ (cause_of one.now ≡ cause_of other.now) }
+{
+    one == other
+}

@@ -1,0 +1,65 @@
+//! A reader of the header `Content-Length` of HTTP. It uses `atoi_simd::parse_prefix_pos`, and two
+//! laws: that a slice begins with one number at most, and that a number begins with a digit.
+ghost use Rattle.std.specs.Prelude.{◌≡◌, ℕ, IfSome, IfNone};
+ghost use Rattle.atoi_uses.specs.Headers.{IsContentLength, without_blanks};
+
+use atoi_simd::laws::{decimal_texts, fronts_and_rests};
+use atoi_simd::parse_prefix_pos;
+
+/// The length that the value of a header `Content-Length` is: the digits of a number of `u64`, with
+/// spaces and tabs before and after them or none.
+///
+/// `content_length(b" 348 ")` is `Some(348)`. Returns `None` for every other value, such as `+1`,
+/// `1 2` and an empty one.
+pub fn content_length(value: &[u8]) -> Option<u64>
+    ensures some { IfSome result (λ length. IsContentLength value.now length) }
+    ensures none { IfNone result ((any : ℕ) → ¬ IsContentLength value.now any) }
+{
+    // The laws. The calls do nothing.
+    decimal_texts::<u64>();
+    fronts_and_rests::<u64>();
+    let field = without_blanks(value);
+    let Ok((length, count)) = parse_prefix_pos::<u64, true>(field) else {
+        return None;
+    };
+    if without_blanks(&field[count..]).is_empty() {
+        Some(length)
+    } else {
+        None
+    }
+}
+
+// What follows the blanks that `text` begins with.
+fn without_blanks(text: &[u8]) -> &[u8]
+    ensures { result.now ≡ without_blanks text.now }
+{
+    let mut rest = text;
+    while let [b' ' | b'\t', others @ ..] = rest {
+        rest = others;
+    }
+    rest
+}
+
+#[cfg(test)]
+mod tests {
+    use super::*;
+
+    #[test]
+    fn lengths(rt: HostRuntime) {
+        assert_eq!(rt; content_length(b"0"), Some(0));
+        assert_eq!(rt; content_length(b" 348 "), Some(348));
+        assert_eq!(rt; content_length(b"\t \t007\t"), Some(7));
+        assert_eq!(rt; content_length(b"18446744073709551615"), Some(u64::MAX));
+    }
+
+    #[test]
+    fn what_is_no_length(rt: HostRuntime) {
+        assert_eq!(rt; content_length(b""), None);
+        assert_eq!(rt; content_length(b" \t"), None);
+        assert_eq!(rt; content_length(b"+1"), None);
+        assert_eq!(rt; content_length(b"-1"), None);
+        assert_eq!(rt; content_length(b"1 2"), None);
+        assert_eq!(rt; content_length(b"42\r\n"), None);
+        assert_eq!(rt; content_length(b"18446744073709551616"), None);
+    }
+}

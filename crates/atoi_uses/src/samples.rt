@@ -1,0 +1,84 @@
+//! Calls and their results, as the pages CALLING.md print them. It has tests only.
+
+#[cfg(test)]
+mod tests {
+    use atoi_column::{Column, ColumnError};
+    use atoi_simd::{AtoiSimdError, parse, parse_prefix};
+
+    #[test]
+    fn errors_of_a_parse(rt: HostRuntime) {
+        // No digit: the second flag is off, so a `+` is not accepted.
+        assert_eq!(rt; parse::<i8, false, false>(b"+5"), Err(AtoiSimdError::Empty));
+        // Too many digits: without SKIP_ZEROES leading zeros count.
+        assert_eq!(rt;
+            parse::<i64, false, false>(b"09223372036854775807"),
+            Err(AtoiSimdError::Size(20, b"09223372036854775807"))
+        );
+        // Out of range.
+        assert_eq!(rt;
+            parse_prefix::<u8, true, false>(b"0000000000000999x"),
+            Err(AtoiSimdError::Overflow(b"999x"))
+        );
+        assert_eq!(rt;
+            parse_prefix::<u8, true, false>(b"000000000000999x"),
+            Err(AtoiSimdError::Overflow(b"000000000000999x"))
+        );
+        // At index 7 another byte, after digits of value 12.
+        assert_eq!(rt;
+            parse::<u128, true, false>(b"0000012x"),
+            Err(AtoiSimdError::Invalid128(12, 7, b"0000012x"))
+        );
+    }
+
+    #[test]
+    fn items_of_a_column(rt: HostRuntime) {
+        let mut column = Column::<u8>::new(b"1,002,+3,", b',');
+        assert_eq!(rt; column.next(), Some(Ok(1)));
+        assert_eq!(rt; column.next(), Some(Ok(2)));
+        assert_eq!(rt; column.next(), Some(Ok(3)));
+        assert_eq!(rt; column.next(), None);
+    }
+
+    #[test]
+    fn errors_of_a_column(rt: HostRuntime) {
+        // The second field is empty.
+        let cause = AtoiSimdError::Empty;
+        assert_eq!(rt;
+            Column::<u8>::new(b"1,,2", b',').nth(1),
+            Some(Err(ColumnError::Field {
+                index: 1,
+                place: 2,
+                cause,
+            }))
+        );
+        // A space is no part of a number, and the column skips none.
+        assert_eq!(rt;
+            Column::<u8>::new(b"1, 2", b',').nth(1),
+            Some(Err(ColumnError::Field {
+                index: 1,
+                place: 2,
+                cause,
+            }))
+        );
+        // Another byte follows the number.
+        assert_eq!(rt;
+            Column::<u8>::new(b"12a,3", b',').next(),
+            Some(Err(ColumnError::Trailing { index: 0, place: 2 }))
+        );
+        // A line that ends in `\r\n` has the byte `\r` after its number.
+        assert_eq!(rt;
+            Column::<u8>::new(b"12\r\n3\r\n", b'\n').next(),
+            Some(Err(ColumnError::Trailing { index: 0, place: 2 }))
+        );
+        // The slice in a cause goes on to the end of the input.
+        let cause = AtoiSimdError::Overflow(b"256,1");
+        assert_eq!(rt;
+            Column::<u8>::new(b"256,1", b',').next(),
+            Some(Err(ColumnError::Field {
+                index: 0,
+                place: 0,
+                cause,
+            }))
+        );
+    }
+}

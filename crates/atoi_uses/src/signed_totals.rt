@@ -1,0 +1,119 @@
+//! The total of a column of signed numbers. It uses `atoi_column::Column` and two laws of
+//! `atoi_column`.
+ghost use Rattle.std.specs.Prelude.{◌≡◌, true, IfOk, IfErr};
+ghost use Rattle.atoi_column.specs.Fields.{is_separator};
+ghost use Rattle.atoi_uses.specs.SignedTotals.{HasTotal, Refuses};
+
+use atoi_column::laws::{items_decide, items_in_turn};
+use atoi_column::{Column, ColumnError};
+use std::error::Error;
+use std::fmt;
+
+/// Why a column of signed numbers has no total of 64 bits.
+#[derive(Clone, Copy, Debug, PartialEq, Eq)]
+pub enum SignedTotalError<'a> {
+    /// A field is no number of `i64`; it is the first such field.
+    BadField(ColumnError<'a>),
+    /// Every field is a number, and this sum of them is not in the range of `i64`.
+    OutOfRange(i128),
+}
+
+/// The sum of the numbers of `input`, whose fields are ended by `separator`.
+///
+/// The sums of the first few numbers may leave the range of `i64`; only the sum of all matters.
+///
+/// # Errors
+///
+/// - `BadField` if a field is no number of `i64`, which may have a sign and leading zeros;
+/// - `OutOfRange` if the sum is not in the range of `i64`.
+pub fn signed_total(input: &[u8], separator: u8) -> Result<i64, SignedTotalError<'_>>
+    requires { is_separator separator ≡ true }
+    ensures total { IfOk result (λ total. HasTotal separator input.now total) }
+    ensures refused { IfErr result (λ error. Refuses separator input.now error) }
+{
+    // The laws of reading items in turn, and of what they say of the fields. The calls do nothing.
+    items_in_turn();
+    items_decide::<i64>();
+    let mut total = 0i128;
+    for item in Column::<i64>::new(input, separator) {
+        match item {
+            Ok(number) => total += i128::from(number),
+            Err(error) => return Err(SignedTotalError::BadField(error)),
+        }
+    }
+    match i64::try_from(total) {
+        Ok(total) => Ok(total),
+        Err(_) => Err(SignedTotalError::OutOfRange(total)),
+    }
+}
+
+impl fmt::Display for SignedTotalError<'_> {
+    ghost use Rattle.std.specs.Prelude.{Some};
+    ghost use Rattle.atoi_uses.specs.SignedTotals.{error_text};
+
+    ghost output = { λ error. Some (error_text error) };
+
+    fn fmt<W: fmt::Write>(&self, f: &mut fmt::Formatter<W>) -> fmt::Result {
+        match *self {
+            SignedTotalError::BadField(cause) => write!(f, "{cause}"),
+            SignedTotalError::OutOfRange(total) => {
+                write!(f, "the total {total} is out of range")
+            }
+        }
+    }
+}
+
+impl Error for SignedTotalError<'_> {}
+
+#[cfg(test)]
+mod tests {
+    use super::*;
+    use std::alloc::{AllocError, Global};
+    use std::test::Fail;
+
+    #[test]
+    fn partial_sums_may_leave_the_range(rt: HostRuntime) {
+        assert_eq!(rt;
+            signed_total(b"9223372036854775807,1,-2", b','),
+            Ok(9223372036854775806)
+        );
+        assert_eq!(rt;
+            signed_total(b"-9223372036854775808,-1,+1", b','),
+            Ok(i64::MIN)
+        );
+        assert_eq!(rt; signed_total(b"", b','), Ok(0));
+    }
+
+    #[test]
+    fn a_total_out_of_range(rt: HostRuntime) {
+        assert_eq!(rt;
+            signed_total(b"9223372036854775807\n1\n", b'\n'),
+            Err(SignedTotalError::OutOfRange(9223372036854775808))
+        );
+    }
+
+    // The text of an error of which no more is known.
+    fn printed<E: Error>(alloc: Global, error: &E) -> Result<String, AllocError> {
+        format!(in alloc; "{error}")
+    }
+
+    #[test]
+    fn errors_print(rt: HostRuntime) -> Result<(), Fail> {
+        let trailing = ColumnError::Trailing { index: 1, place: 3 };
+        let bad = SignedTotalError::BadField(trailing);
+        assert_eq!(rt; signed_total(b"-7;x", b';').err().is_some(), true);
+        assert_eq!(rt;
+            printed(rt.alloc(), &bad)?.as_str(),
+            "field 1 goes on after its number, at byte 3"
+        );
+        assert_eq!(rt;
+            printed(
+                rt.alloc(),
+                &SignedTotalError::OutOfRange(-9223372036854775809)
+            )?
+            .as_str(),
+            "the total -9223372036854775809 is out of range"
+        );
+        Ok(())
+    }
+}

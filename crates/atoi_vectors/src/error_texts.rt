@@ -1,0 +1,124 @@
+//! What `Display` writes of an error, against texts written by hand. No clause says that it returns
+//! `Ok`, so each variant is printed here, with the shortest and the longest slices and numbers. It
+//! uses `parse` and the error of `atoi_simd`.
+
+use atoi_simd::AtoiSimdError::{self, Empty, Invalid64, Invalid128, Overflow, Size};
+use atoi_simd::parse;
+use std::alloc::{AllocError, Global};
+use std::process::Abort;
+
+fn displays(
+    rt: &impl Abort,
+    alloc: Global,
+    error: AtoiSimdError<'_>,
+    text: &str,
+) -> Result<(), AllocError> {
+    let written = format!(in alloc; "{error}")?;
+    assert_eq!(rt; written.as_str(), text);
+    Ok(())
+}
+
+#[test]
+fn short_texts(rt: HostRuntime) -> Result<(), AllocError> {
+    for (error, text) in [
+        (Empty, "atoi_simd string is empty"),
+        (Size(27, b"11"), "atoi_simd wrong size: 27 input: [31, 31]"),
+        (Overflow(b"129"), "atoi_simd overflow, input: [31, 32, 39]"),
+        (
+            Invalid64(12, 2, b"12a"),
+            "atoi_simd invalid at index: 2 it must contain only digits, starting with: 12  input: [31, 32, 61]",
+        ),
+        (
+            Invalid128(12, 2, b"12a"),
+            "atoi_simd invalid at index: 2 it must contain only digits, starting with: 12 input: [31, 32, 61]",
+        ),
+    ] {
+        displays(&rt, rt.alloc(), error, text)?;
+    }
+    Ok(())
+}
+
+#[test]
+fn the_shortest_slices_and_the_smallest_numbers(rt: HostRuntime) -> Result<(), AllocError> {
+    for (error, text) in [
+        (Size(0, b""), "atoi_simd wrong size: 0 input: []"),
+        (Overflow(b""), "atoi_simd overflow, input: []"),
+        (
+            Invalid64(0, 0, b""),
+            "atoi_simd invalid at index: 0 it must contain only digits, starting with: 0  input: []",
+        ),
+        (
+            Invalid128(0, 0, b"\0"),
+            "atoi_simd invalid at index: 0 it must contain only digits, starting with: 0 input: [0]",
+        ),
+    ] {
+        displays(&rt, rt.alloc(), error, text)?;
+    }
+    Ok(())
+}
+
+#[test]
+fn the_longest_slices_and_the_largest_numbers(rt: HostRuntime) -> Result<(), AllocError> {
+    for (error, text) in [
+        (
+            Size(usize::MAX, &[255; 48]),
+            "atoi_simd wrong size: 18446744073709551615 input: [FF, FF, FF, FF, FF, FF, FF, FF, FF, FF, FF, FF, FF, FF, FF, FF, FF, FF, FF, FF, FF, FF, FF, FF, FF, FF, FF, FF, FF, FF, FF, FF, FF, FF, FF, FF, FF, FF, FF, FF, FF, FF, FF, FF, FF, FF, FF, FF]",
+        ),
+        (
+            Overflow(&[255; 49]),
+            "atoi_simd overflow, input: [FF, FF, FF, FF, FF, FF, FF, FF, FF, FF, FF, FF, FF, FF, FF, FF, FF, FF, FF, FF, FF, FF, FF, FF, FF, FF, FF, FF, FF, FF, FF, FF, FF, FF, FF, FF, FF, FF, FF, FF, FF, FF, FF, FF, FF, FF, FF, FF]",
+        ),
+        (
+            Invalid64(u64::MAX, usize::MAX, &[255; 1000]),
+            "atoi_simd invalid at index: 18446744073709551615 it must contain only digits, starting with: 18446744073709551615  input: [FF, FF, FF, FF, FF, FF, FF, FF, FF, FF, FF, FF, FF, FF, FF, FF, FF, FF, FF, FF, FF, FF, FF, FF, FF, FF, FF, FF, FF, FF, FF, FF, FF, FF, FF, FF, FF, FF, FF, FF, FF, FF, FF, FF, FF, FF, FF, FF]",
+        ),
+        (
+            Invalid128(u128::MAX, usize::MAX, &[255; 48]),
+            "atoi_simd invalid at index: 18446744073709551615 it must contain only digits, starting with: 340282366920938463463374607431768211455 input: [FF, FF, FF, FF, FF, FF, FF, FF, FF, FF, FF, FF, FF, FF, FF, FF, FF, FF, FF, FF, FF, FF, FF, FF, FF, FF, FF, FF, FF, FF, FF, FF, FF, FF, FF, FF, FF, FF, FF, FF, FF, FF, FF, FF, FF, FF, FF, FF]",
+        ),
+    ] {
+        displays(&rt, rt.alloc(), error, text)?;
+    }
+    Ok(())
+}
+
+#[test]
+fn bytes_in_their_order(rt: HostRuntime) -> Result<(), AllocError> {
+    let bytes = [
+        0, 1, 2, 3, 4, 5, 6, 7, 8, 9, 10, 11, 12, 13, 14, 15, 16, 17, 18, 19, 20, 21, 22, 23, 24,
+        25, 26, 27, 28, 29, 30, 31, 32, 33, 34, 35, 36, 37, 38, 39, 40, 41, 42, 43, 44, 45, 46, 47,
+        48,
+    ];
+    for (error, text) in [
+        (
+            Overflow(&bytes),
+            "atoi_simd overflow, input: [0, 1, 2, 3, 4, 5, 6, 7, 8, 9, A, B, C, D, E, F, 10, 11, 12, 13, 14, 15, 16, 17, 18, 19, 1A, 1B, 1C, 1D, 1E, 1F, 20, 21, 22, 23, 24, 25, 26, 27, 28, 29, 2A, 2B, 2C, 2D, 2E, 2F]",
+        ),
+        (
+            Overflow(&[10; 50]),
+            "atoi_simd overflow, input: [A, A, A, A, A, A, A, A, A, A, A, A, A, A, A, A, A, A, A, A, A, A, A, A, A, A, A, A, A, A, A, A, A, A, A, A, A, A, A, A, A, A, A, A, A, A, A, A]",
+        ),
+    ] {
+        displays(&rt, rt.alloc(), error, text)?;
+    }
+    Ok(())
+}
+
+#[test]
+fn errors_of_long_texts(rt: HostRuntime) -> Result<(), AllocError> {
+    let overflow = parse::<u8, false, false>(&[b'9'; 50]);
+    let size = parse::<u128, false, false>(&[b'0'; 41]);
+    for (error, text) in [
+        (
+            overflow.err(),
+            "atoi_simd overflow, input: [39, 39, 39, 39, 39, 39, 39, 39, 39, 39, 39, 39, 39, 39, 39, 39, 39, 39, 39, 39, 39, 39, 39, 39, 39, 39, 39, 39, 39, 39, 39, 39, 39, 39, 39, 39, 39, 39, 39, 39, 39, 39, 39, 39, 39, 39, 39, 39]",
+        ),
+        (
+            size.err(),
+            "atoi_simd wrong size: 40 input: [30, 30, 30, 30, 30, 30, 30, 30, 30, 30, 30, 30, 30, 30, 30, 30, 30, 30, 30, 30, 30, 30, 30, 30, 30, 30, 30, 30, 30, 30, 30, 30, 30, 30, 30, 30, 30, 30, 30, 30, 30]",
+        ),
+    ] {
+        displays(&rt, rt.alloc(), error.unwrap_or(Empty), text)?;
+    }
+    Ok(())
+}

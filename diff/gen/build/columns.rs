@@ -1,0 +1,97 @@
+//! The columns that are timed: the lines of `diff/columns.txt` as exports in Rattle and as a table
+//! in Rust.
+
+use crate::mixes::{low_bits, words};
+use std::collections::BTreeSet;
+
+const HEAD: &str = "//! The columns that are timed: the build of `diff/gen` wrote them.
+#![tactic(auto)]
+
+use atoi_column::Column;
+";
+
+/// A line of the file.
+pub struct Shape {
+    integer: String,
+    digits: String,
+}
+
+/// The lines of the file, except comments.
+pub fn read(text: &str) -> Vec<Shape> {
+    words(text)
+        .map(|words| {
+            let &[integer, digits] = words.as_slice() else {
+                panic!("diff/columns.txt: a line is TYPE DIGITS, and not {words:?}");
+            };
+            Shape { integer: integer.to_string(), digits: digits.to_string() }
+        })
+        .collect()
+}
+
+/// The library of the timed columns: an export for each type.
+pub fn rattle(shapes: &[Shape]) -> String {
+    let exports: BTreeSet<String> = shapes.iter().map(Shape::export).collect();
+    exports.into_iter().fold(String::from(HEAD), |text, export| text + &export)
+}
+
+/// The declarations of these exports, and the table `SHAPES` of all that is timed.
+pub fn rust(shapes: &[Shape]) -> String {
+    let names: BTreeSet<String> = shapes.iter().map(Shape::name).collect();
+    let mut text = String::from("unsafe extern \"C\" {\n");
+    for name in names {
+        text += &format!("    fn {name}(text: *const u8, length: usize) -> u64;\n");
+    }
+    text += "}\n\npub static SHAPES: &[Shape] = &[\n";
+    shapes.iter().for_each(|shape| text += &shape.row());
+    text + "];\n"
+}
+
+impl Shape {
+    // The name of the export.
+    fn name(&self) -> String {
+        format!("column_{}", self.integer)
+    }
+
+    // An export that returns the sum of the low bits of all values, or the number of an error.
+    fn export(&self) -> String {
+        let (name, integer, low) = (self.name(), &self.integer, low_bits(&self.integer));
+        format!(
+            r#"
+#[unsafe(no_mangle)]
+pub extern "C" fn {name}(text: &[u8]) -> u64 {{
+    let mut sum: u64 = 0;
+    for item in Column::<{integer}>::new(text, b',') {{
+        match item {{
+            Ok(value) => sum = sum.wrapping_add({low}),
+            Err(_) => return 0x8000_0000_0000_0001,
+        }}
+    }}
+    sum
+}}
+"#
+        )
+    }
+
+    // The row of the table: the export, and what it is compared with.
+    fn row(&self) -> String {
+        let Shape { integer, digits } = self;
+        let name = self.name();
+        let is_signed = integer.starts_with('i');
+        format!(
+            r#"    Shape {{
+        integer: "{integer}",
+        digits: "{digits}",
+        column: {name},
+        others: [
+            standard::split::<{integer}>,
+            standard::unchecked::<{integer}, {is_signed}>,
+            #[cfg(feature = "original")]
+            original::split::<{integer}>,
+            #[cfg(feature = "original")]
+            original::prefixes::<{integer}>,
+        ],
+    }},
+"#
+        )
+    }
+}
