@@ -17,6 +17,8 @@ mod every_byte;
 #[cfg(test)]
 mod kernels;
 #[cfg(test)]
+mod laws;
+#[cfg(test)]
 mod letters;
 #[cfg(test)]
 mod loops;
