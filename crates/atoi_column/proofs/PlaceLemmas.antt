@@ -84,5 +84,5 @@ pub items_left-inside : (k : Kind) → PrefixOfCut k → (separator : ℕ) (inpu
 unfolding items_left
 items_left-inside k law separator input =
     items_from-inside (parse_answer k true true) (parse_prefix_answer k true true)
-    (λ rest v count h. (law.cut (looked_for true) tt true rest v count h).1) (length input) 0 0 input (fields_of separator input)
+    (λ rest v count h. (law.cut (looked_for true) true rest v count h).1) (length input) 0 0 input (fields_of separator input)
     (fields_of-place separator input) (omega (arith, length-fields_of separator input)) (λ some. omega arith)

@@ -118,16 +118,16 @@ fields_are_prefixes k is_whole of_cut rest_changes separator is rest =
     let p : ℕ → Bool = λ byte. byte == separator in
     let text : List ℕ = before_first p rest in
     let ends : length text ≡ position_or_len p rest = length-before_first p rest in
-    let same = rest_changes (looked_for true) tt true text rest (same_run_of_field k separator is rest) in
+    let same = rest_changes (looked_for true) true text rest (same_run_of_field k separator is rest) in
     record {
       to_prefix = λ value h.
           same_kind-ok (prefix_call k (looked_for true) true text) (prefix_call k (looked_for true) true rest) (value, position_or_len p rest) same
-          (rw ends at (is_whole.back (looked_for true) tt true text value (inl refl) h));
+          (rw ends at (is_whole.back (looked_for true) true text value (inl refl) h));
       to_field = λ value h.
-          is_whole.whole (looked_for true) tt true text value
+          is_whole.whole (looked_for true) true text value
           (rw ends (same_kind-ok_back (prefix_call k (looked_for true) true text) (prefix_call k (looked_for true) true rest) (value, position_or_len p rest) same h));
       within = λ value count h.
-          let cut = of_cut.cut (looked_for true) tt true text value count
+          let cut = of_cut.cut (looked_for true) true text value count
           (same_kind-ok_back (prefix_call k (looked_for true) true text) (prefix_call k (looked_for true) true rest) (value, count) same h) in
           omega (arith, cut.1, ends);
     }

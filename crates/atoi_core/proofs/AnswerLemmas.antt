@@ -1,10 +1,9 @@
 -- The answers for an integer type, from those of the loops.
-use Rattle.std.proofs.Common.{◌≡◌, ℕ, ◌≤◌, Bool, true, false, List, length, Result, Ok, refl, ap, ◌∙◌, sym, arith, subst}
+use Rattle.std.proofs.Common.{◌≡◌, ℕ, ◌≤◌, Bool, true, false, List, length, Ok, refl, ap, sym, arith, subst}
 use Rattle.std.proofs.lemmas.List.Sums.{prefix_len-le-length}
 use Rattle.atoi_core.specs.Digit.{Table, is_digit}
-use Rattle.atoi_core.specs.Run.{run_len, run, value}
-use Rattle.atoi_core.specs.Refusal.{Refusal}
-use Rattle.atoi_core.specs.Magnitude.{Class, narrow, whole, prefix, refusal, unless_refused, whole_magnitude, prefix_magnitude}
+use Rattle.atoi_core.specs.Run.{run_len}
+use Rattle.atoi_core.specs.Magnitude.{Class, narrow, whole, prefix, refusal, whole_magnitude, prefix_magnitude}
 use Rattle.atoi_core.specs.Answer.{map_answer}
 use Rattle.atoi_core.proofs.RefusalLemmas.{accepted}
 use Rattle.atoi_core.proofs.CallLemmas.{map_unless_ok}

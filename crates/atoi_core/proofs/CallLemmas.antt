@@ -1,5 +1,5 @@
 -- The calls by the sign that they go by, and what an answer that is `Ok` tells.
-use Rattle.std.proofs.Common.{◌≡◌, ℕ, ◌+◌, Bool, true, false, List, length, Option, Some, None, Result, Ok, Err, ℤ, refl, sym, ap, ◌∙◌, add-zero, ◌<◌, ◌≤◌, eqb, eqb-true, eq-eqb}
+use Rattle.std.proofs.Common.{◌≡◌, ℕ, ◌+◌, Bool, false, List, length, Option, Some, None, Result, Ok, Err, ℤ, refl, sym, ap, ◌∙◌, add-zero, ◌<◌, ◌≤◌, eqb, eqb-true, eq-eqb}
 use Rattle.std.proofs.lemmas.Bool.{not-false}
 use Rattle.atoi_core.specs.Digit.{decimal_table}
 use Rattle.atoi_core.specs.Run.{run_len, run, value}
@@ -8,7 +8,7 @@ use Rattle.atoi_core.specs.Magnitude.{whole, prefix, is_above, leaves_rest, unle
 use Rattle.atoi_core.specs.Kind.{Kind, class_of, bound_of, limit_of}
 use Rattle.atoi_core.specs.Sign.{Sign, number_of}
 use Rattle.atoi_core.specs.Answer.{map_answer, whole_answer, prefix_answer, with_more}
-use Rattle.atoi_core.specs.Laws.{SignForm, looked_for, positive, negative, sign_in, whole_call, prefix_call}
+use Rattle.atoi_core.specs.Laws.{SignForm, looked_for, given, sign_in, whole_call, prefix_call}
 use Rattle.atoi_core.proofs.RefusalLemmas.{IsAccepted, accepted, refusal-none, limit_at, counting_digits}
 
 -- a count that grows by 0 stays
@@ -20,16 +20,14 @@ with_more-zero (Err reason) = refl
 pub whole_call-is : (k : Kind) (form : SignForm) (skip : Bool) (s : List ℕ)
     → whole_call k form skip s ≡ whole_answer decimal_table k (sign_in k form s).minus skip (sign_in k form s).body
 whole_call-is k (looked_for plus) skip s = refl
-whole_call-is k positive skip s = refl
-whole_call-is k negative skip s = refl
+whole_call-is k (given is_negative) skip s = refl
 
 -- a prefix parse too, and counts the sign's byte
 pub prefix_call-is : (k : Kind) (form : SignForm) (skip : Bool) (s : List ℕ)
     → prefix_call k form skip s
     ≡ with_more (sign_in k form s).taken (prefix_answer decimal_table k (sign_in k form s).minus skip (sign_in k form s).body)
 prefix_call-is k (looked_for plus) skip s = refl
-prefix_call-is k positive skip s = sym (with_more-zero (prefix_answer decimal_table k false skip s))
-prefix_call-is k negative skip s = sym (with_more-zero (prefix_answer decimal_table k true skip s))
+prefix_call-is k (given is_negative) skip s = sym (with_more-zero (prefix_answer decimal_table k is_negative skip s))
 
 -- the magnitude with its sign, and how many bytes were read
 abbrev pub counted_number : Bool → ℕ × ℕ → ℤ × ℕ

@@ -2,7 +2,7 @@
 use Rattle.std.proofs.Common.{◌≡◌, ℕ, zero, suc, ◌+◌, ◌-◌, ◌^◌, ◌<◌, ◌≤◌, min, Bool, true, List, ◌++◌, length, take, drop, replicate, All, IsTrue, refl, arith, subst}
 use Rattle.std.proofs.lemmas.Bool.Decides.{eqb_tells}
 use Rattle.std.proofs.lemmas.List.{take_all}
-use Rattle.std.proofs.lemmas.List.Sums.{prefix_len_passes, prefix_len_is}
+use Rattle.std.proofs.lemmas.List.Sums.{prefix_len_passes}
 use Rattle.std.proofs.lemmas.List.Folds.{length-prefix_len}
 use Rattle.std.specs.List.{prefix_len}
 use Rattle.atoi_core.specs.Digit.{Table, is_digit, worth, is_zero}
@@ -21,11 +21,6 @@ module _ (table : Table) where
   -- the run is as long as its length says
   pub length-run : (s : List ℕ) → length (run table s) ≡ run_len table s
   length-run s = length-prefix_len (is_digit table) s
-
-  -- a slice of digits is its own run
-  pub all_digits : (s : List ℕ) → All (λ byte. IsTrue (is_digit table byte)) s → run_len table s ≡ length s
-  all_digits s h =
-      prefix_len_is (is_digit table) s (length s) 0 (omega arith) (λ i lt. h i 0 lt) (λ lt. absurd (omega arith))
 
   -- a slice that is its own run holds digits only
   pub digits_all : (s : List ℕ) → run_len table s ≡ length s → All (λ byte. IsTrue (is_digit table byte)) s

@@ -33,7 +33,7 @@ whole_skipping k minus body v h =
 
 -- the law: skipping zeros agrees with counting them, where the latter succeeds
 pub skipping_agrees : (k : Kind) → SkippingAgrees k
-skipping_agrees k form has s v h =
+skipping_agrees k form s v h =
     whole_call-is k form true s ∙ whole_skipping k (sign_in k form s).minus (sign_in k form s).body v (sym (whole_call-is k form false s) ∙ h)
 
 -- a decimal digit, by its byte

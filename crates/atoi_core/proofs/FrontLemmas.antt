@@ -1,22 +1,24 @@
--- The fronts that write a number are exactly what a prefix parse finds.
-use Rattle.std.proofs.Common.{◌≡◌, ℕ, ◌+◌, ◌<◌, ◌≤◌, Bool, true, false, IsFalse, List, [], ◌∷◌, ◌++◌, length, take, drop, get_or, ℤ, Ok, refl, sym, ap, ◌∙◌, subst, arith, inl, inr, eq-eqb, get_or-drop, length-drop, append_assoc, length-append}
+-- The slices and fronts that write a number are exactly what a parse accepts and finds.
+use Rattle.std.proofs.Common.{◌≡◌, ℕ, ◌+◌, ◌<◌, ◌≤◌, Bool, true, IsFalse, List, [], ◌∷◌, ◌++◌, length, take, drop, get_or, ℤ, IsOk, Result, Ok, Err, refl, sym, ap, ◌∙◌, subst, arith, inl, inr, eq-eqb, get_or-drop, length-drop, append_assoc, append-nil, length-append}
 use Rattle.std.proofs.Math.Seq.{take-append_seam}
 use Rattle.std.proofs.lemmas.Bool.{cases_Bool}
 use Rattle.std.proofs.lemmas.List.{length-take-le, take-append-drop}
 use Rattle.std.proofs.lemmas.List.Folds.{prefix_len-append}
+use Rattle.std.proofs.lemmas.List.Prefix.{front_rest}
 use Rattle.std.specs.Str.Parse.{AllDigits}
 use Rattle.atoi_core.specs.Digit.{decimal_table, is_digit}
 use Rattle.atoi_core.specs.Run.{run_len, run, value}
 use Rattle.atoi_core.specs.Kind.{Kind, IsSized, bound_of, limit_of}
 use Rattle.atoi_core.specs.Sign.{Sign, sign_of}
+use Rattle.atoi_core.specs.Answer.{parse_answer}
 use Rattle.atoi_core.specs.Text.{is_minus, sign_bytes, DigitsWrite, TextWrites, BeginsWithDigit, FrontWrites}
-use Rattle.atoi_core.specs.Laws.{SignForm, looked_for, positive, negative, prefix_call, Writes, AcceptedFronts}
+use Rattle.atoi_core.specs.Laws.{SignForm, looked_for, given, whole_call, prefix_call, Writes, AcceptedFronts, FrontsAndRests, AcceptedNumbers, AcceptedTexts}
 use Rattle.atoi_core.proofs.SignLemmas.{digit_in_range}
 use Rattle.atoi_core.proofs.CallLemmas.{IsFound, ok_prefix}
 use Rattle.atoi_core.proofs.LimitLemmas.{in_range_short, limit_of_prefix}
 use Rattle.atoi_core.proofs.DecimalLemmas.{digit_is, own, run_of_digits}
-use Rattle.atoi_core.proofs.PrefixLemmas.{stops_at_rest, whole_of_prefix, found_in_cut}
-use Rattle.atoi_core.proofs.TextLemmas.{sign_of_text, accepted_numbers}
+use Rattle.atoi_core.proofs.PrefixLemmas.{prefix_stops_at_rest, prefix_is_whole, prefix_of_cut}
+use Rattle.atoi_core.proofs.TextLemmas.{sign_of_text, whole_written}
 
 -- no run begins where no digit stands
 stops : (rest : List ℕ) → ¬ BeginsWithDigit rest → run_len decimal_table rest ≡ 0
@@ -96,21 +98,93 @@ accepted_fronts k sized = record { written = written; accepted = accepted }
     written : (form : SignForm) (skip : Bool) (s : List ℕ) (number : ℤ) (count : ℕ)
         → prefix_call k form skip s ≡ Ok (number, count) → FrontWrites (Writes k form) s number count
     written form skip s number count h =
-        let cut = found_in_cut k form skip s number count h in
+        let cut = (prefix_of_cut k).cut form skip s number count h in
         let len : count ≡ length (take count s) = sym (length-take-le count s cut.1) in
         let to_end : prefix_call k form skip (take count s) ≡ Ok (number, length (take count s)) = cut.2 ∙ ap (λ (n : ℕ). Ok (number, n)) len in
         record {
-          front = (accepted_numbers k sized).written form skip (take count s) number (whole_of_prefix k form skip (take count s) number to_end);
+          front = whole_written k form skip (take count s) number ((prefix_is_whole k).whole form skip (take count s) number to_end);
           some = omega (arith, cut.0);
           within = cut.1;
           ends = no_digit (drop count s) (λ lt.
               let at : get_or (drop count s) 0 0 ≡ get_or s count 0 = get_or-drop count s 0 0 ∙ ap (λ (i : ℕ). get_or s i 0) (omega arith) in
-              elim (stops_at_rest k form skip s number count h) [ inl e ↦ absurd (omega (arith, length-drop count s)) | inr end ↦ rw at end.1 ]);
+              elim (prefix_stops_at_rest k form skip s number count h) [ inl e ↦ absurd (omega (arith, length-drop count s)) | inr end ↦ rw at end.1 ]);
         }
 
     accepted : (form : SignForm) (s : List ℕ) (number : ℤ) (count : ℕ)
         → FrontWrites (Writes k form) s number count → prefix_call k form true s ≡ Ok (number, count)
     accepted (looked_for takes_plus) s number count h =
         ok_prefix k (looked_for takes_plus) true s number count (found_text k sized takes_plus s number count h)
-    accepted positive s number count h = ok_prefix k positive true s number count (found_digits k sized false s number count h)
-    accepted negative s number count h = ok_prefix k negative true s number count (found_digits k sized true s number count h)
+    accepted (given is_negative) s number count h =
+        ok_prefix k (given is_negative) true s number count (found_digits k sized is_negative s number count h)
+
+-- bytes that write a number are not empty
+some : (k : Kind) (form : SignForm) (front : List ℕ) (number : ℤ) → Writes k form front number → 0 < length front
+some k (looked_for takes_plus) front number h = omega (arith, ap length h.parts, length-append {A = ℕ}, h.written.numeral.0)
+some k (given is_negative) front number h = h.numeral.0
+
+joined : (k : Kind) (form : SignForm) (s front rest : List ℕ) (number : ℤ)
+    → s ≡ front ++ rest → Writes k form front number → ¬ BeginsWithDigit rest → FrontWrites (Writes k form) s number (length front)
+joined k form s front rest number parts written ends =
+    let cut : take (length front) s ≡ front = ap (take (length front)) parts ∙ take-append_seam front rest in
+    record {
+      front = rw cut written;
+      some = some k form front number written;
+      within = omega (arith, ap length parts, length-append front rest);
+      ends = rw (front_rest s front rest parts) ends;
+    }
+
+-- two answers of one call are the same number and count
+same_answer : {E : Type 0} (a b : ℤ) (m n : ℕ) (answer : Result (ℤ × ℕ) E) → answer ≡ Ok (a, m) → answer ≡ Ok (b, n) → (a ≡ b) × (m ≡ n)
+same_answer a b m n answer h k =
+    let both = sym h ∙ k in
+    let pair : (a, m) ≡ (b, n) = cc in (ap (λ (p : ℤ × ℕ). p.0) pair, ap (λ (p : ℤ × ℕ). p.1) pair)
+
+-- both are what a prefix that skips zeros answers
+only : (k : Kind) → IsSized k → (form : SignForm) (s : List ℕ) (number other : ℤ) (count len : ℕ)
+    → FrontWrites (Writes k form) s number count → FrontWrites (Writes k form) s other len → (number ≡ other) × (count ≡ len)
+only k sized form s number other count len h g =
+    let found = (accepted_fronts k sized).accepted in
+    same_answer number other count len (prefix_call k form true s) (found form s number count h) (found form s other len g)
+
+-- so a front that was found cuts the slice where these bytes end
+cut : (k : Kind) → IsSized k → (form : SignForm) (s front rest : List ℕ) (number other : ℤ) (count : ℕ)
+    → s ≡ front ++ rest → Writes k form front number → ¬ BeginsWithDigit rest → FrontWrites (Writes k form) s other count
+    → (number ≡ other) × ((take count s ≡ front) × (drop count s ≡ rest))
+cut k sized form s front rest number other count parts written ends found =
+    let same = only k sized form s number other (length front) count (joined k form s front rest number parts written ends) found in
+    (same.0, (ap (λ n. take n s) (sym same.1) ∙ (ap (take (length front)) parts ∙ take-append_seam front rest),
+      ap (λ n. drop n s) (sym same.1) ∙ front_rest s front rest parts))
+
+-- the law
+pub fronts_and_rests : (k : Kind) → IsSized k → FrontsAndRests k
+fronts_and_rests k sized = record { joined = joined k; only = only k sized; cut = cut k sized }
+
+-- a slice that writes a number is a front of itself, so a whole parse that skips zeros accepts it
+whole_accepted : (k : Kind) → IsSized k → (form : SignForm) (s : List ℕ) (number : ℤ) → Writes k form s number → whole_call k form true s ≡ Ok number
+whole_accepted k sized form s number h =
+    (prefix_is_whole k).whole form true s number
+    ((accepted_fronts k sized).accepted form s number (length s) (joined k form s s [] number (sym (append-nil s)) h (λ digit. digit)))
+
+-- the law: what a whole parse answers is written there, and what is written is answered
+pub accepted_numbers : (k : Kind) → IsSized k → AcceptedNumbers k
+accepted_numbers k sized = record { written = whole_written k; accepted = whole_accepted k sized }
+
+-- an answer that is `Ok` has a value
+ok_value : {A E : Type 0} (r : Result A E) → IsOk r → (x : A) × (r ≡ Ok x)
+ok_value (Ok x) h = (x, refl)
+ok_value (Err e) h = absurd (cc h)
+
+-- an answer with a value is `Ok`
+ok_is_ok : {A E : Type 0} (r : Result A E) (x : A) → r ≡ Ok x → IsOk r
+ok_is_ok r x h = rw h refl
+
+-- the law: what is accepted are the texts, and the answer is the number
+pub accepted_texts : (k : Kind) → IsSized k → AcceptedTexts k
+accepted_texts k sized = record {
+  accepted = λ s. (
+    λ h. let found = ok_value (parse_answer k true true s) h in
+        record { number = found.0; written = whole_written k (looked_for true) true s found.0 found.1 },
+    λ text. ok_is_ok _ _ (whole_accepted k sized (looked_for true) s text.number text.written),
+  );
+  number = whole_accepted k sized (looked_for true);
+}

@@ -100,7 +100,7 @@ same_run k skip g h minus taken runs =
 
 -- the law: what stands behind a run changes nothing
 pub rest_changes_nothing : (k : Kind) → RestChangesNothing k
-rest_changes_nothing k form has skip s t same =
+rest_changes_nothing k form skip s t same =
     subst₂ (λ x y. IsSameKind x y) (with_more-zero (prefix_at k skip (sign_in k form s)) ∙ sym (prefix_call-is k form skip s)) (sym (prefix_call-is k form skip t))
     (same_run k skip (sign_in k form s) (sign_in k form t) same.minus same.taken same.run)
 
@@ -194,11 +194,11 @@ prefix_padded k g count some =
 -- the law: zeros before a body change nothing
 pub zeros_change_nothing : (k : Kind) → ZerosChangeNothing k
 zeros_change_nothing k = record {
-  whole = λ form has s count some.
+  whole = λ form s count some.
       subst₂ (λ x y. IsSameKind x y) (sym (whole_call-is k form true s))
       (ap (whole_at k true) (sym (sign_of_padded k form s count some)) ∙ sym (whole_call-is k form true (with_zeros k form count s)))
       (whole_padded k (sign_in k form s) count some);
-  prefix = λ form has s count some.
+  prefix = λ form s count some.
       subst₂ (λ x y. IsSameKind x y) (ap (with_more count) (sym (prefix_call-is k form true s)))
       (ap (prefix_at k true) (sym (sign_of_padded k form s count some)) ∙ sym (prefix_call-is k form true (with_zeros k form count s)))
       (prefix_padded k (sign_in k form s) count some);

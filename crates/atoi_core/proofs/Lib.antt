@@ -26,7 +26,6 @@ pub mod DecimalLemmas
 pub mod DecimalTexts
 pub mod PrefixLemmas
 pub mod FrontLemmas
-pub mod FrontsAndRests
 pub mod ResultLemmas
 pub mod SuffixLemmas
 pub mod ReasonLemmas

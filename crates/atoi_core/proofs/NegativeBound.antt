@@ -1,10 +1,9 @@
 -- Both signs from one parse under the negative bound: the answers of the two bounds are the same, but
 -- for the magnitude of the smallest value, which overflows without a minus.
-use Rattle.std.proofs.Common.{◌≡◌, ℕ, suc, ◌+◌, ◌-◌, ◌*◌, ◌/◌, ◌^◌, ◌<◌, ◌≤◌, Bool, true, false, cond, ltb, leb, eqb, not, ◌&&◌, List, length, drop, Option, Result, Some, None, Ok, Err, refl, sym, ap, ap₂, ◌∙◌, subst, lit<, arith, le-ltb, inl, inr}
+use Rattle.std.proofs.Common.{◌≡◌, ℕ, ◌+◌, ◌-◌, ◌*◌, ◌/◌, ◌^◌, ◌<◌, ◌≤◌, Bool, true, false, cond, ltb, leb, eqb, not, ◌&&◌, List, length, drop, Option, Some, None, Ok, Err, refl, sym, ap, ap₂, ◌∙◌, subst, lit<, arith, le-ltb, inl, inr}
 use Rattle.std.proofs.Math.IntN.{ℤ}
 use Rattle.std.proofs.Math.Nat.{pow-le-pow_right}
-use Rattle.std.proofs.lemmas.Bool.{lt-ltb, ltb-true, ltb-false, cases_lt, eqb-true, eqb-false}
-use Rattle.std.proofs.lemmas.Bool.Decides.{nat_tests}
+use Rattle.std.proofs.lemmas.Bool.{lt-ltb, ltb-true, ltb-false, cases_lt, eqb-false}
 use Rattle.atoi_core.specs.Digit.{Table, IsBelowTen}
 use Rattle.atoi_core.specs.Run.{run_len, run, zeros, value}
 use Rattle.atoi_core.specs.Refusal.{Refusal, empty, overflow, number_in, index_in}
@@ -12,7 +11,7 @@ use Rattle.atoi_core.specs.Magnitude.{Class, narrow, wide64, wide128, Extent, wh
 use Rattle.atoi_core.specs.Kind.{Kind, class_of, bound_of, limit_of}
 use Rattle.atoi_core.specs.Sign.{number_of}
 use Rattle.atoi_core.specs.Answer.{whole_answer, prefix_answer}
-use Rattle.atoi_core.proofs.RefusalLemmas.{first_of, refusal-is, is_empty, is_long, is_followed, too_long, over, followed, IsAccepted, accepted, refusal-none, refused_overflow, refusal-cases}
+use Rattle.atoi_core.proofs.RefusalLemmas.{first_of, refusal-is, is_empty, is_long, is_followed, too_long, over, followed, accepted, refusal-none, refused_overflow, refusal-cases}
 use Rattle.atoi_core.proofs.CallLemmas.{counted_number, map_unless_ok, map_unless_err, whole_is_run}
 use Rattle.std.proofs.lemmas.List.{length-take-le}
 use Rattle.std.proofs.lemmas.List.Sums.{prefix_len-le-length}

@@ -1,6 +1,6 @@
 -- Prefixes: where they stop, what they answer where the slice ends with them, and that one which
 -- reaches the end is a whole parse.
-use Rattle.std.proofs.Common.{◌≡◌, ℕ, ◌<◌, ◌≤◌, ◌⊎◌, Bool, IsFalse, List, ◌++◌, length, take, get_or, Ok, ℤ, refl, sym, ap, ◌∙◌, subst, arith, inl, inr, get_or-drop, take-add, add_comm}
+use Rattle.std.proofs.Common.{◌≡◌, ℕ, ◌≤◌, Bool, List, ◌++◌, length, take, get_or, Ok, ℤ, refl, sym, ap, ◌∙◌, subst, arith, inl, inr, get_or-drop, take-add, add_comm}
 use Rattle.std.proofs.lemmas.Bool.{cases_lt}
 use Rattle.std.proofs.lemmas.List.Sums.{prefix_len-le-length, prefix_len_stops}
 use Rattle.atoi_core.specs.Digit.{decimal_table, is_digit}
@@ -14,10 +14,9 @@ use Rattle.atoi_core.proofs.CallLemmas.{whole_call-is, from_whole, to_whole, is_
 use Rattle.atoi_core.proofs.RefusalLemmas.{counting_digits}
 use Rattle.atoi_core.proofs.LimitLemmas.{long_as_whole, limit_of_prefix}
 
--- a prefix stops at the end or before a byte that is no digit
-pub stops_at_rest : (k : Kind) (form : SignForm) (skip : Bool) (s : List ℕ) (v : ℤ) (count : ℕ) → prefix_call k form skip s ≡ Ok (v, count)
-    → (count ≡ length s) ⊎ ((count < length s) × IsFalse (is_digit decimal_table (get_or s count 0)))
-stops_at_rest k form skip s v count h =
+-- the law: a prefix stops at the end or before a byte that is no digit
+pub prefix_stops_at_rest : (k : Kind) → PrefixStopsAtRest k
+prefix_stops_at_rest k form skip s v count h =
     let counts = (found_prefix k form skip s v count h).counted in
     let g = sign_in k form s in
     let n = run_len decimal_table g.body in
@@ -32,12 +31,8 @@ stops_at_rest k form skip s v count h =
       | inr le ↦ inl (omega (arith, prefix_len-le-length (is_digit decimal_table) g.body))
     ]
 
--- the law, for the calls of the type
-pub prefix_stops_at_rest : (k : Kind) → PrefixStopsAtRest k
-prefix_stops_at_rest k form has skip s v count h = stops_at_rest k form skip s v count h
-
 -- a prefix that reaches the end is a whole parse
-pub whole_of_prefix : (k : Kind) (form : SignForm) (skip : Bool) (s : List ℕ) (v : ℤ)
+whole_of_prefix : (k : Kind) (form : SignForm) (skip : Bool) (s : List ℕ) (v : ℤ)
     → prefix_call k form skip s ≡ Ok (v, length s) → whole_call k form skip s ≡ Ok v
 whole_of_prefix k form skip s v h =
     let found = found_prefix k form skip s v (length s) h in
@@ -67,8 +62,8 @@ prefix_of_whole k form skip s v limit h =
 -- the law: both directions
 pub prefix_is_whole : (k : Kind) → PrefixIsWhole k
 prefix_is_whole k = record {
-  whole = λ form has skip s v h. whole_of_prefix k form skip s v h;
-  back = λ form has skip s v limit h. prefix_of_whole k form skip s v limit h;
+  whole = whole_of_prefix k;
+  back = prefix_of_whole k;
 }
 
 -- the front that was read is read again where the body ends with it
@@ -92,7 +87,7 @@ found_again k g skip v count h =
     }
 
 -- a prefix is answered alike where the slice ends with it
-pub found_in_cut : (k : Kind) (form : SignForm) (skip : Bool) (s : List ℕ) (v : ℤ) (count : ℕ) → prefix_call k form skip s ≡ Ok (v, count)
+found_in_cut : (k : Kind) (form : SignForm) (skip : Bool) (s : List ℕ) (v : ℤ) (count : ℕ) → prefix_call k form skip s ≡ Ok (v, count)
     → (1 ≤ count) × (count ≤ length s) × (prefix_call k form skip (take count s) ≡ Ok (v, count))
 found_in_cut k form skip s v count h =
     let found = found_prefix k form skip s v count h in
@@ -114,6 +109,6 @@ found_in_cut k form skip s v count h =
           (subst (λ (h : Sign). IsFound k h skip v count) (sym again) (found_again k g skip v count found)),
     )
 
--- the law, for the calls of the type
+-- the law
 pub prefix_of_cut : (k : Kind) → PrefixOfCut k
-prefix_of_cut k = record { cut = λ form has. found_in_cut k form }
+prefix_of_cut k = record { cut = found_in_cut k }

@@ -20,15 +20,6 @@ first_none false false true d p q r s h = absurd (cc h)
 first_none false false false true p q r s h = absurd (cc h)
 first_none false false false false p q r s h = (refl, refl, refl, refl)
 
--- what holds of each reason holds of the first
-first_some : (P : Refusal → Type 0) (a b c d : Bool) (p q r s : Refusal) → P p → P q → P r → P s
-    → (reason : Refusal) → first_of a b c d p q r s ≡ Some reason → P reason
-first_some P true b c d p q r s hp hq hr hs reason h = let e : p ≡ reason = cc h in subst P e hp
-first_some P false true c d p q r s hp hq hr hs reason h = let e : q ≡ reason = cc h in subst P e hq
-first_some P false false true d p q r s hp hq hr hs reason h = let e : r ≡ reason = cc h in subst P e hr
-first_some P false false false true p q r s hp hq hr hs reason h = let e : s ≡ reason = cc h in subst P e hs
-first_some P false false false false p q r s hp hq hr hs reason h = absurd (cc h)
-
 -- what holds of each reason where its test is the first that holds, holds of the first reason
 first_cases : (P : Refusal → Type 0) (a b c d : Bool) (p q r s : Refusal)
     → (a ≡ true → P p) → (a ≡ false → b ≡ true → P q) → (a ≡ false → b ≡ false → c ≡ true → P r)
@@ -166,15 +157,6 @@ module _ (table : Table) (class : Class) (bound limit : ℕ) (extent : Extent) (
         ends = tests.3;
       }
 
-  -- the slice of a reason is the body, but for some bytes in front
-  pub refusal-input : (reason : Refusal) → refusal table class bound limit extent skip body ≡ Some reason
-      → (n : ℕ) × (input_of reason ≡ drop n body)
-  refusal-input reason h =
-      first_some (λ r. (n : ℕ) × (input_of r ≡ drop n body)) is_empty is_long is_over is_followed empty too_long over followed
-      (length body, sym (drop-length body)) (skipped_zeros table skip body, refl) (rule.dropped, refl)
-      (0, input-invalid class _ _ body)
-      reason (sym refusal-is ∙ h)
-
   -- what holds of each reason where it is the first, holds of the reason
   pub refusal-cases : (P : Refusal → Type 0)
       → (is_empty ≡ true → P empty)
@@ -184,6 +166,14 @@ module _ (table : Table) (class : Class) (bound limit : ℕ) (extent : Extent) (
       → (reason : Refusal) → refusal table class bound limit extent skip body ≡ Some reason → P reason
   refusal-cases P p q r s reason h =
       first_cases P is_empty is_long is_over is_followed empty too_long over followed p q r s reason (sym refusal-is ∙ h)
+
+  -- the slice of a reason is the body, but for some bytes in front
+  pub refusal-input : (reason : Refusal) → refusal table class bound limit extent skip body ≡ Some reason
+      → (n : ℕ) × (input_of reason ≡ drop n body)
+  refusal-input reason h =
+      refusal-cases (λ r. (n : ℕ) × (input_of r ≡ drop n body))
+      (λ e. (length body, sym (drop-length body))) (λ e l. (skipped_zeros table skip body, refl)) (λ e l o. (rule.dropped, refl))
+      (λ e l o f. (0, input-invalid class _ _ body)) reason h
 
   -- the kind of a reason is told by the four tests
   pub refusal-rank : option_map rank (refusal table class bound limit extent skip body)

@@ -1,14 +1,13 @@
 -- What the results of a type say of their slices, from what the answers say.
-use Rattle.std.proofs.Common.{◌≡◌, ℕ, Bool, true, false, List, ℤ, Result, Ok, Err, IfOk, OnErr, sym, ◌∙◌}
+use Rattle.std.proofs.Common.{◌≡◌, ℕ, Bool, ℤ, Result, Ok, Err, IfOk, OnErr, sym, ◌∙◌}
 use Rattle.atoi_core.specs.Digit.{decimal_table}
 use Rattle.atoi_core.specs.Kind.{Kind, IsSized}
 use Rattle.atoi_core.specs.Refusal.{Refusal}
 use Rattle.atoi_core.specs.declared.error.AtoiSimdError.{AtoiSimdError}
 use Rattle.atoi_core.specs.Answer.{typed_answer, typed_prefix_answer, whole_answer, prefix_answer, parse_answer, parse_prefix_answer}
 use Rattle.atoi_core.specs.Text.{DigitsWrite, TextWrites, FrontWrites}
-use Rattle.atoi_core.specs.Laws.{looked_for, positive, negative, AcceptedNumbers, WholeResults, AcceptedFronts, PrefixResults}
-use Rattle.atoi_core.proofs.TextLemmas.{accepted_numbers, digits_written, digits_accepted}
-use Rattle.atoi_core.proofs.FrontLemmas.{accepted_fronts}
+use Rattle.atoi_core.specs.Laws.{looked_for, given, AcceptedNumbers, WholeResults, AcceptedFronts, PrefixResults}
+use Rattle.atoi_core.proofs.FrontLemmas.{accepted_numbers, accepted_fronts}
 
 module _ {T : Type 0} (number : T → ℤ) where
   -- what holds of the answer's number holds of the result's
@@ -43,9 +42,9 @@ module _ {T : Type 0} (k : Kind) (sized : IsSized k) (number : T → ℤ) (skip 
     no_text = λ plus s result is on.
         on_err number result (parse_answer k skip plus s) (TextWrites k plus s) is (λ any h. rw on (law.accepted (looked_for plus) s any h));
     digits = λ is_negative s result is.
-        if_ok number result (whole_answer decimal_table k is_negative skip s) (DigitsWrite k is_negative s) is (λ any h. digits_written k is_negative skip s any h);
+        if_ok number result (whole_answer decimal_table k is_negative skip s) (DigitsWrite k is_negative s) is (λ any h. law.written (given is_negative) skip s any h);
     no_digits = λ is_negative s result is on.
-        on_err number result (whole_answer decimal_table k is_negative skip s) (DigitsWrite k is_negative s) is (λ any h. rw on (digits_accepted k sized is_negative s any h));
+        on_err number result (whole_answer decimal_table k is_negative skip s) (DigitsWrite k is_negative s) is (λ any h. rw on (law.accepted (given is_negative) s any h));
   }
     where
       law : AcceptedNumbers k
@@ -59,20 +58,10 @@ module _ {T : Type 0} (k : Kind) (sized : IsSized k) (number : T → ℤ) (skip 
     no_text = λ plus s result is on.
         on_none number result (parse_prefix_answer k skip plus s) (FrontWrites (TextWrites k plus) s) is (λ any count h. rw on (law.accepted (looked_for plus) s any count h));
     digits = λ is_negative s result is.
-        if_found number result (prefix_answer decimal_table k is_negative skip s) (FrontWrites (DigitsWrite k is_negative) s) is (λ any count h. written is_negative s any count h);
+        if_found number result (prefix_answer decimal_table k is_negative skip s) (FrontWrites (DigitsWrite k is_negative) s) is (λ any count h. law.written (given is_negative) skip s any count h);
     no_digits = λ is_negative s result is on.
-        on_none number result (prefix_answer decimal_table k is_negative skip s) (FrontWrites (DigitsWrite k is_negative) s) is (λ any count h. rw on (accepted is_negative s any count h));
+        on_none number result (prefix_answer decimal_table k is_negative skip s) (FrontWrites (DigitsWrite k is_negative) s) is (λ any count h. rw on (law.accepted (given is_negative) s any count h));
   }
     where
       law : AcceptedFronts k
       law = accepted_fronts k sized
-
-      written : (is_negative : Bool) (s : List ℕ) (any : ℤ) (count : ℕ)
-          → prefix_answer decimal_table k is_negative skip s ≡ Ok (any, count) → FrontWrites (DigitsWrite k is_negative) s any count
-      written true s any count h = law.written negative skip s any count h
-      written false s any count h = law.written positive skip s any count h
-
-      accepted : (is_negative : Bool) (s : List ℕ) (any : ℤ) (count : ℕ)
-          → FrontWrites (DigitsWrite k is_negative) s any count → prefix_answer decimal_table k is_negative true s ≡ Ok (any, count)
-      accepted true s any count h = law.accepted negative s any count h
-      accepted false s any count h = law.accepted positive s any count h

@@ -6,7 +6,7 @@ use Rattle.atoi_core.specs.Digit.{decimal_table, is_digit}
 use Rattle.atoi_core.specs.Run.{run_len}
 use Rattle.atoi_core.specs.Kind.{Kind}
 use Rattle.atoi_core.specs.Sign.{Sign, sign_of, plus_sign, minus_sign}
-use Rattle.atoi_core.specs.Laws.{SignForm, looked_for, positive, negative, sign_in}
+use Rattle.atoi_core.specs.Laws.{SignForm, looked_for, given, sign_in}
 
 -- a fact of each of the three ways to take a sign, by the tests
 one_of_three : (a b : Bool) (x y z : Sign) (P : Sign → Type 0)
@@ -33,16 +33,14 @@ pub drop-taken : (k : Kind) (form : SignForm) (s : List ℕ) → drop (sign_in k
 drop-taken k (looked_for plus) [] = refl
 drop-taken k (looked_for plus) (byte ∷ bytes) =
     sign_cases k.signed plus byte bytes (λ g. drop g.taken (byte ∷ bytes) ≡ g.body) (λ e. refl) (λ p e. refl) refl
-drop-taken k positive s = refl
-drop-taken k negative s = refl
+drop-taken k (given is_negative) s = refl
 
 -- the bytes taken and the body make up the slice
 pub length-taken : (k : Kind) (form : SignForm) (s : List ℕ) → (sign_in k form s).taken + length (sign_in k form s).body ≡ length s
 length-taken k (looked_for plus) [] = omega arith
 length-taken k (looked_for plus) (byte ∷ bytes) =
     sign_cases k.signed plus byte bytes (λ g. g.taken + length g.body ≡ length (byte ∷ bytes)) (λ e. omega arith) (λ p e. omega arith) (omega arith)
-length-taken k positive s = omega arith
-length-taken k negative s = omega arith
+length-taken k (given is_negative) s = omega arith
 
 -- a digit is a byte from 48 to 57
 pub digit_in_range : (byte : ℕ) → is_digit decimal_table byte ≡ true → (48 ≤ byte) × (byte ≤ 57)
@@ -75,5 +73,4 @@ sign_again k (looked_for plus) (byte ∷ bytes) t h =
     sign_cases k.signed plus byte bytes
     (λ g. sign_of k.signed plus (take g.taken (byte ∷ bytes) ++ t) ≡ record { minus = g.minus; taken = g.taken; body = t })
     (λ e. rw e refl) (λ p e. rw (p, e) refl) (sign_of_digits k.signed plus t h)
-sign_again k positive s t h = refl
-sign_again k negative s t h = refl
+sign_again k (given is_negative) s t h = refl

@@ -38,26 +38,16 @@ prefix_refused k form skip s reason h =
     map_unless_err (counted_number g.minus) _ _ reason
     (with_more_err g.taken (prefix_answer decimal_table k g.minus skip g.body) reason (sym (prefix_call-is k form skip s) ∙ h))
 
--- the slice of a whole call's error stands at the end
-whole_suffix : (k : Kind) (form : SignForm) (skip : Bool) (s : List ℕ) (reason : Refusal)
-    → whole_call k form skip s ≡ Err reason → IsSuffix (input_of reason) s
-whole_suffix k form skip s reason h =
-    let g = sign_in k form s in
-    suffix_of_body k form s (input_of reason)
-    (refusal-input decimal_table (class_of k) (bound_of k g.minus) (limit_of k) whole skip g.body reason (whole_refused k form skip s reason h))
-
--- so does that of a prefix call's
-prefix_suffix : (k : Kind) (form : SignForm) (skip : Bool) (s : List ℕ) (reason : Refusal)
-    → prefix_call k form skip s ≡ Err reason → IsSuffix (input_of reason) s
-prefix_suffix k form skip s reason h =
-    let g = sign_in k form s in
-    suffix_of_body k form s (input_of reason)
-    (refusal-input decimal_table (class_of k) (bound_of k g.minus) (limit_of k) prefix skip g.body reason (prefix_refused k form skip s reason h))
-
 -- the law: the order of errors, and where their slices stand
 pub order_and_suffix : (k : Kind) → OrderAndSuffix k
 order_and_suffix k = record {
   order = refusal_cmp-Equal;
-  whole = λ form has skip s reason h. whole_suffix k form skip s reason h;
-  prefix = λ form has skip s reason h. prefix_suffix k form skip s reason h;
+  whole = λ form skip s reason h.
+      let g = sign_in k form s in
+      suffix_of_body k form s (input_of reason)
+      (refusal-input decimal_table (class_of k) (bound_of k g.minus) (limit_of k) whole skip g.body reason (whole_refused k form skip s reason h));
+  prefix = λ form skip s reason h.
+      let g = sign_in k form s in
+      suffix_of_body k form s (input_of reason)
+      (refusal-input decimal_table (class_of k) (bound_of k g.minus) (limit_of k) prefix skip g.body reason (prefix_refused k form skip s reason h));
 }

@@ -1,6 +1,6 @@
 -- Laws of the answers. Each is a statement about the definitions alone, for every slice; nothing
 -- of how a parse works occurs in it.
-use Rattle.std.specs.Prelude.{◌≡◌, ◌≢◌, ◌⊎◌, ◌↔◌, ℕ, ◌+◌, ◌-◌, ◌^◌, ◌<◌, ◌≤◌, Bool, true, false, if◌then◌else◌, ⊤, IsTrue, IsFalse, List, ◌++◌, length, take, drop, replicate, slice_index, All, Option, Some, None, ℤ, pos, neg_ℤ, ◌≤ℤ◌, Result, Ok, Err, IsOk, IfOk, OnErr}
+use Rattle.std.specs.Prelude.{◌≡◌, ◌≢◌, ◌⊎◌, ◌↔◌, ℕ, ◌+◌, ◌-◌, ◌^◌, ◌<◌, ◌≤◌, Bool, true, false, if◌then◌else◌, IsTrue, IsFalse, List, ◌++◌, length, take, drop, replicate, slice_index, All, Option, Some, None, ℤ, pos, neg_ℤ, ◌≤ℤ◌, Result, Ok, Err, IsOk, IfOk, OnErr}
 use Rattle.std.specs.Fmt.{decimal, signed_decimal}
 use Rattle.std.specs.Char.{IsAsciiDigit}
 use Rattle.std.specs.Str.Parse.{AllDigits, digits_value}
@@ -15,42 +15,35 @@ use Rattle.atoi_core.specs.Sign.{Sign, sign_of, number_of}
 use Rattle.atoi_core.specs.Answer.{typed_answer, typed_prefix_answer, whole_answer, prefix_answer, with_more, parse_answer, parse_prefix_answer}
 use Rattle.atoi_core.specs.Text.{IsText, is_minus, DigitsWrite, TextWrites, BeginsWithDigit, FrontWrites, has_needless_zero}
 
--- how a call comes by its sign: it looks for one at the front of its slice, for a plus only where
--- that is asked for; or it looks for none, and the number is positive, or negative
+-- how a call gets its sign: it looks for one at the front of its slice, for a plus only if that is
+-- asked for; or it looks for none, and is given whether the number is negative
 pub data SignForm : Type 0 where
-  looked_for : Bool → SignForm
-  positive : SignForm
-  negative : SignForm
+  looked_for : (plus : Bool) → SignForm
+  given : (is_negative : Bool) → SignForm
 
--- the calls that a type has: those for negative numbers only where it is signed
-abbrev pub HasForm : Kind → SignForm → Type 0
-HasForm k (looked_for plus) = ⊤
-HasForm k positive = ⊤
-HasForm k negative = k.signed ≡ true
+-- digits without a sign, of a number that is not negative
+abbrev pub positive : SignForm
+positive = given false
 
--- the sign that such a call goes by, and the body that it reads
+-- the sign that such a call uses, and the body that it reads
 abbrev pub sign_in : Kind → SignForm → List ℕ → Sign
 sign_in k (looked_for plus) s = sign_of k.signed plus s
-sign_in k positive s = record { minus = false; taken = 0; body = s }
-sign_in k negative s = record { minus = true; taken = 0; body = s }
+sign_in k (given is_negative) s = record { minus = is_negative; taken = 0; body = s }
 
 -- what the whole parse of that form answers
 abbrev pub whole_call : Kind → SignForm → (skip : Bool) → List ℕ → Result ℤ Refusal
 whole_call k (looked_for plus) skip s = parse_answer k skip plus s
-whole_call k positive skip s = whole_answer decimal_table k false skip s
-whole_call k negative skip s = whole_answer decimal_table k true skip s
+whole_call k (given is_negative) skip s = whole_answer decimal_table k is_negative skip s
 
 -- what the parse of a prefix of that form answers
 abbrev pub prefix_call : Kind → SignForm → (skip : Bool) → List ℕ → Result (ℤ × ℕ) Refusal
 prefix_call k (looked_for plus) skip s = parse_prefix_answer k skip plus s
-prefix_call k positive skip s = prefix_answer decimal_table k false skip s
-prefix_call k negative skip s = prefix_answer decimal_table k true skip s
+prefix_call k (given is_negative) skip s = prefix_answer decimal_table k is_negative skip s
 
 -- what it means for a call of that form that bytes write a number
 abbrev pub Writes : Kind → SignForm → List ℕ → ℤ → Type 0
 Writes k (looked_for plus) = TextWrites k plus
-Writes k positive = DigitsWrite k false
-Writes k negative = DigitsWrite k true
+Writes k (given is_negative) = DigitsWrite k is_negative
 
 -- the least number of a type: 0, or where it is signed one more below 0 than the greatest is above
 abbrev pub least_of : Kind → ℤ
@@ -162,52 +155,52 @@ pub record FrontsAndRests (k : Kind) : Type 0 where
 -- a prefix that is read to the slice's end is a whole parse with the same value; and where a prefix
 -- may have as many digits, the other way round
 pub record PrefixIsWhole (k : Kind) : Type 0 where
-  pub whole : (form : SignForm) → HasForm k form → (skip : Bool) (s : List ℕ) (v : ℤ)
+  pub whole : (form : SignForm) (skip : Bool) (s : List ℕ) (v : ℤ)
       → prefix_call k form skip s ≡ Ok (v, length s) → whole_call k form skip s ≡ Ok v
-  pub back : (form : SignForm) → HasForm k form → (skip : Bool) (s : List ℕ) (v : ℤ) → HasLimitOfWhole k skip
+  pub back : (form : SignForm) (skip : Bool) (s : List ℕ) (v : ℤ) → HasLimitOfWhole k skip
       → whole_call k form skip s ≡ Ok v → prefix_call k form skip s ≡ Ok (v, length s)
 
 -- a prefix ends within the slice, is not empty, and is answered alike where the slice ends with it
 pub record PrefixOfCut (k : Kind) : Type 0 where
-  pub cut : (form : SignForm) → HasForm k form → (skip : Bool) (s : List ℕ) (v : ℤ) (count : ℕ)
+  pub cut : (form : SignForm) (skip : Bool) (s : List ℕ) (v : ℤ) (count : ℕ)
       → prefix_call k form skip s ≡ Ok (v, count)
       → (1 ≤ count) × (count ≤ length s) × (prefix_call k form skip (take count s) ≡ Ok (v, count))
 
 -- a prefix stops at the slice's end, or at a byte that is no digit
 abbrev pub PrefixStopsAtRest : Kind → Type 0
 PrefixStopsAtRest k =
-    (form : SignForm) → HasForm k form → (skip : Bool) (s : List ℕ) (v : ℤ) (count : ℕ)
+    (form : SignForm) (skip : Bool) (s : List ℕ) (v : ℤ) (count : ℕ)
     → prefix_call k form skip s ≡ Ok (v, count)
     → (count ≡ length s) ⊎ ((count < length s) × IsFalse (is_digit decimal_table (slice_index s count)))
 
 -- what stands behind the run of digits changes neither the kind of a prefix's answer, nor its value and count
 abbrev pub RestChangesNothing : Kind → Type 0
 RestChangesNothing k =
-    (form : SignForm) → HasForm k form → (skip : Bool) (s t : List ℕ) → HaveSameRun k form s t
+    (form : SignForm) (skip : Bool) (s t : List ℕ) → HaveSameRun k form s t
     → IsSameKind (prefix_call k form skip s) (prefix_call k form skip t)
 
 -- a whole parse that succeeds where zeros count succeeds with the same value where they are skipped
 abbrev pub SkippingAgrees : Kind → Type 0
 SkippingAgrees k =
-    (form : SignForm) → HasForm k form → (s : List ℕ) (v : ℤ)
+    (form : SignForm) (s : List ℕ) (v : ℤ)
     → whole_call k form false s ≡ Ok v → whole_call k form true s ≡ Ok v
 
 -- the order of errors calls two equal exactly where they are; each slice in an error of an answer
 -- stands at the end of the slice that was parsed
 pub record OrderAndSuffix (k : Kind) : Type 0 where
   pub order : (a b : Refusal) → (refusal_cmp a b ≡ Equal) ↔ (a ≡ b)
-  pub whole : (form : SignForm) → HasForm k form → (skip : Bool) (s : List ℕ) (reason : Refusal)
+  pub whole : (form : SignForm) (skip : Bool) (s : List ℕ) (reason : Refusal)
       → whole_call k form skip s ≡ Err reason → IsSuffix (input_of reason) s
-  pub prefix : (form : SignForm) → HasForm k form → (skip : Bool) (s : List ℕ) (reason : Refusal)
+  pub prefix : (form : SignForm) (skip : Bool) (s : List ℕ) (reason : Refusal)
       → prefix_call k form skip s ≡ Err reason → IsSuffix (input_of reason) s
 
 -- where zeros are skipped and the body begins with a digit, more zeros before the body change
 -- neither an answer's kind nor its value, and a prefix's count grows by their number
 pub record ZerosChangeNothing (k : Kind) : Type 0 where
-  pub whole : (form : SignForm) → HasForm k form → (s : List ℕ) (count : ℕ)
+  pub whole : (form : SignForm) (s : List ℕ) (count : ℕ)
       → 0 < run_len decimal_table (sign_in k form s).body
       → IsSameKind (whole_call k form true s) (whole_call k form true (with_zeros k form count s))
-  pub prefix : (form : SignForm) → HasForm k form → (s : List ℕ) (count : ℕ)
+  pub prefix : (form : SignForm) (s : List ℕ) (count : ℕ)
       → 0 < run_len decimal_table (sign_in k form s).body
       → IsSameKind (with_more count (prefix_call k form true s)) (prefix_call k form true (with_zeros k form count s))
 

@@ -54,30 +54,3 @@ pub fn narrow_whole(bound: u64, s: &[u8]) -> Result<u64, AtoiSimdError<'_>>
     }
     Ok(number)
 }
-
-#[cfg(test)]
-mod tests {
-    use super::*;
-    use std::test::Fail;
-
-    #[test]
-    fn reads_a_whole_slice(rt: HostRuntime) -> Result<(), Fail> {
-        let mut text = vec![in rt.alloc(); b'0'; 100]?;
-        text.extend_from_slice(b"255")?;
-        assert_eq!(rt; narrow_whole(255, &text), Ok(255));
-        assert_eq!(rt;
-            narrow_whole(255, b"255x"),
-            Err(AtoiSimdError::Invalid64(255, 3, b"255x"))
-        );
-        assert_eq!(rt;
-            narrow_whole(255, b"256x"),
-            Err(AtoiSimdError::Overflow(b"256x"))
-        );
-        assert_eq!(rt;
-            narrow_whole(255, b"12a"),
-            Err(AtoiSimdError::Invalid64(12, 2, b"12a"))
-        );
-        assert_eq!(rt; narrow_whole(255, b""), Err(AtoiSimdError::Empty));
-        Ok(())
-    }
-}

@@ -12,11 +12,6 @@ use crate::steps::Steps;
 use crate::wide_answer::{answer_64, answer_128, append_digits};
 use crate::window::Window;
 
-#[cfg(test)]
-pub(crate) mod alphabets;
-#[cfg(test)]
-mod tests;
-
 /// What reads windows of a slice.
 ///
 /// An engine says what each byte is worth as a digit, and reads the digits at the front of 8 or of

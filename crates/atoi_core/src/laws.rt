@@ -15,7 +15,7 @@ pub fn text_of_value<T: Number>()
 /// `parse` with both flags on answers `Ok` exactly on the texts of the type: an optional `+`, or
 /// `-` where the type is signed, one or more digits, nothing behind them, and the signed value in
 /// the type's range. The answer is the text's number.
-#[tactic(auto, using(crate::proofs::TextLemmas::accepted_texts))]
+#[tactic(auto, using(crate::proofs::FrontLemmas::accepted_texts))]
 pub fn accepted_texts<T: Number>()
     ensures { AcceptedTexts T.kind }
 {}
@@ -23,7 +23,7 @@ pub fn accepted_texts<T: Number>()
 /// A whole parse answers `Ok` only where its slice writes that number: digits alone, one or more,
 /// after a sign where the call takes one, with the value in the type's range. Where zeros are
 /// skipped, it answers every number that its slice writes.
-#[tactic(auto, using(crate::proofs::TextLemmas::accepted_numbers))]
+#[tactic(auto, using(crate::proofs::FrontLemmas::accepted_numbers))]
 pub fn accepted_numbers<T: Number>()
     ensures { AcceptedNumbers T.kind }
 {}
@@ -52,7 +52,7 @@ pub fn prefix_results<T: Number, const SKIP_ZEROES: bool>()
 
 /// Where a slice is bytes that write a number and a rest that begins with no digit, its front of so
 /// many bytes writes the number, with no digit after it. A slice has at most one such front.
-#[tactic(auto, using(crate::proofs::FrontsAndRests::fronts_and_rests))]
+#[tactic(auto, using(crate::proofs::FrontLemmas::fronts_and_rests))]
 pub fn fronts_and_rests<T: Number>()
     ensures { FrontsAndRests T.kind }
 {}
@@ -129,74 +129,3 @@ pub fn decimal_texts<T: Number>()
 pub fn zeros_change_nothing<T: Number>()
     ensures { ZerosChangeNothing T.kind }
 {}
-
-#[cfg(test)]
-mod tests {
-    use super::*;
-    use crate::dispatch::{prefix_pos, whole_neg, whole_pos};
-    use crate::error::AtoiSimdError;
-    use crate::plain::Plain;
-    use crate::steps::Steps;
-
-    fn whole(skip: bool, s: &[u8]) -> Result<i64, AtoiSimdError<'_>> {
-        whole_pos::<Plain, i64>(skip, s, &mut Steps::new())
-    }
-
-    fn prefix(skip: bool, s: &[u8]) -> Result<(i64, usize), AtoiSimdError<'_>> {
-        prefix_pos::<Plain, i64>(skip, s, &mut Steps::new())
-    }
-
-    #[test]
-    fn laws_of_the_accepted_texts_at_64_bits(rt: HostRuntime) {
-        let least = b"9223372036854775808";
-        text_of_value::<i64>();
-        assert_eq!(rt;
-            whole_neg::<Plain, i64>(false, least, &mut Steps::new()),
-            Ok(i64::MIN)
-        );
-        accepted_texts::<i64>();
-        assert_eq!(rt; whole(true, b"0007"), Ok(7));
-        assert_eq!(rt; whole(true, b""), Err(AtoiSimdError::Empty));
-        skipping_agrees::<i64>();
-        assert_eq!(rt; whole(false, b"0007"), Ok(7));
-        accepted_numbers::<i64>();
-        whole_results::<i64, true>();
-        let number = b"00009223372036854775807";
-        assert_eq!(rt; whole(true, number), Ok(i64::MAX));
-        decimal_texts::<i64>();
-        assert_eq!(rt; whole(false, &number[4..]), Ok(i64::MAX));
-    }
-
-    #[test]
-    fn laws_of_prefixes_at_64_bits(rt: HostRuntime) {
-        prefix_is_whole::<i64>();
-        assert_eq!(rt; prefix(true, b"0007"), Ok((7, 4)));
-        prefix_of_cut::<i64>();
-        rest_changes_nothing::<i64>();
-        assert_eq!(rt; prefix(true, b"0007x8"), Ok((7, 4)));
-        prefix_stops_at_rest::<i64>();
-        assert_eq!(rt; prefix(false, b"7/"), Ok((7, 1)));
-        zeros_change_nothing::<i64>();
-        assert_eq!(rt; prefix(true, b"00000007"), Ok((7, 8)));
-        accepted_fronts::<i64>();
-        fronts_and_rests::<i64>();
-        prefix_results::<i64, true>();
-        assert_eq!(rt;
-            prefix(true, b"00009223372036854775807,1"),
-            Ok((i64::MAX, 23))
-        );
-    }
-
-    #[test]
-    fn the_law_of_errors_at_64_bits(rt: HostRuntime) {
-        order_and_suffix::<i64>();
-        errors_in_order::<i64>();
-        decimal_digits();
-        let number = b"09223372036854775808";
-        assert_eq!(rt;
-            whole(true, number),
-            Err(AtoiSimdError::Overflow(&number[1..]))
-        );
-        assert!(rt; AtoiSimdError::Overflow(&number[1..]) != AtoiSimdError::Overflow(number));
-    }
-}

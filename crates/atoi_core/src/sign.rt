@@ -135,18 +135,3 @@ pub fn parse_prefix_unsigned<'a, E: Engine, T: Number>(
     let (number, len) = prefix_pos::<E, T>(skip, body, steps)?;
     Ok((number, len + (s.len() - body.len())))
 }
-
-#[cfg(test)]
-mod tests {
-    use super::*;
-
-    #[test]
-    fn at_most_one_sign_is_taken(rt: HostRuntime) {
-        assert_eq!(rt; take_sign(true, true, b"+-5"), (false, b"-5".as_slice()));
-        assert_eq!(rt; take_sign(false, true, b"-5"), (false, b"-5".as_slice()));
-        assert_eq!(rt; take_sign(true, false, b"+5"), (false, b"+5".as_slice()));
-        assert_eq!(rt; take_sign(true, false, b"-5"), (true, b"5".as_slice()));
-        assert_eq!(rt; take_sign(true, false, b"-"), (true, b"".as_slice()));
-        assert_eq!(rt; take_sign(true, true, b""), (false, b"".as_slice()));
-    }
-}

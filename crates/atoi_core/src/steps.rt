@@ -41,13 +41,3 @@ impl Steps {
         ensures { self.new ≡ self.old + 1 }
     {}
 }
-
-#[cfg(test)]
-mod tests {
-    use super::*;
-
-    #[test]
-    fn steps_have_no_bytes(rt: HostRuntime) {
-        assert_eq!(rt; std::mem::size_of::<Steps>(), 0);
-    }
-}

@@ -99,20 +99,3 @@ pub(crate) fn put_hex_list(bytes: &[u8], out: &mut [u8], at: usize) -> usize
     }
     end
 }
-
-#[cfg(test)]
-mod tests {
-    use super::*;
-
-    #[test]
-    fn zero_is_one_digit_and_the_greatest_number_is_39(rt: HostRuntime) {
-        let mut out = [b'?'; 39];
-        let length = decimal(0, &mut out);
-        assert_eq!(rt; &out[..length], b"0".as_slice());
-        let length = decimal(u128::MAX, &mut out);
-        assert_eq!(rt;
-            &out[..length],
-            b"340282366920938463463374607431768211455".as_slice()
-        );
-    }
-}

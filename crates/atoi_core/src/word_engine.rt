@@ -321,36 +321,3 @@ fn zeroes_of_two(first: u64, next: u64) -> u32
         zeroes
     }
 }
-
-#[cfg(test)]
-mod tests {
-    use super::*;
-
-    fn told(window: Window) -> (u32, u32, u64) {
-        (window.len, window.zeroes, window.number)
-    }
-
-    fn window(s: &[u8]) -> (u32, u32, u64) {
-        told(Words::window(s, &mut Steps::new()))
-    }
-
-    fn window_8(s: &[u8]) -> (u32, u32, u64) {
-        told(Words::window_8(s, &mut Steps::new()))
-    }
-
-    #[test]
-    fn windows_of_sixteen_bytes(rt: HostRuntime) {
-        assert_eq!(rt; window(b"000000000000123\0"), (15, 0, 123));
-        assert_eq!(rt; window(b"0000000000000123"), (16, 13, 123));
-        assert_eq!(rt; window(b"12345678/1234567"), (8, 0, 12345678));
-        assert_eq!(rt; window(b"12345678901"), (11, 0, 12345678901));
-        assert_eq!(rt; window(b""), (0, 0, 0));
-    }
-
-    #[test]
-    fn windows_of_eight_bytes(rt: HostRuntime) {
-        assert_eq!(rt; window_8(b"00000123456789"), (8, 5, 123));
-        assert_eq!(rt; window_8(b"0001"), (4, 0, 1));
-        assert_eq!(rt; window_8(b":1234567"), (0, 0, 0));
-    }
-}

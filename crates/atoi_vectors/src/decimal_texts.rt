@@ -1,4 +1,4 @@
-//! The decimal text of every u8 and every i8, under the four choices of flags. It uses `answers`,
+//! Decimal texts, those of every u8 and every i8 under the four choices of flags. It uses `answers`,
 //! `decimal` of `atoi_core` and the public calls of `atoi_simd`.
 ghost use Rattle.std.specs.Prelude.{◌≤◌};
 
@@ -22,6 +22,18 @@ fn check<T: atoi_simd::Parse + lanes::Parse + Debug + PartialEq>(
     both_give(rt, root, lanes::parse::<T, true, false>(text), Ok(value));
     let root = parse::<T, true, true>(text);
     both_give(rt, root, lanes::parse::<T, true, true>(text), Ok(value));
+}
+
+#[test]
+fn of_zero_and_of_the_largest_value(rt: HostRuntime) {
+    let mut out = [b'?'; 39];
+    let length = decimal(0, &mut out);
+    assert_eq!(rt; &out[..length], b"0".as_slice());
+    let length = decimal(u128::MAX, &mut out);
+    assert_eq!(rt;
+        &out[..length],
+        b"340282366920938463463374607431768211455".as_slice()
+    );
 }
 
 #[test]

@@ -1,121 +1,11 @@
-//! That each engine answers by the plain rules, in each call that an engine serves, on every byte
-//! at every place. It uses `plain_rules` and `answers`, the engines and the loops of `atoi_core`.
+//! That each engine answers by the plain rules on every byte at every place, in each call. It uses
+//! `core_calls` only.
 ghost use Rattle.std.specs.Prelude.{◌<◌, ◌≤◌};
-ghost use Rattle.atoi_core.specs.Magnitude.{HasDigits};
 
-use crate::answers::{each_gives, gives};
-use crate::plain_rules;
-use atoi_core::{
-    AtoiSimdError, Engine, Plain, Steps, Window, Words, narrow_prefix, narrow_whole,
-    narrow_whole_windows,
-};
-use atoi_simd::lanes::Lanes;
+use crate::core_calls::check;
 use std::process::Abort;
 
-// Each of the three engines gives the expected answer to a call.
-macro_rules! on_each_engine {
-    ($rt:expr; $call:ident($($argument:expr),*) => $expected:expr) => {
-        let plain = $call::<Plain>($($argument),*);
-        let words = $call::<Words>($($argument),*);
-        each_gives($rt, plain, words, $call::<Lanes>($($argument),*), $expected);
-    };
-}
-
-// What a window tells: its digits, its zeros, and the number that the digits write.
-fn told(window: Window) -> (usize, usize, Option<u64>) {
-    (
-        window.len as usize,
-        window.zeroes as usize,
-        Some(window.number),
-    )
-}
-
-fn window<E: Engine>(text: &[u8]) -> (usize, usize, Option<u64>) {
-    told(E::window(text, &mut Steps::new()))
-}
-
-fn window_8<E: Engine>(text: &[u8]) -> (usize, usize, Option<u64>) {
-    told(E::window_8(text, &mut Steps::new()))
-}
-
-fn check_windows(rt: &impl Abort, text: &[u8]) {
-    on_each_engine!(rt; window(text) => plain_rules::window(16, text));
-    on_each_engine!(rt; window_8(text) => plain_rules::window(8, text));
-}
-
-fn check_narrow(rt: &impl Abort, text: &[u8]) {
-    let mut steps = Steps::new();
-    for bound in [255, 4294967295] {
-        on_each_engine!(rt; narrow_prefix(bound, false, text, &mut steps)
-            => plain_rules::narrow_prefix(bound, false, text));
-        on_each_engine!(rt; narrow_prefix(bound, true, text, &mut steps)
-            => plain_rules::narrow_prefix(bound, true, text));
-        on_each_engine!(rt; narrow_whole_windows(bound, text, &mut steps)
-            => plain_rules::narrow_whole(bound, text));
-        gives(
-            rt,
-            narrow_whole(bound, text),
-            plain_rules::narrow_whole(bound, text),
-        );
-    }
-}
-
-fn prefix_64<E: Engine>(
-    bound: u64,
-    limit: u32,
-    skip: bool,
-    text: &[u8],
-) -> Result<(u64, usize), AtoiSimdError<'_>>
-    requires limit_low { 17 ≤ limit }
-    requires limit_high { limit ≤ 20 }
-    requires digits { HasDigits limit bound }
-{
-    E::prefix_64(bound, limit, skip, text, &mut Steps::new())
-}
-
-fn check_64(rt: &impl Abort, skip: bool, text: &[u8]) {
-    for (bound, limit) in [
-        (18446744073709551615, 20),
-        (9223372036854775807, 19),
-        (9223372036854775808, 19),
-    ] {
-        on_each_engine!(rt; prefix_64(bound, limit, skip, text)
-            => plain_rules::prefix_64(bound, limit, skip, text));
-    }
-}
-
-fn prefix_128<E: Engine>(
-    bound: u128,
-    skip: bool,
-    text: &[u8],
-) -> Result<(u128, usize), AtoiSimdError<'_>>
-    requires { HasDigits 39 bound }
-{
-    E::prefix_128(bound, skip, text, &mut Steps::new())
-}
-
-fn check_128(rt: &impl Abort, skip: bool, text: &[u8]) {
-    for bound in [
-        340282366920938463463374607431768211455,
-        170141183460469231731687303715884105727,
-        170141183460469231731687303715884105728,
-    ] {
-        on_each_engine!(rt; prefix_128(bound, skip, text)
-            => plain_rules::prefix_128(bound, skip, text));
-    }
-}
-
-// Each of the three engines answers by the rules, in every call.
-fn check(rt: &impl Abort, text: &[u8]) {
-    check_windows(rt, text);
-    check_narrow(rt, text);
-    check_64(rt, false, text);
-    check_64(rt, true, text);
-    check_128(rt, false, text);
-    check_128(rt, true, text);
-}
-
-// Forty-one times `fill`, with each byte in turn at `place`. A byte that is no digit ends a window.
+// Forty-one times `fill`, with each byte in turn at `place`.
 fn check_place(rt: &impl Abort, fill: u8, place: usize)
     requires { place < 41 }
 {
@@ -123,14 +13,7 @@ fn check_place(rt: &impl Abort, fill: u8, place: usize)
     for byte in 0..=255u8 {
         text[place] = byte;
         check(rt, &text);
-        if !byte.is_ascii_digit() {
-            on_each_engine!(rt; window_len(&text) => place.min(16));
-        }
     }
-}
-
-fn window_len<E: Engine>(text: &[u8]) -> usize {
-    E::window(text, &mut Steps::new()).len as usize
 }
 
 #[test]

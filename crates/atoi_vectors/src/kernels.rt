@@ -21,7 +21,7 @@ fn check_lanes(rt: &impl Abort, bytes: [u8; 16]) {
         zeroes_lanes(lanes) as usize,
         plain_rules::count_zeros(&bytes),
     );
-    gives(rt, Some(sum_lanes(lanes, told)), number);
+    gives(rt, Some(u128::from(sum_lanes(lanes, told))), number);
     gives(rt, sum_lanes(lanes, 0), 0);
 }
 
@@ -57,7 +57,7 @@ fn check_word(rt: &impl Abort, bytes: [u8; 8]) {
         plain_rules::count_zeros(&bytes),
     );
     if told > 0 {
-        gives(rt, Some(process_8(word, told)), number);
+        gives(rt, Some(u128::from(process_8(word, told))), number);
     }
 }
 
@@ -94,7 +94,7 @@ fn check_long_word(rt: &impl Abort, bytes: [u8; 16]) {
     let told = len_lanes(u8x16::from_array(bytes));
     gives(rt, told as usize, len);
     if told > 0 {
-        gives(rt, Some(process_16(word, told)), number);
+        gives(rt, Some(u128::from(process_16(word, told))), number);
     }
 }
 
@@ -134,4 +134,34 @@ fn loads_of_every_kind_of_length(rt: HostRuntime) {
         gives(&rt, load_lanes(front).to_array(), padded::<16>(front));
         gives(&rt, load_8(front), u64::from_le_bytes(padded::<8>(front)));
     }
+}
+
+#[test]
+fn loaded_words(rt: HostRuntime) {
+    gives(&rt, load_8(b""), 0);
+    gives(&rt, load_8(b"123"), 0x33_3231);
+    gives(&rt, load_8(b"12345"), 0x35_3433_3231);
+    gives(&rt, load_8(b"123456789"), 0x3837_3635_3433_3231);
+}
+
+#[test]
+fn runs_in_words(rt: HostRuntime) {
+    gives(&rt, check_len_8(0x3837_3635_3433_3231), 8);
+    gives(&rt, check_len_8(0xFF30_3030_3030_3039), 7);
+    gives(&rt, check_len_8(0x553A_3938_3736_3534), 6);
+    gives(&rt, check_len_8(0x3736_3534_33FA_3231), 2);
+    gives(&rt, check_len_8(u64::MAX), 0);
+    gives(&rt, len_zeroes(0x3030_3030_3030_3030), 8);
+    gives(&rt, len_zeroes(0x3031_3030_3030_3030), 6);
+    let zeros = u128::from_le_bytes([b'0'; 16]);
+    gives(&rt, len_zeroes_128(zeros), 16);
+}
+
+#[test]
+fn numbers_of_words(rt: HostRuntime) {
+    gives(&rt, process_8(0x553A_3938_3736_3534, 6), 456789);
+    gives(&rt, process_8(0x3837_3635_3433_3231, 1), 1);
+    gives(&rt, process_8(u64::MAX, 8), 166666665);
+    gives(&rt, process_16(0x553A_3938_3736_3534, 6), 456789);
+    gives(&rt, process_16(u128::MAX, 16), 16666666666666665);
 }

@@ -1,12 +1,12 @@
-//! Worked rows of the ten functions and of the engines under them, and comparisons of the three
-//! engines and of the root and `lanes`. It uses the three libraries, and has no contract of its
-//! own.
+//! Worked rows of the ten functions and of the calls under them, on the root and `lanes` and on the
+//! three engines, and comparisons with the plain rules. It uses the three libraries, and has no
+//! contract of its own.
 #![tactic(auto)]
 
 #[cfg(test)]
-mod agreement;
-#[cfg(test)]
 mod answers;
+#[cfg(test)]
+mod core_calls;
 #[cfg(test)]
 mod decimal_texts;
 pub mod differences;
@@ -17,12 +17,18 @@ mod every_byte;
 #[cfg(test)]
 mod kernels;
 #[cfg(test)]
+mod laws;
+#[cfg(test)]
+mod letters;
+#[cfg(test)]
 mod loops;
 #[cfg(test)]
-mod narrow_whole;
+mod numbers;
 pub mod original;
 #[cfg(test)]
 mod plain_rules;
+#[cfg(test)]
+mod row_texts;
 #[cfg(test)]
 mod type_ends;
 #[cfg(test)]

@@ -1,9 +1,12 @@
 //! The worked rows of the loops under the ten functions, on each of the three engines. It uses
 //! `answers`, `atoi_core` and `Lanes`.
 
-use crate::answers::gives;
-use atoi_core::AtoiSimdError::{Invalid64, Invalid128, Overflow, Size};
-use atoi_core::{Engine, Plain, Steps, Words, narrow_prefix, whole_64, whole_128};
+use crate::answers::{each_gives, gives};
+use atoi_core::AtoiSimdError::{self, Empty, Invalid64, Invalid128, Overflow, Size};
+use atoi_core::{
+    Engine, Plain, Steps, Words, narrow_prefix, narrow_whole, narrow_whole_windows, whole_64,
+    whole_128,
+};
 use atoi_simd::lanes::Lanes;
 use std::process::Abort;
 use std::test::Fail;
@@ -78,6 +81,36 @@ fn narrow_overflows<E: Engine>(rt: &impl Abort) {
         narrow_prefix::<E>(GREATEST_U8, true, short, &mut steps),
         Err(Overflow(short)),
     );
+}
+
+// Checks that each engine, and the digit loop, answers so to a whole slice.
+fn check_narrow_whole(rt: &impl Abort, text: &[u8], expected: Result<u64, AtoiSimdError<'_>>) {
+    let mut steps = Steps::new();
+    let plain = narrow_whole_windows::<Plain>(GREATEST_U8, text, &mut steps);
+    let words = narrow_whole_windows::<Words>(GREATEST_U8, text, &mut steps);
+    let lanes = narrow_whole_windows::<Lanes>(GREATEST_U8, text, &mut steps);
+    each_gives(rt, plain, words, lanes, expected);
+    gives(rt, narrow_whole(GREATEST_U8, text), expected);
+}
+
+#[test]
+fn narrow_wholes(rt: HostRuntime) {
+    let zeros = &[b'0'; 40];
+    let cut = b"0000000000000000x";
+    let padded = b"0000000000000000255x";
+    let above = b"0000000000000999x";
+    let long = b"0000000000000000000011111111111111111";
+    check_narrow_whole(&rt, b"", Err(Empty));
+    check_narrow_whole(&rt, zeros, Ok(0));
+    check_narrow_whole(&rt, &zeros[..16], Ok(0));
+    check_narrow_whole(&rt, cut, Err(Invalid64(0, 16, cut)));
+    check_narrow_whole(&rt, padded, Err(Invalid64(255, 19, padded)));
+    check_narrow_whole(&rt, &padded[..19], Ok(255));
+    check_narrow_whole(&rt, above, Err(Overflow(above)));
+    check_narrow_whole(&rt, long, Err(Overflow(long)));
+    check_narrow_whole(&rt, b"255x", Err(Invalid64(255, 3, b"255x")));
+    check_narrow_whole(&rt, b"256x", Err(Overflow(b"256x")));
+    check_narrow_whole(&rt, b"12a", Err(Invalid64(12, 2, b"12a")));
 }
 
 #[test]

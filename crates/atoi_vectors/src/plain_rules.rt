@@ -1,8 +1,8 @@
-//! What each call of an engine answers to a slice, counted digit by digit from the rules alone. It
-//! uses the error type, and no engine and no loop of the libraries.
+//! What a call answers, counted digit by digit from the rules alone. It uses the error type, and no
+//! engine and no loop of the libraries.
 ghost use Rattle.std.specs.Prelude.{◌≤◌, length};
 
-use atoi_simd::AtoiSimdError::{self, Empty, Invalid64, Overflow, Size};
+use atoi_simd::AtoiSimdError::{self, Empty, Invalid64, Invalid128, Overflow, Size};
 
 // How many digits `s` begins with.
 fn count_digits(s: &[u8]) -> usize
@@ -20,7 +20,7 @@ pub(crate) fn count_zeros(s: &[u8]) -> usize
     s.iter().position(|byte| *byte != b'0').unwrap_or(s.len())
 }
 
-// The number that digits write; none where it is above the greatest u128.
+// The number that digits write; none if it is above `u128::MAX`.
 fn number_of(digits: &[u8]) -> Option<u128> {
     let mut number = 0u128;
     for digit in digits {
@@ -31,120 +31,115 @@ fn number_of(digits: &[u8]) -> Option<u128> {
     Some(number)
 }
 
-// The number that digits write, where it is at most `bound`.
-fn number_up_to(bound: u64, digits: &[u8]) -> Option<u64> {
-    let number = u64::try_from(number_of(digits)?).ok()?;
-    (number <= bound).then_some(number)
-}
-
-/// What a window of `size` bytes tells: its digits, its zeros, and the number that the digits write.
-pub(crate) fn window(size: usize, s: &[u8]) -> (usize, usize, Option<u64>) {
+/// What a window of `size` bytes says: its digits, its zeros, and the number that the digits write.
+pub(crate) fn window(size: usize, s: &[u8]) -> (usize, usize, Option<u128>) {
     let front = &s[..size.min(s.len())];
     let len = count_digits(front);
     let zeros = if len == size { count_zeros(front) } else { 0 };
-    (len, zeros, number_up_to(u64::MAX, &front[..len]))
+    (len, zeros, number_of(&front[..len]))
 }
 
-// A narrow prefix without skipping: more than sixteen digits are too many.
-fn narrow_prefix_without_skipping(bound: u64, s: &[u8]) -> Result<(u64, usize), AtoiSimdError<'_>> {
-    let len = count_digits(s);
-    match number_up_to(bound, &s[..len]) {
-        _ if len == 0 => Err(Empty),
-        _ if len > 16 => Err(Size(17, s)),
-        None => Err(Overflow(s)),
-        Some(number) => Ok((number, len)),
+/// The rules of a type: those of at most 32 bits; those of 64 bits, with the most digits that count;
+/// or those of 128 bits.
+#[derive(Clone, Copy)]
+pub(crate) enum Class {
+    Narrow,
+    Wide64(usize),
+    Wide128,
+}
+
+/// A slice after its sign, and the digits that it begins with.
+#[derive(Clone, Copy)]
+pub(crate) struct Body<'a> {
+    pub bytes: &'a [u8],
+    /// How many zeros it begins with.
+    pub zeros: usize,
+    /// How many digits it begins with, these zeros among them.
+    pub digits: usize,
+    /// The number that the digits write; none if it is above `u128::MAX`.
+    pub number: Option<u128>,
+}
+
+impl<'a> Body<'a> {
+    /// The slice, its decimal digits counted one by one.
+    pub(crate) fn of(bytes: &'a [u8]) -> Body<'a> {
+        let digits = count_digits(bytes);
+        Body {
+            bytes,
+            zeros: count_zeros(bytes),
+            digits,
+            number: number_of(&bytes[..digits]),
+        }
     }
-}
 
-// A narrow prefix with skipping: an overflow drops the zeros of the windows that hold nothing else,
-// and all zeros where a window is full behind them.
-fn narrow_prefix_with_skipping(bound: u64, s: &[u8]) -> Result<(u64, usize), AtoiSimdError<'_>> {
-    let len = count_digits(s);
-    let zeros = count_zeros(s);
-    let dropped = if len / 16 > zeros / 16 {
-        zeros
-    } else {
-        zeros - zeros % 16
-    };
-    match number_up_to(bound, &s[..len]) {
-        _ if len == 0 => Err(Empty),
-        None => Err(Overflow(&s[dropped..])),
-        Some(number) => Ok((number, len)),
+    // The slice without so many of its zeros.
+    fn without(self, zeros: usize) -> &'a [u8] {
+        &self.bytes[zeros.min(self.bytes.len())..]
     }
-}
 
-/// The number at the front of `s`, for a type of up to 32 bits.
-pub(crate) fn narrow_prefix(
-    bound: u64,
-    skip: bool,
-    s: &[u8],
-) -> Result<(u64, usize), AtoiSimdError<'_>> {
-    if skip {
-        narrow_prefix_with_skipping(bound, s)
-    } else {
-        narrow_prefix_without_skipping(bound, s)
+    // How many zeros the slice of an overflow leaves out. With skipping, a narrow prefix leaves out
+    // the zeros in whole blocks of 16 bytes, and the others too if the next block is full of digits.
+    fn dropped(self, class: Class, skip: bool) -> usize {
+        match class {
+            _ if !skip => 0,
+            Class::Narrow if self.digits / 16 <= self.zeros / 16 => self.zeros - self.zeros % 16,
+            _ => self.zeros,
+        }
     }
-}
 
-/// The number of the whole slice, for a type of up to 32 bits.
-pub(crate) fn narrow_whole(bound: u64, s: &[u8]) -> Result<u64, AtoiSimdError<'_>> {
-    let len = count_digits(s);
-    match number_up_to(bound, &s[..len]) {
-        _ if len == 0 => Err(Empty),
-        None => Err(Overflow(s)),
-        Some(number) if len < s.len() => Err(Invalid64(number, len, s)),
-        Some(number) => Ok(number),
+    // The error that the digits give whatever they write, if there is one.
+    fn refusal(self, class: Class, skip: bool) -> Option<AtoiSimdError<'a>> {
+        let zeros = if skip { self.zeros } else { 0 };
+        let counting = self.digits.saturating_sub(zeros);
+        let (limit, cap) = match class {
+            Class::Narrow if skip => (usize::MAX, 0),
+            Class::Narrow => (16, 17),
+            Class::Wide64(limit) => (limit, 24),
+            Class::Wide128 => (39, 40),
+        };
+        if self.digits == 0 {
+            Some(Empty)
+        } else if counting > limit {
+            let size = zeros.saturating_add(counting.min(cap));
+            Some(Size(size, self.without(zeros)))
+        } else {
+            None
+        }
     }
-}
 
-// How many zeros a wide prefix drops, and what it answers whatever its digits write.
-fn wide_refusal(
-    (limit, cap): (usize, usize),
-    skip: bool,
-    s: &[u8],
-) -> (&[u8], Option<AtoiSimdError<'_>>) {
-    let len = count_digits(s);
-    let dropped = if skip { count_zeros(s) } else { 0 };
-    let counting = len.saturating_sub(dropped);
-    let rest = &s[dropped..];
-    if len == 0 {
-        (rest, Some(Empty))
-    } else if counting > limit {
-        let size = dropped.saturating_add(counting.min(cap));
-        (rest, Some(Size(size, rest)))
-    } else {
-        (rest, None)
+    /// What a prefix answers for numbers of at most `bound`: the number, and its length.
+    pub(crate) fn prefix(
+        self,
+        class: Class,
+        bound: u128,
+        skip: bool,
+    ) -> Result<(u128, usize), AtoiSimdError<'a>> {
+        match (self.refusal(class, skip), self.number) {
+            (Some(error), _) => Err(error),
+            (None, Some(number)) if number <= bound => Ok((number, self.digits)),
+            (None, _) => Err(Overflow(self.without(self.dropped(class, skip)))),
+        }
     }
-}
 
-/// The number at the front of `s`, for a type of 64 bits whose greatest number has `limit` digits.
-pub(crate) fn prefix_64(
-    bound: u64,
-    limit: u32,
-    skip: bool,
-    s: &[u8],
-) -> Result<(u64, usize), AtoiSimdError<'_>> {
-    let len = count_digits(s);
-    match (
-        wide_refusal((limit as usize, 24), skip, s),
-        number_up_to(bound, &s[..len]),
-    ) {
-        ((_, Some(error)), _) => Err(error),
-        ((rest, None), None) => Err(Overflow(rest)),
-        (_, Some(number)) => Ok((number, len)),
-    }
-}
-
-/// The number at the front of `s`, for a type of 128 bits.
-pub(crate) fn prefix_128(
-    bound: u128,
-    skip: bool,
-    s: &[u8],
-) -> Result<(u128, usize), AtoiSimdError<'_>> {
-    let len = count_digits(s);
-    match (wide_refusal((39, 40), skip, s), number_of(&s[..len])) {
-        ((_, Some(error)), _) => Err(error),
-        (_, Some(number)) if number <= bound => Ok((number, len)),
-        ((rest, None), _) => Err(Overflow(rest)),
+    /// What a whole parse answers. One of a narrow type always skips, and keeps all zeros of an
+    /// overflow.
+    pub(crate) fn whole(
+        self,
+        class: Class,
+        bound: u128,
+        skip: bool,
+    ) -> Result<u128, AtoiSimdError<'a>> {
+        let narrow = matches!(class, Class::Narrow);
+        match self.prefix(class, bound, skip || narrow) {
+            Err(Overflow(_)) if narrow => Err(Overflow(self.bytes)),
+            Err(error) => Err(error),
+            Ok((number, len)) if len == self.bytes.len() => Ok(number),
+            Ok((number, len)) => Err(match (class, u64::try_from(number)) {
+                (Class::Narrow | Class::Wide64(_), Ok(number)) => {
+                    Invalid64(number, len, self.bytes)
+                }
+                _ => Invalid128(number, len, self.bytes),
+            }),
+        }
     }
 }

@@ -1,54 +1,98 @@
-//! Both ends of each of the twelve types, and one past each, behind zeros. It uses `answers` and
-//! the public calls of `atoi_simd`.
+//! Both ends of each of the twelve types, and one past each: after the sign, after zeros, before
+//! another byte, as a whole and as a prefix, with and without skipping. It uses `plain_rules`,
+//! `answers` and the public calls of `atoi_simd`.
 
 use crate::answers::both_give;
-use atoi_simd::AtoiSimdError::Overflow;
-use atoi_simd::{lanes, parse};
+use crate::plain_rules::{Body, Class};
+use atoi_simd::{lanes, parse, parse_prefix};
 use std::alloc::{AllocError, Global};
 use std::fmt::Debug;
 use std::process::Abort;
 
-// Whether an overflow holds the zeros before the digits.
+// The signs of a number that is not negative, and that of one that is.
+const POSITIVE: &[&[u8]] = &[b"", b"+"];
+
+const NEGATIVE: &[&[u8]] = &[b"-"];
+
+// The rules of a type, and the digits of one end of it.
 #[derive(Clone, Copy)]
-enum Class {
-    Narrow,
-    Wide,
+struct End {
+    class: Class,
+    digits: &'static [u8],
 }
 
-// One text and then another.
-fn joined(alloc: Global, front: &[u8], back: &[u8]) -> Result<Vec<u8>, AllocError> {
-    let mut text = front.to_vec(alloc)?;
-    text.extend_from_slice(back)?;
+// A sign, zeros, digits and what follows them.
+fn text_of(
+    alloc: Global,
+    sign: &[u8],
+    zeros: usize,
+    digits: &[u8],
+    tail: &[u8],
+) -> Result<Vec<u8>, AllocError> {
+    let mut text = sign.to_vec(alloc)?;
+    for _ in 0..zeros {
+        text.push(b'0')?;
+    }
+    text.extend_from_slice(digits)?;
+    text.extend_from_slice(tail)?;
     Ok(text)
 }
 
-// That the digits behind a sign and behind zeros are parsed to a value, or overflow where there is
-// none.
-fn check<T: atoi_simd::Parse + lanes::Parse + Debug + PartialEq>(
+// The whole parses and the prefixes of both libraries answer by the rules: the value of the end
+// where the digits are in range, and else an error.
+fn check_text<T: atoi_simd::Parse + lanes::Parse + Copy + Debug + PartialEq>(
+    rt: &impl Abort,
+    end: End,
+    value: T,
+    sign: &[u8],
+    text: &[u8],
+) {
+    let body = Body::of(text.get(sign.len()..).unwrap_or(text));
+    let bound = Body::of(end.digits).number.unwrap_or(0);
+    let whole = |skip| body.whole(end.class, bound, skip).map(|_| value);
+    let prefix = |skip| match body.prefix(end.class, bound, skip) {
+        Ok((_, len)) => Ok((value, len.saturating_add(sign.len()))),
+        Err(error) => Err(error),
+    };
+    let root = parse::<T, false, true>(text);
+    both_give(rt, root, lanes::parse::<T, false, true>(text), whole(false));
+    let root = parse::<T, true, true>(text);
+    both_give(rt, root, lanes::parse::<T, true, true>(text), whole(true));
+    let root = parse_prefix::<T, false, true>(text);
+    let found = lanes::parse_prefix::<T, false, true>(text);
+    both_give(rt, root, found, prefix(false));
+    let root = parse_prefix::<T, true, true>(text);
+    let found = lanes::parse_prefix::<T, true, true>(text);
+    both_give(rt, root, found, prefix(true));
+}
+
+fn check<T: atoi_simd::Parse + lanes::Parse + Copy + Debug + PartialEq>(
     rt: &impl Abort,
     alloc: Global,
-    class: Class,
-    (sign, digits): (&[u8], &[u8]),
-    value: Option<T>,
+    signs: &[&[u8]],
+    end: End,
+    value: T,
+    past: &'static [u8],
 ) {
-    let padding = [b'0'; 33];
-    for zeros in [0, 1, 16, 17, 32, 33] {
-        let body = joined(alloc, &padding[..zeros], digits).expect(rt, "memory");
-        let text = joined(alloc, sign, &body).expect(rt, "memory");
-        let expected = value.ok_or(Overflow(match class {
-            Class::Narrow => &body,
-            Class::Wide => digits,
-        }));
-        let root = parse::<T, true, false>(&text);
-        both_give(rt, root, lanes::parse::<T, true, false>(&text), expected);
+    for sign in signs {
+        for zeros in [0, 1, 13, 16, 17, 32, 33, 40] {
+            for digits in [end.digits, past] {
+                let text = text_of(alloc, sign, zeros, digits, b"").expect(rt, "memory");
+                check_text(rt, end, value, sign, &text);
+                let text = text_of(alloc, sign, zeros, digits, b"x").expect(rt, "memory");
+                check_text(rt, end, value, sign, &text);
+            }
+        }
     }
 }
 
-// Each row is a type, its class, a sign, digits, and the value that they write, if the type has it.
+// Each row is a type and its class, signs, the digits of an end of it and its value, and the digits
+// of the number one past it.
 macro_rules! check_ends {
-    ($rt:expr; $($integer:ident, $class:ident, $sign:expr, $digits:expr => $value:expr;)*) => {
+    ($rt:expr; $($integer:ident, $class:expr, $signs:expr, $digits:expr => $value:expr, $past:expr;)*) => {
         $(
-            check::<$integer>(&$rt, $rt.alloc(), Class::$class, ($sign, $digits), $value);
+            let end = End { class: $class, digits: $digits };
+            check::<$integer>(&$rt, $rt.alloc(), $signs, end, $value, $past);
         )*
     };
 }
@@ -56,56 +100,45 @@ macro_rules! check_ends {
 #[test]
 fn of_unsigned_types(rt: HostRuntime) {
     check_ends!(rt;
-        u8, Narrow, b"", b"255" => Some(255);
-        u8, Narrow, b"", b"256" => None;
-        u16, Narrow, b"", b"65535" => Some(65535);
-        u16, Narrow, b"", b"65536" => None;
-        u32, Narrow, b"", b"4294967295" => Some(4294967295);
-        u32, Narrow, b"", b"4294967296" => None;
-        u64, Wide, b"", b"18446744073709551615" => Some(18446744073709551615);
-        u64, Wide, b"", b"18446744073709551616" => None;
-        usize, Wide, b"", b"18446744073709551615" => Some(18446744073709551615);
-        usize, Wide, b"", b"18446744073709551616" => None;
-        u128, Wide, b"", b"340282366920938463463374607431768211455"
-            => Some(340282366920938463463374607431768211455);
-        u128, Wide, b"", b"340282366920938463463374607431768211456" => None;
+        u8, Class::Narrow, POSITIVE, b"255" => 255, b"256";
+        u16, Class::Narrow, POSITIVE, b"65535" => 65535, b"65536";
+        u32, Class::Narrow, POSITIVE, b"4294967295" => 4294967295, b"4294967296";
+        u64, Class::Wide64(20), POSITIVE, b"18446744073709551615" => 18446744073709551615,
+            b"18446744073709551616";
+        usize, Class::Wide64(20), POSITIVE, b"18446744073709551615" => 18446744073709551615,
+            b"18446744073709551616";
+        u128, Class::Wide128, POSITIVE, b"340282366920938463463374607431768211455"
+            => 340282366920938463463374607431768211455, b"340282366920938463463374607431768211456";
     );
 }
 
+// One past the largest value stands the magnitude of the smallest.
 #[test]
 fn of_narrow_signed_types(rt: HostRuntime) {
     check_ends!(rt;
-        i8, Narrow, b"", b"127" => Some(127);
-        i8, Narrow, b"", b"128" => None;
-        i8, Narrow, b"-", b"128" => Some(-128);
-        i8, Narrow, b"-", b"129" => None;
-        i16, Narrow, b"", b"32767" => Some(32767);
-        i16, Narrow, b"", b"32768" => None;
-        i16, Narrow, b"-", b"32768" => Some(-32768);
-        i16, Narrow, b"-", b"32769" => None;
-        i32, Narrow, b"", b"2147483647" => Some(2147483647);
-        i32, Narrow, b"", b"2147483648" => None;
-        i32, Narrow, b"-", b"2147483648" => Some(-2147483648);
-        i32, Narrow, b"-", b"2147483649" => None;
+        i8, Class::Narrow, POSITIVE, b"127" => 127, b"128";
+        i8, Class::Narrow, NEGATIVE, b"128" => -128, b"129";
+        i16, Class::Narrow, POSITIVE, b"32767" => 32767, b"32768";
+        i16, Class::Narrow, NEGATIVE, b"32768" => -32768, b"32769";
+        i32, Class::Narrow, POSITIVE, b"2147483647" => 2147483647, b"2147483648";
+        i32, Class::Narrow, NEGATIVE, b"2147483648" => -2147483648, b"2147483649";
     );
 }
 
 #[test]
 fn of_wide_signed_types(rt: HostRuntime) {
     check_ends!(rt;
-        i64, Wide, b"", b"9223372036854775807" => Some(9223372036854775807);
-        i64, Wide, b"", b"9223372036854775808" => None;
-        i64, Wide, b"-", b"9223372036854775808" => Some(-9223372036854775808);
-        i64, Wide, b"-", b"9223372036854775809" => None;
-        isize, Wide, b"", b"9223372036854775807" => Some(9223372036854775807);
-        isize, Wide, b"", b"9223372036854775808" => None;
-        isize, Wide, b"-", b"9223372036854775808" => Some(-9223372036854775808);
-        isize, Wide, b"-", b"9223372036854775809" => None;
-        i128, Wide, b"", b"170141183460469231731687303715884105727"
-            => Some(170141183460469231731687303715884105727);
-        i128, Wide, b"", b"170141183460469231731687303715884105728" => None;
-        i128, Wide, b"-", b"170141183460469231731687303715884105728"
-            => Some(-170141183460469231731687303715884105728);
-        i128, Wide, b"-", b"170141183460469231731687303715884105729" => None;
+        i64, Class::Wide64(19), POSITIVE, b"9223372036854775807" => 9223372036854775807,
+            b"9223372036854775808";
+        i64, Class::Wide64(19), NEGATIVE, b"9223372036854775808" => -9223372036854775808,
+            b"9223372036854775809";
+        isize, Class::Wide64(19), POSITIVE, b"9223372036854775807" => 9223372036854775807,
+            b"9223372036854775808";
+        isize, Class::Wide64(19), NEGATIVE, b"9223372036854775808" => -9223372036854775808,
+            b"9223372036854775809";
+        i128, Class::Wide128, POSITIVE, b"170141183460469231731687303715884105727"
+            => 170141183460469231731687303715884105727, b"170141183460469231731687303715884105728";
+        i128, Class::Wide128, NEGATIVE, b"170141183460469231731687303715884105728"
+            => -170141183460469231731687303715884105728, b"170141183460469231731687303715884105729";
     );
 }

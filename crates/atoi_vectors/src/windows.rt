@@ -1,12 +1,15 @@
-//! What one window tells, on each of the three engines. It uses `agreement` and the engines.
+//! What one window says, on each of the three engines. It uses the engines only.
 
-use crate::agreement::told;
-use atoi_core::{Engine, Plain, Steps, Words};
+use atoi_core::{Engine, Plain, Steps, Window, Words, front_of};
 use atoi_simd::lanes::Lanes;
 use std::process::Abort;
 
 // The slice, and how many digits its window has, how many zeros, and the number that they write.
 type Row = (&'static [u8], (u32, u32, u64));
+
+fn told(window: Window) -> (u32, u32, u64) {
+    (window.len, window.zeroes, window.number)
+}
 
 fn check_windows<E: Engine>(rt: &impl Abort, rows: &[Row]) {
     for (text, expected) in rows {
@@ -24,7 +27,7 @@ fn check_windows_8<E: Engine>(rt: &impl Abort, rows: &[Row]) {
 
 #[test]
 fn windows_of_sixteen_bytes(rt: HostRuntime) {
-    let rows: [Row; 9] = [
+    let rows: [Row; 11] = [
         (b"000000000000123\0", (15, 0, 123)),
         (b"0000000000000123", (16, 13, 123)),
         (b"123\0\0\0\0\0\0\0\0\0\0\0\0\0", (3, 0, 123)),
@@ -34,6 +37,8 @@ fn windows_of_sixteen_bytes(rt: HostRuntime) {
         (b"/0", (0, 0, 0)),
         (b":0", (0, 0, 0)),
         (b"9\xFF9", (1, 0, 9)),
+        (b"12345678/1234567", (8, 0, 12345678)),
+        (b"12345678901", (11, 0, 12345678901)),
     ];
     check_windows::<Plain>(&rt, &rows);
     check_windows::<Words>(&rt, &rows);
@@ -42,15 +47,29 @@ fn windows_of_sixteen_bytes(rt: HostRuntime) {
 
 #[test]
 fn windows_of_eight_bytes(rt: HostRuntime) {
-    let rows: [Row; 6] = [
+    let rows: [Row; 9] = [
         (b"123456789", (8, 0, 12345678)),
         (b"12345678", (8, 0, 12345678)),
         (b"0000000", (7, 0, 0)),
         (b"00000000", (8, 8, 0)),
         (b"1\0\0\0\0\0\0\0", (1, 0, 1)),
         (b"12\0\0\0\0\0\0", (2, 0, 12)),
+        (b"00000123456789", (8, 5, 123)),
+        (b"0001", (4, 0, 1)),
+        (b":1234567", (0, 0, 0)),
     ];
     check_windows_8::<Plain>(&rt, &rows);
     check_windows_8::<Words>(&rt, &rows);
     check_windows_8::<Lanes>(&rt, &rows);
+}
+
+#[test]
+fn a_window_of_a_size(rt: HostRuntime) {
+    let window = front_of::<Plain>(8, b"00000012x");
+    assert_eq!(rt; told(window), (8, 6, 12));
+}
+
+#[test]
+fn steps_have_no_bytes(rt: HostRuntime) {
+    assert_eq!(rt; std::mem::size_of::<Steps>(), 0);
 }

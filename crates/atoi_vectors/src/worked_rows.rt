@@ -1,7 +1,8 @@
 //! The worked rows of the ten functions. Each is stated once and runs on the root and on `lanes`.
-//! It uses `answers` and the public calls of `atoi_simd`.
+//! It uses `answers`, the public calls of `atoi_simd`, and `take_sign` of `atoi_core`.
 
-use crate::answers::both_give;
+use crate::answers::{both_give, gives};
+use atoi_core::take_sign;
 use atoi_simd::AtoiSimdError::{self, Empty, Invalid64, Overflow, Size};
 use atoi_simd::{lanes, parse};
 use std::process::Abort;
@@ -208,4 +209,14 @@ fn no_digit_behind_the_sign(rt: HostRuntime) {
         parse::<u8, false, false>(b"-5") => Err(Empty);
         parse::<i8, false, false>(b"+5") => Err(Empty);
     );
+}
+
+#[test]
+fn at_most_one_sign_is_taken(rt: HostRuntime) {
+    gives(&rt, take_sign(true, true, b"+-5"), (false, b"-5"));
+    gives(&rt, take_sign(false, true, b"-5"), (false, b"-5"));
+    gives(&rt, take_sign(true, false, b"+5"), (false, b"+5"));
+    gives(&rt, take_sign(true, false, b"-5"), (true, b"5"));
+    gives(&rt, take_sign(true, false, b"-"), (true, b""));
+    gives(&rt, take_sign(true, true, b""), (false, b""));
 }

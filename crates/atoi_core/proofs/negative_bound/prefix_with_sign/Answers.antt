@@ -1,8 +1,7 @@
 -- What the answer under the negative bound says of each case.
-use Rattle.std.proofs.Common.{◌≡◌, ◌∙◌, Result, Ok, Err, None, Some, sym, ap, arith}
+use Rattle.std.proofs.Common.{◌∙◌, sym, ap, arith}
 use Rattle.atoi_core.specs.Answer.{typed_prefix_answer}
-use Rattle.atoi_core.specs.Magnitude.{prefix}
-use Rattle.atoi_core.proofs.NegativeBound.{IsLeast, prefix_number, prefix_least, prefix_error, prefix_overflows}
+use Rattle.atoi_core.proofs.NegativeBound.{prefix_number, prefix_least, prefix_error, prefix_overflows}
 use Rattle.atoi_core.proofs.negative_bound.prefix_with_sign.Goals as goal
 
 pub prefix_overflow-requires-clause-least : goal.prefix_overflow-requires-clause-least

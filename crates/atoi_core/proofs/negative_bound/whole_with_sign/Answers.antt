@@ -1,8 +1,7 @@
 -- What the answer under the negative bound says of each case.
-use Rattle.std.proofs.Common.{◌≡◌, ◌∙◌, Result, Ok, Err, None, Some, length, sym, ap, arith}
+use Rattle.std.proofs.Common.{◌∙◌, length, sym, ap, arith}
 use Rattle.atoi_core.specs.Answer.{typed_answer}
-use Rattle.atoi_core.specs.Magnitude.{whole}
-use Rattle.atoi_core.proofs.NegativeBound.{IsLeast, whole_number, whole_least, whole_error, whole_error_least, whole_overflows}
+use Rattle.atoi_core.proofs.NegativeBound.{whole_number, whole_least, whole_error, whole_error_least, whole_overflows}
 use Rattle.atoi_core.proofs.negative_bound.whole_with_sign.Goals as goal
 
 pub whole_overflow-requires-clause-digits : goal.whole_overflow-requires-clause-digits

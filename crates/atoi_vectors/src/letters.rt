@@ -1,13 +1,10 @@
-//! Two engines of other digits, for tests: what is generic over engines goes by any table. It uses
-//! `alphabet`, which reads byte by byte by any of them.
+//! Two engines of other digits, and what the calls answer over them: they are generic over engines,
+//! so they read by any table of digits. It uses `Alphabet` and `front_of` of `atoi_core`.
 ghost use Rattle.std.proofs.Common.{arith};
 ghost use Rattle.std.proofs.lemmas.Bool.Decides.{nat_tests};
 ghost use Rattle.std.specs.Prelude.{◌-◌, ◌&&◌, nat_le, Some, None, if◌then◌else◌};
 
-use crate::alphabet::{Alphabet, front_of};
-use crate::engine::Engine;
-use crate::steps::Steps;
-use crate::window::Window;
+use atoi_core::{Alphabet, Engine, Steps, Window, front_of};
 
 /// The letters `A` to `J`, worth 0 to 9.
 pub(crate) struct Letters;
@@ -76,5 +73,4 @@ impl Engine for BothCases {
     ghost below_ten = { λ byte. Prim.grind (arith, nat_tests) };
 }
 
-#[cfg(test)]
 mod tests;

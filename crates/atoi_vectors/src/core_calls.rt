@@ -1,0 +1,220 @@
+//! That each call over an engine answers by the plain rules. It uses `plain_rules`, `answers` and
+//! the calls of `atoi_core`.
+ghost use Rattle.std.specs.Prelude.{◌<◌};
+
+use crate::answers::gives;
+use crate::plain_rules::{self, Body, Class};
+use atoi_core::{
+    AtoiSimdError, Engine, Number, Plain, Signed, Steps, Window, Words, narrow_prefix,
+    narrow_whole, narrow_whole_windows, prefix_neg, prefix_pos, whole_64, whole_128, whole_neg,
+    whole_pos,
+};
+use atoi_simd::lanes::Lanes;
+use std::process::Abort;
+
+/// Checks the windows of each of the three engines, the parses over them, and the digit loop, on one
+/// slice.
+pub(crate) fn check(rt: &impl Abort, text: &[u8]) {
+    check_digit_loop(rt, text);
+    check_decimal::<Plain>(rt, text);
+    check_decimal::<Words>(rt, text);
+    check_decimal::<Lanes>(rt, text);
+}
+
+/// The same, and the core calls of each type.
+pub(crate) fn check_all(rt: &impl Abort, text: &[u8]) {
+    check(rt, text);
+    check_types::<Plain>(rt, Body::of(text));
+    check_types::<Words>(rt, Body::of(text));
+    check_types::<Lanes>(rt, Body::of(text));
+}
+
+fn check_digit_loop(rt: &impl Abort, text: &[u8]) {
+    let body = Body::of(text);
+    for bound in [255, 4294967295] {
+        gives(
+            rt,
+            narrow_whole(bound, text).map(u128::from),
+            body.whole(Class::Narrow, u128::from(bound), true),
+        );
+    }
+}
+
+// Checks the windows of an engine of decimal digits, and the parses over it.
+fn check_decimal<E: Engine>(rt: &impl Abort, text: &[u8]) {
+    let mut steps = Steps::new();
+    let window = told(E::window(text, &mut steps));
+    gives(rt, window, plain_rules::window(16, text));
+    let window = told(E::window_8(text, &mut steps));
+    gives(rt, window, plain_rules::window(8, text));
+    check_engine::<E>(rt, Body::of(text));
+}
+
+// What a window says: its digits, its zeros, and the number that the digits write.
+fn told(window: Window) -> (usize, usize, Option<u128>) {
+    (
+        window.len as usize,
+        window.zeroes as usize,
+        Some(u128::from(window.number)),
+    )
+}
+
+/// Checks the parses over an engine, whose digits are those of the body.
+pub(crate) fn check_engine<E: Engine>(rt: &impl Abort, body: Body<'_>) {
+    for skip in [false, true] {
+        check_narrow::<E>(rt, skip, body);
+        check_64::<E>(rt, skip, body);
+        check_128::<E>(rt, skip, body);
+    }
+}
+
+fn widened((number, len): (u64, usize)) -> (u128, usize) {
+    (u128::from(number), len)
+}
+
+fn check_narrow<E: Engine>(rt: &impl Abort, skip: bool, body: Body<'_>) {
+    let mut steps = Steps::new();
+    for bound in [255, 4294967295] {
+        gives(
+            rt,
+            narrow_prefix::<E>(bound, skip, body.bytes, &mut steps).map(widened),
+            body.prefix(Class::Narrow, u128::from(bound), skip),
+        );
+        gives(
+            rt,
+            narrow_whole_windows::<E>(bound, body.bytes, &mut steps).map(u128::from),
+            body.whole(Class::Narrow, u128::from(bound), skip),
+        );
+    }
+}
+
+fn check_64<E: Engine>(rt: &impl Abort, skip: bool, body: Body<'_>) {
+    let mut steps = Steps::new();
+    for (bound, limit) in [
+        (18446744073709551615, 20),
+        (9223372036854775807, 19),
+        (9223372036854775808, 19),
+    ] {
+        let class = Class::Wide64(limit as usize);
+        gives(
+            rt,
+            E::prefix_64(bound, limit, skip, body.bytes, &mut steps).map(widened),
+            body.prefix(class, u128::from(bound), skip),
+        );
+        gives(
+            rt,
+            whole_64::<E>(bound, limit, skip, body.bytes, &mut steps).map(u128::from),
+            body.whole(class, u128::from(bound), skip),
+        );
+    }
+}
+
+fn check_128<E: Engine>(rt: &impl Abort, skip: bool, body: Body<'_>) {
+    let mut steps = Steps::new();
+    for bound in [
+        340282366920938463463374607431768211455,
+        170141183460469231731687303715884105727,
+        170141183460469231731687303715884105728,
+    ] {
+        gives(
+            rt,
+            E::prefix_128(bound, skip, body.bytes, &mut steps),
+            body.prefix(Class::Wide128, bound, skip),
+        );
+        gives(
+            rt,
+            whole_128::<E>(bound, skip, body.bytes, &mut steps),
+            body.whole(Class::Wide128, bound, skip),
+        );
+    }
+}
+
+/// Checks the core calls of each type over an engine, whose digits are those of the body.
+pub(crate) fn check_types<E: Engine>(rt: &impl Abort, body: Body<'_>) {
+    let (unsigned, signed) = (Class::Wide64(20), Class::Wide64(19));
+    for skip in [false, true] {
+        check_pos::<E, u8>(rt, Class::Narrow, 255, skip, body);
+        check_pos::<E, u16>(rt, Class::Narrow, 65535, skip, body);
+        check_pos::<E, u32>(rt, Class::Narrow, 4294967295, skip, body);
+        check_pos::<E, u64>(rt, unsigned, 18446744073709551615, skip, body);
+        check_pos::<E, usize>(rt, unsigned, 18446744073709551615, skip, body);
+        check_pos::<E, u128>(rt, Class::Wide128, u128::MAX, skip, body);
+        check_both::<E, i8>(rt, Class::Narrow, 128, skip, body);
+        check_both::<E, i16>(rt, Class::Narrow, 32768, skip, body);
+        check_both::<E, i32>(rt, Class::Narrow, 2147483648, skip, body);
+        check_both::<E, i64>(rt, signed, 9223372036854775808, skip, body);
+        check_both::<E, isize>(rt, signed, 9223372036854775808, skip, body);
+        check_both::<E, i128>(rt, Class::Wide128, 1 << 127, skip, body);
+    }
+}
+
+// Whether the number of a whole parse is negative, and its magnitude.
+fn parts<T: Number>(
+    answer: Result<T, AtoiSimdError<'_>>,
+) -> Result<(bool, u128), AtoiSimdError<'_>> {
+    match answer {
+        Ok(value) => Ok(value.parts()),
+        Err(error) => Err(error),
+    }
+}
+
+// The same of a prefix, and its length.
+fn prefix_parts<T: Number>(
+    answer: Result<(T, usize), AtoiSimdError<'_>>,
+) -> Result<(bool, u128, usize), AtoiSimdError<'_>> {
+    match answer {
+        Ok((value, len)) => {
+            let (minus, number) = value.parts();
+            Ok((minus, number, len))
+        }
+        Err(error) => Err(error),
+    }
+}
+
+// The core calls for numbers from 0 to `bound`.
+fn check_pos<E: Engine, T: Number>(
+    rt: &impl Abort,
+    class: Class,
+    bound: u128,
+    skip: bool,
+    body: Body<'_>,
+) {
+    let mut steps = Steps::new();
+    gives(
+        rt,
+        parts(whole_pos::<E, T>(skip, body.bytes, &mut steps)),
+        body.whole(class, bound, skip).map(|number| (false, number)),
+    );
+    gives(
+        rt,
+        prefix_parts(prefix_pos::<E, T>(skip, body.bytes, &mut steps)),
+        body.prefix(class, bound, skip)
+            .map(|(number, len)| (false, number, len)),
+    );
+}
+
+// All core calls of a signed type, whose least number has that magnitude.
+fn check_both<E: Engine, T: Signed>(
+    rt: &impl Abort,
+    class: Class,
+    magnitude: u128,
+    skip: bool,
+    body: Body<'_>,
+)
+    requires { 0 < magnitude }
+{
+    let mut steps = Steps::new();
+    check_pos::<E, T>(rt, class, magnitude - 1, skip, body);
+    gives(
+        rt,
+        parts(whole_neg::<E, T>(skip, body.bytes, &mut steps)),
+        body.whole(class, magnitude, skip)
+            .map(|number| (number > 0, number)),
+    );
+    gives(
+        rt,
+        prefix_parts(prefix_neg::<E, T>(skip, body.bytes, &mut steps)),
+        body.prefix(class, magnitude, skip)
+            .map(|(number, len)| (number > 0, number, len)),
+    );
+}

@@ -1,0 +1,97 @@
+//! That each engine answers by the plain rules on the slices of the worked rows and on the original's
+//! texts, in each call. It uses `core_calls` only.
+
+use crate::core_calls::check_all;
+use crate::differences::{LONG_ROWS, PLUS_ROWS};
+use crate::original::ROWS;
+use std::process::Abort;
+
+// The slices of the worked rows, without their signs, and those of the windows: one a line.
+const WORKED: &[u8] = b"\
+000000000000000000001234
+1234
+2345
+123something_else
+256x
+255x
+12a
+128
+129
+4294967295,
+00000000000000007
+0000000000000000
+00000000000000255999
+0000000000000999x
+000000000000999x
+00000000000000000000000000000000x
+000000000000000000000
+18446744073709551615
+18446744073709551616
+09223372036854775807
+9223372036854775808
+9223372036854775808x
+0001111111111111111111111111
+111111111111111111111
+111111111111111111111111
+1111111111111111111111111
+11111111111111111111111111111111x
+50000000000000001
+0100000000000000000
+340282366920938463463374607431768211455
+340282366920938463463374607431768211456
+170141183460469231731687303715884105728,
+000000000000000000000000000000000000000
+00000000000000000000000000000000000000000
+111111111111111111111111111111111111111111111
+0000111111111111111111111111111111111111111111111
+0000012x
+12345678901234567890123456789012
+12345678901234567890123456789012s
+123456789012345678901234567890123
+007x
+0000000000000000000000007x
++-5
+--5
+0x
+7\x20
+000000000000123\0
+0000000000000123
+123\0\0\0\0\0\0\0\0\0\0\0\0\0
+9999999999999999
+x1
+/0
+:0
+9\xFF9
+123456789
+12345678
+0000000
+00000000
+1\0\0\0\0\0\0\0
+12\0\0\0\0\0\0
+";
+
+fn is_end(byte: &u8) -> bool {
+    *byte == b'\n'
+}
+
+#[test]
+fn on_every_worked_slice(rt: HostRuntime) {
+    for text in WORKED.split(is_end) {
+        check_all(&rt, text);
+    }
+}
+
+// Checks the text of each row, which has four words before it.
+fn check_texts(rt: &impl Abort, rows: &[u8]) {
+    for row in rows.split(is_end) {
+        let text = row.splitn(5, |byte| *byte == b' ').nth(4);
+        check_all(rt, text.unwrap_or(row));
+    }
+}
+
+#[test]
+fn on_every_text_of_the_original(rt: HostRuntime) {
+    check_texts(&rt, ROWS);
+    check_texts(&rt, PLUS_ROWS);
+    check_texts(&rt, LONG_ROWS);
+}
