@@ -10,7 +10,7 @@ use Rattle.atoi_lanes.specs.Paired.{paired}
 use lib.Lanes.{Each1, number_l, digits_l, dots}
 
 -- n digits write less than the power
-number-lt : (p : ℕ) (xs : List ℕ) → Each1 (λ x. x < p) xs → number_l p xs < p ^ length xs
+pub number-lt : (p : ℕ) (xs : List ℕ) → Each1 (λ x. x < p) xs → number_l p xs < p ^ length xs
 number-lt p [] h = omega (arith, pow-zero p)
 number-lt p (x ∷ xs) h = omega (arith, h.0, pow-suc p (length xs), mul-le-mul_right p (number-lt p xs h.1))
 
