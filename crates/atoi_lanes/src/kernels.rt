@@ -132,41 +132,28 @@ fn number_of_half(digits: u8x16) -> u64
     requires { Each1 (λ digit. digit < 10) digits }
     ensures { result ≡ value itself (take 8 digits) }
 {
-    let [number, _] = eights(fours(pairs(digits))).to_array();
+    let [number, _] = eights(digits).to_array();
     number
 }
 
-// The number that sixteen digits write: at each level two neighbours become one.
+// The number that sixteen digits write.
 fn number_of(digits: u8x16) -> u64
     requires { Each1 (λ digit. digit < 10) digits }
     ensures { result ≡ value itself digits }
 {
-    let [high, low] = eights(fours(pairs(digits))).to_array();
+    let [high, low] = eights(digits).to_array();
     high * 100_000_000 + low
 }
 
-// Each two digits as the upper byte of one lane.
-fn pairs(digits: u8x16) -> u16x8
+// Each eight of sixteen digits as one lane: pairs become fours, and fours become eights.
+fn eights(digits: u8x16) -> u64x2
     requires { Each1 (λ digit. digit < 10) digits }
-    ensures { map (λ lane. lane / 256) result ≡ paired 10 digits }
+    ensures { result ≡ paired 10000 (paired 100 (paired 10 digits)) }
 {
-    // The first digit is the lower byte. The product adds ten times it to the second.
-    u16x8::from_le_bytes(digits) * u16x8::splat(0xA01)
-}
-
-// Each four digits as one lane, from pairs in the upper bytes.
-fn fours(pairs: u16x8) -> u32x4
-    requires { Each1 (λ pair. pair < 100) (map (λ lane. lane / 256) pairs) }
-    ensures { result ≡ paired 100 (map (λ lane. lane / 256) pairs) }
-{
-    pairs.to_le_bytes().dot4(u8x16::from_array(HUNDREDS))
-}
-
-// Each eight digits as one lane.
-fn eights(fours: u32x4) -> u64x2
-    requires { Each1 (λ four. four < 10000) fours }
-    ensures { result ≡ paired 10000 fours }
-{
+    // The first digit is the lower byte. The product adds ten times it to the second, and so the
+    // upper byte is the pair.
+    let pairs = u16x8::from_le_bytes(digits) * u16x8::splat(0xA01);
+    let fours = pairs.to_le_bytes().dot4(u8x16::from_array(HUNDREDS));
     let fields = u64x2::from_le_bytes(fours.to_le_bytes());
     (fields & u64x2::splat(0xFFFF_FFFF)) * u64x2::splat(10_000) + (fields >> u64x2::splat(32))
 }
