@@ -71,10 +71,10 @@ fn in_range<T: Signed>(minus: bool, negative: T) -> Option<T>
         else Some (number_of minus magnitude)) }
 {
     let (_, magnitude) = negative.parts();
-    // Types of at most 32 bits take a magnitude without a minus as one more, so that one comparison
-    // serves both signs. In wider types that addition costs more than it saves: there the sign is read
+    // Types of at most 64 bits take a magnitude without a minus as one more, so that one comparison
+    // serves both signs. With 128 bits that addition costs more than it saves: there the sign is read
     // only of a magnitude above `T::MAX`.
-    let is_above = if T::BITS <= 32 {
+    let is_above = if T::BITS <= 64 {
         magnitude as u64 + u64::from(!minus) > T::LEAST_MAGNITUDE as u64
     } else {
         magnitude > T::GREATEST && has_no_minus_cold(minus)
