@@ -151,9 +151,13 @@ cut : (k : Kind) → IsSized k → (form : SignForm) (s front rest : List ℕ) (
     → s ≡ front ++ rest → Writes k form front number → ¬ BeginsWithDigit rest → FrontWrites (Writes k form) s other count
     → (number ≡ other) × ((take count s ≡ front) × (drop count s ≡ rest))
 cut k sized form s front rest number other count parts written ends found =
-    let same = only k sized form s number other (length front) count (joined k form s front rest number parts written ends) found in
-    (same.0, (ap (λ n. take n s) (sym same.1) ∙ (ap (take (length front)) parts ∙ take-append_seam front rest),
-      ap (λ n. drop n s) (sym same.1) ∙ front_rest s front rest parts))
+    let same = only k sized form s number other (length front) count (joined k form s front rest number parts written ends) found in (
+      same.0,
+      (
+        ap (λ n. take n s) (sym same.1) ∙ (ap (take (length front)) parts ∙ take-append_seam front rest),
+        ap (λ n. drop n s) (sym same.1) ∙ front_rest s front rest parts,
+      ),
+    )
 
 -- the law
 pub fronts_and_rests : (k : Kind) → IsSized k → FrontsAndRests k

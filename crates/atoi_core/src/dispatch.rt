@@ -139,10 +139,16 @@ fn whole_by_class<'a, E: Engine, T: Number>(
 {
     let bound = bound::<T>(minus);
     if T::BITS <= 32 {
-        Ok(u128::from(narrow_whole_windows::<E>(bound as u64, s, steps)?))
+        match narrow_whole_windows::<E>(bound as u64, s, steps) {
+            Ok(number) => Ok(u128::from(number)),
+            Err(error) => Err(error),
+        }
     } else if T::BITS == 64 {
         let limit = if T::SIGNED { 19 } else { 20 };
-        Ok(u128::from(whole_64::<E>(bound as u64, limit, skip, s, steps)?))
+        match whole_64::<E>(bound as u64, limit, skip, s, steps) {
+            Ok(number) => Ok(u128::from(number)),
+            Err(error) => Err(error),
+        }
     } else {
         whole_128::<E>(bound, skip, s, steps)
     }
@@ -164,12 +170,16 @@ fn prefix_by_class<'a, E: Engine, T: Number>(
 {
     let bound = bound::<T>(minus);
     if T::BITS <= 32 {
-        let (number, len) = narrow_prefix::<E>(bound as u64, skip, s, steps)?;
-        Ok((u128::from(number), len))
+        match narrow_prefix::<E>(bound as u64, skip, s, steps) {
+            Ok((number, len)) => Ok((u128::from(number), len)),
+            Err(error) => Err(error),
+        }
     } else if T::BITS == 64 {
         let limit = if T::SIGNED { 19 } else { 20 };
-        let (number, len) = E::prefix_64(bound as u64, limit, skip, s, steps)?;
-        Ok((u128::from(number), len))
+        match E::prefix_64(bound as u64, limit, skip, s, steps) {
+            Ok((number, len)) => Ok((u128::from(number), len)),
+            Err(error) => Err(error),
+        }
     } else {
         front_128::<E>(bound, skip, false, s, steps)
     }

@@ -132,6 +132,8 @@ pub fn parse_prefix_unsigned<'a, E: Engine, T: Number>(
         steps.old steps.new }
 {
     let (_, body) = take_sign(false, skip_plus, s);
-    let (number, len) = prefix_pos::<E, T>(skip, body, steps)?;
-    Ok((number, len + (s.len() - body.len())))
+    match prefix_pos::<E, T>(skip, body, steps) {
+        Ok((number, len)) => Ok((number, len + (s.len() - body.len()))),
+        Err(error) => Err(error),
+    }
 }

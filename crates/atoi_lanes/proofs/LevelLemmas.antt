@@ -7,10 +7,11 @@ use Rattle.std.proofs.lemmas.Nat.{pow_pos}
 use Rattle.std.proofs.lemmas.Simd.{Each1-weaker}
 use Rattle.std.specs.Int.Bits.{bit_and}
 use Rattle.atoi_lanes.specs.Paired.{paired}
+use Rattle.atoi_lanes.proofs.SumLemmas.{length-paired, paired-below}
 use lib.Lanes.{Each1, number_l, digits_l, dots}
 
 -- n digits write less than the power
-number-lt : (p : ℕ) (xs : List ℕ) → Each1 (λ x. x < p) xs → number_l p xs < p ^ length xs
+pub number-lt : (p : ℕ) (xs : List ℕ) → Each1 (λ x. x < p) xs → number_l p xs < p ^ length xs
 number-lt p [] h = omega (arith, pow-zero p)
 number-lt p (x ∷ xs) h = omega (arith, h.0, pow-suc p (length xs), mul-le-mul_right p (number-lt p xs h.1))
 
@@ -22,7 +23,7 @@ number-digits p (suc n) x some lt =
     ap (λ m. x % p + p * m) (number-digits p n (x / p) some above) ∙ omega (arith, div-add-mod x p)
 
 -- a step on the fields of two digits each, the first of them the lower, that makes of each two digits in base t one joins all neighbours
-pub joined : (p t : ℕ) (step : ℕ → ℕ) → t ≤ p → ((x y : ℕ) → x < t → y < t → step (y * p + x) ≡ x * t + y)
+joined : (p t : ℕ) (step : ℕ → ℕ) → t ≤ p → ((x y : ℕ) → x < t → y < t → step (y * p + x) ≡ x * t + y)
     → (m : ℕ) (xs : List ℕ) → length xs ≡ m + m → Each1 (λ x. x < t) xs → map step (digits_l (p * p) m (number_l p xs)) ≡ paired t xs
 joined p t step le joins zero [] long h = refl
 joined p t step le joins zero (x ∷ xs) long h = absurd (omega arith)
@@ -62,7 +63,7 @@ step-joins h t room x y a b =
     ap₂ (λ l u. ((l * t) % (2 ^ h * 2 ^ h) + u) % (2 ^ h * 2 ^ h)) low high ∙ ap (λ l. (l + y) % (2 ^ h * 2 ^ h)) product ∙ mod-eq_of_lt (omega arith)
 
 -- a level of the sum
-pub level : (h t n m : ℕ) → t * t ≤ 2 ^ h → (2 ^ h) ^ (m + m) ≡ 256 ^ n → (xs : List ℕ) → length xs ≡ m + m → Each1 (λ x. x < t) xs
+level : (h t n m : ℕ) → t * t ≤ 2 ^ h → (2 ^ h) ^ (m + m) ≡ 256 ^ n → (xs : List ℕ) → length xs ≡ m + m → Each1 (λ x. x < t) xs
     → map (step h t) (digits_l (2 ^ h * 2 ^ h) m (number_l 256 (digits_l 256 n (number_l (2 ^ h) xs)))) ≡ paired t xs
 level h t n m room bytes xs long below =
     let le : t ≤ 2 ^ h = omega (arith, square t) in
@@ -79,11 +80,11 @@ four_each zero = zero
 four_each (suc m) = suc (suc (suc (suc (four_each m))))
 
 -- the upper byte
-abbrev pub upper : ℕ → ℕ
+abbrev upper : ℕ → ℕ
 upper lane = lane / 256
 
 -- the bytes of such lanes, counted so
-pub weighed : (m : ℕ) (xs : List ℕ) → length xs ≡ m + m → Each1 (Fits w16) xs
+weighed : (m : ℕ) (xs : List ℕ) → length xs ≡ m + m → Each1 (Fits w16) xs
     → dots (digits_l 256 (four_each m) (number_l 65536 xs)) (hundreds m) ≡ paired 100 (map upper xs)
 weighed zero [] long h = refl
 weighed zero (x ∷ xs) long h = absurd (omega arith)
@@ -99,3 +100,22 @@ weighed (suc m) (x ∷ y ∷ rest) long h =
     let behind : all / 256 / 256 / 256 / 256 ≡ n = omega (arith, low, high) in
     ap₂ (λ d ds. d ∷ ds) (omega (arith, first, second))
     (ap (λ k. dots (digits_l 256 (four_each m) k) (hundreds m)) behind ∙ weighed m rest (omega arith) h.1.1)
+
+-- a product that wraps fits
+wrapped : (factor : ℕ) (xs : List ℕ) → Each1 (Fits w16) (map (λ field. field * factor % 65536) xs)
+wrapped factor [] = tt
+wrapped factor (x ∷ xs) = (record { fits = omega arith }, wrapped factor xs)
+
+-- all levels: pairs in the upper bytes, fours and eights
+pub all_levels : (digits : List ℕ) → length digits ≡ 16 → Each1 (λ x. x < 10) digits
+    → map (step 32 10000) (digits_l (2 ^ 64) 2 (number_l 256 (digits_l 256 16 (number_l (2 ^ 32)
+    (dots (digits_l 256 16 (number_l 65536 (map (λ field. field * 2561 % 65536) (digits_l 65536 8 (number_l 256 digits))))) (hundreds 4))))))
+    ≡ paired 10000 (paired 100 (paired 10 digits))
+all_levels digits long below =
+    let lanes = map (λ field. field * 2561 % 65536) (digits_l 65536 8 (number_l 256 digits)) in
+    let pairs : map upper lanes ≡ paired 10 digits = joined 256 10 (λ field. field * 2561 % 65536 / 256) (omega arith) (λ x y a b. omega arith) 8 digits long below in
+    let fours = weighed 4 lanes refl (wrapped 2561 (digits_l 65536 8 (number_l 256 digits))) ∙ ap (paired 100) pairs in
+    let small = paired-below 100 (paired 10 digits) (paired-below 10 digits below) in
+    let four = length-paired 100 4 (paired 10 digits) (length-paired 10 8 digits long) in
+    ap (λ l. map (step 32 10000) (digits_l (2 ^ 64) 2 (number_l 256 (digits_l 256 16 (number_l (2 ^ 32) l))))) fours
+    ∙ level 32 10000 16 2 (omega arith) refl (paired 100 (paired 10 digits)) four small

@@ -58,7 +58,7 @@ digits-number p (suc n) m (x ∷ xs) h room =
     ap₂ (λ d ds. d ∷ ds) parts.0 (ap (digits_l p n) parts.1 ∙ digits-number p n m xs h.1 (omega arith))
 
 -- a shift by whole bytes
-byte_shift : (n : ℕ) → 256 ^ n ≡ 2 ^ (8 * n)
+pub byte_shift : (n : ℕ) → 256 ^ n ≡ 2 ^ (8 * n)
 byte_shift zero = refl
 byte_shift (suc n) = pow-suc 256 n ∙ ap (λ p. p * 256) (byte_shift n) ∙ sym (ap (λ k. 2 ^ k) (omega arith) ∙ pow-add 2 (8 * n) 8)
 

@@ -1,8 +1,8 @@
 -- From the mask of a comparison of lanes to the first lanes that pass a test.
-use Rattle.std.proofs.Common.{◌≡◌, ℕ, zero, suc, ◌+◌, ◌-◌, ◌*◌, ◌/◌, ◌%◌, ◌^◌, ◌<◌, Bool, true, false, cond, List, [], ◌∷◌, map, length, Fits, w8, w64, refl, ap, ap₂, ◌∙◌, arith, pow_pos}
+use Rattle.std.proofs.Common.{◌≡◌, ℕ, zero, suc, ◌+◌, ◌-◌, ◌*◌, ◌/◌, ◌%◌, ◌^◌, ◌<◌, Bool, true, false, cond, List, [], ◌∷◌, map, length, drop, Fits, w8, w64, refl, sym, ap, ap₂, ◌∙◌, arith, pow_pos}
 use Rattle.std.specs.Int.{trailing_ones}
 use Rattle.std.specs.List.{prefix_len}
-use Rattle.std.proofs.Math.Nat.{pow-suc, lt_of_lt_of_le}
+use Rattle.std.proofs.Math.Nat.{pow-suc, pow-zero, zero-div, div-one, div-div-eq-div-mul, lt_of_lt_of_le}
 use Rattle.std.proofs.lemmas.Bool.{agree_below, agree_below_at}
 use Rattle.std.proofs.lemmas.Simd.{map-map, mask_l-lt, mask_l-mod}
 use Rattle.std.proofs.lemmas.List.{length-map}
@@ -59,3 +59,13 @@ mask-of_lanes q v f z long fits lanes all =
 -- the ones at the low end of a mask are the first lanes that pass
 pub ones-of_mask : (q : ℕ → Bool) (v : List ℕ) → length v < 64 → (mask : ℕ) → mask ≡ mask_l (map q v) → trailing_ones w64 mask ≡ prefix_len q v
 ones-of_mask q v long mask is = ap (trailing_ones w64) is ∙ trailing-complement q 64 v (omega arith)
+
+-- a mask without its lowest bits is the mask of the other lanes
+pub mask-drop : (k : ℕ) (ms : List Bool) → mask_l ms / 2 ^ k ≡ mask_l (drop k ms)
+mask-drop zero ms = ap (λ p. mask_l ms / p) (pow-zero 2) ∙ div-one (mask_l ms)
+mask-drop (suc k) [] = zero-div (2 ^ suc k)
+mask-drop (suc k) (b ∷ bs) =
+    let all = cond b 1 zero + 2 * mask_l bs in
+    let power : 2 ^ suc k ≡ 2 * 2 ^ k = omega (arith, pow-suc 2 k) in
+    let others : all / 2 ≡ mask_l bs = elim b as (λ a. (cond a 1 zero + 2 * mask_l bs) / 2 ≡ mask_l bs) [ true ↦ omega arith | false ↦ omega arith ] in
+    ap (λ p. all / p) power ∙ sym (div-div-eq-div-mul all 2 (2 ^ k)) ∙ ap (λ m. m / 2 ^ k) others ∙ mask-drop k bs

@@ -19,7 +19,7 @@ paired-below t (x ∷ []) h = tt
 paired-below t (x ∷ y ∷ rest) h = (digits_lt {q = x} {m = t} h.0 h.1.0, paired-below t rest h.1.1)
 
 -- half as many of them
-length-paired : (t m : ℕ) (xs : List ℕ) → length xs ≡ m + m → length (paired t xs) ≡ m
+pub length-paired : (t m : ℕ) (xs : List ℕ) → length xs ≡ m + m → length (paired t xs) ≡ m
 length-paired t m [] long = omega arith
 length-paired t m (x ∷ []) long = absurd (omega arith)
 length-paired t zero (x ∷ y ∷ rest) long = absurd (omega arith)

@@ -1,10 +1,10 @@
 //! Sixteen bytes in the lanes of one vector: a load, how many digits or zeros they begin with, and
-//! the number that they write; and the number of a slice of fewer than eight bytes, in half of one.
+//! the number that they write; and both of a slice of fewer than eight bytes, in half of a vector.
 //! It uses `std::simd`, and `words` for the load of a short slice.
-ghost use Rattle.std.specs.Prelude.{◌≡◌, ◌-◌, ◌/◌, ◌≤◌, ◌<◌, ◌==◌, ◌++◌, if◌then◌else◌, Some, None, length, map, take, drop, replicate};
-ghost use Rattle.std.specs.Simd.Lanes.{Each1, mask_l};
+ghost use Rattle.std.specs.Prelude.{◌≡◌, ◌-◌, ◌/◌, ◌≤◌, ◌<◌, ◌++◌, length, map, take, drop, replicate};
+ghost use Rattle.std.specs.Simd.Lanes.{Each1, mask_l, digits_l};
 ghost use Rattle.atoi_core.specs.Digit.{decimal_table, is_digit};
-ghost use Rattle.atoi_core.specs.Run.{run_len, zeros, value};
+ghost use Rattle.atoi_core.specs.Run.{run_len, run, zeros, value};
 ghost use Rattle.atoi_core.specs.Words.{word_of};
 ghost use Rattle.atoi_lanes.specs.Itself.{itself};
 ghost use Rattle.atoi_lanes.specs.Padded.{padded_front};
@@ -96,35 +96,35 @@ fn moved_to_end(v: u8x16, len: u32) -> u8x16
     v.swizzle_dyn_within::<16>(u8x16::from_slice(&SHIFTS[len as usize..]))
 }
 
-/// The number that a slice of fewer than 8 bytes writes in decimal, or `None` if not all of its bytes
-/// are digits. The number of an empty slice is 0. It is computed without a count of digits, so that
-/// the processor need not wait for one.
+/// How many digits a slice of fewer than 8 bytes begins with, and the number that they write.
 #[inline(always)]
-pub fn sum_short(s: &[u8]) -> Option<u64>
+pub fn read_short(s: &[u8]) -> (u32, u64)
     requires few { length s.now < 8 }
-    ensures { result ≡ (if run_len decimal_table s.now == length s.now
-        then Some (value decimal_table s.now) else None) }
+    ensures len { result.0 ≡ run_len decimal_table s.now }
+    ensures number { result.1 ≡ value decimal_table (run decimal_table s.now) }
 {
     if s.is_empty() {
-        return Some(0);
+        return (0, 0);
     }
-    let lanes = load_to_half(s);
-    if digit_mask(lanes).count_ones() as usize == s.len() {
-        // Of a digit the lower half is its value. A lane whose byte is missing stays 0.
-        Some(number_of_half(lanes & u8x16::splat(0x0F)))
-    } else {
-        None
+    let word = load_high(s);
+    let lanes = half(word);
+    let mask = digit_mask(lanes);
+    // Of a digit the lower half is its value. A lane whose byte is missing stays 0.
+    if mask.count_ones() as usize == s.len() {
+        // All bytes are digits. The processor need not wait for their count.
+        return (s.len() as u32, number_of_half(lanes & u8x16::splat(0x0F)));
     }
+    let len = (mask >> (8 - s.len())).trailing_ones();
+    // The shift drops the bytes after the digits.
+    let digits = half(word << (8 * (s.len() - len as usize)));
+    (len, number_of_half(digits & u8x16::splat(0x0F)))
 }
 
-// The bytes of a slice of at most 8, the last of them in the eighth lane. All other lanes are 0.
-#[inline(always)]
-fn load_to_half(s: &[u8]) -> u8x16
-    requires some { 0 < length s.now }
-    requires few { length s.now ≤ 8 }
-    ensures { result ≡ (replicate (8 - length s.now) 0 ++ s.now) ++ replicate 8 0 }
+// The bytes of a word in the first eight lanes, the lowest first. All other lanes are 0.
+fn half(word: u64) -> u8x16
+    ensures { result ≡ digits_l 256 16 word }
 {
-    u64x2::from_array([load_high(s), 0]).to_le_bytes()
+    u64x2::from_array([word, 0]).to_le_bytes()
 }
 
 // The number that the first eight of sixteen digits write.
@@ -132,41 +132,28 @@ fn number_of_half(digits: u8x16) -> u64
     requires { Each1 (λ digit. digit < 10) digits }
     ensures { result ≡ value itself (take 8 digits) }
 {
-    let [number, _] = eights(fours(pairs(digits))).to_array();
+    let [number, _] = eights(digits).to_array();
     number
 }
 
-// The number that sixteen digits write: at each level two neighbours become one.
+// The number that sixteen digits write.
 fn number_of(digits: u8x16) -> u64
     requires { Each1 (λ digit. digit < 10) digits }
     ensures { result ≡ value itself digits }
 {
-    let [high, low] = eights(fours(pairs(digits))).to_array();
+    let [high, low] = eights(digits).to_array();
     high * 100_000_000 + low
 }
 
-// Each two digits as the upper byte of one lane.
-fn pairs(digits: u8x16) -> u16x8
+// Each eight of sixteen digits as one lane: pairs become fours, and fours become eights.
+fn eights(digits: u8x16) -> u64x2
     requires { Each1 (λ digit. digit < 10) digits }
-    ensures { map (λ lane. lane / 256) result ≡ paired 10 digits }
+    ensures { result ≡ paired 10000 (paired 100 (paired 10 digits)) }
 {
-    // The first digit is the lower byte. The product adds ten times it to the second.
-    u16x8::from_le_bytes(digits) * u16x8::splat(0xA01)
-}
-
-// Each four digits as one lane, from pairs in the upper bytes.
-fn fours(pairs: u16x8) -> u32x4
-    requires { Each1 (λ pair. pair < 100) (map (λ lane. lane / 256) pairs) }
-    ensures { result ≡ paired 100 (map (λ lane. lane / 256) pairs) }
-{
-    pairs.to_le_bytes().dot4(u8x16::from_array(HUNDREDS))
-}
-
-// Each eight digits as one lane.
-fn eights(fours: u32x4) -> u64x2
-    requires { Each1 (λ four. four < 10000) fours }
-    ensures { result ≡ paired 10000 fours }
-{
+    // The first digit is the lower byte. The product adds ten times it to the second, and so the
+    // upper byte is the pair.
+    let pairs = u16x8::from_le_bytes(digits) * u16x8::splat(0xA01);
+    let fours = pairs.to_le_bytes().dot4(u8x16::from_array(HUNDREDS));
     let fields = u64x2::from_le_bytes(fours.to_le_bytes());
     (fields & u64x2::splat(0xFFFF_FFFF)) * u64x2::splat(10_000) + (fields >> u64x2::splat(32))
 }
@@ -196,12 +183,12 @@ mod tests {
     }
 
     #[test]
-    fn a_short_slice_of_digits(rt: HostRuntime) {
-        assert_eq!(rt; sum_short(b""), Some(0));
-        assert_eq!(rt; sum_short(b"7"), Some(7));
-        assert_eq!(rt; sum_short(b"1234567"), Some(1_234_567));
-        assert_eq!(rt; sum_short(b"12:4"), None);
-        assert_eq!(rt; sum_short(b"\012"), None);
+    fn a_short_slice(rt: HostRuntime) {
+        assert_eq!(rt; read_short(b""), (0, 0));
+        assert_eq!(rt; read_short(b"7"), (1, 7));
+        assert_eq!(rt; read_short(b"1234567"), (7, 1_234_567));
+        assert_eq!(rt; read_short(b"12:4"), (2, 12));
+        assert_eq!(rt; read_short(b"\012"), (0, 0));
     }
 
     #[test]

@@ -7,7 +7,7 @@ ghost use Rattle.atoi_core.specs.Digit.{decimal_table};
 ghost use Rattle.atoi_core.specs.Window.{window_of};
 ghost use Rattle.atoi_lanes.specs.LaneWindow.{lane_window};
 
-use crate::kernels::{len_lanes, load_lanes, sum_lanes, sum_short, zeroes_lanes};
+use crate::kernels::{len_lanes, load_lanes, read_short, sum_lanes, zeroes_lanes};
 use crate::wide_lanes::{prefix_64_lanes, prefix_128_lanes};
 use atoi_core::{AtoiSimdError, Engine, Steps, Window};
 use std::simd::prelude::*;
@@ -39,13 +39,12 @@ impl Engine for Lanes {
     fn window(s: &[u8], steps: &mut Steps) -> Window {
         steps.tick();
         if s.len() < 8 {
-            if let Some(number) = sum_short(s) {
-                return Window {
-                    len: s.len() as u32,
-                    zeroes: 0,
-                    number,
-                };
-            }
+            let (len, number) = read_short(s);
+            return Window {
+                len,
+                zeroes: 0,
+                number,
+            };
         }
         lane_window(load_lanes(s), 16)
     }

@@ -1,6 +1,5 @@
-use Rattle.std.proofs.Common.{refl, arith}
-use Rattle.atoi_lanes.proofs.LevelLemmas.{level}
+use Rattle.atoi_lanes.proofs.LevelLemmas.{all_levels}
 use Rattle.atoi_lanes.proofs.kernels.eights.Goals as goal
 
 pub returns : goal.returns
-returns c = level 32 10000 16 2 (omega arith) refl c.args.fours c.fits-fours.0 c.requires
+returns c = all_levels c.args.digits c.fits-digits.0 c.requires
