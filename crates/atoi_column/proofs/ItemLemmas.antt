@@ -7,7 +7,7 @@ use Rattle.std.proofs.lemmas.Bool.{eqb-true, eq-eqb, false≢true}
 use Rattle.std.proofs.lemmas.Bool.Decides.{leb_tells}
 use Rattle.std.specs.Iterator.{MakesProgress, item_count}
 use Rattle.atoi_core.specs.Refusal.{Refusal}
-use Rattle.atoi_core.specs.Kind.{Kind}
+use Rattle.atoi_core.specs.IntType.{IntType}
 use Rattle.atoi_core.specs.Answer.{parse_answer, parse_prefix_answer}
 use Rattle.atoi_column.specs.Fields.{fields_of}
 use Rattle.atoi_column.specs.Items.{Flaw, field, trailing, flaw_at, items_from, items_left}
@@ -110,22 +110,22 @@ drop_first n xs b ys h =
     ]
 
 -- nothing is left at the end
-pub items_left-nil : (k : Kind) (separator index place : ℕ) → items_left k separator index place [] ≡ []
+pub items_left-nil : (k : IntType) (separator index place : ℕ) → items_left k separator index place [] ≡ []
 unfolding items_left
 items_left-nil k separator index place = refl
 
-pub items_left-empty : (k : Kind) (separator index place : ℕ) (rest : List ℕ) → length rest ≡ 0 → items_left k separator index place rest ≡ []
+pub items_left-empty : (k : IntType) (separator index place : ℕ) (rest : List ℕ) → length rest ≡ 0 → items_left k separator index place rest ≡ []
 items_left-empty k separator index place [] h = items_left-nil k separator index place
 items_left-empty k separator index place (byte ∷ bytes) h = absurd (omega arith)
 
 -- nor behind the whole of a rest
-pub items_left-behind_all : (k : Kind) (separator index place : ℕ) (rest : List ℕ)
+pub items_left-after_all : (k : IntType) (separator index place : ℕ) (rest : List ℕ)
     → items_left k separator index place (take (length rest - length rest) (drop (length rest) rest)) ≡ []
-items_left-behind_all k separator index place rest =
+items_left-after_all k separator index place rest =
     ap (items_left k separator index place) (take_rest rest (length rest) ∙ drop_all (length rest) rest (omega arith))
     ∙ items_left-nil k separator index place
 
-module _ (k : Kind) (separator index place : ℕ) where
+module _ (k : IntType) (separator index place : ℕ) where
   -- no more items are left than bytes
   pub length-items_left : (rest : List ℕ) → length (items_left k separator index place rest) ≤ length rest
   unfolding items_left
@@ -185,9 +185,9 @@ module _ (k : Kind) (separator index place : ℕ) where
         flaw_alone (λ v ok. absurd (cc (h, ok))) ∙ ap (λ r. Err (flaw_at index place r) ∷ []) h
 
 -- a call that gives the first item leaves one item less
-pub goes_on : {A B : Type 0} (can : List B → Type 0) → ((left : List B) → can left) → (before after : List B) (item : B) (given : A)
+pub starts_with_digit : {A B : Type 0} (can : List B → Type 0) → ((left : List B) → can left) → (before after : List B) (item : B) (given : A)
     → before ≡ item ∷ after → MakesProgress can (item_count (λ left. left)) before (Some given) after
-goes_on can always before after item given first = record {
+starts_with_digit can always before after item given first = record {
   on = λ _. (always after, tt, subst (λ left. length after < length left) (sym first) (omega arith));
   keeps = always after;
   rests = λ _. tt;

@@ -8,9 +8,9 @@ use Rattle.std.proofs.lemmas.Bool.Decides.{leb_tells}
 use Rattle.atoi_core.specs.Digit.{decimal_table, is_digit}
 use Rattle.atoi_core.specs.Run.{run}
 use Rattle.atoi_core.specs.Refusal.{Refusal}
-use Rattle.atoi_core.specs.Kind.{Kind}
+use Rattle.atoi_core.specs.IntType.{IntType}
 use Rattle.atoi_core.specs.Sign.{Sign, plus_sign, minus_sign, sign_of}
-use Rattle.atoi_core.specs.Laws.{looked_for, prefix_call, HaveSameRun, IsSameKind, PrefixIsWhole, PrefixOfCut, RestChangesNothing}
+use Rattle.atoi_core.specs.Laws.{looked_for, prefix_call, HaveSameRun, HaveSameOutcome, PrefixIsWhole, PrefixOfCut, RestChangesNothing}
 use Rattle.atoi_column.specs.Fields.{is_separator}
 use Rattle.atoi_column.specs.Laws.{FieldsArePrefixes}
 
@@ -36,7 +36,7 @@ sign_by is_plus is_minus x xs =
     else record { minus = false; taken = 0; body = x ∷ xs })
 
 -- two signs that stand before equal runs of digits
-record HaveSameFront (g h : Sign) : Type 0 where
+record HaveSamePrefix (g h : Sign) : Type 0 where
   minus : g.minus ≡ h.minus
   taken : g.taken ≡ h.taken
   run : run decimal_table g.body ≡ run decimal_table h.body
@@ -45,7 +45,7 @@ module _ (b : ℕ) (ys : List ℕ) (fails : is_digit decimal_table b ≡ false) 
   same_run : (xs : List ℕ) → run decimal_table xs ≡ run decimal_table (xs ++ b ∷ ys)
   same_run xs = front-stops (is_digit decimal_table) b ys fails xs
 
-  same_front : (is_plus is_minus : Bool) (x : ℕ) (xs : List ℕ) → HaveSameFront (sign_by is_plus is_minus x xs) (sign_by is_plus is_minus x (xs ++ b ∷ ys))
+  same_front : (is_plus is_minus : Bool) (x : ℕ) (xs : List ℕ) → HaveSamePrefix (sign_by is_plus is_minus x xs) (sign_by is_plus is_minus x (xs ++ b ∷ ys))
   same_front true is_minus x xs = record { minus = refl; taken = refl; run = same_run xs }
   same_front false true x xs = record { minus = refl; taken = refl; run = same_run xs }
   same_front false false x xs = record { minus = refl; taken = refl; run = same_run (x ∷ xs) }
@@ -71,7 +71,7 @@ and_false : (a b : Bool) → b ≡ false → (a && b) ≡ false
 and_false true b h = h
 and_false false b h = refl
 
-module _ (k : Kind) where
+module _ (k : IntType) where
   -- a call takes the same sign of a field as of the field with more behind it, and finds the same digits
   same_run_before : (b : ℕ) (ys : List ℕ) → IsApart b → (xs : List ℕ) → HaveSameRun k (looked_for true) xs (xs ++ b ∷ ys)
   same_run_before b ys is [] =
@@ -102,18 +102,18 @@ module _ (k : Kind) where
       ]
 
 -- answers of one kind have the same value
-same_kind-ok : {A : Type 0} (a b : Result A Refusal) (x : A) → IsSameKind a b → a ≡ Ok x → b ≡ Ok x
-same_kind-ok (Ok x) (Ok y) z same h = cc
-same_kind-ok (Ok x) (Err other) z same h = absurd same
-same_kind-ok (Err reason) b z same h = absurd (cc h)
+same_outcome-ok : {A : Type 0} (a b : Result A Refusal) (x : A) → HaveSameOutcome a b → a ≡ Ok x → b ≡ Ok x
+same_outcome-ok (Ok x) (Ok y) z same h = cc
+same_outcome-ok (Ok x) (Err other) z same h = absurd same
+same_outcome-ok (Err reason) b z same h = absurd (cc h)
 
-same_kind-ok_back : {A : Type 0} (a b : Result A Refusal) (y : A) → IsSameKind a b → b ≡ Ok y → a ≡ Ok y
-same_kind-ok_back (Ok x) (Ok y) z same h = cc
-same_kind-ok_back (Err reason) (Ok y) z same h = absurd same
-same_kind-ok_back a (Err other) z same h = absurd (cc h)
+same_outcome-ok_back : {A : Type 0} (a b : Result A Refusal) (y : A) → HaveSameOutcome a b → b ≡ Ok y → a ≡ Ok y
+same_outcome-ok_back (Ok x) (Ok y) z same h = cc
+same_outcome-ok_back (Err reason) (Ok y) z same h = absurd same
+same_outcome-ok_back a (Err other) z same h = absurd (cc h)
 
 -- the law of fields, by three laws of parses
-pub fields_are_prefixes : (k : Kind) → PrefixIsWhole k → PrefixOfCut k → RestChangesNothing k → FieldsArePrefixes k
+pub fields_are_prefixes : (k : IntType) → PrefixIsWhole k → PrefixOfCut k → RestChangesNothing k → FieldsArePrefixes k
 fields_are_prefixes k is_whole of_cut rest_changes separator is rest =
     let p : ℕ → Bool = λ byte. byte == separator in
     let text : List ℕ = before_first p rest in
@@ -121,13 +121,13 @@ fields_are_prefixes k is_whole of_cut rest_changes separator is rest =
     let same = rest_changes (looked_for true) true text rest (same_run_of_field k separator is rest) in
     record {
       to_prefix = λ value h.
-          same_kind-ok (prefix_call k (looked_for true) true text) (prefix_call k (looked_for true) true rest) (value, position_or_len p rest) same
+          same_outcome-ok (prefix_call k (looked_for true) true text) (prefix_call k (looked_for true) true rest) (value, position_or_len p rest) same
           (rw ends at (is_whole.back (looked_for true) true text value (inl refl) h));
       to_field = λ value h.
           is_whole.whole (looked_for true) true text value
-          (rw ends (same_kind-ok_back (prefix_call k (looked_for true) true text) (prefix_call k (looked_for true) true rest) (value, position_or_len p rest) same h));
+          (rw ends (same_outcome-ok_back (prefix_call k (looked_for true) true text) (prefix_call k (looked_for true) true rest) (value, position_or_len p rest) same h));
       within = λ value count h.
           let cut = of_cut.cut (looked_for true) true text value count
-          (same_kind-ok_back (prefix_call k (looked_for true) true text) (prefix_call k (looked_for true) true rest) (value, count) same h) in
+          (same_outcome-ok_back (prefix_call k (looked_for true) true text) (prefix_call k (looked_for true) true rest) (value, count) same h) in
           omega (arith, cut.1, ends);
     }

@@ -4,21 +4,21 @@ use Rattle.std.specs.List.{AllZip}
 use Rattle.std.proofs.lemmas.List.{drop-drop}
 use Rattle.std.proofs.lemmas.List.Sums.{sum_by-cons}
 use Rattle.atoi_core.specs.Refusal.{Refusal}
-use Rattle.atoi_core.specs.Kind.{Kind}
+use Rattle.atoi_core.specs.IntType.{IntType}
 use Rattle.atoi_core.specs.Answer.{parse_answer, parse_prefix_answer}
 use Rattle.atoi_core.specs.Text.{IsText, TextWrites}
 use Rattle.atoi_core.specs.Laws.{looked_for, AcceptedTexts, AcceptedNumbers}
 use Rattle.atoi_column.specs.Fields.{fields_of}
 use Rattle.atoi_column.specs.Items.{Flaw, flaw_at, items_from, items_left}
-use Rattle.atoi_column.specs.Laws.{place_behind, EndsItems, TextsAndItems}
+use Rattle.atoi_column.specs.Laws.{place_after, EndsItems, TextsAndItems}
 use Rattle.atoi_column.proofs.ItemLemmas.{items_from-ok, items_from-err}
 
 -- what a field is: a text that writes a number, or none
-data IsRead (k : Kind) (whole : List ℕ → Result ℤ Refusal) (text : List ℕ) : Type 0 where
+data IsRead (k : IntType) (whole : List ℕ → Result ℤ Refusal) (text : List ℕ) : Type 0 where
   accepted : (v : ℤ) → whole text ≡ Ok v → TextWrites k true text v → IsRead k whole text
   refused : ((v : ℤ) → whole text ≡ Ok v → ⊥) → ¬ IsText k text → IsRead k whole text
 
-module _ (k : Kind) (whole : List ℕ → Result ℤ Refusal) (prefix : List ℕ → Result (ℤ × ℕ) Refusal) (read : (text : List ℕ) → IsRead k whole text) where
+module _ (k : IntType) (whole : List ℕ → Result ℤ Refusal) (prefix : List ℕ → Result (ℤ × ℕ) Refusal) (read : (text : List ℕ) → IsRead k whole text) where
   -- `HasItems` of fields of which the first has the number `index` and the place `place`
   record HasItemsFrom (index place : ℕ) (rest : List ℕ) (fields : List (List ℕ)) : Type 0 where
     texts : List (List ℕ)
@@ -28,17 +28,17 @@ module _ (k : Kind) (whole : List ℕ → Result ℤ Refusal) (prefix : List ℕ
     parts : fields ≡ texts ++ others
     written : AllZip (TextWrites k true) texts numbers
     items : items_from whole prefix index place rest fields ≡ map Ok numbers ++ last
-    end : EndsItems k prefix (index + length texts) (place + place_behind texts) (drop (place_behind texts) rest) others last
+    end : EndsItems k prefix (index + length texts) (place + place_after texts) (drop (place_after texts) rest) others last
 
   -- one more field before the others
   ends_behind : (index place : ℕ) (rest text : List ℕ) (texts others : List (List ℕ)) (last : List (Result ℤ Flaw))
-      → EndsItems k prefix (index + 1 + length texts) (place + length text + 1 + place_behind texts) (drop (place_behind texts) (drop (length text + 1) rest)) others last
-      → EndsItems k prefix (index + length (text ∷ texts)) (place + place_behind (text ∷ texts)) (drop (place_behind (text ∷ texts)) rest) others last
+      → EndsItems k prefix (index + 1 + length texts) (place + length text + 1 + place_after texts) (drop (place_after texts) (drop (length text + 1) rest)) others last
+      → EndsItems k prefix (index + length (text ∷ texts)) (place + place_after (text ∷ texts)) (drop (place_after (text ∷ texts)) rest) others last
   ends_behind index place rest text texts others last h =
-      let further : place_behind (text ∷ texts) ≡ length text + 1 + place_behind texts = sum_by-cons (λ t. length t + 1) text texts in
+      let further : place_after (text ∷ texts) ≡ length text + 1 + place_after texts = sum_by-cons (λ t. length t + 1) text texts in
       let count : index + length (text ∷ texts) ≡ index + 1 + length texts = omega arith in
-      let place_is : place + (length text + 1 + place_behind texts) ≡ place + length text + 1 + place_behind texts = omega arith in
-      rw (further, count, place_is, ← drop-drop (place_behind texts) (length text + 1) rest) h
+      let place_is : place + (length text + 1 + place_after texts) ≡ place + length text + 1 + place_after texts = omega arith in
+      rw (further, count, place_is, ← drop-drop (place_after texts) (length text + 1) rest) h
 
   has_items_from : (index place : ℕ) (rest : List ℕ) (fields : List (List ℕ)) → HasItemsFrom index place rest fields
   has_items_from index place rest [] = record { texts = []; others = []; numbers = []; last = []; parts = refl; written = tt; items = refl; end = refl }
@@ -71,7 +71,7 @@ ok_or_err : (r : Result ℤ Refusal) (v : ℤ) (reason : Refusal) → r ≡ Ok v
 ok_or_err r v reason h other = absurd (cc)
 
 -- the accepted texts are read as their numbers, and no others
-module _ (k : Kind) (texts : AcceptedTexts k) (numbers : AcceptedNumbers k) (text : List ℕ) where
+module _ (k : IntType) (texts : AcceptedTexts k) (numbers : AcceptedNumbers k) (text : List ℕ) where
   read_as : (r : Result ℤ Refusal) → parse_answer k true true text ≡ r → IsRead k (parse_answer k true true) text
   read_as (Ok v) h = accepted v h (numbers.written (looked_for true) true text v h)
   read_as (Err reason) h =
@@ -81,7 +81,7 @@ module _ (k : Kind) (texts : AcceptedTexts k) (numbers : AcceptedNumbers k) (tex
   read_by_law : IsRead k (parse_answer k true true) text
   read_by_law = read_as (parse_answer k true true text) refl
 
-pub texts_and_items : (k : Kind) → AcceptedTexts k → AcceptedNumbers k → TextsAndItems k
+pub texts_and_items : (k : IntType) → AcceptedTexts k → AcceptedNumbers k → TextsAndItems k
 unfolding items_left
 texts_and_items k texts numbers separator input =
     let from = has_items_from k (parse_answer k true true) (parse_prefix_answer k true true) (read_by_law k texts numbers) 0 0 input (fields_of separator input) in

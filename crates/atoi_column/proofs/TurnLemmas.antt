@@ -2,7 +2,7 @@
 use Rattle.std.proofs.Common.{◌≡◌, ℕ, ◌+◌, true, List, [], ◌∷◌, ◌++◌, length, drop, map, ℤ, Result, Ok, Err, refl, sym, ap, ◌∙◌, arith, append_assoc, append-nil, length-append}
 use Rattle.std.proofs.lemmas.List.{map-append}
 use Rattle.atoi_core.specs.Refusal.{Refusal}
-use Rattle.atoi_core.specs.Kind.{Kind}
+use Rattle.atoi_core.specs.IntType.{IntType}
 use Rattle.atoi_core.specs.Answer.{parse_answer, parse_prefix_answer}
 use Rattle.atoi_column.specs.Fields.{fields_of}
 use Rattle.atoi_column.specs.Items.{Flaw, flaw_at, items_from, items_left, items_of}
@@ -20,25 +20,25 @@ behind_flaw other [] flaw after same = cc
 behind_flaw other (number ∷ numbers) flaw after same = absurd (cc)
 
 module _ (whole : List ℕ → Result ℤ Refusal) (prefix : List ℕ → Result (ℤ × ℕ) Refusal) (flaw : Flaw) (after : List (Result ℤ Flaw)) where
-  behind_error : (index place : ℕ) (rest : List ℕ) (texts : List (List ℕ)) (numbers : List ℤ)
+  following_error : (index place : ℕ) (rest : List ℕ) (texts : List (List ℕ)) (numbers : List ℤ)
       → items_from whole prefix index place rest texts ≡ map Ok numbers ++ Err flaw ∷ after → after ≡ []
-  behind_error index place rest [] [] same = absurd (cc)
-  behind_error index place rest [] (number ∷ numbers) same = absurd (cc)
-  behind_error index place rest (text ∷ texts) numbers same =
+  following_error index place rest [] [] same = absurd (cc)
+  following_error index place rest [] (number ∷ numbers) same = absurd (cc)
+  following_error index place rest (text ∷ texts) numbers same =
       elim (whole text) as (λ r. elim r as (λ _. List (Result ℤ Flaw)) [
         | Ok value ↦ Ok value ∷ items_from whole prefix (index + 1) (place + length text + 1) (drop (length text + 1) rest) texts
         | Err reason ↦ Err (flaw_at index place (prefix rest)) ∷ []
       ] ≡ map Ok numbers ++ Err flaw ∷ after → after ≡ []) [
         | Ok value ↦ λ same. let others = behind_value value _ numbers flaw after same in
-            behind_error (index + 1) (place + length text + 1) (drop (length text + 1) rest) texts others.0 others.1
+            following_error (index + 1) (place + length text + 1) (drop (length text + 1) rest) texts others.0 others.1
         | Err reason ↦ behind_flaw (flaw_at index place (prefix rest)) numbers flaw after
       ] same
 
-after_error : (k : Kind) (separator : ℕ) (input : List ℕ) (numbers : List ℤ) (flaw : Flaw) (after : List (Result ℤ Flaw))
+after_error : (k : IntType) (separator : ℕ) (input : List ℕ) (numbers : List ℤ) (flaw : Flaw) (after : List (Result ℤ Flaw))
     → items_of k separator input ≡ map Ok numbers ++ Err flaw ∷ after → after ≡ []
 unfolding items_left
 after_error k separator input numbers flaw after same =
-    behind_error (parse_answer k true true) (parse_prefix_answer k true true) flaw after 0 0 input (fields_of separator input) numbers same
+    following_error (parse_answer k true true) (parse_prefix_answer k true true) flaw after 0 0 input (fields_of separator input) numbers same
 
 one_more : (items left after : List (Result ℤ Flaw)) (numbers : List ℤ) (number : ℤ) → HaveRead items numbers left
     → left ≡ Ok number ∷ after → HaveRead items (numbers ++ number ∷ []) after

@@ -1,7 +1,7 @@
 -- The items of a column: a value for each field, up to the first that is refused.
 use Rattle.std.specs.Prelude.{ℕ, ◌+◌, true, ℤ, Result, Ok, Err, List, [], ◌∷◌, length, drop}
 use Rattle.atoi_core.specs.Refusal.{Refusal, refusal_of}
-use Rattle.atoi_core.specs.Kind.{Kind}
+use Rattle.atoi_core.specs.IntType.{IntType}
 use Rattle.atoi_core.specs.Answer.{parse_answer, parse_prefix_answer}
 use Rattle.atoi_column.specs.declared.error.ColumnError.{ColumnError}
 use Rattle.atoi_column.specs.declared.error.ColumnError.TheVariants.{Field, Trailing}
@@ -51,10 +51,10 @@ items_from whole prefix index place rest (text ∷ texts) =
     ]
 
 -- the items of a rest of an input, which begins with the field of number `index`, at `place`
-unfoldable pub items_left : Kind → (separator index place : ℕ) → List ℕ → List (Result ℤ Flaw)
+unfoldable pub items_left : IntType → (separator index place : ℕ) → List ℕ → List (Result ℤ Flaw)
 items_left k separator index place rest =
     items_from (parse_answer k true true) (parse_prefix_answer k true true) index place rest (fields_of separator rest)
 
 -- the items of an input
-abbrev pub items_of : Kind → (separator : ℕ) → List ℕ → List (Result ℤ Flaw)
+abbrev pub items_of : IntType → (separator : ℕ) → List ℕ → List (Result ℤ Flaw)
 items_of k separator input = items_left k separator 0 0 input

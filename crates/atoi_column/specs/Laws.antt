@@ -2,7 +2,7 @@
 use Rattle.std.specs.Prelude.{◌≡◌, ℕ, ◌+◌, ◌<◌, ◌≤◌, ◌==◌, true, List, [], ◌∷◌, ◌++◌, length, drop, map, All, ℤ, Result, Ok, Err}
 use Rattle.std.specs.List.{AllZip, before_first, after_first, position_or_len, sum_by}
 use Rattle.atoi_core.specs.Refusal.{Refusal}
-use Rattle.atoi_core.specs.Kind.{Kind}
+use Rattle.atoi_core.specs.IntType.{IntType}
 use Rattle.atoi_core.specs.Answer.{parse_answer, parse_prefix_answer}
 use Rattle.atoi_core.specs.Text.{IsText, TextWrites}
 use Rattle.atoi_column.specs.Fields.{is_separator, fields_of}
@@ -20,25 +20,25 @@ pub record FieldIsPrefix (whole : List ℕ → Result ℤ Refusal) (prefix : Lis
       → count ≤ position_or_len (λ byte. byte == separator) rest
 
 -- so it is with the parses that skip zeros and take a plus, and every separator
-abbrev pub FieldsArePrefixes : Kind → Type 0
+abbrev pub FieldsArePrefixes : IntType → Type 0
 FieldsArePrefixes k =
     (separator : ℕ) → is_separator separator ≡ true → (rest : List ℕ)
     → FieldIsPrefix (parse_answer k true true) (parse_prefix_answer k true true) separator rest
 
 -- the place behind fields that stand at the front of an input, each with its separator
-abbrev pub place_behind : List (List ℕ) → ℕ
-place_behind texts = sum_by (λ text. length text + 1) texts
+abbrev pub place_after : List (List ℕ) → ℕ
+place_after texts = sum_by (λ text. length text + 1) texts
 
 -- how items end: with the fields; or where a field is no text of the type, with its flaw, by what
 -- `prefix` answers of what stands from its place on
-abbrev pub EndsItems : Kind → (prefix : List ℕ → Result (ℤ × ℕ) Refusal) → (index place : ℕ) → (rest : List ℕ) → List (List ℕ) → List (Result ℤ Flaw) → Type 0
+abbrev pub EndsItems : IntType → (prefix : List ℕ → Result (ℤ × ℕ) Refusal) → (index place : ℕ) → (rest : List ℕ) → List (List ℕ) → List (Result ℤ Flaw) → Type 0
 EndsItems k prefix index place rest [] last = last ≡ []
 EndsItems k prefix index place rest (text ∷ texts) last =
     ¬ IsText k text × (last ≡ Err (flaw_at index place (prefix rest)) ∷ [])
 
 -- the items of an input in the words of the texts: the fields before the first that is no text of
 -- the type, the numbers that they write, and how the items end
-pub record HasItems (k : Kind) (separator : ℕ) (input : List ℕ) : Type 0 where
+pub record HasItems (k : IntType) (separator : ℕ) (input : List ℕ) : Type 0 where
   pub texts : List (List ℕ)
   pub others : List (List ℕ)
   pub numbers : List ℤ
@@ -46,10 +46,10 @@ pub record HasItems (k : Kind) (separator : ℕ) (input : List ℕ) : Type 0 whe
   pub fields : fields_of separator input ≡ texts ++ others
   pub written : AllZip (TextWrites k true) texts numbers
   pub items : items_of k separator input ≡ map Ok numbers ++ last
-  pub end : EndsItems k (parse_prefix_answer k true true) (length texts) (place_behind texts) (drop (place_behind texts) input) others last
+  pub end : EndsItems k (parse_prefix_answer k true true) (length texts) (place_after texts) (drop (place_after texts) input) others last
 
 -- so it is with every input and every byte between fields
-abbrev pub TextsAndItems : Kind → Type 0
+abbrev pub TextsAndItems : IntType → Type 0
 TextsAndItems k = (separator : ℕ) (input : List ℕ) → HasItems k separator input
 
 -- how many bytes a number takes at the front of what was read: none where there is no number
@@ -60,7 +60,7 @@ number_len (Err reason) = 0
 -- the field of that number is the first of the input that is no text of the type, and the place is
 -- that of the first byte of it that belongs to no number: where one can be read at its front, of the
 -- byte after it, else of the field's first
-pub record IsFirstBad (k : Kind) (separator : ℕ) (input : List ℕ) (index place : ℕ) : Type 0 where
+pub record IsFirstBad (k : IntType) (separator : ℕ) (input : List ℕ) (index place : ℕ) : Type 0 where
   pub before : List (List ℕ)
   pub field : List ℕ
   pub others : List (List ℕ)
@@ -70,11 +70,11 @@ pub record IsFirstBad (k : Kind) (separator : ℕ) (input : List ℕ) (index pla
   pub index_is : index ≡ length before
   pub index_within : index < length input
   pub place_is : place
-      ≡ place_behind before + number_len (parse_prefix_answer k true true (drop (place_behind before) input))
+      ≡ place_after before + number_len (parse_prefix_answer k true true (drop (place_after before) input))
 
 -- the items of an input decide what its fields are: where all are values, every field is a text that
 -- writes its value; and where an error comes after values, it is that of the first bad field
-pub record ItemsDecide (k : Kind) : Type 0 where
+pub record ItemsDecide (k : IntType) : Type 0 where
   pub whole : (separator : ℕ) (input : List ℕ) (numbers : List ℤ) → items_of k separator input ≡ map Ok numbers
       → AllZip (TextWrites k true) (fields_of separator input) numbers
   pub first_bad : (separator : ℕ) (input : List ℕ) (numbers : List ℤ) (flaw : Flaw)
@@ -103,8 +103,8 @@ pub record ItemsInTurn : Type 0 where
       → left ≡ Ok number ∷ after → HaveRead items (numbers ++ number ∷ []) after
   pub all : (items left : List (Result ℤ Flaw)) (numbers : List ℤ) → HaveRead items numbers left
       → left ≡ [] → items ≡ map Ok numbers
-  pub after_error : (k : Kind) (separator : ℕ) (input : List ℕ) (numbers : List ℤ) (flaw : Flaw) (after : List (Result ℤ Flaw))
+  pub after_error : (k : IntType) (separator : ℕ) (input : List ℕ) (numbers : List ℤ) (flaw : Flaw) (after : List (Result ℤ Flaw))
       → items_of k separator input ≡ map Ok numbers ++ Err flaw ∷ after → after ≡ []
-  pub at_error : (k : Kind) (separator : ℕ) (input : List ℕ) (numbers : List ℤ) (left after : List (Result ℤ Flaw)) (flaw : Flaw)
+  pub at_error : (k : IntType) (separator : ℕ) (input : List ℕ) (numbers : List ℤ) (left after : List (Result ℤ Flaw)) (flaw : Flaw)
       → HaveRead (items_of k separator input) numbers left → left ≡ Err flaw ∷ after
       → items_of k separator input ≡ map Ok numbers ++ Err flaw ∷ []

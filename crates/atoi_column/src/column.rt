@@ -43,7 +43,7 @@ impl<'a, T: Parse> Model for Column<'a, T> {
     ghost use Rattle.atoi_column.specs.Items.{items_left};
     ghost use Rattle.atoi_column.specs.Places.{IsInside};
 
-    ghost view = { λ column. items_left T.kind
+    ghost view = { λ column. items_left T.int_type
         column.separator column.index column.place column.rest.now };
 
     ghost invariant = { λ column. IsInside column.separator column.index column.place
@@ -59,7 +59,7 @@ impl<'a, T: Parse> Column<'a, T> {
     #[inline]
     pub fn new(input: &'a [u8], separator: u8) -> Column<'a, T>
         requires { is_separator separator ≡ true }
-        ensures items { result ≡ items_of T.kind separator input.now }
+        ensures items { result ≡ items_of T.int_type separator input.now }
         ensures fits { length result ≤ length input.now }
         ensures places { All (λ item. IfErr item (λ flaw.
             (place_of flaw ≤ length input.now) × (index_of flaw < length input.now))) result }

@@ -9,7 +9,7 @@ use atoi_core::laws::{prefix_is_whole, prefix_of_cut, rest_changes_nothing};
 /// ends with the field, and with the same value. Calling it does nothing.
 #[tactic(auto, using(crate::proofs::PrefixLemmas::fields_are_prefixes))]
 pub fn fields_are_prefixes<T: Number>()
-    ensures { FieldsArePrefixes T.kind }
+    ensures { FieldsArePrefixes T.int_type }
 {
     prefix_is_whole::<T>();
     prefix_of_cut::<T>();

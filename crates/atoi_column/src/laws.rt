@@ -11,7 +11,7 @@ use atoi_core::laws::{accepted_numbers, accepted_texts};
 /// with both flags answers from the field's first byte on, and nothing behind it.
 #[tactic(auto, using(crate::proofs::TextLemmas::texts_and_items))]
 pub fn texts_and_items<T: Number>()
-    ensures { TextsAndItems T.kind }
+    ensures { TextsAndItems T.int_type }
 {
     accepted_texts::<T>();
     accepted_numbers::<T>();
@@ -23,7 +23,7 @@ pub fn texts_and_items<T: Number>()
 /// `place` is that of the first byte of it that belongs to no number.
 #[tactic(auto, using(crate::proofs::DecideLemmas::items_decide))]
 pub fn items_decide<T: Number>()
-    ensures { ItemsDecide T.kind }
+    ensures { ItemsDecide T.int_type }
 {
     texts_and_items::<T>();
 }

@@ -13,10 +13,8 @@ use Rattle.std.specs.Simd.Lanes.{digits_l, zip2}
 use Rattle.atoi_core.specs.Digit.{decimal_table, is_digit, is_zero}
 use Rattle.atoi_core.specs.Run.{run_len, zeros}
 use Rattle.atoi_core.specs.Words.{low_bytes}
-use Rattle.atoi_core.proofs.SignLemmas.{digit_in_range}
-use Rattle.atoi_core.proofs.TrailingBytes.{trailing_bytes}
-use Rattle.atoi_core.proofs.Bitwise.{repeated, or_bytes, and_repeated, xor_repeated, upper_halves}
-use Rattle.atoi_core.proofs.Fields.{digits_cut}
+use Rattle.atoi_core.proofs.Calls.{digit_in_range}
+use Rattle.atoi_core.proofs.WordFields.{trailing_bytes, repeated, or_bytes, and_repeated, xor_repeated, upper_halves, digits_cut}
 
 -- the front of a mapped list that passes a test is the front that passes the test of the map
 prefix_len-map : (p : ℕ → Bool) (f : ℕ → ℕ) (xs : List ℕ) → prefix_len p (map f xs) ≡ prefix_len (λ x. p (f x)) xs

@@ -3,7 +3,7 @@ use Rattle.std.specs.Prelude.{◌≡◌, ℕ, zero, suc, ◌+◌, ◌-◌, ◌*�
 use Rattle.std.proofs.Common.{sym, ap, ◌∙◌, add_assoc, zero-add, add-zero}
 use Rattle.std.proofs.Math.Nat.{suc-sub-suc, sub-zero, sub-add-eq}
 use Rattle.std.proofs.Math.Numerals.{one-add}
-use Rattle.atoi_core.specs.Digit.{Table, worth}
+use Rattle.atoi_core.specs.Digit.{Table, digit_value}
 use Rattle.atoi_core.specs.Run.{value}
 
 -- f(0) + .. + f(n - 1)
@@ -14,7 +14,7 @@ sum_below (suc n) f = sum_below n f + f n
 -- the sum over i, from 0 to the last place, of the worth of the i-th digit times ten for every digit
 -- behind it
 abbrev pub closed_value : Table → List ℕ → ℕ
-closed_value table s = sum_below (length s) (λ i. worth table (slice_index s i) * 10 ^ (length s - 1 - i))
+closed_value table s = sum_below (length s) (λ i. digit_value table (slice_index s i) * 10 ^ (length s - 1 - i))
 
 -- sums of equal terms are equal
 sum_below-equal : (n : ℕ) (f g : ℕ → ℕ) → ((i : ℕ) → f i ≡ g i) → sum_below n f ≡ sum_below n g
@@ -44,11 +44,11 @@ pub value_is_closed : (table : Table) (s : List ℕ) → value table s ≡ close
 value_is_closed table [] = refl
 value_is_closed table (digit ∷ digits) =
     let n : ℕ = length digits in
-    let term : ℕ → ℕ = λ i. worth table (slice_index (digit ∷ digits) i) * 10 ^ (suc n - 1 - i) in
-    let rest : ℕ → ℕ = λ i. worth table (slice_index digits i) * 10 ^ (n - 1 - i) in
-    ap (λ (k : ℕ). worth table digit * 10 ^ k + value table digits) (sym (behind_first n))
+    let term : ℕ → ℕ = λ i. digit_value table (slice_index (digit ∷ digits) i) * 10 ^ (suc n - 1 - i) in
+    let rest : ℕ → ℕ = λ i. digit_value table (slice_index digits i) * 10 ^ (n - 1 - i) in
+    ap (λ (k : ℕ). digit_value table digit * 10 ^ k + value table digits) (sym (behind_first n))
     ∙ ap (λ (k : ℕ). term 0 + k)
     (value_is_closed table digits
     ∙ sym (sum_below-equal n (λ i. term (suc i)) rest
-    (λ i. ap (λ (k : ℕ). worth table (slice_index digits i) * 10 ^ k) (behind_next n i))))
+    (λ i. ap (λ (k : ℕ). digit_value table (slice_index digits i) * 10 ^ k) (behind_next n i))))
     ∙ sym (sum_below-suc n term)

@@ -5,209 +5,209 @@ use Rattle.atoi_core.specs.Digit.{decimal_table}
 use Rattle.atoi_core.specs.Refusal.{empty, size, overflow, invalid64, invalid128, refusal_cmp}
 use Rattle.atoi_core.specs.ErrorText.{error_text}
 use Rattle.atoi_core.specs.Magnitude.{refusal}
-use Rattle.atoi_core.specs.Kind.{bound_of, limit_of}
-use Rattle.atoi_core.specs.Kinds.{u8_kind, i8_kind, u32_kind, i32_kind, u64_kind, i64_kind, u128_kind, i128_kind}
+use Rattle.atoi_core.specs.IntType.{bound_of, limit_of}
+use Rattle.atoi_core.specs.IntTypes.{u8_type, i8_type, u32_type, i32_type, u64_type, i64_type, u128_type, i128_type}
 use Rattle.atoi_core.specs.Answer.{parse_answer, parse_prefix_answer, whole_answer}
 use Rattle.atoi_core.specs.Sign.{sign_of}
 use Rattle.std.specs.declared.cmp.Ordering.TheVariants.{Less}
 
 -- a plus and any number of zeros are skipped where both are asked for
-pub plus_and_zeros : parse_answer u64_kind true true (codes "+000000000000000000001234") ≡ Ok (pos 1234)
+pub plus_and_zeros : parse_answer u64_type true true (codes "+000000000000000000001234") ≡ Ok (pos 1234)
 unfolding refusal
 plus_and_zeros = refl
 
 -- the count of a prefix is of the plus and the zeros too
-pub plus_and_zeros_count : parse_prefix_answer u64_kind true true (codes "+000000000000000000001234") ≡ Ok (pos 1234, 25)
+pub plus_and_zeros_count : parse_prefix_answer u64_type true true (codes "+000000000000000000001234") ≡ Ok (pos 1234, 25)
 unfolding refusal
 plus_and_zeros_count = refl
 
 -- a minus is taken where the type is signed
-pub minus : parse_answer i64_kind false false (codes "-2345") ≡ Ok (negsuc 2344)
+pub minus : parse_answer i64_type false false (codes "-2345") ≡ Ok (negsuc 2344)
 unfolding refusal
 minus = refl
 
 -- a negative parse looks for no sign
-pub negative_body : whole_answer decimal_table i64_kind true false (codes "2345") ≡ Ok (negsuc 2344)
+pub negative_body : whole_answer decimal_table i64_type true false (codes "2345") ≡ Ok (negsuc 2344)
 unfolding refusal
 negative_body = refl
 
 -- a prefix stops at the first byte that is no digit
-pub prefix_stops : parse_prefix_answer u64_kind false false (codes "123something_else") ≡ Ok (pos 123, 3)
+pub prefix_stops : parse_prefix_answer u64_type false false (codes "123something_else") ≡ Ok (pos 123, 3)
 unfolding refusal
 prefix_stops = refl
 
 -- a value above the bound is told before the byte behind it
-pub overflow_first : parse_answer u8_kind false false (codes "256x") ≡ Err (overflow (codes "256x"))
+pub overflow_first : parse_answer u8_type false false (codes "256x") ≡ Err (overflow (codes "256x"))
 unfolding refusal
 overflow_first = refl
 
 -- the byte behind the digits, with the value so far and its place
-pub invalid_after_value : parse_answer u8_kind false false (codes "255x") ≡ Err (invalid64 255 3 (codes "255x"))
+pub invalid_after_value : parse_answer u8_type false false (codes "255x") ≡ Err (invalid64 255 3 (codes "255x"))
 unfolding refusal
 invalid_after_value = refl
 
 -- the least value of a type is in range
-pub least_value : parse_answer i8_kind false false (codes "-128") ≡ Ok (negsuc 127)
+pub least_value : parse_answer i8_type false false (codes "-128") ≡ Ok (negsuc 127)
 unfolding refusal
 least_value = refl
 
 -- one below the least value is not, and the error has no sign
-pub below_least : parse_answer i8_kind false false (codes "-129") ≡ Err (overflow (codes "129"))
+pub below_least : parse_answer i8_type false false (codes "-129") ≡ Err (overflow (codes "129"))
 unfolding refusal
 below_least = refl
 
 -- a narrow prefix that skips no zeros has at most 16 digits
-pub seventeen_digits_of_u8 : parse_prefix_answer u8_kind false false (codes "00000000000000007") ≡ Err (size 17 (codes "00000000000000007"))
+pub seventeen_digits_of_u8 : parse_prefix_answer u8_type false false (codes "00000000000000007") ≡ Err (size 17 (codes "00000000000000007"))
 unfolding refusal
 seventeen_digits_of_u8 = refl
 
 -- all of them are read, and what stands behind does not count
-pub sixteen_digits_of_u8 : parse_prefix_answer u8_kind false false (codes "0000000000000000x") ≡ Ok (pos 0, 16)
+pub sixteen_digits_of_u8 : parse_prefix_answer u8_type false false (codes "0000000000000000x") ≡ Ok (pos 0, 16)
 unfolding refusal
 sixteen_digits_of_u8 = refl
 
 -- the sign is no digit
-pub sixteen_digits_of_i32 : parse_prefix_answer i32_kind false false (codes "-0000000000000007x") ≡ Ok (negsuc 6, 17)
+pub sixteen_digits_of_i32 : parse_prefix_answer i32_type false false (codes "-0000000000000007x") ≡ Ok (negsuc 6, 17)
 unfolding refusal
 sixteen_digits_of_i32 = refl
 
 -- and stands in no slice of an error
-pub seventeen_digits_of_i8 : parse_prefix_answer i8_kind false false (codes "-00000000000000000") ≡ Err (size 17 (codes "00000000000000000"))
+pub seventeen_digits_of_i8 : parse_prefix_answer i8_type false false (codes "-00000000000000000") ≡ Err (size 17 (codes "00000000000000000"))
 unfolding refusal
 seventeen_digits_of_i8 = refl
 
 -- the size is told before the range, and tells 17 digits at most
-pub size_before_range : parse_prefix_answer u8_kind false false (codes "00000000000000255999") ≡ Err (size 17 (codes "00000000000000255999"))
+pub size_before_range : parse_prefix_answer u8_type false false (codes "00000000000000255999") ≡ Err (size 17 (codes "00000000000000255999"))
 unfolding refusal
 size_before_range = refl
 
 -- as it is where the first 16 digits alone are above the bound
-pub size_of_seventeen_ones : parse_prefix_answer u32_kind false false (codes "11111111111111111") ≡ Err (size 17 (codes "11111111111111111"))
+pub size_of_seventeen_ones : parse_prefix_answer u32_type false false (codes "11111111111111111") ≡ Err (size 17 (codes "11111111111111111"))
 unfolding refusal
 size_of_seventeen_ones = refl
 
 -- 16 digits are not too many, but their value is
-pub range_of_sixteen_ones : parse_prefix_answer u32_kind false false (codes "1111111111111111") ≡ Err (overflow (codes "1111111111111111"))
+pub range_of_sixteen_ones : parse_prefix_answer u32_type false false (codes "1111111111111111") ≡ Err (overflow (codes "1111111111111111"))
 unfolding refusal
 range_of_sixteen_ones = refl
 
 -- one that skips zeros has any number of digits
-pub narrow_prefix_skips : parse_prefix_answer u8_kind true false (codes "00000000000000007") ≡ Ok (pos 7, 17)
+pub narrow_prefix_skips : parse_prefix_answer u8_type true false (codes "00000000000000007") ≡ Ok (pos 7, 17)
 unfolding refusal
 narrow_prefix_skips = refl
 
 -- zeros alone are zero, however many
-pub zeros_alone : parse_prefix_answer u8_kind true false (codes "0000000000000000") ≡ Ok (pos 0, 16)
+pub zeros_alone : parse_prefix_answer u8_type true false (codes "0000000000000000") ≡ Ok (pos 0, 16)
 unfolding refusal
 zeros_alone = refl
 
 -- an overflow leaves out the zeros where the run reaches the next window
-pub overflow_without_zeros : parse_prefix_answer u8_kind true false (codes "00000000000000255999") ≡ Err (overflow (codes "255999"))
+pub overflow_without_zeros : parse_prefix_answer u8_type true false (codes "00000000000000255999") ≡ Err (overflow (codes "255999"))
 unfolding refusal
 overflow_without_zeros = refl
 
 -- 16 digits reach it
-pub overflow_drops_thirteen : parse_prefix_answer u8_kind true false (codes "0000000000000999x") ≡ Err (overflow (codes "999x"))
+pub overflow_drops_thirteen : parse_prefix_answer u8_type true false (codes "0000000000000999x") ≡ Err (overflow (codes "999x"))
 unfolding refusal
 overflow_drops_thirteen = refl
 
 -- 15 digits do not
-pub overflow_keeps_twelve : parse_prefix_answer u8_kind true false (codes "000000000000999x") ≡ Err (overflow (codes "000000000000999x"))
+pub overflow_keeps_twelve : parse_prefix_answer u8_type true false (codes "000000000000999x") ≡ Err (overflow (codes "000000000000999x"))
 unfolding refusal
 overflow_keeps_twelve = refl
 
 -- zeros that are not skipped count against the limit of a wide type
-pub zeros_count_as_digits : parse_answer u64_kind false false (codes "000000000000000000000") ≡ Err (size 21 (codes "000000000000000000000"))
+pub zeros_count_as_digits : parse_answer u64_type false false (codes "000000000000000000000") ≡ Err (size 21 (codes "000000000000000000000"))
 unfolding refusal
 zeros_count_as_digits = refl
 
 -- zeros that are skipped do not
-pub zeros_skipped : parse_answer u64_kind true false (codes "000000000000000000000") ≡ Ok (pos 0)
+pub zeros_skipped : parse_answer u64_type true false (codes "000000000000000000000") ≡ Ok (pos 0)
 unfolding refusal
 zeros_skipped = refl
 
 -- the greatest value of 64 bits is in range
-pub greatest_u64 : parse_answer u64_kind false false (codes "18446744073709551615") ≡ Ok (pos 18446744073709551615)
+pub greatest_u64 : parse_answer u64_type false false (codes "18446744073709551615") ≡ Ok (pos 18446744073709551615)
 unfolding refusal
 greatest_u64 = refl
 
 -- one above it is not
-pub above_greatest_u64 : parse_answer u64_kind false false (codes "18446744073709551616") ≡ Err (overflow (codes "18446744073709551616"))
+pub above_greatest_u64 : parse_answer u64_type false false (codes "18446744073709551616") ≡ Err (overflow (codes "18446744073709551616"))
 unfolding refusal
 above_greatest_u64 = refl
 
 -- 20 digits are too many for a signed number of 64 bits
-pub twenty_digits_of_i64 : parse_answer i64_kind false false (codes "09223372036854775807") ≡ Err (size 20 (codes "09223372036854775807"))
+pub twenty_digits_of_i64 : parse_answer i64_type false false (codes "09223372036854775807") ≡ Err (size 20 (codes "09223372036854775807"))
 unfolding refusal
 twenty_digits_of_i64 = refl
 
 -- a size tells at most 24 digits behind the zeros, and the slice begins behind these
-pub size_is_capped : parse_prefix_answer u64_kind true false (codes "0001111111111111111111111111") ≡ Err (size 27 (codes "1111111111111111111111111"))
+pub size_is_capped : parse_prefix_answer u64_type true false (codes "0001111111111111111111111111") ≡ Err (size 27 (codes "1111111111111111111111111"))
 unfolding refusal
 size_is_capped = refl
 
 -- the byte behind the least value's magnitude
-pub magnitude_of_least : whole_answer decimal_table i64_kind true false (codes "9223372036854775808x") ≡ Err (invalid64 9223372036854775808 19 (codes "9223372036854775808x"))
+pub magnitude_of_least : whole_answer decimal_table i64_type true false (codes "9223372036854775808x") ≡ Err (invalid64 9223372036854775808 19 (codes "9223372036854775808x"))
 unfolding refusal
 magnitude_of_least = refl
 
 -- the least value of 64 bits
-pub least_i64 : whole_answer decimal_table i64_kind true false (codes "9223372036854775808") ≡ Ok (negsuc 9223372036854775807)
+pub least_i64 : whole_answer decimal_table i64_type true false (codes "9223372036854775808") ≡ Ok (negsuc 9223372036854775807)
 unfolding refusal
 least_i64 = refl
 
 -- the greatest value of 128 bits is in range
-pub greatest_u128 : parse_answer u128_kind false false (codes "340282366920938463463374607431768211455") ≡ Ok (pos 340282366920938463463374607431768211455)
+pub greatest_u128 : parse_answer u128_type false false (codes "340282366920938463463374607431768211455") ≡ Ok (pos 340282366920938463463374607431768211455)
 unfolding refusal
 greatest_u128 = refl
 
 -- one above it is not
-pub above_greatest_u128 : parse_answer u128_kind false false (codes "340282366920938463463374607431768211456") ≡ Err (overflow (codes "340282366920938463463374607431768211456"))
+pub above_greatest_u128 : parse_answer u128_type false false (codes "340282366920938463463374607431768211456") ≡ Err (overflow (codes "340282366920938463463374607431768211456"))
 unfolding refusal
 above_greatest_u128 = refl
 
 -- 39 zeros fit 128 bits
-pub thirty_nine_zeros : parse_answer u128_kind false false (codes "000000000000000000000000000000000000000") ≡ Ok (pos 0)
+pub thirty_nine_zeros : parse_answer u128_type false false (codes "000000000000000000000000000000000000000") ≡ Ok (pos 0)
 unfolding refusal
 thirty_nine_zeros = refl
 
 -- 41 do not, and the size tells at most 40
-pub forty_one_zeros : parse_answer u128_kind false false (codes "00000000000000000000000000000000000000000") ≡ Err (size 40 (codes "00000000000000000000000000000000000000000"))
+pub forty_one_zeros : parse_answer u128_type false false (codes "00000000000000000000000000000000000000000") ≡ Err (size 40 (codes "00000000000000000000000000000000000000000"))
 unfolding refusal
 forty_one_zeros = refl
 
 -- a plus that is taken is counted
-pub plus_counted : parse_prefix_answer i32_kind false true (codes "+12a") ≡ Ok (pos 12, 3)
+pub plus_counted : parse_prefix_answer i32_type false true (codes "+12a") ≡ Ok (pos 12, 3)
 unfolding refusal
 plus_counted = refl
 
 -- and a minus
-pub minus_counted : parse_prefix_answer i32_kind false false (codes "-12a") ≡ Ok (negsuc 11, 3)
+pub minus_counted : parse_prefix_answer i32_type false false (codes "-12a") ≡ Ok (negsuc 11, 3)
 unfolding refusal
 minus_counted = refl
 
 -- at most one sign is taken
-pub one_sign_alone : parse_answer i8_kind false true (codes "+-5") ≡ Err empty
+pub one_sign_alone : parse_answer i8_type false true (codes "+-5") ≡ Err empty
 unfolding refusal
 one_sign_alone = refl
 
 -- no plus where it is not asked for
-pub no_plus_unasked : parse_answer i8_kind false false (codes "+5") ≡ Err empty
+pub no_plus_unasked : parse_answer i8_type false false (codes "+5") ≡ Err empty
 unfolding refusal
 no_plus_unasked = refl
 
 -- no minus on an unsigned type
-pub no_minus_unsigned : parse_answer u8_kind false true (codes "-5") ≡ Err empty
+pub no_minus_unsigned : parse_answer u8_type false true (codes "-5") ≡ Err empty
 unfolding refusal
 no_minus_unsigned = refl
 
 -- the place of the byte counts the zeros, and the slice keeps them
-pub rest_after_zeros : parse_answer u64_kind true false (codes "0000000000000000000000007x") ≡ Err (invalid64 7 25 (codes "0000000000000000000000007x"))
+pub rest_after_zeros : parse_answer u64_type true false (codes "0000000000000000000000007x") ≡ Err (invalid64 7 25 (codes "0000000000000000000000007x"))
 unfolding refusal
 rest_after_zeros = refl
 
 -- a number of 128 bits has an error of its own
-pub wide_error : parse_answer u128_kind true false (codes "0000012x") ≡ Err (invalid128 12 7 (codes "0000012x"))
+pub wide_error : parse_answer u128_type true false (codes "0000012x") ≡ Err (invalid128 12 7 (codes "0000012x"))
 unfolding refusal
 wide_error = refl
 
@@ -258,26 +258,26 @@ pub second_sign_stays : sign_of true true (codes "+-5") ≡ record { minus = fal
 second_sign_stays = refl
 
 -- each wide type's limit is the count of digits of its greatest magnitude
-pub limit_u64 : limit_of u64_kind ≡ length (decimal (bound_of u64_kind false))
+pub limit_u64 : limit_of u64_type ≡ length (decimal (bound_of u64_type false))
 unfolding digits
 limit_u64 = refl
 
-pub limit_i64 : limit_of i64_kind ≡ length (decimal (bound_of i64_kind false))
+pub limit_i64 : limit_of i64_type ≡ length (decimal (bound_of i64_type false))
 unfolding digits
 limit_i64 = refl
 
-pub limit_i64_negative : limit_of i64_kind ≡ length (decimal (bound_of i64_kind true))
+pub limit_i64_negative : limit_of i64_type ≡ length (decimal (bound_of i64_type true))
 unfolding digits
 limit_i64_negative = refl
 
-pub limit_u128 : limit_of u128_kind ≡ length (decimal (bound_of u128_kind false))
+pub limit_u128 : limit_of u128_type ≡ length (decimal (bound_of u128_type false))
 unfolding digits
 limit_u128 = refl
 
-pub limit_i128 : limit_of i128_kind ≡ length (decimal (bound_of i128_kind false))
+pub limit_i128 : limit_of i128_type ≡ length (decimal (bound_of i128_type false))
 unfolding digits
 limit_i128 = refl
 
-pub limit_i128_negative : limit_of i128_kind ≡ length (decimal (bound_of i128_kind true))
+pub limit_i128_negative : limit_of i128_type ≡ length (decimal (bound_of i128_type true))
 unfolding digits
 limit_i128_negative = refl

@@ -10,10 +10,10 @@ use Rattle.atoi_core.specs.Run.{run_len, run, value}
 use Rattle.atoi_core.specs.Refusal.{Refusal, empty, size, overflow, invalid64, invalid128, rank, input_of, refusal_cmp}
 use Rattle.atoi_core.specs.Magnitude.{Extent, whole, prefix, skipped_zeros, rule_of}
 use Rattle.atoi_core.specs.declared.error.AtoiSimdError.{AtoiSimdError}
-use Rattle.atoi_core.specs.Kind.{Kind, class_of, bound_of, limit_of}
-use Rattle.atoi_core.specs.Sign.{Sign, sign_of, number_of}
+use Rattle.atoi_core.specs.IntType.{IntType, class_of, bound_of, limit_of}
+use Rattle.atoi_core.specs.Sign.{Sign, sign_of, with_sign}
 use Rattle.atoi_core.specs.Answer.{typed_answer, typed_prefix_answer, whole_answer, prefix_answer, with_more, parse_answer, parse_prefix_answer}
-use Rattle.atoi_core.specs.Text.{IsText, is_minus, DigitsWrite, TextWrites, BeginsWithDigit, FrontWrites, has_needless_zero}
+use Rattle.atoi_core.specs.Text.{IsText, is_minus, DigitsWrite, TextWrites, BeginsWithDigit, PrefixWrites, has_needless_zero}
 
 -- how a call gets its sign: it looks for one at the front of its slice, for a plus only if that is
 -- asked for; or it looks for none, and is given whether the number is negative
@@ -26,32 +26,32 @@ abbrev pub positive : SignForm
 positive = given false
 
 -- the sign that such a call uses, and the body that it reads
-abbrev pub sign_in : Kind → SignForm → List ℕ → Sign
+abbrev pub sign_in : IntType → SignForm → List ℕ → Sign
 sign_in k (looked_for plus) s = sign_of k.signed plus s
 sign_in k (given is_negative) s = record { minus = is_negative; taken = 0; body = s }
 
 -- what the whole parse of that form answers
-abbrev pub whole_call : Kind → SignForm → (skip : Bool) → List ℕ → Result ℤ Refusal
+abbrev pub whole_call : IntType → SignForm → (skip : Bool) → List ℕ → Result ℤ Refusal
 whole_call k (looked_for plus) skip s = parse_answer k skip plus s
 whole_call k (given is_negative) skip s = whole_answer decimal_table k is_negative skip s
 
 -- what the parse of a prefix of that form answers
-abbrev pub prefix_call : Kind → SignForm → (skip : Bool) → List ℕ → Result (ℤ × ℕ) Refusal
+abbrev pub prefix_call : IntType → SignForm → (skip : Bool) → List ℕ → Result (ℤ × ℕ) Refusal
 prefix_call k (looked_for plus) skip s = parse_prefix_answer k skip plus s
 prefix_call k (given is_negative) skip s = prefix_answer decimal_table k is_negative skip s
 
 -- what it means for a call of that form that bytes write a number
-abbrev pub Writes : Kind → SignForm → List ℕ → ℤ → Type 0
+abbrev pub Writes : IntType → SignForm → List ℕ → ℤ → Type 0
 Writes k (looked_for plus) = TextWrites k plus
 Writes k (given is_negative) = DigitsWrite k is_negative
 
 -- the least number of a type: 0, or where it is signed one more below 0 than the greatest is above
-abbrev pub least_of : Kind → ℤ
+abbrev pub least_of : IntType → ℤ
 least_of k = if k.signed then neg_ℤ (pos (k.greatest + 1)) else pos 0
 
 -- where a prefix may have as many digits as a whole slice: zeros are skipped, or the type has more
 -- than 32 bits
-abbrev pub HasLimitOfWhole : Kind → Bool → Type 0
+abbrev pub HasLimitOfWhole : IntType → Bool → Type 0
 HasLimitOfWhole k skip = (skip ≡ true) ⊎ (32 < k.bits)
 
 -- t stands at the end of s
@@ -59,15 +59,15 @@ abbrev pub IsSuffix : List ℕ → List ℕ → Type 0
 IsSuffix t s = (front : List ℕ) × (s ≡ front ++ t)
 
 -- two answers of one kind: equal values, or errors of one variant
-abbrev pub IsSameKind : {A : Type 0} → Result A Refusal → Result A Refusal → Type 0
-IsSameKind (Ok x) (Ok y) = x ≡ y
-IsSameKind (Err reason) (Err other) = rank reason ≡ rank other
-IsSameKind (Ok x) (Err other) = ⊥
-IsSameKind (Err reason) (Ok y) = ⊥
+abbrev pub HaveSameOutcome : {A : Type 0} → Result A Refusal → Result A Refusal → Type 0
+HaveSameOutcome (Ok x) (Ok y) = x ≡ y
+HaveSameOutcome (Err reason) (Err other) = rank reason ≡ rank other
+HaveSameOutcome (Ok x) (Err other) = ⊥
+HaveSameOutcome (Err reason) (Ok y) = ⊥
 
 -- a call of that form takes the same sign from both slices, or none from either, and the bodies
 -- begin with equal runs of digits
-pub record HaveSameRun (k : Kind) (form : SignForm) (s t : List ℕ) : Type 0 where
+pub record HaveSameRun (k : IntType) (form : SignForm) (s t : List ℕ) : Type 0 where
   pub minus : (sign_in k form s).minus ≡ (sign_in k form t).minus
   pub taken : (sign_in k form s).taken ≡ (sign_in k form t).taken
   pub run : run decimal_table (sign_in k form s).body ≡ run decimal_table (sign_in k form t).body
@@ -76,32 +76,32 @@ abbrev pub zero_byte : ℕ
 zero_byte = 48
 
 -- s with `count` zeros more before its body, behind the sign that the call takes
-abbrev pub with_zeros : Kind → SignForm → (count : ℕ) → List ℕ → List ℕ
+abbrev pub with_zeros : IntType → SignForm → (count : ℕ) → List ℕ → List ℕ
 with_zeros k form count s =
     let sign = sign_in k form s in
     take sign.taken s ++ (replicate count zero_byte ++ sign.body)
 
 -- the decimal text of every number of the type is parsed to that number, whatever the flags
-pub record TextOfValue (k : Kind) : Type 0 where
+pub record TextOfValue (k : IntType) : Type 0 where
   pub parsed : (skip plus : Bool) (x : ℤ) → least_of k ≤ℤ x → x ≤ℤ pos k.greatest
       → parse_answer k skip plus (signed_decimal x) ≡ Ok x
 
 -- `parse` with both flags accepts exactly the texts of the type, and answers the number that is
 -- written
-pub record AcceptedTexts (k : Kind) : Type 0 where
+pub record AcceptedTexts (k : IntType) : Type 0 where
   pub accepted : (s : List ℕ) → IsOk (parse_answer k true true s) ↔ IsText k s
   pub number : (s : List ℕ) (number : ℤ) → TextWrites k true s number → parse_answer k true true s ≡ Ok number
 
 -- a whole parse answers a number only where its slice writes that number; where zeros are skipped, it
 -- answers each number that its slice writes
-pub record AcceptedNumbers (k : Kind) : Type 0 where
+pub record AcceptedNumbers (k : IntType) : Type 0 where
   pub written : (form : SignForm) (skip : Bool) (s : List ℕ) (number : ℤ)
       → whole_call k form skip s ≡ Ok number → Writes k form s number
   pub accepted : (form : SignForm) (s : List ℕ) (number : ℤ)
       → Writes k form s number → whole_call k form true s ≡ Ok number
 
 -- so it is with the results of a type, of which `number` says what each value means
-pub record WholeResults {T : Type 0} (k : Kind) (number : T → ℤ) (skip : Bool) : Type 0 where
+pub record WholeResults {T : Type 0} (k : IntType) (number : T → ℤ) (skip : Bool) : Type 0 where
   pub text : (plus : Bool) (s : List ℕ) (result : Result T AtoiSimdError)
       → typed_answer number result ≡ parse_answer k skip plus s
       → IfOk result (λ value. TextWrites k plus s (number value))
@@ -117,77 +117,77 @@ pub record WholeResults {T : Type 0} (k : Kind) (number : T → ℤ) (skip : Boo
 
 -- a prefix answers a number and a count only where that front of its slice writes the number, and no
 -- digit stands after it; where zeros are skipped, it answers each such front
-pub record AcceptedFronts (k : Kind) : Type 0 where
+pub record AcceptedPrefixes (k : IntType) : Type 0 where
   pub written : (form : SignForm) (skip : Bool) (s : List ℕ) (number : ℤ) (count : ℕ)
-      → prefix_call k form skip s ≡ Ok (number, count) → FrontWrites (Writes k form) s number count
+      → prefix_call k form skip s ≡ Ok (number, count) → PrefixWrites (Writes k form) s number count
   pub accepted : (form : SignForm) (s : List ℕ) (number : ℤ) (count : ℕ)
-      → FrontWrites (Writes k form) s number count → prefix_call k form true s ≡ Ok (number, count)
+      → PrefixWrites (Writes k form) s number count → prefix_call k form true s ≡ Ok (number, count)
 
 -- so it is with the results of a type
-pub record PrefixResults {T : Type 0} (k : Kind) (number : T → ℤ) (skip : Bool) : Type 0 where
+pub record PrefixResults {T : Type 0} (k : IntType) (number : T → ℤ) (skip : Bool) : Type 0 where
   pub text : (plus : Bool) (s : List ℕ) (result : Result (T × ℕ) AtoiSimdError)
       → typed_prefix_answer number result ≡ parse_prefix_answer k skip plus s
-      → IfOk result (λ found. FrontWrites (TextWrites k plus) s (number found.0) found.1)
+      → IfOk result (λ found. PrefixWrites (TextWrites k plus) s (number found.0) found.1)
   pub no_text : (plus : Bool) (s : List ℕ) (result : Result (T × ℕ) AtoiSimdError)
       → typed_prefix_answer number result ≡ parse_prefix_answer k skip plus s
-      → IsTrue skip → OnErr result ((any : ℤ) (count : ℕ) → ¬ FrontWrites (TextWrites k plus) s any count)
+      → IsTrue skip → OnErr result ((any : ℤ) (count : ℕ) → ¬ PrefixWrites (TextWrites k plus) s any count)
   pub digits : (is_negative : Bool) (s : List ℕ) (result : Result (T × ℕ) AtoiSimdError)
       → typed_prefix_answer number result ≡ prefix_answer decimal_table k is_negative skip s
-      → IfOk result (λ found. FrontWrites (DigitsWrite k is_negative) s (number found.0) found.1)
+      → IfOk result (λ found. PrefixWrites (DigitsWrite k is_negative) s (number found.0) found.1)
   pub no_digits : (is_negative : Bool) (s : List ℕ) (result : Result (T × ℕ) AtoiSimdError)
       → typed_prefix_answer number result ≡ prefix_answer decimal_table k is_negative skip s
-      → IsTrue skip → OnErr result ((any : ℤ) (count : ℕ) → ¬ FrontWrites (DigitsWrite k is_negative) s any count)
+      → IsTrue skip → OnErr result ((any : ℤ) (count : ℕ) → ¬ PrefixWrites (DigitsWrite k is_negative) s any count)
 
 -- a front that writes a number is known by its bytes and the rest, which begins with no digit; and
 -- a slice has at most one such front, so a front that was found cuts the slice there
-pub record FrontsAndRests (k : Kind) : Type 0 where
+pub record PrefixesAndRests (k : IntType) : Type 0 where
   pub joined : (form : SignForm) (s front rest : List ℕ) (number : ℤ)
       → s ≡ front ++ rest → Writes k form front number → ¬ BeginsWithDigit rest
-      → FrontWrites (Writes k form) s number (length front)
+      → PrefixWrites (Writes k form) s number (length front)
   pub only : (form : SignForm) (s : List ℕ) (number other : ℤ) (count len : ℕ)
-      → FrontWrites (Writes k form) s number count → FrontWrites (Writes k form) s other len
+      → PrefixWrites (Writes k form) s number count → PrefixWrites (Writes k form) s other len
       → (number ≡ other) × (count ≡ len)
   pub cut : (form : SignForm) (s front rest : List ℕ) (number other : ℤ) (count : ℕ)
       → s ≡ front ++ rest → Writes k form front number → ¬ BeginsWithDigit rest
-      → FrontWrites (Writes k form) s other count
+      → PrefixWrites (Writes k form) s other count
       → (number ≡ other) × ((take count s ≡ front) × (drop count s ≡ rest))
 
 -- a prefix that is read to the slice's end is a whole parse with the same value; and where a prefix
 -- may have as many digits, the other way round
-pub record PrefixIsWhole (k : Kind) : Type 0 where
+pub record PrefixIsWhole (k : IntType) : Type 0 where
   pub whole : (form : SignForm) (skip : Bool) (s : List ℕ) (v : ℤ)
       → prefix_call k form skip s ≡ Ok (v, length s) → whole_call k form skip s ≡ Ok v
   pub back : (form : SignForm) (skip : Bool) (s : List ℕ) (v : ℤ) → HasLimitOfWhole k skip
       → whole_call k form skip s ≡ Ok v → prefix_call k form skip s ≡ Ok (v, length s)
 
 -- a prefix ends within the slice, is not empty, and is answered alike where the slice ends with it
-pub record PrefixOfCut (k : Kind) : Type 0 where
+pub record PrefixOfCut (k : IntType) : Type 0 where
   pub cut : (form : SignForm) (skip : Bool) (s : List ℕ) (v : ℤ) (count : ℕ)
       → prefix_call k form skip s ≡ Ok (v, count)
       → (1 ≤ count) × (count ≤ length s) × (prefix_call k form skip (take count s) ≡ Ok (v, count))
 
 -- a prefix stops at the slice's end, or at a byte that is no digit
-abbrev pub PrefixStopsAtRest : Kind → Type 0
+abbrev pub PrefixStopsAtRest : IntType → Type 0
 PrefixStopsAtRest k =
     (form : SignForm) (skip : Bool) (s : List ℕ) (v : ℤ) (count : ℕ)
     → prefix_call k form skip s ≡ Ok (v, count)
     → (count ≡ length s) ⊎ ((count < length s) × IsFalse (is_digit decimal_table (slice_index s count)))
 
 -- what stands behind the run of digits changes neither the kind of a prefix's answer, nor its value and count
-abbrev pub RestChangesNothing : Kind → Type 0
+abbrev pub RestChangesNothing : IntType → Type 0
 RestChangesNothing k =
     (form : SignForm) (skip : Bool) (s t : List ℕ) → HaveSameRun k form s t
-    → IsSameKind (prefix_call k form skip s) (prefix_call k form skip t)
+    → HaveSameOutcome (prefix_call k form skip s) (prefix_call k form skip t)
 
 -- a whole parse that succeeds where zeros count succeeds with the same value where they are skipped
-abbrev pub SkippingAgrees : Kind → Type 0
+abbrev pub SkippingAgrees : IntType → Type 0
 SkippingAgrees k =
     (form : SignForm) (s : List ℕ) (v : ℤ)
     → whole_call k form false s ≡ Ok v → whole_call k form true s ≡ Ok v
 
 -- the order of errors calls two equal exactly where they are; each slice in an error of an answer
 -- stands at the end of the slice that was parsed
-pub record OrderAndSuffix (k : Kind) : Type 0 where
+pub record OrderAndSuffix (k : IntType) : Type 0 where
   pub order : (a b : Refusal) → (refusal_cmp a b ≡ Equal) ↔ (a ≡ b)
   pub whole : (form : SignForm) (skip : Bool) (s : List ℕ) (reason : Refusal)
       → whole_call k form skip s ≡ Err reason → IsSuffix (input_of reason) s
@@ -196,13 +196,13 @@ pub record OrderAndSuffix (k : Kind) : Type 0 where
 
 -- where zeros are skipped and the body begins with a digit, more zeros before the body change
 -- neither an answer's kind nor its value, and a prefix's count grows by their number
-pub record ZerosChangeNothing (k : Kind) : Type 0 where
+pub record ZerosChangeNothing (k : IntType) : Type 0 where
   pub whole : (form : SignForm) (s : List ℕ) (count : ℕ)
       → 0 < run_len decimal_table (sign_in k form s).body
-      → IsSameKind (whole_call k form true s) (whole_call k form true (with_zeros k form count s))
+      → HaveSameOutcome (whole_call k form true s) (whole_call k form true (with_zeros k form count s))
   pub prefix : (form : SignForm) (s : List ℕ) (count : ℕ)
       → 0 < run_len decimal_table (sign_in k form s).body
-      → IsSameKind (with_more count (prefix_call k form true s)) (prefix_call k form true (with_zeros k form count s))
+      → HaveSameOutcome (with_more count (prefix_call k form true s)) (prefix_call k form true (with_zeros k form count s))
 
 -- decimal digits are std's, with std's value, and this is below ten to the count of the digits
 pub record DecimalDigits : Type 0 where
@@ -219,19 +219,19 @@ IsAbove (Some limit) count = limit < count
 
 -- the body has too many digits, those of zeros that are skipped apart: how many may count is by the
 -- type, by what is parsed and by the flag
-abbrev pub IsTooLong : Kind → Extent → (skip : Bool) → List ℕ → Type 0
+abbrev pub IsTooLong : IntType → Extent → (skip : Bool) → List ℕ → Type 0
 IsTooLong k extent skip body =
     IsAbove (rule_of (class_of k) extent skip (limit_of k) 0 0).limit
     (run_len decimal_table body - skipped_zeros decimal_table skip body)
 
 -- the body has digits at its front, and not too many
-pub record HasSomeDigits (k : Kind) (extent : Extent) (skip : Bool) (body : List ℕ) : Type 0 where
+pub record HasSomeDigits (k : IntType) (extent : Extent) (skip : Bool) (body : List ℕ) : Type 0 where
   pub some : 0 < run_len decimal_table body
   pub short : ¬ IsTooLong k extent skip body
 
 -- another byte stands after digits whose number is in range, at the place and after the number that
 -- the error tells
-pub record IsFollowed (k : Kind) (extent : Extent) (is_negative skip : Bool) (body : List ℕ) (number index : ℕ) : Type 0 where
+pub record IsFollowed (k : IntType) (extent : Extent) (is_negative skip : Bool) (body : List ℕ) (number index : ℕ) : Type 0 where
   pub begins : HasSomeDigits k extent skip body
   pub in_range : value decimal_table (run decimal_table body) ≤ bound_of k is_negative
   pub follows : run_len decimal_table body < length body
@@ -241,7 +241,7 @@ pub record IsFollowed (k : Kind) (extent : Extent) (is_negative skip : Bool) (bo
 -- what the body is like where an answer has that reason. The first that holds is answered: no digit
 -- stands at its front; its digits are too many; they write a number out of range; another byte
 -- stands after them
-abbrev pub Explains : Kind → Extent → (is_negative skip : Bool) → List ℕ → Refusal → Type 0
+abbrev pub Explains : IntType → Extent → (is_negative skip : Bool) → List ℕ → Refusal → Type 0
 Explains k extent is_negative skip body empty = run_len decimal_table body ≡ 0
 Explains k extent is_negative skip body (size count rest) = (0 < run_len decimal_table body) × IsTooLong k extent skip body
 Explains k extent is_negative skip body (overflow rest) =
@@ -251,7 +251,7 @@ Explains k extent is_negative skip body (invalid128 number index input) = IsFoll
 
 -- each error of an answer is explained by the body that the call reads; of a prefix no byte after
 -- the digits is an error
-pub record ErrorsInOrder (k : Kind) : Type 0 where
+pub record ErrorsInOrder (k : IntType) : Type 0 where
   pub whole : (form : SignForm) (skip : Bool) (s : List ℕ) (reason : Refusal) → whole_call k form skip s ≡ Err reason
       → Explains k whole (sign_in k form s).minus skip (sign_in k form s).body reason
   pub prefix : (form : SignForm) (skip : Bool) (s : List ℕ) (reason : Refusal) → prefix_call k form skip s ≡ Err reason
@@ -260,15 +260,15 @@ pub record ErrorsInOrder (k : Kind) : Type 0 where
 
 -- bytes that write a number begin with a digit. The decimal text of a number in range writes it and
 -- has no needless zero, and no other digits do both. So it is with a sign, where the number 0 has none
-pub record DecimalTexts (k : Kind) : Type 0 where
+pub record DecimalTexts (k : IntType) : Type 0 where
   pub begins : (is_negative : Bool) (digits : List ℕ) (number : ℤ)
       → DigitsWrite k is_negative digits number → BeginsWithDigit digits
   pub written : (is_negative : Bool) (n : ℕ) → n ≤ bound_of k is_negative
-      → DigitsWrite k is_negative (decimal n) (number_of is_negative n)
+      → DigitsWrite k is_negative (decimal n) (with_sign is_negative n)
   pub shortest : (is_negative : Bool) (n : ℕ) → n ≤ bound_of k is_negative
       → IsFalse (has_needless_zero (decimal n))
   pub only : (is_negative : Bool) (digits : List ℕ) (n : ℕ)
-      → DigitsWrite k is_negative digits (number_of is_negative n) → IsFalse (has_needless_zero digits)
+      → DigitsWrite k is_negative digits (with_sign is_negative n) → IsFalse (has_needless_zero digits)
       → digits ≡ decimal n
   pub text : (takes_plus : Bool) (x : ℤ) → least_of k ≤ℤ x → x ≤ℤ pos k.greatest
       → TextWrites k takes_plus (signed_decimal x) x

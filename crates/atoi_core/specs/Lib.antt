@@ -4,8 +4,8 @@ pub mod ClosedValue
 pub mod Refusal
 pub mod ErrorText
 pub mod Magnitude
-pub mod Kind
-pub mod Kinds
+pub mod IntType
+pub mod IntTypes
 pub mod Sign
 pub mod Answer
 pub mod Text

@@ -3,7 +3,7 @@ use Rattle.std.specs.Prelude.{◌≡◌, ℕ, ◌+◌, ◌*◌, ◌/◌, ◌<◌
 use Rattle.atoi_core.specs.Digit.{Table}
 use Rattle.atoi_core.specs.Run.{zeros}
 use Rattle.atoi_core.specs.Magnitude.{Class, Extent, narrow, wide64, wide128, whole, prefix}
-use Rattle.atoi_core.specs.Kind.{Kind, class_of}
+use Rattle.atoi_core.specs.IntType.{IntType, class_of}
 
 -- how many windows a turn loads at most
 abbrev pub loads_a_turn : Class → ℕ
@@ -38,6 +38,6 @@ pub record LoadsWithin (most unskipped : ℕ) (table : Table) (skip : Bool) (s :
   pub at_least_skipping : IsTrue skip → before + zeros table s / 32 ≤ after
 
 -- the windows that a parse of an integer type loads
-abbrev pub TypedLoads : Table → Kind → Extent → Bool → List ℕ → (before after : ℕ) → Type 0
+abbrev pub TypedLoads : Table → IntType → Extent → Bool → List ℕ → (before after : ℕ) → Type 0
 TypedLoads table k extent skip s before after =
     LoadsWithin (most_loads table (class_of k) s) (most_unskipped (class_of k)) table (skips_zeros (class_of k) extent skip) s before after

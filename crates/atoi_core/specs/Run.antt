@@ -1,7 +1,7 @@
 -- The digits at the front of a slice, and the number that they write.
 use Rattle.std.specs.Prelude.{ℕ, ◌+◌, ◌*◌, ◌^◌, List, [], ◌∷◌, length, take}
 use Rattle.std.specs.List.{prefix_len}
-use Rattle.atoi_core.specs.Digit.{Table, is_digit, is_zero, worth}
+use Rattle.atoi_core.specs.Digit.{Table, is_digit, is_zero, digit_value}
 
 -- how many digits the slice begins with
 abbrev pub run_len : Table → List ℕ → ℕ
@@ -18,4 +18,4 @@ zeros table s = prefix_len (is_zero table) s
 -- the number that digits write: each is worth its worth times ten for every digit behind it
 abbrev pub value : Table → List ℕ → ℕ
 value table [] = 0
-value table (digit ∷ digits) = worth table digit * 10 ^ length digits + value table digits
+value table (digit ∷ digits) = digit_value table digit * 10 ^ length digits + value table digits

@@ -22,5 +22,5 @@ sign_of signed plus (byte ∷ bytes) =
     else record { minus = false; taken = 0; body = byte ∷ bytes })
 
 -- a magnitude with its sign
-abbrev pub number_of : Bool → ℕ → ℤ
-number_of minus magnitude = if minus then neg_ℤ (pos magnitude) else pos magnitude
+abbrev pub with_sign : Bool → ℕ → ℤ
+with_sign minus magnitude = if minus then neg_ℤ (pos magnitude) else pos magnitude

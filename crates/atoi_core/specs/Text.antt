@@ -2,8 +2,8 @@
 use Rattle.std.specs.Prelude.{◌≡◌, ℕ, ◌<◌, ◌≤◌, Bool, true, false, ◌==◌, List, [], ◌∷◌, ◌++◌, length, take, drop, ℤ}
 use Rattle.std.specs.Char.{IsAsciiDigit}
 use Rattle.std.specs.Str.Parse.{IsNumeral, digits_value}
-use Rattle.atoi_core.specs.Kind.{Kind, bound_of}
-use Rattle.atoi_core.specs.Sign.{plus_sign, minus_sign, number_of}
+use Rattle.atoi_core.specs.IntType.{IntType, bound_of}
+use Rattle.atoi_core.specs.Sign.{plus_sign, minus_sign, with_sign}
 
 -- the sign that may stand before the digits
 pub data SignMark : Type 0 where
@@ -29,14 +29,14 @@ is_plus minus = false
 
 -- the bytes are decimal digits alone, one or more, and write the number: it is their value, with a
 -- minus or without, in the range of the type. The words on digits are std's
-pub record DigitsWrite (k : Kind) (is_negative : Bool) (digits : List ℕ) (number : ℤ) : Type 0 where
+pub record DigitsWrite (k : IntType) (is_negative : Bool) (digits : List ℕ) (number : ℤ) : Type 0 where
   pub numeral : IsNumeral 10 digits
   pub in_range : digits_value 10 digits ≤ bound_of k is_negative
-  pub value_is : number ≡ number_of is_negative (digits_value 10 digits)
+  pub value_is : number ≡ with_sign is_negative (digits_value 10 digits)
 
 -- the bytes are an optional sign and digits that write the number with that sign: a minus only where
 -- the type is signed, a plus only where that is asked for
-pub record TextWrites (k : Kind) (takes_plus : Bool) (s : List ℕ) (number : ℤ) : Type 0 where
+pub record TextWrites (k : IntType) (takes_plus : Bool) (s : List ℕ) (number : ℤ) : Type 0 where
   pub sign : SignMark
   pub digits : List ℕ
   pub parts : s ≡ sign_bytes sign ++ digits
@@ -45,7 +45,7 @@ pub record TextWrites (k : Kind) (takes_plus : Bool) (s : List ℕ) (number : �
   pub written : DigitsWrite k (is_minus sign) digits number
 
 -- s is a text of the type: with a plus allowed, it writes some number
-pub record IsText (k : Kind) (s : List ℕ) : Type 0 where
+pub record IsText (k : IntType) (s : List ℕ) : Type 0 where
   pub number : ℤ
   pub written : TextWrites k true s number
 
@@ -56,7 +56,7 @@ BeginsWithDigit (byte ∷ bytes) = IsAsciiDigit byte
 
 -- the first `count` bytes of s write the number, in the way that `Writes` says, and no digit stands
 -- after them
-pub record FrontWrites (Writes : List ℕ → ℤ → Type 0) (s : List ℕ) (number : ℤ) (count : ℕ) : Type 0 where
+pub record PrefixWrites (Writes : List ℕ → ℤ → Type 0) (s : List ℕ) (number : ℤ) (count : ℕ) : Type 0 where
   pub front : Writes (take count s) number
   pub some : 0 < count
   pub within : count ≤ length s

@@ -15,7 +15,7 @@ pub trait Alphabet {
     ghost table: { Table };
 
     /// What `byte` is worth, or that it is no digit.
-    fn worth(byte: u8) -> Option<u64>
+    fn digit_value(byte: u8) -> Option<u64>
         ensures { result ≡ table byte };
 
     /// No digit is worth more than nine.
@@ -52,10 +52,10 @@ fn read_run<A: Alphabet>(s: &[u8]) -> (u32, u64)
 {
     let mut number = 0;
     for (len, byte) in s.iter().enumerate() {
-        let Some(worth) = A::worth(*byte) else {
+        let Some(digit_value) = A::digit_value(*byte) else {
             return (len as u32, number);
         };
-        number = number * 10 + worth;
+        number = number * 10 + digit_value;
     }
     (s.len() as u32, number)
 }
@@ -66,7 +66,7 @@ fn count_zeros<A: Alphabet>(s: &[u8]) -> u32
     ensures { result ≡ zeros A.table s.now }
 {
     for (at, byte) in s.iter().enumerate() {
-        if A::worth(*byte) != Some(0) {
+        if A::digit_value(*byte) != Some(0) {
             return at as u32;
         }
     }

@@ -14,8 +14,8 @@ pub(crate) const ZERO: u64 = 48;
 pub(crate) fn digit(byte: u8) -> Option<u64>
     ensures { result ≡ decimal_table byte }
 {
-    let worth = u64::from(byte).wrapping_sub(ZERO);
-    if worth <= 9 { Some(worth) } else { None }
+    let digit_value = u64::from(byte).wrapping_sub(ZERO);
+    if digit_value <= 9 { Some(digit_value) } else { None }
 }
 
 /// Reads the whole of `s` as decimal digits that write a number of at most `bound`.
@@ -43,10 +43,10 @@ pub fn narrow_whole(bound: u64, s: &[u8]) -> Result<u64, AtoiSimdError<'_>>
         return Err(AtoiSimdError::Empty);
     };
     for (at, byte) in rest.iter().enumerate() {
-        let Some(worth) = digit(*byte) else {
+        let Some(digit_value) = digit(*byte) else {
             return Err(AtoiSimdError::Invalid64(number, at + 1, s));
         };
-        let next = number * 10 + worth;
+        let next = number * 10 + digit_value;
         if next > bound {
             return Err(AtoiSimdError::Overflow(s));
         }

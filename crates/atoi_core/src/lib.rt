@@ -9,7 +9,7 @@ mod digit_loop;
 mod dispatch;
 mod engine;
 mod error;
-mod front;
+mod prefix_128;
 pub mod laws;
 mod narrow;
 mod negative_bound;

@@ -28,7 +28,7 @@ use crate::window::Window;
 ///   behind the zeros that fill whole windows of 16 bytes, and behind all its zeros where the next
 ///   16 bytes are digits.
 #[inline(always)]
-#[tactic(auto, using(crate::proofs::NarrowLemmas::narrow_size))]
+#[tactic(auto, using(crate::proofs::LoopAnswers::narrow_size))]
 pub fn narrow_prefix<'a, E: Engine>(
     bound: u64,
     skip: bool,
@@ -47,7 +47,7 @@ pub fn narrow_prefix<'a, E: Engine>(
     if window.len == 0 {
         Err(AtoiSimdError::Empty)
     } else if skip && window.zeroes > 0 {
-        called_behind_zeros::<E>(bound, window.zeroes, s, steps)
+        skip_leading_zeros_cold::<E>(bound, window.zeroes, s, steps)
     } else if is_too_long::<E>(skip, window, s, steps) {
         Err(AtoiSimdError::Size(17, s))
     } else {
@@ -57,19 +57,19 @@ pub fn narrow_prefix<'a, E: Engine>(
 
 // Whether zeros count, and more than 16 digits stand at the front of `s`, whose first window is
 // given. Only where that is full of digits a second one is loaded.
-#[tactic(auto, using(crate::proofs::NarrowLemmas::digit_after_16))]
+#[tactic(auto, using(crate::proofs::LoopAnswers::digit_after_16))]
 fn is_too_long<E: Engine>(skip: bool, window: Window, s: &[u8], steps: &mut Steps) -> bool
-    requires told { window ≡ window_of E.table 16 s.now }
+    requires first_window { window ≡ window_of E.table 16 s.now }
     ensures answer { result ≡ (not skip && nat_lt 16 (run_len E.table s.now)) }
     ensures loads { steps.new ≡ steps.old
         + (if skip || nat_lt (run_len E.table s.now) 16 then 0 else 1) }
 {
-    !skip && window.len == 16 && goes_on::<E>(&s[16..], steps)
+    !skip && window.len == 16 && starts_with_digit::<E>(&s[16..], steps)
 }
 
 // Whether `rest` begins with a digit.
 #[inline(always)]
-fn goes_on<E: Engine>(rest: &[u8], steps: &mut Steps) -> bool
+fn starts_with_digit<E: Engine>(rest: &[u8], steps: &mut Steps) -> bool
     ensures answer { result ≡ nat_lt 0 (run_len E.table rest.now) }
     ensures one_step { steps.new ≡ steps.old + 1 }
 {
@@ -105,10 +105,10 @@ pub fn narrow_whole_windows<'a, E: Engine>(
     if first.len == 0 {
         Err(AtoiSimdError::Empty)
     } else if first.len < 16 {
-        whole_of::<E>(bound, answer_at(bound, 0, first, s), s)
+        whole_from_prefix::<E>(bound, answer_at(bound, 0, first, s), s)
     } else if first.zeroes > 0 {
-        let front = called_behind_zeros::<E>(bound, first.zeroes, s, steps);
-        whole_of::<E>(bound, front, s)
+        let front = skip_leading_zeros_cold::<E>(bound, first.zeroes, s, steps);
+        whole_from_prefix::<E>(bound, front, s)
     } else {
         Err(AtoiSimdError::Overflow(s))
     }
@@ -116,7 +116,7 @@ pub fn narrow_whole_windows<'a, E: Engine>(
 
 // The answer for a whole slice, from that for its front where zeros are skipped: an overflow holds
 // all of the slice, and digits that end before it are invalid.
-fn whole_of<'a, E: Engine>(
+fn whole_from_prefix<'a, E: Engine>(
     bound: u64,
     front: Result<(u64, usize), AtoiSimdError<'_>>,
     s: &'a [u8],
@@ -132,12 +132,12 @@ fn whole_of<'a, E: Engine>(
                 Err(AtoiSimdError::Invalid64(number, len, s))
             }
         }
-        Err(error) => Err(of_whole(error, s)),
+        Err(error) => Err(error_of_whole(error, s)),
     }
 }
 
 // The error of a whole slice, from that of its front: an overflow holds all of it.
-fn of_whole<'a>(error: AtoiSimdError<'_>, s: &'a [u8]) -> AtoiSimdError<'a>
+fn error_of_whole<'a>(error: AtoiSimdError<'_>, s: &'a [u8]) -> AtoiSimdError<'a>
     ensures { refusal_of result
         ≡ (if rank (refusal_of error.entry) == 0 then empty else overflow s.now) }
 {
@@ -147,10 +147,10 @@ fn of_whole<'a>(error: AtoiSimdError<'_>, s: &'a [u8]) -> AtoiSimdError<'a>
     }
 }
 
-// The call of `behind_zeros`, in a function of its own: the place of its result is then cleared only
+// The call of `skip_leading_zeros`, in a function of its own: the place of its result is then cleared only
 // where the call is made.
 #[inline(always)]
-fn called_behind_zeros<'a, E: Engine>(
+fn skip_leading_zeros_cold<'a, E: Engine>(
     bound: u64,
     zeroes: u32,
     s: &'a [u8],
@@ -159,18 +159,18 @@ fn called_behind_zeros<'a, E: Engine>(
     requires low { 9 ≤ bound }
     requires high { bound ≤ 4294967295 }
     requires some { 0 < zeroes }
-    requires told { zeroes ≡ (window_of E.table 16 s.now).zeroes }
+    requires first_window { zeroes ≡ (window_of E.table 16 s.now).zeroes }
     ensures answer { answer_of result ≡ prefix_magnitude E.table narrow bound 0 true s.now }
     ensures loads { LoadsWithin (most_loads E.table narrow s.now - 1) 2 E.table true s.now
         steps.old steps.new }
 {
-    out_of_line(behind_zeros::<E>(bound, zeroes, s, steps))
+    out_of_line(skip_leading_zeros::<E>(bound, zeroes, s, steps))
 }
 
 // What `narrow_prefix` with `skip` answers, where the first window told `zeroes`: these and those
 // behind them are skipped.
 #[inline(never)]
-fn behind_zeros<'a, E: Engine>(
+fn skip_leading_zeros<'a, E: Engine>(
     bound: u64,
     zeroes: u32,
     s: &'a [u8],
@@ -179,7 +179,7 @@ fn behind_zeros<'a, E: Engine>(
     requires low { 9 ≤ bound }
     requires high { bound ≤ 4294967295 }
     requires some { 0 < zeroes }
-    requires told { zeroes ≡ (window_of E.table 16 s.now).zeroes }
+    requires first_window { zeroes ≡ (window_of E.table 16 s.now).zeroes }
     ensures answer { answer_of result ≡ prefix_magnitude E.table narrow bound 0 true s.now }
     ensures loads { LoadsWithin (most_loads E.table narrow s.now - 1) 2 E.table true s.now
         steps.old steps.new }

@@ -5,11 +5,11 @@
 ghost use Rattle.std.specs.Prelude.{List, ◌≡◌, ◌<◌, ◌≤◌, ℕ, true, not, nat_lt, if◌then◌else◌, Some, None, length, drop};
 ghost use Rattle.std.specs.Option.{option_map};
 ghost use Rattle.atoi_core.specs.Answer.{typed_answer, typed_prefix_answer, whole_answer, prefix_answer};
-ghost use Rattle.atoi_core.specs.Kind.{class_of, bound_of, limit_of};
+ghost use Rattle.atoi_core.specs.IntType.{class_of, bound_of, limit_of};
 ghost use Rattle.atoi_core.specs.Magnitude.{HasDigits, whole, prefix, rule_of, skipped_zeros};
 ghost use Rattle.atoi_core.specs.Refusal.{refusal_of, number_in, index_in};
 ghost use Rattle.atoi_core.specs.Run.{run_len, run, value};
-ghost use Rattle.atoi_core.specs.Sign.{number_of};
+ghost use Rattle.atoi_core.specs.Sign.{with_sign};
 
 use crate::engine::Engine;
 use crate::error::AtoiSimdError;
@@ -25,9 +25,9 @@ pub(crate) fn whole_with_sign<'a, E: Engine, T: Signed>(
     negative: Result<T, AtoiSimdError<'a>>,
 ) -> Result<T, AtoiSimdError<'a>>
     requires negative { typed_answer T.number negative
-        ≡ whole_answer E.table T.kind true skip s.now }
+        ≡ whole_answer E.table T.int_type true skip s.now }
     ensures answer { typed_answer T.number result
-        ≡ whole_answer E.table T.kind minus skip s.now }
+        ≡ whole_answer E.table T.int_type minus skip s.now }
 {
     match negative {
         Ok(number) => match in_range(minus, number) {
@@ -50,9 +50,9 @@ pub(crate) fn prefix_with_sign<'a, E: Engine, T: Signed>(
     negative: Result<(T, usize), AtoiSimdError<'a>>,
 ) -> Result<(T, usize), AtoiSimdError<'a>>
     requires negative { typed_prefix_answer T.number negative
-        ≡ prefix_answer E.table T.kind true skip s.now }
+        ≡ prefix_answer E.table T.int_type true skip s.now }
     ensures answer { typed_prefix_answer T.number result
-        ≡ prefix_answer E.table T.kind minus skip s.now }
+        ≡ prefix_answer E.table T.int_type minus skip s.now }
 {
     match negative {
         Ok(found) => match in_range(minus, found.0) {
@@ -66,9 +66,9 @@ pub(crate) fn prefix_with_sign<'a, E: Engine, T: Signed>(
 // The number with the sign `minus` whose magnitude is that of `negative`, or none if it is out of
 // range. The sign is data here: it selects one of two numbers.
 fn in_range<T: Signed>(minus: bool, negative: T) -> Option<T>
-    ensures { (magnitude : ℕ) → T.number negative ≡ number_of true magnitude
-        → option_map T.number result ≡ (if nat_lt (bound_of T.kind minus) magnitude then None
-        else Some (number_of minus magnitude)) }
+    ensures { (magnitude : ℕ) → T.number negative ≡ with_sign true magnitude
+        → option_map T.number result ≡ (if nat_lt (bound_of T.int_type minus) magnitude then None
+        else Some (with_sign minus magnitude)) }
 {
     let (_, magnitude) = negative.parts();
     // Types of at most 64 bits take a magnitude without a minus as one more, so that one comparison
@@ -100,7 +100,7 @@ fn has_no_minus_cold(minus: bool) -> bool
 // How many digits an error counts, if their number is above the bound of the sign `minus`.
 fn digits_above<T: Signed>(minus: bool, error: AtoiSimdError<'_>) -> Option<usize>
     ensures { let reason = refusal_of error.entry in
-        result ≡ (if nat_lt (bound_of T.kind minus) (number_in reason) then Some (index_in reason)
+        result ≡ (if nat_lt (bound_of T.int_type minus) (number_in reason) then Some (index_in reason)
         else None) }
 {
     let bound = T::GREATEST + u128::from(minus);
@@ -113,15 +113,15 @@ fn digits_above<T: Signed>(minus: bool, error: AtoiSimdError<'_>) -> Option<usiz
 
 // The slice in the error `Overflow` for all of `s`, which begins with `count` digits that spell the
 // magnitude of `T::MIN`.
-#[tactic(auto, using(crate::proofs::NegativeBound::dropped_whole, crate::proofs::NegativeBound::run_within))]
+#[tactic(auto, using(crate::proofs::Bounds::dropped_whole, crate::proofs::Bounds::run_within))]
 fn whole_overflow<'a, E: Engine, T: Signed>(skip: bool, count: usize, s: &'a [u8]) -> &'a [u8]
     requires digits { count ≡ run_len E.table s.now }
     requires least { value E.table (run E.table s.now) ≡ T.LEAST_MAGNITUDE }
-    ensures { result.now ≡ drop (rule_of (class_of T.kind) whole skip (limit_of T.kind) count
+    ensures { result.now ≡ drop (rule_of (class_of T.int_type) whole skip (limit_of T.int_type) count
         (skipped_zeros E.table skip s.now)).dropped s.now }
 {
     if T::BITS > 32 {
-        &s[zeros_before::<E, T>(skip, count)..]
+        &s[leading_zeros::<E, T>(skip, count)..]
     } else {
         s
     }
@@ -129,14 +129,14 @@ fn whole_overflow<'a, E: Engine, T: Signed>(skip: bool, count: usize, s: &'a [u8
 
 // The same for the front of `s`. Types of at most 32 bits drop the zeros that fill whole windows of 16
 // bytes, and all of them if more windows are full of digits.
-#[tactic(auto, using(crate::proofs::NegativeBound::dropped_prefix, crate::proofs::NegativeBound::run_within))]
+#[tactic(auto, using(crate::proofs::Bounds::dropped_prefix, crate::proofs::Bounds::run_within))]
 fn prefix_overflow<'a, E: Engine, T: Signed>(skip: bool, count: usize, s: &'a [u8]) -> &'a [u8]
     requires digits { count ≡ run_len E.table s.now }
     requires least { value E.table (run E.table s.now) ≡ T.LEAST_MAGNITUDE }
-    ensures { result.now ≡ drop (rule_of (class_of T.kind) prefix skip (limit_of T.kind) count
+    ensures { result.now ≡ drop (rule_of (class_of T.int_type) prefix skip (limit_of T.int_type) count
         (skipped_zeros E.table skip s.now)).dropped s.now }
 {
-    let zeros = zeros_before::<E, T>(skip, count);
+    let zeros = leading_zeros::<E, T>(skip, count);
     if T::BITS <= 32 && count / 16 <= zeros / 16 {
         &s[16 * (zeros / 16)..]
     } else {
@@ -146,21 +146,21 @@ fn prefix_overflow<'a, E: Engine, T: Signed>(skip: bool, count: usize, s: &'a [u
 
 // How many leading zeros are skipped of `count` digits that spell the magnitude of `T::MIN`: all but
 // its own.
-#[tactic(auto, using(crate::proofs::NegativeBound::zeros_before))]
-fn zeros_before<E: Engine, T: Signed>(skip: bool, count: usize) -> usize
+#[tactic(auto, using(crate::proofs::Bounds::leading_zeros))]
+fn leading_zeros<E: Engine, T: Signed>(skip: bool, count: usize) -> usize
     ensures zeros { (s : List ℕ) → count ≡ run_len E.table s
         → value E.table (run E.table s) ≡ T.LEAST_MAGNITUDE → result ≡ skipped_zeros E.table skip s }
     ensures within { result ≤ count }
 {
     if skip {
-        count.saturating_sub(least_digits::<T>())
+        count.saturating_sub(digits_of_min::<T>())
     } else {
         0
     }
 }
 
 // How many digits the magnitude of `T::MIN` has.
-fn least_digits<T: Signed>() -> usize
+fn digits_of_min<T: Signed>() -> usize
     ensures { HasDigits result T.LEAST_MAGNITUDE }
 {
     match T::BITS {

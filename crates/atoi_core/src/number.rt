@@ -2,9 +2,9 @@
 //! type are the constants here.
 ghost use Rattle.std.specs.Prelude.{◌≡◌, ◌+◌, ◌≤◌, ◌<ℤ◌, ◌↔◌, ℕ, ℤ, pos, Bool, true, false, IsTrue, refl};
 ghost use Rattle.std.proofs.Common.{inl, inr};
-ghost use Rattle.atoi_core.specs.Kind.{Kind, IsSized, IsKindOf, bound_of};
-ghost use Rattle.atoi_core.specs.Kinds.{u8_kind, i8_kind, u16_kind, i16_kind, u32_kind, i32_kind, u64_kind, i64_kind, u128_kind, i128_kind, usize_kind, isize_kind};
-ghost use Rattle.atoi_core.specs.Sign.{number_of};
+ghost use Rattle.atoi_core.specs.IntType.{IntType, IsSized, IsTypeOf, bound_of};
+ghost use Rattle.atoi_core.specs.IntTypes.{u8_type, i8_type, u16_type, i16_type, u32_type, i32_type, u64_type, i64_type, u128_type, i128_type, usize_type, isize_type};
+ghost use Rattle.atoi_core.specs.Sign.{with_sign};
 
 /// An integer type that a parse can answer.
 ///
@@ -26,7 +26,7 @@ pub trait Number: Copy {
     ghost GREATEST: { ℕ };
 
     /// The three constants as one, by which contracts speak of the type.
-    ghost kind: { Kind };
+    ghost int_type: { IntType };
 
     /// The number that a value stands for.
     ghost number: { Self → ℤ };
@@ -39,15 +39,15 @@ pub trait Number: Copy {
     /// Whether the number is negative, and its magnitude: at most `GREATEST`, or one more where it
     /// is negative, so that every value lies in the range that the constants tell.
     fn parts(self) -> (bool, u128)
-        ensures number { number_of result.0 result.1 ≡ number self }
+        ensures number { with_sign result.0 result.1 ≡ number self }
         ensures negative { IsTrue result.0 ↔ (number self <ℤ pos 0) }
-        ensures in_range { result.1 ≤ bound_of kind result.0 };
+        ensures in_range { result.1 ≤ bound_of int_type result.0 };
 
     /// The kind is that of the three constants.
-    ghost kind_is: { IsKindOf kind BITS SIGNED GREATEST };
+    ghost type_is: { IsTypeOf int_type BITS SIGNED GREATEST };
 
     /// The constants fit one another.
-    ghost sized: { IsSized kind };
+    ghost sized: { IsSized int_type };
 }
 
 /// An integer type with negative numbers.
@@ -60,7 +60,7 @@ pub trait Signed: Number {
     /// The value whose number is minus `magnitude`, which is at most `LEAST_MAGNITUDE`.
     fn from_neg(magnitude: u128) -> Self
         requires { magnitude ≤ LEAST_MAGNITUDE }
-        ensures { Self.number result ≡ number_of true magnitude };
+        ensures { Self.number result ≡ with_sign true magnitude };
 
     /// It has negative numbers.
     ghost signed: { Self.SIGNED ≡ true };
@@ -82,7 +82,7 @@ impl Number for u8 {
 
     ghost GREATEST = { 255 };
 
-    ghost kind = { u8_kind };
+    ghost int_type = { u8_type };
 
     ghost number = { λ x. pos x };
 
@@ -94,7 +94,7 @@ impl Number for u8 {
         (false, u128::from(self))
     }
 
-    ghost kind_is = { record { bits_are = refl; sign_is = refl; greatest_is = refl } };
+    ghost type_is = { record { bits_are = refl; sign_is = refl; greatest_is = refl } };
 
     ghost sized = { record { bits = inl refl; greatest = refl } };
 }
@@ -112,7 +112,7 @@ impl Number for i8 {
 
     ghost GREATEST = { 127 };
 
-    ghost kind = { i8_kind };
+    ghost int_type = { i8_type };
 
     ghost number = { λ x. x };
 
@@ -124,7 +124,7 @@ impl Number for i8 {
         (self < 0, u128::from(self.unsigned_abs()))
     }
 
-    ghost kind_is = { record { bits_are = refl; sign_is = refl; greatest_is = refl } };
+    ghost type_is = { record { bits_are = refl; sign_is = refl; greatest_is = refl } };
 
     ghost sized = { record { bits = inl refl; greatest = refl } };
 }
@@ -156,7 +156,7 @@ impl Number for u16 {
 
     ghost GREATEST = { 65535 };
 
-    ghost kind = { u16_kind };
+    ghost int_type = { u16_type };
 
     ghost number = { λ x. pos x };
 
@@ -168,7 +168,7 @@ impl Number for u16 {
         (false, u128::from(self))
     }
 
-    ghost kind_is = { record { bits_are = refl; sign_is = refl; greatest_is = refl } };
+    ghost type_is = { record { bits_are = refl; sign_is = refl; greatest_is = refl } };
 
     ghost sized = { record { bits = inr (inl refl); greatest = refl } };
 }
@@ -186,7 +186,7 @@ impl Number for i16 {
 
     ghost GREATEST = { 32767 };
 
-    ghost kind = { i16_kind };
+    ghost int_type = { i16_type };
 
     ghost number = { λ x. x };
 
@@ -198,7 +198,7 @@ impl Number for i16 {
         (self < 0, u128::from(self.unsigned_abs()))
     }
 
-    ghost kind_is = { record { bits_are = refl; sign_is = refl; greatest_is = refl } };
+    ghost type_is = { record { bits_are = refl; sign_is = refl; greatest_is = refl } };
 
     ghost sized = { record { bits = inr (inl refl); greatest = refl } };
 }
@@ -230,7 +230,7 @@ impl Number for u32 {
 
     ghost GREATEST = { 4294967295 };
 
-    ghost kind = { u32_kind };
+    ghost int_type = { u32_type };
 
     ghost number = { λ x. pos x };
 
@@ -242,7 +242,7 @@ impl Number for u32 {
         (false, u128::from(self))
     }
 
-    ghost kind_is = { record { bits_are = refl; sign_is = refl; greatest_is = refl } };
+    ghost type_is = { record { bits_are = refl; sign_is = refl; greatest_is = refl } };
 
     ghost sized = { record { bits = inr (inr (inl refl)); greatest = refl } };
 }
@@ -260,7 +260,7 @@ impl Number for i32 {
 
     ghost GREATEST = { 2147483647 };
 
-    ghost kind = { i32_kind };
+    ghost int_type = { i32_type };
 
     ghost number = { λ x. x };
 
@@ -272,7 +272,7 @@ impl Number for i32 {
         (self < 0, u128::from(self.unsigned_abs()))
     }
 
-    ghost kind_is = { record { bits_are = refl; sign_is = refl; greatest_is = refl } };
+    ghost type_is = { record { bits_are = refl; sign_is = refl; greatest_is = refl } };
 
     ghost sized = { record { bits = inr (inr (inl refl)); greatest = refl } };
 }
@@ -304,7 +304,7 @@ impl Number for u64 {
 
     ghost GREATEST = { 18446744073709551615 };
 
-    ghost kind = { u64_kind };
+    ghost int_type = { u64_type };
 
     ghost number = { λ x. pos x };
 
@@ -316,7 +316,7 @@ impl Number for u64 {
         (false, u128::from(self))
     }
 
-    ghost kind_is = { record { bits_are = refl; sign_is = refl; greatest_is = refl } };
+    ghost type_is = { record { bits_are = refl; sign_is = refl; greatest_is = refl } };
 
     ghost sized = { record { bits = inr (inr (inr (inl refl))); greatest = refl } };
 }
@@ -334,7 +334,7 @@ impl Number for i64 {
 
     ghost GREATEST = { 9223372036854775807 };
 
-    ghost kind = { i64_kind };
+    ghost int_type = { i64_type };
 
     ghost number = { λ x. x };
 
@@ -346,7 +346,7 @@ impl Number for i64 {
         (self < 0, u128::from(self.unsigned_abs()))
     }
 
-    ghost kind_is = { record { bits_are = refl; sign_is = refl; greatest_is = refl } };
+    ghost type_is = { record { bits_are = refl; sign_is = refl; greatest_is = refl } };
 
     ghost sized = { record { bits = inr (inr (inr (inl refl))); greatest = refl } };
 }
@@ -378,7 +378,7 @@ impl Number for u128 {
 
     ghost GREATEST = { 340282366920938463463374607431768211455 };
 
-    ghost kind = { u128_kind };
+    ghost int_type = { u128_type };
 
     ghost number = { λ x. pos x };
 
@@ -390,7 +390,7 @@ impl Number for u128 {
         (false, self)
     }
 
-    ghost kind_is = { record { bits_are = refl; sign_is = refl; greatest_is = refl } };
+    ghost type_is = { record { bits_are = refl; sign_is = refl; greatest_is = refl } };
 
     ghost sized = { record { bits = inr (inr (inr (inr refl))); greatest = refl } };
 }
@@ -408,7 +408,7 @@ impl Number for i128 {
 
     ghost GREATEST = { 170141183460469231731687303715884105727 };
 
-    ghost kind = { i128_kind };
+    ghost int_type = { i128_type };
 
     ghost number = { λ x. x };
 
@@ -420,7 +420,7 @@ impl Number for i128 {
         (self < 0, self.unsigned_abs())
     }
 
-    ghost kind_is = { record { bits_are = refl; sign_is = refl; greatest_is = refl } };
+    ghost type_is = { record { bits_are = refl; sign_is = refl; greatest_is = refl } };
 
     ghost sized = { record { bits = inr (inr (inr (inr refl))); greatest = refl } };
 }
@@ -457,7 +457,7 @@ impl Number for usize {
 
     ghost GREATEST = { 18446744073709551615 };
 
-    ghost kind = { usize_kind };
+    ghost int_type = { usize_type };
 
     ghost number = { λ x. pos x };
 
@@ -469,7 +469,7 @@ impl Number for usize {
         (false, self as u128)
     }
 
-    ghost kind_is = { record { bits_are = refl; sign_is = refl; greatest_is = refl } };
+    ghost type_is = { record { bits_are = refl; sign_is = refl; greatest_is = refl } };
 
     ghost sized = { record { bits = inr (inr (inr (inl refl))); greatest = refl } };
 }
@@ -487,7 +487,7 @@ impl Number for isize {
 
     ghost GREATEST = { 9223372036854775807 };
 
-    ghost kind = { isize_kind };
+    ghost int_type = { isize_type };
 
     ghost number = { λ x. x };
 
@@ -499,7 +499,7 @@ impl Number for isize {
         (self < 0, self.unsigned_abs() as u128)
     }
 
-    ghost kind_is = { record { bits_are = refl; sign_is = refl; greatest_is = refl } };
+    ghost type_is = { record { bits_are = refl; sign_is = refl; greatest_is = refl } };
 
     ghost sized = { record { bits = inr (inr (inr (inl refl))); greatest = refl } };
 }

@@ -17,7 +17,7 @@ impl Alphabet for Plain {
     ghost table = { decimal_table };
 
     #[inline(always)]
-    fn worth(byte: u8) -> Option<u64> {
+    fn digit_value(byte: u8) -> Option<u64> {
         digit(byte)
     }
 

@@ -14,7 +14,7 @@ ghost use Rattle.atoi_core.specs.Reading.{ReadingDecides};
 /// What was read of a slice decides the answer of `Engine::prefix_64` and `Engine::prefix_128`:
 /// after zeros that are skipped, a reading that does not end in digits, or of which as many digits
 /// count as a size tells. Calling it does nothing.
-#[tactic(auto, using(crate::proofs::ReadingLemmas::reading_decides))]
+#[tactic(auto, using(crate::proofs::Windows::reading_decides))]
 pub fn reading_decides()
     ensures { ReadingDecides }
 {}

@@ -51,8 +51,8 @@ pub fn parse_signed<'a, E: Engine, T: Signed>(
     s: &'a [u8],
     steps: &mut Steps,
 ) -> Result<T, AtoiSimdError<'a>>
-    ensures answer { typed_answer T.number result ≡ text_answer E.table T.kind skip skip_plus s.now }
-    ensures loads { TypedLoads E.table T.kind whole skip (sign_of T.SIGNED skip_plus s.now).body
+    ensures answer { typed_answer T.number result ≡ text_answer E.table T.int_type skip skip_plus s.now }
+    ensures loads { TypedLoads E.table T.int_type whole skip (sign_of T.SIGNED skip_plus s.now).body
         steps.old steps.new }
 {
     let (minus, body) = take_sign(true, skip_plus, s);
@@ -76,8 +76,8 @@ pub fn parse_unsigned<'a, E: Engine, T: Number>(
     steps: &mut Steps,
 ) -> Result<T, AtoiSimdError<'a>>
     requires unsigned { T.SIGNED ≡ false }
-    ensures answer { typed_answer T.number result ≡ text_answer E.table T.kind skip skip_plus s.now }
-    ensures loads { TypedLoads E.table T.kind whole skip (sign_of T.SIGNED skip_plus s.now).body
+    ensures answer { typed_answer T.number result ≡ text_answer E.table T.int_type skip skip_plus s.now }
+    ensures loads { TypedLoads E.table T.int_type whole skip (sign_of T.SIGNED skip_plus s.now).body
         steps.old steps.new }
 {
     let (_, body) = take_sign(false, skip_plus, s);
@@ -100,9 +100,9 @@ pub fn parse_prefix_signed<'a, E: Engine, T: Signed>(
     steps: &mut Steps,
 ) -> Result<(T, usize), AtoiSimdError<'a>>
     ensures answer { typed_prefix_answer T.number result
-        ≡ text_prefix_answer E.table T.kind skip skip_plus s.now }
+        ≡ text_prefix_answer E.table T.int_type skip skip_plus s.now }
     ensures within { IfOk result (λ found. found.1 ≤ length s.now) }
-    ensures loads { TypedLoads E.table T.kind prefix skip (sign_of T.SIGNED skip_plus s.now).body
+    ensures loads { TypedLoads E.table T.int_type prefix skip (sign_of T.SIGNED skip_plus s.now).body
         steps.old steps.new }
 {
     let (minus, body) = take_sign(true, skip_plus, s);
@@ -126,9 +126,9 @@ pub fn parse_prefix_unsigned<'a, E: Engine, T: Number>(
 ) -> Result<(T, usize), AtoiSimdError<'a>>
     requires unsigned { T.SIGNED ≡ false }
     ensures answer { typed_prefix_answer T.number result
-        ≡ text_prefix_answer E.table T.kind skip skip_plus s.now }
+        ≡ text_prefix_answer E.table T.int_type skip skip_plus s.now }
     ensures within { IfOk result (λ found. found.1 ≤ length s.now) }
-    ensures loads { TypedLoads E.table T.kind prefix skip (sign_of T.SIGNED skip_plus s.now).body
+    ensures loads { TypedLoads E.table T.int_type prefix skip (sign_of T.SIGNED skip_plus s.now).body
         steps.old steps.new }
 {
     let (_, body) = take_sign(false, skip_plus, s);

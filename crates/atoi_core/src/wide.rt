@@ -7,7 +7,7 @@ ghost use Rattle.atoi_core.specs.Refusal.{answer_of};
 
 use crate::engine::Engine;
 use crate::error::AtoiSimdError;
-use crate::front::front_128;
+use crate::prefix_128::prefix_128_inline;
 use crate::steps::Steps;
 
 /// The number that `s` as a whole is, for an integer of 64 bits.
@@ -73,7 +73,7 @@ pub fn whole_128<'a, E: Engine>(
     ensures loads { LoadsWithin (most_loads E.table wide128 s.now) 5 E.table skip s.now
         steps.old steps.new }
 {
-    let (number, len) = front_128::<E>(bound, skip, true, s, steps)?;
+    let (number, len) = prefix_128_inline::<E>(bound, skip, true, s, steps)?;
     if len == s.len() {
         Ok(number)
     } else {

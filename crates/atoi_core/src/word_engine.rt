@@ -33,14 +33,14 @@ impl Engine for Words {
     fn window(s: &[u8], steps: &mut Steps) -> Window {
         steps.tick();
         if s.len() <= 8 {
-            return part(s);
+            return short_window(s);
         }
         let first = load_full(s);
         let len = digits_of(first);
         if len == 8 {
-            joined(s, first)
+            join_words(s, first)
         } else {
-            not_full(len, number_of(first, len))
+            not_full(len, number_in_word(first, len))
         }
     }
 
@@ -49,9 +49,9 @@ impl Engine for Words {
     fn window_8(s: &[u8], steps: &mut Steps) -> Window {
         steps.tick();
         if s.len() < 8 {
-            return part(s);
+            return short_window(s);
         }
-        told(load_full(s))
+        window_of_word(load_full(s))
     }
 
     /// As the provided body, but a loop is entered only where there are zeros to skip.
@@ -65,14 +65,14 @@ impl Engine for Words {
     ) -> Result<(u64, usize), AtoiSimdError<'a>> {
         let front = Words::window(s, steps);
         if skip && front.zeroes > 0 {
-            return called_behind_zeros(bound, limit, front.zeroes, s, steps);
+            return skip_leading_zeros_cold(bound, limit, front.zeroes, s, steps);
         }
         if front.len == 0 {
             Err(AtoiSimdError::Empty)
         } else if front.len < 16 {
             Ok((front.number, front.len as usize))
         } else {
-            let back = window_from_16(s, steps);
+            let back = window_after_16(s, steps);
             let number = append_digits(front.number, back.len, back.number);
             answer_64(bound, limit, 0, 16 + back.len, number, s)
         }
@@ -81,10 +81,10 @@ impl Engine for Words {
     ghost below_ten = { λ byte. Prim.grind (arith, nat_tests) };
 }
 
-// The call of `behind_zeros`, in a function of its own: the place of its result is then cleared only
+// The call of `skip_leading_zeros`, in a function of its own: the place of its result is then cleared only
 // where the call is made.
 #[inline(always)]
-fn called_behind_zeros<'a>(
+fn skip_leading_zeros_cold<'a>(
     bound: u64,
     limit: u32,
     zeroes: u32,
@@ -95,19 +95,19 @@ fn called_behind_zeros<'a>(
     requires limit_high { limit ≤ 20 }
     requires digits { HasDigits limit bound }
     requires some { 0 < zeroes }
-    requires told { zeroes ≡ (window_of decimal_table 16 s.now).zeroes }
+    requires first_window { zeroes ≡ (window_of decimal_table 16 s.now).zeroes }
     ensures answer { answer_of result
         ≡ prefix_magnitude decimal_table wide64 bound limit true s.now }
     ensures loads { LoadsWithin (most_loads decimal_table wide64 s.now - 2) 1 decimal_table true
         s.now steps.old steps.new }
 {
-    out_of_line(behind_zeros(bound, limit, zeroes, s, steps))
+    out_of_line(skip_leading_zeros(bound, limit, zeroes, s, steps))
 }
 
 // What `prefix_64` with zeros to skip answers, where the first window told `zeroes`: these and those
 // after them are skipped.
 #[inline(never)]
-fn behind_zeros<'a>(
+fn skip_leading_zeros<'a>(
     bound: u64,
     limit: u32,
     zeroes: u32,
@@ -118,7 +118,7 @@ fn behind_zeros<'a>(
     requires limit_high { limit ≤ 20 }
     requires digits { HasDigits limit bound }
     requires some { 0 < zeroes }
-    requires told { zeroes ≡ (window_of decimal_table 16 s.now).zeroes }
+    requires first_window { zeroes ≡ (window_of decimal_table 16 s.now).zeroes }
     ensures answer { answer_of result
         ≡ prefix_magnitude decimal_table wide64 bound limit true s.now }
     ensures loads { LoadsWithin (most_loads decimal_table wide64 s.now - 2) 1 decimal_table true
@@ -136,26 +136,26 @@ fn behind_zeros<'a>(
         return Ok((front.number, at + front.len as usize));
     }
     let rest = &s[at..];
-    let back = window_from_16(rest, steps);
+    let back = window_after_16(rest, steps);
     let number = append_digits(front.number, back.len, back.number);
     answer_64(bound, limit, at, 16 + back.len, number, s)
 }
 
 // The window of the 8 bytes from the 17th on, or of those that are there. Adds one step.
 #[inline(always)]
-fn window_from_16(s: &[u8], steps: &mut Steps) -> Window
+fn window_after_16(s: &[u8], steps: &mut Steps) -> Window
     requires { 16 ≤ length s.now }
     ensures window { result ≡ window_of decimal_table 8 (drop 16 s.now) }
     ensures one_step { steps.new ≡ steps.old + 1 }
 {
     steps.tick();
-    told(load_from(s, 16))
+    window_of_word(load_from(s, 16))
 }
 
 // The window of at most 8 bytes. A slice of fewer is read as if zeros stood before it that count for
 // nothing: so the bytes are always eight, and no branch depends on how many there are. The window is
 // the same where 8 bytes were asked for, as long as there are fewer.
-fn part(s: &[u8]) -> Window
+fn short_window(s: &[u8]) -> Window
     requires { length s.now ≤ 8 }
     ensures of_16 { result ≡ window_of decimal_table 16 s.now }
     ensures of_8 { length s.now < 8 → result ≡ window_of decimal_table 8 s.now }
@@ -163,18 +163,18 @@ fn part(s: &[u8]) -> Window
     if s.is_empty() {
         return not_full(0, 0);
     }
-    let filled = load_high(s) + zeros_before(s.len());
+    let filled = load_high(s) + fill_of_zeros(s.len());
     let digits = digits_of(filled);
     if digits == 8 {
         not_full(s.len() as u32, value_of(filled, 8))
     } else {
-        not_full(digits - (8 - s.len() as u32), number_of(filled, digits))
+        not_full(digits - (8 - s.len() as u32), number_in_word(filled, digits))
     }
 }
 
 // The word whose lowest bytes are zeros, the byte 48, as many as `len` bytes leave free; the bytes
 // above them are 0.
-fn zeros_before(len: usize) -> u64
+fn fill_of_zeros(len: usize) -> u64
     requires some { 0 < len }
     requires few { len ≤ 8 }
     ensures { result ≡ word_of (replicate (8 - len) 48) }
@@ -184,7 +184,7 @@ fn zeros_before(len: usize) -> u64
 
 // The window of 16 bytes where the first 8, which `first` holds, are digits.
 #[inline(always)]
-fn joined(s: &[u8], first: u64) -> Window
+fn join_words(s: &[u8], first: u64) -> Window
     requires loaded { first ≡ word_of (take 8 s.now) }
     requires full { run_len decimal_table (low_bytes 8 first) ≡ 8 }
     ensures { result ≡ window_of decimal_table 16 s.now }
@@ -199,7 +199,7 @@ fn joined(s: &[u8], first: u64) -> Window
         }
     } else {
         let high = value_of(first, 8) * power_of_ten(more);
-        not_full(8 + more, high + number_of(next, more))
+        not_full(8 + more, high + number_in_word(next, more))
     }
 }
 
@@ -233,7 +233,7 @@ fn load_from(s: &[u8], at: usize) -> u64
 }
 
 // The word of the first 8 bytes, which are there: so the way for fewer takes no room in a window.
-#[tactic(auto, using(crate::proofs::LoadedBytes::word_of_first))]
+#[tactic(auto, using(crate::proofs::LoadedWords::word_of_first))]
 fn load_full(s: &[u8]) -> u64
     requires { 8 ≤ length s.now }
     ensures { result ≡ word_of (take 8 s.now) }
@@ -246,7 +246,7 @@ fn load_full(s: &[u8]) -> u64
 
 // What a word of 8 bytes tells: a byte that is missing is 0, and no digit.
 #[inline(always)]
-fn told(word: u64) -> Window
+fn window_of_word(word: u64) -> Window
     ensures len { result.len ≡ run_len decimal_table (low_bytes 8 word) }
     ensures zeroes { result.zeroes
         ≡ (if result.len == 8 then zeros decimal_table (low_bytes 8 word) else 0) }
@@ -256,12 +256,12 @@ fn told(word: u64) -> Window
     Window {
         len,
         zeroes: if len == 8 { zeroes_of(word) } else { 0 },
-        number: number_of(word, len),
+        number: number_in_word(word, len),
     }
 }
 
 // The number that the first `len` bytes write, which are all digits, or none.
-fn number_of(word: u64, len: u32) -> u64
+fn number_in_word(word: u64, len: u32) -> u64
     requires few { len ≤ 8 }
     requires digits { len ≡ run_len decimal_table (low_bytes 8 word) }
     ensures sum { result ≡ low_value (low_bytes len word) }

@@ -1,10 +1,3 @@
-pub mod LevelLemmas
-pub mod LoadLemmas
-pub mod MaskLemmas
-pub mod ShiftLemmas
-pub mod SumLemmas
-pub mod SkipLemmas
-pub mod DecidedLemmas
-pub mod WindowLemmas
-pub mod Window32Lemmas
-pub mod HalfLemmas
+pub mod LaneSums
+pub mod LoadedLanes
+pub mod LaneWindows

@@ -1,5 +1,5 @@
 pub mod Padded
-pub mod ReadsBehind
+pub mod ReadsAfterZeros
 pub mod Itself
 pub mod LaneWindow
 pub mod Paired

@@ -2,5 +2,5 @@
 use Rattle.std.specs.Prelude.{ℕ, List, ◌++◌, take, replicate}
 
 -- the first `size` bytes, with zeros in place of those that are missing
-abbrev pub padded_front : ℕ → List ℕ → List ℕ
-padded_front size s = take size (s ++ replicate size 0)
+abbrev pub padded_start : ℕ → List ℕ → List ℕ
+padded_start size s = take size (s ++ replicate size 0)

@@ -7,7 +7,7 @@ ghost use Rattle.atoi_core.specs.Digit.{decimal_table, is_digit};
 ghost use Rattle.atoi_core.specs.Run.{run_len, run, zeros, value};
 ghost use Rattle.atoi_core.specs.Words.{word_of};
 ghost use Rattle.atoi_lanes.specs.Itself.{itself};
-ghost use Rattle.atoi_lanes.specs.Padded.{padded_front};
+ghost use Rattle.atoi_lanes.specs.Padded.{padded_start};
 ghost use Rattle.atoi_lanes.specs.Paired.{paired};
 
 use atoi_core::words::{load_8, load_high};
@@ -31,17 +31,17 @@ const HUNDREDS: [u8; 16] = [0, 100, 0, 1, 0, 100, 0, 1, 0, 100, 0, 1, 0, 100, 0,
 /// is missing is 0.
 #[inline(always)]
 pub fn load_lanes(s: &[u8]) -> u8x16
-    ensures { result ≡ padded_front 16 s.now }
+    ensures { result ≡ padded_start 16 s.now }
 {
     match s.first_chunk::<LANES>() {
         Some(bytes) => u8x16::from_array(*bytes),
-        None => u64x2::from_array([load_8(s), load_behind_8(s)]).to_le_bytes(),
+        None => u64x2::from_array([load_8(s), load_after_8(s)]).to_le_bytes(),
     }
 }
 
 // The bytes behind the first 8, of fewer than 16: they are those of the last 8 that are left. These
 // are shifted twice: by 64 bits at once, where none is left, a word cannot be.
-fn load_behind_8(s: &[u8]) -> u64
+fn load_after_8(s: &[u8]) -> u64
     requires { length s.now < LANES }
     ensures { result ≡ word_of (drop 8 s.now) }
 {
@@ -83,9 +83,9 @@ pub fn sum_lanes(v: u8x16, len: u32) -> u64
     requires digits { len ≤ run_len decimal_table v }
     ensures { result ≡ value decimal_table (take len v) }
 {
-    let worths = v - u8x16::splat(b'0');
+    let digit_values = v - u8x16::splat(b'0');
     // One chain for every length: where lengths vary, a branch on them is mispredicted.
-    number_of(moved_to_end(worths, len))
+    number_in_lanes(moved_to_end(digit_values, len))
 }
 
 // The first `len` lanes at the end, behind lanes of 0.
@@ -112,12 +112,12 @@ pub fn read_short(s: &[u8]) -> (u32, u64)
     // Of a digit the lower half is its value. A lane whose byte is missing stays 0.
     if mask.count_ones() as usize == s.len() {
         // All bytes are digits. The processor need not wait for their count.
-        return (s.len() as u32, number_of_half(lanes & u8x16::splat(0x0F)));
+        return (s.len() as u32, number_in_half(lanes & u8x16::splat(0x0F)));
     }
     let len = (mask >> (8 - s.len())).trailing_ones();
     // The shift drops the bytes after the digits.
     let digits = half(word << (8 * (s.len() - len as usize)));
-    (len, number_of_half(digits & u8x16::splat(0x0F)))
+    (len, number_in_half(digits & u8x16::splat(0x0F)))
 }
 
 // The bytes of a word in the first eight lanes, the lowest first. All other lanes are 0.
@@ -128,7 +128,7 @@ fn half(word: u64) -> u8x16
 }
 
 // The number that the first eight of sixteen digits write.
-fn number_of_half(digits: u8x16) -> u64
+fn number_in_half(digits: u8x16) -> u64
     requires { Each1 (λ digit. digit < 10) digits }
     ensures { result ≡ value itself (take 8 digits) }
 {
@@ -137,7 +137,7 @@ fn number_of_half(digits: u8x16) -> u64
 }
 
 // The number that sixteen digits write.
-fn number_of(digits: u8x16) -> u64
+fn number_in_lanes(digits: u8x16) -> u64
     requires { Each1 (λ digit. digit < 10) digits }
     ensures { result ≡ value itself digits }
 {

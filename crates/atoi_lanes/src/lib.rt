@@ -3,22 +3,22 @@
 //! the same signatures and answers. It uses `atoi_core`.
 #![tactic(auto)]
 
-mod any_sign;
+mod parse_trait;
 mod functions;
 pub mod kernels;
 mod lanes;
-mod negative;
-mod positive;
-mod reader;
+mod parse_neg_trait;
+mod parse_pos_trait;
+mod default_engine;
 mod wide_lanes;
 mod window_32;
 
-pub use crate::any_sign::Parse;
+pub use crate::parse_trait::Parse;
 pub use crate::functions::{
     parse, parse_any, parse_any_neg, parse_any_pos, parse_neg, parse_pos, parse_prefix,
     parse_prefix_neg, parse_prefix_pos, parse_skipped,
 };
 pub use crate::lanes::Lanes;
-pub use crate::negative::ParseNeg;
+pub use crate::parse_neg_trait::ParseNeg;
 pub use crate::wide_lanes::{prefix_64_lanes, prefix_128_lanes};
 pub use atoi_core::AtoiSimdError;

@@ -8,7 +8,7 @@ ghost use Rattle.atoi_core.specs.Reading.{Reading};
 ghost use Rattle.atoi_core.specs.Refusal.{answer_of};
 ghost use Rattle.atoi_core.specs.Run.{zeros};
 ghost use Rattle.atoi_core.specs.Window.{window_of};
-ghost use Rattle.atoi_lanes.specs.ReadsBehind.{ReadsBehind};
+ghost use Rattle.atoi_lanes.specs.ReadsAfterZeros.{ReadsAfterZeros};
 
 use crate::lanes::Lanes;
 use crate::window_32::{Window32, window_32};
@@ -45,20 +45,20 @@ pub fn prefix_64_lanes<'a>(
     reading_decides();
     if s.len() < 16 {
         let only = Lanes::window(s, steps);
-        return short_64(bound, limit, skip, only.len, u128::from(only.number), s);
+        return answer_short_64(bound, limit, skip, only.len, u128::from(only.number), s);
     }
     let first = window_32(s, steps);
     if first.len < limit {
-        return short_64(bound, limit, skip, first.len, first.number, s);
+        return answer_short_64(bound, limit, skip, first.len, first.number, s);
     }
     if skip && first.zeroes > 0 && first.len == 32 {
-        return skipping_64(bound, limit, first.zeroes, s, steps);
+        return prefix_64_cold(bound, limit, first.zeroes, s, steps);
     }
     let front = Front {
         at: 0,
         window: first,
     };
-    told_64(bound, limit, skip, front, s)
+    answer_from_window_64(bound, limit, skip, front, s)
 }
 
 /// The number at the front of `s`, and how many bytes it has, for an integer of 128 bits: what
@@ -87,13 +87,13 @@ pub fn prefix_128_lanes<'a>(
     reading_decides();
     let first = window_32(s, steps);
     if skip && first.zeroes > 0 && first.len == 32 {
-        return skipping_128(bound, first.zeroes, s, steps);
+        return prefix_128_cold(bound, first.zeroes, s, steps);
     }
     let front = Front {
         at: 0,
         window: first,
     };
-    ended_128(bound, skip, front, s, steps)
+    finish_128(bound, skip, front, s, steps)
 }
 
 // A place behind zeros that are skipped, and the window that was read there.
@@ -103,10 +103,10 @@ struct Front {
     window: Window32,
 }
 
-// What `behind_zeros_64` answers, whose call is out of line. The place of its result is cleared
+// What `prefix_64_after_zeros` answers, whose call is out of line. The place of its result is cleared
 // where this function is put in line: on the way that makes the call, and on no other.
 #[inline(always)]
-fn skipping_64<'a>(
+fn prefix_64_cold<'a>(
     bound: u64,
     limit: u32,
     zeroes: u32,
@@ -115,13 +115,13 @@ fn skipping_64<'a>(
 ) -> Result<(u64, usize), AtoiSimdError<'a>>
     requires limit_high { limit ≤ 20 }
     requires some { 0 < zeroes }
-    requires told { zeroes ≡ zeros decimal_table (take 32 s.now) }
+    requires first_window { zeroes ≡ zeros decimal_table (take 32 s.now) }
     ensures answer { answer_of result
         ≡ prefix_magnitude decimal_table wide64 bound limit true s.now }
     ensures most { steps.new ≤ steps.old + zeros decimal_table s.now / 32 + 1 }
     ensures least { steps.old + zeros decimal_table s.now / 32 ≤ steps.new }
 {
-    match behind_zeros_64(bound, limit, zeroes, s, steps) {
+    match prefix_64_after_zeros(bound, limit, zeroes, s, steps) {
         Ok(found) => Ok(found),
         Err(error) => Err(error),
     }
@@ -129,7 +129,7 @@ fn skipping_64<'a>(
 
 // The same for 128 bits.
 #[inline(always)]
-fn skipping_128<'a>(
+fn prefix_128_cold<'a>(
     bound: u128,
     zeroes: u32,
     s: &'a [u8],
@@ -137,12 +137,12 @@ fn skipping_128<'a>(
 ) -> Result<(u128, usize), AtoiSimdError<'a>>
     requires digits { HasDigits 39 bound }
     requires some { 0 < zeroes }
-    requires told { zeroes ≡ zeros decimal_table (take 32 s.now) }
+    requires first_window { zeroes ≡ zeros decimal_table (take 32 s.now) }
     ensures answer { answer_of result ≡ prefix_magnitude decimal_table wide128 bound 39 true s.now }
     ensures most { steps.new ≤ steps.old + zeros decimal_table s.now / 32 + 2 }
     ensures least { steps.old + zeros decimal_table s.now / 32 ≤ steps.new }
 {
-    match behind_zeros_128(bound, zeroes, s, steps) {
+    match prefix_128_after_zeros(bound, zeroes, s, steps) {
         Ok(found) => Ok(found),
         Err(error) => Err(error),
     }
@@ -151,7 +151,7 @@ fn skipping_128<'a>(
 // What `prefix_64_lanes` answers where zeros are skipped, and the first window tells some and is
 // full of digits.
 #[inline(never)]
-fn behind_zeros_64<'a>(
+fn prefix_64_after_zeros<'a>(
     bound: u64,
     limit: u32,
     zeroes: u32,
@@ -160,19 +160,19 @@ fn behind_zeros_64<'a>(
 ) -> Result<(u64, usize), AtoiSimdError<'a>>
     requires limit_high { limit ≤ 20 }
     requires some { 0 < zeroes }
-    requires told { zeroes ≡ zeros decimal_table (take 32 s.now) }
+    requires first_window { zeroes ≡ zeros decimal_table (take 32 s.now) }
     ensures answer { answer_of result
         ≡ prefix_magnitude decimal_table wide64 bound limit true s.now }
     ensures most { steps.new ≤ steps.old + zeros decimal_table s.now / 32 + 1 }
     ensures least { steps.old + zeros decimal_table s.now / 32 ≤ steps.new }
 {
-    told_64(bound, limit, true, behind_zeros(zeroes, s, steps), s)
+    answer_from_window_64(bound, limit, true, skip_leading_zeros(zeroes, s, steps), s)
 }
 
 // What `prefix_128_lanes` answers where zeros are skipped, and the first window tells some and is
 // full of digits.
 #[inline(never)]
-fn behind_zeros_128<'a>(
+fn prefix_128_after_zeros<'a>(
     bound: u128,
     zeroes: u32,
     s: &'a [u8],
@@ -180,38 +180,38 @@ fn behind_zeros_128<'a>(
 ) -> Result<(u128, usize), AtoiSimdError<'a>>
     requires digits { HasDigits 39 bound }
     requires some { 0 < zeroes }
-    requires told { zeroes ≡ zeros decimal_table (take 32 s.now) }
+    requires first_window { zeroes ≡ zeros decimal_table (take 32 s.now) }
     ensures answer { answer_of result ≡ prefix_magnitude decimal_table wide128 bound 39 true s.now }
     ensures most { steps.new ≤ steps.old + zeros decimal_table s.now / 32 + 2 }
     ensures least { steps.old + zeros decimal_table s.now / 32 ≤ steps.new }
 {
-    let front = behind_zeros(zeroes, s, steps);
-    ended_128(bound, true, front, s, steps)
+    let front = skip_leading_zeros(zeroes, s, steps);
+    finish_128(bound, true, front, s, steps)
 }
 
 // Drops the zeros of windows that are full of digits. `zeroes` are those of the first window.
-fn behind_zeros(zeroes: u32, s: &[u8], steps: &mut Steps) -> Front
+fn skip_leading_zeros(zeroes: u32, s: &[u8], steps: &mut Steps) -> Front
     requires some { 0 < zeroes }
-    requires told { zeroes ≡ zeros decimal_table (take 32 s.now) }
-    ensures front { ReadsBehind true s.now result.at result.window.len result.window.zeroes
+    requires first_window { zeroes ≡ zeros decimal_table (take 32 s.now) }
+    ensures front { ReadsAfterZeros true s.now result.at result.window.len result.window.zeroes
         result.window.number }
     ensures most { steps.new ≤ steps.old + zeros decimal_table s.now / 32 + 1 }
     ensures least { steps.old + zeros decimal_table s.now / 32 ≤ steps.new }
 {
     // Zeros that are left behind a place are those of the slice, but for as many.
     reading_decides();
-    let mut front = next_front(0, zeroes, s, steps);
+    let mut front = next_window(0, zeroes, s, steps);
     loop {
         if front.window.zeroes == 0 || front.window.len < 32 {
             return front;
         }
-        front = next_front(front.at, front.window.zeroes, s, steps);
+        front = next_window(front.at, front.window.zeroes, s, steps);
     }
 }
 
 // One turn: drops all zeros of the window behind `place`, and reads the next one behind them.
-fn next_front(place: usize, zeroes: u32, s: &[u8], steps: &mut Steps) -> Front
-    requires told { zeroes ≡ zeros decimal_table (take 32 (drop place s.now)) }
+fn next_window(place: usize, zeroes: u32, s: &[u8], steps: &mut Steps) -> Front
+    requires first_window { zeroes ≡ zeros decimal_table (take 32 (drop place s.now)) }
     requires within { place + zeroes ≤ length s.now }
     ensures dropped { result.at ≡ place + zeros decimal_table (take 32 (drop place s.now)) }
     ensures reading { Reading decimal_table 32 (drop result.at s.now) result.window.len
@@ -228,7 +228,7 @@ fn next_front(place: usize, zeroes: u32, s: &[u8], steps: &mut Steps) -> Front
 // The answer of 128 bits, which the last window of 32 bytes decides, or the eight bytes behind it
 // too, where it is full of digits.
 #[inline(always)]
-fn ended_128<'a>(
+fn finish_128<'a>(
     bound: u128,
     skip: bool,
     front: Front,
@@ -236,17 +236,17 @@ fn ended_128<'a>(
     steps: &mut Steps,
 ) -> Result<(u128, usize), AtoiSimdError<'a>>
     requires digits { HasDigits 39 bound }
-    requires front { ReadsBehind skip s.now front.at front.window.len front.window.zeroes
+    requires front { ReadsAfterZeros skip s.now front.at front.window.len front.window.zeroes
         front.window.number }
     ensures answer { answer_of result ≡ prefix_magnitude decimal_table wide128 bound 39 skip s.now }
     ensures most { steps.new ≤ steps.old + 1 }
     ensures least { steps.old ≤ steps.new }
 {
     if front.window.len < 32 {
-        return short_128(bound, skip, front, s);
+        return answer_short_128(bound, skip, front, s);
     }
     reading_decides();
-    let back = window_behind(&s[front.at..], steps);
+    let back = window_after_32(&s[front.at..], steps);
     answer_128(
         bound,
         front.at,
@@ -258,16 +258,16 @@ fn ended_128<'a>(
 }
 
 // The eight bytes behind the first 32.
-fn window_behind(s: &[u8], steps: &mut Steps) -> Window
+fn window_after_32(s: &[u8], steps: &mut Steps) -> Window
     requires { 32 ≤ length s.now }
     ensures window { result ≡ window_of decimal_table 8 (drop 32 s.now) }
     ensures one_step { steps.new ≡ steps.old + 1 }
 {
-    Lanes::window_8(behind_32(s), steps)
+    Lanes::window_8(after_32(s), steps)
 }
 
 // The bytes behind the first 32.
-fn behind_32(s: &[u8]) -> &[u8]
+fn after_32(s: &[u8]) -> &[u8]
     requires { 32 ≤ length s.now }
     ensures { result.now ≡ drop 32 s.now }
 {
@@ -277,7 +277,7 @@ fn behind_32(s: &[u8]) -> &[u8]
 // The answer of 64 bits, where the slice begins with fewer digits than `limit`: these are too few to
 // pass the bound, whatever zeros they begin with.
 #[inline(always)]
-fn short_64<'a>(
+fn answer_short_64<'a>(
     bound: u64,
     limit: u32,
     skip: bool,
@@ -287,7 +287,7 @@ fn short_64<'a>(
 ) -> Result<(u64, usize), AtoiSimdError<'a>>
     requires limit_high { limit ≤ 20 }
     requires digits { HasDigits limit bound }
-    requires front { ReadsBehind skip s.now 0 len (zeros decimal_table (take 32 s.now)) number }
+    requires front { ReadsAfterZeros skip s.now 0 len (zeros decimal_table (take 32 s.now)) number }
     requires short { len < limit }
     ensures { answer_of result ≡ prefix_magnitude decimal_table wide64 bound limit skip s.now }
 {
@@ -301,7 +301,7 @@ fn short_64<'a>(
 
 // The answer of 64 bits, which the last window decides.
 #[inline(always)]
-fn told_64<'a>(
+fn answer_from_window_64<'a>(
     bound: u64,
     limit: u32,
     skip: bool,
@@ -309,7 +309,7 @@ fn told_64<'a>(
     s: &'a [u8],
 ) -> Result<(u64, usize), AtoiSimdError<'a>>
     requires limit_high { limit ≤ 20 }
-    requires front { ReadsBehind skip s.now front.at front.window.len front.window.zeroes
+    requires front { ReadsAfterZeros skip s.now front.at front.window.len front.window.zeroes
         front.window.number }
     ensures { answer_of result ≡ prefix_magnitude decimal_table wide64 bound limit skip s.now }
 {
@@ -322,14 +322,14 @@ fn told_64<'a>(
 
 // The answer of 128 bits, where a window that is not full of digits decides it: these are too few
 // to pass the bound.
-fn short_128<'a>(
+fn answer_short_128<'a>(
     bound: u128,
     skip: bool,
     front: Front,
     s: &'a [u8],
 ) -> Result<(u128, usize), AtoiSimdError<'a>>
     requires digits { HasDigits 39 bound }
-    requires front { ReadsBehind skip s.now front.at front.window.len front.window.zeroes
+    requires front { ReadsAfterZeros skip s.now front.at front.window.len front.window.zeroes
         front.window.number }
     requires short { front.window.len < 32 }
     ensures { answer_of result ≡ prefix_magnitude decimal_table wide128 bound 39 skip s.now }

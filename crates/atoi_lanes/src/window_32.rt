@@ -4,7 +4,7 @@ ghost use Rattle.std.specs.Prelude.{◌≡◌, ◌+◌, ◌*◌, ◌^◌, ◌≤
 ghost use Rattle.atoi_core.specs.Digit.{decimal_table};
 ghost use Rattle.atoi_core.specs.Reading.{Reading};
 ghost use Rattle.atoi_core.specs.Run.{run_len, zeros, value};
-ghost use Rattle.atoi_lanes.specs.Padded.{padded_front};
+ghost use Rattle.atoi_lanes.specs.Padded.{padded_start};
 
 use crate::kernels::{len_lanes, load_lanes, sum_lanes, zeroes_lanes};
 use atoi_core::Steps;
@@ -48,19 +48,19 @@ pub(crate) fn window_32(s: &[u8], steps: &mut Steps) -> Window32
             number: u128::from(sum_lanes(first, len)),
         };
     }
-    let second = load_behind_16(s);
+    let second = load_after_16(s);
     let more = len_lanes(second);
     Window32 {
         len: 16 + more,
         zeroes: zeroes_of_two(first, second),
-        number: number_of_two(first, second, more),
+        number: number_in_two(first, second, more),
     }
 }
 
 // The 16 bytes behind the first 16, or all where there are fewer. Where the slice ends among them,
 // its last 16 hold them all: one shuffle serves every length, without a branch on it.
-fn load_behind_16(s: &[u8]) -> u8x16
-    ensures { result ≡ padded_front 16 (drop 16 s.now) }
+fn load_after_16(s: &[u8]) -> u8x16
+    ensures { result ≡ padded_start 16 (drop 16 s.now) }
 {
     if s.len() < 16 {
         return u8x16::splat(0);
@@ -68,11 +68,11 @@ fn load_behind_16(s: &[u8]) -> u8x16
     if s.len() >= 32 {
         return u8x16::from_slice(&s[16..]);
     }
-    moved_to_front(u8x16::from_slice(&s[s.len() - 16..]), 32 - s.len())
+    moved_to_start(u8x16::from_slice(&s[s.len() - 16..]), 32 - s.len())
 }
 
 // The lanes from place `from` on at the front, before lanes of 0.
-fn moved_to_front(v: u8x16, from: usize) -> u8x16
+fn moved_to_start(v: u8x16, from: usize) -> u8x16
     requires { from ≤ 16 }
     ensures { result ≡ drop from v ++ replicate from 0 }
 {
@@ -98,7 +98,7 @@ fn zeroes_of_two(first: u8x16, second: u8x16) -> u32
 
 // The number that sixteen lanes write in decimal, and the first `more` lanes of a second vector.
 #[inline(always)]
-fn number_of_two(first: u8x16, second: u8x16, more: u32) -> u128
+fn number_in_two(first: u8x16, second: u8x16, more: u32) -> u128
     requires within { more ≤ 16 }
     requires full { 16 ≤ run_len decimal_table first }
     requires digits { more ≤ run_len decimal_table second }

@@ -3,10 +3,10 @@
 ghost use Rattle.std.specs.Prelude.{◌≡◌, ◌≤◌, ◌↔◌, ℕ, ℤ, true, false, IsTrue, IsOk, IfOk, OnErr, length};
 ghost use Rattle.atoi_core.specs.Answer.{typed_answer, typed_prefix_answer, whole_answer, prefix_answer, parse_answer, parse_prefix_answer};
 ghost use Rattle.atoi_core.specs.Digit.{decimal_table};
-ghost use Rattle.atoi_core.specs.Text.{IsText, DigitsWrite, TextWrites, FrontWrites};
+ghost use Rattle.atoi_core.specs.Text.{IsText, DigitsWrite, TextWrites, PrefixWrites};
 
-use crate::any_sign::Parse;
-use crate::negative::ParseNeg;
+use crate::parse_trait::Parse;
+use crate::parse_neg_trait::ParseNeg;
 use atoi_core::AtoiSimdError;
 use atoi_core::laws::{accepted_texts, prefix_results, whole_results};
 
@@ -41,12 +41,12 @@ pub fn parse<T: Parse, const SKIP_ZEROES: bool, const SKIP_PLUS: bool>(
     s: &[u8],
 ) -> Result<T, AtoiSimdError<'_>>
     ensures answer { typed_answer T.number result
-        ≡ parse_answer T.kind SKIP_ZEROES SKIP_PLUS s.now }
+        ≡ parse_answer T.int_type SKIP_ZEROES SKIP_PLUS s.now }
     ensures texts { IsTrue SKIP_ZEROES → IsTrue SKIP_PLUS
-        → (IsOk result ↔ IsText T.kind s.now) }
-    ensures number { IfOk result (λ number. TextWrites T.kind SKIP_PLUS s.now (T.number number)) }
+        → (IsOk result ↔ IsText T.int_type s.now) }
+    ensures number { IfOk result (λ number. TextWrites T.int_type SKIP_PLUS s.now (T.number number)) }
     ensures refused { IsTrue SKIP_ZEROES → OnErr result ((number : ℤ)
-        → ¬ TextWrites T.kind SKIP_PLUS s.now number) }
+        → ¬ TextWrites T.int_type SKIP_PLUS s.now number) }
 {
     // The laws that the clauses rest on. The calls do nothing.
     accepted_texts::<T>();
@@ -75,10 +75,10 @@ pub fn parse<T: Parse, const SKIP_ZEROES: bool, const SKIP_PLUS: bool>(
 #[inline(always)]
 pub fn parse_pos<T: Parse, const SKIP_ZEROES: bool>(s: &[u8]) -> Result<T, AtoiSimdError<'_>>
     ensures answer { typed_answer T.number result
-        ≡ whole_answer decimal_table T.kind false SKIP_ZEROES s.now }
-    ensures number { IfOk result (λ number. DigitsWrite T.kind false s.now (T.number number)) }
+        ≡ whole_answer decimal_table T.int_type false SKIP_ZEROES s.now }
+    ensures number { IfOk result (λ number. DigitsWrite T.int_type false s.now (T.number number)) }
     ensures refused { IsTrue SKIP_ZEROES → OnErr result ((number : ℤ)
-        → ¬ DigitsWrite T.kind false s.now number) }
+        → ¬ DigitsWrite T.int_type false s.now number) }
 {
     // The law that `number` and `refused` rest on. The call does nothing.
     whole_results::<T, SKIP_ZEROES>();
@@ -108,10 +108,10 @@ pub fn parse_pos<T: Parse, const SKIP_ZEROES: bool>(s: &[u8]) -> Result<T, AtoiS
 #[inline(always)]
 pub fn parse_neg<T: ParseNeg, const SKIP_ZEROES: bool>(s: &[u8]) -> Result<T, AtoiSimdError<'_>>
     ensures answer { typed_answer T.number result
-        ≡ whole_answer decimal_table T.kind true SKIP_ZEROES s.now }
-    ensures number { IfOk result (λ number. DigitsWrite T.kind true s.now (T.number number)) }
+        ≡ whole_answer decimal_table T.int_type true SKIP_ZEROES s.now }
+    ensures number { IfOk result (λ number. DigitsWrite T.int_type true s.now (T.number number)) }
     ensures refused { IsTrue SKIP_ZEROES → OnErr result ((number : ℤ)
-        → ¬ DigitsWrite T.kind true s.now number) }
+        → ¬ DigitsWrite T.int_type true s.now number) }
 {
     // The law that `number` and `refused` rest on. The call does nothing.
     whole_results::<T, SKIP_ZEROES>();
@@ -145,12 +145,12 @@ pub fn parse_prefix<T: Parse, const SKIP_ZEROES: bool, const SKIP_PLUS: bool>(
     s: &[u8],
 ) -> Result<(T, usize), AtoiSimdError<'_>>
     ensures answer { typed_prefix_answer T.number result
-        ≡ parse_prefix_answer T.kind SKIP_ZEROES SKIP_PLUS s.now }
+        ≡ parse_prefix_answer T.int_type SKIP_ZEROES SKIP_PLUS s.now }
     ensures within { IfOk result (λ found. found.1 ≤ length s.now) }
     ensures front { IfOk result (λ found.
-        FrontWrites (TextWrites T.kind SKIP_PLUS) s.now (T.number found.0) found.1) }
+        PrefixWrites (TextWrites T.int_type SKIP_PLUS) s.now (T.number found.0) found.1) }
     ensures refused { IsTrue SKIP_ZEROES → OnErr result ((number : ℤ) (count : ℕ)
-        → ¬ FrontWrites (TextWrites T.kind SKIP_PLUS) s.now number count) }
+        → ¬ PrefixWrites (TextWrites T.int_type SKIP_PLUS) s.now number count) }
 {
     // The law that `front` and `refused` rest on. The call does nothing.
     prefix_results::<T, SKIP_ZEROES>();
@@ -180,12 +180,12 @@ pub fn parse_prefix_pos<T: Parse, const SKIP_ZEROES: bool>(
     s: &[u8],
 ) -> Result<(T, usize), AtoiSimdError<'_>>
     ensures answer { typed_prefix_answer T.number result
-        ≡ prefix_answer decimal_table T.kind false SKIP_ZEROES s.now }
+        ≡ prefix_answer decimal_table T.int_type false SKIP_ZEROES s.now }
     ensures within { IfOk result (λ found. found.1 ≤ length s.now) }
     ensures front { IfOk result (λ found.
-        FrontWrites (DigitsWrite T.kind false) s.now (T.number found.0) found.1) }
+        PrefixWrites (DigitsWrite T.int_type false) s.now (T.number found.0) found.1) }
     ensures refused { IsTrue SKIP_ZEROES → OnErr result ((number : ℤ) (count : ℕ)
-        → ¬ FrontWrites (DigitsWrite T.kind false) s.now number count) }
+        → ¬ PrefixWrites (DigitsWrite T.int_type false) s.now number count) }
 {
     // The law that `front` and `refused` rest on. The call does nothing.
     prefix_results::<T, SKIP_ZEROES>();
@@ -216,12 +216,12 @@ pub fn parse_prefix_neg<T: ParseNeg, const SKIP_ZEROES: bool>(
     s: &[u8],
 ) -> Result<(T, usize), AtoiSimdError<'_>>
     ensures answer { typed_prefix_answer T.number result
-        ≡ prefix_answer decimal_table T.kind true SKIP_ZEROES s.now }
+        ≡ prefix_answer decimal_table T.int_type true SKIP_ZEROES s.now }
     ensures within { IfOk result (λ found. found.1 ≤ length s.now) }
     ensures front { IfOk result (λ found.
-        FrontWrites (DigitsWrite T.kind true) s.now (T.number found.0) found.1) }
+        PrefixWrites (DigitsWrite T.int_type true) s.now (T.number found.0) found.1) }
     ensures refused { IsTrue SKIP_ZEROES → OnErr result ((number : ℤ) (count : ℕ)
-        → ¬ FrontWrites (DigitsWrite T.kind true) s.now number count) }
+        → ¬ PrefixWrites (DigitsWrite T.int_type true) s.now number count) }
 {
     // The law that `front` and `refused` rest on. The call does nothing.
     prefix_results::<T, SKIP_ZEROES>();
@@ -233,10 +233,10 @@ pub fn parse_prefix_neg<T: ParseNeg, const SKIP_ZEROES: bool>(
 /// `parse_skipped::<isize>(b"+007")` is `Ok(7)`. Mirrors `atoi_simd::parse_skipped`.
 #[inline(always)]
 pub fn parse_skipped<T: Parse>(s: &[u8]) -> Result<T, AtoiSimdError<'_>>
-    ensures answer { typed_answer T.number result ≡ parse_answer T.kind true true s.now }
-    ensures texts { IsOk result ↔ IsText T.kind s.now }
-    ensures number { IfOk result (λ number. TextWrites T.kind true s.now (T.number number)) }
-    ensures refused { OnErr result ((number : ℤ) → ¬ TextWrites T.kind true s.now number) }
+    ensures answer { typed_answer T.number result ≡ parse_answer T.int_type true true s.now }
+    ensures texts { IsOk result ↔ IsText T.int_type s.now }
+    ensures number { IfOk result (λ number. TextWrites T.int_type true s.now (T.number number)) }
+    ensures refused { OnErr result ((number : ℤ) → ¬ TextWrites T.int_type true s.now number) }
 {
     parse::<T, true, true>(s)
 }
@@ -247,10 +247,10 @@ pub fn parse_skipped<T: Parse>(s: &[u8]) -> Result<T, AtoiSimdError<'_>>
 #[inline(always)]
 pub fn parse_any<T: Parse>(s: &[u8]) -> Result<(T, usize), AtoiSimdError<'_>>
     ensures answer { typed_prefix_answer T.number result
-        ≡ parse_prefix_answer T.kind false false s.now }
+        ≡ parse_prefix_answer T.int_type false false s.now }
     ensures within { IfOk result (λ found. found.1 ≤ length s.now) }
     ensures front { IfOk result (λ found.
-        FrontWrites (TextWrites T.kind false) s.now (T.number found.0) found.1) }
+        PrefixWrites (TextWrites T.int_type false) s.now (T.number found.0) found.1) }
 {
     parse_prefix::<T, false, false>(s)
 }
@@ -261,10 +261,10 @@ pub fn parse_any<T: Parse>(s: &[u8]) -> Result<(T, usize), AtoiSimdError<'_>>
 #[inline(always)]
 pub fn parse_any_pos<T: Parse>(s: &[u8]) -> Result<(T, usize), AtoiSimdError<'_>>
     ensures answer { typed_prefix_answer T.number result
-        ≡ prefix_answer decimal_table T.kind false false s.now }
+        ≡ prefix_answer decimal_table T.int_type false false s.now }
     ensures within { IfOk result (λ found. found.1 ≤ length s.now) }
     ensures front { IfOk result (λ found.
-        FrontWrites (DigitsWrite T.kind false) s.now (T.number found.0) found.1) }
+        PrefixWrites (DigitsWrite T.int_type false) s.now (T.number found.0) found.1) }
 {
     parse_prefix_pos::<T, false>(s)
 }
@@ -275,10 +275,10 @@ pub fn parse_any_pos<T: Parse>(s: &[u8]) -> Result<(T, usize), AtoiSimdError<'_>
 #[inline(always)]
 pub fn parse_any_neg<T: ParseNeg>(s: &[u8]) -> Result<(T, usize), AtoiSimdError<'_>>
     ensures answer { typed_prefix_answer T.number result
-        ≡ prefix_answer decimal_table T.kind true false s.now }
+        ≡ prefix_answer decimal_table T.int_type true false s.now }
     ensures within { IfOk result (λ found. found.1 ≤ length s.now) }
     ensures front { IfOk result (λ found.
-        FrontWrites (DigitsWrite T.kind true) s.now (T.number found.0) found.1) }
+        PrefixWrites (DigitsWrite T.int_type true) s.now (T.number found.0) found.1) }
 {
     parse_prefix_neg::<T, false>(s)
 }

@@ -6,17 +6,17 @@
 //! functions with the same answers on `std::simd`. It uses `atoi_core` and `atoi_lanes`.
 #![tactic(auto)]
 
-mod any_sign;
+mod parse_trait;
 mod functions;
-mod negative;
-mod positive;
-mod reader;
+mod parse_neg_trait;
+mod parse_pos_trait;
+mod default_engine;
 
-pub use crate::any_sign::Parse;
+pub use crate::parse_trait::Parse;
 pub use crate::functions::{
     parse, parse_any, parse_any_neg, parse_any_pos, parse_neg, parse_pos, parse_prefix,
     parse_prefix_neg, parse_prefix_pos, parse_skipped,
 };
-pub use crate::negative::ParseNeg;
+pub use crate::parse_neg_trait::ParseNeg;
 pub use atoi_core::{AtoiSimdError, Number, Signed, laws};
 pub use atoi_lanes as lanes;

@@ -3,7 +3,7 @@ use Rattle.std.proofs.Common.{◌≡◌, ℕ, ◌+◌, List, [], ◌++◌, ◌�
 use Rattle.std.proofs.lemmas.List.{append-nil, take-append-le}
 use Rattle.std.proofs.Math.Seq.{take-add, take-append-add}
 use Rattle.std.specs.Io.KnownBytes.{Appends}
-use Rattle.atoi_tool.specs.Failures.{AppendsFront}
+use Rattle.atoi_tool.specs.Failures.{AppendsPrefix}
 
 -- nothing is appended where nothing changes
 pub Appends-nil : (held : Option (List ℕ)) → Appends held held []
@@ -37,7 +37,7 @@ IsPutUpTo-more old mid new whole part rest before more = record {
 }
 
 -- one more part is put in part
-pub IsPutUpTo-refused : (old mid new : Option (List ℕ)) (whole part rest : List ℕ) → IsPutUpTo old mid whole (part ++ rest) → AppendsFront mid new part → AppendsFront old new whole
+pub IsPutUpTo-refused : (old mid new : Option (List ℕ)) (whole part rest : List ℕ) → IsPutUpTo old mid whole (part ++ rest) → AppendsPrefix mid new part → AppendsPrefix old new whole
 IsPutUpTo-refused old mid new whole part rest before refused =
     let n = refused.0 in
     let within : n ≤ length part = omega (arith, refused.1) in
@@ -63,18 +63,18 @@ OnErr-any P (Ok value) h = tt
 OnErr-any P (Err error) h = h
 
 -- a beginning of the first of two parts
-pub AppendsFront-first : (old new : Option (List ℕ)) (xs ys : List ℕ) → AppendsFront old new xs → AppendsFront old new (xs ++ ys)
-AppendsFront-first old new xs ys refused =
+pub AppendsPrefix-first : (old new : Option (List ℕ)) (xs ys : List ℕ) → AppendsPrefix old new xs → AppendsPrefix old new (xs ++ ys)
+AppendsPrefix-first old new xs ys refused =
     IsPutUpTo-refused old old new (xs ++ ys) xs ys (IsPutUpTo-start old (xs ++ ys)) refused
 
 -- the first of two parts, and a beginning of the second
-pub AppendsFront-second : (old mid new : Option (List ℕ)) (xs ys : List ℕ) → Appends old mid xs → AppendsFront mid new ys → AppendsFront old new (xs ++ ys)
-AppendsFront-second old mid new xs ys first refused =
+pub AppendsPrefix-second : (old mid new : Option (List ℕ)) (xs ys : List ℕ) → Appends old mid xs → AppendsPrefix mid new ys → AppendsPrefix old new (xs ++ ys)
+AppendsPrefix-second old mid new xs ys first refused =
     IsPutUpTo-refused old mid new (xs ++ ys) ys []
     (record { front = xs; parts = ap (λ (back : List ℕ). xs ++ back) (sym (append-nil ys)); put = first }) refused
 
 -- the same of a call that may be refused
 pub OnErr-second : {A E : Type 0} (old mid new : Option (List ℕ)) (xs ys : List ℕ) (r : Result A E) → Appends old mid xs
-    → OnErr r (AppendsFront mid new ys) → OnErr r (AppendsFront old new (xs ++ ys))
+    → OnErr r (AppendsPrefix mid new ys) → OnErr r (AppendsPrefix old new (xs ++ ys))
 OnErr-second old mid new xs ys (Ok value) first h = tt
-OnErr-second old mid new xs ys (Err error) first h = AppendsFront-second old mid new xs ys first h
+OnErr-second old mid new xs ys (Err error) first h = AppendsPrefix-second old mid new xs ys first h

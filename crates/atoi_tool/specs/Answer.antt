@@ -6,7 +6,7 @@ use Rattle.std.specs.Fmt.{signed_decimal}
 use Rattle.atoi_core.specs.Digit.{decimal_table}
 use Rattle.atoi_core.specs.Refusal.{Refusal}
 use Rattle.atoi_core.specs.ErrorText.{error_text}
-use Rattle.atoi_core.specs.Kind.{Kind}
+use Rattle.atoi_core.specs.IntType.{IntType}
 use Rattle.atoi_core.specs.Answer.{parse_answer, parse_prefix_answer, whole_answer, prefix_answer}
 use Rattle.atoi_tool.specs.declared.request.Call.{Call}
 use Rattle.atoi_tool.specs.declared.request.Call.TheVariants.{Parse, Pos, Neg, Prefix, PrefixPos, PrefixNeg}
@@ -15,7 +15,7 @@ use Rattle.atoi_column.specs.Items.{Flaw, field, trailing, items_of}
 use Rattle.atoi_tool.specs.declared.request.Request.{Request}
 use Rattle.atoi_tool.specs.declared.request.Query.{Query}
 use Rattle.atoi_tool.specs.declared.request.Query.TheVariants.{Number, Column}
-use Rattle.atoi_tool.specs.Request.{kind_of}
+use Rattle.atoi_tool.specs.Request.{int_type_of}
 use Rattle.atoi_tool.specs.Row.{row_of}
 
 -- why there is no value
@@ -33,7 +33,7 @@ prefix_text (Ok found) = codes "ok " ++ signed_decimal found.0 ++ codes " " ++ d
 prefix_text (Err reason) = refusal_text reason
 
 -- what a call answers of a text
-abbrev pub call_text : Call → Kind → Flags → List ℕ → List ℕ
+abbrev pub call_text : Call → IntType → Flags → List ℕ → List ℕ
 call_text Parse k flags text = whole_text (parse_answer k flags.zeroes flags.plus text)
 call_text Pos k flags text = whole_text (whole_answer decimal_table k false flags.zeroes text)
 call_text Neg k flags text = whole_text (whole_answer decimal_table k true flags.zeroes text)
@@ -43,7 +43,7 @@ call_text PrefixNeg k flags text = prefix_text (prefix_answer decimal_table k tr
 
 -- the answer to a row about one number: the engines answer alike
 abbrev pub row_text : Request → List ℕ → List ℕ
-row_text request text = call_text request.call (kind_of request.integer) request.flags text
+row_text request text = call_text request.call (int_type_of request.integer) request.flags text
 
 -- why a field has no value, and where
 abbrev pub flaw_text : Flaw → List ℕ
@@ -57,13 +57,13 @@ item_text (Ok value) = codes " " ++ signed_decimal value
 item_text (Err flaw) = codes " err " ++ flaw_text flaw
 
 -- the items of a column in order
-abbrev pub column_text : Kind → (separator : ℕ) → List ℕ → List ℕ
+abbrev pub column_text : IntType → (separator : ℕ) → List ℕ → List ℕ
 column_text k separator text = codes "col" ++ flat_map item_text (items_of k separator text)
 
 -- the answer to a row of either form
 abbrev pub query_text : Query → List ℕ → List ℕ
 query_text (Number request) text = row_text request text
-query_text (Column integer separator) text = column_text (kind_of integer) separator text
+query_text (Column integer separator) text = column_text (int_type_of integer) separator text
 
 -- the line is a row that there is an answer to
 abbrev pub is_good_line : List ℕ → Bool

@@ -8,5 +8,5 @@ failures_of (Ok value) = 0
 failures_of (Err error) = 1
 
 -- known bytes grow by a front of `bytes` that is not all of them
-abbrev pub AppendsFront : Option (List ℕ) → Option (List ℕ) → List ℕ → Type 0
-AppendsFront old new bytes = (count : ℕ) × (count < length bytes) × Appends old new (take count bytes)
+abbrev pub AppendsPrefix : Option (List ℕ) → Option (List ℕ) → List ℕ → Type 0
+AppendsPrefix old new bytes = (count : ℕ) × (count < length bytes) × Appends old new (take count bytes)

@@ -1,8 +1,8 @@
 -- What the words of a row name, and which rows there are.
 use Rattle.std.specs.Prelude.{Option, Some, None, Bool, true, false, List, ℕ, codes, ◌&&◌, if◌then◌else◌}
 use Rattle.std.specs.Str.{bytes_eq}
-use Rattle.atoi_core.specs.Kind.{Kind}
-use Rattle.atoi_core.specs.Kinds.{u8_kind, i8_kind, u16_kind, i16_kind, u32_kind, i32_kind, u64_kind, i64_kind, u128_kind, i128_kind, usize_kind, isize_kind}
+use Rattle.atoi_core.specs.IntType.{IntType}
+use Rattle.atoi_core.specs.IntTypes.{u8_type, i8_type, u16_type, i16_type, u32_type, i32_type, u64_type, i64_type, u128_type, i128_type, usize_type, isize_type}
 use Rattle.atoi_tool.specs.declared.request.Engine.{Engine}
 use Rattle.atoi_tool.specs.declared.request.Engine.TheVariants.{Words, Lanes}
 use Rattle.atoi_tool.specs.declared.request.Call.{Call}
@@ -49,19 +49,19 @@ flags_of word =
     else (if bytes_eq word (codes "zp") then Some (flags true true) else None)))
 
 -- what a parse has to know of a type
-abbrev pub kind_of : Integer → Kind
-kind_of U8 = u8_kind
-kind_of I8 = i8_kind
-kind_of U16 = u16_kind
-kind_of I16 = i16_kind
-kind_of U32 = u32_kind
-kind_of I32 = i32_kind
-kind_of U64 = u64_kind
-kind_of I64 = i64_kind
-kind_of U128 = u128_kind
-kind_of I128 = i128_kind
-kind_of Usize = usize_kind
-kind_of Isize = isize_kind
+abbrev pub int_type_of : Integer → IntType
+int_type_of U8 = u8_type
+int_type_of I8 = i8_type
+int_type_of U16 = u16_type
+int_type_of I16 = i16_type
+int_type_of U32 = u32_type
+int_type_of I32 = i32_type
+int_type_of U64 = u64_type
+int_type_of I64 = i64_type
+int_type_of U128 = u128_type
+int_type_of I128 = i128_type
+int_type_of Usize = usize_type
+int_type_of Isize = isize_type
 
 -- the call takes a sign at the front of its text
 abbrev pub takes_sign : Call → Bool
@@ -80,4 +80,4 @@ is_negative call = false
 abbrev pub is_known : Request → Bool
 is_known request =
     (if request.flags.plus then takes_sign request.call else true)
-    && (if is_negative request.call then (kind_of request.integer).signed else true)
+    && (if is_negative request.call then (int_type_of request.integer).signed else true)

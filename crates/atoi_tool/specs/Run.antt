@@ -4,7 +4,7 @@ use Rattle.std.specs.Io.KnownBytes.{Consumes, IsAtEnd, Appends, Keeps}
 use Rattle.atoi_tool.specs.declared.run.Ended.{Ended}
 use Rattle.atoi_tool.specs.declared.status.ToolError.{ToolError}
 use Rattle.atoi_tool.specs.declared.status.ToolError.TheVariants.{Memory, Read, Write}
-use Rattle.atoi_tool.specs.Failures.{AppendsFront}
+use Rattle.atoi_tool.specs.Failures.{AppendsPrefix}
 use Rattle.atoi_tool.specs.Output.{output_of, is_good_input}
 
 -- whether no line was bad, or what stopped the run
@@ -21,7 +21,7 @@ IsAnswered rest rest_after held held_after is_good =
 abbrev pub IsCutShort : (rest rest_after held held_after : Option (List ℕ)) → Type 0
 IsCutShort rest rest_after held held_after =
     (input : List ℕ) × Consumes rest rest_after input × IsAtEnd rest_after
-    × AppendsFront held held_after (output_of input)
+    × AppendsPrefix held held_after (output_of input)
 
 -- what a run leaves that was stopped: where it could not read, the sink got nothing
 abbrev pub IsStopped : (rest rest_after held held_after : Option (List ℕ)) → ToolError → Type 0

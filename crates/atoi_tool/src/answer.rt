@@ -14,7 +14,7 @@ fn answer_any<T: atoi_simd::Parse + lanes::Parse>(request: &Request, text: &[u8]
     requires call { is_negative request.now.call ≡ false }
     requires empty { out.old ≡ [] }
     ensures text { out.new
-        ≡ call_text request.now.call T.kind request.now.flags text.now }
+        ≡ call_text request.now.call T.int_type request.now.flags text.now }
     ensures length { length out.new ≤ LONGEST }
 {
     let Request { engine, flags, .. } = *request;
@@ -35,7 +35,7 @@ fn answer_signed<T: atoi_simd::Parse + lanes::Parse + atoi_simd::ParseNeg + lane
 )
     requires empty { out.old ≡ [] }
     ensures text { out.new
-        ≡ call_text request.now.call T.kind request.now.flags text.now }
+        ≡ call_text request.now.call T.int_type request.now.flags text.now }
     ensures length { length out.new ≤ LONGEST }
 {
     let Request { engine, flags, .. } = *request;

@@ -15,7 +15,7 @@ pub fn parse<T: atoi_simd::Parse + lanes::Parse>(
     text: &[u8],
 ) -> Result<T, AtoiSimdError<'_>>
     ensures { typed_answer T.number result
-        ≡ parse_answer T.kind flags.zeroes flags.plus text.now }
+        ≡ parse_answer T.int_type flags.zeroes flags.plus text.now }
 {
     match (engine, flags.zeroes, flags.plus) {
         (Engine::Words, false, false) => atoi_simd::parse::<T, false, false>(text),
@@ -36,7 +36,7 @@ pub fn parse_pos<T: atoi_simd::Parse + lanes::Parse>(
     text: &[u8],
 ) -> Result<T, AtoiSimdError<'_>>
     ensures { typed_answer T.number result
-        ≡ whole_answer decimal_table T.kind false flags.zeroes text.now }
+        ≡ whole_answer decimal_table T.int_type false flags.zeroes text.now }
 {
     match (engine, flags.zeroes) {
         (Engine::Words, false) => atoi_simd::parse_pos::<T, false>(text),
@@ -54,7 +54,7 @@ pub fn parse_neg<T: atoi_simd::ParseNeg + lanes::ParseNeg>(
     text: &[u8],
 ) -> Result<T, AtoiSimdError<'_>>
     ensures { typed_answer T.number result
-        ≡ whole_answer decimal_table T.kind true flags.zeroes text.now }
+        ≡ whole_answer decimal_table T.int_type true flags.zeroes text.now }
 {
     match (engine, flags.zeroes) {
         (Engine::Words, false) => atoi_simd::parse_neg::<T, false>(text),
@@ -71,7 +71,7 @@ pub fn parse_prefix<T: atoi_simd::Parse + lanes::Parse>(
     text: &[u8],
 ) -> Result<(T, usize), AtoiSimdError<'_>>
     ensures { typed_prefix_answer T.number result
-        ≡ parse_prefix_answer T.kind flags.zeroes flags.plus text.now }
+        ≡ parse_prefix_answer T.int_type flags.zeroes flags.plus text.now }
 {
     match (engine, flags.zeroes, flags.plus) {
         (Engine::Words, false, false) => atoi_simd::parse_prefix::<T, false, false>(text),
@@ -93,7 +93,7 @@ pub fn parse_prefix_pos<T: atoi_simd::Parse + lanes::Parse>(
     text: &[u8],
 ) -> Result<(T, usize), AtoiSimdError<'_>>
     ensures { typed_prefix_answer T.number result
-        ≡ prefix_answer decimal_table T.kind
+        ≡ prefix_answer decimal_table T.int_type
         false flags.zeroes text.now }
 {
     match (engine, flags.zeroes) {
@@ -112,7 +112,7 @@ pub fn parse_prefix_neg<T: atoi_simd::ParseNeg + lanes::ParseNeg>(
     text: &[u8],
 ) -> Result<(T, usize), AtoiSimdError<'_>>
     ensures { typed_prefix_answer T.number result
-        ≡ prefix_answer decimal_table T.kind true flags.zeroes text.now }
+        ≡ prefix_answer decimal_table T.int_type true flags.zeroes text.now }
 {
     match (engine, flags.zeroes) {
         (Engine::Words, false) => atoi_simd::parse_prefix_neg::<T, false>(text),

@@ -4,8 +4,8 @@ ghost use Rattle.std.specs.Prelude.{◌≡◌, ◌+◌, ◌++◌, true, codes, O
 ghost use Rattle.std.specs.List.{flat_map};
 ghost use Rattle.std.specs.Io.KnownBytes.{Appends};
 ghost use Rattle.atoi_column.specs.Fields.{is_separator};
-ghost use Rattle.atoi_tool.specs.Failures.{failures_of, AppendsFront};
-ghost use Rattle.atoi_tool.specs.Request.{kind_of};
+ghost use Rattle.atoi_tool.specs.Failures.{failures_of, AppendsPrefix};
+ghost use Rattle.atoi_tool.specs.Request.{int_type_of};
 ghost use Rattle.atoi_tool.specs.Answer.{item_text, column_text};
 
 use crate::line::Line;
@@ -22,7 +22,7 @@ fn put_items<T: Parse, S: Sink>(column: Column<'_, T>, output: &mut S) -> Result
     ensures ok { OnOk result
         (Appends (S.held output.old) (S.held output.new) (flat_map item_text column.entry)) }
     ensures err { OnErr result
-        (AppendsFront (S.held output.old) (S.held output.new) (flat_map item_text column.entry)) }
+        (AppendsPrefix (S.held output.old) (S.held output.new) (flat_map item_text column.entry)) }
     ensures failures { S.failures output.new ≡ S.failures output.old + failures_of result }
 {
     for item in column {
@@ -41,9 +41,9 @@ fn put_items_of<T: Parse, S: Sink>(
 ) -> Result<(), Refused>
     requires { is_separator separator ≡ true }
     ensures ok { OnOk result (Appends (S.held output.old) (S.held output.new)
-        (column_text T.kind separator text.now)) }
-    ensures err { OnErr result (AppendsFront (S.held output.old) (S.held output.new)
-        (column_text T.kind separator text.now)) }
+        (column_text T.int_type separator text.now)) }
+    ensures err { OnErr result (AppendsPrefix (S.held output.old) (S.held output.new)
+        (column_text T.int_type separator text.now)) }
     ensures failures { S.failures output.new ≡ S.failures output.old + failures_of result }
 {
     put_all(b"col", output)?;
@@ -63,9 +63,9 @@ pub fn put_column<S: Sink>(
 ) -> Result<(), Refused>
     requires { is_separator separator ≡ true }
     ensures ok { OnOk result (Appends (S.held output.old) (S.held output.new)
-        (column_text (kind_of integer) separator text.now)) }
-    ensures err { OnErr result (AppendsFront (S.held output.old) (S.held output.new)
-        (column_text (kind_of integer) separator text.now)) }
+        (column_text (int_type_of integer) separator text.now)) }
+    ensures err { OnErr result (AppendsPrefix (S.held output.old) (S.held output.new)
+        (column_text (int_type_of integer) separator text.now)) }
     ensures failures { S.failures output.new ≡ S.failures output.old + failures_of result }
 {
     match integer {

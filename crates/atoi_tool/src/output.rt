@@ -3,7 +3,7 @@
 //! `atoi_column`.
 ghost use Rattle.std.specs.Prelude.{◌≡◌, ◌+◌, ◌<◌, [], ◌∷◌, length, IfOk, IfErr, OnOk, OnErr};
 ghost use Rattle.std.specs.Io.KnownBytes.{Appends};
-ghost use Rattle.atoi_tool.specs.Failures.{failures_of, AppendsFront};
+ghost use Rattle.atoi_tool.specs.Failures.{failures_of, AppendsPrefix};
 ghost use Rattle.atoi_tool.specs.Row.{IsAnswered};
 ghost use Rattle.atoi_tool.specs.Answer.{is_good_line};
 ghost use Rattle.atoi_tool.specs.Output.{lines_of, row_output, line_output, output_of, is_good_input};
@@ -40,7 +40,7 @@ fn put_row<S: Sink>(query: Query, text: &[u8], output: &mut S) -> Result<(), Ref
     ensures ok { OnOk result
         (Appends (S.held output.old) (S.held output.new) (row_output query text.now)) }
     ensures err { OnErr result
-        (AppendsFront (S.held output.old) (S.held output.new) (row_output query text.now)) }
+        (AppendsPrefix (S.held output.old) (S.held output.new) (row_output query text.now)) }
     ensures failures { S.failures output.new ≡ S.failures output.old + failures_of result }
 {
     match query {
@@ -63,7 +63,7 @@ fn put_answer<S: Sink>(line: &[u8], output: &mut S) -> Result<bool, Refused>
         (Appends (S.held output.old) (S.held output.new) (line_output line.now)) }
     ensures good { IfOk result (λ good. good ≡ is_good_line line.now) }
     ensures err { OnErr result
-        (AppendsFront (S.held output.old) (S.held output.new) (line_output line.now)) }
+        (AppendsPrefix (S.held output.old) (S.held output.new) (line_output line.now)) }
     ensures failures { S.failures output.new ≡ S.failures output.old + failures_of result }
 {
     match row_of(line) {
@@ -90,7 +90,7 @@ pub fn answer_lines<S: Sink>(input: &[u8], output: &mut S) -> Result<bool, ToolE
         (Appends (S.held output.old) (S.held output.new) (output_of input.now)) }
     ensures good { IfOk result (λ good. good ≡ is_good_input input.now) }
     ensures front { OnErr result
-        (AppendsFront (S.held output.old) (S.held output.new) (output_of input.now)) }
+        (AppendsPrefix (S.held output.old) (S.held output.new) (output_of input.now)) }
     ensures write { IfErr result (λ error. error ≡ ToolError.Write) }
     ensures failures { S.failures output.new ≡ S.failures output.old + failures_of result }
 {

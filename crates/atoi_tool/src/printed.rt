@@ -3,7 +3,7 @@
 ghost use Rattle.std.specs.Prelude.{◌≡◌, ◌+◌, ◌≤◌, [], ◌++◌, length, decimal, codes};
 ghost use Rattle.std.specs.Fmt.{signed_decimal};
 ghost use Rattle.atoi_core.specs.Refusal.{refusal_of};
-ghost use Rattle.atoi_core.specs.Sign.{number_of};
+ghost use Rattle.atoi_core.specs.Sign.{with_sign};
 ghost use Rattle.atoi_core.specs.Answer.{typed_answer, typed_prefix_answer};
 ghost use Rattle.atoi_core.specs.ErrorText.{error_text};
 ghost use Rattle.atoi_column.specs.Items.{flaw_of, item_of};
@@ -38,7 +38,7 @@ fn push_decimal(value: u128, out: &mut Line)
 // Appends a number in decimal, with a `-` before a negative one.
 fn push_number(minus: bool, magnitude: u128, out: &mut Line)
     requires { length out.old + 1 + DIGITS ≤ ROOM }
-    ensures text { out.new ≡ out.old ++ signed_decimal (number_of minus magnitude) }
+    ensures text { out.new ≡ out.old ++ signed_decimal (with_sign minus magnitude) }
     ensures length { length out.new ≤ length out.old + 1 + DIGITS }
 {
     if minus && magnitude > 0 {

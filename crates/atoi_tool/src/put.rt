@@ -1,7 +1,7 @@
 //! All of some bytes, put to a sink. It uses the trait `Sink`, and `refused`.
 ghost use Rattle.std.specs.Prelude.{◌≡◌, ◌+◌, OnOk, OnErr};
 ghost use Rattle.std.specs.Io.KnownBytes.{Appends};
-ghost use Rattle.atoi_tool.specs.Failures.{failures_of, AppendsFront};
+ghost use Rattle.atoi_tool.specs.Failures.{failures_of, AppendsPrefix};
 
 use crate::refused::Refused;
 use crate::sink::Sink;
@@ -13,7 +13,7 @@ use crate::sink::Sink;
 /// `Refused` where a put was refused, and then a beginning of `bytes` was put.
 pub fn put_all<S: Sink>(bytes: &[u8], output: &mut S) -> Result<(), Refused>
     ensures ok { OnOk result (Appends (S.held output.old) (S.held output.new) bytes.now) }
-    ensures err { OnErr result (AppendsFront (S.held output.old) (S.held output.new) bytes.now) }
+    ensures err { OnErr result (AppendsPrefix (S.held output.old) (S.held output.new) bytes.now) }
     ensures failures { S.failures output.new ≡ S.failures output.old + failures_of result }
 {
     let mut done = 0;

@@ -1,6 +1,6 @@
 //! What a row asks for, but for its text, and the words that say it. It uses a law of `atoi_core`.
 ghost use Rattle.std.specs.Prelude.{◌≡◌};
-ghost use Rattle.atoi_tool.specs.Request.{engine_of, call_of, integer_of, flags_of, kind_of, takes_sign, is_negative, is_known};
+ghost use Rattle.atoi_tool.specs.Request.{engine_of, call_of, integer_of, flags_of, int_type_of, takes_sign, is_negative, is_known};
 
 use atoi_core::derived::clones_are_the_same;
 
@@ -79,7 +79,7 @@ pub enum Integer {
 impl Integer {
     /// Whether the type has negative numbers.
     pub fn is_signed(self) -> bool
-        ensures { result ≡ (kind_of self).signed }
+        ensures { result ≡ (int_type_of self).signed }
     {
         matches!(
             self,

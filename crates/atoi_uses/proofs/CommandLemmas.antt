@@ -2,7 +2,7 @@
 use Rattle.std.proofs.Common.{◌≡◌, ◌≢◌, ℕ, true, List, drop, ℤ, Ok, refl, sym, ap, ◌∙◌, arith}
 use Rattle.std.specs.Prelude.{slice_index}
 use Rattle.atoi_core.specs.Answer.{parse_answer}
-use Rattle.atoi_core.specs.Kinds.{i64_kind}
+use Rattle.atoi_core.specs.IntTypes.{i64_type}
 use Rattle.atoi_core.specs.Laws.{AcceptedTexts}
 use Rattle.atoi_uses.specs.Commands.{HasWord, IsCommand}
 use Rattle.atoi_uses.specs.declared.commands.Command.{Command}
@@ -21,8 +21,8 @@ one_word line IncrBy Set s t h k = absurd (first_apart line 73 83 (ap (λ l. sli
 one_word line IncrBy IncrBy s t h k = (refl, ap (drop 7) (sym h ∙ k))
 
 -- a line is one command at most: that of its word, and of the number that the text after it writes
-pub only_command : AcceptedTexts i64_kind → (line text : List ℕ) (word : Word) (number : ℤ) → HasWord line word text
-    → parse_answer i64_kind true true text ≡ Ok number
+pub only_command : AcceptedTexts i64_type → (line text : List ℕ) (word : Word) (number : ℤ) → HasWord line word text
+    → parse_answer i64_type true true text ≡ Ok number
     → (command : Command) → IsCommand line command → record { word = word; number = number } ≡ command
 only_command law line text word number has ok command is =
     let one = one_word line word command.word text is.text has is.parts in

@@ -3,7 +3,7 @@ use Rattle.std.proofs.Common.{◌≡◌, ℕ, suc, true, false, List, [], ◌∷
 use Rattle.std.specs.List.{AllPass}
 use Rattle.std.proofs.lemmas.Bool.{ne_eqb}
 use Rattle.std.proofs.lemmas.List.Elements.{All-nil, All-cons}
-use Rattle.atoi_simd.specs.Kinds.{u64_kind}
+use Rattle.atoi_simd.specs.IntTypes.{u64_type}
 use Rattle.atoi_simd.specs.Laws.{DecimalTexts}
 use Rattle.atoi_simd.specs.Text.{BeginsWithDigit}
 use Rattle.atoi_uses.specs.Headers.{IsContentLength, is_blank, without_blanks}
@@ -27,7 +27,7 @@ blanks_before (byte ∷ bytes) =
       | false ↦ λ is. ([], (All-nil (λ byte. is_blank byte ≡ true), refl))
     ] refl
 
-module _ (decimals : DecimalTexts u64_kind) (value : List ℕ) (any : ℕ) (h : IsContentLength value any) where
+module _ (decimals : DecimalTexts u64_type) (value : List ℕ) (any : ℕ) (h : IsContentLength value any) where
   pub field_is : without_blanks value ≡ h.digits ++ h.after
   field_is = ap without_blanks h.parts ∙ blanks_gone h.before (h.digits ++ h.after) h.blank_before
       ∙ digit_kept h.digits h.after (decimals.begins false h.digits (pos any) h.written)

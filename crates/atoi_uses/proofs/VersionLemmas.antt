@@ -1,16 +1,16 @@
 -- The parts of a version: the first is a front that writes its number, and the others stand after it.
 use Rattle.std.proofs.Common.{◌≡◌, ℕ, false, List, [], ◌∷◌, length, pos, ap, ◌∙◌, subst, arith}
-use Rattle.atoi_simd.specs.Kinds.{u32_kind}
-use Rattle.atoi_simd.specs.Laws.{positive, FrontsAndRests}
-use Rattle.atoi_simd.specs.Text.{DigitsWrite, FrontWrites}
+use Rattle.atoi_simd.specs.IntTypes.{u32_type}
+use Rattle.atoi_simd.specs.Laws.{positive, PrefixesAndRests}
+use Rattle.atoi_simd.specs.Text.{DigitsWrite, PrefixWrites}
 use Rattle.atoi_uses.specs.Versions.{IsPart, IsVersion, dot}
 use Rattle.atoi_uses.specs.declared.versions.Version.{Version}
 
 -- a part is a front that writes its number
-pub front_of : FrontsAndRests u32_kind → (text : List ℕ) (number : ℕ) (rest : List ℕ) (h : IsPart text number rest)
-    → FrontWrites (DigitsWrite u32_kind false) text (pos number) (length h.digits)
+pub front_of : PrefixesAndRests u32_type → (text : List ℕ) (number : ℕ) (rest : List ℕ) (h : IsPart text number rest)
+    → PrefixWrites (DigitsWrite u32_type false) text (pos number) (length h.digits)
 front_of law text number rest h =
-    let written : DigitsWrite u32_kind false h.digits (pos number) =
+    let written : DigitsWrite u32_type false h.digits (pos number) =
     record { numeral = h.numeral; in_range = omega (arith, h.value_is, h.in_range); value_is = ap pos h.value_is } in
     law.joined positive text h.digits rest (pos number) h.parts written h.ends
 

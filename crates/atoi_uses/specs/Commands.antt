@@ -2,7 +2,7 @@
 use Rattle.std.specs.Prelude.{◌≡◌, ℕ, true, Option, Some, None, List, ◌++◌, Err, codes}
 use Rattle.atoi_core.specs.Answer.{parse_answer}
 use Rattle.atoi_core.specs.ErrorText.{error_text as cause_text}
-use Rattle.atoi_core.specs.Kinds.{i64_kind}
+use Rattle.atoi_core.specs.IntTypes.{i64_type}
 use Rattle.atoi_core.specs.Refusal.{Refusal, refusal_of}
 use Rattle.atoi_core.specs.Text.{TextWrites}
 use Rattle.atoi_uses.specs.declared.commands.Command.{Command}
@@ -24,7 +24,7 @@ HasWord line word text = line ≡ word_text word ++ codes " " ++ text
 pub record IsCommand (line : List ℕ) (command : Command) : Type 0 where
   pub text : List ℕ
   pub parts : HasWord line command.word text
-  pub written : TextWrites i64_kind true text command.number
+  pub written : TextWrites i64_type true text command.number
 
 -- what an error says of the line: it begins with no word and space; or it does, and `parse` refuses
 -- the text after them for that reason
@@ -32,7 +32,7 @@ abbrev pub Refuses : List ℕ → CommandError → Type 0
 Refuses line UnknownWord = (word : Word) (text : List ℕ) → ¬ HasWord line word text
 Refuses line (BadNumber cause) =
     (word : Word) × ((text : List ℕ)
-    × (HasWord line word text × (parse_answer i64_kind true true text ≡ Err (refusal_of cause))))
+    × (HasWord line word text × (parse_answer i64_type true true text ≡ Err (refusal_of cause))))
 
 -- what an error says of the number, if it says that there is none
 abbrev pub cause_of : CommandError → Option Refusal

@@ -1,7 +1,7 @@
 -- The value of a header `Content-Length`.
 use Rattle.std.specs.Prelude.{◌≡◌, ℕ, Bool, false, ◌||◌, ◌==◌, if◌then◌else◌, List, [], ◌∷◌, ◌++◌, pos}
 use Rattle.std.specs.List.{AllPass}
-use Rattle.atoi_simd.specs.Kinds.{u64_kind}
+use Rattle.atoi_simd.specs.IntTypes.{u64_type}
 use Rattle.atoi_simd.specs.Text.{DigitsWrite}
 
 -- a space or a tab
@@ -21,4 +21,4 @@ pub record IsContentLength (value : List ℕ) (content_length : ℕ) : Type 0 wh
   pub parts : value ≡ before ++ (digits ++ after)
   pub blank_before : AllPass is_blank before
   pub blank_after : AllPass is_blank after
-  pub written : DigitsWrite u64_kind false digits (pos content_length)
+  pub written : DigitsWrite u64_type false digits (pos content_length)

@@ -1,6 +1,6 @@
 -- The integers of JSON, in the words of its grammar.
 use Rattle.std.specs.Prelude.{◌≡◌, ℕ, Bool, true, false, ◌&&◌, ◌||◌, not, ◌==◌, IsFalse, List, [], ◌∷◌, ◌++◌, codes, length, ℤ}
-use Rattle.atoi_simd.specs.Kinds.{i64_kind}
+use Rattle.atoi_simd.specs.IntTypes.{i64_type}
 use Rattle.atoi_simd.specs.Text.{DigitsWrite, BeginsWithDigit}
 
 -- what stands before the digits
@@ -21,6 +21,6 @@ pub record IsJsonInteger (text : List ℕ) (number : ℤ) (rest : List ℕ) : Ty
   pub is_negative : Bool
   pub digits : List ℕ
   pub parts : text ≡ minus_of is_negative ++ digits ++ rest
-  pub written : DigitsWrite i64_kind is_negative digits number
+  pub written : DigitsWrite i64_type is_negative digits number
   pub no_leading_zero : IsFalse (leads_with_zero (minus_of is_negative ++ digits))
   pub ends : ¬ BeginsWithDigit rest

@@ -1,7 +1,7 @@
 -- The columns of a log line: the fields between commas after its last space.
 use Rattle.std.specs.Prelude.{◌≡◌, ℕ, ◌+◌, ◌-◌, ◌^◌, ◌≤◌, ◌==◌, true, List, ◌++◌, length, map, sum, pos, codes, decimal}
 use Rattle.std.specs.List.{AllZip, after_last}
-use Rattle.atoi_core.specs.Kinds.{u64_kind}
+use Rattle.atoi_core.specs.IntTypes.{u64_type}
 use Rattle.atoi_core.specs.Text.{TextWrites}
 use Rattle.atoi_column.specs.Fields.{fields_of}
 use Rattle.atoi_column.specs.Laws.{IsFirstBad}
@@ -22,7 +22,7 @@ columns_of line = after_last (λ byte. byte == space) line
 abbrev pub HasTotal : List ℕ → ℕ → Type 0
 HasTotal line total =
     (numbers : List ℕ)
-    × (AllZip (TextWrites u64_kind true) (fields_of comma (columns_of line)) (map pos numbers)
+    × (AllZip (TextWrites u64_type true) (fields_of comma (columns_of line)) (map pos numbers)
     × (total ≡ sum numbers))
 
 -- what an error says of the line: that field is the first of its columns that is no text of a
@@ -30,7 +30,7 @@ HasTotal line total =
 abbrev pub Refuses : List ℕ → LogError → Type 0
 Refuses line (BadField index place) =
     (place_in_columns : ℕ)
-    × (IsFirstBad u64_kind comma (columns_of line) index place_in_columns
+    × (IsFirstBad u64_type comma (columns_of line) index place_in_columns
     × (place ≡ length line - length (columns_of line) + place_in_columns))
 Refuses line (TooLarge total) = HasTotal line total × (2 ^ 64 ≤ total)
 

@@ -3,7 +3,7 @@ use Rattle.std.specs.Prelude.{◌≡◌, ℕ, true, List, ◌++◌, ℤ, pos, �
 use Rattle.std.specs.Int.{w64}
 use Rattle.std.specs.List.{AllZip}
 use Rattle.std.specs.Fmt.{signed_decimal}
-use Rattle.atoi_core.specs.Kinds.{i64_kind}
+use Rattle.atoi_core.specs.IntTypes.{i64_type}
 use Rattle.atoi_core.specs.Text.{TextWrites}
 use Rattle.atoi_column.specs.ErrorText.{flaw_text}
 use Rattle.atoi_column.specs.Fields.{fields_of}
@@ -19,13 +19,13 @@ sum_of numbers = fold ◌+ℤ◌ (pos 0) numbers
 abbrev pub HasTotal : (separator : ℕ) → List ℕ → ℤ → Type 0
 HasTotal separator input total =
     (numbers : List ℤ)
-    × (AllZip (TextWrites i64_kind true) (fields_of separator input) numbers × (total ≡ sum_of numbers))
+    × (AllZip (TextWrites i64_type true) (fields_of separator input) numbers × (total ≡ sum_of numbers))
 
 -- what an error says of the input: that field is the first that is no text of an `i64`; or the total
 -- does not fit in one
 abbrev pub Refuses : (separator : ℕ) → List ℕ → SignedTotalError → Type 0
 Refuses separator input (BadField error) =
-    IsFirstBad i64_kind separator input (index_of (flaw_of error)) (place_of (flaw_of error))
+    IsFirstBad i64_type separator input (index_of (flaw_of error)) (place_of (flaw_of error))
 Refuses separator input (OutOfRange total) = HasTotal separator input total × ¬ FitsSigned w64 total
 
 -- the text of an error

@@ -7,7 +7,7 @@ ghost use Rattle.atoi_uses.specs.Versions.{dot};
 ghost use Rattle.atoi_uses.specs.declared.addresses.Address.{Address as AddressValue};
 
 use crate::versions::after_dot;
-use atoi_simd::laws::{decimal_texts, fronts_and_rests};
+use atoi_simd::laws::{decimal_texts, prefixes_and_rests};
 use atoi_simd::{parse_pos, parse_prefix_pos};
 
 /// An IPv4 address.
@@ -53,7 +53,7 @@ fn octet_and_dot(text: &[u8]) -> Option<(u8, &[u8])>
 {
     // The laws. The calls do nothing.
     decimal_texts::<u8>();
-    fronts_and_rests::<u8>();
+    prefixes_and_rests::<u8>();
     let Ok((octet, count)) = parse_prefix_pos::<u8, true>(text) else {
         return None;
     };

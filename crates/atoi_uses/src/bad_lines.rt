@@ -1,7 +1,7 @@
 //! A total that names the first bad line by its number, from 1. It uses `totals`, and its function
 //! has no proof file.
 ghost use Rattle.std.specs.Prelude.{◌≡◌, ◌+◌, ◌++◌, ℕ, List, Ok, IfOk, IfErr, map, pos, sum, codes, decimal};
-ghost use Rattle.atoi_core.specs.Kinds.{u64_kind};
+ghost use Rattle.atoi_core.specs.IntTypes.{u64_type};
 ghost use Rattle.atoi_column.specs.ErrorText.{flaw_text};
 ghost use Rattle.atoi_column.specs.Items.{flaw_of, index_of, items_of, place_of};
 ghost use Rattle.atoi_column.specs.Laws.{IsFirstBad};
@@ -29,9 +29,9 @@ pub struct BadLine<'a> {
 /// The first line that is no number of `u64`: `total_or_bad_line(b"7\n8x\n9")` names line 2.
 pub fn total_or_bad_line(lines: &[u8]) -> Result<u128, BadLine<'_>>
     ensures all { IfOk result (λ total. (numbers : List ℕ)
-        × (items_of u64_kind NEWLINE lines.now ≡ map Ok (map pos numbers))
+        × (items_of u64_type NEWLINE lines.now ≡ map Ok (map pos numbers))
         × (total ≡ sum numbers)) }
-    ensures first_bad { IfErr result (λ bad. IsFirstBad u64_kind NEWLINE lines.now
+    ensures first_bad { IfErr result (λ bad. IsFirstBad u64_type NEWLINE lines.now
         (index_of (flaw_of bad.error)) (place_of (flaw_of bad.error))) }
     ensures line { IfErr result (λ bad. bad.line ≡ index_of (flaw_of bad.error) + 1) }
 {

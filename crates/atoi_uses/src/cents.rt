@@ -2,7 +2,7 @@
 //! and owes the same answers.
 ghost use Rattle.std.specs.Prelude.{true, refl};
 ghost use Rattle.std.proofs.Common.{inl, inr};
-ghost use Rattle.atoi_core.specs.Kinds.{i64_kind};
+ghost use Rattle.atoi_core.specs.IntTypes.{i64_type};
 
 use atoi_core::{Number, Signed};
 use atoi_simd::{AtoiSimdError, ParseNeg};
@@ -24,7 +24,7 @@ impl Number for Cents {
 
     ghost GREATEST = { 9223372036854775807 };
 
-    ghost kind = { i64_kind };
+    ghost int_type = { i64_type };
 
     ghost number = { λ amount. amount.0 };
 
@@ -36,7 +36,7 @@ impl Number for Cents {
         self.0.parts()
     }
 
-    ghost kind_is = { record { bits_are = refl; sign_is = refl; greatest_is = refl } };
+    ghost type_is = { record { bits_are = refl; sign_is = refl; greatest_is = refl } };
 
     ghost sized = { record { bits = inr (inr (inr (inl refl))); greatest = refl } };
 }

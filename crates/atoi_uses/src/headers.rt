@@ -3,7 +3,7 @@
 ghost use Rattle.std.specs.Prelude.{◌≡◌, ℕ, IfSome, IfNone};
 ghost use Rattle.atoi_uses.specs.Headers.{IsContentLength, without_blanks};
 
-use atoi_simd::laws::{decimal_texts, fronts_and_rests};
+use atoi_simd::laws::{decimal_texts, prefixes_and_rests};
 use atoi_simd::parse_prefix_pos;
 
 /// The length that the value of a header `Content-Length` is: the digits of a number of `u64`, with
@@ -17,7 +17,7 @@ pub fn content_length(value: &[u8]) -> Option<u64>
 {
     // The laws. The calls do nothing.
     decimal_texts::<u64>();
-    fronts_and_rests::<u64>();
+    prefixes_and_rests::<u64>();
     let field = without_blanks(value);
     let Ok((length, count)) = parse_prefix_pos::<u64, true>(field) else {
         return None;

@@ -4,7 +4,7 @@
 ghost use Rattle.std.specs.Prelude.{◌≡◌, ℕ, ℤ, List, IfSome, IfNone};
 ghost use Rattle.atoi_uses.specs.Json.{IsJsonInteger, leads_with_zero};
 
-use atoi_simd::laws::fronts_and_rests;
+use atoi_simd::laws::prefixes_and_rests;
 use atoi_simd::parse_prefix;
 
 /// The integer at the front of `text`, as JSON writes one, and what stands after it: of `-40,7`
@@ -18,7 +18,7 @@ pub fn json_integer(text: &[u8]) -> Option<(i64, &[u8])>
         → ¬ IsJsonInteger text.now number rest) }
 {
     // The law that a slice has one front that writes a number. The call does nothing.
-    fronts_and_rests::<i64>();
+    prefixes_and_rests::<i64>();
     let Ok((number, count)) = parse_prefix::<i64, true, false>(text) else {
         return None;
     };

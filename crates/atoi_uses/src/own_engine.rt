@@ -5,7 +5,7 @@ ghost use Rattle.std.specs.Prelude.{◌≡◌, ◌≤◌, true, false, IfOk, len
 ghost use Rattle.std.proofs.Common.{arith};
 ghost use Rattle.std.proofs.lemmas.Bool.Decides.{nat_tests};
 ghost use Rattle.atoi_core.specs.Answer.{typed_prefix_answer, prefix_answer};
-ghost use Rattle.atoi_core.specs.Kinds.{i64_kind};
+ghost use Rattle.atoi_core.specs.IntTypes.{i64_type};
 ghost use Rattle.atoi_uses.specs.OwnEngine.{ebcdic_table};
 
 use crate::cents::Cents;
@@ -18,7 +18,7 @@ pub struct Ebcdic;
 impl Alphabet for Ebcdic {
     ghost table = { ebcdic_table };
 
-    fn worth(byte: u8) -> Option<u64> {
+    fn digit_value(byte: u8) -> Option<u64> {
         match byte {
             0xF0..=0xF9 => Some(u64::from(byte - 0xF0)),
             _ => None,
@@ -53,7 +53,7 @@ impl Engine for Ebcdic {
 /// Those of `atoi_simd::parse_prefix_pos::<i64, true>`, with the digits of EBCDIC.
 pub fn amount(field: &[u8]) -> Result<(Cents, usize), AtoiSimdError<'_>>
     ensures answer { typed_prefix_answer (λ amount. amount.0) result
-        ≡ prefix_answer ebcdic_table i64_kind false true field.now }
+        ≡ prefix_answer ebcdic_table i64_type false true field.now }
     ensures within { IfOk result (λ found. found.1 ≤ length field.now) }
 {
     prefix_pos::<Ebcdic, Cents>(true, field, &mut Steps::new())

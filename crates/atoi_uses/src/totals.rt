@@ -1,7 +1,7 @@
 //! The total of a column of numbers: one a line, or between other separators. It uses
 //! `atoi_column::Column`, whose contract names the items, and two laws of `atoi_column`.
 ghost use Rattle.std.specs.Prelude.{◌≡◌, ◌<◌, ◌≤◌, ◌++◌, ℕ, true, List, [], ◌∷◌, length, pos, Ok, Err, IfOk, IfErr, map, sum};
-ghost use Rattle.atoi_core.specs.Kinds.{u64_kind};
+ghost use Rattle.atoi_core.specs.IntTypes.{u64_type};
 ghost use Rattle.atoi_column.specs.Fields.{is_separator};
 ghost use Rattle.atoi_column.specs.Items.{flaw_of, index_of, items_of, place_of};
 ghost use Rattle.atoi_column.specs.Laws.{IsFirstBad};
@@ -19,12 +19,12 @@ const NEWLINE: u8 = b'\n';
 /// and the place of a byte.
 pub fn total(lines: &[u8]) -> Result<u128, ColumnError<'_>>
     ensures all { IfOk result (λ total. (numbers : List ℕ)
-        × (items_of u64_kind NEWLINE lines.now ≡ map Ok (map pos numbers))
+        × (items_of u64_type NEWLINE lines.now ≡ map Ok (map pos numbers))
         × (total ≡ sum numbers)) }
     ensures refused { IfErr result (λ error. (numbers : List ℕ)
-        × (items_of u64_kind NEWLINE lines.now
+        × (items_of u64_type NEWLINE lines.now
         ≡ map Ok (map pos numbers) ++ Err (flaw_of error) ∷ [])) }
-    ensures first_bad { IfErr result (λ error. IsFirstBad u64_kind NEWLINE lines.now
+    ensures first_bad { IfErr result (λ error. IsFirstBad u64_type NEWLINE lines.now
         (index_of (flaw_of error)) (place_of (flaw_of error))) }
     ensures inside { IfErr result (λ error. (place_of (flaw_of error) ≤ length lines.now)
         × (index_of (flaw_of error) < length lines.now)) }
@@ -41,12 +41,12 @@ pub fn total(lines: &[u8]) -> Result<u128, ColumnError<'_>>
 pub fn column_total(input: &[u8], separator: u8) -> Result<u128, ColumnError<'_>>
     requires { is_separator separator ≡ true }
     ensures all { IfOk result (λ total. (numbers : List ℕ)
-        × (items_of u64_kind separator input.now ≡ map Ok (map pos numbers))
+        × (items_of u64_type separator input.now ≡ map Ok (map pos numbers))
         × (total ≡ sum numbers)) }
     ensures refused { IfErr result (λ error. (numbers : List ℕ)
-        × (items_of u64_kind separator input.now
+        × (items_of u64_type separator input.now
         ≡ map Ok (map pos numbers) ++ Err (flaw_of error) ∷ [])) }
-    ensures first_bad { IfErr result (λ error. IsFirstBad u64_kind separator input.now
+    ensures first_bad { IfErr result (λ error. IsFirstBad u64_type separator input.now
         (index_of (flaw_of error)) (place_of (flaw_of error))) }
     ensures inside { IfErr result (λ error. (place_of (flaw_of error) ≤ length input.now)
         × (index_of (flaw_of error) < length input.now)) }

@@ -5,7 +5,7 @@ ghost use Rattle.std.specs.Prelude.{◌≡◌, ℕ, List, ◌∷◌, IfSome, IfN
 ghost use Rattle.atoi_uses.specs.Versions.{IsPart, IsVersion, dot};
 ghost use Rattle.atoi_uses.specs.declared.versions.Version.{Version as VersionValue};
 
-use atoi_simd::laws::fronts_and_rests;
+use atoi_simd::laws::prefixes_and_rests;
 use atoi_simd::parse_prefix_pos;
 
 /// A version of three numbers.
@@ -48,7 +48,7 @@ fn part(text: &[u8]) -> Option<(u32, &[u8])>
     ensures none { IfNone result ((number : ℕ) (rest : List ℕ) → ¬ IsPart text.now number rest) }
 {
     // The law that a slice has one front that writes a number. The call does nothing.
-    fronts_and_rests::<u32>();
+    prefixes_and_rests::<u32>();
     match parse_prefix_pos::<u32, true>(text) {
         Ok((number, count)) => Some((number, &text[count..])),
         Err(_) => None,

@@ -3,8 +3,8 @@
 
 use crate::answers::gives;
 use atoi_core::laws::{
-    accepted_fronts, accepted_numbers, accepted_texts, decimal_digits, decimal_texts,
-    errors_in_order, fronts_and_rests, order_and_suffix, prefix_is_whole, prefix_of_cut,
+    accepted_prefixes, accepted_numbers, accepted_texts, decimal_digits, decimal_texts,
+    errors_in_order, prefixes_and_rests, order_and_suffix, prefix_is_whole, prefix_of_cut,
     prefix_results, prefix_stops_at_rest, rest_changes_nothing, skipping_agrees, text_of_value,
     whole_results, zeros_change_nothing,
 };
@@ -51,8 +51,8 @@ fn laws_of_prefixes_at_64_bits(rt: HostRuntime) {
     gives(&rt, prefix(false, b"7/"), Ok((7, 1)));
     zeros_change_nothing::<i64>();
     gives(&rt, prefix(true, b"00000007"), Ok((7, 8)));
-    accepted_fronts::<i64>();
-    fronts_and_rests::<i64>();
+    accepted_prefixes::<i64>();
+    prefixes_and_rests::<i64>();
     prefix_results::<i64, true>();
     gives(
         &rt,

@@ -12,7 +12,7 @@ pub(crate) struct Letters;
 impl Alphabet for Letters {
     ghost table = { λ byte. if nat_le 65 byte && nat_le byte 74 then Some (byte - 65) else None };
 
-    fn worth(byte: u8) -> Option<u64> {
+    fn digit_value(byte: u8) -> Option<u64> {
         match byte {
             b'A'..=b'J' => Some(u64::from(byte - b'A')),
             _ => None,
@@ -46,7 +46,7 @@ impl Alphabet for BothCases {
         if nat_le 65 byte && nat_le byte 74 then Some (byte - 65)
         else (if nat_le 97 byte && nat_le byte 106 then Some (byte - 97) else None) };
 
-    fn worth(byte: u8) -> Option<u64> {
+    fn digit_value(byte: u8) -> Option<u64> {
         match byte {
             b'A'..=b'J' => Some(u64::from(byte - b'A')),
             b'a'..=b'j' => Some(u64::from(byte - b'a')),

@@ -21,7 +21,7 @@ pub(crate) fn count_zeros(s: &[u8]) -> usize
 }
 
 // The number that digits write; none if it is above `u128::MAX`.
-fn number_of(digits: &[u8]) -> Option<u128> {
+fn with_sign(digits: &[u8]) -> Option<u128> {
     let mut number = 0u128;
     for digit in digits {
         number = number
@@ -36,7 +36,7 @@ pub(crate) fn window(size: usize, s: &[u8]) -> (usize, usize, Option<u128>) {
     let front = &s[..size.min(s.len())];
     let len = count_digits(front);
     let zeros = if len == size { count_zeros(front) } else { 0 };
-    (len, zeros, number_of(&front[..len]))
+    (len, zeros, with_sign(&front[..len]))
 }
 
 /// The rules of a type: those of at most 32 bits; those of 64 bits, with the most digits that count;
@@ -68,7 +68,7 @@ impl<'a> Body<'a> {
             bytes,
             zeros: count_zeros(bytes),
             digits,
-            number: number_of(&bytes[..digits]),
+            number: with_sign(&bytes[..digits]),
         }
     }
 

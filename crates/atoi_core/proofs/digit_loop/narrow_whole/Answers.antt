@@ -5,8 +5,7 @@ use Rattle.std.proofs.lemmas.List.{take_rest, length-drop, get_or-drop}
 use Rattle.atoi_core.specs.Digit.{decimal_table}
 use Rattle.atoi_core.specs.Run.{value}
 use Rattle.atoi_core.specs.Refusal.{empty, invalid64}
-use Rattle.atoi_core.proofs.Digits.{value_more, run_more, digit_worth, decimal_below_ten}
-use Rattle.atoi_core.proofs.Magnitudes.{narrow_whole_rest, narrow_whole_over, narrow_whole_end}
+use Rattle.atoi_core.proofs.Runs.{value_more, run_more, digit_value_of, decimal_below_ten, narrow_whole_rest, narrow_whole_over, narrow_whole_end}
 use Rattle.atoi_core.proofs.digit_loop.narrow_whole.Goals as goal
 
 -- a byte of the rest behind the first byte
@@ -41,7 +40,7 @@ loop-at-init c =
     let s = c.args.s.now in
     let here : 0 < length s = omega (arith, c.in-len1-up.len_at_least) in
     let digit : decimal_table (get_or s 0 0) ≡ Some c.in-Some.number = sym c.digit.ensures ∙ c.in-Some.is in
-    let small : c.in-Some.number < 10 = digit_worth decimal_table decimal_below_ten (get_or s 0 0) c.in-Some.number digit in
+    let small : c.in-Some.number < 10 = digit_value_of decimal_table decimal_below_ten (get_or s 0 0) c.in-Some.number digit in
     let number : value decimal_table (take (0 + 1) s) ≡ 0 * 10 + c.in-Some.number = value_more decimal_table s 0 c.in-Some.number here digit in
     record {
       digits = run_more decimal_table s 0 c.in-Some.number here digit (omega arith);
@@ -57,12 +56,12 @@ byte_behind s i read found is told = ap decimal_table (sym (rest_byte s i)) ∙ 
 pub loop-at-preserved : goal.loop-at-preserved
 loop-at-preserved c =
     let s = c.args.s.now in
-    let digit = byte_behind s c.loop-at.at _ (Some c.in-Some-digit.worth) c.digit-in-loop-at.ensures c.in-Some-digit.is in
+    let digit = byte_behind s c.loop-at.at _ (Some c.in-Some-digit.digit_value) c.digit-in-loop-at.ensures c.in-Some-digit.is in
     let i = c.loop-at.at + 1 in
     let here : i < length s = omega (arith, c.loop-at-test.true, rest_length s) in
     record {
-      digits = run_more decimal_table s i c.in-Some-digit.worth here digit c.loop-at.invariant.digits;
-      number = ap (λ n. n * 10 + c.in-Some-digit.worth) c.loop-at.invariant.number ∙ sym (value_more decimal_table s i c.in-Some-digit.worth here digit);
+      digits = run_more decimal_table s i c.in-Some-digit.digit_value here digit c.loop-at.invariant.digits;
+      number = ap (λ n. n * 10 + c.in-Some-digit.digit_value) c.loop-at.invariant.number ∙ sym (value_more decimal_table s i c.in-Some-digit.digit_value here digit);
       bound = c.if-next-bound.false;
     }
 
@@ -81,12 +80,12 @@ returns-in_default-digit-2 c =
 pub returns-then-next-bound : goal.returns-then-next-bound
 returns-then-next-bound c =
     let s = c.args.s.now in
-    let digit = byte_behind s c.loop-at.at _ (Some c.in-Some-digit.worth) c.digit-in-loop-at.ensures c.in-Some-digit.is in
+    let digit = byte_behind s c.loop-at.at _ (Some c.in-Some-digit.digit_value) c.digit-in-loop-at.ensures c.in-Some-digit.is in
     let i = c.loop-at.at + 1 in
     let here : i < length s = omega (arith, c.loop-at-test.true, rest_length s) in
-    let over : c.args.bound < value decimal_table (take i s) * 10 + c.in-Some-digit.worth = rw (← c.loop-at.invariant.number) c.if-next-bound.true in
+    let over : c.args.bound < value decimal_table (take i s) * 10 + c.in-Some-digit.digit_value = rw (← c.loop-at.invariant.number) c.if-next-bound.true in
     record {
-      answer = sym (narrow_whole_over decimal_table c.args.bound 0 false s i c.in-Some-digit.worth here digit c.loop-at.invariant.digits over);
+      answer = sym (narrow_whole_over decimal_table c.args.bound 0 false s i c.in-Some-digit.digit_value here digit c.loop-at.invariant.digits over);
     }
 
 pub returns : goal.returns

@@ -1,8 +1,7 @@
 -- Where no zeros are skipped, the first window is the last one.
 use Rattle.std.proofs.Common.{◌≡◌, ◌≤◌, ℕ, Bool, false, not, ◌&&◌, nat_lt, inl, inr, sym, ◌∙◌, ltb-false, arith}
-use Rattle.atoi_core.proofs.SkipLemmas.{Skipped, Skipped-at_once, Skipped-first, Skipped-one}
-use Rattle.atoi_core.proofs.NarrowLemmas.{narrow_told}
-use Rattle.atoi_core.proofs.WideLemmas.{answers_empty}
+use Rattle.atoi_core.proofs.Windows.{Skipped, Skipped-at_once, Skipped-first, Skipped-one}
+use Rattle.atoi_core.proofs.LoopAnswers.{narrow_told, answers_empty}
 use Rattle.atoi_core.proofs.narrow.narrow_prefix.Goals as goal
 use Rattle.atoi_core.proofs.narrow.narrow_prefix.Goals.{After-answer_at}
 

@@ -2,13 +2,12 @@
 use Rattle.std.proofs.Common.{ℕ, ◌∙◌, true, nat_lt, if◌then◌else◌, Ok, Err, inl, inr, refl, ap, zero-add, arith}
 use Rattle.atoi_core.specs.Magnitude.{narrow}
 use Rattle.atoi_core.specs.Refusal.{empty, overflow}
-use Rattle.atoi_core.proofs.NarrowLemmas.{narrow_full, narrow_whole_of}
-use Rattle.atoi_core.proofs.ShortRuns.{short_none, short_some}
-use Rattle.atoi_core.proofs.SkipLemmas.{Skipped-at_once, Skipped-first, Skipped-loads}
+use Rattle.atoi_core.proofs.LoopAnswers.{narrow_full, narrow_whole_of, short_none, short_some}
+use Rattle.atoi_core.proofs.Windows.{Skipped-at_once, Skipped-first, Skipped-loads}
 use Rattle.atoi_core.proofs.narrow.narrow_whole_windows.Goals as goal
 
-pub whole_of-requires : goal.whole_of-requires
-whole_of-requires g c =
+pub whole_from_prefix-requires : goal.whole_from_prefix-requires
+whole_from_prefix-requires g c =
     c.answer_at.ensures
     ∙ ap (λ (n : ℕ). if nat_lt c.args.bound c.window-first.result.number then Err (overflow c.args.s.now) else Ok (c.window-first.result.number, n)) (zero-add c.window-first.result.len)
     ∙ short_some g.E.Engine.table g.met.E.Engine.below_ten narrow c.args.bound 0 true c.args.s.now c.window-first.result c.window-first.ensures.window

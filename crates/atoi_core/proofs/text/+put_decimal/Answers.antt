@@ -1,6 +1,6 @@
 use Rattle.std.proofs.Common.{arith, append_assoc}
 use Rattle.std.proofs.lemmas.Fmt.{IsAscii-decimal_wide}
-use Rattle.atoi_core.proofs.DigitText.{decimal_more, length_decimal_more, length_decimal_of_128_bits, length_decimal_of_64_bits}
+use Rattle.atoi_core.proofs.Errors.{decimal_more, length_decimal_more, length_decimal_of_128_bits, length_decimal_of_64_bits}
 use Rattle.atoi_core.proofs.text.+put_decimal.Goals as goal
 
 -- the front is shorter by one than the whole, which has room

@@ -1,5 +1,5 @@
 use Rattle.std.proofs.Common.{arith, append_assoc}
-use Rattle.atoi_core.proofs.DigitText.{hex_text_of_two_digits}
+use Rattle.atoi_core.proofs.Errors.{hex_text_of_two_digits}
 use Rattle.atoi_core.proofs.text.put_hex.Goals as goal
 
 pub returns-clause-written : goal.returns-clause-written

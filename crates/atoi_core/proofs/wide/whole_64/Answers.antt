@@ -1,7 +1,6 @@
 -- A front that is refused is refused; else its length is compared with the slice's.
 use Rattle.std.proofs.lemmas.Result.{err_from_is_err_and}
-use Rattle.atoi_core.proofs.WideLemmas.{wide_64}
-use Rattle.atoi_core.proofs.WholeLemmas.{whole_err, whole_ok, whole_invalid}
+use Rattle.atoi_core.proofs.LoopAnswers.{wide_64, whole_err, whole_ok, whole_invalid}
 use Rattle.atoi_core.proofs.wide.whole_64.Goals as goal
 
 pub returns-in_err-number-clause-answer : goal.returns-in_err-number-clause-answer

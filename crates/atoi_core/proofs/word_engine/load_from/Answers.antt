@@ -1,6 +1,6 @@
 -- Where the slice ends among the bytes, they are the highest of its last eight.
 use Rattle.std.proofs.Common.{◌∙◌, ap, ◌+◌, ◌/◌, ◌-◌, ◌*◌, ◌^◌, length}
-use Rattle.atoi_core.proofs.LoadedBytes.{last_bytes}
+use Rattle.atoi_core.proofs.LoadedWords.{last_bytes}
 use Rattle.atoi_core.proofs.word_engine.load_from.Goals as goal
 
 pub returns-in-Some : goal.returns-in-Some

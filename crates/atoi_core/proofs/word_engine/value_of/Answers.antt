@@ -1,7 +1,7 @@
 -- The digits by subtraction are the masked ones; the rounds make their sum.
 use Rattle.std.proofs.Common.{ℕ, ◌*◌, ◌/◌, ◌%◌, ◌^◌, ap, ◌∙◌, arith}
 use Rattle.std.specs.Int.Bits.{bit_and}
-use Rattle.atoi_core.proofs.Sums.{sum_8, sum_most}
+use Rattle.atoi_core.proofs.WordFields.{sum_8, sum_most}
 use Rattle.atoi_core.proofs.WordRuns.{lowered_at_top}
 use Rattle.atoi_core.proofs.word_engine.value_of.Goals as goal
 

@@ -1,8 +1,7 @@
 -- What the shift drops are the bytes of 0 below the slice's.
 use Rattle.std.proofs.Common.{◌-◌, ◌*◌, ◌/◌, ◌^◌, ◌∙◌, ap, length, arith}
 use Rattle.std.proofs.lemmas.Bool.Decides.{nat_tests}
-use Rattle.atoi_core.proofs.LoadedBytes.{word_of_none}
-use Rattle.atoi_core.proofs.FilledWords.{shifted_back}
+use Rattle.atoi_core.proofs.LoadedWords.{word_of_none, shifted_back}
 use Rattle.atoi_core.proofs.words.load_part.Goals as goal
 
 pub returns-then-is_empty : goal.returns-then-is_empty

@@ -1,6 +1,6 @@
 -- The rounds make the sum of the bytes that the shift leaves, whose places bound it.
 use Rattle.std.proofs.Common.{arith}
-use Rattle.atoi_core.proofs.Sums.{sum_16, sum_most}
+use Rattle.atoi_core.proofs.WordFields.{sum_16, sum_most}
 use Rattle.atoi_core.proofs.words.process_16.Goals as goal
 
 pub returns-clause-sum : goal.returns-clause-sum

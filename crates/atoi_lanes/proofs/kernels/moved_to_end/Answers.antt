@@ -1,4 +1,4 @@
-use Rattle.atoi_lanes.proofs.ShiftLemmas.{shifted, shift_ok}
+use Rattle.atoi_lanes.proofs.LoadedLanes.{shifted, shift_ok}
 use Rattle.atoi_lanes.proofs.kernels.moved_to_end.Goals as goal
 
 pub swizzle : goal.swizzle

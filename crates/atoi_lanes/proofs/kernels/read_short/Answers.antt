@@ -1,10 +1,10 @@
 use Rattle.std.proofs.Common.{◌∙◌, arith}
-use Rattle.atoi_lanes.proofs.LoadLemmas.{bytes}
-use Rattle.atoi_lanes.proofs.HalfLemmas.{all_digits, first_digits}
+use Rattle.atoi_lanes.proofs.LoadedLanes.{bytes}
+use Rattle.atoi_lanes.proofs.LaneSums.{all_digits, first_digits}
 use Rattle.atoi_lanes.proofs.kernels.read_short.Goals as goal
 
-pub number_of_half-requires : goal.number_of_half-requires
-number_of_half-requires c =
+pub number_in_half-requires : goal.number_in_half-requires
+number_in_half-requires c =
     (all_digits c.args.s.now (bytes c.args.s.now c.type_inv.s) (omega (arith, c.requires.few)) _ _ _ c.load_high-word.ensures c.half-lanes.ensures c.digit_mask-mask.ensures c.if-mask-s.true).1.1
 
 pub returns-then-mask-s-clause-len : goal.returns-then-mask-s-clause-len
@@ -13,15 +13,15 @@ returns-then-mask-s-clause-len c =
 
 pub returns-then-mask-s-clause-number : goal.returns-then-mask-s-clause-number
 returns-then-mask-s-clause-number c =
-    c.number_of_half.ensures
+    c.number_in_half.ensures
     ∙ (all_digits c.args.s.now (bytes c.args.s.now c.type_inv.s) (omega (arith, c.requires.few)) _ _ _ c.load_high-word.ensures c.half-lanes.ensures c.digit_mask-mask.ensures c.if-mask-s.true).1.0
 
 pub overflow_sub-s-2 : goal.overflow_sub-s-2
 overflow_sub-s-2 c =
     (first_digits c.args.s.now (bytes c.args.s.now c.type_inv.s) (omega (arith, c.requires.few)) _ _ _ _ c.load_high-word.ensures c.half-lanes.ensures c.digit_mask-mask.ensures c.trailing_ones-len.ensures).1.0
 
-pub number_of_half-requires-2 : goal.number_of_half-requires-2
-number_of_half-requires-2 c =
+pub number_in_half-requires-2 : goal.number_in_half-requires-2
+number_in_half-requires-2 c =
     ((first_digits c.args.s.now (bytes c.args.s.now c.type_inv.s) (omega (arith, c.requires.few)) _ _ _ _ c.load_high-word.ensures c.half-lanes.ensures c.digit_mask-mask.ensures c.trailing_ones-len.ensures).1.1 _ c.half-digits.ensures).1
 
 pub returns-clause-len : goal.returns-clause-len
@@ -30,5 +30,5 @@ returns-clause-len c =
 
 pub returns-clause-number : goal.returns-clause-number
 returns-clause-number c =
-    c.number_of_half-2.ensures
+    c.number_in_half-2.ensures
     ∙ ((first_digits c.args.s.now (bytes c.args.s.now c.type_inv.s) (omega (arith, c.requires.few)) _ _ _ _ c.load_high-word.ensures c.half-lanes.ensures c.digit_mask-mask.ensures c.trailing_ones-len.ensures).1.1 _ c.half-digits.ensures).0

@@ -3,12 +3,11 @@ use Rattle.std.proofs.lemmas.List.Sums.{prefix_len-le-length}
 use Rattle.atoi_core.specs.Digit.{decimal_table, is_zero}
 use Rattle.atoi_core.specs.Reading.{Reading}
 use Rattle.atoi_core.specs.Run.{zeros}
-use Rattle.atoi_lanes.proofs.SkipLemmas.{first-ends, reads-first, few-zeros}
-use Rattle.atoi_lanes.proofs.WindowLemmas.{reading-of_few}
+use Rattle.atoi_lanes.proofs.LaneWindows.{first-ends, reads-first, few-zeros, reading-of_few}
 use Rattle.atoi_lanes.proofs.wide_lanes.prefix_64_lanes.Goals as goal
 
-pub short_64-requires-clause-front : goal.short_64-requires-clause-front
-short_64-requires-clause-front c =
+pub answer_short_64-requires-clause-front : goal.answer_short_64-requires-clause-front
+answer_short_64-requires-clause-front c =
     let w = c.window-only.result in
     let law = c.reading_decides.ensures in
     let told = reading-of_few c.args.s.now w c.if-s-lt16.true c.window-only.ensures.window in
@@ -28,8 +27,8 @@ returns-then-s-lt16-clause-loads c =
       at_least_skipping = λ _. omega (arith, few, c.if-s-lt16.true, step);
     }
 
-pub short_64-requires-then-first-limit-clause-front : goal.short_64-requires-then-first-limit-clause-front
-short_64-requires-then-first-limit-clause-front c =
+pub answer_short_64-requires-then-first-limit-clause-front : goal.answer_short_64-requires-then-first-limit-clause-front
+answer_short_64-requires-then-first-limit-clause-front c =
     let w = c.window_32-first.result in
     let told = c.window_32-first.ensures.reading in
     let reading : Reading decimal_table 32 c.args.s.now w.len (zeros decimal_table (take 32 c.args.s.now)) w.number =
@@ -50,8 +49,8 @@ returns-then-first-limit-clause-loads c =
       at_least_skipping = λ on. omega (arith, few on, told.one_step);
     }
 
-pub told_64-requires-clause-front : goal.told_64-requires-clause-front
-told_64-requires-clause-front c =
+pub answer_from_window_64-requires-clause-front : goal.answer_from_window_64-requires-clause-front
+answer_from_window_64-requires-clause-front c =
     let w = c.window_32-first.result in
     let law = c.reading_decides.ensures in
     let reading = c.window_32-first.ensures.reading in

@@ -1,7 +1,7 @@
 -- What the lanes tell, in the words of a reading.
 use Rattle.std.proofs.Common.{refl, ◌∙◌, arith}
 use Rattle.atoi_core.specs.Digit.{decimal_table}
-use Rattle.atoi_lanes.proofs.Window32Lemmas.{reading-of_lanes}
+use Rattle.atoi_lanes.proofs.LaneWindows.{reading-of_lanes}
 use Rattle.atoi_lanes.proofs.window_32.window_32.Goals as goal
 
 pub returns-then-len-lt16-clause-reading : goal.returns-then-len-lt16-clause-reading
@@ -13,5 +13,5 @@ pub returns-clause-reading : goal.returns-clause-reading
 returns-clause-reading c =
     let s = c.args.s.now in
     let first = reading-of_lanes s c.load_lanes-first.result 16 _ c.load_lanes-first.ensures (omega (arith, c.len_lanes-len.ensures, c.if-len-lt16.false)) refl in
-    let second = reading-of_lanes _ c.load_behind_16-second.result _ _ c.load_behind_16-second.ensures c.len_lanes-more.ensures.len refl in
-    rw (c.zeroes_of_two.ensures, c.number_of_two.ensures) (c.reading_decides.ensures.joined decimal_table 16 16 s _ _ _ _ _ first second)
+    let second = reading-of_lanes _ c.load_after_16-second.result _ _ c.load_after_16-second.ensures c.len_lanes-more.ensures.len refl in
+    rw (c.zeroes_of_two.ensures, c.number_in_two.ensures) (c.reading_decides.ensures.joined decimal_table 16 16 s _ _ _ _ _ first second)

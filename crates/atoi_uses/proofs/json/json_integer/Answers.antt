@@ -3,9 +3,9 @@ use Rattle.std.proofs.Math.Seq.{take-append_seam}
 use Rattle.std.proofs.lemmas.Bool.{both_ways}
 use Rattle.std.proofs.lemmas.Int.{to_z-of_z}
 use Rattle.std.proofs.lemmas.List.{take_rest, take-append-drop}
-use Rattle.atoi_simd.specs.Kinds.{i64_kind}
-use Rattle.atoi_simd.specs.Laws.{looked_for, FrontsAndRests}
-use Rattle.atoi_simd.specs.Text.{SignMark, no_sign, plus, minus, sign_bytes, is_minus, is_plus, DigitsWrite, TextWrites, FrontWrites}
+use Rattle.atoi_simd.specs.IntTypes.{i64_type}
+use Rattle.atoi_simd.specs.Laws.{looked_for, PrefixesAndRests}
+use Rattle.atoi_simd.specs.Text.{SignMark, no_sign, plus, minus, sign_bytes, is_minus, is_plus, DigitsWrite, TextWrites, PrefixWrites}
 use Rattle.atoi_uses.specs.Json.{IsJsonInteger, minus_of, leads_with_zero}
 use Rattle.atoi_uses.proofs.json.json_integer.Goals as goal
 
@@ -15,27 +15,27 @@ same_sign no_sign h = refl
 same_sign plus h = absurd (cc (h refl))
 same_sign minus h = refl
 
-text_of : (is_negative : Bool) (digits : List ℕ) (number : ℤ) → DigitsWrite i64_kind is_negative digits number
-    → TextWrites i64_kind false (minus_of is_negative ++ digits) number
+text_of : (is_negative : Bool) (digits : List ℕ) (number : ℤ) → DigitsWrite i64_type is_negative digits number
+    → TextWrites i64_type false (minus_of is_negative ++ digits) number
 text_of true digits number h =
     record { sign = minus; digits = digits; parts = refl; signed = λ e. refl; plus_taken = λ e. e; written = h }
 text_of false digits number h =
     record { sign = no_sign; digits = digits; parts = refl; signed = λ e. refl; plus_taken = λ e. e; written = h }
 
 -- an integer of JSON is a front that writes its number
-front_of : FrontsAndRests i64_kind → (text : List ℕ) (number : ℤ) (rest : List ℕ) (h : IsJsonInteger text number rest)
-    → FrontWrites (TextWrites i64_kind false) text number (length (minus_of h.is_negative ++ h.digits))
+front_of : PrefixesAndRests i64_type → (text : List ℕ) (number : ℤ) (rest : List ℕ) (h : IsJsonInteger text number rest)
+    → PrefixWrites (TextWrites i64_type false) text number (length (minus_of h.is_negative ++ h.digits))
 front_of law text number rest h =
     law.joined (looked_for false) text _ rest number h.parts (text_of h.is_negative h.digits number h.written) h.ends
 
 pub returns-in_default-clause-none : goal.returns-in_default-clause-none
 returns-in_default-clause-none c = λ number rest h.
-    c.in_default.ensures.refused refl number _ (front_of c.fronts_and_rests.ensures c.args.text.now number rest h)
+    c.in_default.ensures.refused refl number _ (front_of c.prefixes_and_rests.ensures c.args.text.now number rest h)
 
 pub returns-then-has_leading_zero-clause-none : goal.returns-then-has_leading_zero-clause-none
 returns-then-has_leading_zero-clause-none c = λ number rest h.
     let integer = minus_of h.is_negative ++ h.digits in
-    let law = c.fronts_and_rests.ensures in
+    let law = c.prefixes_and_rests.ensures in
     let same = law.only (looked_for false) c.args.text.now _ _ _ _ c.in-Ok.ensures.front (front_of law _ number rest h) in
     let cut : take c.in-Ok.count c.args.text.now ≡ integer =
     ap (λ n. take n c.args.text.now) same.1 ∙ ap (take (length integer)) h.parts ∙ take-append_seam integer rest in

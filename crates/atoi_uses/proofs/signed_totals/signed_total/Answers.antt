@@ -2,7 +2,7 @@ use Rattle.std.proofs.Common.{◌≡◌, ◌^◌, ◌<◌, ◌≤◌, [], ◌∷
 use Rattle.std.specs.Int.{w128}
 use Rattle.std.proofs.lemmas.Int.{ints}
 use Rattle.std.proofs.lemmas.List.Sums.{fold-append}
-use Rattle.atoi_core.specs.Kinds.{i64_kind}
+use Rattle.atoi_core.specs.IntTypes.{i64_type}
 use Rattle.atoi_column.specs.Items.{item_of, items_of}
 use Rattle.atoi_uses.proofs.signed_totals.signed_total.Goals as goal
 
@@ -15,7 +15,7 @@ loop-item-preserved c =
     let total : ℤ = to_z w128 c.loop-item.total-bits in
     let fits : FitsSigned w64 number = search rules in
     let value : c.from-total.result ≡ number = search rules in
-    let items = items_of i64_kind c.args.separator c.args.input.now in
+    let items = items_of i64_type c.args.separator c.args.input.now in
     let before = c.loop-item.invariant in
     let step : c.loop-item.item-iterator ≡ Ok number ∷ c.next.new.self = c.in-Some.ensures.steps ∙ ap (λ item. item_of (λ n. n) item ∷ c.next.new.self) c.in-Ok.is in
     let read = c.items_in_turn.ensures.more items c.loop-item.item-iterator c.next.new.self before.0 number before.1.0.0 step in

@@ -1,6 +1,6 @@
 -- What the loop keeps: the total is the sum of the numbers read so far, each of at most 2 ^ 63.
 use Rattle.std.proofs.Common.{◌≡◌, ◌*◌, ◌^◌, List, length, ℤ, pos, neg_ℤ, ◌≤ℤ◌}
-use Rattle.atoi_core.specs.Kinds.{i64_kind}
+use Rattle.atoi_core.specs.IntTypes.{i64_type}
 use Rattle.atoi_column.specs.Items.{items_of}
 use Rattle.atoi_column.specs.Laws.{HaveRead}
 use Rattle.atoi_uses.specs.SignedTotals.{sum_of}
@@ -8,5 +8,5 @@ use Rattle.atoi_uses.proofs.signed_totals.signed_total.Given as goal
 
 abbrev pub invariant-loop-item : goal.invariant-loop-item
 invariant-loop-item l =
-    (numbers : List ℤ) × ((HaveRead (items_of i64_kind l.fn.separator l.fn.input) numbers l.item-iterator × (l.total ≡ sum_of numbers))
+    (numbers : List ℤ) × ((HaveRead (items_of i64_type l.fn.separator l.fn.input) numbers l.item-iterator × (l.total ≡ sum_of numbers))
     × ((neg_ℤ (pos (2 ^ 63 * length numbers)) ≤ℤ l.total) × (l.total ≤ℤ pos (2 ^ 63 * length numbers))))

@@ -1,7 +1,7 @@
-use Rattle.atoi_core.specs.Kinds.{u64_kind}
+use Rattle.atoi_core.specs.IntTypes.{u64_type}
 use Rattle.atoi_column.specs.Items.{items_of}
 use Rattle.atoi_uses.proofs.TotalLemmas.{IsAddedUpTo}
 use Rattle.atoi_uses.proofs.totals.column_total.Given as goal
 
 abbrev pub invariant-loop-item : goal.invariant-loop-item
-invariant-loop-item l = IsAddedUpTo (items_of u64_kind l.fn.separator l.fn.input) l.item-iterator l.total
+invariant-loop-item l = IsAddedUpTo (items_of u64_type l.fn.separator l.fn.input) l.item-iterator l.total

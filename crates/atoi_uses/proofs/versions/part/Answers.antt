@@ -7,11 +7,11 @@ use Rattle.atoi_uses.proofs.versions.part.Goals as goal
 
 pub returns-in-Ok-clause-only : goal.returns-in-Ok-clause-only
 returns-in-Ok-clause-only c = λ number rest h.
-    let front = front_of c.fronts_and_rests.ensures c.args.text.now number rest h in
-    let same = c.fronts_and_rests.ensures.only positive c.args.text.now (pos number) _ _ _ front c.in-Ok.ensures.front in
+    let front = front_of c.prefixes_and_rests.ensures c.args.text.now number rest h in
+    let same = c.prefixes_and_rests.ensures.only positive c.args.text.now (pos number) _ _ _ front c.in-Ok.ensures.front in
     let number_is : number ≡ c.in-Ok.number = cc in
     (number_is, sym (front_rest c.args.text.now h.digits rest h.parts) ∙ rw (same.1, take_rest) refl)
 
 pub returns-in-Err-clause-none : goal.returns-in-Err-clause-none
 returns-in-Err-clause-none c = λ number rest h.
-    c.in-Err.ensures.refused refl (pos number) _ (front_of c.fronts_and_rests.ensures c.args.text.now number rest h)
+    c.in-Err.ensures.refused refl (pos number) _ (front_of c.prefixes_and_rests.ensures c.args.text.now number rest h)

@@ -3,10 +3,9 @@ use Rattle.std.proofs.Common.{◌≤◌, ◌∙◌, ap, refl, arith, lit<, lengt
 use Rattle.std.proofs.lemmas.List.{take_rest}
 use Rattle.std.proofs.lemmas.List.Sums.{prefix_len-le-length}
 use Rattle.atoi_core.specs.Digit.{is_digit}
-use Rattle.atoi_core.proofs.RunLemmas.{prefix_len-drop}
-use Rattle.atoi_core.proofs.WindowLemmas.{Shows}
-use Rattle.atoi_core.proofs.SkipLemmas.{Skipping-none, Skipping-more, Skipped, Skipped-end, Skipped-loads, shows_behind}
-use Rattle.atoi_core.proofs.WideLemmas.{answers_empty, answers_short, answers_two, answers_128}
+use Rattle.atoi_core.proofs.Runs.{prefix_len-drop}
+use Rattle.atoi_core.proofs.Windows.{Shows, Skipping-none, Skipping-more, Skipped, Skipped-end, Skipped-loads, shows_behind}
+use Rattle.atoi_core.proofs.LoopAnswers.{answers_empty, answers_short, answers_two, answers_128}
 use Rattle.atoi_core.proofs.engine.Engine.prefix_128.Goals as goal
 use Rattle.atoi_core.proofs.engine.Engine.prefix_128.Goals.{After-window-second, After-window_8-third}
 

@@ -1,5 +1,5 @@
 use Rattle.std.proofs.Common.{length, ◌-◌}
-use Rattle.atoi_core.proofs.SkipLemmas.{Skipping}
+use Rattle.atoi_core.proofs.Windows.{Skipping}
 use Rattle.atoi_core.proofs.engine.Engine.prefix_128.Given as goal
 
 abbrev pub invariant-loop-next : goal.invariant-loop-next

@@ -1,4 +1,4 @@
-use Rattle.atoi_core.proofs.AsciiText.{IsAscii-size_text, IsAscii-overflow_text, IsAscii-invalid64_text, IsAscii-invalid128_text}
+use Rattle.atoi_core.proofs.Errors.{IsAscii-size_text, IsAscii-overflow_text, IsAscii-invalid64_text, IsAscii-invalid128_text}
 use Rattle.atoi_core.proofs.error.AtoiSimdError.text.Goals as goal
 
 pub returns-in-Size-clause-ascii : goal.returns-in-Size-clause-ascii

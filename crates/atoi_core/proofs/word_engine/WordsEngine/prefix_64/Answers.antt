@@ -2,12 +2,11 @@
 use Rattle.std.proofs.Common.{◌≡◌, ◌⊎◌, ◌≤◌, true, false, inl, inr, refl, ◌∙◌, arith, drop}
 use Rattle.std.proofs.lemmas.List.Sums.{prefix_len-le-length}
 use Rattle.atoi_core.specs.Digit.{decimal_table, is_digit}
-use Rattle.atoi_core.proofs.Digits.{decimal_below_ten}
-use Rattle.atoi_core.proofs.SkipLemmas.{Skipped, Skipped-at_once, Skipped-loads}
-use Rattle.atoi_core.proofs.WideLemmas.{answers_empty, answers_short, answers_64}
-use Rattle.atoi_core.proofs.WindowLemmas.{Shows, shows}
+use Rattle.atoi_core.proofs.Runs.{decimal_below_ten}
+use Rattle.atoi_core.proofs.Windows.{Skipped, Skipped-at_once, Skipped-loads, Shows, shows}
+use Rattle.atoi_core.proofs.LoopAnswers.{answers_empty, answers_short, answers_64}
 use Rattle.atoi_core.proofs.word_engine.WordsEngine.prefix_64.Goals as goal
-use Rattle.atoi_core.proofs.word_engine.WordsEngine.prefix_64.Goals.{After-window-front, After-window_from_16-back}
+use Rattle.atoi_core.proofs.word_engine.WordsEngine.prefix_64.Goals.{After-window-front, After-window_after_16-back}
 
 -- no zeros to skip are told
 last : (c : After-window-front) → (c.args.skip ≡ true × c.window-front.result.zeroes ≤ 0) ⊎ (c.args.skip ≡ false)
@@ -31,27 +30,27 @@ returns-then-front-lt16-clause-loads c =
     let so = last (goal.at.returns-then-front-lt16-clause-loads c).After-window-front c.else-skip.either in
     Skipped-loads so 0 (omega arith) (omega arith) (omega arith)
 
-pub window_from_16-back-requires : goal.window_from_16-back-requires
-window_from_16-back-requires c =
-    let so = last (goal.at.window_from_16-back-requires c).After-window-front c.else-skip.either in
+pub window_after_16-back-requires : goal.window_after_16-back-requires
+window_after_16-back-requires c =
+    let so = last (goal.at.window_after_16-back-requires c).After-window-front c.else-skip.either in
     omega (arith, c.if-front-lt16.false, so.shown.len_is, prefix_len-le-length (is_digit decimal_table) c.args.s.now)
 
 -- the eight bytes after it
-behind : (c : After-window_from_16-back) → Shows decimal_table 8 (drop 16 c.args.s.now) c.window_from_16-back.result
-behind c = shows decimal_table decimal_below_ten 8 (drop 16 c.args.s.now) c.window_from_16-back.result c.window_from_16-back.ensures.window
+behind : (c : After-window_after_16-back) → Shows decimal_table 8 (drop 16 c.args.s.now) c.window_after_16-back.result
+behind c = shows decimal_table decimal_below_ten 8 (drop 16 c.args.s.now) c.window_after_16-back.result c.window_after_16-back.ensures.window
 
 pub append_digits-number-requires : goal.append_digits-number-requires
-append_digits-number-requires c = omega (arith, (behind (goal.at.append_digits-number-requires c).After-window_from_16-back).len_is)
+append_digits-number-requires c = omega (arith, (behind (goal.at.append_digits-number-requires c).After-window_after_16-back).len_is)
 
 pub answer_64-requires : goal.answer_64-requires
 answer_64-requires c =
-    let back = behind (goal.at.answer_64-requires c).After-window_from_16-back in
+    let back = behind (goal.at.answer_64-requires c).After-window_after_16-back in
     let so = last (goal.at.answer_64-requires c).After-window-front c.else-skip.either in
     record { inside = (answers_64 decimal_table c.args.bound c.args.limit c.args.skip c.args.s.now 0 _ _ _ _ (omega arith) so c.if-front-lt16.false back).0 }
 
 pub returns-else-front-lt16-clause-answer : goal.returns-else-front-lt16-clause-answer
 returns-else-front-lt16-clause-answer c =
-    let back = behind (goal.at.returns-else-front-lt16-clause-answer c).After-window_from_16-back in
+    let back = behind (goal.at.returns-else-front-lt16-clause-answer c).After-window_after_16-back in
     let so = last (goal.at.returns-else-front-lt16-clause-answer c).After-window-front c.else-skip.either in
     rw c.append_digits-number.ensures at c.answer_64.ensures
     ∙ (answers_64 decimal_table c.args.bound c.args.limit c.args.skip c.args.s.now 0 _ _ _ _ (omega arith) so c.if-front-lt16.false back).1
@@ -59,4 +58,4 @@ returns-else-front-lt16-clause-answer c =
 pub returns-else-front-lt16-clause-loads : goal.returns-else-front-lt16-clause-loads
 returns-else-front-lt16-clause-loads c =
     let so = last (goal.at.returns-else-front-lt16-clause-loads c).After-window-front c.else-skip.either in
-    Skipped-loads so 1 (omega (arith, c.window_from_16-back.ensures.one_step)) (omega arith) (omega arith)
+    Skipped-loads so 1 (omega (arith, c.window_after_16-back.ensures.one_step)) (omega arith) (omega arith)

@@ -1,6 +1,6 @@
 -- A window of eight bytes that stops inside them is the one of sixteen.
 use Rattle.std.proofs.Common.{ℕ, ◌<◌, ◌∙◌, get_or}
-use Rattle.atoi_core.proofs.WordWindows.{loaded_run, loaded_sum, window_short}
+use Rattle.atoi_core.proofs.LoadedWords.{loaded_run, loaded_sum, window_short}
 use Rattle.atoi_core.proofs.word_engine.WordsEngine.window.Goals as goal
 
 pub returns-else-len-eq8-clause-window : goal.returns-else-len-eq8-clause-window
@@ -10,7 +10,7 @@ returns-else-len-eq8-clause-window c =
     let first = c.load_full-first.result in
     let len = c.digits_of-len.result in
     c.not_full.ensures
-    ∙ window_short s len c.number_of.result
+    ∙ window_short s len c.number_in_word.result
     (c.digits_of-len.ensures.len ∙ loaded_run s fits first c.load_full-first.ensures)
     c.if-len-eq8.false
-    (c.number_of.ensures.sum ∙ loaded_sum s fits first len c.load_full-first.ensures c.digits_of-len.ensures.len)
+    (c.number_in_word.ensures.sum ∙ loaded_sum s fits first len c.load_full-first.ensures c.digits_of-len.ensures.len)

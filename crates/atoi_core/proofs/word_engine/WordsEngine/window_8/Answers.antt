@@ -1,7 +1,7 @@
 -- What the word tells is the window of the loaded bytes.
-use Rattle.atoi_core.proofs.WordWindows.{loaded_window}
+use Rattle.atoi_core.proofs.LoadedWords.{loaded_window}
 use Rattle.atoi_core.proofs.word_engine.WordsEngine.window_8.Goals as goal
 
 pub returns-clause-window : goal.returns-clause-window
 returns-clause-window c =
-    loaded_window c.args.s.now (λ i. (c.type_inv.s i).fits) c.load_full.result c.told.result c.load_full.ensures c.told.ensures.len c.told.ensures.zeroes c.told.ensures.number
+    loaded_window c.args.s.now (λ i. (c.type_inv.s i).fits) c.load_full.result c.window_of_word.result c.load_full.ensures c.window_of_word.ensures.len c.window_of_word.ensures.zeroes c.window_of_word.ensures.number

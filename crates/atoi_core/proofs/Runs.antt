@@ -1,0 +1,263 @@
+-- Runs of digits, where they are cut, and the values that they spell.
+use Rattle.std.proofs.Common.{◌≡◌, ℕ, zero, suc, ◌+◌, ◌≤◌, min, Bool, true, false, cond, List, [], ◌∷◌, take, drop, arith, ◌&&◌, ◌==◌, ◌*◌, ◌^◌, ◌<◌, ◌++◌, length, refl, ap, ◌∙◌, ◌-◌, replicate, All, IsTrue, subst, Option, lit<, lit≤, get_or, Some, None, is_some, unwrap_or, sym, Ok, Err, if◌then◌else◌, nat_lt, not}
+use Rattle.std.specs.List.{prefix_len}
+use Rattle.atoi_core.specs.Digit.{Table, is_digit, digit_value, IsBelowTen, is_zero, decimal_table}
+use Rattle.atoi_core.specs.Run.{run_len, zeros, run, value}
+use Rattle.std.proofs.Math.Nat.{pow-succ', mul-le-mul_right, mul-le-mul_left, one-le-pow, pow-le-pow_right}
+use Rattle.std.proofs.Math.Seq.{take-add}
+use Rattle.std.proofs.lemmas.Bool.{eqb-true, eqb-false}
+use Rattle.std.proofs.lemmas.List.{length-append, length-take-le, length-drop, take_all, take_more, take-take, take-append-drop}
+use Rattle.std.proofs.lemmas.List.Sums.{prefix_len-le-length, prefix_len_passes, prefix_len-drop_yes, prefix_len-drop_no, prefix_len-drop_all}
+use Rattle.std.proofs.lemmas.Nat.{pow-add}
+use Rattle.std.proofs.lemmas.Bool.Decides.{eqb_tells, nat_tests}
+use Rattle.std.proofs.lemmas.List.Folds.{length-prefix_len}
+use Rattle.atoi_core.specs.Refusal.{empty, overflow, invalid64}
+use Rattle.atoi_core.specs.Magnitude.{narrow, refusal, unless_refused, whole_magnitude}
+
+-- The length of the front of a slice that passes a test, where the slice is cut.
+
+-- the passing front of the first bytes ends with these bytes at the latest
+pub prefix_len-take : (p : ℕ → Bool) (n : ℕ) (s : List ℕ) → prefix_len p (take n s) ≡ min n (prefix_len p s)
+prefix_len-take p zero s = omega arith
+prefix_len-take p (suc n) [] = omega arith
+prefix_len-take p (suc n) (b ∷ bs) =
+    elim (p b) as (λ v. cond v (1 + prefix_len p (take n bs)) 0 ≡ min (suc n) (cond v (1 + prefix_len p bs) 0))
+    [ true ↦ omega (arith, prefix_len-take p n bs) | false ↦ omega arith ]
+
+-- a cut within the passing front leaves the rest of that front
+pub prefix_len-drop : (p : ℕ → Bool) (n : ℕ) (s : List ℕ) → n ≤ prefix_len p s → prefix_len p s ≡ n + prefix_len p (drop n s)
+prefix_len-drop p zero s = λ _. omega arith
+prefix_len-drop p (suc n) [] = λ h. absurd (omega arith)
+prefix_len-drop p (suc n) (b ∷ bs) =
+    elim (p b) as (λ v. suc n ≤ cond v (1 + prefix_len p bs) 0 → cond v (1 + prefix_len p bs) 0 ≡ suc n + prefix_len p (drop n bs))
+    [ true ↦ λ h. omega (arith, prefix_len-drop p n bs (omega arith)) | false ↦ λ h. absurd (omega arith) ]
+
+-- zeros are digits
+pub zeros-le : (t : Table) (s : List ℕ) → zeros t s ≤ run_len t s
+zeros-le t [] = omega arith
+zeros-le t (b ∷ bs) =
+    elim (is_digit t b) as (λ v. cond (v && (digit_value t b == 0)) (1 + zeros t bs) 0 ≤ cond v (1 + run_len t bs) 0) [
+      | true ↦ elim (digit_value t b == 0) as (λ v. cond v (1 + zeros t bs) 0 ≤ 1 + run_len t bs)
+          [ true ↦ omega (arith, zeros-le t bs) | false ↦ omega arith ]
+      | false ↦ omega arith
+    ]
+
+-- The number that digits write, where they are cut or begin with zeros.
+
+-- the digits in front count ten times for each digit behind them
+pub value-append : (t : Table) (xs ys : List ℕ) → value t (xs ++ ys) ≡ value t xs * 10 ^ length ys + value t ys
+value-append t [] ys = omega arith
+value-append t (x ∷ xs) ys =
+    let power : digit_value t x * 10 ^ length (xs ++ ys) ≡ digit_value t x * (10 ^ length xs * 10 ^ length ys) =
+    ap (λ (e : ℕ). digit_value t x * 10 ^ e) (length-append xs ys)
+    ∙ ap (λ (e : ℕ). digit_value t x * e) (pow-add 10 (length xs) (length ys)) in
+    omega (arith, power, value-append t xs ys)
+
+-- a number is below ten to the count of its digits
+pub value-below : (t : Table) → IsBelowTen t → (xs : List ℕ) → value t xs < 10 ^ length xs
+value-below t below [] = omega arith
+value-below t below (x ∷ xs) =
+    let most : digit_value t x * 10 ^ length xs ≤ 9 * 10 ^ length xs =
+    mul-le-mul_right (10 ^ length xs) (omega (arith, below x)) in
+    rw pow-succ' (omega (arith, value-below t below xs))
+
+-- the first digits of a front of digits: the number is cut at them
+pub value-take-add : (t : Table) (n k : ℕ) (s : List ℕ) → n + k ≤ length s →
+    value t (take (n + k) s) ≡ value t (take n s) * 10 ^ k + value t (take k (drop n s))
+value-take-add t n k s h =
+    let len : length (take k (drop n s)) ≡ k = length-take-le k (drop n s) (rw length-drop (omega arith)) in
+    ap (value t) (take-add n k s)
+    ∙ value-append t (take n s) (take k (drop n s))
+    ∙ ap (λ (e : ℕ). value t (take n s) * 10 ^ e + value t (take k (drop n s))) len
+
+-- zeros write 0
+pub value-zeros : (t : Table) (n : ℕ) (s : List ℕ) → n ≤ zeros t s → value t (take n s) ≡ 0
+value-zeros t zero s = λ _. refl
+value-zeros t (suc n) [] = λ h. absurd (omega arith)
+value-zeros t (suc n) (b ∷ bs) =
+    elim (is_digit t b) as (λ v. suc n ≤ cond (v && (digit_value t b == 0)) (1 + zeros t bs) 0 → digit_value t b * 10 ^ length (take n bs) + value t (take n bs) ≡ 0) [
+      | true ↦
+          (elim (digit_value t b == 0) as (λ v. (digit_value t b == 0) ≡ v → suc n ≤ cond v (1 + zeros t bs) 0 → digit_value t b * 10 ^ length (take n bs) + value t (take n bs) ≡ 0) [
+            | true ↦ λ e h. rw (eqb-true _ _ e, value-zeros t n bs (omega arith)) (omega arith)
+            | false ↦ λ e h. absurd (omega arith)
+          ]) refl
+      | false ↦ λ h. absurd (omega arith)
+    ]
+
+-- leading zeros can be left out
+pub value-drop_zeros : (t : Table) (n : ℕ) (s : List ℕ) → n ≤ zeros t s → value t (run t s) ≡ value t (run t (drop n s))
+value-drop_zeros t n s h =
+    let parts : run_len t s ≡ n + run_len t (drop n s) = prefix_len-drop (is_digit t) n s (omega (arith, zeros-le t s)) in
+    let within : run_len t s ≤ length s = prefix_len-le-length (is_digit t) s in
+    ap (λ (m : ℕ). value t (take m s)) parts
+    ∙ value-take-add t n (run_len t (drop n s)) s (omega arith)
+    ∙ omega (arith, ap (λ (e : ℕ). e * 10 ^ run_len t (drop n s)) (value-zeros t n s h))
+
+-- a number whose first digit is no zero has a digit for each of its places
+pub value-least : (t : Table) (n : ℕ) (s : List ℕ) → suc n ≤ run_len t s → zeros t s ≡ 0 → 10 ^ n ≤ value t (take (suc n) s)
+value-least t n [] = λ h z. absurd (omega arith)
+value-least t n (b ∷ bs) =
+    elim (is_digit t b) as (λ v. suc n ≤ cond v (1 + run_len t bs) 0 → cond (v && (digit_value t b == 0)) (1 + zeros t bs) 0 ≡ 0 → 10 ^ n ≤ digit_value t b * 10 ^ length (take n bs) + value t (take n bs)) [
+      | true ↦
+          λ h.
+          (elim (digit_value t b == 0) as (λ v. (digit_value t b == 0) ≡ v → cond v (1 + zeros t bs) 0 ≡ 0 → 10 ^ n ≤ digit_value t b * 10 ^ length (take n bs) + value t (take n bs)) [
+            | true ↦ λ e z. absurd (omega arith)
+            | false ↦ λ e z.
+                let some : 1 ≤ digit_value t b = omega (arith, eqb-false _ _ e) in
+                let len : length (take n bs) ≡ n = length-take-le n bs (omega (arith, prefix_len-le-length (is_digit t) bs)) in
+                let least : 1 * 10 ^ length (take n bs) ≤ digit_value t b * 10 ^ length (take n bs) = mul-le-mul_right (10 ^ length (take n bs)) some in
+                omega (arith, ap (λ (m : ℕ). 10 ^ m) len)
+          ]) refl
+      | false ↦ λ h z. absurd (omega arith)
+    ]
+
+-- Runs, zeros and values under `take`, under `++`, and under zeros put before them.
+
+-- elements that pass, put before a list, all count
+pub prefix_len-replicate_append : {X : Type 0} (p : X → Bool) (x : X) → p x ≡ true → (n : ℕ) (xs : List X)
+    → prefix_len p (replicate n x ++ xs) ≡ n + prefix_len p xs
+prefix_len-replicate_append p x h zero xs = omega arith
+prefix_len-replicate_append p x h (suc n) xs =
+    rw h (omega (arith, prefix_len-replicate_append p x h n xs))
+
+module _ (table : Table) where
+  -- the run is as long as its length says
+  pub length-run : (s : List ℕ) → length (run table s) ≡ run_len table s
+  length-run s = length-prefix_len (is_digit table) s
+
+  -- a slice that is its own run holds digits only
+  pub digits_all : (s : List ℕ) → run_len table s ≡ length s → All (λ byte. IsTrue (is_digit table byte)) s
+  digits_all s h = λ i d lt. prefix_len_passes (is_digit table) s i d (omega arith)
+
+  -- and its run is the slice
+  pub run_all : (s : List ℕ) → run_len table s ≡ length s → run table s ≡ s
+  run_all s h = take_all (run_len table s) s (omega arith)
+
+  -- where the slice is cut within its run, the run is cut there
+  pub run_len-take : (n : ℕ) (s : List ℕ) → n ≤ run_len table s → run_len table (take n s) ≡ n
+  run_len-take n s h = omega (arith, prefix_len-take (is_digit table) n s)
+
+  -- so are the zeros, as far as the cut reaches
+  pub zeros-take : (n : ℕ) (s : List ℕ) → zeros table (take n s) ≡ min n (zeros table s)
+  zeros-take n s = prefix_len-take (is_zero table) n s
+
+  -- the run of the run is all of it
+  pub run_len-run : (s : List ℕ) → run_len table (run table s) ≡ run_len table s
+  run_len-run s = run_len-take (run_len table s) s (omega arith)
+
+  -- the zeros are those of the run
+  pub zeros-run : (s : List ℕ) → zeros table (run table s) ≡ zeros table s
+  zeros-run s = omega (arith, zeros-take (run_len table s) s, zeros-le table s)
+
+  -- a zero is worth 0
+  value_of_zero : (byte : ℕ) → is_zero table byte ≡ true → digit_value table byte ≡ 0
+  value_of_zero byte h = grind (arith, eqb_tells)
+
+  -- where not all digits are zeros, the number is at least the power of ten of its places
+  pub value-ge : (s : List ℕ) → zeros table s < run_len table s
+      → 10 ^ (run_len table s - zeros table s - 1) ≤ value table (run table s)
+  value-ge s h =
+      let z = zeros table s in
+      let rest = drop z s in
+      let parts : run_len table s ≡ z + run_len table rest = prefix_len-drop (is_digit table) z s (omega arith) in
+      let no_zeros : z ≡ z + zeros table rest = prefix_len-drop (is_zero table) z s (omega arith) in
+      let places : suc (run_len table s - z - 1) ≡ run_len table rest = omega arith in
+      rw (value-drop_zeros table z s (omega arith))
+      (subst (λ (m : ℕ). 10 ^ (run_len table s - z - 1) ≤ value table (take m rest)) places
+      (value-least table (run_len table s - z - 1) rest (omega arith) (omega arith)))
+
+  -- zeros before a number do not change it
+  pub value-replicate : (zero_digit : ℕ) → is_zero table zero_digit ≡ true → (n : ℕ) (s : List ℕ)
+      → value table (replicate n zero_digit ++ s) ≡ value table s
+  value-replicate z h zero s = refl
+  value-replicate z h (suc n) s = rw (value_of_zero z h) (omega (arith, value-replicate z h n s))
+
+-- The run of a slice and its value, digit by digit.
+
+-- one more digit
+pub value_more : (t : Table) (s : List ℕ) (i w : ℕ) → i < length s → t (get_or s i 0) ≡ Some w → value t (take (i + 1) s) ≡ value t (take i s) * 10 + w
+value_more t s i w here digit =
+    let e : digit_value t (get_or s i 0) ≡ w = ap (λ (o : Option ℕ). unwrap_or o 0) digit in
+    rw (take_more s i 0 here, value-append t (take i s) (get_or s i 0 ∷ []), ← e) (grind arith)
+
+-- a number that goes on with digits is no less
+pub value-append-le : (t : Table) (xs ys : List ℕ) → value t xs ≤ value t (xs ++ ys)
+value-append-le t xs ys =
+    let power : 1 ≤ 10 ^ length ys = one-le-pow (length ys) 10 (lit< tt) in
+    omega (arith, value-append t xs ys, mul-le-mul_left (value t xs) power)
+
+-- a longer front is worth no less
+pub value-take-le : (t : Table) (s : List ℕ) (i j : ℕ) → i ≤ j → value t (take i s) ≤ value t (take j s)
+value-take-le t s i j le =
+    rw (← take-append-drop i (take j s), take-take i j s le)
+    (value-append-le t (take i s) (drop i (take j s)))
+
+-- a digit makes the run longer by one
+pub run_more : (t : Table) (s : List ℕ) (i w : ℕ) → i < length s → t (get_or s i 0) ≡ Some w → i + run_len t (drop i s) ≡ run_len t s → i + 1 + run_len t (drop (i + 1) s) ≡ run_len t s
+run_more t s i w here digit so_far =
+    let yes = prefix_len-drop_yes (is_digit t) s i 0 here (ap is_some digit) in
+    omega (arith, yes, so_far)
+
+-- a byte that is no digit ends the run
+pub run_ends : (t : Table) (s : List ℕ) (i : ℕ) → i < length s → t (get_or s i 0) ≡ None → i + run_len t (drop i s) ≡ run_len t s → run_len t s ≡ i
+run_ends t s i here none so_far =
+    let no = prefix_len-drop_no (is_digit t) s i 0 here (ap is_some none) in
+    omega (arith, no, so_far)
+
+-- a decimal digit is worth less than ten
+pub decimal_below_ten : IsBelowTen decimal_table
+decimal_below_ten byte = grind (arith, nat_tests)
+
+-- a digit behind a number
+pub digit_joins : (len number w : ℕ) → number < 10 ^ len → w < 10 → number * 10 + w < 10 ^ (len + 1)
+digit_joins len number w small digit = rw (pow-add 10 len 1) (grind arith)
+
+-- a number of at most 16 digits has 64 bits
+pub sixteen_digits : (len number : ℕ) → len ≤ 16 → number < 10 ^ len → number < 2 ^ 64
+sixteen_digits len number short small =
+    let most : 10 ^ len ≤ 10 ^ 16 = pow-le-pow_right {n = 10} (lit< tt) short in
+    let fits : 10 ^ 16 ≤ 2 ^ 64 = lit≤ tt in
+    omega (arith, most, fits)
+
+-- what a digit is worth is below ten
+pub digit_value_of : (t : Table) → IsBelowTen t → (byte w : ℕ) → t byte ≡ Some w → w < 10
+digit_value_of t small byte w digit =
+    let P : ℕ → Type 0 = λ n. n < 10 in
+    subst P (ap (λ (o : Option ℕ). unwrap_or o 0) digit) (small byte)
+
+-- The answers case by case.
+
+-- a narrow whole answer by the length of the run and its value
+pub narrow_whole_is : (t : Table) (bound limit : ℕ) (skip : Bool) (s : List ℕ) (n number : ℕ) → run_len t s ≡ n → value t (take n s) ≡ number
+    → whole_magnitude t narrow bound limit skip s ≡ unless_refused (if n == 0 then Some empty
+    else (if nat_lt bound number then Some (overflow s)
+    else (if not (n == length s) then Some (invalid64 number n s) else None))) number
+unfolding refusal
+narrow_whole_is t bound limit skip s n number at_n is_number = rw (at_n, is_number) refl
+
+-- a byte that is no digit stands behind i digits that write a number in bounds
+pub narrow_whole_rest : (t : Table) (bound limit : ℕ) (skip : Bool) (s : List ℕ) (i number : ℕ) → i < length s → t (get_or s i 0) ≡ None
+    → i + run_len t (drop i s) ≡ run_len t s → number ≡ value t (take i s) → number ≤ bound
+    → whole_magnitude t narrow bound limit skip s ≡ Err (if i == 0 then empty else invalid64 number i s)
+narrow_whole_rest t bound limit skip s i number here none so_far is_number fits =
+    narrow_whole_is t bound limit skip s i number (run_ends t s i here none so_far) (sym is_number)
+    ∙ grind (arith, nat_tests)
+
+-- one digit more makes a number above the bound
+pub narrow_whole_over : (t : Table) (bound limit : ℕ) (skip : Bool) (s : List ℕ) (i w : ℕ) → i < length s → t (get_or s i 0) ≡ Some w
+    → i + run_len t (drop i s) ≡ run_len t s → bound < value t (take i s) * 10 + w
+    → whole_magnitude t narrow bound limit skip s ≡ Err (overflow s)
+narrow_whole_over t bound limit skip s i w here digit so_far over =
+    let longer : i + 1 ≤ run_len t s = omega (arith, run_more t s i w here digit so_far) in
+    let above : bound < value t (take (run_len t s) s) = omega (arith, value_more t s i w here digit, value-take-le t s (i + 1) (run_len t s) longer) in
+    narrow_whole_is t bound limit skip s (run_len t s) (value t (take (run_len t s) s)) refl refl
+    ∙ grind (arith, nat_tests)
+
+-- all bytes are digits
+pub narrow_whole_end : (t : Table) (bound limit : ℕ) (skip : Bool) (s : List ℕ) (i number : ℕ) → i ≤ length s → length s ≤ i
+    → i + run_len t (drop i s) ≡ run_len t s → number ≡ value t (take i s) → number ≤ bound
+    → whole_magnitude t narrow bound limit skip s ≡ (if length s == 0 then Err empty else Ok number)
+narrow_whole_end t bound limit skip s i number within all so_far is_number fits =
+    let no_more : run_len t (drop i s) ≡ 0 = prefix_len-drop_all (is_digit t) s i all in
+    narrow_whole_is t bound limit skip s i number (omega arith) (sym is_number)
+    ∙ grind (arith, nat_tests)

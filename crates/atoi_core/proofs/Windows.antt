@@ -1,0 +1,470 @@
+-- Windows: what they say about their slice, and the loop that skips leading zeros by them.
+use Rattle.std.proofs.Common.{◌≡◌, ◌⊎◌, ℕ, ◌+◌, ◌-◌, ◌*◌, ◌^◌, ◌<◌, ◌≤◌, min, Bool, true, false, cond, eqb, ltb, List, length, take, drop, Some, None, Ok, Err, refl, sym, ap, ◌∙◌, subst, inl, inr, arith, ne_eqb, le-ltb, lit<, ◌==◌, ◌/◌, ◌||◌, nat_lt, if◌then◌else◌}
+use Rattle.std.proofs.Math.Nat.{pow-le-pow_right}
+use Rattle.std.proofs.lemmas.Bool.{cases_lt, eqb-true, eqb-false, lt-ltb, false≢true}
+use Rattle.std.proofs.lemmas.List.{take-take, length-take, length-take-le, take_rest}
+use Rattle.std.proofs.lemmas.List.Sums.{prefix_len-le-length}
+use Rattle.atoi_core.specs.Digit.{Table, IsBelowTen, is_digit, is_zero}
+use Rattle.atoi_core.specs.Run.{run_len, run, zeros, value}
+use Rattle.atoi_core.specs.Refusal.{Refusal, empty, size, overflow}
+use Rattle.atoi_core.specs.Magnitude.{Class, narrow, wide64, wide128, HasDigits, skipped_zeros, refusal, unless_refused, prefix_magnitude}
+use Rattle.atoi_core.specs.Reading.{Reading, IsSkipped, counting_digits, cap, answer_by_digits, ReadingDecides}
+use Rattle.atoi_core.proofs.Runs.{prefix_len-take, prefix_len-drop, zeros-le, value-below, value-take-add, value-drop_zeros}
+use Rattle.atoi_core.specs.Window.{window_of}
+use Rattle.atoi_core.specs.declared.window.Window.{Window}
+use Rattle.std.proofs.lemmas.Bool.Decides.{nat_tests}
+use Rattle.atoi_core.specs.Loads.{LoadsWithin, most_loads}
+
+-- What was read at the front of a slice decides the answer of a wide class.
+
+-- zeros that are left behind some of them
+pub zeros_left : (t : Table) (count : ℕ) (s : List ℕ) (place : ℕ) → place ≤ zeros t s
+    → zeros t (take count (drop place s)) ≡ min count (zeros t s - place)
+zeros_left t count s place within =
+    omega (arith, prefix_len-take (is_zero t) count (drop place s), prefix_len-drop (is_zero t) place s within)
+
+-- how many lead both of two readings
+leading_both : (n m k z y : ℕ) → k ≡ min n z → (n ≤ z → z ≡ n + y) → min (n + m) z ≡ cond (eqb k n) (n + min m y) k
+leading_both n m k z y k_is more =
+    (elim (eqb k n) as (λ b. eqb k n ≡ b → min (n + m) z ≡ cond b (n + min m y) k) [
+      | true ↦ λ e. let all : k ≡ n = eqb-true k n e in omega (arith, more (omega arith))
+      | false ↦ λ e. omega (arith, eqb-false k n e)
+    ]) refl
+
+-- a reading that is full of digits, and one behind it
+pub joined : (t : Table) (count more : ℕ) (s : List ℕ) (leading high digits others low : ℕ)
+    → Reading t count s count leading high → Reading t more (drop count s) digits others low
+    → Reading t (count + more) s (count + digits) (cond (eqb leading count) (count + others) leading) (high * 10 ^ digits + low)
+joined t count more s leading high digits others low front back =
+    let full : count ≡ min count (run_len t s) = front.digits_are ∙ prefix_len-take (is_digit t) count s in
+    let rest : run_len t s ≡ count + run_len t (drop count s) = prefix_len-drop (is_digit t) count s (omega arith) in
+    let behind : digits ≡ min more (run_len t (drop count s)) = back.digits_are ∙ prefix_len-take (is_digit t) more (drop count s) in
+    let all : run_len t (take (count + more) s) ≡ count + digits = omega (arith, prefix_len-take (is_digit t) (count + more) s) in
+    let first : high ≡ value t (take count s) =
+    front.number_is ∙ ap (λ (n : ℕ). value t (take n (take count s))) (sym front.digits_are) ∙ ap (value t) (take-take count count s (omega arith)) in
+    let last : low ≡ value t (take digits (drop count s)) =
+    back.number_is ∙ ap (λ (n : ℕ). value t (take n (take more (drop count s)))) (sym back.digits_are)
+    ∙ ap (value t) (take-take digits more (drop count s) (omega arith)) in
+    let cut : value t (run t (take (count + more) s)) ≡ value t (take (count + digits) s) =
+    ap (λ (n : ℕ). value t (take n (take (count + more) s))) all ∙ ap (value t) (take-take (count + digits) (count + more) s (omega arith)) in
+    let sum : value t (take (count + digits) s) ≡ high * 10 ^ digits + low =
+    value-take-add t count digits s (omega (arith, prefix_len-le-length (is_digit t) s))
+    ∙ ap (λ (n : ℕ). n * 10 ^ digits + value t (take digits (drop count s))) (sym first)
+    ∙ ap (λ (n : ℕ). high * 10 ^ digits + n) (sym last) in
+    let zeros_behind : others ≡ min more (zeros t (drop count s)) = back.leading_are ∙ prefix_len-take (is_zero t) more (drop count s) in
+    let zeros_both : min (count + more) (zeros t s) ≡ cond (eqb leading count) (count + min more (zeros t (drop count s))) leading =
+    leading_both count more leading (zeros t s) (zeros t (drop count s)) (front.leading_are ∙ prefix_len-take (is_zero t) count s) (prefix_len-drop (is_zero t) count s) in
+    record {
+      digits_are = sym all;
+      leading_are = sym (prefix_len-take (is_zero t) (count + more) s ∙ zeros_both ∙ ap (λ (n : ℕ). cond (eqb leading count) (count + n) leading) (sym zeros_behind));
+      number_is = sym (cut ∙ sum);
+    }
+
+-- a reading that does not end in digits tells of more bytes too
+pub widened : (t : Table) (count more : ℕ) (s : List ℕ) (digits leading number : ℕ) → Reading t count s digits leading number
+    → digits < count → count ≤ more → Reading t more s digits leading number
+widened t count more s digits leading number reading ends longer =
+    let all : run_len t s ≡ digits = omega (arith, reading.digits_are, prefix_len-take (is_digit t) count s) in
+    let few : digits ≤ count = omega arith in
+    let len : digits ≡ run_len t (take more s) = omega (arith, prefix_len-take (is_digit t) more s) in
+    record {
+      digits_are = len;
+      leading_are = omega (arith, reading.leading_are, prefix_len-take (is_zero t) count s, prefix_len-take (is_zero t) more s, zeros-le t s);
+      number_is = reading.number_is ∙ ap (λ (n : ℕ). value t (take n (take count s))) (sym reading.digits_are)
+          ∙ ap (value t) (take-take digits count s few ∙ sym (take-take digits more s (omega arith)))
+          ∙ ap (λ (n : ℕ). value t (take n (take more s))) len;
+    }
+
+-- zeros are digits, and digits are bytes
+pub within : (t : Table) (count : ℕ) (s : List ℕ) (digits leading number : ℕ) → Reading t count s digits leading number
+    → (leading ≤ digits) × (digits ≤ min count (length s))
+within t count s digits leading number reading =
+    let most : run_len t (take count s) ≤ length (take count s) = prefix_len-le-length (is_digit t) (take count s) in
+    (omega (arith, reading.leading_are, reading.digits_are, zeros-le t (take count s)), omega (arith, reading.digits_are, length-take count s))
+
+-- the number of a reading is that of a front of digits
+pub below : (t : Table) → IsBelowTen t → (count : ℕ) (s : List ℕ) (digits leading number : ℕ) → Reading t count s digits leading number
+    → number < 10 ^ digits
+below t ten count s digits leading number reading =
+    let front : List ℕ = take count s in
+    let len : length (run t front) ≡ digits = length-take-le (run_len t front) front (prefix_len-le-length (is_digit t) front) ∙ sym reading.digits_are in
+    let P : ℕ → Type 0 = λ (n : ℕ). value t (run t front) < 10 ^ n in
+    omega (arith, reading.number_is, subst P len (value-below t ten (run t front)))
+
+-- the first of three tests that holds refuses
+first_refusal : {A : Type 0} (a b c : Bool) (p q r : Refusal) (v : A)
+    → unless_refused (cond a (Some p) (cond b (Some q) (cond c (Some r) None))) v ≡ cond a (Err p) (cond b (Err q) (cond c (Err r) (Ok v)))
+first_refusal true b c p q r v = refl
+first_refusal false true c p q r v = refl
+first_refusal false false true p q r v = refl
+first_refusal false false false p q r v = refl
+
+-- the answer of a wide class by all digits of the slice, the zeros that are skipped told apart
+by_all_digits : (t : Table) (class : Class) (bound limit : ℕ) (skip : Bool) (s : List ℕ) (skipped counting : ℕ) → limit < cap class
+    → skipped_zeros t skip s ≡ skipped → run_len t s ≡ skipped + counting
+    → prefix_magnitude t class bound limit skip s ≡ answer_by_digits class bound limit skipped counting (value t (run t s)) s
+unfolding refusal
+by_all_digits t narrow bound limit skip s skipped counting less zeros_are total = absurd (omega arith)
+by_all_digits t wide64 bound limit skip s skipped counting less zeros_are total =
+    let others : skipped + counting - skipped ≡ counting = omega arith in
+    rw (zeros_are, total, others) (first_refusal (eqb (skipped + counting) 0) (ltb limit counting) _ empty (size (skipped + min counting 24) (drop skipped s)) (overflow (drop skipped s)) _)
+by_all_digits t wide128 bound limit skip s skipped counting less zeros_are total =
+    let others : skipped + counting - skipped ≡ counting = omega arith in
+    rw (zeros_are, total, others) (first_refusal (eqb (skipped + counting) 0) (ltb limit counting) _ empty (size (skipped + min counting 40) (drop skipped s)) (overflow (drop skipped s)) _)
+
+-- as many digits as a size tells are too many, whatever they write
+by_many_digits : (class : Class) (bound limit skipped counting number : ℕ) (s : List ℕ) → limit < cap class → cap class ≤ counting
+    → answer_by_digits class bound limit skipped counting number s ≡ Err (size (skipped + cap class) (drop skipped s))
+by_many_digits class bound limit skipped counting number s less many =
+    let some : eqb (skipped + counting) 0 ≡ false = ne_eqb (skipped + counting) 0 (omega arith) in
+    let long : ltb limit counting ≡ true = lt-ltb limit counting (omega arith) in
+    let most : min counting (cap class) ≡ cap class = omega arith in
+    rw (some, long, most) refl
+
+-- the zeros that are skipped are those before the place and those that were read
+skipped_is : (skip : Bool) (z place digits leading : ℕ) → leading ≤ digits → (skip ≡ false → place ≡ 0) → (skip ≡ true → z ≡ place + leading)
+    → cond skip z 0 ≡ place + (digits - counting_digits skip digits leading)
+skipped_is true z place digits leading most asked zeros_are = omega (arith, zeros_are refl)
+skipped_is false z place digits leading most asked zeros_are = omega (arith, asked refl)
+
+-- no more digits count than were read
+counting_most : (skip : Bool) (digits leading : ℕ) → counting_digits skip digits leading ≤ digits
+counting_most true digits leading = omega arith
+counting_most false digits leading = omega arith
+
+-- behind zeros that are skipped, what was read decides
+pub decided : (t : Table) (class : Class) (bound limit : ℕ) → limit < cap class
+    → (skip : Bool) (s : List ℕ) (place count digits leading number : ℕ) → IsSkipped t skip s place
+    → Reading t count (drop place s) digits leading number
+    → (digits < count) ⊎ (cap class ≤ counting_digits skip digits leading)
+    → prefix_magnitude t class bound limit skip s
+    ≡ answer_by_digits class bound limit (place + (digits - counting_digits skip digits leading)) (counting_digits skip digits leading) number s
+decided t class bound limit less skip s place count digits leading number skipped reading enough =
+    let body : List ℕ = drop place s in
+    let run_is : run_len t s ≡ place + run_len t body = prefix_len-drop (is_digit t) place s (omega (arith, skipped.zeros_only, zeros-le t s)) in
+    let zeros_are : zeros t s ≡ place + zeros t body = prefix_len-drop (is_zero t) place s skipped.zeros_only in
+    let zeros_most : zeros t body ≤ run_len t body = zeros-le t body in
+    let digits_are : digits ≡ min count (run_len t body) = reading.digits_are ∙ prefix_len-take (is_digit t) count body in
+    let leading_are : leading ≡ min count (zeros t body) = reading.leading_are ∙ prefix_len-take (is_zero t) count body in
+    let counting : ℕ = counting_digits skip digits leading in
+    let most : counting ≤ digits = counting_most skip digits leading in
+    let all_zeros : skip ≡ true → zeros t s ≡ place + leading =
+    λ on. elim enough [ inl ends ↦ omega arith | inr many ↦ omega (arith, many, ap (λ b. counting_digits b digits leading) on) ] in
+    let front : ℕ = place + (digits - counting) in
+    let skipped_are : skipped_zeros t skip s ≡ front = skipped_is skip (zeros t s) place digits leading (omega arith) skipped.asked all_zeros in
+    elim enough [
+      | inl ends ↦
+          let all : run_len t body ≡ digits = omega arith in
+          let number_is : value t (run t s) ≡ number =
+          value-drop_zeros t place s skipped.zeros_only ∙ ap (λ (n : ℕ). value t (take n body)) all
+          ∙ ap (value t) (sym (take-take digits count body (omega arith)))
+          ∙ ap (λ (n : ℕ). value t (take n (take count body))) reading.digits_are ∙ sym reading.number_is in
+          by_all_digits t class bound limit skip s front counting less skipped_are (omega arith)
+          ∙ ap (λ (n : ℕ). answer_by_digits class bound limit front counting n s) number_is
+      | inr many ↦
+          let rest : ℕ = run_len t s - front in
+          by_all_digits t class bound limit skip s front rest less skipped_are (omega arith)
+          ∙ by_many_digits class bound limit front rest (value t (run t s)) s less (omega arith)
+          ∙ sym (by_many_digits class bound limit front counting number s less many)
+    ]
+
+-- fewer digits than the bound has write less than it
+pub below_bound : (limit bound digits number : ℕ) → HasDigits limit bound → digits < limit → number < 10 ^ digits → number < bound
+below_bound limit bound digits number bounds few small =
+    let most : 10 ^ digits ≤ 10 ^ (limit - 1) = pow-le-pow_right (lit< tt) (omega arith) in
+    omega (arith, bounds.0)
+
+-- fewer digits than the limit, with no digit after them, do not pass the bound
+pub short_below : (t : Table) (class : Class) (bound limit : ℕ) → limit < cap class → HasDigits limit bound
+    → (skip : Bool) (s : List ℕ) (place count digits leading number : ℕ) → IsSkipped t skip s place
+    → Reading t count (drop place s) digits leading number → digits < count → digits < limit → number < 10 ^ digits
+    → (number ≤ bound) × (prefix_magnitude t class bound limit skip s ≡ cond (eqb (place + digits) 0) (Err empty) (Ok (number, place + digits)))
+short_below t class bound limit less bounds skip s place count digits leading number skipped reading ends few small =
+    let counting : ℕ = counting_digits skip digits leading in
+    let most : counting ≤ digits = counting_most skip digits leading in
+    let within : number < bound = below_bound limit bound digits number bounds few small in
+    let total : place + (digits - counting) + counting ≡ place + digits = omega arith in (
+      omega arith,
+      decided t class bound limit less skip s place count digits leading number skipped reading (inl ends)
+          ∙ rw (le-ltb limit counting (omega arith), le-ltb bound number (omega arith), total) refl,
+    )
+
+-- as no digit is worth more than nine
+pub short : (t : Table) → IsBelowTen t → (class : Class) (bound limit : ℕ) → limit < cap class → HasDigits limit bound
+    → (skip : Bool) (s : List ℕ) (place count digits leading number : ℕ) → IsSkipped t skip s place
+    → Reading t count (drop place s) digits leading number → digits < count → digits < limit
+    → (number ≤ bound) × (prefix_magnitude t class bound limit skip s ≡ cond (eqb (place + digits) 0) (Err empty) (Ok (number, place + digits)))
+short t ten class bound limit less bounds skip s place count digits leading number skipped reading ends few =
+    short_below t class bound limit less bounds skip s place count digits leading number skipped reading ends few
+    (below t ten count (drop place s) digits leading number reading)
+
+-- all digits count of a reading that begins with no zero to skip
+all_count : (skip : Bool) (digits leading : ℕ) → (skip ≡ true → leading ≡ 0) → counting_digits skip digits leading ≡ digits
+all_count true digits leading none = omega (arith, none refl)
+all_count false digits leading none = refl
+
+-- so they decide, where as many bytes were read as a size tells
+pub all_decide : (t : Table) (class : Class) (bound limit : ℕ) → limit < cap class
+    → (skip : Bool) (s : List ℕ) (place digits leading number : ℕ) → IsSkipped t skip s place
+    → Reading t (cap class) (drop place s) digits leading number → (skip ≡ true → leading ≡ 0)
+    → prefix_magnitude t class bound limit skip s ≡ answer_by_digits class bound limit place digits number s
+all_decide t class bound limit less skip s place digits leading number skipped reading none =
+    let counting : counting_digits skip digits leading ≡ digits = all_count skip digits leading none in
+    let enough : (digits < cap class) ⊎ (cap class ≤ counting_digits skip digits leading) =
+    elim (cases_lt digits (cap class)) [ inl h ↦ inl h | inr h ↦ inr (omega (arith, counting)) ] in
+    let at : place + (digits - counting_digits skip digits leading) ≡ place = omega (arith, counting) in
+    decided t class bound limit less skip s place (cap class) digits leading number skipped reading enough
+    ∙ ap (λ (n : ℕ). answer_by_digits class bound limit n (counting_digits skip digits leading) number s) at
+    ∙ ap (λ (n : ℕ). answer_by_digits class bound limit place n number s) counting
+
+-- the law that these add up to
+pub reading_decides : ReadingDecides
+reading_decides = record { zeros_left = zeros_left; joined = joined; widened = widened; within = within; below = below; decided = decided; short = short; full = all_decide }
+
+-- What a window tells of the slice that it was loaded from.
+
+-- what a window w of c bytes tells of a slice s
+pub record Shows (t : Table) (c : ℕ) (s : List ℕ) (w : Window) : Type 0 where
+  pub reading : Reading t c s w.len (zeros t (take c s)) w.number
+  pub len_is : w.len ≡ min c (run_len t s)
+  pub number_is : w.number ≡ value t (take w.len s)
+  -- the number has as many places as there are digits
+  pub below : w.number < 10 ^ w.len
+  -- zeros are told of a full one alone
+  pub zeroes : w.zeroes ≤ zeros t s
+  pub full : 0 < w.zeroes → w.len ≡ c
+  pub zeroes_of : w.len ≡ c → w.zeroes ≡ min c (zeros t s)
+
+-- zeros that are told only of n bytes that fill the window
+zeroes_cases : (n c z k : ℕ) → z ≡ min c k → (cond (n == c) z 0 ≤ k) × (0 < cond (n == c) z 0 → n ≡ c) × (n ≡ c → cond (n == c) z 0 ≡ min c k)
+zeroes_cases n c z k e =
+    (elim (n == c) as (λ b. (n == c) ≡ b → (cond b z 0 ≤ k) × (0 < cond b z 0 → n ≡ c) × (n ≡ c → cond b z 0 ≡ min c k)) [
+      | true ↦ λ q. (omega arith, λ _. eqb-true n c q, λ _. e)
+      | false ↦ λ q. (omega arith, λ p. absurd (omega arith), λ p. absurd (eqb-false n c q p))
+    ]) refl
+
+-- of a window as it is defined
+shows_of : (t : Table) → IsBelowTen t → (c : ℕ) (s : List ℕ) → Shows t c s (window_of t c s)
+shows_of t ten c s =
+    let n : ℕ = run_len t (take c s) in
+    let len : n ≡ min c (run_len t s) = prefix_len-take (is_digit t) c s in
+    let reading : Reading t c s n (zeros t (take c s)) (value t (take n (take c s))) =
+    record { digits_are = refl; leading_are = refl; number_is = refl } in
+    let tell = zeroes_cases n c (zeros t (take c s)) (zeros t s) (prefix_len-take (is_zero t) c s) in
+    record {
+      reading = reading;
+      len_is = len;
+      number_is = ap (value t) (take-take n c s (omega arith));
+      below = below t ten c s n _ _ reading;
+      zeroes = tell.0;
+      full = tell.1;
+      zeroes_of = tell.2;
+    }
+
+-- of any window that is equal to it
+pub shows : (t : Table) → IsBelowTen t → (c : ℕ) (s : List ℕ) (w : Window) → w ≡ window_of t c s → Shows t c s w
+shows t ten c s w e = let P : Window → Type 0 = λ v. Shows t c s v in subst P (sym e) (shows_of t ten c s)
+
+-- the zeros of two readings, the first of c bytes
+abbrev pub zeros_both : (c leading others : ℕ) → ℕ
+zeros_both c leading others = cond (eqb leading c) (c + others) leading
+
+-- a full window is a reading of as many digits as it has bytes
+Shows-full : (t : Table) (c : ℕ) (s : List ℕ) (w : Window) → Shows t c s w → c ≤ w.len → Reading t c s c (zeros t (take c s)) w.number
+Shows-full t c s w tell more =
+    let full : w.len ≡ c = omega (arith, tell.len_is) in
+    let P : ℕ → Type 0 = λ n. Reading t c s n (zeros t (take c s)) w.number in
+    subst P full tell.reading
+
+-- a full window of 16 bytes, and the window behind it
+pub Shows-join : (t : Table) (d : ℕ) (s : List ℕ) (front back : Window) → Shows t 16 s front → 16 ≤ front.len → Shows t d (drop 16 s) back
+    → Reading t (16 + d) s (16 + back.len) (zeros_both 16 (zeros t (take 16 s)) (zeros t (take d (drop 16 s)))) (front.number * 10 ^ back.len + back.number)
+Shows-join t d s front back first full second = joined t 16 d s _ _ _ _ _ (Shows-full t 16 s front first full) second.reading
+
+-- two full windows, and the window behind them
+pub Shows-join_two : (t : Table) (s : List ℕ) (front middle back : Window) → Shows t 16 s front → 16 ≤ front.len
+    → Shows t 16 (drop 16 s) middle → 16 ≤ middle.len → Shows t 8 (drop 32 s) back
+    → Reading t 40 s (32 + back.len) (zeros_both 32 (zeros_both 16 (zeros t (take 16 s)) (zeros t (take 16 (drop 16 s)))) (zeros t (take 8 (drop 32 s))))
+    ((front.number * 10 ^ 16 + middle.number) * 10 ^ back.len + back.number)
+Shows-join_two t s front middle back first full second more third =
+    joined t 32 8 s _ _ _ _ _ (joined t 16 16 s _ _ _ _ _ (Shows-full t 16 s front first full) (Shows-full t 16 (drop 16 s) middle second more)) third.reading
+
+-- The loop that skips zeros by whole windows: how far it comes, and how many windows it loads.
+
+-- before a window is loaded at a place `at`: only zeros stand before it, a window was loaded for
+-- each 16 of them, and one more where it told fewer
+pub record Skipping (t : Table) (skip : Bool) (s : List ℕ) (at before now : ℕ) : Type 0 where
+  pub bounded : at ≤ zeros t s
+  pub within : at ≤ length s
+  pub off : skip ≡ false → at ≡ 0
+  pub most : 16 * now ≤ 16 * before + at + 15
+  pub least : at + 16 * before ≤ 16 * now
+  pub place : (16 * now ≡ 16 * before + at) ⊎ ((at ≡ zeros t s) × (zeros t s / 16 < run_len t s / 16))
+
+-- a window of the rest of a slice from a place on
+pub shows_rest : (t : Table) → IsBelowTen t → (c : ℕ) (s : List ℕ) (at : ℕ) (w : Window) →
+    w ≡ window_of t c (take (length s - at) (drop at s)) → Shows t c (drop at s) w
+shows_rest t below c s at w e = shows t below c (drop at s) w (e ∙ ap (window_of t c) (take_rest s at))
+
+-- two windows full of digits are 32 digits
+pub two_full : (t : Table) → IsBelowTen t → (s : List ℕ) (first second : Window) → first ≡ window_of t 16 s → first.len ≡ 16
+    → second ≡ window_of t 16 (take (length s - 16) (drop 16 s)) → 16 ≤ second.len → 32 ≤ run_len t s
+two_full t below s first second is full next more =
+    omega (arith, prefix_len-drop (is_digit t) 16 s (omega (arith, full, (shows t below 16 s first is).len_is)), (shows_rest t below 16 s 16 second next).len_is)
+
+-- a window k bytes behind such a place
+pub shows_behind : (t : Table) → IsBelowTen t → (c k : ℕ) (s : List ℕ) (at : ℕ) (w : Window) →
+    w ≡ window_of t c (take (length (take (length s - at) (drop at s)) - k) (drop k (take (length s - at) (drop at s)))) →
+    Shows t c (drop k (drop at s)) w
+shows_behind t below c k s at w e =
+    shows_rest t below c (drop at s) k w
+    (e ∙ ap (λ (r : List ℕ). window_of t c (take (length r - k) (drop k r))) (take_rest s at))
+
+-- nothing is skipped at first
+pub Skipping-none : (t : Table) (skip : Bool) (s : List ℕ) (n : ℕ) → Skipping t skip s 0 n n
+Skipping-none t skip s n = record {
+  bounded = omega arith;
+  within = omega arith;
+  off = λ _. refl;
+  most = omega arith;
+  least = omega arith;
+  place = inl (omega arith);
+}
+
+-- a window that tells zeros is skipped by them
+pub Skipping-more : (t : Table) → IsBelowTen t → (skip : Bool) (s : List ℕ) (at after before now next : ℕ) (w : Window) →
+    Skipping t skip s at before now → w ≡ window_of t 16 (take (length s - at) (drop at s)) → next ≡ now + 1 →
+    skip ≡ true → 0 < w.zeroes → after ≡ at + w.zeroes → Skipping t skip s after before next
+Skipping-more t below skip s at after before now next w so e one on some dropped =
+    let tell : Shows t 16 (drop at s) w = shows_rest t below 16 s at w e in
+    let zeros_are : zeros t s ≡ at + zeros t (drop at s) = prefix_len-drop (is_zero t) at s so.bounded in
+    let run_is : run_len t s ≡ at + run_len t (drop at s) = prefix_len-drop (is_digit t) at s (omega (arith, so.bounded, zeros-le t s)) in
+    let run_most : run_len t s ≤ length s = prefix_len-le-length (is_digit t) s in
+    let zero_most : zeros t s ≤ run_len t s = zeros-le t s in
+    let told : w.zeroes ≡ min 16 (zeros t (drop at s)) = tell.zeroes_of (tell.full some) in
+    let full : w.len ≡ 16 = tell.full some in
+    let run_more : w.len ≤ run_len t (drop at s) = omega (arith, tell.len_is) in
+    let exact : 16 * now ≡ 16 * before + at =
+    elim so.place [ inl h ↦ h | inr h ↦ absurd (omega (arith, h.0)) ] in
+    record {
+      bounded = omega arith;
+      within = omega arith;
+      off = λ h. absurd (false≢true (sym h ∙ on));
+      most = omega arith;
+      least = omega arith;
+      place = elim (cases_lt w.zeroes 16) [
+        | inl h ↦ inr (omega arith, omega arith)
+        | inr h ↦ inl (omega arith)
+      ];
+    }
+
+-- after the last window w at a place `at`: the run, the zeros and the value go on from there, a full
+-- window of a call that skips begins behind all zeros, and the windows are counted
+pub record Skipped (t : Table) (skip : Bool) (s : List ℕ) (at before now : ℕ) (w : Window) : Type 0 where
+  pub shown : Shows t 16 (drop at s) w
+  pub within : at ≤ length s
+  pub off : skip ≡ false → at ≡ 0
+  pub run_is : run_len t s ≡ at + run_len t (drop at s)
+  pub zeros_are : zeros t s ≡ at + zeros t (drop at s)
+  pub value_is : value t (run t s) ≡ value t (run t (drop at s))
+  pub full : skip ≡ true → w.len ≡ 16 → at ≡ zeros t s
+  pub last : skip ≡ true → w.zeroes ≡ 0
+  pub more : before < now
+  pub most : 16 * now ≤ 16 * before + zeros t s + 31
+  pub unskipped : skip ≡ false → now ≤ before + 1
+  pub least : skip ≡ true → zeros t s + 16 * before ≤ 16 * now
+  pub place : skip ≡ true → (at ≡ 16 * (zeros t s / 16)) ⊎ ((at ≡ zeros t s) × (zeros t s / 16 < run_len t s / 16))
+
+-- a window that tells no zeros, or a call that does not skip, ends the loop
+pub Skipped-end : (t : Table) → IsBelowTen t → (skip : Bool) (s : List ℕ) (at before now next : ℕ) (w : Window) →
+    Skipping t skip s at before now → w ≡ window_of t 16 (take (length s - at) (drop at s)) → next ≡ now + 1 →
+    (skip ≡ false) ⊎ ((skip ≡ true) × (w.zeroes ≡ 0)) → Skipped t skip s at before next w
+Skipped-end t below skip s at before now next w so e one stops =
+    let last : skip ≡ true → w.zeroes ≡ 0 =
+    λ h. elim stops [ inl k ↦ absurd (false≢true (sym k ∙ h)) | inr k ↦ k.1 ] in
+    let tell : Shows t 16 (drop at s) w = shows_rest t below 16 s at w e in
+    let zeros_are : zeros t s ≡ at + zeros t (drop at s) = prefix_len-drop (is_zero t) at s so.bounded in
+    let run_is : run_len t s ≡ at + run_len t (drop at s) = prefix_len-drop (is_digit t) at s (omega (arith, so.bounded, zeros-le t s)) in
+    let zero_most : zeros t (drop at s) ≤ run_len t (drop at s) = zeros-le t (drop at s) in
+    let full : skip ≡ true → w.len ≡ 16 → at ≡ zeros t s = λ h k. omega (arith, last h, tell.zeroes_of k) in
+    let short : w.len < 16 → zeros t (drop at s) < 16 = λ h. omega (arith, tell.len_is) in
+    record {
+      shown = tell;
+      within = so.within;
+      off = so.off;
+      run_is = run_is;
+      zeros_are = zeros_are;
+      value_is = value-drop_zeros t at s so.bounded;
+      full = full;
+      last = last;
+      more = omega (arith, so.least);
+      most = omega (arith, so.most, so.bounded);
+      unskipped = λ h. omega (arith, so.off h, so.most);
+      least = λ h. elim (cases_lt w.len 16) [
+        | inl k ↦ omega (arith, short k, so.least)
+        | inr k ↦ omega (arith, full h (omega (arith, tell.len_is)), so.least)
+      ];
+      place = λ h. elim so.place [
+        | inr k ↦ inr k
+        | inl k ↦ (elim (cases_lt w.len 16) [
+          | inl m ↦ inl (omega (arith, short m))
+          | inr m ↦ inl (omega (arith, full h (omega (arith, tell.len_is))))
+        ])
+      ];
+    }
+
+-- a call that loads so many windows more, where these are within its bound
+pub Skipped-loads : {t : Table} {skip : Bool} {s : List ℕ} {at before now last most unskipped : ℕ} {w : Window} →
+    Skipped t skip s at before now w → (more : ℕ) → last ≡ now + more → zeros t s / 16 + 2 + more ≤ most → 1 + more ≤ unskipped →
+    LoadsWithin most unskipped t skip s before last
+Skipped-loads so more counted bounded few = record {
+  at_most = omega (arith, so.most);
+  at_most_unskipped = λ off. omega (arith, so.unskipped off);
+  at_least = λ _. omega (arith, so.more);
+  at_least_skipping = λ on. omega (arith, so.least on);
+}
+
+-- a first window is all that is loaded, and where zeros count and it is full one more
+pub Skipped-one : (t : Table) (skip : Bool) (s : List ℕ) (at before now last : ℕ) {w : Window} → Skipped t skip s at before now w →
+    now ≡ before + 1 → last ≡ now + (if skip || nat_lt (run_len t s) 16 then 0 else 1) → LoadsWithin (most_loads t narrow s) 2 t skip s before last
+Skipped-one t true s at before now last so one counted = record {
+  at_most = omega arith;
+  at_most_unskipped = λ off. absurd (cc off);
+  at_least = λ _. omega arith;
+  at_least_skipping = λ on. omega (arith, so.least on);
+}
+Skipped-one t false s at before now last so one counted = record {
+  at_most = grind (arith, nat_tests);
+  at_most_unskipped = λ _. grind (arith, nat_tests);
+  at_least = λ _. grind (arith, nat_tests);
+  at_least_skipping = λ on. absurd (cc on);
+}
+
+-- the zeros that a first window tells are skipped
+pub Skipping-told : (t : Table) → IsBelowTen t → (s : List ℕ) (n zeroes : ℕ) → zeroes ≡ (window_of t 16 s).zeroes → 0 < zeroes →
+    Skipping t true s zeroes n (n + 1)
+Skipping-told t below s n zeroes e some =
+    let w : Window = window_of t 16 s in
+    Skipping-more t below true s 0 zeroes n n (n + 1) w (Skipping-none t true s n) (ap (window_of t 16) (sym (take_rest s 0))) refl refl
+    (omega arith) (omega arith)
+
+-- a first window is the last one where no zeros are skipped
+pub Skipped-at_once : (t : Table) → IsBelowTen t → (skip : Bool) (s : List ℕ) (before next : ℕ) (w : Window) →
+    w ≡ window_of t 16 s → next ≡ before + 1 → (skip ≡ false) ⊎ ((skip ≡ true) × (w.zeroes ≡ 0)) → Skipped t skip s 0 before next w
+Skipped-at_once t below skip s before next w e one stops =
+    Skipped-end t below skip s 0 before before next w (Skipping-none t skip s before)
+    (e ∙ ap (window_of t 16) (sym (take_rest s 0))) one stops
+
+-- one that is not full tells no zeros, and holds the whole run
+pub Skipped-first : (t : Table) → IsBelowTen t → (skip : Bool) (s : List ℕ) (before next : ℕ) (w : Window) →
+    w ≡ window_of t 16 s → next ≡ before + 1 → w.len < 16 → Skipped t skip s 0 before next w
+Skipped-first t below skip s before next w e one short =
+    let tell : Shows t 16 s w = shows t below 16 s w e in
+    let none : w.zeroes ≡ 0 =
+    elim (cases_lt 0 w.zeroes) [
+      | inl h ↦ absurd (omega (arith, tell.full h))
+      | inr h ↦ omega arith
+    ] in
+    let stops : (skip ≡ false) ⊎ ((skip ≡ true) × (w.zeroes ≡ 0)) =
+    elim skip as (λ b. (b ≡ false) ⊎ ((b ≡ true) × (w.zeroes ≡ 0))) [ true ↦ inr (refl, none) | false ↦ inl refl ] in
+    Skipped-at_once t below skip s before next w e one stops

@@ -1,0 +1,46 @@
+-- The window of the filled word is the slice's.
+use Rattle.std.proofs.Common.{◌≡◌, ◌+◌, ◌-◌, ◌++◌, ◌∙◌, refl, sym, ap₂, length, replicate, arith}
+use Rattle.atoi_core.specs.Digit.{decimal_table}
+use Rattle.atoi_core.specs.Run.{run_len}
+use Rattle.atoi_core.specs.Words.{word_of}
+use Rattle.atoi_core.proofs.LoadedWords.{few_in_both, word_filled, filled_fits, filled_digits, filled_window}
+use Rattle.atoi_core.proofs.word_engine.short_window.Goals as goal
+use Rattle.atoi_core.proofs.word_engine.short_window.Goals.{After-digits_of-digits}
+
+pub overflow_add-filled : goal.overflow_add-filled
+overflow_add-filled c = omega (arith, filled_fits c.args.s.now c.requires (λ i. (c.type_inv.s i).fits))
+
+-- zeros fill the word
+filled : (c : After-digits_of-digits) → c.load_high.result + c.fill_of_zeros.result ≡ word_of (replicate (8 - length c.args.s.now) 48 ++ c.args.s.now)
+filled c = ap₂ (λ x y. x + y) c.load_high.ensures c.fill_of_zeros.ensures ∙ word_filled (8 - length c.args.s.now) c.args.s.now
+
+-- the digits of the filled word
+digits : (c : After-digits_of-digits) → c.digits_of-digits.result ≡ 8 - length c.args.s.now + run_len decimal_table c.args.s.now
+digits c =
+    filled_digits c.args.s.now c.requires (λ i. (c.type_inv.s i).fits) c.load_high.result c.fill_of_zeros.result
+    c.digits_of-digits.result c.load_high.ensures c.fill_of_zeros.ensures c.digits_of-digits.ensures.len
+
+pub overflow_sub-digits : goal.overflow_sub-digits
+overflow_sub-digits c = omega (arith, digits (goal.at.overflow_sub-digits c).After-digits_of-digits)
+
+pub returns-then-digits-eq8-clause-of_16 : goal.returns-then-digits-eq8-clause-of_16
+returns-then-digits-eq8-clause-of_16 c =
+    let at = (goal.at.returns-then-digits-eq8-clause-of_16 c).After-digits_of-digits in
+    let s = c.args.s.now in
+    let len : length s ≡ 8 - (8 - length s) = omega arith in
+    c.not_full-then-digits-eq8.ensures
+    ∙ filled_window s c.requires (λ i. (c.type_inv.s i).fits) _ 8 (length s) c.value_of.result (filled at) (sym c.if-digits-eq8.true ∙ digits at) len c.value_of.ensures.sum
+
+pub returns-then-digits-eq8-clause-of_8 : goal.returns-then-digits-eq8-clause-of_8
+returns-then-digits-eq8-clause-of_8 c = λ fewer. returns-then-digits-eq8-clause-of_16 c ∙ few_in_both c.args.s.now fewer
+
+pub returns-else-digits-eq8-clause-of_16 : goal.returns-else-digits-eq8-clause-of_16
+returns-else-digits-eq8-clause-of_16 c =
+    let at = (goal.at.returns-else-digits-eq8-clause-of_16 c).After-digits_of-digits in
+    let s = c.args.s.now in
+    let count = c.digits_of-digits.result in
+    c.not_full-else-digits-eq8.ensures
+    ∙ filled_window s c.requires (λ i. (c.type_inv.s i).fits) _ count (count - (8 - length s)) c.number_in_word.result (filled at) (digits at) refl c.number_in_word.ensures.sum
+
+pub returns-else-digits-eq8-clause-of_8 : goal.returns-else-digits-eq8-clause-of_8
+returns-else-digits-eq8-clause-of_8 c = λ fewer. returns-else-digits-eq8-clause-of_16 c ∙ few_in_both c.args.s.now fewer

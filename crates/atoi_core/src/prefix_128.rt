@@ -1,0 +1,119 @@
+//! The parses of integers of 128 bits from the front of a slice: a run that ends in the first window,
+//! and mostly one that ends in the second, is answered in line, all others by the engine. It uses
+//! `engine`, `window`, `wide_answer`, `steps` and `error`.
+ghost use Rattle.std.specs.Prelude.{◌≡◌, ◌+◌, ◌-◌, ◌<◌, ◌≤◌, ℕ, false, IsTrue, None, IfSome, Ok};
+ghost use Rattle.atoi_core.specs.Loads.{LoadsWithin, most_loads};
+ghost use Rattle.atoi_core.specs.Magnitude.{HasDigits, wide128, prefix_magnitude};
+ghost use Rattle.atoi_core.specs.Refusal.{answer_of};
+ghost use Rattle.atoi_core.specs.Run.{run_len};
+ghost use Rattle.atoi_core.specs.Window.{window_of};
+
+use crate::engine::Engine;
+use crate::error::{AtoiSimdError, out_of_line};
+use crate::steps::Steps;
+use crate::wide_answer::append_digits;
+use crate::window::Window;
+
+/// What `Engine::prefix_128` answers, where the first two windows are read in line. Fewer than 32
+/// digits are never above the bound. The engine is called, and loads again what was read, for 32 digits
+/// or more, and after a first window full of digits that begins with zeros to be skipped, or where `s`
+/// is to be read `whole` and has at least 32 bytes.
+///
+/// # Errors
+///
+/// `Empty`, `Size` and `Overflow`, as of `Engine::prefix_128`.
+#[inline(always)]
+pub(crate) fn prefix_128_inline<'a, E: Engine>(
+    bound: u128,
+    skip: bool,
+    whole: bool,
+    s: &'a [u8],
+    steps: &mut Steps,
+) -> Result<(u128, usize), AtoiSimdError<'a>>
+    requires digits { HasDigits 39 bound }
+    ensures answer { answer_of result ≡ prefix_magnitude E.table wide128 bound 39 skip s.now }
+    ensures loads { LoadsWithin (most_loads E.table wide128 s.now) 5 E.table skip s.now
+        steps.old steps.new }
+{
+    match first_two_windows::<E>(skip, whole, s, steps) {
+        Some(answer) => answer,
+        None => prefix_128_cold::<E>(bound, skip, s, steps),
+    }
+}
+
+// The call of `E::prefix_128`, in a function of its own: the place of its result is then cleared only
+// where the call is made.
+#[inline(always)]
+fn prefix_128_cold<'a, E: Engine>(
+    bound: u128,
+    skip: bool,
+    s: &'a [u8],
+    steps: &mut Steps,
+) -> Result<(u128, usize), AtoiSimdError<'a>>
+    requires digits { HasDigits 39 bound }
+    ensures answer { answer_of result ≡ prefix_magnitude E.table wide128 bound 39 skip s.now }
+    ensures loads { LoadsWithin (most_loads E.table wide128 s.now - 2) 3 E.table skip s.now
+        steps.old steps.new }
+{
+    out_of_line(E::prefix_128(bound, skip, s, steps))
+}
+
+// The answer of the first two windows; none where the engine is to be called.
+#[inline(always)]
+fn first_two_windows<'a, E: Engine>(
+    skip: bool,
+    whole: bool,
+    s: &'a [u8],
+    steps: &mut Steps,
+) -> Option<Result<(u128, usize), AtoiSimdError<'a>>>
+    ensures answer { IfSome result (λ answer. (bound : ℕ) → HasDigits 39 bound
+        → answer_of answer ≡ prefix_magnitude E.table wide128 bound 39 skip s.now) }
+    ensures loads { IfSome result (λ answer.
+        LoadsWithin (most_loads E.table wide128 s.now) 2 E.table skip s.now steps.old steps.new) }
+    ensures none_only_from_32 { result ≡ None → skip ≡ false → whole ≡ false → 32 ≤ run_len E.table s.now }
+    ensures fewest { steps.old < steps.new }
+    ensures most { steps.new ≤ steps.old + 2 }
+{
+    let first = E::window(s, steps);
+    if first.len == 16 && whole && s.len() >= 32 {
+        None
+    } else if first.len == 0 {
+        Some(Err(AtoiSimdError::Empty))
+    } else if first.len < 16 {
+        Some(Ok((u128::from(first.number), first.len as usize)))
+    } else {
+        match second_window::<E>(skip, first, s, steps) {
+            Some(found) => Some(Ok(found)),
+            None => None,
+        }
+    }
+}
+
+// The number and count of a run that ends in the second window, behind a first that is full; none
+// where it goes on, or begins with zeros that are skipped.
+#[inline(always)]
+fn second_window<E: Engine>(
+    skip: bool,
+    first: Window,
+    s: &[u8],
+    steps: &mut Steps,
+) -> Option<(u128, usize)>
+    requires first_window { first ≡ window_of E.table 16 s.now }
+    requires full { first.len ≡ 16 }
+    ensures answer { IfSome result (λ found. (bound : ℕ) → HasDigits 39 bound
+        → Ok found ≡ prefix_magnitude E.table wide128 bound 39 skip s.now) }
+    ensures loads { IfSome result (λ found.
+        LoadsWithin (most_loads E.table wide128 s.now - 1) 1 E.table skip s.now steps.old steps.new) }
+    ensures none_only_from_32 { result ≡ None → skip ≡ false → 32 ≤ run_len E.table s.now }
+    ensures fewest { steps.old ≤ steps.new }
+    ensures most { steps.new ≤ steps.old + 1 }
+{
+    if !skip || first.zeroes == 0 {
+        let second = E::window(&s[16..], steps);
+        if second.len < 16 {
+            let number = append_digits(first.number, second.len, second.number);
+            return Some((number, 16 + second.len as usize));
+        }
+    }
+    None
+}

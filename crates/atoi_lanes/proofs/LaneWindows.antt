@@ -1,0 +1,230 @@
+-- Windows of 16 and of 32 lanes, and the answers that they decide.
+use Rattle.std.proofs.Common.{◌≡◌, ℕ, zero, suc, ◌+◌, ◌<◌, ◌==◌, Bool, true, false, cond, List, [], ◌∷◌, ◌++◌, length, take, replicate, refl, sym, ap, ap₂, ◌∙◌, arith, if◌then◌else◌, ◌-◌, ◌≤◌, drop, ◌⊎◌, ◌*◌, ◌/◌, min, inl, inr, ◌^◌, eqb, subst, lit<}
+use Rattle.std.specs.List.{prefix_len}
+use Rattle.std.proofs.lemmas.List.{take_all, length-take, take-append-le, drop-drop, length-drop, take-replicate, take_rest}
+use Rattle.atoi_core.specs.Digit.{decimal_table, is_digit, is_zero, IsBelowTen}
+use Rattle.atoi_core.specs.Reading.{Reading, IsSkipped, ReadingDecides, counting_digits, answer_by_digits}
+use Rattle.atoi_core.specs.Run.{run_len, run, zeros, value}
+use Rattle.atoi_core.specs.Window.{window_of}
+use Rattle.atoi_core.specs.declared.window.Window.{Window}
+use Rattle.atoi_lanes.specs.LaneWindow.{lane_window}
+use Rattle.atoi_lanes.specs.Padded.{padded_start}
+use Rattle.std.proofs.Math.Seq.{take-append-add}
+use Rattle.std.proofs.lemmas.Bool.{cases_lt, false≢true}
+use Rattle.std.proofs.lemmas.List.Sums.{prefix_len-le-length}
+use Rattle.atoi_lanes.specs.ReadsAfterZeros.{ReadsAfterZeros}
+use Rattle.std.proofs.lemmas.Bool.Decides.{nat_tests}
+use Rattle.atoi_core.specs.Magnitude.{wide64, wide128, prefix_magnitude}
+use Rattle.atoi_lanes.specs.declared.window_32.Window32.{Window32}
+
+-- Zeros in the lanes behind a slice do not show in what the lanes tell.
+
+-- a zero that fails the test ends the front, as the end does
+pub prefix_len-padded : (p : ℕ → Bool) → p 0 ≡ false → (n m : ℕ) (s : List ℕ) → prefix_len p (take n (s ++ replicate m 0)) ≡ prefix_len p (take n s)
+prefix_len-padded p h zero m s = refl
+prefix_len-padded p h (suc n) zero [] = refl
+prefix_len-padded p h (suc n) (suc m) [] = ap (λ b. cond b (1 + prefix_len p (take n (replicate m 0))) 0) h
+prefix_len-padded p h (suc n) m (x ∷ xs) = ap (λ k. cond (p x) (1 + k) 0) (prefix_len-padded p h n m xs)
+
+-- a front that ends within the slice is not changed by what is put behind it
+pub front-padded : (p : ℕ → Bool) (n : ℕ) (s zs : List ℕ) → take (prefix_len p (take n s)) (take n (s ++ zs)) ≡ take (prefix_len p (take n s)) (take n s)
+front-padded p zero s zs = refl
+front-padded p (suc n) [] zs = refl
+front-padded p (suc n) (x ∷ xs) zs =
+    elim (p x) as (λ b. take (cond b (1 + prefix_len p (take n xs)) 0) (x ∷ take n (xs ++ zs)) ≡ take (cond b (1 + prefix_len p (take n xs)) 0) (x ∷ take n xs)) [
+      | true ↦
+          let more : 1 + prefix_len p (take n xs) ≡ suc (prefix_len p (take n xs)) = omega arith in
+          rw more (ap (λ r. x ∷ r) (front-padded p n xs zs))
+      | false ↦ refl
+    ]
+
+-- the lanes tell what the bytes in them do
+lanes_tell : (size : ℕ) (s : List ℕ) → lane_window size (padded_start 16 s) ≡ lane_window size (take 16 s)
+lanes_tell size s =
+    let len = prefix_len-padded (is_digit decimal_table) refl 16 16 s in
+    let leading = prefix_len-padded (is_zero decimal_table) refl 16 16 s in
+    let front : run decimal_table (padded_start 16 s) ≡ run decimal_table (take 16 s) =
+    ap (λ n. take n (padded_start 16 s)) len ∙ front-padded (is_digit decimal_table) 16 s (replicate 16 0) in
+    let window : (ℕ → ℕ → List ℕ → Window) = λ n z r. record { len = n; zeroes = if n == size then z else 0; number = value decimal_table r } in
+    ap₂ (λ n z. window n z (run decimal_table (padded_start 16 s))) len leading
+    ∙ ap (window (run_len decimal_table (take 16 s)) (zeros decimal_table (take 16 s))) front
+
+-- sixteen bytes in sixteen lanes are a window
+pub window-of_lanes : (s : List ℕ) → lane_window 16 (padded_start 16 s) ≡ window_of decimal_table 16 s
+window-of_lanes s = lanes_tell 16 s
+
+-- and so are eight
+pub window-of_half_the_lanes : (s : List ℕ) → lane_window 8 (padded_start 16 (take 8 s)) ≡ window_of decimal_table 8 s
+window-of_half_the_lanes s = lanes_tell 8 (take 8 s) ∙ ap (lane_window 8) (take_all 16 (take 8 s) (omega (arith, length-take 8 s)))
+
+-- the window of fewer than 16 bytes is what 32 bytes tell
+pub reading-of_few : (s : List ℕ) (w : Window) → length s < 16 → w ≡ window_of decimal_table 16 s
+    → Reading decimal_table 32 s w.len (zeros decimal_table (take 32 s)) w.number
+reading-of_few s w few e =
+    let all : take 16 s ≡ take 32 s = take_all 16 s (omega arith) ∙ sym (take_all 32 s (omega arith)) in
+    record {
+      digits_are = ap (λ v. v.len) e ∙ ap (run_len decimal_table) all;
+      leading_are = refl;
+      number_is = ap (λ v. v.number) e ∙ ap (λ l. value decimal_table (run decimal_table l)) all;
+    }
+
+-- Thirty-two bytes in the lanes of two halves.
+
+-- what sixteen lanes tell is what the bytes in them do
+pub reading-of_lanes : (s lanes : List ℕ) (len number : ℕ) → lanes ≡ padded_start 16 s → len ≡ run_len decimal_table lanes
+    → number ≡ value decimal_table (take len lanes) → Reading decimal_table 16 s len (zeros decimal_table lanes) number
+reading-of_lanes s lanes len number loaded digits writes =
+    let same : len ≡ run_len decimal_table (take 16 s) =
+    digits ∙ ap (run_len decimal_table) loaded ∙ prefix_len-padded (is_digit decimal_table) refl 16 16 s in
+    record {
+      digits_are = same;
+      leading_are = ap (zeros decimal_table) loaded ∙ prefix_len-padded (is_zero decimal_table) refl 16 16 s;
+      number_is = writes ∙ ap₂ (λ n l. value decimal_table (take n l)) same loaded
+          ∙ ap (value decimal_table) (front-padded (is_digit decimal_table) 16 s (replicate 16 0));
+    }
+
+-- the 16 bytes behind the first 16, where there are as many
+pub after_all : (s : List ℕ) → 32 ≤ length s → take 16 (drop 16 s) ≡ padded_start 16 (drop 16 s)
+after_all s enough = sym (take-append-le 16 (drop 16 s) (replicate 16 0) (omega (arith, length-drop 16 s)))
+
+-- and where there are fewer, of the last 16 of the slice
+pub behind_some : (s : List ℕ) → 16 ≤ length s → length s < 32
+    → drop (32 - length s) (take 16 (drop (length s - 16) s)) ++ replicate (32 - length s) 0 ≡ padded_start 16 (drop 16 s)
+behind_some s enough short =
+    let end : ℕ = length s in
+    let last : List ℕ = take 16 (drop (end - 16) s) in
+    let behind : List ℕ = drop 16 s in
+    let count : length behind ≡ length s - 16 = length-drop 16 s in
+    let all : last ≡ drop (end - 16) s = take_all 16 (drop (end - 16) s) (omega (arith, length-drop (end - 16) s)) in
+    let place : end - 16 + (32 - end) ≡ 16 = omega arith in
+    let fill : length behind + (32 - end) ≡ 16 = omega arith in
+    ap (λ l. drop (32 - end) l ++ replicate (32 - end) 0) all
+    ∙ ap (λ l. l ++ replicate (32 - end) 0) (drop-drop (32 - end) (end - 16) s ∙ ap (λ k. drop k s) place)
+    ∙ ap (λ l. behind ++ l) (sym (take-replicate (32 - end) 16 0 (omega arith)))
+    ∙ sym (take-append-add behind (replicate 16 0) (32 - end))
+    ∙ ap (λ n. take n (behind ++ replicate 16 0)) fill
+
+-- The loop that drops zeros by whole windows: how far it comes, and how many windows it loads.
+
+-- before a window is loaded at a place: only zeros that are skipped stand before it, a window was
+-- loaded for each 32 of them, and one more where that dropped the last
+pub record Skipping (skip : Bool) (s : List ℕ) (at before now : ℕ) : Type 0 where
+  pub skipped : IsSkipped decimal_table skip s at
+  pub within : at ≤ length s
+  pub most : 32 * now ≤ 32 * before + at + 31
+  pub least : at + 32 * before ≤ 32 * now
+  pub place : (32 * now ≡ 32 * before + at) ⊎ (at ≡ zeros decimal_table s)
+
+-- nothing is skipped at first
+pub Skipping-none : (skip : Bool) (s : List ℕ) (n : ℕ) → Skipping skip s 0 n n
+Skipping-none skip s n = record {
+  skipped = record { zeros_only = omega arith; asked = λ _. refl };
+  within = omega arith;
+  most = omega arith;
+  least = omega arith;
+  place = inl (omega arith);
+}
+
+-- a window that tells zeros is skipped by them
+pub Skipping-more : (skip : Bool) (s : List ℕ) (at before now next leading : ℕ) → Skipping skip s at before now
+    → leading ≡ min 32 (zeros decimal_table s - at) → next ≡ now + 1 → skip ≡ true → 0 < leading → Skipping skip s (at + leading) before next
+Skipping-more skip s at before now next leading so told one on some =
+    let zeros_only : at ≤ zeros decimal_table s = so.skipped.zeros_only in
+    let zeros_within : zeros decimal_table s ≤ length s = prefix_len-le-length (is_zero decimal_table) s in
+    let exact : 32 * now ≡ 32 * before + at = elim so.place [ inl h ↦ h | inr h ↦ absurd (omega arith) ] in
+    record {
+      skipped = record { zeros_only = omega arith; asked = λ h. absurd (false≢true (sym h ∙ on)) };
+      within = omega arith;
+      most = omega arith;
+      least = omega arith;
+      place = elim (cases_lt leading 32) [ inl h ↦ inr (omega arith) | inr h ↦ inl (omega arith) ];
+    }
+
+-- the last window leaves fewer than 32 zeros
+pub Skipping-loads : (skip : Bool) (s : List ℕ) (at before now leading : ℕ) → Skipping skip s at before now
+    → leading ≡ min 32 (zeros decimal_table s - at) → leading < 32 → before + zeros decimal_table s / 32 ≤ now
+Skipping-loads skip s at before now leading so told few = omega (arith, so.least)
+
+-- where the first window does not begin with zeros that are skipped and fill it, or is not full
+pub first-ends : (skip : Bool) (len leading : ℕ) → len ≤ 32
+    → ((skip ≡ true) × (0 < leading) × (len ≡ 32 → ⊥)) ⊎ (((skip ≡ true) × (leading ≤ 0)) ⊎ (skip ≡ false))
+    → skip ≡ true → 32 ≤ len → leading ≡ 0
+first-ends skip len leading most ends on full =
+    elim ends [
+      | inl short ↦ absurd (short.2 (omega arith))
+      | inr rest ↦ (elim rest [ inl none ↦ omega (arith, none.1) | inr off ↦ absurd (false≢true (sym off ∙ on)) ])
+    ]
+
+-- before it nothing is skipped
+pub reads-first : ReadingDecides → (skip : Bool) (s : List ℕ) (len leading number : ℕ) → Reading decimal_table 32 s len leading number
+    → (skip ≡ true → 32 ≤ len → leading ≡ 0) → ReadsAfterZeros skip s 0 len leading number
+reads-first law skip s len leading number reading ends =
+    let most = law.within decimal_table 32 s len leading number reading in
+    record {
+      skipped = (Skipping-none skip s 0).skipped;
+      reading = reading;
+      within = omega (arith, most.1);
+      ends = ends;
+    }
+
+-- and fewer zeros than it has bytes stand in front, where they are skipped
+pub few-zeros : ReadingDecides → (skip : Bool) (s : List ℕ) (len leading number : ℕ) → Reading decimal_table 32 s len leading number
+    → (skip ≡ true → 32 ≤ len → leading ≡ 0) → skip ≡ true → zeros decimal_table s < 32
+few-zeros law skip s len leading number reading ends on =
+    let told : leading ≡ min 32 (zeros decimal_table s - 0) = reading.leading_are ∙ law.zeros_left decimal_table 32 s 0 (omega arith) in
+    let most = law.within decimal_table 32 s len leading number reading in
+    elim (cases_lt len 32) [ inl less ↦ omega (arith, most.0, told) | inr more ↦ omega (arith, ends on more, told) ]
+
+-- What windows of 32 lanes told decides the answers.
+
+-- no digit is worth more than nine
+pub below_ten : IsBelowTen decimal_table
+below_ten byte = grind (arith, nat_tests)
+
+-- what counts of the digits of a window, and the zeros before it that do not
+counted : (skip : Bool) (len told leading : ℕ) → told ≤ len → ((skip ≡ true) × (leading ≡ told)) ⊎ ((skip ≡ false) × (leading ≡ 0))
+    → (counting_digits skip len told ≡ len - leading) × (len - counting_digits skip len told ≡ leading)
+counted true len told leading most is = elim is [ inl h ↦ (omega (arith, h), omega (arith, h)) | inr h ↦ absurd (false≢true (sym h.0)) ]
+counted false len told leading most is = elim is [ inl h ↦ absurd (false≢true h.0) | inr h ↦ (omega (arith, h), omega (arith, h)) ]
+
+-- 64 bits: a window decides that is not full of digits, or begins with no zero that is skipped
+pub decided_64 : ReadingDecides → (bound limit : ℕ) (skip : Bool) (s : List ℕ) (at leading : ℕ) (w : Window32) → limit ≤ 20
+    → ReadsAfterZeros skip s at w.len w.zeroes w.number → ((skip ≡ true) × (leading ≡ w.zeroes)) ⊎ ((skip ≡ false) × (leading ≡ 0))
+    → answer_by_digits wide64 bound limit (at + leading) (w.len - leading) w.number s ≡ prefix_magnitude decimal_table wide64 bound limit skip s
+decided_64 law bound limit skip s at leading w few front is =
+    let within = law.within decimal_table 32 (drop at s) w.len w.zeroes w.number front.reading in
+    let count = counted skip w.len w.zeroes leading within.0 is in
+    let enough : (w.len < 32) ⊎ (24 ≤ counting_digits skip w.len w.zeroes) =
+    elim (cases_lt w.len 32) [
+      | inl h ↦ inl h
+      | inr h ↦ inr (elim is [ inl k ↦ omega (arith, k, front.ends k.0 h, count.0) | inr k ↦ omega (arith, k, count.0) ])
+    ] in
+    sym (law.decided decimal_table wide64 bound limit (omega arith) skip s at 32 w.len w.zeroes w.number front.skipped front.reading enough
+    ∙ ap (λ (n : ℕ). answer_by_digits wide64 bound limit (at + n) (counting_digits skip w.len w.zeroes) w.number s) count.1
+    ∙ ap (λ (n : ℕ). answer_by_digits wide64 bound limit (at + leading) n w.number s) count.0)
+
+-- 128 bits: a window that is full of digits decides together with the eight bytes behind it
+pub decided_full : ReadingDecides → (bound : ℕ) (skip : Bool) (s : List ℕ) (at : ℕ) (w : Window32) (back : Window)
+    → ReadsAfterZeros skip s at w.len w.zeroes w.number → 32 ≤ w.len
+    → back ≡ window_of decimal_table 8 (drop 32 (take (length s - at) (drop at s)))
+    → (back.len ≤ 8) × (w.number * 10 ^ back.len + back.number < 10 ^ (32 + back.len)) × (at + (32 + back.len) ≤ length s) × (answer_by_digits wide128 bound 39 at (32 + back.len) (w.number * 10 ^ back.len + back.number) s ≡ prefix_magnitude decimal_table wide128 bound 39 skip s)
+decided_full law bound skip s at w back so full told =
+    let t = decimal_table in
+    let e : back ≡ window_of t 8 (drop 32 (drop at s)) = told ∙ ap (λ (r : List ℕ). window_of t 8 (drop 32 r)) (take_rest s at) in
+    let body : List ℕ = drop at s in
+    let others : ℕ = zeros t (take 8 (drop 32 body)) in
+    let number : ℕ = w.number * 10 ^ back.len + back.number in
+    let within = law.within t 32 body w.len w.zeroes w.number so.reading in
+    let len : w.len ≡ 32 = omega (arith, within.1) in
+    let front : Reading t 32 body 32 w.zeroes w.number = let P : ℕ → Type 0 = λ n. Reading t 32 body n w.zeroes w.number in subst P len so.reading in
+    let behind : Reading t 8 (drop 32 body) back.len others back.number =
+    record { digits_are = ap (λ v. v.len) e; leading_are = refl; number_is = ap (λ v. v.number) e } in
+    let few : back.len ≤ 8 = omega (arith, (law.within t 8 (drop 32 body) back.len others back.number behind).1) in
+    let leading : ℕ = cond (eqb w.zeroes 32) (32 + others) w.zeroes in
+    let both : Reading t 40 body (32 + back.len) leading number = law.joined t 32 8 body w.zeroes w.number back.len others back.number front behind in
+    let none : skip ≡ true → leading ≡ 0 = λ on. let first : w.zeroes ≡ 0 = so.ends on full in rw first refl in (
+      few,
+      law.below t below_ten 40 body (32 + back.len) leading number both,
+      omega (arith, so.within, law.within t 40 body (32 + back.len) leading number both, length-drop at s),
+      sym (law.full t wide128 bound 39 (lit< tt) skip s at (32 + back.len) leading number so.skipped both none),
+    )

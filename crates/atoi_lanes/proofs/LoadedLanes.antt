@@ -1,0 +1,287 @@
+-- Vectors that hold the bytes of a slice: how they are loaded, shifted and tested for digits.
+use Rattle.std.proofs.Common.{◌≡◌, ℕ, zero, suc, ◌+◌, ◌-◌, ◌*◌, ◌/◌, ◌%◌, ◌^◌, ◌<◌, Bool, true, false, cond, List, [], ◌∷◌, map, length, drop, Fits, w8, w64, refl, sym, ap, ap₂, ◌∙◌, arith, pow_pos, ◌≤◌, ◌||◌, ◌++◌, take, replicate, get_or, rules, inl, inr}
+use Rattle.std.specs.Int.{trailing_ones, from_le_bytes, byte_worth, sum_through}
+use Rattle.std.specs.List.{prefix_len, range_with_len}
+use Rattle.std.proofs.Math.Nat.{pow-suc, pow-zero, zero-div, div-one, div-div-eq-div-mul, lt_of_lt_of_le, zero-mod}
+use Rattle.std.proofs.lemmas.Bool.{agree_below, agree_below_at, cond-false, cases_lt}
+use Rattle.std.proofs.lemmas.Simd.{map-map, mask_l-lt, mask_l-mod, swz_l, SwzOk, SwzOk-from_Each1, Each1-chunk, length-replicate, Each1-from_get_or}
+use Rattle.std.proofs.lemmas.List.{length-map, append-nil, length-take, length-drop, take_all, drop_more, drop-append-le, drop-replicate, take-take, take-replicate, take-append-drop, drop-drop, drop_all, length-take-le}
+use lib.Count.{count_trailing_zeros}
+use lib.Pow.{pow_mono}
+use lib.Lanes.{Each1, mask_l, top, number_l, digits_l}
+use Rattle.std.proofs.Math.Seq.{take-append-add}
+use Rattle.std.proofs.lemmas.Bool.Decides.{nat_tests}
+use Rattle.std.proofs.lemmas.List.FromFn.{length-range_with_len}
+use lib.Dec.{T, ltb, leb}
+use mir.Val.{zeroes}
+use Rattle.std.proofs.lemmas.Nat.{mod-mul-add, div-mul-add, pow-add}
+
+-- From the mask of a comparison of lanes to the first lanes that pass a test.
+
+-- a number with a zero below its other bits
+trailing-even : (k n : ℕ) → count_trailing_zeros (suc k) (2 * n) ≡ suc (count_trailing_zeros k n)
+unfolding count_trailing_zeros
+trailing-even k n =
+    let rest : 2 * n / 2 ≡ n = omega arith in
+    let lowest : 2 * n % 2 ≡ 0 = omega arith in
+    rw (lowest, rest)
+
+-- a number with a one below its other bits
+trailing-odd : (k n : ℕ) → count_trailing_zeros (suc k) (2 * n + 1) ≡ 0
+unfolding count_trailing_zeros
+trailing-odd k n = let lowest : (2 * n + 1) % 2 ≡ 1 = omega arith in rw lowest
+
+-- in the complement of a mask, the bits below the lowest one that is set are the first lanes that pass
+trailing-complement : (p : ℕ → Bool) (k : ℕ) (xs : List ℕ) → length xs < k → count_trailing_zeros k ((2 ^ k - 1) - mask_l (map p xs)) ≡ prefix_len p xs
+trailing-complement p zero xs h = absurd (omega arith)
+trailing-complement p (suc k) [] h =
+    let odd : (2 ^ suc k - 1) - 0 ≡ 2 * (2 ^ k - 1) + 1 = omega (arith, pow-suc 2 k, pow_pos k) in
+    ap (count_trailing_zeros (suc k)) odd ∙ trailing-odd k (2 ^ k - 1)
+trailing-complement p (suc k) (x ∷ xs) h =
+    let m = mask_l (map p xs) in
+    let rest = trailing-complement p k xs (omega arith) in
+    elim (p x) as (λ b. count_trailing_zeros (suc k) ((2 ^ suc k - 1) - (cond b 1 zero + 2 * m)) ≡ cond b (1 + prefix_len p xs) 0) [
+      | true ↦
+          let even : (2 ^ suc k - 1) - (1 + 2 * m) ≡ 2 * ((2 ^ k - 1) - m) = omega (arith, pow-suc 2 k, pow_pos k) in
+          ap (count_trailing_zeros (suc k)) even ∙ trailing-even k ((2 ^ k - 1) - m) ∙ omega (arith, rest)
+      | false ↦
+          let below : m < 2 ^ k = lt_of_lt_of_le (mask_l-lt (map p xs)) (pow_mono (omega (arith, length-map xs p))) in
+          let odd : (2 ^ suc k - 1) - (0 + 2 * m) ≡ 2 * ((2 ^ k - 1) - m) + 1 = omega (arith, pow-suc 2 k) in
+          ap (count_trailing_zeros (suc k)) odd ∙ trailing-odd k ((2 ^ k - 1) - m)
+    ]
+
+-- two tests that agree at each byte pass the same bytes of a list
+map-agree : (p q : ℕ → Bool) → agree_below p q 256 ≡ true → (xs : List ℕ) → Each1 (Fits w8) xs → map p xs ≡ map q xs
+map-agree p q all [] fits = refl
+map-agree p q all (x ∷ xs) fits = ap₂ (λ b bs. b ∷ bs) (agree_below_at p q 256 x all fits.0.fits) (map-agree p q all xs fits.1)
+
+-- the mask of the lanes that pass, where f of a lane is set just where the lane passes
+pub mask-of_lanes : (q : ℕ → Bool) (v : List ℕ) (f : ℕ → ℕ) (z : List ℕ) → length v < 64 → Each1 (Fits w8) v → z ≡ map f v
+    → agree_below (λ x. top 7 (f x)) q 256 ≡ true → mask_l (map (top 7) z) % 2 ^ 64 ≡ mask_l (map q v)
+mask-of_lanes q v f z long fits lanes all =
+    let set = λ (x : ℕ). top 7 (f x) in
+    ap (λ l. mask_l l % 2 ^ 64) (ap (map (top 7)) lanes ∙ map-map (top 7) f v)
+    ∙ mask_l-mod (map set v) 64 (omega (arith, length-map v set))
+    ∙ ap mask_l (map-agree set q all v fits)
+
+-- the ones at the low end of a mask are the first lanes that pass
+pub ones-of_mask : (q : ℕ → Bool) (v : List ℕ) → length v < 64 → (mask : ℕ) → mask ≡ mask_l (map q v) → trailing_ones w64 mask ≡ prefix_len q v
+ones-of_mask q v long mask is = ap (trailing_ones w64) is ∙ trailing-complement q 64 v (omega arith)
+
+-- a mask without its lowest bits is the mask of the other lanes
+pub mask-drop : (k : ℕ) (ms : List Bool) → mask_l ms / 2 ^ k ≡ mask_l (drop k ms)
+mask-drop zero ms = ap (λ p. mask_l ms / p) (pow-zero 2) ∙ div-one (mask_l ms)
+mask-drop (suc k) [] = zero-div (2 ^ suc k)
+mask-drop (suc k) (b ∷ bs) =
+    let all = cond b 1 zero + 2 * mask_l bs in
+    let power : 2 ^ suc k ≡ 2 * 2 ^ k = omega (arith, pow-suc 2 k) in
+    let others : all / 2 ≡ mask_l bs = elim b as (λ a. (cond a 1 zero + 2 * mask_l bs) / 2 ≡ mask_l bs) [ true ↦ omega arith | false ↦ omega arith ] in
+    ap (λ p. all / p) power ∙ sym (div-div-eq-div-mul all 2 (2 ^ k)) ∙ ap (λ m. m / 2 ^ k) others ∙ mask-drop k bs
+
+-- The shuffles that move the first lanes of a vector to its end, and its last lanes to its front.
+
+-- the table of shifts: 16 places without a lane, and the lanes in order
+abbrev shifts : List ℕ
+shifts = replicate 16 128 ++ range_with_len 0 16
+
+-- the first of neighbouring places
+take-range : (n k a : ℕ) → n ≤ k → take n (range_with_len a k) ≡ range_with_len a n
+take-range zero k a le = refl
+take-range (suc n) zero a le = absurd (omega arith)
+take-range (suc n) (suc k) a le = ap (λ l. a ∷ l) (take-range n k (a + 1) (omega arith))
+
+-- sixteen entries of the table, from entry n on: none for the lanes in front, and then the first n lanes
+entries_from : (n : ℕ) → n ≤ 16 → take 16 (take (32 - n) (drop n shifts)) ≡ replicate (16 - n) 128 ++ range_with_len 0 n
+entries_from n le =
+    let behind : drop n shifts ≡ replicate (16 - n) 128 ++ range_with_len 0 16 =
+    drop-append-le n (replicate 16 128) (range_with_len 0 16) le ∙ ap (λ l. l ++ range_with_len 0 16) (drop-replicate n 16 128) in
+    let count : 16 ≡ length {A = ℕ} (replicate (16 - n) 128) + n = omega (arith, length-replicate {A = ℕ} (16 - n) 128) in
+    take-take 16 (32 - n) (drop n shifts) (omega arith)
+    ∙ ap₂ take count behind
+    ∙ take-append-add (replicate (16 - n) 128) (range_with_len 0 16) n
+    ∙ ap (λ l. replicate (16 - n) 128 ++ l) (take-range n 16 0 le)
+
+-- 128 leaves a lane of 0
+no_lanes : (n i : ℕ) (xs js : List ℕ) → swz_l w8 16 xs i (replicate n 128 ++ js) ≡ replicate n 0 ++ swz_l w8 16 xs (i + n) js
+no_lanes zero i xs js = ap (λ k. swz_l w8 16 xs k js) (omega arith)
+no_lanes (suc n) i xs js = ap (λ l. 0 ∷ l) (no_lanes n (suc i) xs js ∙ ap (λ k. replicate n 0 ++ swz_l w8 16 xs k js) (omega arith))
+
+-- neighbouring places name neighbouring lanes
+lanes_from : (n i a : ℕ) (xs : List ℕ) → i + n ≤ 16 → a + n ≤ length xs → length xs ≤ 16 → swz_l w8 16 xs i (range_with_len a n) ≡ take n (drop a xs)
+lanes_from zero i a xs fits room few = refl
+lanes_from (suc n) i a xs fits room few =
+    let block : 16 * (i / 16) + a ≡ a = omega arith in
+    let named : leb 128 a ≡ false = grind (arith, nat_tests) in
+    ap₂ (λ l ls. l ∷ ls) (cond-false _ _ _ named ∙ ap (λ k. get_or xs k 0) block) (lanes_from n (suc i) (a + 1) xs (omega arith) (omega arith) few)
+    ∙ ap (take (suc n)) (sym (drop_more xs a 0 (omega arith)))
+
+-- the shuffle by the table from entry n on
+pub shifted : (n : ℕ) (v : List ℕ) → n ≤ 16 → length v ≡ 16 → swz_l w8 16 v 0 (take 16 (take (32 - n) (drop n shifts))) ≡ replicate (16 - n) 0 ++ take n v
+shifted n v le long =
+    ap (swz_l w8 16 v 0) (entries_from n le)
+    ∙ no_lanes (16 - n) 0 v (range_with_len 0 n)
+    ∙ ap (λ l. replicate (16 - n) 0 ++ l) (lanes_from n (0 + (16 - n)) 0 v (omega arith) (omega arith) (omega arith))
+
+-- each entry of the table may stand in a shuffle
+pub shift_ok : (n : ℕ) → n ≤ 16 → SwzOk w8 16 16 0 (take 16 (take (32 - n) (drop n shifts)))
+shift_ok n le =
+    let entries = take (32 - n) (drop n shifts) in
+    let each : Each1 (λ j. T (zeroes 16 w8 j || ltb j 16)) shifts = search rules in
+    SwzOk-from_Each1 w8 16 1 16 0 (take 16 entries) refl (omega (arith, length-take 16 entries))
+    (Each1-chunk _ 0 16 entries (Each1-chunk _ n (32 - n) shifts each))
+
+-- the table of the other shifts: the lanes in order, and 16 places without a lane
+abbrev fronts : List ℕ
+fronts = range_with_len 0 16 ++ replicate 16 128
+
+-- neighbouring places without the first of them
+drop-range : (k n a b m : ℕ) → m ≡ k + n → b ≡ a + k → drop k (range_with_len a m) ≡ range_with_len b n
+drop-range zero n a b m all first = ap₂ range_with_len (omega arith) (omega arith)
+drop-range (suc k) n a b zero all first = absurd (omega arith)
+drop-range (suc k) n a b (suc m) all first = drop-range k n (a + 1) b m (omega arith) (omega arith)
+
+-- sixteen entries of that table, from entry k on: the lanes from k on, and then none
+entries_after : (k : ℕ) → k ≤ 16 → take 16 (take (32 - k) (drop k fronts)) ≡ range_with_len k (16 - k) ++ replicate k 128
+entries_after k le =
+    let rest : drop k (range_with_len 0 16) ≡ range_with_len k (16 - k) = drop-range k (16 - k) 0 k 16 (omega arith) (omega arith) in
+    let behind : drop k fronts ≡ range_with_len k (16 - k) ++ replicate 16 128 =
+    drop-append-le k (range_with_len 0 16) (replicate 16 128) le ∙ ap (λ l. l ++ replicate 16 128) rest in
+    let count : 16 ≡ length (range_with_len k (16 - k)) + k = omega (arith, length-range_with_len k (16 - k)) in
+    take-take 16 (32 - k) (drop k fronts) (omega arith)
+    ∙ ap₂ take count behind
+    ∙ take-append-add (range_with_len k (16 - k)) (replicate 16 128) k
+    ∙ ap (λ l. range_with_len k (16 - k) ++ l) (take-replicate k 16 128 le)
+
+-- a shuffle by some places, and behind these by others
+swz-append : (xs : List ℕ) (i : ℕ) (is js : List ℕ) → swz_l w8 16 xs i (is ++ js) ≡ swz_l w8 16 xs i is ++ swz_l w8 16 xs (i + length is) js
+swz-append xs i [] js = ap (λ k. swz_l w8 16 xs k js) (omega arith)
+swz-append xs i (l ∷ is) js =
+    ap (λ ls. swz_l w8 16 xs i (l ∷ []) ++ ls) (swz-append xs (suc i) is js ∙ ap (λ k. swz_l w8 16 xs (suc i) is ++ swz_l w8 16 xs k js) (omega arith))
+
+-- the shuffle by that table from entry k on
+pub moved_front : (k : ℕ) (v : List ℕ) → k ≤ 16 → length v ≡ 16 → swz_l w8 16 v 0 (take 16 (take (32 - k) (drop k fronts))) ≡ drop k v ++ replicate k 0
+moved_front k v le long =
+    let count : length (range_with_len k (16 - k)) ≡ 16 - k = length-range_with_len k (16 - k) in
+    let lanes : swz_l w8 16 v 0 (range_with_len k (16 - k)) ≡ drop k v =
+    lanes_from (16 - k) 0 k v (omega arith) (omega arith) (omega arith) ∙ take_all (16 - k) (drop k v) (omega (arith, length-drop k v)) in
+    let none : swz_l w8 16 v (0 + length (range_with_len k (16 - k))) (replicate k 128) ≡ replicate k 0 =
+    ap (swz_l w8 16 v (0 + length (range_with_len k (16 - k)))) (sym (append-nil (replicate k 128)))
+    ∙ no_lanes k (0 + length (range_with_len k (16 - k))) v [] ∙ append-nil (replicate k 0) in
+    ap (swz_l w8 16 v 0) (entries_after k le) ∙ swz-append v 0 (range_with_len k (16 - k)) (replicate k 128) ∙ ap₂ (λ a b. a ++ b) lanes none
+
+-- each entry of that table may stand in a shuffle
+pub front_ok : (k : ℕ) → k ≤ 16 → SwzOk w8 16 16 0 (take 16 (take (32 - k) (drop k fronts)))
+front_ok k le =
+    let entries = take (32 - k) (drop k fronts) in
+    let each : Each1 (λ j. T (zeroes 16 w8 j || ltb j 16)) fronts = search rules in
+    SwzOk-from_Each1 w8 16 1 16 0 (take 16 entries) refl (omega (arith, length-take 16 entries))
+    (Each1-chunk _ 0 16 entries (Each1-chunk _ k (32 - k) fronts each))
+
+-- The bytes of a short slice as the number that they spell, the lowest first.
+
+-- one list behind another
+number-append : (p : ℕ) (xs ys : List ℕ) → number_l p (xs ++ ys) ≡ number_l p xs + p ^ length xs * number_l p ys
+number-append p [] ys = omega (arith, ap (λ q. q * number_l p ys) (pow-zero p))
+number-append p (x ∷ xs) ys =
+    let rest = ap (λ n. p * n) (number-append p xs ys) in
+    let power = ap (λ q. q * number_l p ys) (pow-suc p (length xs)) in
+    omega (arith, rest, power)
+
+-- the digits from place n up, one more
+number-take_more : (p n : ℕ) (xs : List ℕ) → number_l p (take (suc n) xs) ≡ number_l p (take n xs) + get_or xs n 0 * p ^ n
+number-take_more p zero [] = omega arith
+number-take_more p zero (x ∷ xs) = omega (arith, ap (λ q. x * q) (pow-zero p))
+number-take_more p (suc n) [] = omega arith
+number-take_more p (suc n) (x ∷ xs) =
+    let rest = ap (λ m. p * m) (number-take_more p n xs) in
+    let power = ap (λ q. get_or xs n 0 * q) (pow-suc p n) in
+    omega (arith, rest, power)
+
+-- the bytes of a word, each by its place
+bytes-number : (n : ℕ) (xs : List ℕ) → sum_through (λ i. byte_worth i (get_or xs i 0)) n ≡ number_l 256 (take (suc n) xs)
+bytes-number zero [] = refl
+bytes-number zero (x ∷ xs) = omega arith
+bytes-number (suc n) xs = ap (λ s. s + get_or xs (suc n) 0 * 256 ^ suc n) (bytes-number n xs) ∙ sym (number-take_more 256 (suc n) xs)
+
+-- the lowest digit, and the others
+lowest-digit : (p x n : ℕ) → x < p → ((x + p * n) % p ≡ x) × ((x + p * n) / p ≡ n)
+lowest-digit p x n h =
+    let turned : x + p * n ≡ n * p + x = omega arith in
+    (ap (λ m. m % p) turned ∙ mod-mul-add n p x h, ap (λ m. m / p) turned ∙ div-mul-add n p x h)
+
+-- a division takes the lowest digits off
+number-drop : (p n : ℕ) (xs : List ℕ) → Each1 (λ x. x < p) xs → number_l p xs / p ^ n ≡ number_l p (drop n xs)
+number-drop p zero xs h = ap (λ q. number_l p xs / q) (pow-zero p) ∙ div-one (number_l p xs)
+number-drop p (suc n) [] h = zero-div (p ^ suc n)
+number-drop p (suc n) (x ∷ xs) h =
+    let all = x + p * number_l p xs in
+    let power : p ^ suc n ≡ p * p ^ n = omega (arith, pow-suc p n) in
+    ap (λ q. all / q) power ∙ sym (div-div-eq-div-mul all p (p ^ n)) ∙ ap (λ m. m / p ^ n) (lowest-digit p x (number_l p xs) h.0).1 ∙ number-drop p n xs h.1
+
+-- a number's digits are those that it was made of, and zeros
+pub digits-number : (p n m : ℕ) (xs : List ℕ) → Each1 (λ x. x < p) xs → n ≤ length xs + m → digits_l p n (number_l p xs) ≡ take n (xs ++ replicate m 0)
+digits-number p zero m xs h room = refl
+digits-number p (suc n) zero [] h room = absurd (omega arith)
+digits-number p (suc n) (suc m) [] h room =
+    ap₂ (λ d ds. d ∷ ds) (zero-mod p) (ap (digits_l p n) (zero-div p) ∙ digits-number p n m [] tt (omega arith))
+digits-number p (suc n) m (x ∷ xs) h room =
+    let parts = lowest-digit p x (number_l p xs) h.0 in
+    ap₂ (λ d ds. d ∷ ds) parts.0 (ap (digits_l p n) parts.1 ∙ digits-number p n m xs h.1 (omega arith))
+
+-- a shift by whole bytes
+pub byte_shift : (n : ℕ) → 256 ^ n ≡ 2 ^ (8 * n)
+byte_shift zero = refl
+byte_shift (suc n) = pow-suc 256 n ∙ ap (λ p. p * 256) (byte_shift n) ∙ sym (ap (λ k. 2 ^ k) (omega arith) ∙ pow-add 2 (8 * n) 8)
+
+-- a part of bytes are bytes
+Each1-drop : (p n : ℕ) (xs : List ℕ) → Each1 (λ x. x < p) xs → Each1 (λ x. x < p) (drop n xs)
+Each1-drop p zero xs h = h
+Each1-drop p (suc n) [] h = tt
+Each1-drop p (suc n) (x ∷ xs) h = Each1-drop p n xs h.1
+
+-- of the last n bytes, those behind the first n
+pub rest_of_last : (n : ℕ) (s : List ℕ) → Each1 (λ x. x < 256) s → n ≤ length s → length s ≤ 2 * n
+    → number_l 256 (drop (length s - n) s) / 2 ^ (8 * (2 * n - length s)) ≡ number_l 256 (drop n s)
+rest_of_last n s h le ge =
+    let over = 2 * n - length s in
+    let last = drop (length s - n) s in
+    let count : length s - n + over ≡ n = omega arith in
+    ap (λ p. number_l 256 last / p) (sym (byte_shift over))
+    ∙ number-drop 256 over last (Each1-drop 256 (length s - n) s h)
+    ∙ ap (number_l 256) (drop-drop over (length s - n) s ∙ ap (λ k. drop k s) count)
+
+-- the first n bytes below the others
+pub first-and_rest : (n : ℕ) (s : List ℕ) → n ≤ length s → number_l 256 (take n s) + number_l 256 (drop n s) * 256 ^ n ≡ number_l 256 s
+first-and_rest n s le =
+    let parts = number-append 256 (take n s) (drop n s) in
+    let power = ap (λ k. 256 ^ k * number_l 256 (drop n s)) (length-take-le n s le) in
+    omega (arith, parts, power, ap (number_l 256) (take-append-drop n s))
+
+-- the bytes of a slice are below 256
+pub bytes : (s : List ℕ) → ((k : ℕ) → Fits w8 (get_or s k 0)) → Each1 (λ x. x < 256) s
+bytes s fits = Each1-from_get_or (λ x. x < 256) s 0 (λ k _. (fits k).fits)
+
+-- a word of eight bytes
+pub word-of_eight : (xs : List ℕ) → length xs ≡ 8 → from_le_bytes w64 xs ≡ number_l 256 xs
+word-of_eight xs long = bytes-number 7 xs ∙ ap (number_l 256) (take_all 8 xs (omega arith))
+
+-- what stands behind the first eight of at most fifteen bytes, from the last eight
+pub high_of_last : (s : List ℕ) → Each1 (λ x. x < 256) s → 8 ≤ length s → length s < 16
+    → number_l 256 (drop (length s - 8) s) / 2 ^ (8 * (15 - length s)) / 256 ≡ number_l 256 (drop 8 s)
+high_of_last s h le lt =
+    let last = number_l 256 (drop (length s - 8) s) in
+    let power : 2 ^ (8 * (15 - length s)) * 256 ≡ 2 ^ (8 * (2 * 8 - length s)) = sym (ap (λ k. 2 ^ k) (omega arith) ∙ pow-add 2 (8 * (15 - length s)) 8) in
+    div-div-eq-div-mul last (2 ^ (8 * (15 - length s))) 256 ∙ ap (λ p. last / p) power ∙ rest_of_last 8 s h le (omega arith)
+
+-- sixteen lanes from two words of a short slice
+pub lanes-of_words : (s : List ℕ) → Each1 (λ x. x < 256) s → length s < 16
+    → digits_l 256 16 (number_l (2 ^ 64) (number_l 256 (take 8 s) ∷ number_l 256 (drop 8 s) ∷ [])) ≡ take 16 (s ++ replicate 16 0)
+lanes-of_words s h lt =
+    let low = number_l 256 (take 8 s) in
+    let high = number_l 256 (drop 8 s) in
+    let all : low + 2 ^ 64 * (high + 2 ^ 64 * 0) ≡ number_l 256 s =
+    elim (cases_lt (length s) 8) [
+      | inl short ↦ omega (arith, ap (number_l 256) (take_all 8 s (omega arith)), ap (number_l 256) (drop_all 8 s (omega arith)))
+      | inr long ↦ omega (arith, first-and_rest 8 s long)
+    ] in
+    ap (digits_l 256 16) all ∙ digits-number 256 16 16 s h (omega arith)

@@ -1,5 +1,0 @@
-use Rattle.atoi_lanes.proofs.SumLemmas.{by_first_eight}
-use Rattle.atoi_lanes.proofs.kernels.number_of_half.Goals as goal
-
-pub returns : goal.returns
-returns c = by_first_eight c.args.digits c.fits-digits.0 c.eights.result c.eights.ensures

@@ -1,8 +1,0 @@
-use Rattle.atoi_lanes.proofs.ShiftLemmas.{moved_front, front_ok}
-use Rattle.atoi_lanes.proofs.window_32.moved_to_front.Goals as goal
-
-pub swizzle : goal.swizzle
-swizzle c = front_ok c.args.from c.requires
-
-pub returns : goal.returns
-returns c = moved_front c.args.from c.args.v c.requires c.fits-v.0

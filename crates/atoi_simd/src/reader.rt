@@ -1,4 +1,0 @@
-//! The engine that the crate's parses read by: words of 64 bits. It uses that engine alone, and no
-//! parse of the crate names the engine itself.
-
-pub(crate) type Reader = atoi_core::Words;
