@@ -148,18 +148,6 @@ fn put_invalid(number: u128, index: usize, out: &mut [u8; 400]) -> usize
     put_decimal(number, out, end)
 }
 
-/// What a call out of line answers. It is matched here, so that the caller need not clear the place
-/// of the result on the way that does not make the call.
-#[inline(always)]
-pub(crate) fn out_of_line<A>(answer: Result<A, AtoiSimdError<'_>>) -> Result<A, AtoiSimdError<'_>>
-    ensures { result ≡ answer.entry }
-{
-    match answer {
-        Ok(found) => Ok(found),
-        Err(error) => Err(error),
-    }
-}
-
 #[cfg(test)]
 mod tests {
     use super::*;

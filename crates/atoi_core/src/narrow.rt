@@ -8,7 +8,7 @@ ghost use Rattle.atoi_core.specs.Run.{run_len};
 ghost use Rattle.atoi_core.specs.Window.{window_of};
 
 use crate::engine::Engine;
-use crate::error::{AtoiSimdError, out_of_line};
+use crate::error::AtoiSimdError;
 use crate::steps::Steps;
 use crate::window::Window;
 
@@ -164,7 +164,10 @@ fn skip_leading_zeros_cold<'a, E: Engine>(
     ensures loads { LoadsWithin (most_loads E.table narrow s.now - 1) 2 E.table true s.now
         steps.old steps.new }
 {
-    out_of_line(skip_leading_zeros::<E>(bound, zeroes, s, steps))
+    match skip_leading_zeros::<E>(bound, zeroes, s, steps) {
+        Ok(found) => Ok(found),
+        Err(error) => Err(error),
+    }
 }
 
 // What `narrow_prefix` with `skip` answers, where the first window told `zeroes`: these and those

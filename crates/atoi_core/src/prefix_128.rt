@@ -9,7 +9,7 @@ ghost use Rattle.atoi_core.specs.Run.{run_len};
 ghost use Rattle.atoi_core.specs.Window.{window_of};
 
 use crate::engine::Engine;
-use crate::error::{AtoiSimdError, out_of_line};
+use crate::error::AtoiSimdError;
 use crate::steps::Steps;
 use crate::wide_answer::append_digits;
 use crate::window::Window;
@@ -55,7 +55,10 @@ fn prefix_128_cold<'a, E: Engine>(
     ensures loads { LoadsWithin (most_loads E.table wide128 s.now - 2) 3 E.table skip s.now
         steps.old steps.new }
 {
-    out_of_line(E::prefix_128(bound, skip, s, steps))
+    match E::prefix_128(bound, skip, s, steps) {
+        Ok(found) => Ok(found),
+        Err(error) => Err(error),
+    }
 }
 
 // The answer of the first two windows; none where the engine is to be called.

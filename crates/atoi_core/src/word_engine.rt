@@ -12,7 +12,7 @@ ghost use Rattle.std.proofs.Common.{arith};
 ghost use Rattle.std.proofs.lemmas.Bool.Decides.{nat_tests};
 
 use crate::engine::Engine;
-use crate::error::{AtoiSimdError, out_of_line};
+use crate::error::AtoiSimdError;
 use crate::steps::Steps;
 use crate::wide_answer::{answer_64, append_digits, power_of_ten};
 use crate::window::Window;
@@ -101,7 +101,10 @@ fn skip_leading_zeros_cold<'a>(
     ensures loads { LoadsWithin (most_loads decimal_table wide64 s.now - 2) 1 decimal_table true
         s.now steps.old steps.new }
 {
-    out_of_line(skip_leading_zeros(bound, limit, zeroes, s, steps))
+    match skip_leading_zeros(bound, limit, zeroes, s, steps) {
+        Ok(found) => Ok(found),
+        Err(error) => Err(error),
+    }
 }
 
 // What `prefix_64` with zeros to skip answers, where the first window told `zeroes`: these and those
