@@ -40,8 +40,8 @@ pub fn take_sign(signed: bool, skip_plus: bool, s: &[u8]) -> (bool, &[u8])
 ///
 /// The sign is a `-`, or a `+` if `skip_plus` is on. With `skip` any number of leading zeros is
 /// accepted; types of at most 32 bits always accept them. The digits are those of the engine `E`.
-/// `steps` counts the loads. Whatever the sign, the body is parsed once, as the digits of a
-/// negative number, and the sign is applied to the result; no branch depends on it.
+/// `steps` counts the loads. Whatever the sign is, the body is parsed once, as the digits of a
+/// negative number, and the sign is applied to the result. This avoids a branch on the sign.
 ///
 /// # Errors
 ///
