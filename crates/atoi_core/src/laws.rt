@@ -48,8 +48,8 @@ pub fn whole_results<T: Number, const SKIP_ZEROES: bool>()
 {}
 
 /// If a result of the type is what a prefix parse returns, its `Ok` is a number that the first so
-/// many bytes write, and no digit follows them; if zeros are skipped, its error means that no such
-/// prefix writes a number.
+/// many bytes write, and no digit follows them; if zeros are skipped, its error means that the
+/// slice has no such prefix.
 #[tactic(auto, using(crate::proofs::Prefixes::prefix_results))]
 pub fn prefix_results<T: Number, const SKIP_ZEROES: bool>()
     ensures { PrefixResults T.int_type T.number SKIP_ZEROES }
@@ -84,8 +84,8 @@ pub fn prefix_stops_at_rest<T: Number>()
     ensures { PrefixStopsAtRest T.int_type }
 {}
 
-/// What follows the digits changes neither the value and the count that a prefix parse returns, nor
-/// the variant of its error.
+/// What follows the digits does not change whether a prefix parse succeeds, nor the value and the
+/// count that it returns, nor the variant of its error.
 #[tactic(auto, using(crate::proofs::SameOutcomes::rest_changes_nothing))]
 pub fn rest_changes_nothing<T: Number>()
     ensures { RestChangesNothing T.int_type }
@@ -114,8 +114,8 @@ pub fn errors_in_order<T: Number>()
     ensures { ErrorsInOrder T.int_type }
 {}
 
-/// The digits are those of std, `b'0'` to `b'9'`, and their value is std's `digits_value 10`. Bytes
-/// spell a value below ten to the power of their number.
+/// The digits are those of std, `b'0'` to `b'9'`, and their value is std's `digits_value 10`. It is
+/// below ten to the power of the number of digits.
 #[tactic(auto, using(crate::proofs::Texts::decimal_digits))]
 pub fn decimal_digits()
     ensures { DecimalDigits }
