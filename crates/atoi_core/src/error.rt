@@ -161,7 +161,7 @@ fn put_invalid(number: u128, index: usize, out: &mut [u8; 400]) -> usize
 }
 
 /// Returns `answer`, the result of a call that is not inlined. It is matched here so that the
-/// caller zeroes the result's stack slot only on the path that makes the call.
+/// caller clears the stack slot of that result only on the path that makes the call.
 #[inline(always)]
 pub(crate) fn out_of_line<A>(answer: Result<A, AtoiSimdError<'_>>) -> Result<A, AtoiSimdError<'_>>
     ensures { result ≡ answer.entry }

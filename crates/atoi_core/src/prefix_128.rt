@@ -45,7 +45,7 @@ pub(crate) fn prefix_128_inline<'a, E: Engine>(
 }
 
 // Kept separate, with its result matched in `out_of_line`, so that the stack slot of that result is
-// zeroed only on the path that calls `E::prefix_128`.
+// cleared only on the path that calls `E::prefix_128`.
 #[inline(always)]
 fn prefix_128_cold<'a, E: Engine>(
     bound: u128,

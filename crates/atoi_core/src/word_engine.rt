@@ -84,7 +84,7 @@ impl Engine for Words {
 }
 
 // Kept separate, with its result matched in `out_of_line`, so that the stack slot of that result is
-// zeroed only on the path that calls `skip_leading_zeros`.
+// cleared only on the path that calls `skip_leading_zeros`.
 #[inline(always)]
 fn skip_leading_zeros_cold<'a>(
     bound: u64,
