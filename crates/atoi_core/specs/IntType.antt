@@ -33,8 +33,8 @@ pub record IsTypeOf (k : IntType) (bits : ℕ) (signed : Bool) (greatest : ℕ) 
 abbrev pub class_of : IntType → Class
 class_of k = if nat_le k.bits 32 then narrow else (if k.bits == 64 then wide64 else wide128)
 
--- The largest magnitude in range, which is a value without its sign: that of the largest value, or
--- with a minus that of the smallest.
+-- The largest magnitude in range, a magnitude being a value without its sign: with a minus that of
+-- the smallest value, otherwise that of the largest.
 abbrev pub bound_of : IntType → Bool → ℕ
 bound_of k minus = if minus then k.greatest + 1 else k.greatest
 

@@ -32,7 +32,7 @@ pub record Rule : Type 0 where
   pub cap : ℕ
   pub dropped : ℕ
 
--- The rule for each class, extent and flag. The limit of 64 and 128 bits is an argument. A narrow
+-- The rule for each class, extent and flag. The limit for 64 and 128 bits is an argument. A narrow
 -- prefix that skips zeros leaves out all of them if the digits fill more blocks of 16 bytes than
 -- the zeros do, and otherwise those that fill whole blocks.
 abbrev pub rule_of : Class → Extent → Bool → (limit digits skipped : ℕ) → Rule
@@ -48,7 +48,7 @@ abbrev pub is_above : Option ℕ → ℕ → Bool
 is_above None counting = false
 is_above (Some limit) counting = nat_lt limit counting
 
--- A slice that is parsed as a whole goes on after its digits.
+-- The body is parsed as a whole, and another byte follows its digits.
 abbrev pub leaves_rest : Extent → ℕ → ℕ → Bool
 leaves_rest whole digits length = not (digits == length)
 leaves_rest prefix digits length = false

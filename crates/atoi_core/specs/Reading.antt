@@ -44,11 +44,12 @@ pub record ReadingDecides : Type 0 where
   -- After `place` zeros, a reading has the zeros that are left, as far as it goes.
   pub zeros_left : (table : Table) (count : ℕ) (s : List ℕ) (place : ℕ) → place ≤ zeros table s
       → zeros table (take count (drop place s)) ≡ min count (zeros table s - place)
-  -- If the first reading is full of digits, it and the reading after it together are one reading.
+  -- If a reading is full of digits, it and the reading after it together form one.
   pub joined : (table : Table) (count more : ℕ) (s : List ℕ) (leading high digits others low : ℕ)
       → Reading table count s count leading high → Reading table more (drop count s) digits others low
       → Reading table (count + more) s (count + digits) (if leading == count then count + others else leading) (high * 10 ^ digits + low)
-  -- A reading whose digits end within it is also a reading of more bytes.
+  -- A reading whose digits end within it, so that `digits < count`, is also a reading of more
+  -- bytes.
   pub widened : (table : Table) (count more : ℕ) (s : List ℕ) (digits leading number : ℕ)
       → Reading table count s digits leading number → digits < count → count ≤ more → Reading table more s digits leading number
   -- A reading has no more zeros than digits, and no more digits than bytes.

@@ -1,5 +1,5 @@
 //! The four *core calls*, `whole_pos`, `whole_neg`, `prefix_pos` and `prefix_neg`: the parses of
-//! digits without a sign into any integer type. The bound is picked by the sign, and the parser by
+//! digits without a sign into any integer type. They pick the bound by the sign, and the parser by
 //! the size of the type: at most 32 bits, 64 or 128. It uses `narrow`, `wide`, `prefix_128` and
 //! `number`, and the modules that their contracts name: `engine`, `steps` and `error`.
 ghost use Rattle.std.specs.Prelude.{◌≡◌, ◌^◌, ◌<◌, ◌≤◌, true, false, IfOk, length};

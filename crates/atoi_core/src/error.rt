@@ -160,8 +160,8 @@ fn put_invalid(number: u128, index: usize, out: &mut [u8; 400]) -> usize
     put_decimal(number, out, end)
 }
 
-/// Returns `answer`, the result of a call that is not inlined. It is matched here so that the
-/// caller clears the stack slot of that result only on the path that makes the call.
+/// What a call out of line answers. It is matched here, so that the caller need not clear the place
+/// of the result on the way that does not make the call.
 #[inline(always)]
 pub(crate) fn out_of_line<A>(answer: Result<A, AtoiSimdError<'_>>) -> Result<A, AtoiSimdError<'_>>
     ensures { result ≡ answer.entry }

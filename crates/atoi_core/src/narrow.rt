@@ -147,8 +147,8 @@ fn error_of_whole<'a>(error: AtoiSimdError<'_>, s: &'a [u8]) -> AtoiSimdError<'a
     }
 }
 
-// Kept separate, with its result matched in `out_of_line`, so that the stack slot of that result is
-// cleared only on the path that calls `skip_leading_zeros`.
+// Kept separate, with the result matched right after the call, so that the stack slot of that
+// result is cleared only on the path that calls `skip_leading_zeros`.
 #[inline(always)]
 fn skip_leading_zeros_cold<'a, E: Engine>(
     bound: u64,

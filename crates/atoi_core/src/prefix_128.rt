@@ -44,8 +44,8 @@ pub(crate) fn prefix_128_inline<'a, E: Engine>(
     }
 }
 
-// Kept separate, with its result matched in `out_of_line`, so that the stack slot of that result is
-// cleared only on the path that calls `E::prefix_128`.
+// Kept separate, with the result matched right after the call, so that the stack slot of that
+// result is cleared only on the path that calls `E::prefix_128`.
 #[inline(always)]
 fn prefix_128_cold<'a, E: Engine>(
     bound: u128,

@@ -83,8 +83,8 @@ impl Engine for Words {
     ghost below_ten = { λ byte. Prim.grind (arith, nat_tests) };
 }
 
-// Kept separate, with its result matched in `out_of_line`, so that the stack slot of that result is
-// cleared only on the path that calls `skip_leading_zeros`.
+// Kept separate, with the result matched right after the call, so that the stack slot of that
+// result is cleared only on the path that calls `skip_leading_zeros`.
 #[inline(always)]
 fn skip_leading_zeros_cold<'a>(
     bound: u64,
@@ -155,9 +155,10 @@ fn window_after_16(s: &[u8], steps: &mut Steps) -> Window
     window_of_word(load_from(s, 16))
 }
 
-// Returns the window of at most 8 bytes. Fewer are read as if zeros preceded them, which the result
-// leaves out: so there are always eight bytes, and unless `s` is empty no branch depends on their
-// number. The window of 8 bytes is the same as that of 16 if there are fewer than 8.
+// Returns the window of a slice of at most 8 bytes. A slice of fewer is read as if zeros preceded
+// it, which the result leaves out. So there are always eight bytes, and unless `s` is empty, no
+// branch depends on its length. For fewer than 8 bytes the windows of 8 and of 16 bytes are the
+// same.
 fn short_window(s: &[u8]) -> Window
     requires { length s.now ≤ 8 }
     ensures of_16 { result ≡ window_of decimal_table 16 s.now }
@@ -218,8 +219,8 @@ fn not_full(len: u32, number: u64) -> Window
 }
 
 // Returns the word of the bytes from index `at` on, at most 8. If `s` ends among them, they are
-// taken from its last 8 bytes, by a shift. If there are none, that shift is by 64 bits, which one
-// operation cannot do; so there are two.
+// taken from its last 8 bytes by a shift. If no byte is left, that is a shift by 64 bits, which is
+// too far for a single shift of a word; so there are two.
 #[inline(always)]
 fn load_from(s: &[u8], at: usize) -> u64
     requires enough { 8 ≤ length s.now }
@@ -236,8 +237,8 @@ fn load_from(s: &[u8], at: usize) -> u64
     }
 }
 
-// Returns the word of the first 8 bytes. Callers have checked the length, so the code for shorter
-// slices is not part of a window.
+// Returns the word of the first 8 bytes. Callers have checked the length. Unlike `load_8`, this
+// function has no code for shorter slices, which would make each window larger.
 #[tactic(auto, using(crate::proofs::LoadedWords::word_of_first))]
 fn load_full(s: &[u8]) -> u64
     requires { 8 ≤ length s.now }
@@ -265,8 +266,8 @@ fn window_of_word(word: u64) -> Window
     }
 }
 
-// Returns the number that the first `len` bytes spell; these are all digits that the word starts
-// with, and there may be none.
+// Returns the number that the first `len` bytes of the word spell. They are all the digits that the
+// word starts with, and there may be none.
 fn number_in_word(word: u64, len: u32) -> u64
     requires few { len ≤ 8 }
     requires digits { len ≡ run_len decimal_table (low_bytes 8 word) }
@@ -276,8 +277,9 @@ fn number_in_word(word: u64, len: u32) -> u64
     if len == 0 { 0 } else { value_of(word, len) }
 }
 
-// Returns the number that the first `len` bytes spell, which are digits. The result is that of
-// `process_8`, but instead of a mask it subtracts 48 from each byte, as `digits_of` does too.
+// Returns the number that the first `len` bytes of the word spell; each of them is a digit, and
+// there is at least one. The result is that of `process_8`, but instead of a mask it subtracts 48
+// from each byte, as `digits_of` does too.
 fn value_of(word: u64, len: u32) -> u64
     requires some { 1 ≤ len }
     requires few { len ≤ 8 }

@@ -100,8 +100,8 @@ pub fn check_len_8(val: u64) -> u32
 
 /// Returns the number that the lowest `len` bytes of `val` spell, the lowest byte as the most
 /// significant digit: the sum of each byte modulo 16, be it a digit or not, times its power of ten.
-/// `len` is 1 to 8; the bytes above these do not matter. The result is at most 166666665, if every
-/// bit is set.
+/// `len` is 1 to 8; the bytes above these do not matter. The largest result is 166666665, when
+/// every bit is set.
 pub fn process_8(val: u64, len: u32) -> u64
     requires low { 1 ≤ len }
     requires high { len ≤ 8 }
@@ -117,7 +117,7 @@ pub fn process_8(val: u64, len: u32) -> u64
 }
 
 /// Returns the sum of `process_8` for the lowest `len` bytes of a word of sixteen. `len` is 1 to
-/// 16; the bytes above these do not matter. The result is at most 16666666666666665, if every bit
+/// 16; the bytes above these do not matter. The largest result is 16666666666666665, when every bit
 /// is set.
 pub fn process_16(val: u128, len: u32) -> u64
     requires low { 1 ≤ len }
