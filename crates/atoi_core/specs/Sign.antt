@@ -24,6 +24,6 @@ sign_of signed plus (byte ∷ bytes) =
     else (if signed && byte == minus_sign then record { minus = true; taken = 1; body = bytes }
     else record { minus = false; taken = 0; body = byte ∷ bytes })
 
--- This is a magnitude with its sign.
+-- A magnitude as an integer, negated if there is a minus.
 abbrev pub with_sign : Bool → ℕ → ℤ
 with_sign minus magnitude = if minus then neg_ℤ (pos magnitude) else pos magnitude

@@ -28,8 +28,8 @@ is_plus plus = true
 is_plus minus = false
 
 -- The bytes are one or more decimal digits and nothing else, and write the number: it is their
--- value, negated if `is_negative` holds, and in the range of the type. What digits are and their
--- value are std's definitions.
+-- value, negated if `is_negative` holds, and in the range of the type. The definitions of digits
+-- and of their value are those of std.
 pub record DigitsWrite (k : IntType) (is_negative : Bool) (digits : List ℕ) (number : ℤ) : Type 0 where
   pub numeral : IsNumeral 10 digits
   pub in_range : digits_value 10 digits ≤ bound_of k is_negative

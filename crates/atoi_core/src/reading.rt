@@ -13,9 +13,9 @@
 ghost use Rattle.atoi_core.specs.Reading.{ReadingDecides};
 
 /// The law that what has been read of a slice decides the answer of `Engine::prefix_64` and
-/// `Engine::prefix_128`. It speaks of a reading after skipped zeros, and there are two cases: the
-/// digits end within the bytes that were read, or at least as many significant digits were read as
-/// the error `Size` counts at most. Calling this function does nothing.
+/// `Engine::prefix_128`. It applies to a reading after skipped zeros, in two cases: the digits end
+/// within the bytes that were read, or at least as many significant digits were read as the error
+/// `Size` counts at most. Calling this function does nothing.
 #[tactic(auto, using(crate::proofs::Windows::reading_decides))]
 pub fn reading_decides()
     ensures { ReadingDecides }

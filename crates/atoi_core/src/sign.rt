@@ -1,6 +1,7 @@
-//! The sign at the start of a slice, and the parses that consume it. Each of them makes one core
-//! call on the *body*, the slice after its sign. It uses `dispatch` and `negative_bound`, and the
-//! modules that their contracts name.
+//! The sign at the start of a slice, and the parses that consume it. Each parse makes one *core
+//! call*, which is `whole_pos`, `whole_neg`, `prefix_pos` or `prefix_neg`, on the *body*, the slice
+//! after its sign. It uses `dispatch` and `negative_bound`, and the modules that their contracts
+//! name.
 ghost use Rattle.std.specs.Prelude.{◌≡◌, ◌+◌, ◌≤◌, false, IfOk, length};
 ghost use Rattle.atoi_core.specs.Answer.{typed_answer, typed_prefix_answer, text_answer, text_prefix_answer};
 ghost use Rattle.atoi_core.specs.Loads.{TypedLoads};
