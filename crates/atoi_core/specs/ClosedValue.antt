@@ -1,4 +1,4 @@
--- The number that digits write, as one sum over their places. Each proof is a plain term.
+-- The number that digits spell, as one sum over their positions. Each proof is a plain term.
 use Rattle.std.specs.Prelude.{◌≡◌, ℕ, zero, suc, ◌+◌, ◌-◌, ◌*◌, ◌^◌, List, [], ◌∷◌, length, slice_index, refl}
 use Rattle.std.proofs.Common.{sym, ap, ◌∙◌, add_assoc, zero-add, add-zero}
 use Rattle.std.proofs.Math.Nat.{suc-sub-suc, sub-zero, sub-add-eq}
@@ -6,30 +6,30 @@ use Rattle.std.proofs.Math.Numerals.{one-add}
 use Rattle.atoi_core.specs.Digit.{Table, digit_value}
 use Rattle.atoi_core.specs.Run.{value}
 
--- f(0) + .. + f(n - 1)
+-- This is f(0) + .. + f(n - 1).
 abbrev pub sum_below : ℕ → (ℕ → ℕ) → ℕ
 sum_below zero f = 0
 sum_below (suc n) f = sum_below n f + f n
 
--- the sum over i, from 0 to the last place, of the worth of the i-th digit times ten for every digit
--- behind it
+-- The sum over each index i: the digit value at i, times ten for every digit after it.
 abbrev pub closed_value : Table → List ℕ → ℕ
 closed_value table s = sum_below (length s) (λ i. digit_value table (slice_index s i) * 10 ^ (length s - 1 - i))
 
--- sums of equal terms are equal
+-- Sums of equal terms are equal.
 sum_below-equal : (n : ℕ) (f g : ℕ → ℕ) → ((i : ℕ) → f i ≡ g i) → sum_below n f ≡ sum_below n g
 sum_below-equal zero f g same = refl
 sum_below-equal (suc n) f g same =
     ap (λ (k : ℕ). k + f n) (sum_below-equal n f g same) ∙ ap (λ (k : ℕ). sum_below n g + k) (same n)
 
--- the first term apart from the others
+-- A sum is its first term plus the sum of the others.
 sum_below-suc : (n : ℕ) (f : ℕ → ℕ) → sum_below (suc n) f ≡ f 0 + sum_below n (λ i. f (suc i))
 sum_below-suc zero f = zero-add (f 0) ∙ sym (add-zero (f 0))
 sum_below-suc (suc n) f =
     ap (λ (k : ℕ). k + f (suc n)) (sum_below-suc n f)
     ∙ add_assoc (f 0) (sum_below n (λ i. f (suc i))) (f (suc n))
 
--- how many digits stand behind the first of n + 1, and behind the one after i
+-- After the first of n + 1 digits there are n more; and after the digit at index i + 1 of these
+-- there are as many as after the digit at index i of the last n.
 behind_first : (n : ℕ) → suc n - 1 - 0 ≡ n
 behind_first n = sub-zero (suc n - 1) ∙ suc-sub-suc n 0 ∙ sub-zero n
 
@@ -39,7 +39,7 @@ behind_next n i =
     ∙ ap (λ (k : ℕ). n - k) (sym (one-add i))
     ∙ sub-add-eq n 1 i
 
--- the value is that sum
+-- The value of digits is that sum.
 pub value_is_closed : (table : Table) (s : List ℕ) → value table s ≡ closed_value table s
 value_is_closed table [] = refl
 value_is_closed table (digit ∷ digits) =

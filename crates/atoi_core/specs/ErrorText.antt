@@ -1,23 +1,23 @@
--- What an error prints.
+-- The text that an error prints.
 use Rattle.std.specs.Prelude.{ℕ, List, [], ◌∷◌, ◌++◌, true, take, codes, decimal}
 use Rattle.std.specs.List.{flat_map}
 use Rattle.std.specs.Fmt.{digits}
 use Rattle.atoi_core.specs.Refusal.{Refusal, empty, size, overflow, invalid64, invalid128}
 
--- a byte in hexadecimal capitals without leading zeros
+-- This is a byte in hexadecimal capitals without leading zeros.
 abbrev pub hex_text : ℕ → List ℕ
 hex_text byte = digits 16 true byte
 
--- the bytes in hexadecimal, joined by comma and space
+-- These are the bytes in hexadecimal, joined by comma and space.
 abbrev pub hex_list : List ℕ → List ℕ
 hex_list [] = []
 hex_list (byte ∷ bytes) = hex_text byte ++ flat_map (λ b. codes ", " ++ hex_text b) bytes
 
--- a slice as an error shows it: at most its first 48 bytes, in brackets
+-- An error shows at most the first 48 bytes of its slice, in brackets.
 abbrev pub input_text : List ℕ → List ℕ
 input_text input = codes "[" ++ hex_list (take 48 input) ++ codes "]"
 
--- the text of an error; the one of a 64-bit number has two spaces before `input:`
+-- This is the text of an error. `invalid64` has two spaces before `input:`, `invalid128` has one.
 abbrev pub error_text : Refusal → List ℕ
 error_text empty = codes "atoi_simd string is empty"
 error_text (size length input) =

@@ -1,4 +1,5 @@
--- Worked answers. Each computes from the definitions, so a wrong definition fails the check.
+-- Worked answers. Each is computed from the definitions, so that a wrong definition fails the
+-- check.
 use Rattle.std.specs.Fmt.{digits}
 use Rattle.std.specs.Prelude.{◌≡◌, [], true, false, ◌∷◌, length, replicate, decimal, pos, negsuc, codes, Ok, Err, refl}
 use Rattle.atoi_core.specs.Digit.{decimal_table}
@@ -11,253 +12,256 @@ use Rattle.atoi_core.specs.Answer.{parse_answer, parse_prefix_answer, whole_answ
 use Rattle.atoi_core.specs.Sign.{sign_of}
 use Rattle.std.specs.declared.cmp.Ordering.TheVariants.{Less}
 
--- a plus and any number of zeros are skipped where both are asked for
+-- A plus and any number of leading zeros are accepted if both flags are on.
 pub plus_and_zeros : parse_answer u64_type true true (codes "+000000000000000000001234") ≡ Ok (pos 1234)
 unfolding refusal
 plus_and_zeros = refl
 
--- the count of a prefix is of the plus and the zeros too
+-- The count of a prefix includes the plus and the zeros.
 pub plus_and_zeros_count : parse_prefix_answer u64_type true true (codes "+000000000000000000001234") ≡ Ok (pos 1234, 25)
 unfolding refusal
 plus_and_zeros_count = refl
 
--- a minus is taken where the type is signed
+-- A minus is accepted if the type is signed.
 pub minus : parse_answer i64_type false false (codes "-2345") ≡ Ok (negsuc 2344)
 unfolding refusal
 minus = refl
 
--- a negative parse looks for no sign
+-- A parse of a negative number without its minus looks for no sign.
 pub negative_body : whole_answer decimal_table i64_type true false (codes "2345") ≡ Ok (negsuc 2344)
 unfolding refusal
 negative_body = refl
 
--- a prefix stops at the first byte that is no digit
+-- A prefix stops at the first byte that is no digit.
 pub prefix_stops : parse_prefix_answer u64_type false false (codes "123something_else") ≡ Ok (pos 123, 3)
 unfolding refusal
 prefix_stops = refl
 
--- a value above the bound is told before the byte behind it
+-- A value above the bound is reported rather than the byte after it.
 pub overflow_first : parse_answer u8_type false false (codes "256x") ≡ Err (overflow (codes "256x"))
 unfolding refusal
 overflow_first = refl
 
--- the byte behind the digits, with the value so far and its place
+-- A byte after the digits is reported with the value of the digits, and its index.
 pub invalid_after_value : parse_answer u8_type false false (codes "255x") ≡ Err (invalid64 255 3 (codes "255x"))
 unfolding refusal
 invalid_after_value = refl
 
--- the least value of a type is in range
+-- The smallest value of a type is in range.
 pub least_value : parse_answer i8_type false false (codes "-128") ≡ Ok (negsuc 127)
 unfolding refusal
 least_value = refl
 
--- one below the least value is not, and the error has no sign
+-- One less is not, and the slice in the error has no sign.
 pub below_least : parse_answer i8_type false false (codes "-129") ≡ Err (overflow (codes "129"))
 unfolding refusal
 below_least = refl
 
--- a narrow prefix that skips no zeros has at most 16 digits
+-- A prefix of a type of at most 32 bits that skips no zeros has at most 16 digits.
 pub seventeen_digits_of_u8 : parse_prefix_answer u8_type false false (codes "00000000000000007") ≡ Err (size 17 (codes "00000000000000007"))
 unfolding refusal
 seventeen_digits_of_u8 = refl
 
--- all of them are read, and what stands behind does not count
+-- All 16 are read, and the byte after them does not matter.
 pub sixteen_digits_of_u8 : parse_prefix_answer u8_type false false (codes "0000000000000000x") ≡ Ok (pos 0, 16)
 unfolding refusal
 sixteen_digits_of_u8 = refl
 
--- the sign is no digit
+-- The sign is not one of the 16 digits.
 pub sixteen_digits_of_i32 : parse_prefix_answer i32_type false false (codes "-0000000000000007x") ≡ Ok (negsuc 6, 17)
 unfolding refusal
 sixteen_digits_of_i32 = refl
 
--- and stands in no slice of an error
+-- Nor is it in the slice of an error.
 pub seventeen_digits_of_i8 : parse_prefix_answer i8_type false false (codes "-00000000000000000") ≡ Err (size 17 (codes "00000000000000000"))
 unfolding refusal
 seventeen_digits_of_i8 = refl
 
--- the size is told before the range, and tells 17 digits at most
+-- The size is checked before the range, and counts at most 17 digits.
 pub size_before_range : parse_prefix_answer u8_type false false (codes "00000000000000255999") ≡ Err (size 17 (codes "00000000000000255999"))
 unfolding refusal
 size_before_range = refl
 
--- as it is where the first 16 digits alone are above the bound
+-- So it is if the first 16 digits spell a value above the bound already.
 pub size_of_seventeen_ones : parse_prefix_answer u32_type false false (codes "11111111111111111") ≡ Err (size 17 (codes "11111111111111111"))
 unfolding refusal
 size_of_seventeen_ones = refl
 
--- 16 digits are not too many, but their value is
+-- 16 digits are not too many, but their value is out of range.
 pub range_of_sixteen_ones : parse_prefix_answer u32_type false false (codes "1111111111111111") ≡ Err (overflow (codes "1111111111111111"))
 unfolding refusal
 range_of_sixteen_ones = refl
 
--- one that skips zeros has any number of digits
+-- A prefix that skips zeros may have any number of digits.
 pub narrow_prefix_skips : parse_prefix_answer u8_type true false (codes "00000000000000007") ≡ Ok (pos 7, 17)
 unfolding refusal
 narrow_prefix_skips = refl
 
--- zeros alone are zero, however many
+-- Digits that are all zeros spell zero, however many there are.
 pub zeros_alone : parse_prefix_answer u8_type true false (codes "0000000000000000") ≡ Ok (pos 0, 16)
 unfolding refusal
 zeros_alone = refl
 
--- an overflow leaves out the zeros where the run reaches the next window
+-- The slice of an overflow leaves out the zeros if the block of 16 bytes in which they end consists
+-- of digits.
 pub overflow_without_zeros : parse_prefix_answer u8_type true false (codes "00000000000000255999") ≡ Err (overflow (codes "255999"))
 unfolding refusal
 overflow_without_zeros = refl
 
--- 16 digits reach it
+-- 16 digits fill that block.
 pub overflow_drops_thirteen : parse_prefix_answer u8_type true false (codes "0000000000000999x") ≡ Err (overflow (codes "999x"))
 unfolding refusal
 overflow_drops_thirteen = refl
 
--- 15 digits do not
+-- 15 digits do not, so the zeros are kept.
 pub overflow_keeps_twelve : parse_prefix_answer u8_type true false (codes "000000000000999x") ≡ Err (overflow (codes "000000000000999x"))
 unfolding refusal
 overflow_keeps_twelve = refl
 
--- zeros that are not skipped count against the limit of a wide type
+-- Zeros that are not skipped count towards the limit of a type of 64 bits.
 pub zeros_count_as_digits : parse_answer u64_type false false (codes "000000000000000000000") ≡ Err (size 21 (codes "000000000000000000000"))
 unfolding refusal
 zeros_count_as_digits = refl
 
--- zeros that are skipped do not
+-- Skipped zeros do not.
 pub zeros_skipped : parse_answer u64_type true false (codes "000000000000000000000") ≡ Ok (pos 0)
 unfolding refusal
 zeros_skipped = refl
 
--- the greatest value of 64 bits is in range
+-- The largest value of 64 bits is in range.
 pub greatest_u64 : parse_answer u64_type false false (codes "18446744073709551615") ≡ Ok (pos 18446744073709551615)
 unfolding refusal
 greatest_u64 = refl
 
--- one above it is not
+-- One more is not.
 pub above_greatest_u64 : parse_answer u64_type false false (codes "18446744073709551616") ≡ Err (overflow (codes "18446744073709551616"))
 unfolding refusal
 above_greatest_u64 = refl
 
--- 20 digits are too many for a signed number of 64 bits
+-- 20 digits are too many for a signed type of 64 bits.
 pub twenty_digits_of_i64 : parse_answer i64_type false false (codes "09223372036854775807") ≡ Err (size 20 (codes "09223372036854775807"))
 unfolding refusal
 twenty_digits_of_i64 = refl
 
--- a size tells at most 24 digits behind the zeros, and the slice begins behind these
+-- A size counts the skipped zeros and at most 24 of the digits after them, and its slice starts
+-- after the zeros.
 pub size_is_capped : parse_prefix_answer u64_type true false (codes "0001111111111111111111111111") ≡ Err (size 27 (codes "1111111111111111111111111"))
 unfolding refusal
 size_is_capped = refl
 
--- the byte behind the least value's magnitude
+-- A byte after the magnitude of the smallest value is reported with that magnitude.
 pub magnitude_of_least : whole_answer decimal_table i64_type true false (codes "9223372036854775808x") ≡ Err (invalid64 9223372036854775808 19 (codes "9223372036854775808x"))
 unfolding refusal
 magnitude_of_least = refl
 
--- the least value of 64 bits
+-- The smallest value of 64 bits is in range.
 pub least_i64 : whole_answer decimal_table i64_type true false (codes "9223372036854775808") ≡ Ok (negsuc 9223372036854775807)
 unfolding refusal
 least_i64 = refl
 
--- the greatest value of 128 bits is in range
+-- The largest value of 128 bits is in range.
 pub greatest_u128 : parse_answer u128_type false false (codes "340282366920938463463374607431768211455") ≡ Ok (pos 340282366920938463463374607431768211455)
 unfolding refusal
 greatest_u128 = refl
 
--- one above it is not
+-- One more is not.
 pub above_greatest_u128 : parse_answer u128_type false false (codes "340282366920938463463374607431768211456") ≡ Err (overflow (codes "340282366920938463463374607431768211456"))
 unfolding refusal
 above_greatest_u128 = refl
 
--- 39 zeros fit 128 bits
+-- 39 zeros are not too many for 128 bits.
 pub thirty_nine_zeros : parse_answer u128_type false false (codes "000000000000000000000000000000000000000") ≡ Ok (pos 0)
 unfolding refusal
 thirty_nine_zeros = refl
 
--- 41 do not, and the size tells at most 40
+-- 41 are, and the size counts at most 40.
 pub forty_one_zeros : parse_answer u128_type false false (codes "00000000000000000000000000000000000000000") ≡ Err (size 40 (codes "00000000000000000000000000000000000000000"))
 unfolding refusal
 forty_one_zeros = refl
 
--- a plus that is taken is counted
+-- The count of a prefix includes a plus that is consumed.
 pub plus_counted : parse_prefix_answer i32_type false true (codes "+12a") ≡ Ok (pos 12, 3)
 unfolding refusal
 plus_counted = refl
 
--- and a minus
+-- It includes a minus, too.
 pub minus_counted : parse_prefix_answer i32_type false false (codes "-12a") ≡ Ok (negsuc 11, 3)
 unfolding refusal
 minus_counted = refl
 
--- at most one sign is taken
+-- At most one sign is accepted.
 pub one_sign_alone : parse_answer i8_type false true (codes "+-5") ≡ Err empty
 unfolding refusal
 one_sign_alone = refl
 
--- no plus where it is not asked for
+-- No plus is accepted if the flag is off.
 pub no_plus_unasked : parse_answer i8_type false false (codes "+5") ≡ Err empty
 unfolding refusal
 no_plus_unasked = refl
 
--- no minus on an unsigned type
+-- No minus is accepted for an unsigned type.
 pub no_minus_unsigned : parse_answer u8_type false true (codes "-5") ≡ Err empty
 unfolding refusal
 no_minus_unsigned = refl
 
--- the place of the byte counts the zeros, and the slice keeps them
+-- The index of the byte counts the skipped zeros, and the slice keeps them.
 pub rest_after_zeros : parse_answer u64_type true false (codes "0000000000000000000000007x") ≡ Err (invalid64 7 25 (codes "0000000000000000000000007x"))
 unfolding refusal
 rest_after_zeros = refl
 
--- a number of 128 bits has an error of its own
+-- A type of 128 bits has a variant of its own.
 pub wide_error : parse_answer u128_type true false (codes "0000012x") ≡ Err (invalid128 12 7 (codes "0000012x"))
 unfolding refusal
 wide_error = refl
 
--- two spaces before `input:` of a 64-bit number
+-- There are two spaces before `input:` for a type of at most 64 bits.
 pub text_of_invalid64 : error_text (invalid64 12 2 (codes "12a")) ≡ codes "atoi_simd invalid at index: 2 it must contain only digits, starting with: 12  input: [31, 32, 61]"
 unfolding digits
 text_of_invalid64 = refl
 
--- one of a 128-bit number
+-- There is one for a type of 128 bits.
 pub text_of_invalid128 : error_text (invalid128 12 2 (codes "12a")) ≡ codes "atoi_simd invalid at index: 2 it must contain only digits, starting with: 12 input: [31, 32, 61]"
 unfolding digits
 text_of_invalid128 = refl
 
--- a size, and the slice
+-- The text of a size shows its number and its slice.
 pub text_of_size : error_text (size 27 (codes "11")) ≡ codes "atoi_simd wrong size: 27 input: [31, 31]"
 unfolding digits
 text_of_size = refl
 
--- an empty slice
+-- An empty slice is shown as brackets.
 pub text_of_no_input : error_text (overflow (codes "")) ≡ codes "atoi_simd overflow, input: []"
 unfolding digits
 text_of_no_input = refl
 
--- no leading zero, and capitals
+-- Bytes are shown in capitals, without leading zeros.
 pub text_of_small_bytes : error_text (overflow (0 ∷ 10 ∷ 13 ∷ 255 ∷ [])) ≡ codes "atoi_simd overflow, input: [0, A, D, FF]"
 unfolding digits
 text_of_small_bytes = refl
 
--- at most 48 bytes
+-- At most 48 bytes are shown.
 pub text_of_fifty : error_text (overflow (replicate 50 10)) ≡ error_text (overflow (replicate 48 10))
 unfolding digits
 text_of_fifty = refl
 
--- the variant decides first
+-- The variant decides the order first.
 pub variant_first : refusal_cmp (size 9 (codes "b")) (overflow (codes "a")) ≡ Less
 variant_first = refl
 
--- a proper front comes first
+-- A proper prefix of a slice is less than the slice.
 pub front_first : refusal_cmp (overflow (codes "1")) (overflow (codes "11")) ≡ Less
 front_first = refl
 
--- the left number decides first
+-- The left number decides before the right one.
 pub left_number_first : refusal_cmp (invalid64 1 2 (codes "a")) (invalid64 2 1 (codes "a")) ≡ Less
 left_number_first = refl
 
--- the body begins with the second sign
+-- The body starts with the second sign.
 pub second_sign_stays : sign_of true true (codes "+-5") ≡ record { minus = false; taken = 1; body = codes "-5" }
 second_sign_stays = refl
 
--- each wide type's limit is the count of digits of its greatest magnitude
+-- The limit of each type of 64 and 128 bits is the number of digits of its largest magnitude, with
+-- a minus or without.
 pub limit_u64 : limit_of u64_type ≡ length (decimal (bound_of u64_type false))
 unfolding digits
 limit_u64 = refl

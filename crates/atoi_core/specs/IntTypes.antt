@@ -1,4 +1,4 @@
--- The kinds of the twelve integer types.
+-- The twelve integer types. `usize` and `isize` have 64 bits.
 use Rattle.std.specs.Prelude.{true, false}
 use Rattle.atoi_core.specs.IntType.{IntType, int_type}
 

@@ -1,5 +1,5 @@
--- Laws of the answers. Each is a statement about the definitions alone, for every slice; nothing
--- of how a parse works occurs in it.
+-- Laws about what the parses return. Each is a statement about the definitions only, for every
+-- slice, and does not mention how a parse works.
 use Rattle.std.specs.Prelude.{◌≡◌, ◌≢◌, ◌⊎◌, ◌↔◌, ℕ, ◌+◌, ◌-◌, ◌^◌, ◌<◌, ◌≤◌, Bool, true, false, if◌then◌else◌, IsTrue, IsFalse, List, ◌++◌, length, take, drop, replicate, slice_index, All, Option, Some, None, ℤ, pos, neg_ℤ, ◌≤ℤ◌, Result, Ok, Err, IsOk, IfOk, OnErr}
 use Rattle.std.specs.Fmt.{decimal, signed_decimal}
 use Rattle.std.specs.Char.{IsAsciiDigit}
@@ -15,92 +15,95 @@ use Rattle.atoi_core.specs.Sign.{Sign, sign_of, with_sign}
 use Rattle.atoi_core.specs.Answer.{typed_answer, typed_prefix_answer, whole_answer, prefix_answer, with_more, parse_answer, parse_prefix_answer}
 use Rattle.atoi_core.specs.Text.{IsText, is_minus, DigitsWrite, TextWrites, BeginsWithDigit, PrefixWrites, has_needless_zero}
 
--- how a call gets its sign: it looks for one at the front of its slice, for a plus only if that is
--- asked for; or it looks for none, and is given whether the number is negative
+-- How a call gets its sign: either it looks for one at the start of its slice, and accepts a plus
+-- only if `plus` is on; or it looks for none, and is passed whether the number is negative.
 pub data SignForm : Type 0 where
   looked_for : (plus : Bool) → SignForm
   given : (is_negative : Bool) → SignForm
 
--- digits without a sign, of a number that is not negative
+-- The form of a call that reads digits without a sign, of a number that is not negative.
 abbrev pub positive : SignForm
 positive = given false
 
--- the sign that such a call uses, and the body that it reads
+-- The sign that such a call uses, and the body that it reads.
 abbrev pub sign_in : IntType → SignForm → List ℕ → Sign
 sign_in k (looked_for plus) s = sign_of k.signed plus s
 sign_in k (given is_negative) s = record { minus = is_negative; taken = 0; body = s }
 
--- what the whole parse of that form answers
+-- The answer of the whole parse of that form.
 abbrev pub whole_call : IntType → SignForm → (skip : Bool) → List ℕ → Result ℤ Refusal
 whole_call k (looked_for plus) skip s = parse_answer k skip plus s
 whole_call k (given is_negative) skip s = whole_answer decimal_table k is_negative skip s
 
--- what the parse of a prefix of that form answers
+-- The answer of the prefix parse of that form, which reads the number at the start of its slice.
 abbrev pub prefix_call : IntType → SignForm → (skip : Bool) → List ℕ → Result (ℤ × ℕ) Refusal
 prefix_call k (looked_for plus) skip s = parse_prefix_answer k skip plus s
 prefix_call k (given is_negative) skip s = prefix_answer decimal_table k is_negative skip s
 
--- what it means for a call of that form that bytes write a number
+-- What it means, for a call of that form, that bytes write a number.
 abbrev pub Writes : IntType → SignForm → List ℕ → ℤ → Type 0
 Writes k (looked_for plus) = TextWrites k plus
 Writes k (given is_negative) = DigitsWrite k is_negative
 
--- the least number of a type: 0, or where it is signed one more below 0 than the greatest is above
+-- The smallest value of a type. It is 0, or for a signed type one further below 0 than the largest
+-- value is above it.
 abbrev pub least_of : IntType → ℤ
 least_of k = if k.signed then neg_ℤ (pos (k.greatest + 1)) else pos 0
 
--- where a prefix may have as many digits as a whole slice: zeros are skipped, or the type has more
--- than 32 bits
+-- A prefix may have as many digits as a whole slice: zeros are skipped, or the type has more than
+-- 32 bits.
 abbrev pub HasLimitOfWhole : IntType → Bool → Type 0
 HasLimitOfWhole k skip = (skip ≡ true) ⊎ (32 < k.bits)
 
--- t stands at the end of s
+-- `t` is a suffix of `s`.
 abbrev pub IsSuffix : List ℕ → List ℕ → Type 0
 IsSuffix t s = (front : List ℕ) × (s ≡ front ++ t)
 
--- two answers of one kind: equal values, or errors of one variant
+-- Two answers are equal values, or reasons of the same variant.
 abbrev pub HaveSameOutcome : {A : Type 0} → Result A Refusal → Result A Refusal → Type 0
 HaveSameOutcome (Ok x) (Ok y) = x ≡ y
 HaveSameOutcome (Err reason) (Err other) = rank reason ≡ rank other
 HaveSameOutcome (Ok x) (Err other) = ⊥
 HaveSameOutcome (Err reason) (Ok y) = ⊥
 
--- a call of that form takes the same sign from both slices, or none from either, and the bodies
--- begin with equal runs of digits
+-- A call of that form consumes the same sign from both slices, or none from either, and their
+-- bodies start with equal runs of digits.
 pub record HaveSameRun (k : IntType) (form : SignForm) (s t : List ℕ) : Type 0 where
   pub minus : (sign_in k form s).minus ≡ (sign_in k form t).minus
   pub taken : (sign_in k form s).taken ≡ (sign_in k form t).taken
   pub run : run decimal_table (sign_in k form s).body ≡ run decimal_table (sign_in k form t).body
 
+-- The byte `0`.
 abbrev pub zero_byte : ℕ
 zero_byte = 48
 
--- s with `count` zeros more before its body, behind the sign that the call takes
+-- This is `s` with `count` more zeros before its body, after the sign that the call consumes.
 abbrev pub with_zeros : IntType → SignForm → (count : ℕ) → List ℕ → List ℕ
 with_zeros k form count s =
     let sign = sign_in k form s in
     take sign.taken s ++ (replicate count zero_byte ++ sign.body)
 
--- the decimal text of every number of the type is parsed to that number, whatever the flags
+-- `parse` returns each value of the type from its decimal text, whatever the flags.
 pub record TextOfValue (k : IntType) : Type 0 where
   pub parsed : (skip plus : Bool) (x : ℤ) → least_of k ≤ℤ x → x ≤ℤ pos k.greatest
       → parse_answer k skip plus (signed_decimal x) ≡ Ok x
 
--- `parse` with both flags accepts exactly the texts of the type, and answers the number that is
--- written
+-- `parse` with both flags on accepts exactly the texts of the type, and returns the number that is
+-- written.
 pub record AcceptedTexts (k : IntType) : Type 0 where
   pub accepted : (s : List ℕ) → IsOk (parse_answer k true true s) ↔ IsText k s
   pub number : (s : List ℕ) (number : ℤ) → TextWrites k true s number → parse_answer k true true s ≡ Ok number
 
--- a whole parse answers a number only where its slice writes that number; where zeros are skipped, it
--- answers each number that its slice writes
+-- A whole parse returns a number only if its slice writes that number. If zeros are skipped, it
+-- returns each number that its slice writes.
 pub record AcceptedNumbers (k : IntType) : Type 0 where
   pub written : (form : SignForm) (skip : Bool) (s : List ℕ) (number : ℤ)
       → whole_call k form skip s ≡ Ok number → Writes k form s number
   pub accepted : (form : SignForm) (s : List ℕ) (number : ℤ)
       → Writes k form s number → whole_call k form true s ≡ Ok number
 
--- so it is with the results of a type, of which `number` says what each value means
+-- The same for the results of a type: `number` says which integer each value means. If zeros are
+-- skipped, an error means that the slice writes no number.
 pub record WholeResults {T : Type 0} (k : IntType) (number : T → ℤ) (skip : Bool) : Type 0 where
   pub text : (plus : Bool) (s : List ℕ) (result : Result T AtoiSimdError)
       → typed_answer number result ≡ parse_answer k skip plus s
@@ -115,15 +118,17 @@ pub record WholeResults {T : Type 0} (k : IntType) (number : T → ℤ) (skip : 
       → typed_answer number result ≡ whole_answer decimal_table k is_negative skip s
       → IsTrue skip → OnErr result ((any : ℤ) → ¬ DigitsWrite k is_negative s any)
 
--- a prefix answers a number and a count only where that front of its slice writes the number, and no
--- digit stands after it; where zeros are skipped, it answers each such front
+-- A prefix parse returns a number and a count only if the first so many bytes of its slice write
+-- that number, and no digit follows them. If zeros are skipped, it returns the number and length of
+-- each such prefix.
 pub record AcceptedPrefixes (k : IntType) : Type 0 where
   pub written : (form : SignForm) (skip : Bool) (s : List ℕ) (number : ℤ) (count : ℕ)
       → prefix_call k form skip s ≡ Ok (number, count) → PrefixWrites (Writes k form) s number count
   pub accepted : (form : SignForm) (s : List ℕ) (number : ℤ) (count : ℕ)
       → PrefixWrites (Writes k form) s number count → prefix_call k form true s ≡ Ok (number, count)
 
--- so it is with the results of a type
+-- The same for the results of a type. If zeros are skipped, an error means that the slice has no
+-- such prefix.
 pub record PrefixResults {T : Type 0} (k : IntType) (number : T → ℤ) (skip : Bool) : Type 0 where
   pub text : (plus : Bool) (s : List ℕ) (result : Result (T × ℕ) AtoiSimdError)
       → typed_prefix_answer number result ≡ parse_prefix_answer k skip plus s
@@ -138,8 +143,9 @@ pub record PrefixResults {T : Type 0} (k : IntType) (number : T → ℤ) (skip :
       → typed_prefix_answer number result ≡ prefix_answer decimal_table k is_negative skip s
       → IsTrue skip → OnErr result ((any : ℤ) (count : ℕ) → ¬ PrefixWrites (DigitsWrite k is_negative) s any count)
 
--- a front that writes a number is known by its bytes and the rest, which begins with no digit; and
--- a slice has at most one such front, so a front that was found cuts the slice there
+-- If a slice is bytes that write a number, and a rest that does not start with a digit, then the
+-- bytes are such a prefix. A slice has at most one such prefix; so a prefix that was found splits
+-- the slice into these bytes and that rest.
 pub record PrefixesAndRests (k : IntType) : Type 0 where
   pub joined : (form : SignForm) (s front rest : List ℕ) (number : ℤ)
       → s ≡ front ++ rest → Writes k form front number → ¬ BeginsWithDigit rest
@@ -152,41 +158,44 @@ pub record PrefixesAndRests (k : IntType) : Type 0 where
       → PrefixWrites (Writes k form) s other count
       → (number ≡ other) × ((take count s ≡ front) × (drop count s ≡ rest))
 
--- a prefix that is read to the slice's end is a whole parse with the same value; and where a prefix
--- may have as many digits, the other way round
+-- If a prefix parse reads its slice to the end, the whole parse returns the same value. If a prefix
+-- may have as many digits as a whole slice, the converse holds too.
 pub record PrefixIsWhole (k : IntType) : Type 0 where
   pub whole : (form : SignForm) (skip : Bool) (s : List ℕ) (v : ℤ)
       → prefix_call k form skip s ≡ Ok (v, length s) → whole_call k form skip s ≡ Ok v
   pub back : (form : SignForm) (skip : Bool) (s : List ℕ) (v : ℤ) → HasLimitOfWhole k skip
       → whole_call k form skip s ≡ Ok v → prefix_call k form skip s ≡ Ok (v, length s)
 
--- a prefix ends within the slice, is not empty, and is answered alike where the slice ends with it
+-- The prefix that a prefix parse finds has at least one byte and ends within the slice, and the
+-- call returns the same if the slice ends with it.
 pub record PrefixOfCut (k : IntType) : Type 0 where
   pub cut : (form : SignForm) (skip : Bool) (s : List ℕ) (v : ℤ) (count : ℕ)
       → prefix_call k form skip s ≡ Ok (v, count)
       → (1 ≤ count) × (count ≤ length s) × (prefix_call k form skip (take count s) ≡ Ok (v, count))
 
--- a prefix stops at the slice's end, or at a byte that is no digit
+-- A prefix parse stops at the end of its slice, or at a byte that is no digit.
 abbrev pub PrefixStopsAtRest : IntType → Type 0
 PrefixStopsAtRest k =
     (form : SignForm) (skip : Bool) (s : List ℕ) (v : ℤ) (count : ℕ)
     → prefix_call k form skip s ≡ Ok (v, count)
     → (count ≡ length s) ⊎ ((count < length s) × IsFalse (is_digit decimal_table (slice_index s count)))
 
--- what stands behind the run of digits changes neither the kind of a prefix's answer, nor its value and count
+-- What follows the run of digits changes neither the value and count that a prefix parse returns,
+-- nor the variant of its error.
 abbrev pub RestChangesNothing : IntType → Type 0
 RestChangesNothing k =
     (form : SignForm) (skip : Bool) (s t : List ℕ) → HaveSameRun k form s t
     → HaveSameOutcome (prefix_call k form skip s) (prefix_call k form skip t)
 
--- a whole parse that succeeds where zeros count succeeds with the same value where they are skipped
+-- If a whole parse succeeds without skipping zeros, it succeeds with the same value when it skips
+-- them.
 abbrev pub SkippingAgrees : IntType → Type 0
 SkippingAgrees k =
     (form : SignForm) (s : List ℕ) (v : ℤ)
     → whole_call k form false s ≡ Ok v → whole_call k form true s ≡ Ok v
 
--- the order of errors calls two equal exactly where they are; each slice in an error of an answer
--- stands at the end of the slice that was parsed
+-- The order of errors calls two errors equal exactly if they are. The slice in an error is a suffix
+-- of the slice that was parsed.
 pub record OrderAndSuffix (k : IntType) : Type 0 where
   pub order : (a b : Refusal) → (refusal_cmp a b ≡ Equal) ↔ (a ≡ b)
   pub whole : (form : SignForm) (skip : Bool) (s : List ℕ) (reason : Refusal)
@@ -194,8 +203,9 @@ pub record OrderAndSuffix (k : IntType) : Type 0 where
   pub prefix : (form : SignForm) (skip : Bool) (s : List ℕ) (reason : Refusal)
       → prefix_call k form skip s ≡ Err reason → IsSuffix (input_of reason) s
 
--- where zeros are skipped and the body begins with a digit, more zeros before the body change
--- neither an answer's kind nor its value, and a prefix's count grows by their number
+-- If zeros are skipped and the body starts with a digit, more zeros before the body change neither
+-- the value that is returned nor the variant of an error, and the count of a prefix parse grows by
+-- their number.
 pub record ZerosChangeNothing (k : IntType) : Type 0 where
   pub whole : (form : SignForm) (s : List ℕ) (count : ℕ)
       → 0 < run_len decimal_table (sign_in k form s).body
@@ -204,7 +214,8 @@ pub record ZerosChangeNothing (k : IntType) : Type 0 where
       → 0 < run_len decimal_table (sign_in k form s).body
       → HaveSameOutcome (with_more count (prefix_call k form true s)) (prefix_call k form true (with_zeros k form count s))
 
--- decimal digits are std's, with std's value, and this is below ten to the count of the digits
+-- The decimal digits are those of std, and so is their value, which is below ten to the power of
+-- their number.
 pub record DecimalDigits : Type 0 where
   pub byte : (byte : ℕ) → IsTrue (is_digit decimal_table byte) ↔ IsAsciiDigit byte
   pub to_std : (s : List ℕ) → All (λ byte. IsTrue (is_digit decimal_table byte)) s → AllDigits 10 s
@@ -212,25 +223,25 @@ pub record DecimalDigits : Type 0 where
   pub value_is : (s : List ℕ) → AllDigits 10 s → value decimal_table s ≡ digits_value 10 s
   pub below : (s : List ℕ) → value decimal_table s < 10 ^ length s
 
--- more digits count than the limit allows, where there is one
+-- There is a limit, and `count` is above it.
 abbrev pub IsAbove : Option ℕ → ℕ → Type 0
 IsAbove None count = ⊥
 IsAbove (Some limit) count = limit < count
 
--- the body has too many digits, those of zeros that are skipped apart: how many may count is by the
--- type, by what is parsed and by the flag
+-- The body has too many significant digits, which are those after the skipped zeros. The limit
+-- depends on the type, on what is parsed and on the flag.
 abbrev pub IsTooLong : IntType → Extent → (skip : Bool) → List ℕ → Type 0
 IsTooLong k extent skip body =
     IsAbove (rule_of (class_of k) extent skip (limit_of k) 0 0).limit
     (run_len decimal_table body - skipped_zeros decimal_table skip body)
 
--- the body has digits at its front, and not too many
+-- The body starts with a digit, and does not have too many.
 pub record HasSomeDigits (k : IntType) (extent : Extent) (skip : Bool) (body : List ℕ) : Type 0 where
   pub some : 0 < run_len decimal_table body
   pub short : ¬ IsTooLong k extent skip body
 
--- another byte stands after digits whose number is in range, at the place and after the number that
--- the error tells
+-- Another byte follows digits whose value is in range. The error holds this value and the index of
+-- that byte in the body.
 pub record IsFollowed (k : IntType) (extent : Extent) (is_negative skip : Bool) (body : List ℕ) (number index : ℕ) : Type 0 where
   pub begins : HasSomeDigits k extent skip body
   pub in_range : value decimal_table (run decimal_table body) ≤ bound_of k is_negative
@@ -238,9 +249,8 @@ pub record IsFollowed (k : IntType) (extent : Extent) (is_negative skip : Bool) 
   pub number_is : number ≡ value decimal_table (run decimal_table body)
   pub index_is : index ≡ run_len decimal_table body
 
--- what the body is like where an answer has that reason. The first that holds is answered: no digit
--- stands at its front; its digits are too many; they write a number out of range; another byte
--- stands after them
+-- What a reason says about the body. The first that applies is returned: the body does not start
+-- with a digit; it has too many digits; they spell a value out of range; another byte follows them.
 abbrev pub Explains : IntType → Extent → (is_negative skip : Bool) → List ℕ → Refusal → Type 0
 Explains k extent is_negative skip body empty = run_len decimal_table body ≡ 0
 Explains k extent is_negative skip body (size count rest) = (0 < run_len decimal_table body) × IsTooLong k extent skip body
@@ -249,8 +259,8 @@ Explains k extent is_negative skip body (overflow rest) =
 Explains k extent is_negative skip body (invalid64 number index input) = IsFollowed k extent is_negative skip body number index
 Explains k extent is_negative skip body (invalid128 number index input) = IsFollowed k extent is_negative skip body number index
 
--- each error of an answer is explained by the body that the call reads; of a prefix no byte after
--- the digits is an error
+-- Each error is explained by the body that the call reads. For a prefix parse, a byte after the
+-- digits is never an error.
 pub record ErrorsInOrder (k : IntType) : Type 0 where
   pub whole : (form : SignForm) (skip : Bool) (s : List ℕ) (reason : Refusal) → whole_call k form skip s ≡ Err reason
       → Explains k whole (sign_in k form s).minus skip (sign_in k form s).body reason
@@ -258,8 +268,9 @@ pub record ErrorsInOrder (k : IntType) : Type 0 where
       → Explains k prefix (sign_in k form s).minus skip (sign_in k form s).body reason
   pub never_followed : (form : SignForm) (skip : Bool) (s : List ℕ) (reason : Refusal) → prefix_call k form skip s ≡ Err reason → rank reason ≤ 2
 
--- bytes that write a number begin with a digit. The decimal text of a number in range writes it and
--- has no needless zero, and no other digits do both. So it is with a sign, where the number 0 has none
+-- Bytes that write a number without a sign start with a digit. The decimal text of a number in
+-- range writes it and has no needless zero, and no other digits do both. The same holds of texts
+-- with a sign, if the number 0 has no minus.
 pub record DecimalTexts (k : IntType) : Type 0 where
   pub begins : (is_negative : Bool) (digits : List ℕ) (number : ℤ)
       → DigitsWrite k is_negative digits number → BeginsWithDigit digits

@@ -1,43 +1,46 @@
--- How many windows a call loads.
+-- How many loads a call makes; a *load* is one read of a window.
 use Rattle.std.specs.Prelude.{◌≡◌, ℕ, ◌+◌, ◌*◌, ◌/◌, ◌<◌, ◌≤◌, Bool, true, false, IsTrue, List, length}
 use Rattle.atoi_core.specs.Digit.{Table}
 use Rattle.atoi_core.specs.Run.{zeros}
 use Rattle.atoi_core.specs.Magnitude.{Class, Extent, narrow, wide64, wide128, whole, prefix}
 use Rattle.atoi_core.specs.IntType.{IntType, class_of}
 
--- how many windows a turn loads at most
+-- A turn is what a call does for 16 leading zeros. This is how many loads it makes at most in a
+-- turn.
 abbrev pub loads_a_turn : Class → ℕ
 loads_a_turn narrow = 1
 loads_a_turn wide64 = 2
 loads_a_turn wide128 = 3
 
--- the most windows that a call loads over a slice: a turn for each 16 zeros, and two more
+-- The most loads that a call makes over a slice: those of a turn for each 16 leading zeros, and of
+-- two more turns.
 abbrev pub most_loads : Table → Class → List ℕ → ℕ
 most_loads table class s = loads_a_turn class * (zeros table s / 16 + 2)
 
--- the most windows that a call loads when it does not skip zeros, however many there are
+-- The most loads that a call makes when it does not skip zeros, however many zeros there are.
 abbrev pub most_unskipped : Class → ℕ
 most_unskipped narrow = 2
 most_unskipped wide64 = 2
 most_unskipped wide128 = 5
 
--- whether a call skips zeros: as its flag says, but for a narrow whole slice always
+-- Whether a call skips zeros: as its flag says, except that the whole parse of a narrow type always
+-- does.
 abbrev pub skips_zeros : Class → Extent → Bool → Bool
 skips_zeros narrow whole skip = true
 skips_zeros narrow prefix skip = skip
 skips_zeros wide64 extent skip = skip
 skips_zeros wide128 extent skip = skip
 
--- the count of windows before a call and after it: the call loads at most `most`, and at most
--- `unskipped` when it does not skip zeros; at least one, if the slice has a byte; and at least one for
--- each 32 zeros, if zeros are skipped
+-- `before` and `after` are the number of loads before a call and after it. The call makes at most
+-- `most` loads, and at most `unskipped` when it does not skip zeros. It makes at least one if the
+-- slice is not empty, and at least one for each 32 leading zeros if it skips them.
 pub record LoadsWithin (most unskipped : ℕ) (table : Table) (skip : Bool) (s : List ℕ) (before after : ℕ) : Type 0 where
   pub at_most : after ≤ before + most
   pub at_most_unskipped : skip ≡ false → after ≤ before + unskipped
   pub at_least : 0 < length s → before < after
   pub at_least_skipping : IsTrue skip → before + zeros table s / 32 ≤ after
 
--- the windows that a parse of an integer type loads
+-- The loads of a parse of an integer type are within the bounds for its width class.
 abbrev pub TypedLoads : Table → IntType → Extent → Bool → List ℕ → (before after : ℕ) → Type 0
 TypedLoads table k extent skip s before after =
     LoadsWithin (most_loads table (class_of k) s) (most_unskipped (class_of k)) table (skips_zeros (class_of k) extent skip) s before after

@@ -1,36 +1,40 @@
--- What a body of digits, without a sign, is answered: its value, or the first reason to refuse it.
+-- The answer to a body, which is a slice after its sign: its magnitude, which is the value without
+-- the sign, or the first reason to refuse it.
 use Rattle.std.specs.Prelude.{ℕ, ◌+◌, ◌-◌, ◌*◌, ◌/◌, ◌^◌, ◌<◌, ◌≤◌, min, Bool, true, false, not, ◌==◌, nat_lt, if◌then◌else◌, List, length, drop, Option, Some, None, Result, Ok, Err}
 use Rattle.atoi_core.specs.Digit.{Table}
 use Rattle.atoi_core.specs.Run.{run_len, run, zeros, value}
 use Rattle.atoi_core.specs.Refusal.{Refusal, empty, size, overflow, invalid64, invalid128}
 
--- the three classes of integers: up to 32 bits, 64 bits, 128 bits
+-- The three width classes of integer types: at most 32 bits, 64 bits, and 128 bits.
 pub data Class : Type 0 where
   narrow : Class
   wide64 : Class
   wide128 : Class
 
--- what is parsed: the whole slice, or the number at its front
+-- What is parsed: the whole slice, or the number at its start.
 pub data Extent : Type 0 where
   whole : Extent
   prefix : Extent
 
--- the number has that many decimal digits
+-- The number has exactly `limit` decimal digits.
 abbrev pub HasDigits : ℕ → ℕ → Type 0
 HasDigits limit number = (10 ^ (limit - 1) ≤ number) × (number < 10 ^ limit)
 
--- how many zeros at the front are skipped, where that is asked for
+-- How many leading zeros are skipped: all of them if `skip` is on, otherwise none.
 abbrev pub skipped_zeros : Table → Bool → List ℕ → ℕ
 skipped_zeros table skip body = if skip then zeros table body else 0
 
--- how many digits behind the skipped zeros may count, if there is a limit; how many of more the
--- size tells at most; and how many zeros the slice of an overflow leaves out
+-- `limit` is how many *significant* digits are accepted, which are the digits after the skipped
+-- zeros, or `None` if there is no limit. `cap` is how many of more significant digits `size` counts
+-- at most, and `dropped` is how many zeros the slice of `overflow` leaves out.
 pub record Rule : Type 0 where
   pub limit : Option ℕ
   pub cap : ℕ
   pub dropped : ℕ
 
--- the rule of each class, extent and flag: the limit of a wide class is handed in
+-- The rule for each class, extent and flag. The limit for 64 and 128 bits is an argument. A narrow
+-- prefix that skips zeros leaves out all of them if the digits fill more blocks of 16 bytes than
+-- the zeros do, and otherwise those that fill whole blocks.
 abbrev pub rule_of : Class → Extent → Bool → (limit digits skipped : ℕ) → Rule
 rule_of narrow whole skip limit digits skipped = record { limit = None; cap = 0; dropped = 0 }
 rule_of narrow prefix false limit digits skipped = record { limit = Some 16; cap = 17; dropped = 0 }
@@ -39,24 +43,25 @@ rule_of narrow prefix true limit digits skipped =
 rule_of wide64 extent skip limit digits skipped = record { limit = Some limit; cap = 24; dropped = skipped }
 rule_of wide128 extent skip limit digits skipped = record { limit = Some limit; cap = 40; dropped = skipped }
 
--- more count than the limit allows
+-- There is a limit, and more digits are significant than it allows.
 abbrev pub is_above : Option ℕ → ℕ → Bool
 is_above None counting = false
 is_above (Some limit) counting = nat_lt limit counting
 
--- a whole slice must end with its digits
+-- The body is parsed as a whole, and another byte follows its digits.
 abbrev pub leaves_rest : Extent → ℕ → ℕ → Bool
 leaves_rest whole digits length = not (digits == length)
 leaves_rest prefix digits length = false
 
--- the error of a byte that is no digit: its number has 64 bits, or 128 in the widest class
+-- The error of a byte that is no digit: `invalid128` for 128 bits, otherwise `invalid64`.
 abbrev pub invalid : Class → ℕ → ℕ → List ℕ → Refusal
 invalid narrow number index body = invalid64 number index body
 invalid wide64 number index body = invalid64 number index body
 invalid wide128 number index body = invalid128 number index body
 
--- the first reason to refuse the body, if there is one: no digit, too many digits, a value above
--- the bound, a byte behind the digits of a whole slice
+-- The first reason to refuse the body, if there is one: it does not start with a digit; it has too
+-- many significant digits; its value is above the bound; or it is parsed as a whole, and another
+-- byte follows the digits.
 unfoldable pub refusal : Table → Class → (bound limit : ℕ) → Extent → Bool → List ℕ → Option Refusal
 refusal table class bound limit extent skip body =
     let digits = run_len table body in
@@ -70,17 +75,18 @@ refusal table class bound limit extent skip body =
     else (if leaves_rest extent digits (length body) then Some (invalid class number digits body)
     else None)))
 
--- the answer where there is no reason to refuse, else the reason
+-- The answer if there is no reason to refuse, otherwise the reason.
 abbrev pub unless_refused : {A : Type 0} → Option Refusal → A → Result A Refusal
 unless_refused None answer = Ok answer
 unless_refused (Some reason) answer = Err reason
 
--- the answer for a whole slice: its value
+-- The answer to a whole body is the value of its digits.
 abbrev pub whole_magnitude : Table → Class → (bound limit : ℕ) → Bool → List ℕ → Result ℕ Refusal
 whole_magnitude table class bound limit skip body =
     unless_refused (refusal table class bound limit whole skip body) (value table (run table body))
 
--- the answer for a front: the value of its digits, and how many these are
+-- The answer to the number at the start of a body is the value of its digits, and how many there
+-- are.
 abbrev pub prefix_magnitude : Table → Class → (bound limit : ℕ) → Bool → List ℕ → Result (ℕ × ℕ) Refusal
 prefix_magnitude table class bound limit skip body =
     unless_refused (refusal table class bound limit prefix skip body) (value table (run table body), run_len table body)

@@ -1,21 +1,22 @@
--- The digits at the front of a slice, and the number that they write.
+-- The digits at the start of a slice, and the number that they spell.
 use Rattle.std.specs.Prelude.{ℕ, ◌+◌, ◌*◌, ◌^◌, List, [], ◌∷◌, length, take}
 use Rattle.std.specs.List.{prefix_len}
 use Rattle.atoi_core.specs.Digit.{Table, is_digit, is_zero, digit_value}
 
--- how many digits the slice begins with
+-- How many digits the slice starts with.
 abbrev pub run_len : Table → List ℕ → ℕ
 run_len table s = prefix_len (is_digit table) s
 
--- the run: the longest front of the slice that holds digits only
+-- The run of a slice is its longest prefix of digits.
 abbrev pub run : Table → List ℕ → List ℕ
 run table s = take (run_len table s) s
 
--- how many zeros the slice begins with
+-- How many zeros the slice starts with.
 abbrev pub zeros : Table → List ℕ → ℕ
 zeros table s = prefix_len (is_zero table) s
 
--- the number that digits write: each is worth its worth times ten for every digit behind it
+-- The number that digits spell: the sum of their digit values, each times ten for every digit after
+-- it.
 abbrev pub value : Table → List ℕ → ℕ
 value table [] = 0
 value table (digit ∷ digits) = digit_value table digit * 10 ^ length digits + value table digits

@@ -1,19 +1,22 @@
--- The sign at the front of a slice.
+-- The sign at the start of a slice.
 use Rattle.std.specs.Prelude.{ℕ, Bool, true, false, ◌&&◌, ◌==◌, if◌then◌else◌, List, [], ◌∷◌, ℤ, pos, neg_ℤ}
 
--- whether a minus was taken, how many bytes were taken, and the body behind them
+-- Whether the sign is a minus, how many bytes were consumed with it, and the body, which is the
+-- slice after them.
 pub record Sign : Type 0 where
   pub minus : Bool
   pub taken : ℕ
   pub body : List ℕ
 
+-- The byte `+`.
 abbrev pub plus_sign : ℕ
 plus_sign = 43
 
+-- The byte `-`.
 abbrev pub minus_sign : ℕ
 minus_sign = 45
 
--- at most one sign is taken: a plus where that is asked for, a minus where the type is signed
+-- At most one sign is consumed: a plus if `plus` is on, or a minus if the type is signed.
 abbrev pub sign_of : (signed plus : Bool) → List ℕ → Sign
 sign_of signed plus [] = record { minus = false; taken = 0; body = [] }
 sign_of signed plus (byte ∷ bytes) =
@@ -21,6 +24,6 @@ sign_of signed plus (byte ∷ bytes) =
     else (if signed && byte == minus_sign then record { minus = true; taken = 1; body = bytes }
     else record { minus = false; taken = 0; body = byte ∷ bytes })
 
--- a magnitude with its sign
+-- A magnitude as an integer, negated if there is a minus.
 abbrev pub with_sign : Bool → ℕ → ℤ
 with_sign minus magnitude = if minus then neg_ℤ (pos magnitude) else pos magnitude

@@ -5,13 +5,13 @@ use Rattle.std.specs.Str.Parse.{IsNumeral, digits_value}
 use Rattle.atoi_core.specs.IntType.{IntType, bound_of}
 use Rattle.atoi_core.specs.Sign.{plus_sign, minus_sign, with_sign}
 
--- the sign that may stand before the digits
+-- The sign that may precede the digits.
 pub data SignMark : Type 0 where
   no_sign : SignMark
   plus : SignMark
   minus : SignMark
 
--- its bytes
+-- The bytes of that sign.
 abbrev pub sign_bytes : SignMark → List ℕ
 sign_bytes no_sign = []
 sign_bytes plus = plus_sign ∷ []
@@ -27,15 +27,16 @@ is_plus no_sign = false
 is_plus plus = true
 is_plus minus = false
 
--- the bytes are decimal digits alone, one or more, and write the number: it is their value, with a
--- minus or without, in the range of the type. The words on digits are std's
+-- The bytes are one or more decimal digits and nothing else, and write the number: it is their
+-- value, negated if `is_negative` holds, and in the range of the type. The definitions of digits
+-- and of their value are those of std.
 pub record DigitsWrite (k : IntType) (is_negative : Bool) (digits : List ℕ) (number : ℤ) : Type 0 where
   pub numeral : IsNumeral 10 digits
   pub in_range : digits_value 10 digits ≤ bound_of k is_negative
   pub value_is : number ≡ with_sign is_negative (digits_value 10 digits)
 
--- the bytes are an optional sign and digits that write the number with that sign: a minus only where
--- the type is signed, a plus only where that is asked for
+-- The bytes are an optional sign and digits that write the number with that sign. A minus is
+-- allowed only if the type is signed, and a plus only if `takes_plus` holds.
 pub record TextWrites (k : IntType) (takes_plus : Bool) (s : List ℕ) (number : ℤ) : Type 0 where
   pub sign : SignMark
   pub digits : List ℕ
@@ -44,25 +45,26 @@ pub record TextWrites (k : IntType) (takes_plus : Bool) (s : List ℕ) (number :
   pub plus_taken : is_plus sign ≡ true → takes_plus ≡ true
   pub written : DigitsWrite k (is_minus sign) digits number
 
--- s is a text of the type: with a plus allowed, it writes some number
+-- The bytes are a text of the type: they write some number of it, with a plus allowed.
 pub record IsText (k : IntType) (s : List ℕ) : Type 0 where
   pub number : ℤ
   pub written : TextWrites k true s number
 
--- a decimal digit stands at the front
+-- The first byte is a decimal digit.
 abbrev pub BeginsWithDigit : List ℕ → Type 0
 BeginsWithDigit [] = ⊥
 BeginsWithDigit (byte ∷ bytes) = IsAsciiDigit byte
 
--- the first `count` bytes of s write the number, in the way that `Writes` says, and no digit stands
--- after them
+-- The first `count` bytes of `s` write the number, in the sense of `Writes`, and no digit follows
+-- them.
 pub record PrefixWrites (Writes : List ℕ → ℤ → Type 0) (s : List ℕ) (number : ℤ) (count : ℕ) : Type 0 where
   pub front : Writes (take count s) number
   pub some : 0 < count
   pub within : count ≤ length s
   pub ends : ¬ BeginsWithDigit (drop count s)
 
--- the digits begin with a zero and have more bytes after it: the number could be written without it
+-- The digits start with a zero and have more bytes after it, so the number could be written without
+-- it.
 abbrev pub has_needless_zero : List ℕ → Bool
 has_needless_zero [] = false
 has_needless_zero (digit ∷ []) = false

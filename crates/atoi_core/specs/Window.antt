@@ -1,11 +1,11 @@
--- What a window tells of the front of a slice.
+-- What a window reports about the start of a slice.
 use Rattle.std.specs.Prelude.{ℕ, ◌==◌, if◌then◌else◌, List, take}
 use Rattle.atoi_core.specs.Digit.{Table}
 use Rattle.atoi_core.specs.Run.{run_len, run, zeros, value}
 use Rattle.atoi_core.specs.declared.window.Window.{Window}
 
--- a window of that many bytes, on fewer where the slice ends: the run of these bytes and its value,
--- and the zeros that they begin with, where the window is full of digits
+-- The window of the first `size` bytes, or of all bytes if the slice has fewer: the length and the
+-- value of their run, and the number of their leading zeros if the window is full of digits.
 abbrev pub window_of : Table → ℕ → List ℕ → Window
 window_of table size s =
     let front = take size s in

@@ -1,4 +1,4 @@
-//! Digits of any bytes, and the window that is read byte by byte in them. It uses `window` only.
+//! Digits of any alphabet, and the window that is read byte by byte in them. It uses only `window`.
 ghost use Rattle.std.specs.Prelude.{◌≡◌, ◌≤◌, length};
 ghost use Rattle.atoi_core.specs.Digit.{Table, IsBelowTen};
 ghost use Rattle.atoi_core.specs.Run.{run_len, run, value, zeros};
@@ -6,24 +6,24 @@ ghost use Rattle.atoi_core.specs.Window.{window_of};
 
 use crate::window::Window;
 
-/// What each byte is worth, as code can ask.
+/// The digit value of each byte, as a function that code can call.
 ///
-/// `front_of` reads windows by it, so an `Engine` of other digits than the decimal ones needs no
-/// proof of its windows.
+/// `front_of` reads windows with it, so an `Engine` with digits other than the decimal ones needs
+/// no proof about its windows.
 pub trait Alphabet {
-    /// What each byte is worth as a digit.
+    /// The digit value of each byte, if it is a digit. Only contracts can refer to it.
     ghost table: { Table };
 
-    /// What `byte` is worth, or that it is no digit.
+    /// Returns the digit value of `byte`, or `None` if it is no digit.
     fn digit_value(byte: u8) -> Option<u64>
         ensures { result ≡ table byte };
 
-    /// No digit is worth more than nine.
+    /// Each digit value is below ten.
     ghost below_ten: { IsBelowTen table };
 }
 
-/// The window of the first `size` bytes of `s`, or of all where there are fewer, read byte by byte
-/// in the digits of `A`. `size` is at most 16.
+/// Returns the window of the first `size` bytes of `s`, or of all its bytes if there are fewer,
+/// read byte by byte in the digits of `A`. `size` is at most 16.
 ///
 /// `front_of::<Plain>(8, b"00000012x")` has `len` 8, `zeroes` 6 and `number` 12.
 pub fn front_of<A: Alphabet>(size: usize, s: &[u8]) -> Window
@@ -44,7 +44,7 @@ pub fn front_of<A: Alphabet>(size: usize, s: &[u8]) -> Window
     }
 }
 
-// How many digits `s` begins with, and the number that they write.
+// Returns how many digits `s` starts with, and the value that they spell.
 #[inline(always)]
 fn read_run<A: Alphabet>(s: &[u8]) -> (u32, u64)
     requires { length s.now ≤ 16 }
@@ -60,7 +60,7 @@ fn read_run<A: Alphabet>(s: &[u8]) -> (u32, u64)
     (s.len() as u32, number)
 }
 
-// How many zeros `s` begins with.
+// Returns how many zeros `s` starts with.
 fn count_zeros<A: Alphabet>(s: &[u8]) -> u32
     requires { length s.now ≤ 16 }
     ensures { result ≡ zeros A.table s.now }

@@ -1,6 +1,6 @@
-//! Laws of derived methods. Such a method takes no clause of its own, so its law is a condition
-//! here: whoever calls one of these functions for a type proves it of that type. They use `error`
-//! and `window`.
+//! Laws of derived methods. A derived method cannot have a clause of its own, so its law is a
+//! condition of a function here: a caller of that function for a type proves the law for that type.
+//! They use `error` and `window`.
 ghost use Rattle.std.specs.Prelude.{◌≡◌, ◌↔◌, IsTrue};
 
 use crate::error::AtoiSimdError;
@@ -17,7 +17,7 @@ pub fn equal_ones_are_the_same<T: PartialEq>()
     requires { (one other : T) → IsTrue (T.eq one other) ↔ (one ≡ other) }
 {}
 
-// The types of this crate. How errors compare is said at `AtoiSimdError::is_same_as`.
+// Proves the laws for the types of this crate. `AtoiSimdError::is_same_as` says how errors compare.
 fn types_of_this_crate() {
     clones_are_the_same::<AtoiSimdError<'_>>();
     clones_are_the_same::<Window>();

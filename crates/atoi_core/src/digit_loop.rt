@@ -1,5 +1,5 @@
-//! The parse of a whole slice into a narrow integer, digit by digit. It uses `error` alone, and
-//! loads no window.
+//! The parse of a whole slice into an integer of at most 32 bits, digit by digit. It reads no
+//! window and uses only `error`.
 ghost use Rattle.std.specs.Prelude.{◌≡◌, ◌≤◌, ◌==◌, false, if◌then◌else◌};
 ghost use Rattle.atoi_core.specs.Digit.{decimal_table};
 ghost use Rattle.atoi_core.specs.Refusal.{answer_of, refusal_of, empty, invalid64};
@@ -7,10 +7,11 @@ ghost use Rattle.atoi_core.specs.Magnitude.{narrow, whole_magnitude};
 
 use crate::error::AtoiSimdError;
 
-// The byte of the digit zero.
+// The byte of the digit zero, `b'0'`.
 pub(crate) const ZERO: u64 = 48;
 
-// What a byte is worth as a decimal digit. A byte below the digits wraps to a number above nine.
+// Returns the value of `byte` as a decimal digit, or `None` if it is no digit. The subtraction
+// wraps, so a byte below `b'0'` becomes a number above nine.
 pub(crate) fn digit(byte: u8) -> Option<u64>
     ensures { result ≡ decimal_table byte }
 {
@@ -18,19 +19,18 @@ pub(crate) fn digit(byte: u8) -> Option<u64>
     if digit_value <= 9 { Some(digit_value) } else { None }
 }
 
-/// Reads the whole of `s` as decimal digits that write a number of at most `bound`.
+/// Parses all of `s` as decimal digits, without a sign, and returns their value.
 ///
-/// It reads digit by digit and accepts any number of leading zeros. `bound` is from 9 to
-/// 4294967295.
+/// It reads one digit after the other and accepts any number of leading zeros. `bound` is the
+/// largest value that it accepts, from 9 to 4294967295, which is `u32::MAX`.
 ///
 /// # Errors
 ///
-/// The first that holds of:
-/// - `Empty` where `s` does not begin with a digit;
-/// - `Overflow` with the whole of `s` where the digits that it begins with write a number above
-///   `bound`;
-/// - `Invalid64` with that number, the count of these digits and the whole of `s`, where another
-///   byte stands behind them.
+/// Returns the first that applies:
+/// - `Empty` if `s` does not start with a digit.
+/// - `Overflow(s)` if the digits at the start of `s` spell a value above `bound`.
+/// - `Invalid64(value, index, s)` if another byte follows these digits. `value` is what they spell,
+///   and `index` is the position of that byte in `s`, which is also the number of the digits.
 pub fn narrow_whole(bound: u64, s: &[u8]) -> Result<u64, AtoiSimdError<'_>>
     requires low { 9 ≤ bound }
     requires high { bound ≤ 4294967295 }

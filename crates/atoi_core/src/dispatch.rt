@@ -1,6 +1,7 @@
-//! The four core calls: the parses of any integer type. The sign gives the bound, and the class of
-//! the type, of at most 32 bits, of 64 or of 128, the loop. It uses `narrow`, `wide`, `front` and
-//! `number`, and what these speak of: `engine`, `steps` and `error`.
+//! The four *core calls*, `whole_pos`, `whole_neg`, `prefix_pos` and `prefix_neg`: the parses of
+//! digits without a sign into any integer type. They pick the bound by the sign, and the parser by
+//! the size of the type: at most 32 bits, 64 or 128. It uses `narrow`, `wide`, `prefix_128` and
+//! `number`, and the modules that their contracts name: `engine`, `steps` and `error`.
 ghost use Rattle.std.specs.Prelude.{◌≡◌, ◌^◌, ◌<◌, ◌≤◌, true, false, IfOk, length};
 ghost use Rattle.atoi_core.specs.Answer.{typed_answer, typed_prefix_answer, whole_answer, prefix_answer};
 ghost use Rattle.atoi_core.specs.IntType.{class_of, bound_of, limit_of};
@@ -16,19 +17,26 @@ use crate::number::{Number, Signed};
 use crate::steps::Steps;
 use crate::wide::{whole_64, whole_128};
 
-/// Reads the whole of `s`, which has no sign, as a number of `T`.
+/// Parses all of `s` as an integer of type `T` that is not negative: digits only, without a sign.
 ///
-/// With `skip` any number of leading zeros is accepted. A type of at most 32 bits accepts them
-/// always. `steps` counts the windows that are loaded.
+/// With `skip` any number of leading zeros is accepted. Types of at most 32 bits always accept
+/// them. The digits are those of the engine `E`. `steps` counts the loads; a *load* is one read of
+/// the engine.
 ///
 /// # Errors
 ///
-/// The first that holds of:
-/// - `Empty` where `s` does not begin with a digit;
-/// - `Size` where `T` has 64 or 128 bits and more digits count than its greatest number has: all
-///   that `s` begins with, but the leading zeros with `skip`;
-/// - `Overflow` where the number is above the greatest of `T`;
-/// - `Invalid64`, or of 128 bits `Invalid128`, where another byte stands behind the digits.
+/// Returns the first that applies. The *significant* digits are those after the skipped leading
+/// zeros, or all digits at the start of `s` without `skip`.
+/// - `Empty` if `s` does not start with a digit.
+/// - `Size(count, digits)` if `T` has 64 or 128 bits and there are more significant digits than its
+///   largest value has: 20 for `u64` and `usize`, 19 for `i64` and `isize`, 39 for types of 128
+///   bits. `count` is the number of skipped zeros plus that of the significant digits, but of the
+///   latter it counts at most 24, or 40 for types of 128 bits. `digits` is `s` from its first
+///   significant digit on.
+/// - `Overflow(digits)` if the value is above `T::MAX`. `digits` is `s`, for types of 64 and 128
+///   bits without the skipped zeros.
+/// - `Invalid64(value, index, s)`, or `Invalid128` for types of 128 bits, if another byte follows
+///   the digits. `value` is what they spell, and `index` is the position of that byte in `s`.
 #[inline(always)]
 #[tactic(auto, using(crate::proofs::Calls::whole_in_bounds))]
 pub fn whole_pos<'a, E: Engine, T: Number>(
@@ -45,14 +53,15 @@ pub fn whole_pos<'a, E: Engine, T: Number>(
     }
 }
 
-/// Reads the whole of `s`, the digits behind a minus, as a number of `T`.
+/// Parses all of `s`, the digits of a negative number without its minus, as an integer of type `T`.
 ///
-/// As `whole_pos`, but the bound is the magnitude of the least number of `T`, and the number is not
-/// positive.
+/// It is like `whole_pos`, but it negates the value, and the bound is the magnitude of `T::MIN`. A
+/// *magnitude* is a value without its sign.
 ///
 /// # Errors
 ///
-/// As of `whole_pos`. An error tells the magnitude.
+/// Those of `whole_pos`, but `Overflow` only if the magnitude is above that of `T::MIN`.
+/// `Invalid64` and `Invalid128` hold the magnitude.
 #[inline(always)]
 #[tactic(auto, using(crate::proofs::Calls::whole_in_bounds))]
 pub fn whole_neg<'a, E: Engine, T: Signed>(
@@ -69,15 +78,17 @@ pub fn whole_neg<'a, E: Engine, T: Signed>(
     }
 }
 
-/// Reads a number of `T`, which has no sign, from the front of `s`, and tells its length in bytes.
+/// Parses the integer of type `T` at the start of `s`, which has no sign, and returns it with the
+/// number of its bytes, including those of the leading zeros.
 ///
-/// With `skip` any number of leading zeros is accepted, without it they count as digits. `steps`
-/// counts the windows that are loaded.
+/// All digits at the start of `s` belong to the integer, and the first other byte ends it. With
+/// `skip` any number of leading zeros is accepted; without it they are significant digits. `steps`
+/// counts the loads.
 ///
 /// # Errors
 ///
-/// `Empty`, `Size` and `Overflow`, as of `whole_pos`. The `Size` and the slice of an `Overflow` of a
-/// type of at most 32 bits are told at `narrow_prefix`.
+/// For types of 64 and 128 bits `Empty`, `Size` and `Overflow`, as for `whole_pos`. For narrower
+/// types those of `narrow_prefix`.
 #[inline(always)]
 #[tactic(auto, using(crate::proofs::Calls::prefix_within, crate::proofs::Calls::prefix_in_bounds))]
 pub fn prefix_pos<'a, E: Engine, T: Number>(
@@ -96,15 +107,14 @@ pub fn prefix_pos<'a, E: Engine, T: Number>(
     }
 }
 
-/// Reads the digits behind a minus from the front of `s` as a number of `T`, and tells their length
-/// in bytes.
+/// Parses the digits of a negative number at the start of `s`, which has no minus, and returns the
+/// integer of type `T` with the number of these digits.
 ///
-/// As `prefix_pos`, but the bound is the magnitude of the least number of `T`, and the number is
-/// not positive.
+/// It is like `prefix_pos`, but it negates the value, and the bound is the magnitude of `T::MIN`.
 ///
 /// # Errors
 ///
-/// As of `prefix_pos`. An error tells the magnitude.
+/// Those of `prefix_pos`, but `Overflow` only if the magnitude is above that of `T::MIN`.
 #[inline(always)]
 #[tactic(auto, using(crate::proofs::Calls::prefix_within, crate::proofs::Calls::prefix_in_bounds))]
 pub fn prefix_neg<'a, E: Engine, T: Signed>(
@@ -123,7 +133,8 @@ pub fn prefix_neg<'a, E: Engine, T: Signed>(
     }
 }
 
-// The magnitude that the whole of `s` writes, behind a minus or not.
+// Returns the magnitude that all of `s` spells, with the bound of a negative number if `minus` is
+// set.
 #[inline(always)]
 #[tactic(auto, using(crate::proofs::Calls::narrow_whole_limit))]
 fn whole_by_size<'a, E: Engine, T: Number>(
@@ -154,7 +165,8 @@ fn whole_by_size<'a, E: Engine, T: Number>(
     }
 }
 
-// The magnitude at the front of `s`, behind a minus or not, and its length in bytes.
+// Returns the magnitude at the start of `s`, with the bound of a negative number if `minus` is set,
+// and the number of its digits.
 #[inline(always)]
 #[tactic(auto, using(crate::proofs::Calls::narrow_prefix_limit))]
 fn prefix_by_size<'a, E: Engine, T: Number>(
@@ -185,7 +197,7 @@ fn prefix_by_size<'a, E: Engine, T: Number>(
     }
 }
 
-// The largest magnitude: of `T::MAX`, or with a minus of `T::MIN`.
+// Returns the largest magnitude in range: that of `T::MIN` if `minus` is set, otherwise `T::MAX`.
 fn bound<T: Number>(minus: bool) -> u128
     requires signed { minus ≡ true → T.SIGNED ≡ true }
     ensures value { result ≡ bound_of T.int_type minus }

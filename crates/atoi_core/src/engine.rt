@@ -1,5 +1,6 @@
-//! What reads windows of a slice, and the parses of wide integers over any such engine. It uses
-//! `window`, `wide_answer`, `steps` and `error`, and no particular engine.
+//! The trait of an engine, an implementation of the reads that parses make, and the parses of
+//! integers of 64 and of 128 bits over any engine. It uses `window`, `wide_answer`, `steps` and
+//! `error`, and no particular engine.
 ghost use Rattle.std.specs.Prelude.{◌≡◌, ◌+◌, ◌-◌, ◌≤◌, ℕ};
 ghost use Rattle.atoi_core.specs.Digit.{Table, IsBelowTen};
 ghost use Rattle.atoi_core.specs.Loads.{LoadsWithin, most_loads};
@@ -12,42 +13,49 @@ use crate::steps::Steps;
 use crate::wide_answer::{answer_64, answer_128, append_digits};
 use crate::window::Window;
 
-/// What reads windows of a slice.
+/// An implementation of the reads that parses make.
 ///
-/// An engine says what each byte is worth as a digit, and reads the digits at the front of 8 or of
-/// 16 bytes, by two functions. The two others parse integers of 64 and of 128 bits by these. An engine
-/// may override them under the same clauses.
+/// An engine has a table of digit values, one for each byte that is a digit. Its functions `window`
+/// and `window_8` read a *window*: the run of the first 16 or 8 bytes of a slice, which is their
+/// longest prefix of digits. Each call of them is one *load*, and adds one to `steps`. The other
+/// two functions parse integers of 64 and of 128 bits with these reads. An engine may override
+/// them, with bodies that meet the same clauses.
 pub trait Engine {
-    /// What each byte is worth as a digit. No code can read it.
+    /// The digit value of each byte, if it is a digit. Only contracts can refer to it.
     ghost table: { Table };
 
-    /// What the first 16 bytes tell, or all where there are fewer. Adds one step.
+    /// Returns the window of the first 16 bytes of `s`, or of all its bytes if there are fewer.
+    /// Adds one step.
     fn window(s: &[u8], steps: &mut Steps) -> Window
         ensures window { result ≡ window_of table 16 s.now }
         ensures one_step { steps.new ≡ steps.old + 1 };
 
-    /// What the first 8 bytes tell, or all where there are fewer. Adds one step.
+    /// Returns the window of the first 8 bytes of `s`, or of all its bytes if there are fewer. Adds
+    /// one step.
     fn window_8(s: &[u8], steps: &mut Steps) -> Window
         ensures window { result ≡ window_of table 8 s.now }
         ensures one_step { steps.new ≡ steps.old + 1 };
 
-    /// The number at the front of `s`, and how many bytes it has, for an integer of 64 bits.
+    /// Parses the integer of 64 bits at the start of `s`, which has no sign, and returns its value
+    /// and the number of its bytes, including those of the leading zeros.
     ///
-    /// `bound` is the greatest number, and has exactly `limit` digits, 17 to 20. With `skip` the
-    /// zeros at the front do not count against `limit`, however many there are. All digits in a row
-    /// belong to the number, and a byte that is none ends it.
+    /// `bound` is the largest value that is accepted, and has exactly `limit` digits, 17 to 20.
+    /// With `skip` leading zeros do not count towards `limit`, however many there are. All digits
+    /// at the start of `s` belong to the integer, and the first other byte ends it.
     ///
-    /// A turn of this body loads at most two windows: one of 16 bytes, and one of the 8 bytes
-    /// behind it where the digits fill the first. A turn that skips loads one, for at most 16
-    /// zeros.
+    /// The provided body loads 16 bytes at a time while it skips zeros, and so skips at most 16
+    /// zeros with each load. If the last of these loads is full of significant digits, it then
+    /// loads the 8 bytes after them.
     ///
     /// # Errors
     ///
-    /// The first that holds of:
-    /// - `Empty`: `s` does not begin with a digit.
-    /// - `Size`: more than `limit` digits count. It tells the zeros skipped and at most 24 of the
-    ///   digits that count, and holds `s` behind the zeros skipped.
-    /// - `Overflow`: the number is above `bound`. It holds `s` behind the zeros skipped.
+    /// Returns the first that applies. The *significant* digits are those after the skipped leading
+    /// zeros, or all digits at the start of `s` without `skip`.
+    /// - `Empty` if `s` does not start with a digit.
+    /// - `Size(count, digits)` if there are more than `limit` significant digits. `count` is the
+    ///   number of skipped zeros plus that of the significant digits, but of the latter it counts
+    ///   at most 24. `digits` is `s` from its first significant digit on.
+    /// - `Overflow(digits)` if the value is above `bound`. `digits` is as in `Size`.
     fn prefix_64<'a>(
         bound: u64,
         limit: u32,
@@ -84,23 +92,17 @@ pub trait Engine {
         answer_64(bound, limit, at, 16 + back.len, number, s)
     }
 
-    /// The number at the front of `s`, and how many bytes it has, for an integer of 128 bits.
+    /// Parses the integer of 128 bits at the start of `s`. It is like `prefix_64`, but `bound` has
+    /// exactly 39 digits, which is the limit of significant digits.
     ///
-    /// `bound` is the greatest number, and has exactly 39 digits. With `skip` the zeros at the
-    /// front do not count against these, however many there are. All digits in a row belong to the
-    /// number, and a byte that is none ends it.
-    ///
-    /// A turn of this body loads at most three windows: two of 16 bytes and one of the 8 bytes
-    /// behind them, each only where the digits fill the ones before it. A turn that skips loads
-    /// one, for at most 16 zeros.
+    /// The provided body loads as that of `prefix_64` while it skips zeros. If the last of these
+    /// loads is full of significant digits, it loads the 16 bytes after them, and if these are full
+    /// as well, the next 8 bytes.
     ///
     /// # Errors
     ///
-    /// The first that holds of:
-    /// - `Empty`: `s` does not begin with a digit.
-    /// - `Size`: more than 39 digits count. It tells the zeros skipped and at most 40 of the digits
-    ///   that count, and holds `s` behind the zeros skipped.
-    /// - `Overflow`: the number is above `bound`. It holds `s` behind the zeros skipped.
+    /// Those of `prefix_64`. `Size` means more than 39 significant digits, of which it counts at
+    /// most 40.
     fn prefix_128<'a>(
         bound: u128,
         skip: bool,
@@ -139,6 +141,6 @@ pub trait Engine {
         answer_128(bound, at, high, third.len, third.number, s)
     }
 
-    /// No digit is worth more than nine.
+    /// Each digit value is below ten.
     ghost below_ten: { IsBelowTen table };
 }

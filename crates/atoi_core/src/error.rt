@@ -1,4 +1,4 @@
-//! Why a parse refuses, the text of the reason, and how two reasons compare. It uses `text`.
+//! The error of a parse, its text, and the order of errors. It uses `text`.
 ghost use Rattle.std.specs.Prelude.{◌≡◌, ◌+◌, ◌^◌, ◌<◌, ◌≤◌, ◌++◌, ◌↔◌, IsTrue, Some, length, take, codes, decimal, IsAscii};
 ghost use Rattle.atoi_core.specs.Refusal.{refusal_of, refusal_cmp};
 ghost use Rattle.atoi_core.specs.ErrorText.{input_text, error_text};
@@ -9,38 +9,47 @@ use std::error::Error;
 use std::fmt;
 use std::str::from_utf8;
 
-/// Why a parse refused a slice, with the part of the caller's slice that shows it.
+/// The error of a parse: why it refused a slice, and the part of that slice that shows it.
 ///
-/// The slice in an error is a suffix of the caller's and is not copied. A sign that was taken is
-/// never in it, and no index counts it. Numbers are magnitudes: a refused negative number is told
-/// without its sign. Errors are ordered by their variants as written here, then by the numbers and
-/// then by the slice that they carry. Mirrors `atoi_simd::AtoiSimdError`.
+/// The slice in an error is a suffix of the slice that was parsed; it borrows from that slice. It
+/// never contains a sign that was consumed. The variants speak of the *body*, which is the slice
+/// after its sign. Each index is an index into the body, and each value is a magnitude, the value
+/// without its sign. Errors are ordered by variant as written here, then by their numbers from left
+/// to right, then by their slices. Mirrors `atoi_simd::AtoiSimdError`.
 #[derive(Debug, Clone, Copy, PartialOrd, Ord, PartialEq, Eq)]
 pub enum AtoiSimdError<'a> {
-    /// No digit stands where the number should begin: the slice is empty, a lone sign, or begins
-    /// with another byte.
+    /// The body does not start with a digit: the slice is empty, is only a sign, or continues with
+    /// another byte.
     Empty,
-    /// There are more digits than the greatest number of a type of 64 or 128 bits has, where zeros
-    /// that are skipped do not count: how many zeros were skipped and, of the digits that count, at
-    /// most 24 (64 bits) or 40 (128 bits) more; and the slice behind the skipped zeros. Or a prefix
-    /// of a narrower type that skips no zeros has more than 16 digits: 17, and the body.
+    /// There are too many *significant* digits. These are the digits after the skipped leading
+    /// zeros, or all digits if zeros are not skipped. At most 20 are accepted for `u64` and
+    /// `usize`, 19 for `i64` and `isize`, and 39 for types of 128 bits. A prefix of a narrower type
+    /// may have 16 if zeros are not skipped; otherwise narrower types have no limit.
+    ///
+    /// Holds a number of digits, and the body from its first significant digit on. The number is
+    /// that of the skipped zeros plus that of the significant digits, but of the latter it counts
+    /// at most 24, for types of 128 bits 40, and for narrower types 17.
     Size(usize, &'a [u8]),
-    /// The digits write a number that the type cannot hold: the body. Of a type of 64 or 128 bits
-    /// it is without the zeros that were skipped. Of a prefix of a narrower type that skips zeros
-    /// it is without those in whole blocks of 16 bytes, and without the others too where the block
-    /// in which they end is full of digits.
+    /// The value of the digits does not fit in the type.
+    ///
+    /// Holds the body. For types of 64 and 128 bits the skipped zeros are left out. For a prefix of
+    /// a narrower type with skipped zeros, those in whole blocks of 16 bytes are left out, and all
+    /// of them if the block in which they end consists of digits.
     Overflow(&'a [u8]),
-    /// A slice that has to be digits to its end holds another byte, at a type of up to 64 bits: the
-    /// number that the digits before that byte write, the byte's index in the body, and the body.
+    /// In a slice that must be digits to its end, another byte follows the digits; for a type of at
+    /// most 64 bits.
+    ///
+    /// Holds the value of the digits before that byte, the index of the byte in the body, and the
+    /// body.
     Invalid64(u64, usize, &'a [u8]),
-    /// The same at a type of 128 bits.
+    /// As `Invalid64`, for a type of 128 bits.
     Invalid128(u128, usize, &'a [u8]),
 }
 
 impl AtoiSimdError<'_> {
-    /// Puts the text that `Display` writes at the front of `out` and answers its length, at most
-    /// 332 bytes. It is ASCII, and shows at most the first 48 bytes of the slice, in hexadecimal
-    /// capitals. What stands behind the text in `out` is open.
+    /// Writes the text that `Display` prints to the start of `out`, and returns its length in
+    /// bytes, at most 332. The text is ASCII. It shows at most the first 48 bytes of the slice, in
+    /// hexadecimal capitals. The rest of `out` is unspecified.
     pub fn text(&self, out: &mut [u8; 400]) -> usize
         ensures text { take result out.new ≡ error_text (refusal_of self.now) }
         ensures fits { result ≤ 332 }
@@ -71,21 +80,23 @@ impl AtoiSimdError<'_> {
         }
     }
 
-    /// Whether both are one variant and carry equal numbers and equal slices: what `==` answers.
+    /// Returns what `==` returns: whether both are the same variant with equal numbers and equal
+    /// slices.
     pub fn is_same_as(&self, other: &AtoiSimdError<'_>) -> bool
         ensures { IsTrue result ↔ (refusal_of self.now ≡ refusal_of other.now) }
     {
         self == other
     }
 
-    /// The order by variant, then by numbers, then by slices: what `partial_cmp` answers.
+    /// Returns what `partial_cmp` returns: the order by variant, then by numbers, then by slices.
+    /// It is never `None`.
     pub fn partial_order(&self, other: &AtoiSimdError<'_>) -> Option<Ordering>
         ensures { result ≡ Some (refusal_cmp (refusal_of self.now) (refusal_of other.now)) }
     {
         self.partial_cmp(other)
     }
 
-    /// The order by variant, then by numbers, then by slices: what `cmp` answers.
+    /// Returns what `cmp` returns: the order by variant, then by numbers, then by slices.
     pub fn order(&self, other: &AtoiSimdError<'_>) -> Ordering
         ensures { result ≡ refusal_cmp (refusal_of self.now) (refusal_of other.now) }
     {
@@ -93,7 +104,7 @@ impl AtoiSimdError<'_> {
     }
 }
 
-// The width, fill and alignment of the caller's format are not looked at.
+// The width, fill and alignment of the caller's format are ignored.
 impl fmt::Display for AtoiSimdError<'_> {
     ghost output = { λ error. Some (error_text (refusal_of error)) };
 
@@ -108,10 +119,10 @@ impl fmt::Display for AtoiSimdError<'_> {
 
 impl Error for AtoiSimdError<'_> {}
 
-// The most bytes of a slice that an error shows.
+// How many bytes of a slice an error shows at most.
 const SHOWN_BYTES: usize = 48;
 
-// The bytes of a slice that an error shows.
+// Returns the bytes of a slice that an error shows.
 #[tactic(auto, using(std::proofs::lemmas::List::take_min))]
 fn shown(input: &[u8]) -> &[u8]
     ensures front { result.now ≡ take SHOWN_BYTES input.now }
@@ -120,7 +131,7 @@ fn shown(input: &[u8]) -> &[u8]
     &input[..SHOWN_BYTES.min(input.len())]
 }
 
-// Writes a slice from `at` on as an error shows it, and answers the place behind it.
+// Writes a slice as an error shows it, from index `at` on, and returns the index after it.
 fn put_input(input: &[u8], out: &mut [u8], at: usize) -> usize
     requires { at + 192 ≤ length out.old }
     ensures written { take result out.new ≡ take at out.old ++ input_text input.now }
@@ -132,7 +143,8 @@ fn put_input(input: &[u8], out: &mut [u8], at: usize) -> usize
     put_bytes(b"]", out, end)
 }
 
-// Writes at the front of `out` where a byte that is no digit stands, and the number before it.
+// Writes the index of the byte that is no digit, and the value of the digits before it, to the
+// start of `out`. Returns the index after them.
 fn put_invalid(number: u128, index: usize, out: &mut [u8; 400]) -> usize
     ensures written { take result out.new
         ≡ codes "atoi_simd invalid at index: " ++ decimal index
@@ -221,7 +233,7 @@ mod tests {
         assert!(rt; !size.is_same_as(&overflow));
     }
 
-    // The text of an error of which no more is known.
+    // Returns the text of an error, of which only the trait `Error` is known.
     fn printed<E: Error>(alloc: Global, error: &E) -> Result<String, AllocError> {
         format!(in alloc; "{error}")
     }

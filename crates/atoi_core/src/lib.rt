@@ -1,6 +1,21 @@
 //! The engines, loops and definitions under `atoi_simd`: exact parses of decimal digits at the
 //! front of a byte slice into integers. It uses std alone. But for `AtoiSimdError` nothing here is
 //! public in the Rust crate.
+//!
+//! The comments of this crate use these words:
+//!
+//! - *digit value*: the number, 0 to 9, that a byte has as a digit. The engine says which bytes are
+//!   digits.
+//! - *run*: the longest prefix of a slice that consists of digits.
+//! - *window*: the run of the first 8 or 16 bytes of a slice, with its length, its value and the
+//!   number of its leading zeros.
+//! - *load*: one read of a window, counted on `Steps`.
+//! - *engine*: an implementation of these reads, such as `Plain` and `Words`.
+//! - *body*: a slice after its sign.
+//! - *magnitude*: a value without its sign.
+//! - *significant digits*: the digits after the skipped leading zeros.
+//! - *narrow*: of at most 32 bits. The *wide* types have 64 or 128 bits.
+//! - *core call*: a call of `whole_pos`, `whole_neg`, `prefix_pos` or `prefix_neg`.
 #![tactic(auto)]
 
 mod alphabet;

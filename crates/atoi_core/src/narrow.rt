@@ -1,5 +1,5 @@
-//! The parses of integers of up to 32 bits by windows, of a front and of a whole slice, over any
-//! engine. It uses `engine`, `window`, `steps` and `error`.
+//! The parses of integers of at most 32 bits with windows, for a whole slice and for the number at
+//! its start, over any engine. It uses `engine`, `window`, `steps` and `error`.
 ghost use Rattle.std.specs.Prelude.{◌≡◌, ◌+◌, ◌-◌, ◌<◌, ◌≤◌, ◌==◌, true, false, not, ◌&&◌, ◌||◌, nat_lt, if◌then◌else◌, Ok, Err, length, drop};
 ghost use Rattle.atoi_core.specs.Loads.{LoadsWithin, most_loads};
 ghost use Rattle.atoi_core.specs.Magnitude.{narrow, whole_magnitude, prefix_magnitude};
@@ -12,21 +12,23 @@ use crate::error::AtoiSimdError;
 use crate::steps::Steps;
 use crate::window::Window;
 
-/// The number at the front of `s`, and how many bytes it has, for an integer of up to 32 bits.
+/// Parses the integer of at most 32 bits at the start of `s`, which has no sign, and returns its
+/// value and the number of its bytes, including those of the leading zeros.
 ///
-/// `bound` is the greatest number, from 9 to 4294967295. All digits in a row belong to the number,
-/// and a byte that is none ends it. Without `skip` these are at most 16, zeros among them; one
-/// window is loaded, and a second where the first is full of digits. With `skip` all zeros at the
-/// front are passed by, a window for each 16 of them.
+/// `bound` is the largest value that is accepted, from 9 to 4294967295, which is `u32::MAX`. All
+/// digits at the start of `s` belong to the integer, and the first other byte ends it. Without
+/// `skip` it has at most 16 digits, leading zeros included; one window is loaded, and a second if
+/// the first is full of digits. With `skip` any number of leading zeros is accepted; each load
+/// skips at most 16 of them.
 ///
 /// # Errors
 ///
-/// The first that holds of:
-/// - `Empty`: `s` does not begin with a digit.
-/// - `Size`: without `skip`, more than 16 digits. It tells 17, and holds `s`.
-/// - `Overflow`: the number is above `bound`. Without `skip` it holds `s`. With `skip` it holds `s`
-///   behind the zeros that fill whole windows of 16 bytes, and behind all its zeros where the next
-///   16 bytes are digits.
+/// Returns the first that applies:
+/// - `Empty` if `s` does not start with a digit.
+/// - `Size(17, s)` if there are more than 16 digits, without `skip` only.
+/// - `Overflow(digits)` if the value is above `bound`. Without `skip`, `digits` is `s`. With
+///   `skip`, it is `s` without the zeros that fill whole blocks of 16 bytes, and without any of its
+///   leading zeros if the 16 bytes after these blocks are digits.
 #[inline(always)]
 #[tactic(auto, using(crate::proofs::LoopAnswers::narrow_size))]
 pub fn narrow_prefix<'a, E: Engine>(
@@ -55,8 +57,8 @@ pub fn narrow_prefix<'a, E: Engine>(
     }
 }
 
-// Whether zeros count, and more than 16 digits stand at the front of `s`, whose first window is
-// given. Only where that is full of digits a second one is loaded.
+// Says whether `s` has more than 16 digits at its start and zeros are not skipped. `window` is the
+// first window of `s`; a second one is loaded only if the first is full of digits.
 #[tactic(auto, using(crate::proofs::LoopAnswers::digit_after_16))]
 fn is_too_long<E: Engine>(skip: bool, window: Window, s: &[u8], steps: &mut Steps) -> bool
     requires first_window { window ≡ window_of E.table 16 s.now }
@@ -67,7 +69,7 @@ fn is_too_long<E: Engine>(skip: bool, window: Window, s: &[u8], steps: &mut Step
     !skip && window.len == 16 && starts_with_digit::<E>(&s[16..], steps)
 }
 
-// Whether `rest` begins with a digit.
+// Says whether `rest` starts with a digit.
 #[inline(always)]
 fn starts_with_digit<E: Engine>(rest: &[u8], steps: &mut Steps) -> bool
     ensures answer { result ≡ nat_lt 0 (run_len E.table rest.now) }
@@ -76,19 +78,15 @@ fn starts_with_digit<E: Engine>(rest: &[u8], steps: &mut Steps) -> bool
     E::window_8(rest, steps).len > 0
 }
 
-/// The number that `s` as a whole is, for an integer of up to 32 bits.
+/// Parses all of `s`, which has no sign, as an integer of at most 32 bits, and returns its value.
 ///
-/// `bound` is the greatest number, from 9 to 4294967295. Any number of leading zeros is accepted:
-/// they are passed by, a window for each 16 of them. It answers as `narrow_whole`, by the digits of
-/// the engine. `steps` counts the windows that are loaded.
+/// `bound` is the largest value that is accepted, from 9 to 4294967295, which is `u32::MAX`. Any
+/// number of leading zeros is accepted; each load skips at most 16 of them. It returns what
+/// `narrow_whole` returns, but in the digits of the engine. `steps` counts the loads.
 ///
 /// # Errors
 ///
-/// The first that holds of:
-/// - `Empty`: `s` does not begin with a digit.
-/// - `Overflow`: the number is above `bound`. It holds the whole of `s`.
-/// - `Invalid64`: a byte that is no digit stands behind the digits. It holds their number, their
-///   count and the whole of `s`.
+/// Those of `narrow_whole`.
 #[inline(always)]
 pub fn narrow_whole_windows<'a, E: Engine>(
     bound: u64,
@@ -114,8 +112,9 @@ pub fn narrow_whole_windows<'a, E: Engine>(
     }
 }
 
-// The answer for a whole slice, from that for its front where zeros are skipped: an overflow holds
-// all of the slice, and digits that end before it are invalid.
+// Returns the answer for a whole slice, given `front`, the answer for the number at its start with
+// skipped zeros. `Overflow` then holds all of the slice, and if the digits end before the slice
+// does, the answer is `Invalid64`.
 fn whole_from_prefix<'a, E: Engine>(
     bound: u64,
     front: Result<(u64, usize), AtoiSimdError<'_>>,
@@ -136,7 +135,8 @@ fn whole_from_prefix<'a, E: Engine>(
     }
 }
 
-// The error of a whole slice, from that of its front: an overflow holds all of it.
+// Returns the error for a whole slice, given that for the number at its start: `Overflow` holds all
+// of the slice.
 fn error_of_whole<'a>(error: AtoiSimdError<'_>, s: &'a [u8]) -> AtoiSimdError<'a>
     ensures { refusal_of result
         ≡ (if rank (refusal_of error.entry) == 0 then empty else overflow s.now) }
@@ -147,8 +147,8 @@ fn error_of_whole<'a>(error: AtoiSimdError<'_>, s: &'a [u8]) -> AtoiSimdError<'a
     }
 }
 
-// The call of `skip_leading_zeros`, in a function of its own: the place of its result is then cleared only
-// where the call is made.
+// Kept separate, with the result matched right after the call, so that the stack slot of that
+// result is cleared only on the path that calls `skip_leading_zeros`.
 #[inline(always)]
 fn skip_leading_zeros_cold<'a, E: Engine>(
     bound: u64,
@@ -170,8 +170,8 @@ fn skip_leading_zeros_cold<'a, E: Engine>(
     }
 }
 
-// What `narrow_prefix` with `skip` answers, where the first window told `zeroes`: these and those
-// behind them are skipped.
+// Returns what `narrow_prefix` with `skip` returns, if the first window reported `zeroes` leading
+// zeros and there is at least one: these zeros and those after them are skipped.
 #[inline(never)]
 fn skip_leading_zeros<'a, E: Engine>(
     bound: u64,
@@ -198,8 +198,8 @@ fn skip_leading_zeros<'a, E: Engine>(
     answer_at(bound, at, window, s)
 }
 
-// What the window at the place `at` answers, where only zeros that are skipped stand before it, and
-// there is a digit.
+// Returns the answer for the window at index `at`, if all bytes before it are skipped zeros and
+// there is at least one digit.
 fn answer_at(
     bound: u64,
     at: usize,

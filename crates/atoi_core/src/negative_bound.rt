@@ -1,7 +1,8 @@
-//! Both signs from one parse: a signed body is parsed under the negative bound, and the functions here
-//! make the answer with its sign from that. Of all magnitudes that the negative bound admits, only
-//! that of `T::MIN` is out of range without a minus, and where the slice of its `Overflow` begins
-//! follows from the number of its digits. It uses `error`, `engine` and `number`.
+//! Both signs from one parse. A signed body is always parsed with the negative bound, the magnitude
+//! of `T::MIN`; a *magnitude* is a value without its sign. The functions here derive the answer for
+//! the actual sign from that. Of all magnitudes that the negative bound admits, only that of
+//! `T::MIN` is out of range without a minus. The slice in its `Overflow` then follows from the
+//! number of its digits. It uses `error`, `engine` and `number`.
 ghost use Rattle.std.specs.Prelude.{List, ◌≡◌, ◌<◌, ◌≤◌, ℕ, true, not, nat_lt, if◌then◌else◌, Some, None, length, drop};
 ghost use Rattle.std.specs.Option.{option_map};
 ghost use Rattle.atoi_core.specs.Answer.{typed_answer, typed_prefix_answer, whole_answer, prefix_answer};
@@ -15,8 +16,8 @@ use crate::engine::Engine;
 use crate::error::AtoiSimdError;
 use crate::number::Signed;
 
-/// The answer for all of `s` with the sign `minus`, from `negative`, its answer as the digits of a
-/// negative number.
+/// Returns the answer for all of `s`, negative if `minus` is set. `negative` is the answer for `s`
+/// as the digits of a negative number.
 #[inline(always)]
 pub(crate) fn whole_with_sign<'a, E: Engine, T: Signed>(
     minus: bool,
@@ -41,7 +42,7 @@ pub(crate) fn whole_with_sign<'a, E: Engine, T: Signed>(
     }
 }
 
-/// The same for the number at the front of `s`, with the length of its digits.
+/// As `whole_with_sign`, for the number at the start of `s` and the count of its digits.
 #[inline(always)]
 pub(crate) fn prefix_with_sign<'a, E: Engine, T: Signed>(
     minus: bool,
@@ -63,17 +64,17 @@ pub(crate) fn prefix_with_sign<'a, E: Engine, T: Signed>(
     }
 }
 
-// The number with the sign `minus` whose magnitude is that of `negative`, or none if it is out of
-// range. The sign is data here: it selects one of two numbers.
+// Returns the number whose magnitude is that of `negative`, negated if `minus` is set, or `None` if
+// it is out of range. The sign is data here: it selects one of two numbers.
 fn in_range<T: Signed>(minus: bool, negative: T) -> Option<T>
     ensures { (magnitude : ℕ) → T.number negative ≡ with_sign true magnitude
         → option_map T.number result ≡ (if nat_lt (bound_of T.int_type minus) magnitude then None
         else Some (with_sign minus magnitude)) }
 {
     let (_, magnitude) = negative.parts();
-    // Types of at most 64 bits take a magnitude without a minus as one more, so that one comparison
-    // serves both signs. With 128 bits that addition costs more than it saves: there the sign is read
-    // only of a magnitude above `T::MAX`.
+    // For types of at most 64 bits, one is added to a magnitude without a minus, so that one
+    // comparison serves both signs. With 128 bits that addition costs more than it saves, so the
+    // sign is read only if the magnitude is above `T::MAX`.
     let is_above = if T::BITS <= 64 {
         magnitude as u64 + u64::from(!minus) > T::LEAST_MAGNITUDE as u64
     } else {
@@ -88,8 +89,8 @@ fn in_range<T: Signed>(minus: bool, negative: T) -> Option<T>
     }
 }
 
-// Never inlined: otherwise the compiler would read the sign first, for every number, by a branch that
-// is mispredicted where signs vary.
+// Never inlined: otherwise the compiler would branch on the sign first, for every number, and with
+// mixed signs that branch is mispredicted.
 #[inline(never)]
 fn has_no_minus_cold(minus: bool) -> bool
     ensures { result ≡ not minus }
@@ -97,7 +98,8 @@ fn has_no_minus_cold(minus: bool) -> bool
     !minus
 }
 
-// How many digits an error counts, if their number is above the bound of the sign `minus`.
+// Returns how many digits an error counts, if their value is above the bound for the sign `minus`.
+// Only `Invalid64` and `Invalid128` hold such a value.
 fn digits_above<T: Signed>(minus: bool, error: AtoiSimdError<'_>) -> Option<usize>
     ensures { let reason = refusal_of error.entry in
         result ≡ (if nat_lt (bound_of T.int_type minus) (number_in reason) then Some (index_in reason)
@@ -111,8 +113,8 @@ fn digits_above<T: Signed>(minus: bool, error: AtoiSimdError<'_>) -> Option<usiz
     }
 }
 
-// The slice in the error `Overflow` for all of `s`, which begins with `count` digits that spell the
-// magnitude of `T::MIN`.
+// Returns the slice in the error `Overflow` for all of `s`, which starts with `count` digits that
+// spell the magnitude of `T::MIN`.
 #[tactic(auto, using(crate::proofs::Bounds::dropped_whole, crate::proofs::Bounds::run_within))]
 fn whole_overflow<'a, E: Engine, T: Signed>(skip: bool, count: usize, s: &'a [u8]) -> &'a [u8]
     requires digits { count ≡ run_len E.table s.now }
@@ -127,8 +129,8 @@ fn whole_overflow<'a, E: Engine, T: Signed>(skip: bool, count: usize, s: &'a [u8
     }
 }
 
-// The same for the front of `s`. Types of at most 32 bits drop the zeros that fill whole windows of 16
-// bytes, and all of them if more windows are full of digits.
+// As `whole_overflow`, for the number at the start of `s`. Types of at most 32 bits drop the zeros
+// that fill whole windows of 16 bytes, and all zeros if more windows than these are full of digits.
 #[tactic(auto, using(crate::proofs::Bounds::dropped_prefix, crate::proofs::Bounds::run_within))]
 fn prefix_overflow<'a, E: Engine, T: Signed>(skip: bool, count: usize, s: &'a [u8]) -> &'a [u8]
     requires digits { count ≡ run_len E.table s.now }
@@ -144,8 +146,8 @@ fn prefix_overflow<'a, E: Engine, T: Signed>(skip: bool, count: usize, s: &'a [u
     }
 }
 
-// How many leading zeros are skipped of `count` digits that spell the magnitude of `T::MIN`: all but
-// its own.
+// Returns how many leading zeros are skipped among `count` digits that spell the magnitude of
+// `T::MIN`: all digits except those of the magnitude itself.
 #[tactic(auto, using(crate::proofs::Bounds::leading_zeros))]
 fn leading_zeros<E: Engine, T: Signed>(skip: bool, count: usize) -> usize
     ensures zeros { (s : List ℕ) → count ≡ run_len E.table s
@@ -159,7 +161,7 @@ fn leading_zeros<E: Engine, T: Signed>(skip: bool, count: usize) -> usize
     }
 }
 
-// How many digits the magnitude of `T::MIN` has.
+// Returns how many digits the magnitude of `T::MIN` has.
 fn digits_of_min<T: Signed>() -> usize
     ensures { HasDigits result T.LEAST_MAGNITUDE }
 {

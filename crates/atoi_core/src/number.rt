@@ -1,71 +1,75 @@
-//! The integer types that the parses answer. It uses no other module: what a parse has to know of a
-//! type are the constants here.
+//! The integer types that a parse can return. It uses no other module: all that a parse needs to
+//! know of a type are the constants here.
 ghost use Rattle.std.specs.Prelude.{◌≡◌, ◌+◌, ◌≤◌, ◌<ℤ◌, ◌↔◌, ℕ, ℤ, pos, Bool, true, false, IsTrue, refl};
 ghost use Rattle.std.proofs.Common.{inl, inr};
 ghost use Rattle.atoi_core.specs.IntType.{IntType, IsSized, IsTypeOf, bound_of};
 ghost use Rattle.atoi_core.specs.IntTypes.{u8_type, i8_type, u16_type, i16_type, u32_type, i32_type, u64_type, i64_type, u128_type, i128_type, usize_type, isize_type};
 ghost use Rattle.atoi_core.specs.Sign.{with_sign};
 
-/// An integer type that a parse can answer.
+/// An integer type that a parse can return.
 ///
-/// A type of at most 32 `BITS` is parsed as a narrow one, the others as of 64 and of 128 bits.
+/// Types of at most 32 `BITS` are called *narrow*. They have parsers of their own, and so have the
+/// types of 64 and those of 128 bits.
 pub trait Number: Copy {
-    /// How many bits it has: 8, 16, 32, 64 or 128.
+    /// The number of bits: 8, 16, 32, 64 or 128.
     const BITS: u32;
 
     ghost BITS: { ℕ };
 
-    /// Whether it has negative numbers.
+    /// Whether the type has negative values.
     const SIGNED: bool;
 
     ghost SIGNED: { Bool };
 
-    /// Its greatest number: `2^BITS - 1`, or `2^(BITS - 1) - 1` where it is signed.
+    /// The largest value: `2^BITS - 1`, or `2^(BITS - 1) - 1` if the type is signed.
     const GREATEST: u128;
 
     ghost GREATEST: { ℕ };
 
-    /// The three constants as one, by which contracts speak of the type.
+    /// The three constants in one record, which contracts use to refer to the type.
     ghost int_type: { IntType };
 
-    /// The number that a value stands for.
+    /// The integer that a value means.
     ghost number: { Self → ℤ };
 
-    /// The value whose number is `value`, which is at most `GREATEST`.
+    /// Returns `value`, which is at most `GREATEST`, as a value of the type.
     fn from_pos(value: u128) -> Self
         requires { value ≤ GREATEST }
         ensures { number result ≡ pos value };
 
-    /// Whether the number is negative, and its magnitude: at most `GREATEST`, or one more where it
-    /// is negative, so that every value lies in the range that the constants tell.
+    /// Returns whether the value is negative, and its magnitude, which is the value without its
+    /// sign. The magnitude is at most `GREATEST`, or one more if the value is negative. So every
+    /// value is in the range that the constants give.
     fn parts(self) -> (bool, u128)
         ensures number { with_sign result.0 result.1 ≡ number self }
         ensures negative { IsTrue result.0 ↔ (number self <ℤ pos 0) }
         ensures in_range { result.1 ≤ bound_of int_type result.0 };
 
-    /// The kind is that of the three constants.
+    /// The record `int_type` has the three constants.
     ghost type_is: { IsTypeOf int_type BITS SIGNED GREATEST };
 
-    /// The constants fit one another.
+    /// The constants agree: `BITS` is one of the five sizes, and `GREATEST` is the largest value of
+    /// that size.
     ghost sized: { IsSized int_type };
 }
 
-/// An integer type with negative numbers.
+/// An integer type with negative values.
 pub trait Signed: Number {
-    /// The magnitude of its least number: one more than `GREATEST`.
+    /// The magnitude of the smallest value, which is that value without its minus: one more than
+    /// `GREATEST`.
     const LEAST_MAGNITUDE: u128;
 
     ghost LEAST_MAGNITUDE: { ℕ };
 
-    /// The value whose number is minus `magnitude`, which is at most `LEAST_MAGNITUDE`.
+    /// Returns minus `magnitude`, which is at most `LEAST_MAGNITUDE`, as a value of the type.
     fn from_neg(magnitude: u128) -> Self
         requires { magnitude ≤ LEAST_MAGNITUDE }
         ensures { Self.number result ≡ with_sign true magnitude };
 
-    /// It has negative numbers.
+    /// The type has negative values.
     ghost signed: { Self.SIGNED ≡ true };
 
-    /// Its least number lies one further from 0 than its greatest.
+    /// The smallest value is one further from 0 than the largest.
     ghost least: { LEAST_MAGNITUDE ≡ Self.GREATEST + 1 };
 }
 

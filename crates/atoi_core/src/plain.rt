@@ -1,5 +1,5 @@
-//! The engine that reads a window byte by byte, which is the reference for the faster ones. It uses
-//! `alphabet`, `engine`, `steps`, `window` and the decimal digit of `digit_loop`.
+//! The engine that reads a window byte by byte. It is the reference for the faster ones. It uses
+//! `alphabet`, `engine`, `steps`, `window` and the decimal digits of `digit_loop`.
 ghost use Rattle.atoi_core.specs.Digit.{decimal_table};
 ghost use Rattle.std.proofs.Common.{arith};
 ghost use Rattle.std.proofs.lemmas.Bool.Decides.{nat_tests};
@@ -10,7 +10,7 @@ use crate::engine::Engine;
 use crate::steps::Steps;
 use crate::window::Window;
 
-/// The engine that reads byte by byte. Its digits are the decimal ones.
+/// The engine that reads byte by byte. Its digits are the decimal ones, `b'0'` to `b'9'`.
 pub struct Plain;
 
 impl Alphabet for Plain {

@@ -1,6 +1,6 @@
-//! The parses of integers of 128 bits from the front of a slice: a run that ends in the first window,
-//! and mostly one that ends in the second, is answered in line, all others by the engine. It uses
-//! `engine`, `window`, `wide_answer`, `steps` and `error`.
+//! The parse of an integer of 128 bits at the start of a slice. A run that ends in the first
+//! window, and mostly one that ends in the second, is answered by inlined code; all others are
+//! answered by the engine. It uses `engine`, `window`, `wide_answer`, `steps` and `error`.
 ghost use Rattle.std.specs.Prelude.{◌≡◌, ◌+◌, ◌-◌, ◌<◌, ◌≤◌, ℕ, false, IsTrue, None, IfSome, Ok};
 ghost use Rattle.atoi_core.specs.Loads.{LoadsWithin, most_loads};
 ghost use Rattle.atoi_core.specs.Magnitude.{HasDigits, wide128, prefix_magnitude};
@@ -14,14 +14,17 @@ use crate::steps::Steps;
 use crate::wide_answer::append_digits;
 use crate::window::Window;
 
-/// What `Engine::prefix_128` answers, where the first two windows are read in line. Fewer than 32
-/// digits are never above the bound. The engine is called, and loads again what was read, for 32 digits
-/// or more, and after a first window full of digits that begins with zeros to be skipped, or where `s`
-/// is to be read `whole` and has at least 32 bytes.
+/// Returns what `Engine::prefix_128` returns, but reads the first two windows in inlined code.
+/// Fewer than 32 digits are never above the bound, which has 39. `whole` says that the caller
+/// accepts only digits to the end of `s`.
+///
+/// The engine is called, and loads again what was read, in three cases: there are 32 digits or
+/// more; the first window is full and starts with zeros that are to be skipped; or it is full,
+/// `whole` is set and `s` has at least 32 bytes.
 ///
 /// # Errors
 ///
-/// `Empty`, `Size` and `Overflow`, as of `Engine::prefix_128`.
+/// Those of `Engine::prefix_128`.
 #[inline(always)]
 pub(crate) fn prefix_128_inline<'a, E: Engine>(
     bound: u128,
@@ -41,8 +44,8 @@ pub(crate) fn prefix_128_inline<'a, E: Engine>(
     }
 }
 
-// The call of `E::prefix_128`, in a function of its own: the place of its result is then cleared only
-// where the call is made.
+// Kept separate, with the result matched right after the call, so that the stack slot of that
+// result is cleared only on the path that calls `E::prefix_128`.
 #[inline(always)]
 fn prefix_128_cold<'a, E: Engine>(
     bound: u128,
@@ -61,7 +64,7 @@ fn prefix_128_cold<'a, E: Engine>(
     }
 }
 
-// The answer of the first two windows; none where the engine is to be called.
+// Returns the answer of the first two windows, or `None` if the engine is to be called.
 #[inline(always)]
 fn first_two_windows<'a, E: Engine>(
     skip: bool,
@@ -92,8 +95,8 @@ fn first_two_windows<'a, E: Engine>(
     }
 }
 
-// The number and count of a run that ends in the second window, behind a first that is full; none
-// where it goes on, or begins with zeros that are skipped.
+// Returns the value and the length of a run that ends in the second window, when the first is full.
+// Returns `None` if the run goes on after the second, or starts with zeros that are to be skipped.
 #[inline(always)]
 fn second_window<E: Engine>(
     skip: bool,

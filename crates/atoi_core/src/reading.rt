@@ -1,19 +1,21 @@
-//! What digits that were read say of an answer, for an engine that reads wide integers by a loop
-//! of its own. It uses the definitions alone.
+//! The law for an engine that reads wide integers, those of 64 and 128 bits, with a loop of its
+//! own: when the digits that it has read decide the answer. It uses only the definitions.
 //!
 //! Such a loop is proved in five steps, as in `wide_lanes` of `atoi_lanes`:
 //!
 //! 1. Call `reading_decides`, whose contract is the law.
-//! 2. Keep `IsSkipped` in the loop: only skipped zeros stand before the place. `zeros_left` counts
-//!    those after it, for the bound on loads.
-//! 3. Let each window ensure `Reading`: its digits, zeros and number.
-//! 4. Put two readings together by `joined`.
-//! 5. Turn the last one into the answer, `answer_by_digits`, by `decided`.
+//! 2. Keep `IsSkipped` as an invariant of the loop: all bytes before the current index are zeros
+//!    that are skipped. `zeros_left` gives the number of the zeros after it, which the bound on
+//!    loads needs.
+//! 3. Let each window ensure `Reading`: its number of digits, its leading zeros and its value.
+//! 4. Combine two readings with `joined`.
+//! 5. Turn the last one into the answer, `answer_by_digits`, with `decided`.
 ghost use Rattle.atoi_core.specs.Reading.{ReadingDecides};
 
-/// What was read of a slice decides the answer of `Engine::prefix_64` and `Engine::prefix_128`:
-/// after zeros that are skipped, a reading that does not end in digits, or of which as many digits
-/// count as a size tells. Calling it does nothing.
+/// The law that what has been read of a slice decides the answer of `Engine::prefix_64` and
+/// `Engine::prefix_128`. It applies to a reading after skipped zeros, in two cases: the digits end
+/// within the bytes that were read, or at least as many significant digits were read as the error
+/// `Size` counts at most. Calling this function does nothing.
 #[tactic(auto, using(crate::proofs::Windows::reading_decides))]
 pub fn reading_decides()
     ensures { ReadingDecides }

@@ -1,5 +1,7 @@
-//! The sign at the start of a slice, and the parses that consume it: one core call on the body each.
-//! It uses `dispatch` and `negative_bound`, and what these speak of.
+//! The sign at the start of a slice, and the parses that consume it. Each parse makes one *core
+//! call*, which is `whole_pos`, `whole_neg`, `prefix_pos` or `prefix_neg`, on the *body*, the slice
+//! after its sign. It uses `dispatch` and `negative_bound`, and the modules that their contracts
+//! name.
 ghost use Rattle.std.specs.Prelude.{◌≡◌, ◌+◌, ◌≤◌, false, IfOk, length};
 ghost use Rattle.atoi_core.specs.Answer.{typed_answer, typed_prefix_answer, text_answer, text_prefix_answer};
 ghost use Rattle.atoi_core.specs.Loads.{TypedLoads};
@@ -13,11 +15,11 @@ use crate::negative_bound::{prefix_with_sign, whole_with_sign};
 use crate::number::{Number, Signed};
 use crate::steps::Steps;
 
-/// Takes at most one sign from the front of `s`: a `+` where `skip_plus` holds, a `-` where
-/// `signed` does.
+/// Consumes at most one sign at the start of `s`: a `+` if `skip_plus` is on, or a `-` if `signed`
+/// is.
 ///
-/// It answers whether a minus was taken, and the body that is left. One byte was taken exactly
-/// where the body is shorter than `s`.
+/// Returns whether the sign is a `-`, and the body after it. A sign has been consumed exactly if
+/// the body is shorter than `s`; it is then one byte shorter.
 #[inline(always)]
 pub fn take_sign(signed: bool, skip_plus: bool, s: &[u8]) -> (bool, &[u8])
     ensures minus { result.0 ≡ (sign_of signed skip_plus s.now).minus }
@@ -29,7 +31,8 @@ pub fn take_sign(signed: bool, skip_plus: bool, s: &[u8]) -> (bool, &[u8])
     };
     let minus = signed & (*first == b'-');
     let plus = skip_plus & (*first == b'+');
-    // Cut twice, by numbers: where signs vary, a branch on them would be mispredicted.
+    // Sliced twice, by 0 or 1, instead of branching: with mixed signs a branch would be
+    // mispredicted.
     let body = &s[usize::from(minus)..];
     (minus, &body[usize::from(plus)..])
 }
@@ -38,12 +41,12 @@ pub fn take_sign(signed: bool, skip_plus: bool, s: &[u8]) -> (bool, &[u8])
 ///
 /// The sign is a `-`, or a `+` if `skip_plus` is on. With `skip` any number of leading zeros is
 /// accepted; types of at most 32 bits always accept them. The digits are those of the engine `E`.
-/// `steps` counts the windows that are loaded: both signs take one parse of the body, under the
-/// negative bound.
+/// `steps` counts the loads. Whatever the sign is, the body is parsed once, as the digits of a
+/// negative number, and the sign is applied to the result. This avoids a branch on the sign.
 ///
 /// # Errors
 ///
-/// Those of `whole_neg` if there is a `-`, else those of `whole_pos`, on the body after the sign.
+/// Those of `whole_neg` if there is a `-`, otherwise those of `whole_pos`, for the body.
 #[inline(always)]
 pub fn parse_signed<'a, E: Engine, T: Signed>(
     skip: bool,
@@ -60,14 +63,12 @@ pub fn parse_signed<'a, E: Engine, T: Signed>(
     whole_with_sign::<E, T>(minus, skip, body, negative)
 }
 
-/// Parses all of `s` as an integer of the unsigned type `T`: a `+` if `skip_plus` is on and there is
-/// one, then digits only.
-///
-/// Apart from the sign it is `parse_signed`.
+/// Parses all of `s` as an integer of the unsigned type `T`: a `+` if `skip_plus` is on and there
+/// is one, then digits only. Otherwise it is like `parse_signed`.
 ///
 /// # Errors
 ///
-/// Those of `whole_pos`, on the body after the sign.
+/// Those of `whole_pos`, for the body.
 #[inline(always)]
 pub fn parse_unsigned<'a, E: Engine, T: Number>(
     skip: bool,
@@ -84,14 +85,16 @@ pub fn parse_unsigned<'a, E: Engine, T: Number>(
     whole_pos::<E, T>(skip, body, steps)
 }
 
-/// Parses the number of the signed type `T` at the start of `s`, and returns how many bytes it has,
-/// the sign included.
+/// Parses the integer of the signed type `T` at the start of `s`, and returns it with the number of
+/// its bytes, including those of the sign and the zeros.
 ///
-/// The sign is consumed as by `parse_signed`, and all digits that follow it belong to the number.
+/// The sign, `skip` and `steps` are as for `parse_signed`, except that a type of at most 32 bits
+/// accepts more than 16 digits only with `skip`. All digits that follow the sign belong to the
+/// integer, and the first other byte ends it.
 ///
 /// # Errors
 ///
-/// Those of `prefix_neg` if there is a `-`, else those of `prefix_pos`, on the body after the sign.
+/// Those of `prefix_neg` if there is a `-`, otherwise those of `prefix_pos`, for the body.
 #[inline(always)]
 pub fn parse_prefix_signed<'a, E: Engine, T: Signed>(
     skip: bool,
@@ -111,12 +114,13 @@ pub fn parse_prefix_signed<'a, E: Engine, T: Signed>(
     Ok((number, len + (s.len() - body.len())))
 }
 
-/// Parses the number of the unsigned type `T` at the start of `s`, and returns how many bytes it has,
-/// a `+` that was consumed included.
+/// Parses the integer of the unsigned type `T` at the start of `s`, and returns it with the number
+/// of its bytes, including that of a `+` that was consumed. Otherwise it is like
+/// `parse_prefix_signed`.
 ///
 /// # Errors
 ///
-/// Those of `prefix_pos`, on the body after the sign.
+/// Those of `prefix_pos`, for the body.
 #[inline(always)]
 pub fn parse_prefix_unsigned<'a, E: Engine, T: Number>(
     skip: bool,

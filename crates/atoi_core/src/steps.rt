@@ -1,18 +1,19 @@
-//! A count of window loads that takes no bytes at run time. It uses no other module.
+//! A count of loads, which are the reads of windows. It has no size at run time. It uses no other
+//! module.
 ghost use Rattle.std.specs.Prelude.{◌≡◌, ◌+◌, ℕ};
 ghost use Rattle.std.specs.Borrow.{ftrue};
 
 use std::marker::{Model, PhantomData};
 
-/// A count of steps, which contracts see as a whole number. It has no bytes at run time.
+/// A count of steps, which contracts see as a natural number. It has no bytes at run time.
 ///
-/// A step is one window loaded. The functions that load windows take a `&mut Steps` and say in
-/// their contracts how much they add at least and at most.
+/// Each step is one load, which is one read of a window. The functions that load are passed a
+/// `&mut Steps`, and their contracts say how many steps they add at least and at most.
 #[derive(Drop)]
 pub struct Steps {
     marker: PhantomData<u8>,
-    // No byte holds it, so a proof by hand could set it to any number. Only the two functions below
-    // are proved by hand.
+    // No byte holds this number, so a proof written by hand could set it to any number. Only the
+    // two functions below are proved by hand.
     ghost number: { ℕ },
 }
 
@@ -25,7 +26,7 @@ impl Model for Steps {
 }
 
 impl Steps {
-    /// A count of 0.
+    /// Returns a count of 0.
     #[inline(always)]
     pub fn new() -> Steps
         ensures { result ≡ 0 }

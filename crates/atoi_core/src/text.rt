@@ -1,12 +1,11 @@
-//! Bytes, hexadecimal numbers and decimal numbers written into a slice from a place on. It uses no
+//! Functions that write bytes, hexadecimal numbers and decimal numbers into a slice. It uses no
 //! other module.
 ghost use Rattle.std.specs.Prelude.{◌≡◌, ◌+◌, ◌-◌, ◌*◌, ◌^◌, ◌<◌, ◌≤◌, ◌∷◌, [], ◌++◌, true, length, take, decimal, IsAscii};
 ghost use Rattle.std.specs.Fmt.{digit_glyph};
 ghost use Rattle.atoi_core.specs.ErrorText.{hex_text, hex_list};
 
-/// Puts the decimal digits of `value` at the front of `out` and answers how many they are, from 1
-/// to 39 bytes. There is no leading zero, and zero is one digit. What stands behind them in `out`
-/// is open.
+/// Writes the decimal digits of `value` to the start of `out`, and returns how many there are, from
+/// 1 to 39. There are no leading zeros, and zero is one digit. The rest of `out` is unspecified.
 pub fn decimal(value: u128, out: &mut [u8; 39]) -> usize
     ensures digits { take result out.new ≡ decimal value }
     ensures length { result ≡ length (decimal value) }
@@ -16,8 +15,8 @@ pub fn decimal(value: u128, out: &mut [u8; 39]) -> usize
     put_decimal(value, out, 0)
 }
 
-// Writes the bytes from `at` on, and answers the place behind them, as the other functions that put
-// do.
+// Writes `bytes` from index `at` on, and returns the index after them. It keeps what precedes `at`;
+// the rest of `out` is unspecified. The other functions here do the same with what they write.
 pub(crate) fn put_bytes(bytes: &[u8], out: &mut [u8], at: usize) -> usize
     requires { at + length bytes.now ≤ length out.old }
     ensures written { take result out.new ≡ take at out.old ++ bytes.now }
@@ -37,7 +36,7 @@ fn put_byte(byte: u8, out: &mut [u8], at: usize) -> usize
     at + 1
 }
 
-// In decimal, without a leading zero.
+// Writes `value` in decimal, without leading zeros.
 #[tactic(auto, using(std::proofs::lemmas::Fmt::decimal_digit))]
 pub(crate) fn put_decimal(value: u128, out: &mut [u8], at: usize) -> usize
     requires { at + 39 ≤ length out.old }
@@ -55,7 +54,7 @@ pub(crate) fn put_decimal(value: u128, out: &mut [u8], at: usize) -> usize
     put_byte(last, out, end)
 }
 
-// In capitals, without a leading zero.
+// Writes `byte` in hexadecimal capitals, without a leading zero.
 #[tactic(auto, using(crate::proofs::Errors::hex_text_of_one_digit))]
 fn put_hex(byte: u8, out: &mut [u8], at: usize) -> usize
     requires { at + 2 ≤ length out.old }
@@ -81,8 +80,8 @@ fn hex_digit(digit: u8) -> u8
     }
 }
 
-// Each byte in hexadecimal, joined by comma and space: at most four bytes for each, but two for the
-// last.
+// Writes each byte in hexadecimal, joined by comma and space. Each takes at most four bytes, and
+// the last at most two.
 pub(crate) fn put_hex_list(bytes: &[u8], out: &mut [u8], at: usize) -> usize
     requires { at + (4 * length bytes.now - 2) ≤ length out.old }
     ensures written { take result out.new ≡ take at out.old ++ hex_list bytes.now }

@@ -1,5 +1,5 @@
-//! The parses of integers of 64 and of 128 bits that read a whole slice, over any engine. It uses
-//! `front`, `engine`, `steps` and `error`.
+//! The parses of a whole slice into integers of 64 and of 128 bits, over any engine. It uses
+//! `prefix_128`, `engine`, `steps` and `error`.
 ghost use Rattle.std.specs.Prelude.{◌≡◌, ◌≤◌};
 ghost use Rattle.atoi_core.specs.Loads.{LoadsWithin, most_loads};
 ghost use Rattle.atoi_core.specs.Magnitude.{HasDigits, wide64, wide128, whole_magnitude};
@@ -10,20 +10,15 @@ use crate::error::AtoiSimdError;
 use crate::prefix_128::prefix_128_inline;
 use crate::steps::Steps;
 
-/// The number that `s` as a whole is, for an integer of 64 bits.
+/// Parses all of `s`, which has no sign, as an integer of 64 bits, and returns its value.
 ///
-/// `bound` is the greatest number, and has exactly `limit` digits, 17 to 20. With `skip` the zeros
-/// at the front do not count against `limit`. `steps` counts the windows loaded.
+/// `bound` is the largest value that is accepted, and has exactly `limit` digits, 17 to 20. With
+/// `skip` leading zeros do not count towards `limit`. `steps` counts the loads.
 ///
 /// # Errors
 ///
-/// The first that holds of:
-/// - `Empty`: `s` does not begin with a digit.
-/// - `Size`: more than `limit` digits count. It tells the zeros skipped and at most 24 of the
-///   digits that count, and holds `s` behind the zeros skipped.
-/// - `Overflow`: the number is above `bound`. It holds `s` behind the zeros skipped.
-/// - `Invalid64`: a byte that is no digit stands behind the digits. It holds their number, their
-///   count and `s`.
+/// Those of `Engine::prefix_64`, and after them `Invalid64(value, index, s)` if another byte
+/// follows the digits. `value` is what they spell, and `index` is the position of that byte in `s`.
 #[inline(always)]
 pub fn whole_64<'a, E: Engine>(
     bound: u64,
@@ -47,20 +42,15 @@ pub fn whole_64<'a, E: Engine>(
     }
 }
 
-/// The number that `s` as a whole is, for an integer of 128 bits.
+/// Parses all of `s`, which has no sign, as an integer of 128 bits, and returns its value.
 ///
-/// `bound` is the greatest number, and has exactly 39 digits. With `skip` the zeros at the front
-/// do not count against these 39. `steps` counts the windows loaded.
+/// `bound` is the largest value that is accepted, and has exactly 39 digits, which is the limit of
+/// significant digits. With `skip` leading zeros do not count towards it. `steps` counts the loads.
 ///
 /// # Errors
 ///
-/// The first that holds of:
-/// - `Empty`: `s` does not begin with a digit.
-/// - `Size`: more than 39 digits count. It tells the zeros skipped and at most 40 of the digits
-///   that count, and holds `s` behind the zeros skipped.
-/// - `Overflow`: the number is above `bound`. It holds `s` behind the zeros skipped.
-/// - `Invalid128`: a byte that is no digit stands behind the digits. It holds their number, their
-///   count and `s`.
+/// Those of `Engine::prefix_128`, and after them `Invalid128(value, index, s)` if another byte
+/// follows the digits. `value` is what they spell, and `index` is the position of that byte in `s`.
 #[inline(always)]
 pub fn whole_128<'a, E: Engine>(
     bound: u128,

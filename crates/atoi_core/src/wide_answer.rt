@@ -1,5 +1,6 @@
-//! Powers of ten, and the answers of the parses of 64 and of 128 bits once their digits have been
-//! read. An engine that reads wide integers by loops of its own may use them too. It uses `error`.
+//! Powers of ten, and the answers of the parses of integers of 64 and of 128 bits once their digits
+//! have been read. An engine that reads wide integers with loops of its own may use them too. It
+//! uses `error`.
 ghost use Rattle.std.specs.Prelude.{◌≡◌, ◌+◌, ◌*◌, ◌^◌, ◌<◌, ◌≤◌, nat_lt, if◌then◌else◌, length};
 ghost use Rattle.atoi_core.specs.Magnitude.{HasDigits, wide64, wide128};
 ghost use Rattle.atoi_core.specs.Reading.{answer_by_digits};
@@ -7,7 +8,7 @@ ghost use Rattle.atoi_core.specs.Refusal.{answer_of};
 
 use crate::error::AtoiSimdError;
 
-// The powers of ten, from the one with no zero to the one with 16.
+// The powers of ten from `10^0` to `10^16`, indexed by the exponent.
 const POWERS: [u64; 17] = [
     1,
     10,
@@ -38,8 +39,8 @@ pub fn power_of_ten(digits: u32) -> u64
     POWERS[digits as usize]
 }
 
-/// Returns the number that digits spell: those of `high`, and `digits` more after them, at most 16,
-/// which spell `low`.
+/// Returns the value of the digits that spell `high`, followed by `digits` more, at most 16, that
+/// spell `low`.
 pub fn append_digits(high: u64, digits: u32, low: u64) -> u128
     requires { digits ≤ 16 }
     ensures { result ≡ high * 10 ^ digits + low }
@@ -47,13 +48,14 @@ pub fn append_digits(high: u64, digits: u32, low: u64) -> u128
     u128::from(high) * u128::from(power_of_ten(digits)) + u128::from(low)
 }
 
-/// Returns the answer of 64 bits for digits that have been read: after `skipped` zeros, which do not
-/// count, `counting` digits that spell `number`.
+/// Returns the answer of a 64-bit parse for digits that have been read: after `skipped` zeros,
+/// which are not significant, `counting` significant digits that spell `number`. The answer is this
+/// value, and the number of all these digits. `s` has at least as many bytes.
 ///
 /// # Errors
 ///
-/// `Empty` if there are no digits and no zeros, `Size` if more than `limit` digits count, and
-/// `Overflow` if `number` is above `bound`. The last two hold `s` from the first digit that counts on.
+/// Those of `Engine::prefix_64`: `Empty` if `skipped` and `counting` are 0, `Size` if `counting` is
+/// above `limit`, and `Overflow` if `number` is above `bound`.
 #[inline(always)]
 pub fn answer_64<'a>(
     bound: u64,
@@ -79,13 +81,15 @@ pub fn answer_64<'a>(
     }
 }
 
-/// Returns the answer of 128 bits for 32 digits or more that have been read: after `skipped` zeros,
-/// which do not count, 32 digits that spell `high`, and `more` digits, at most 8, that spell `low`.
+/// Returns the answer of a 128-bit parse for 32 digits or more that have been read: after `skipped`
+/// zeros, which are not significant, 32 digits that spell `high`, and `more` digits, at most 8,
+/// that spell `low`. The answer is the value of these digits, and the number of all of them. `s`
+/// has at least as many bytes.
 ///
 /// # Errors
 ///
-/// `Size` if all 40 are digits, and `Overflow` if their number is above `bound`. Both hold `s` from the
-/// first digit that counts on.
+/// Those of `Engine::prefix_128`: `Size` if `more` is 8, and `Overflow` if the value is above
+/// `bound`, which has exactly 39 digits.
 #[inline(always)]
 pub fn answer_128<'a>(
     bound: u128,

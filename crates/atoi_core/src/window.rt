@@ -1,20 +1,22 @@
-//! What one load tells of a slice. It uses no other module.
+//! What one load reports about the start of a slice. A *load* is one read of a *window*, the run of
+//! the first 8 or 16 bytes. It uses no other module.
 ghost use Rattle.std.specs.Prelude.{◌≡◌, ◌+◌, ◌^◌, ◌<◌};
 
-/// What a window of 8 or 16 bytes tells of the front of a slice.
+/// What is known of the first 8 or 16 bytes of a slice, or of all its bytes if there are fewer: the
+/// *run*, which is their longest prefix of digits, and its leading zeros.
 #[derive(Clone, Copy, PartialEq, Eq)]
 pub struct Window {
-    /// How many digits the window begins with.
+    /// The number of digits in the run, from 0 to 8 or 16.
     pub len: u32,
-    /// How many zeros it begins with, where it has all its 8 or 16 bytes and each is a digit; else
-    /// 0.
+    /// The number of leading zeros, if the window is full: all its 8 or 16 bytes are there, and
+    /// each is a digit. Otherwise 0.
     pub zeroes: u32,
-    /// The number that its first `len` digits write.
+    /// The value that the run spells; 0 if it is empty.
     pub number: u64,
 }
 
 impl Window {
-    /// The place after the zeros that the window at the place `at` has.
+    /// Returns the index after the zeros of this window, which starts at index `at` of the slice.
     pub(crate) fn after_zeros(self, at: usize) -> usize
         requires { at + self.zeroes < 2 ^ 64 }
         ensures dropped { result ≡ at + self.zeroes }

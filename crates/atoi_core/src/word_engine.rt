@@ -1,5 +1,5 @@
-//! The engine that reads a window as one word of eight bytes, or as two. It uses `words`, `engine`,
-//! `wide_answer`, `window`, `steps` and `error`.
+//! The engine `Words`, which reads a window as one word of eight bytes, or as two. It uses `words`,
+//! `engine`, `wide_answer`, `window`, `steps` and `error`.
 ghost use Rattle.std.specs.Prelude.{◌≡◌, ◌+◌, ◌-◌, ◌^◌, ◌<◌, ◌≤◌, ◌==◌, ◌++◌, true, if◌then◌else◌, length, take, drop, replicate};
 ghost use Rattle.atoi_core.specs.Digit.{decimal_table};
 ghost use Rattle.atoi_core.specs.Loads.{LoadsWithin, most_loads};
@@ -18,17 +18,18 @@ use crate::wide_answer::{answer_64, append_digits, power_of_ten};
 use crate::window::Window;
 use crate::words::load_high;
 
-// The zero, the byte 48, eight times.
+// Eight zeros, each the byte 48.
 const ZEROS: u64 = 0x3030_3030_3030_3030;
 
-/// The engine that reads eight bytes at once, as a word. Its digits are the decimal ones.
+/// The engine that reads eight bytes at once, as a word. Its digits are the decimal ones, `b'0'` to
+/// `b'9'`.
 pub struct Words;
 
 impl Engine for Words {
     ghost table = { decimal_table };
 
-    /// The first 16 bytes, or all where there are fewer: how many digits they begin with, the
-    /// number that these write, and the zeros among them where all 16 are digits. Adds one step.
+    /// Returns the window of the first 16 bytes of `s`, or of all its bytes if there are fewer.
+    /// Adds one step.
     #[inline(always)]
     fn window(s: &[u8], steps: &mut Steps) -> Window {
         steps.tick();
@@ -44,7 +45,8 @@ impl Engine for Words {
         }
     }
 
-    /// The same of the first 8 bytes. Adds one step.
+    /// Returns the window of the first 8 bytes of `s`, or of all its bytes if there are fewer. Adds
+    /// one step.
     #[inline(always)]
     fn window_8(s: &[u8], steps: &mut Steps) -> Window {
         steps.tick();
@@ -54,7 +56,7 @@ impl Engine for Words {
         window_of_word(load_full(s))
     }
 
-    /// As the provided body, but a loop is entered only where there are zeros to skip.
+    /// Returns what the provided body returns, but enters a loop only if there are zeros to skip.
     #[inline(always)]
     fn prefix_64<'a>(
         bound: u64,
@@ -81,8 +83,8 @@ impl Engine for Words {
     ghost below_ten = { λ byte. Prim.grind (arith, nat_tests) };
 }
 
-// The call of `skip_leading_zeros`, in a function of its own: the place of its result is then cleared only
-// where the call is made.
+// Kept separate, with the result matched right after the call, so that the stack slot of that
+// result is cleared only on the path that calls `skip_leading_zeros`.
 #[inline(always)]
 fn skip_leading_zeros_cold<'a>(
     bound: u64,
@@ -107,8 +109,8 @@ fn skip_leading_zeros_cold<'a>(
     }
 }
 
-// What `prefix_64` with zeros to skip answers, where the first window told `zeroes`: these and those
-// after them are skipped.
+// Returns what `prefix_64` with `skip` returns, if the first window reported `zeroes` leading zeros
+// and there is at least one: these zeros and those after them are skipped.
 #[inline(never)]
 fn skip_leading_zeros<'a>(
     bound: u64,
@@ -144,7 +146,8 @@ fn skip_leading_zeros<'a>(
     answer_64(bound, limit, at, 16 + back.len, number, s)
 }
 
-// The window of the 8 bytes from the 17th on, or of those that are there. Adds one step.
+// Returns the window of the 8 bytes after the first 16, or of those of them that are there. Adds
+// one step.
 #[inline(always)]
 fn window_after_16(s: &[u8], steps: &mut Steps) -> Window
     requires { 16 ≤ length s.now }
@@ -155,9 +158,10 @@ fn window_after_16(s: &[u8], steps: &mut Steps) -> Window
     window_of_word(load_from(s, 16))
 }
 
-// The window of at most 8 bytes. A slice of fewer is read as if zeros stood before it that count for
-// nothing: so the bytes are always eight, and no branch depends on how many there are. The window is
-// the same where 8 bytes were asked for, as long as there are fewer.
+// Returns the window of a slice of at most 8 bytes. A slice of fewer is read as if zeros preceded
+// it, which the result leaves out. So there are always eight bytes, and unless `s` is empty, no
+// branch depends on its length. For fewer than 8 bytes the windows of 8 and of 16 bytes are the
+// same.
 fn short_window(s: &[u8]) -> Window
     requires { length s.now ≤ 8 }
     ensures of_16 { result ≡ window_of decimal_table 16 s.now }
@@ -175,8 +179,8 @@ fn short_window(s: &[u8]) -> Window
     }
 }
 
-// The word whose lowest bytes are zeros, the byte 48, as many as `len` bytes leave free; the bytes
-// above them are 0.
+// Returns the word whose lowest bytes are zeros, the byte 48, as many as `len` bytes leave of
+// eight; the bytes above them are 0.
 fn fill_of_zeros(len: usize) -> u64
     requires some { 0 < len }
     requires few { len ≤ 8 }
@@ -185,7 +189,7 @@ fn fill_of_zeros(len: usize) -> u64
     ZEROS - (ZEROS << (64 - 8 * len))
 }
 
-// The window of 16 bytes where the first 8, which `first` holds, are digits.
+// Returns the window of 16 bytes, if the first 8 are digits. `first` is their word.
 #[inline(always)]
 fn join_words(s: &[u8], first: u64) -> Window
     requires loaded { first ≡ word_of (take 8 s.now) }
@@ -206,7 +210,7 @@ fn join_words(s: &[u8], first: u64) -> Window
     }
 }
 
-// A window that is not full of digits tells no zeros.
+// Returns a window that is not full of digits, and so reports no zeros.
 fn not_full(len: u32, number: u64) -> Window
     ensures { result ≡ record { len = len; zeroes = 0; number = number } }
 {
@@ -217,8 +221,9 @@ fn not_full(len: u32, number: u64) -> Window
     }
 }
 
-// The word of the bytes from `at` on, at most 8. Where the slice ends among them, its last 8 hold
-// them all, and are shifted twice: by 64 bits at once, where none is left, a word cannot be.
+// Returns the word of the bytes from index `at` on, at most 8. If `s` ends among them, they are
+// taken from its last 8 bytes by a shift. If no byte is left, that is a shift by 64 bits, which is
+// too far for a single shift of a word; so there are two.
 #[inline(always)]
 fn load_from(s: &[u8], at: usize) -> u64
     requires enough { 8 ≤ length s.now }
@@ -235,7 +240,8 @@ fn load_from(s: &[u8], at: usize) -> u64
     }
 }
 
-// The word of the first 8 bytes, which are there: so the way for fewer takes no room in a window.
+// Returns the word of the first 8 bytes. Callers have checked the length. Unlike `load_8`, this
+// function has no code for shorter slices, which would make each window larger.
 #[tactic(auto, using(crate::proofs::LoadedWords::word_of_first))]
 fn load_full(s: &[u8]) -> u64
     requires { 8 ≤ length s.now }
@@ -247,7 +253,7 @@ fn load_full(s: &[u8]) -> u64
     }
 }
 
-// What a word of 8 bytes tells: a byte that is missing is 0, and no digit.
+// Returns the window of a word of 8 bytes. In it a missing byte is 0, which is no digit.
 #[inline(always)]
 fn window_of_word(word: u64) -> Window
     ensures len { result.len ≡ run_len decimal_table (low_bytes 8 word) }
@@ -263,7 +269,8 @@ fn window_of_word(word: u64) -> Window
     }
 }
 
-// The number that the first `len` bytes write, which are all digits, or none.
+// Returns the number that the first `len` bytes of the word spell. They are all the digits that the
+// word starts with, and there may be none.
 fn number_in_word(word: u64, len: u32) -> u64
     requires few { len ≤ 8 }
     requires digits { len ≡ run_len decimal_table (low_bytes 8 word) }
@@ -273,8 +280,9 @@ fn number_in_word(word: u64, len: u32) -> u64
     if len == 0 { 0 } else { value_of(word, len) }
 }
 
-// The number that the first `len` bytes write, which are digits. It is what `process_8` answers: 48
-// is taken from each byte, as `digits_of` does it too, in place of a mask.
+// Returns the number that the first `len` bytes of the word spell; each of them is a digit, and
+// there is at least one. The result is that of `process_8`, but instead of a mask it subtracts 48
+// from each byte, as `digits_of` does too.
 fn value_of(word: u64, len: u32) -> u64
     requires some { 1 ≤ len }
     requires few { len ≤ 8 }
@@ -288,8 +296,9 @@ fn value_of(word: u64, len: u32) -> u64
     hundreds.wrapping_mul(0x2710_0000_0001) >> 32
 }
 
-// What `check_len_8` answers, in fewer steps. A byte's top bit marks that it is no digit: 70 added
-// to the byte, or 48 taken from it, sets that bit; of a digit neither does.
+// Returns what `check_len_8` returns, with fewer operations. The top bit of a byte marks that it is
+// no digit. Adding 70 to such a byte, or subtracting 48 from it, sets that bit; for a digit neither
+// does.
 fn digits_of(word: u64) -> u32
     ensures len { result ≡ run_len decimal_table (low_bytes 8 word) }
     ensures most { result ≤ 8 }
@@ -304,8 +313,8 @@ fn digits_of(word: u64) -> u32
     }
 }
 
-// How many zeros the word begins with: what `len_zeroes` answers, from the difference that
-// `digits_of` and `value_of` make too.
+// Returns how many zeros the word starts with, as `len_zeroes` does. It uses the same difference as
+// `digits_of` and `value_of`.
 fn zeroes_of(word: u64) -> u32
     ensures zeroes { result ≡ zeros decimal_table (low_bytes 8 word) }
     ensures most { result ≤ 8 }
@@ -313,7 +322,7 @@ fn zeroes_of(word: u64) -> u32
     word.wrapping_sub(ZEROS).trailing_zeros() / 8
 }
 
-// How many zeros two words begin with, one after the other.
+// Returns how many zeros two words start with, one after the other.
 fn zeroes_of_two(first: u64, next: u64) -> u32
     ensures { result ≡ zeros decimal_table (low_bytes 8 first ++ low_bytes 8 next) }
 {

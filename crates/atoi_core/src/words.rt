@@ -1,16 +1,17 @@
-//! Eight or sixteen bytes in one word, the first the lowest: a load, the digits or zeros that a
-//! word begins with, and the number that its bytes write.
+//! Eight or sixteen bytes in one word, of which the first is the lowest: loads, counts of the
+//! digits or zeros that a word starts with, and the number that its bytes spell.
 //!
-//! Of these functions a parse runs only the loads: `load_high` in `Words` and in `Lanes`, and
-//! `load_8` in `Lanes`. `Words` counts and sums in shorter ways of its own, and sums digits only. The
-//! other five kernels are for users of words. It uses no other module.
+//! A parse calls only the loads of this module: `Words` and `Lanes` call `load_high`, and `Lanes`
+//! calls `load_8`. `Words` has shorter counts and sums of its own, of which the sums need bytes
+//! that are digits. The other five functions are for callers that have words. It uses no other
+//! module.
 ghost use Rattle.std.specs.Prelude.{◌≡◌, ℕ, ◌-◌, ◌<◌, ◌≤◌, ◌++◌, length, take, drop, replicate};
 ghost use Rattle.atoi_core.specs.Digit.{decimal_table};
 ghost use Rattle.atoi_core.specs.Run.{run_len, zeros};
 ghost use Rattle.atoi_core.specs.Words.{low_bytes, word_of, low_value};
 
-/// The first 8 bytes of `s`, or all where there are fewer, as a word: the first byte is the lowest,
-/// and a byte that is missing is 0.
+/// Returns the first 8 bytes of `s`, or all if there are fewer, as a word. The first byte is the
+/// lowest, and a missing byte is 0.
 pub fn load_8(s: &[u8]) -> u64
     ensures { result ≡ word_of (take 8 s.now) }
 {
@@ -20,7 +21,7 @@ pub fn load_8(s: &[u8]) -> u64
     }
 }
 
-// The word of fewer than 8 bytes.
+// Returns the word of fewer than 8 bytes.
 fn load_part(s: &[u8]) -> u64
     requires { length s.now < 8 }
     ensures { result ≡ word_of s.now }
@@ -32,8 +33,9 @@ fn load_part(s: &[u8]) -> u64
     }
 }
 
-/// The word whose highest bytes are those of `s`, the last the highest; the bytes below them are 0.
-/// It is put together from parts of `s` that overlap, without a branch on how many bytes there are.
+/// Returns the word whose highest bytes are those of `s`, the last the highest; the bytes below
+/// them are 0. `s` has 1 to 8 bytes. The word is put together from overlapping parts of `s`,
+/// without a branch on their number.
 #[inline(always)]
 pub fn load_high(s: &[u8]) -> u64
     requires some { 0 < length s.now }
@@ -45,8 +47,8 @@ pub fn load_high(s: &[u8]) -> u64
     (front << (64 - 8 * s.len())) | (last_four(s) << 32) | (last << 56)
 }
 
-// The word of the first four bytes; 0 where there are fewer. This and the two below choose between
-// places, not between numbers: of that LLVM makes no branch.
+// Returns the word of the first four bytes, or 0 if there are fewer. This function and the two
+// after it choose between two arrays, not between two numbers: LLVM compiles that without a branch.
 fn first_four(s: &[u8]) -> u64
     ensures enough { 4 ≤ length s.now → result ≡ word_of (take 4 s.now) }
     ensures few { length s.now < 4 → result ≡ 0 }
@@ -58,7 +60,7 @@ fn first_four(s: &[u8]) -> u64
     u64::from(u32::from_le_bytes(*bytes))
 }
 
-// The word of the first two bytes; 0 where there are fewer.
+// Returns the word of the first two bytes, or 0 if there are fewer.
 fn first_two(s: &[u8]) -> u64
     ensures enough { 2 ≤ length s.now → result ≡ word_of (take 2 s.now) }
     ensures few { length s.now < 2 → result ≡ 0 }
@@ -70,7 +72,7 @@ fn first_two(s: &[u8]) -> u64
     u64::from(u16::from_le_bytes(*bytes))
 }
 
-// The word of the last four bytes; 0 where there are fewer.
+// Returns the word of the last four bytes, or 0 if there are fewer.
 fn last_four(s: &[u8]) -> u64
     ensures enough { 4 ≤ length s.now → result ≡ word_of (drop (length s.now - 4) s.now) }
     ensures few { length s.now < 4 → result ≡ 0 }
@@ -82,37 +84,41 @@ fn last_four(s: &[u8]) -> u64
     u64::from(u32::from_le_bytes(*bytes))
 }
 
-/// How many lowest bytes of `val` in a row are digits, the bytes 48 to 57: 0 to 8. It holds for
-/// every `val`, whatever stands above the first byte that is no digit.
+/// Returns how many of the lowest bytes of `val` are digits, which are the bytes 48 to 57, before
+/// the first that is none: 0 to 8. This holds for every `val`, whatever its bytes above that first
+/// one are.
 pub fn check_len_8(val: u64) -> u32
     ensures len { result ≡ run_len decimal_table (low_bytes 8 val) }
     ensures most { result ≤ 8 }
 {
-    // A digit has the upper half 3, and keeps it when six is added. Above a byte that carries the
-    // sum may be wrong, but such a byte is no digit.
+    // A digit has 3 as its upper half, and keeps it when six is added. Above a byte whose sum
+    // carries, the sums may be wrong, but such a byte is no digit.
     let high = (val.wrapping_add(0x0606_0606_0606_0606) & 0xF0F0_F0F0_F0F0_F0F0) >> 4;
     let low = val & 0xF0F0_F0F0_F0F0_F0F0;
     ((high | low) ^ 0x3333_3333_3333_3333).trailing_zeros() / 8
 }
 
-/// The number that the lowest `len` bytes of `val` write, the lowest byte in the highest place: the
-/// sum of each byte modulo 16 times its power of ten, whether it is a digit or not. `len` is 1 to
-/// 8; the bytes above it do not matter. The most is 166666665, where every bit is set.
+/// Returns the number that the lowest `len` bytes of `val` spell, the lowest byte as the most
+/// significant digit: the sum of each byte modulo 16, be it a digit or not, times its power of ten.
+/// `len` is 1 to 8; the bytes above these do not matter. The largest result is 166666665, when
+/// every bit is set.
 pub fn process_8(val: u64, len: u32) -> u64
     requires low { 1 ≤ len }
     requires high { len ≤ 8 }
     ensures sum { result ≡ low_value (low_bytes len val) }
     ensures most { result ≤ 166666665 }
 {
-    // Each product adds to a field of the word ten, a hundred, ten thousand times the field below.
+    // Each product adds to each field of the word ten, a hundred or ten thousand times the field
+    // below.
     let ones = (val << (64 - 8 * len)) & 0x0F0F_0F0F_0F0F_0F0F;
     let tens = (ones.wrapping_mul(0xA01) >> 8) & 0x00FF_00FF_00FF_00FF;
     let hundreds = (tens.wrapping_mul(0x64_0001) >> 16) & 0x0000_FFFF_0000_FFFF;
     hundreds.wrapping_mul(0x2710_0000_0001) >> 32
 }
 
-/// The same sum over the lowest `len` bytes of a word of sixteen. `len` is 1 to 16; the bytes above
-/// it do not matter. The most is 16666666666666665, where every bit is set.
+/// Returns the sum of `process_8` for the lowest `len` bytes of a word of sixteen. `len` is 1 to
+/// 16; the bytes above these do not matter. The largest result is 16666666666666665, when every bit
+/// is set.
 pub fn process_16(val: u128, len: u32) -> u64
     requires low { 1 ≤ len }
     requires high { len ≤ 16 }
@@ -127,7 +133,8 @@ pub fn process_16(val: u128, len: u32) -> u64
     (ten_thousands.wrapping_mul(0x5F5_E100_0000_0000_0000_0001) >> 64) as u64
 }
 
-/// How many lowest bytes of `val` in a row are zeros, the byte 48: 0 to 8.
+/// Returns how many of the lowest bytes of `val` are zeros, which is the byte 48, before the first
+/// that is none: 0 to 8.
 pub fn len_zeroes(val: u64) -> u32
     ensures zeroes { result ≡ zeros decimal_table (low_bytes 8 val) }
     ensures most { result ≤ 8 }
@@ -135,7 +142,8 @@ pub fn len_zeroes(val: u64) -> u32
     (val ^ 0x3030_3030_3030_3030).trailing_zeros() / 8
 }
 
-/// How many lowest bytes of `val` in a row are zeros, the byte 48: 0 to 16.
+/// Returns how many of the lowest bytes of `val` are zeros, which is the byte 48, before the first
+/// that is none: 0 to 16.
 pub fn len_zeroes_128(val: u128) -> u32
     ensures zeroes { result ≡ zeros decimal_table (low_bytes 16 val) }
     ensures most { result ≤ 16 }
