@@ -153,7 +153,7 @@ module _ (k : IntType) (extent : Extent) (is_negative skip : Bool) (body : List 
     short = not_above (limit_at (class_of k) extent skip (limit_of k)) (counting_digits decimal_table skip body) short;
   }
 
-  -- Each error says the truth about the body.
+  -- If a body is refused, what `Explains` says about its error holds.
   explained : (reason : Refusal) → refusal decimal_table (class_of k) (bound_of k is_negative) (limit_of k) extent skip body ≡ Some reason
       → Explains k extent is_negative skip body reason
   explained reason h =

@@ -75,8 +75,9 @@ product_shifted b t word pos =
     let e : word * (1 + t * b) ≡ word + word * t * b = omega arith in
     ap (λ x. x / b) e ∙ add-mul-div_right word (word * t) pos
 
--- If the two lowest fields are g and f, the lower of the spread fields is the pair's sum g + f * t.
--- The upper one takes the lowest part of u, and nothing is carried into the fields above.
+-- If the two lowest fields of a word are f and g, the lowest field of the spread word is the sum g
+-- + f * t of this pair. The next field takes the lowest field of u, the word above them, and
+-- nothing is carried into the fields above it.
 spread_pair : (b t u f g : ℕ) → f < b → spread b t ((u * b + g) * b + f) ≡ spread b t u * (b * b) + ((u % b + g * t) * b + (g + f * t))
 unfolding spread
 spread_pair b t u f g below =
