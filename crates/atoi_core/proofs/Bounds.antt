@@ -1,5 +1,5 @@
 -- Bounds and limits of the integer types, and how the answer for both signs follows from one parse
--- under the negative bound.
+-- under the negative bound, the magnitude of `T::MIN`.
 use Rattle.std.proofs.Common.{◌≡◌, ◌⊎◌, ℕ, ◌+◌, ◌-◌, ◌^◌, ◌<◌, ◌≤◌, Bool, true, false, cond, eqb, List, Option, Some, None, refl, arith, inl, inr, lt_of_le_of_lt, le-ltb, ltb-false, ◌*◌, ◌/◌, ltb, leb, not, ◌&&◌, length, drop, Ok, Err, sym, ap, ap₂, ◌∙◌, subst, lit<}
 use Rattle.std.proofs.Math.Nat.{pow-le-pow_right}
 use Rattle.std.proofs.lemmas.Bool.{cases_lt, lt-leb, lt-ltb, ltb-true, eqb-false}
@@ -105,7 +105,7 @@ below-64 bits signed minus h =
 pub bound_below-64 : (k : IntType) → IsSized k → (minus : Bool) → bound_of k minus < 10 ^ 64
 bound_below-64 k sized minus = rw sized.greatest (below-64 k.bits k.signed minus sized.bits)
 
--- A number below 10^limit has at most `limit` significant digits.
+-- A number below 10^limit has at most `limit` significant digits, those after its leading zeros.
 pub places-le : (table : Table) (s : List ℕ) (limit : ℕ) → value table (run table s) < 10 ^ limit → run_len table s - zeros table s ≤ limit
 places-le table s limit h =
     elim (cases_lt limit (run_len table s - zeros table s)) [

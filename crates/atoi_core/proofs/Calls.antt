@@ -1,5 +1,6 @@
--- Answers of calls: when a body is refused, which sign is consumed before it, and what the answer
--- is for an integer type. The proofs of the laws and of the core calls use these lemmas.
+-- Answers of calls: when a body (the slice after its sign) is refused, which sign is consumed
+-- before it, and what the answer is for an integer type. The proofs of the laws and of the core
+-- calls use these lemmas.
 use Rattle.std.proofs.Common.{◌≡◌, ℕ, ◌+◌, ◌-◌, ◌<◌, ◌≤◌, min, Bool, true, false, cond, eqb, ltb, List, [], length, drop, subst, Option, Some, None, option_map, refl, sym, ap, ◌∙◌, arith, ltb-false, le-ltb, ne_eqb, ◌&&◌, ◌∷◌, ◌++◌, take, Result, Ok, Err, ℤ, add-zero, eqb-true, eq-eqb}
 use Rattle.std.proofs.lemmas.Bool.{eqb-false, lt-ltb, and_right, not-false}
 use Rattle.std.proofs.Math.Seq.{drop-length}
@@ -196,7 +197,7 @@ module _ (table : Table) (class : Class) (bound limit : ℕ) (extent : Extent) (
       ∙ ap (first_of is_empty is_long is_over is_followed 0 1 2) (rank-invalid class _ _ body)
 
 -- ---- The sign at the start of a slice
--- What remains after it, and when the same sign is consumed again.
+-- These lemmas say what remains after it, and when the same sign is consumed again.
 
 -- A property of three signs, chosen by two tests, holds for the sign that is chosen.
 one_of_three : (a b : Bool) (x y z : Sign) (P : Sign → Type 0)
@@ -267,7 +268,8 @@ sign_again k (looked_for plus) (byte ∷ bytes) t h =
 sign_again k (given is_negative) s t h = refl
 
 -- ---- Calls and their results
--- The answer of a call in terms of the sign that it uses, and what follows from an `Ok`.
+-- These lemmas express the answer of a call with the sign that it uses, and say what follows from
+-- an `Ok`.
 
 -- Adding 0 to the count of an answer does not change it.
 pub with_more-zero : (r : Result (ℤ × ℕ) Refusal) → with_more 0 r ≡ r
@@ -394,7 +396,7 @@ ok_prefix k form skip s v count h =
     ∙ rw (h.number, h.counted) refl
 
 -- ---- Answers for an integer type
--- What the answers for a class say about bounds, limits and counts.
+-- These lemmas say how the answers are related to bounds, limits and counts.
 
 -- A prefix that is answered `Ok` has a value within the bound.
 pub prefix_in_bounds : (table : Table) (class : Class) (bound limit : ℕ) (skip : Bool) (s : List ℕ) (number len : ℕ)

@@ -193,7 +193,7 @@ errors_in_order k = record {
 }
 
 -- ---- Texts of numbers
--- The digits of a number of up to 128 bits in decimal, and of a byte in hexadecimal.
+-- Numbers of up to 128 bits are written in decimal, and bytes in hexadecimal.
 
 -- The text of a number of two or more digits is the text of the number without its last digit, and
 -- then that digit.

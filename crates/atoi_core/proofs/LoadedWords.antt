@@ -1,6 +1,7 @@
 -- Words that hold the bytes of a slice: how they are loaded, and how the digits, zeros and value
 -- counted in a word are those of the slice. The word engine and the loads of `words` are proved
--- with these lemmas.
+-- with these lemmas. The weighted sum of bytes (`low_value`) adds the lower half of each byte times
+-- its power of ten.
 use Rattle.std.proofs.Common.{◌≡◌, ℕ, zero, suc, ◌+◌, ◌-◌, ◌*◌, ◌/◌, ◌%◌, ◌^◌, ◌<◌, ◌≤◌, List, [], ◌∷◌, ◌++◌, length, take, drop, replicate, get_or, take-take, refl, sym, ap, ap₂, ◌∙◌, arith, ◌≢◌, min, Bool, true, false, cond, ◌==◌, if◌then◌else◌}
 use Rattle.std.proofs.Math.Nat.{mod-lt, div-one, zero-div, suc-mul, div-div-eq-div-mul, zero-add, suc-add, pow-suc}
 use Rattle.std.proofs.lemmas.List.{take_all, length-drop, get_or-drop, drop-drop, length-take, length-take-le}
@@ -227,7 +228,7 @@ first_passes : (t : Bool) (n m : ℕ) → suc n ≤ cond t (1 + m) 0 → (t ≡ 
 first_passes true n m h = (refl, omega arith)
 first_passes false n m h = absurd (omega arith)
 
--- The digit sum of leading digits is their value.
+-- The weighted sum of leading digits is their value.
 loaded_value : (n k : ℕ) (s : List ℕ) → ((i : ℕ) → get_or s i 0 < 256) → n ≤ run_len decimal_table (take k s)
     → low_value (digits_l 256 n (number_l 256 (take k s))) ≡ value decimal_table (take n (take k s))
 loaded_value zero k s fits digits = refl
@@ -244,7 +245,7 @@ loaded_value (suc n) (suc k) (b ∷ bs) fits digits =
     ∙ ap (λ v. digit_value decimal_table b * 10 ^ length (take n (take k bs)) + v) (loaded_value n k bs (λ i. fits (suc i)) passes.1)
 
 -- ---- Stated for words of eight bytes
--- With the definitions that the contracts of the kernels use.
+-- These lemmas use the definitions of the kernels' contracts.
 
 -- The loaded word begins with as many digits as the first eight bytes.
 pub loaded_run : (s : List ℕ) → ((i : ℕ) → get_or s i 0 < 256) → (word : ℕ) → word ≡ word_of (take 8 s)
@@ -268,7 +269,7 @@ loaded_bytes s fits word is enough = ap (low_bytes 8) is ∙ loaded_whole 8 s en
 pub fits_behind : (s : List ℕ) → ((i : ℕ) → get_or s i 0 < 256) → (i : ℕ) → get_or (drop 8 s) i 0 < 256
 fits_behind s fits i = rw get_or-drop (fits (8 + i))
 
--- The digit sum of all leading digits is their value.
+-- The weighted sum of all leading digits is their value.
 pub loaded_sum : (s : List ℕ) → ((i : ℕ) → get_or s i 0 < 256) → (word len : ℕ) → word ≡ word_of (take 8 s) → len ≡ run_len decimal_table (low_bytes 8 word)
     → low_value (low_bytes len word) ≡ value decimal_table (take len s)
 unfolding low_bytes word_of
@@ -277,7 +278,7 @@ loaded_sum s fits word len is len_is =
     let within : run_len decimal_table (take 8 s) ≡ min 8 (run_len decimal_table s) = prefix_len-take (is_digit decimal_table) 8 s in
     ap (λ w. low_value (low_bytes len w)) is ∙ loaded_value len 8 s fits (omega arith) ∙ ap (value decimal_table) (take-take len 8 s (omega arith))
 
--- The digit sum of no bytes is 0.
+-- The weighted sum of no bytes is 0.
 pub sum_of_none : (word len : ℕ) → len ≡ 0 → 0 ≡ low_value (low_bytes len word)
 unfolding low_bytes
 sum_of_none word len e = ap (λ l. low_value (low_bytes l word)) (sym e)
@@ -449,7 +450,7 @@ filled_digits s few fits word filling digits word_is filling_is digits_is =
     ∙ ap (run_len decimal_table) all
     ∙ filled_run m s
 
--- Zeros before the other bytes add nothing to the digit sum.
+-- Zeros before the other bytes add nothing to the weighted sum.
 low_value_filled : (z k : ℕ) (s : List ℕ) → low_value (digits_l 256 (z + k) (word_of (replicate z 48 ++ s))) ≡ low_value (digits_l 256 k (word_of s))
 unfolding word_of
 low_value_filled zero k s = ap (λ n. low_value (digits_l 256 n (number_l 256 s))) (zero-add k)
@@ -463,7 +464,8 @@ low_value_filled (suc z) k s =
     ∙ low_value_filled z k s
 
 -- The window of a slice of at most eight bytes follows from the filled word: its length is the
--- number of leading digits without the zeros that fill the word, and its number is the digit sum.
+-- number of leading digits without the zeros that fill the word, and its number is the weighted sum
+-- of these digits.
 pub filled_window : (s : List ℕ) → length s ≤ 8 → ((i : ℕ) → get_or s i 0 < 256) → (filled digits found number : ℕ)
     → filled ≡ word_of (replicate (8 - length s) 48 ++ s)
     → digits ≡ 8 - length s + run_len decimal_table s

@@ -1,5 +1,6 @@
--- Answers of the loops over windows, for each size of type. A loop skips windows of leading zeros
--- and ends with a last window at offset `at`; these lemmas say which answer that window decides.
+-- Answers of the loops over windows, for each size of type. A loop loads windows of 16 bytes, skips
+-- their leading zeros, and ends with a last window at offset `at`. These lemmas say which answer
+-- that window decides.
 use Rattle.std.proofs.Common.{◌≡◌, ℕ, ◌+◌, ◌*◌, ◌^◌, ◌<◌, ◌≤◌, Bool, true, List, length, take, drop, Some, Ok, Err, refl, sym, ap₂, ◌∙◌, lit<, arith, ◌≢◌, ◌==◌, false, not, None, Result, ap, if◌then◌else◌, ◌-◌, ◌/◌, min, nat_lt, ltb-true, ◌&&◌, inl, inr, ◌⊎◌, cond, eqb, ltb, Option, le-ltb, ne_eqb}
 use Rattle.std.proofs.lemmas.Bool.{eq-eqb, cases_lt, lt-ltb}
 use Rattle.std.proofs.lemmas.List.{length-drop, take_rest}
@@ -17,10 +18,10 @@ use Rattle.std.proofs.Math.Nat.{pow-le-pow_right}
 use Rattle.atoi_core.specs.Window.{window_of}
 
 -- ---- Wide types
--- The answers for 64 and 128 bits, from the windows after the skipped zeros.
+-- The windows after the skipped zeros decide the answers for 64 and 128 bits.
 
--- What the two wide classes have in common: the limit is passed in, skipped zeros do not count
--- towards it, and the slice of an overflow begins after them.
+-- What the two wide classes have in common: the limit is passed in and applies to the significant
+-- digits, and the slice of an overflow begins with these.
 pub record IsWide (class : Class) : Type 0 where
   pub rule : (extent : Extent) (skip : Bool) (limit digits skipped : ℕ)
       → rule_of class extent skip limit digits skipped ≡ record { limit = Some limit; cap = cap class; dropped = skipped }
@@ -148,7 +149,8 @@ module _ (t : Table) (class : Class) (bound limit : ℕ) (skip : Bool) (s : List
       ∙ ap (whole_from_prefix (invalid class) s) front ∙ sym (whole_is t class bound limit skip s wide)
 
 -- ---- Narrow types
--- The answers to a prefix of a type of up to 32 bits, from the last window after the skipped zeros.
+-- The last window after the skipped zeros decides the answer to a prefix of a type of up to 32
+-- bits.
 
 -- The slice of an overflow leaves out exactly the zeros before the last window.
 dropped_is : (t : Table) (skip : Bool) (limit : ℕ) (s : List ℕ) (at before now : ℕ) (w : Window) →

@@ -1,5 +1,6 @@
--- Runs of digits: how long they are, how they change when a slice is cut, and the values that they
--- spell. Nearly all other lemmas of this crate rest on these.
+-- The run of a slice, which is its longest prefix of digits: how long it is, how it changes when
+-- the slice is cut, and which value its digits spell. Nearly all other lemmas of this crate rest on
+-- these.
 use Rattle.std.proofs.Common.{◌≡◌, ℕ, zero, suc, ◌+◌, ◌≤◌, min, Bool, true, false, cond, List, [], ◌∷◌, take, drop, arith, ◌&&◌, ◌==◌, ◌*◌, ◌^◌, ◌<◌, ◌++◌, length, refl, ap, ◌∙◌, ◌-◌, replicate, All, IsTrue, subst, Option, lit<, lit≤, get_or, Some, None, is_some, unwrap_or, sym, Ok, Err, if◌then◌else◌, nat_lt, not}
 use Rattle.std.specs.List.{prefix_len}
 use Rattle.atoi_core.specs.Digit.{Table, is_digit, digit_value, IsBelowTen, is_zero, decimal_table}
@@ -45,7 +46,7 @@ zeros-le t (b ∷ bs) =
     ]
 
 -- ---- Values of digits
--- The value that digits spell, when they are cut or begin with zeros.
+-- These lemmas say what the value is when digits are cut or begin with zeros.
 
 -- The value of `xs ++ ys`: each digit of `ys` multiplies the value of `xs` by ten.
 pub value-append : (t : Table) (xs ys : List ℕ) → value t (xs ++ ys) ≡ value t xs * 10 ^ length ys + value t ys
@@ -115,7 +116,7 @@ value-least t n (b ∷ bs) =
     ]
 
 -- ---- Runs, zeros and values of parts and sums of slices
--- What `take`, `++` and added leading zeros do to them.
+-- These lemmas say what `take`, `++` and added leading zeros do to them.
 
 -- If n copies of a passing element are put before a list, its passing prefix becomes longer by n.
 pub prefix_len-replicate_append : {X : Type 0} (p : X → Bool) (x : X) → p x ≡ true → (n : ℕ) (xs : List X)
@@ -141,7 +142,7 @@ module _ (table : Table) where
   pub run_len-take : (n : ℕ) (s : List ℕ) → n ≤ run_len table s → run_len table (take n s) ≡ n
   run_len-take n s h = omega (arith, prefix_len-take (is_digit table) n s)
 
-  -- A slice that is cut to n bytes keeps at most n of its leading zeros.
+  -- A slice that is cut to n bytes keeps its leading zeros, but at most n of them.
   pub zeros-take : (n : ℕ) (s : List ℕ) → zeros table (take n s) ≡ min n (zeros table s)
   zeros-take n s = prefix_len-take (is_zero table) n s
 
@@ -177,7 +178,7 @@ module _ (table : Table) where
   value-replicate z h (suc n) s = rw (value_of_zero z h) (omega (arith, value-replicate z h n s))
 
 -- ---- Digit by digit
--- How the run and its value grow from one byte to the next.
+-- These lemmas say how the run and its value grow from one byte to the next.
 
 -- One more digit multiplies the value by ten and adds the digit value.
 pub value_more : (t : Table) (s : List ℕ) (i w : ℕ) → i < length s → t (get_or s i 0) ≡ Some w → value t (take (i + 1) s) ≡ value t (take i s) * 10 + w
@@ -231,7 +232,7 @@ digit_value_of t small byte w digit =
     subst P (ap (λ (o : Option ℕ). unwrap_or o 0) digit) (small byte)
 
 -- ---- Answers of narrow whole parses
--- Each case that the loop over single bytes distinguishes.
+-- There is a lemma for each case that the loop over single bytes distinguishes.
 
 -- The answer to a narrow whole slice, written with the length n of its run and the value of the
 -- run.

@@ -1,7 +1,7 @@
 -- When two answers have the same outcome: both are `Ok` with the same value, or both are errors of
--- the same variant. The lemmas prove two laws: bytes after the run do not change the outcome of a
--- prefix parse (`RestChangesNothing`), and added leading zeros do not change the outcome of a parse
--- that skips zeros (`ZerosChangeNothing`).
+-- the same variant. The lemmas prove two laws: bytes after the run (the digits that a body begins
+-- with) do not change the outcome of a prefix parse (`RestChangesNothing`), and added leading zeros
+-- do not change the outcome of a parse that skips zeros (`ZerosChangeNothing`).
 use Rattle.std.proofs.Common.{◌≡◌, ℕ, ◌+◌, ◌-◌, ◌<◌, Bool, true, not, if◌then◌else◌, eqb, ltb, List, [], ◌++◌, length, take, replicate, Option, Some, None, Result, ℤ, option_map, refl, sym, ap, ◌∙◌, subst₂, arith, take_at, drop_at, length-append, ne_eqb}
 use Rattle.std.proofs.lemmas.List.{length-replicate}
 use Rattle.std.proofs.lemmas.Bool.Decides.{nat_tests}

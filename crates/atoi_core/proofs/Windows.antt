@@ -1,5 +1,6 @@
 -- Windows: what one load reports about its slice, how several loads are put together, and the loop
--- that skips leading zeros window by window.
+-- that skips leading zeros window by window. A window describes the first 8 or 16 bytes of a slice:
+-- the length and the value of their run, and their leading zeros if all of them are digits.
 use Rattle.std.proofs.Common.{◌≡◌, ◌⊎◌, ℕ, ◌+◌, ◌-◌, ◌*◌, ◌^◌, ◌<◌, ◌≤◌, min, Bool, true, false, cond, eqb, ltb, List, length, take, drop, Some, None, Ok, Err, refl, sym, ap, ◌∙◌, subst, inl, inr, arith, ne_eqb, le-ltb, lit<, ◌==◌, ◌/◌, ◌||◌, nat_lt, if◌then◌else◌}
 use Rattle.std.proofs.Math.Nat.{pow-le-pow_right}
 use Rattle.std.proofs.lemmas.Bool.{cases_lt, eqb-true, eqb-false, lt-ltb, false≢true}
@@ -301,7 +302,7 @@ Shows-join_two t s front middle back first full second more third =
     joined t 32 8 s _ _ _ _ _ (joined t 16 16 s _ _ _ _ _ (Shows-full t 16 s front first full) (Shows-full t 16 (drop 16 s) middle second more)) third.reading
 
 -- ---- The loop that skips zeros
--- How far it gets, and how many windows it loads.
+-- These lemmas say how far it gets, and how many windows it loads.
 
 -- The state of the loop before it loads a window at offset `at`. Only skipped zeros come before
 -- `at`. So far one window was loaded for each 16 of them, and one more if the last window began
@@ -456,7 +457,7 @@ Skipped-one t false s at before now last so one counted = record {
   at_least_skipping = λ on. absurd (cc on);
 }
 
--- After the first window, the loop may begin after the zeros that it reports.
+-- If the first window reports zeros, `Skipping` holds after these zeros.
 pub Skipping-told : (t : Table) → IsBelowTen t → (s : List ℕ) (n zeroes : ℕ) → zeroes ≡ (window_of t 16 s).zeroes → 0 < zeroes →
     Skipping t true s zeroes n (n + 1)
 Skipping-told t below s n zeroes e some =

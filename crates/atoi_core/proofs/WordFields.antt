@@ -1,6 +1,7 @@
--- Words seen as numbers: the fields that they consist of, how the kernels sum decimal digits in
+-- Words seen as numbers: the fields that they consist of, how the kernels compute decimal values in
 -- them, and what bitwise operators do to each field. A field is a group of neighbouring bits, such
--- as a byte.
+-- as a byte. The weighted sum of bytes (`low_value`) adds the lower half of each byte times its
+-- power of ten. For digits this is their value.
 use Rattle.std.proofs.Common.{◌≡◌, ℕ, zero, suc, ◌+◌, ◌-◌, ◌*◌, ◌/◌, ◌%◌, ◌^◌, ◌<◌, ◌≤◌, List, [], ◌∷◌, length, refl, sym, ap, ap₂, ◌∙◌, arith, lit<, map, inl, inr, cond, ◌==◌, mod-lt}
 use Rattle.std.proofs.Math.Nat.{add-mul-div_right, div-div-eq-div-mul, mul_comm, zero-mod, suc-mul, mul-le-mul_right, mul_assoc, pow-zero, pow-suc, suc-add, zero-add, mul-one, mod-eq_of_lt, pow-le-pow_right, div-one, add_comm, eq-zero-or-pos}
 use Rattle.std.proofs.Math.Pow.{mod-mod-pow, ones_lt, pow_mono}
@@ -13,7 +14,7 @@ use Rattle.std.proofs.lemmas.Bool.{eq-eqb, ne_eqb}
 use Rattle.std.specs.List.{prefix_len}
 use Rattle.std.specs.Int.Count.{count_trailing_zeros, under}
 
--- ---- One round of a digit sum
+-- ---- One round of a weighted sum
 -- A round joins neighbouring digits: it masks the lower half of each field, multiplies the word by
 -- 1 + t * 2^(h + h), wraps it, and shifts it right by one field of h + h bits.
 
@@ -221,7 +222,7 @@ digits_cut g (suc k) word =
     (ap (λ x. x % b) cut ∙ mod-mul-add (word / b % 2 ^ (k * g)) b (word % b) small)
     (ap (λ x. digits_l b k (x / b)) cut ∙ ap (digits_l b k) (div-mul-add (word / b % 2 ^ (k * g)) b (word % b) small) ∙ digits_cut g k (word / b))
 
--- Bytes of 0 below the others add nothing to their digit sum.
+-- Bytes of 0 below the others add nothing to their weighted sum.
 pub low_value_shifted : (z k word : ℕ) → low_value (digits_l 256 (z + k) (word * 2 ^ (z * 8))) ≡ low_value (digits_l 256 k word)
 low_value_shifted zero k word = ap₂ (λ c x. low_value (digits_l 256 c x)) (zero-add k) (mul-one word)
 low_value_shifted (suc z) k word =
@@ -234,7 +235,7 @@ low_value_shifted (suc z) k word =
     ∙ omega arith
     ∙ low_value_shifted z k word
 
--- The digit sum of bytes is the number that their lower halves spell in base ten.
+-- The weighted sum of bytes is the number that their lower halves spell in base ten.
 low_value_of_lows : (k word : ℕ) → number_in 10 (lows 4 k word) ≡ low_value (digits_l 256 k word)
 low_value_of_lows zero word = refl
 low_value_of_lows (suc k) word =
@@ -243,8 +244,8 @@ low_value_of_lows (suc k) word =
     ap₂ (λ x n. x * 10 ^ n + number_in 10 (lows 4 k (word / 256))) half places
     ∙ ap (λ y. (word % 256 % 16) * 10 ^ length (digits_l 256 k (word / 256)) + y) (low_value_of_lows k (word / 256))
 
--- If a word is shifted left so far that its lowest `len` bytes become its highest, the digit sum of
--- the whole word is that of these bytes.
+-- If a word is shifted left so far that its lowest `len` bytes become its highest, the weighted sum
+-- of the whole word is that of these bytes.
 pub shifted_sum : (k count len word : ℕ) → k ≡ (count - len) * 8 → len ≤ count
     → number_in 10 (lows 4 count (word * 2 ^ k % 2 ^ (count * 8))) ≡ low_value (low_bytes len word)
 unfolding low_bytes
@@ -255,14 +256,14 @@ shifted_sum k count len word e le =
     ∙ ap₂ (λ n x. low_value (digits_l 256 n (word * 2 ^ x))) (sym all) e
     ∙ low_value_shifted (count - len) len word
 
--- ---- Digit sums of eight and of sixteen bytes
+-- ---- Weighted sums of eight and of sixteen bytes
 -- Eight bytes take three rounds, sixteen take four.
 
 -- If a word has one field left, its lower half is the number itself.
 one_field : (base half word : ℕ) → word < 2 ^ half → number_in base (lows half 1 word) ≡ word
 one_field base half word below = omega (arith, mod-eq_of_lt below, ap (λ p. word % 2 ^ half * p) (pow-zero base))
 
--- Three rounds sum the digits of eight bytes.
+-- Three rounds compute the weighted sum of eight bytes.
 pub sum_8 : (val len : ℕ) → len ≤ 8
     → let ones = val * 2 ^ (64 - 8 * len) % 2 ^ 64 in
     let tens = bit_and ones 0x0F0F_0F0F_0F0F_0F0F * 0xA01 % 2 ^ 64 / 2 ^ 8 in
@@ -278,7 +279,7 @@ sum_8 val len most =
     ∙ round_number 4 10 (lit< tt) 4 ones
     ∙ shifted_sum (64 - 8 * len) 8 len val (omega arith) most
 
--- Four rounds sum the digits of sixteen bytes.
+-- Four rounds compute the weighted sum of sixteen bytes.
 pub sum_16 : (val len : ℕ) → len ≤ 16
     → let ones = val * 2 ^ (128 - 8 * len) % 2 ^ 128 in
     let tens = bit_and ones 0x0F0F_0F0F_0F0F_0F0F_0F0F_0F0F_0F0F_0F0F * 0xA01 % 2 ^ 128 / 2 ^ 8 in
@@ -297,8 +298,8 @@ sum_16 val len most =
     ∙ round_number 4 10 (lit< tt) 8 ones
     ∙ shifted_sum (128 - 8 * len) 16 len val (omega arith) most
 
--- The lower half of a byte is at most 15. So the digit sum of n bytes is at most 15 for each power
--- of ten below 10^n.
+-- The lower half of a byte is at most 15. So the weighted sum of n bytes is at most 15 times 11..1,
+-- the number that n ones spell.
 places_most : (bytes : List ℕ) → 9 * low_value bytes + 15 ≤ 15 * 10 ^ length bytes
 places_most [] = omega arith
 places_most (byte ∷ bytes) =
@@ -306,7 +307,7 @@ places_most (byte ∷ bytes) =
     let power : 10 ^ suc (length bytes) ≡ 10 ^ length bytes * 10 = pow-suc 10 (length bytes) in
     omega (arith, places_most bytes)
 
--- This bounds the digit sum of the lowest bytes by how many there can be.
+-- This bounds the weighted sum of the lowest bytes by how many there can be.
 pub sum_most : (count len val : ℕ) → len ≤ count → 9 * low_value (low_bytes len val) + 15 ≤ 15 * 10 ^ count
 unfolding low_bytes
 sum_most count len val most =
@@ -316,7 +317,7 @@ sum_most count len val most =
     omega (arith, places_most (digits_l 256 len val))
 
 -- ---- Bitwise operators on fields
--- Including operators with a word that repeats one byte.
+-- Some of the lemmas are about a word that repeats one byte.
 
 -- The word whose lowest k bytes are all b.
 abbrev pub repeated : ℕ → ℕ → ℕ

@@ -1,5 +1,6 @@
--- Sums of the decimal digits in the lanes of a vector, and in half a vector for slices of fewer
--- than 8 bytes. The lemmas show that `sum_lanes` and `read_short` return the value of the run.
+-- The number that the decimal digits in the lanes of a vector spell, and in half a vector for
+-- slices of fewer than 8 bytes. The lemmas show that `sum_lanes` and `read_short` return the value
+-- of the run, the digits that the slice begins with.
 use Rattle.std.proofs.Common.{◌≡◌, ℕ, zero, suc, ◌+◌, ◌-◌, ◌*◌, ◌%◌, ◌^◌, ◌<◌, ◌≤◌, true, false, cond, List, [], ◌∷◌, ◌++◌, map, length, take, replicate, get_or, refl, sym, ap, ap₂, subst, ◌∙◌, arith, ◌/◌, Fits, w16, Bool, drop, w64}
 use Rattle.std.proofs.Math.Arith.{digits_lt}
 use Rattle.std.proofs.Math.Nat.{pow-zero, pow-suc, mul-le-mul_left, mul-le-mul_right, mod-eq_of_lt, div-add-mod, div-lt_iff_lt-mul}
@@ -146,7 +147,8 @@ digits_value f makes (suc n) (x ∷ xs) h =
       | false ↦ λ is none. absurd (omega arith)
     ]) refl h
 
--- If `n` lanes hold digits, subtracting the byte `0` from each gives digits that spell their value.
+-- If the first `n` lanes hold digits, subtracting the byte `0` from each gives digits that spell
+-- their value.
 pub values_sum : (n : ℕ) (v : List ℕ) → length v ≡ 16 → n ≤ run_len decimal_table v
     → value itself (take n (zip2 (λ x y. (x + (2 ^ 8 - y)) % 2 ^ 8) v (replicate 16 48))) ≡ value decimal_table (take n v)
 values_sum n v long digits =
@@ -221,7 +223,7 @@ step-joins h t room x y a b =
     let product : (x * t) % (2 ^ h * 2 ^ h) ≡ x * t = mod-eq_of_lt (omega arith) in
     ap₂ (λ l u. ((l * t) % (2 ^ h * 2 ^ h) + u) % (2 ^ h * 2 ^ h)) low high ∙ ap (λ l. (l + y) % (2 ^ h * 2 ^ h)) product ∙ mod-eq_of_lt (omega arith)
 
--- One level of the sum joins all neighbours in a vector.
+-- One level of the computation joins all neighbours in a vector.
 level : (h t n m : ℕ) → t * t ≤ 2 ^ h → (2 ^ h) ^ (m + m) ≡ 256 ^ n → (xs : List ℕ) → length xs ≡ m + m → Each1 (λ x. x < t) xs
     → map (step h t) (digits_l (2 ^ h * 2 ^ h) m (number_l 256 (digits_l 256 n (number_l (2 ^ h) xs)))) ≡ paired t xs
 level h t n m room bytes xs long below =
@@ -229,8 +231,9 @@ level h t n m room bytes xs long below =
     ap (λ k. map (step h t) (digits_l (2 ^ h * 2 ^ h) m k)) (recast (2 ^ h) n xs (ap (λ k. (2 ^ h) ^ k) long ∙ bytes) (Each1-weaker (λ x. x < t) (λ x. x < 2 ^ h) (λ x lt. omega arith) xs below))
     ∙ joined (2 ^ h) t (step h t) le (step-joins h t room) m xs long below
 
--- The weights for bytes of lanes that hold a pair of digits in the upper byte: the pairs count 100
--- and 1, the lower bytes count 0. `four_each` is the number of these bytes.
+-- The weights for bytes of lanes that hold a pair of digits in the upper byte: two neighbouring
+-- pairs have the weights 100 and 1, and the lower bytes have the weight 0. `four_each` is the
+-- number of these bytes.
 abbrev hundreds : ℕ → List ℕ
 hundreds zero = []
 hundreds (suc m) = 0 ∷ 100 ∷ 0 ∷ 1 ∷ hundreds m

@@ -1,5 +1,6 @@
--- Windows of 16 and of 32 bytes, read in lanes, and the answers that they decide. The lemmas prove
--- the engine `Lanes` and its parses of wide integers.
+-- Windows of 16 and of 32 bytes, read in lanes, and the answers that they decide. A window
+-- describes the run, the longest prefix of digits, of these bytes. The lemmas prove the engine
+-- `Lanes` and its parses of wide integers.
 use Rattle.std.proofs.Common.{◌≡◌, ℕ, zero, suc, ◌+◌, ◌<◌, ◌==◌, Bool, true, false, cond, List, [], ◌∷◌, ◌++◌, length, take, replicate, refl, sym, ap, ap₂, ◌∙◌, arith, if◌then◌else◌, ◌-◌, ◌≤◌, drop, ◌⊎◌, ◌*◌, ◌/◌, min, inl, inr, ◌^◌, eqb, subst, lit<}
 use Rattle.std.specs.List.{prefix_len}
 use Rattle.std.proofs.lemmas.List.{take_all, length-take, take-append-le, drop-drop, length-drop, take-replicate, take_rest}
@@ -51,11 +52,11 @@ lanes_tell size s =
     ap₂ (λ n z. window n z (run decimal_table (padded_start 16 s))) len leading
     ∙ ap (window (run_len decimal_table (take 16 s)) (zeros decimal_table (take 16 s))) front
 
--- 16 lanes with the first 16 bytes give the window of 16 bytes.
+-- 16 lanes that hold the first 16 bytes give the window of 16 bytes.
 pub window-of_lanes : (s : List ℕ) → lane_window 16 (padded_start 16 s) ≡ window_of decimal_table 16 s
 window-of_lanes s = lanes_tell 16 s
 
--- The same lanes with the first 8 bytes give the window of 8 bytes.
+-- 16 lanes that hold the first 8 bytes give the window of 8 bytes.
 pub window-of_half_the_lanes : (s : List ℕ) → lane_window 8 (padded_start 16 (take 8 s)) ≡ window_of decimal_table 8 s
 window-of_half_the_lanes s = lanes_tell 8 (take 8 s) ∙ ap (lane_window 8) (take_all 16 (take 8 s) (omega (arith, length-take 8 s)))
 

@@ -18,7 +18,7 @@ use mir.Val.{zeroes}
 use Rattle.std.proofs.lemmas.Nat.{mod-mul-add, div-mul-add, pow-add}
 
 -- ---- Masks
--- From the mask of a comparison to the number of leading lanes that pass a test.
+-- The mask of a comparison gives the number of leading lanes that pass a test.
 
 -- A 0 below the bits of a number adds one trailing zero bit.
 trailing-even : (k n : ℕ) → count_trailing_zeros (suc k) (2 * n) ≡ suc (count_trailing_zeros k n)

@@ -1,5 +1,5 @@
--- Subtracting 48 from each digit gives the same bytes as masking their lower halves, and three
--- rounds sum these.
+-- Subtracting 48 from each digit gives the same bytes as masking their lower halves. Three rounds
+-- compute their weighted sum, which is their value.
 use Rattle.std.proofs.Common.{ℕ, ◌*◌, ◌/◌, ◌%◌, ◌^◌, ap, ◌∙◌, arith}
 use Rattle.std.specs.Int.Bits.{bit_and}
 use Rattle.atoi_core.proofs.WordFields.{sum_8, sum_most}

@@ -1,4 +1,5 @@
--- Three rounds sum the digits of the bytes that the shift leaves, and their number bounds the sum.
+-- Three rounds compute the weighted sum of the bytes that the shift leaves, and their number bounds
+-- it.
 use Rattle.std.proofs.Common.{arith}
 use Rattle.atoi_core.proofs.WordFields.{sum_8, sum_most}
 use Rattle.atoi_core.proofs.words.process_8.Goals as goal

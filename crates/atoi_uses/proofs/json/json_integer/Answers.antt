@@ -1,5 +1,5 @@
--- A text begins with at most one JSON integer. If the number found has a needless zero, it begins
--- with none.
+-- A text begins with at most one JSON integer. If the number found has a needless zero, the text
+-- begins with none.
 use Rattle.std.proofs.Common.{◌≡◌, ℕ, Bool, true, false, List, ◌++◌, length, take, drop, ℤ, refl, ap, ◌∙◌, sym, rules, w64}
 use Rattle.std.proofs.Math.Seq.{take-append_seam}
 use Rattle.std.proofs.lemmas.Bool.{both_ways}
