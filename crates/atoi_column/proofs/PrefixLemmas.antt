@@ -29,8 +29,8 @@ front-stops p b ys fails xs =
 pub length-before_first : (p : ℕ → Bool) (xs : List ℕ) → length (before_first p xs) ≡ position_or_len p xs
 length-before_first p xs = length-take-le (position_or_len p xs) xs (prefix_len-le-length (λ x. not (p x)) xs)
 
--- The sign that is consumed from a slice with a first byte, given whether that is a plus or a
--- minus.
+-- The sign that is consumed from a slice with the first byte `x`, if it is known whether this is a
+-- plus or a minus.
 abbrev sign_by : (is_plus is_minus : Bool) → ℕ → List ℕ → Sign
 sign_by is_plus is_minus x xs =
     if is_plus then record { minus = false; taken = 1; body = xs }

@@ -17,7 +17,7 @@ use Rattle.atoi_core.specs.Answer.{whole_answer, prefix_answer}
 use Rattle.std.proofs.lemmas.List.{length-take-le}
 use Rattle.std.proofs.lemmas.List.Sums.{prefix_len-le-length}
 
--- ---- A number in range never has too many digits
+-- ---- A number in range never has too many significant digits
 
 -- A whole slice with at most as many digits as the limit is not too long, whatever the class.
 pub short_enough : (class : Class) (skip : Bool) (limit count : ℕ) → count ≤ limit → is_above (limit_at class whole skip limit) count ≡ false
@@ -150,7 +150,8 @@ leading_zeros t below digits number has s is =
     ]
 
 module _ (k : IntType) (skip : Bool) (limit digits skipped : ℕ) where
-  -- How many zeros the slice of an overflow leaves out for a whole slice.
+  -- For a whole slice, an overflow leaves out the skipped zeros if the type has more than 32 bits,
+  -- and otherwise none.
   pub dropped_whole : (rule_of (class_of k) whole skip limit digits skipped).dropped ≡ cond (leb k.bits 32) 0 skipped
   dropped_whole = wide (leb k.bits 32) (eqb k.bits 64)
     where
@@ -159,7 +160,9 @@ module _ (k : IntType) (skip : Bool) (limit digits skipped : ℕ) where
       wide false true = refl
       wide false false = refl
 
-  -- How many zeros the slice of an overflow leaves out for a prefix.
+  -- For a prefix, an overflow leaves out the skipped zeros too. But if the type has at most 32 bits
+  -- and the digits fill no more windows of 16 bytes than the zeros do, it leaves out only the zeros
+  -- that fill whole windows.
   pub dropped_prefix : (skip ≡ false → skipped ≡ 0)
       → (rule_of (class_of k) prefix skip limit digits skipped).dropped
       ≡ cond (leb k.bits 32 && not (ltb (skipped / 16) (digits / 16))) (16 * (skipped / 16)) skipped

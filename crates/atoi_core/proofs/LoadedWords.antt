@@ -193,7 +193,7 @@ below_four (a ∷ b ∷ c ∷ d ∷ rest) two first_four last_four some few fits
 
 -- ---- Digits and zeros of a loaded word
 
--- The lowest byte of a word, and the word of the bytes above it.
+-- Dividing a word by 256 separates its lowest byte from the word of the bytes above it.
 low_and_high : (b word : ℕ) → b < 256 → ((b + 256 * word) % 256 ≡ b) × ((b + 256 * word) / 256 ≡ word)
 low_and_high b word small = (omega arith, omega arith)
 

@@ -231,8 +231,8 @@ narrow_ok t bound limit skip s at before now w so high few some within =
     record { some = omega arith; short = not_too_long t skip limit s few; in_range = omega arith; ends = refl } in
     rw (refusal-none t narrow bound limit prefix skip s accepted, number, len) refl
 
--- Both answers together: if there is a digit, and at most 16 digits unless zeros are skipped, the
--- number of the last window decides between `Ok` and `Overflow`.
+-- If there is a digit, and at most 16 digits unless zeros are skipped, the number of the last
+-- window decides between `Ok` and `Overflow`.
 pub narrow_told : (t : Table) (bound limit : ℕ) (skip : Bool) (s : List ℕ) (at before now : ℕ) (w : Window) →
     Skipped t skip s at before now w → bound ≤ 4294967295 → (skip ≡ false → run_len t s ≤ 16) → 0 < at + w.len →
     (if nat_lt bound w.number then Err (overflow (drop at s)) else Ok (w.number, at + w.len)) ≡ prefix_magnitude t narrow bound limit skip s
@@ -278,8 +278,7 @@ last_of_three s rest false false v n =
     elim (n == length s) as (λ d. unless_refused (if not d then Some (invalid64 v n s) else None) v ≡ (if d then Ok v else Err (invalid64 v n s)))
     [ true ↦ refl | false ↦ refl ]
 
--- The answer to a narrow prefix with zeros skipped, written with the length and the value of the
--- run.
+-- The answer to a narrow prefix with zeros skipped depends on the length and the value of the run.
 narrow_front_is : (t : Table) (bound limit : ℕ) (s : List ℕ)
     → prefix_magnitude t narrow bound limit true s
     ≡ unless_refused (if run_len t s == 0 then Some empty
@@ -360,7 +359,7 @@ short_run t class bound limit extent skip s room few below =
     ∙ ap (λ (x : Option Refusal). cond (eqb digits 0) (Some empty) x)
     (whole_slice class extent skip bound limit digits (skipped_zeros t skip s) number s some_left room few within below)
 
--- Two tests that choose between errors and a value, written as a refusal or none.
+-- Two tests that choose between errors and a value can be written as a refusal or none.
 picked : {A : Type 0} (a b : Bool) (p q : Refusal) (v : A) → cond a (Err p) (cond b (Err q) (Ok v)) ≡ unless_refused (cond a (Some p) (cond b (Some q) None)) v
 picked true b p q v = refl
 picked false true p q v = refl

@@ -48,7 +48,8 @@ zeros-le t (b ∷ bs) =
 -- ---- Values of digits
 -- These lemmas say what the value is when digits are cut or begin with zeros.
 
--- The value of `xs ++ ys`: each digit of `ys` multiplies the value of `xs` by ten.
+-- To append `ys` to `xs`, the value of `xs` is multiplied by ten for each digit of `ys`, and the
+-- value of `ys` is added.
 pub value-append : (t : Table) (xs ys : List ℕ) → value t (xs ++ ys) ≡ value t xs * 10 ^ length ys + value t ys
 value-append t [] ys = omega arith
 value-append t (x ∷ xs) ys =
@@ -65,7 +66,7 @@ value-below t below (x ∷ xs) =
     mul-le-mul_right (10 ^ length xs) (omega (arith, below x)) in
     rw pow-succ' (omega (arith, value-below t below xs))
 
--- The value of the first n + k bytes, from the value of the first n and that of the k after them.
+-- The value of the first n + k bytes consists of that of the first n and that of the k after them.
 pub value-take-add : (t : Table) (n k : ℕ) (s : List ℕ) → n + k ≤ length s →
     value t (take (n + k) s) ≡ value t (take n s) * 10 ^ k + value t (take k (drop n s))
 value-take-add t n k s h =
@@ -234,8 +235,8 @@ digit_value_of t small byte w digit =
 -- ---- Answers of narrow whole parses
 -- There is a lemma for each case that the loop over single bytes distinguishes.
 
--- The answer to a narrow whole slice, written with the length n of its run and the value of the
--- run.
+-- The answer to a narrow whole slice depends on the length n of its run and on the run's value
+-- only.
 pub narrow_whole_is : (t : Table) (bound limit : ℕ) (skip : Bool) (s : List ℕ) (n number : ℕ) → run_len t s ≡ n → value t (take n s) ≡ number
     → whole_magnitude t narrow bound limit skip s ≡ unless_refused (if n == 0 then Some empty
     else (if nat_lt bound number then Some (overflow s)

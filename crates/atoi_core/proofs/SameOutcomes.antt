@@ -176,7 +176,7 @@ sign_of_padded k form s count some =
     let longer = run_len-padded count (sign_in k form s).body in
     sign_again k form s (padded count (sign_in k form s).body) (omega arith)
 
--- Adding zeros after the sign does not change the outcome of a whole parse.
+-- If zeros are skipped, adding zeros after the sign does not change the outcome of a whole parse.
 whole_padded : (k : IntType) (g : Sign) (count : ℕ) → 0 < run_len decimal_table g.body
     → HaveSameOutcome (whole_at k true g) (whole_at k true (record g { body = padded count g.body }))
 whole_padded k g count some =
@@ -185,8 +185,8 @@ whole_padded k g count some =
     (same_reason k true whole g h (padded_alike k whole count g some))
     (ap (with_sign g.minus) (value-padded count g.body))
 
--- Adding zeros after the sign does not change the outcome of a prefix parse, except that its count
--- grows by them.
+-- If zeros are skipped, adding zeros after the sign does not change the outcome of a prefix parse,
+-- except that its count grows by them.
 prefix_padded : (k : IntType) (g : Sign) (count : ℕ) → 0 < run_len decimal_table g.body
     → HaveSameOutcome (with_more count (prefix_at k true g)) (prefix_at k true (record g { body = padded count g.body }))
 prefix_padded k g count some =

@@ -28,8 +28,8 @@ pub zeros_left : (t : Table) (count : ℕ) (s : List ℕ) (place : ℕ) → plac
 zeros_left t count s place within =
     omega (arith, prefix_len-take (is_zero t) count (drop place s), prefix_len-drop (is_zero t) place s within)
 
--- The number of leading zeros of two readings in a row: the second matters only if the first has
--- zeros only.
+-- In two readings in a row, the leading zeros of the second matter only if the first has zeros
+-- only.
 leading_both : (n m k z y : ℕ) → k ≡ min n z → (n ≤ z → z ≡ n + y) → min (n + m) z ≡ cond (eqb k n) (n + min m y) k
 leading_both n m k z y k_is more =
     (elim (eqb k n) as (λ b. eqb k n ≡ b → min (n + m) z ≡ cond b (n + min m y) k) [
@@ -106,8 +106,8 @@ first_refusal false true c p q r v = refl
 first_refusal false false true p q r v = refl
 first_refusal false false false p q r v = refl
 
--- The answer for a wide type, written with all digits of the slice, of which `skipped` are skipped
--- zeros.
+-- The answer for a wide type can be written with all digits of the slice, of which `skipped` are
+-- skipped zeros.
 by_all_digits : (t : Table) (class : Class) (bound limit : ℕ) (skip : Bool) (s : List ℕ) (skipped counting : ℕ) → limit < cap class
     → skipped_zeros t skip s ≡ skipped → run_len t s ≡ skipped + counting
     → prefix_magnitude t class bound limit skip s ≡ answer_by_digits class bound limit skipped counting (value t (run t s)) s
@@ -247,7 +247,7 @@ pub record Shows (t : Table) (c : ℕ) (s : List ℕ) (w : Window) : Type 0 wher
   pub full : 0 < w.zeroes → w.len ≡ c
   pub zeroes_of : w.len ≡ c → w.zeroes ≡ min c (zeros t s)
 
--- What follows when zeros are reported only if all c bytes of the window are digits.
+-- If zeros are reported only when all c bytes of the window are digits, these three facts follow.
 zeroes_cases : (n c z k : ℕ) → z ≡ min c k → (cond (n == c) z 0 ≤ k) × (0 < cond (n == c) z 0 → n ≡ c) × (n ≡ c → cond (n == c) z 0 ≡ min c k)
 zeroes_cases n c z k e =
     (elim (n == c) as (λ b. (n == c) ≡ b → (cond b z 0 ≤ k) × (0 < cond b z 0 → n ≡ c) × (n ≡ c → cond b z 0 ≡ min c k)) [
@@ -255,7 +255,7 @@ zeroes_cases n c z k e =
       | false ↦ λ q. (omega arith, λ p. absurd (omega arith), λ p. absurd (eqb-false n c q p))
     ]) refl
 
--- The window that the definition `window_of` gives.
+-- The window that the definition `window_of` gives describes its slice.
 shows_of : (t : Table) → IsBelowTen t → (c : ℕ) (s : List ℕ) → Shows t c s (window_of t c s)
 shows_of t ten c s =
     let n : ℕ = run_len t (take c s) in
@@ -273,7 +273,7 @@ shows_of t ten c s =
       zeroes_of = tell.2;
     }
 
--- Any window that is equal to it.
+-- So does any window that is equal to it.
 pub shows : (t : Table) → IsBelowTen t → (c : ℕ) (s : List ℕ) (w : Window) → w ≡ window_of t c s → Shows t c s w
 shows t ten c s w e = let P : Window → Type 0 = λ v. Shows t c s v in subst P (sym e) (shows_of t ten c s)
 

@@ -328,13 +328,14 @@ repeated b (suc k) = repeated b k * 256 + b
 module _ (op : ℕ → ℕ → ℕ)
     (high : (a b g : ℕ) → op a b / 2 ^ g ≡ op (a / 2 ^ g) (b / 2 ^ g))
     (low : (a b g : ℕ) → op a b % 2 ^ g ≡ op (a % 2 ^ g) (b % 2 ^ g)) where
-  -- The fields of the result for two words.
+  -- The operator's result for two words has the results for their fields as its fields.
   op_fields : (g k a b : ℕ) → digits_l (2 ^ g) k (op a b) ≡ zip2 op (digits_l (2 ^ g) k a) (digits_l (2 ^ g) k b)
   op_fields g zero a b = refl
   op_fields g (suc k) a b =
       ap₂ (λ x xs. x ∷ xs) (low a b g) (ap (digits_l (2 ^ g) k) (high a b g) ∙ op_fields g k (a / 2 ^ g) (b / 2 ^ g))
 
-  -- The bytes of the result for a word and a word that repeats the byte b.
+  -- The operator's result for a word and one that repeats the byte b has the results for its bytes
+  -- and b as its bytes.
   pub op_repeated : (b : ℕ) → b < 256 → (k a : ℕ) → digits_l 256 k (op a (repeated b k)) ≡ map (λ x. op x b) (digits_l 256 k a)
   op_repeated b fits zero a = refl
   op_repeated b fits (suc k) a =
@@ -343,15 +344,15 @@ module _ (op : ℕ → ℕ → ℕ)
       (ap (digits_l 256 k) (high a (repeated b (suc k)) 8 ∙ ap (op (a / 256)) (div-mul-add (repeated b k) 256 b fits))
       ∙ op_repeated b fits k (a / 256))
 
--- The bytes of `a | b`.
+-- The bytes of `x | y` are those of x and of y, joined by `|`.
 pub or_bytes : (k a b : ℕ) → digits_l 256 k (bit_or a b) ≡ zip2 bit_or (digits_l 256 k a) (digits_l 256 k b)
 or_bytes = op_fields bit_or or_shr or_mod 8
 
--- The bytes of a word under a mask that is the same for each byte.
+-- A mask that is the same for each byte masks each byte.
 pub and_repeated : (b : ℕ) → b < 256 → (k a : ℕ) → digits_l 256 k (bit_and a (repeated b k)) ≡ map (λ x. bit_and x b) (digits_l 256 k a)
 and_repeated = op_repeated bit_and and_shr and_mod
 
--- The bytes of a word xor one that repeats the byte b.
+-- A word xor one that repeats the byte b is, byte by byte, xor b.
 pub xor_repeated : (b : ℕ) → b < 256 → (k a : ℕ) → digits_l 256 k (bit_xor a (repeated b k)) ≡ map (λ x. bit_xor x b) (digits_l 256 k a)
 xor_repeated = op_repeated bit_xor xor_shr xor_mod
 

@@ -262,7 +262,7 @@ shift_cut a j z =
     mod-pow-add (a * p) j z ∙ ap₂ (λ x y. x % 2 ^ j * p + y) high low ∙ omega arith
 
 -- If the lowest `len` bytes of an 8-byte word are digits, shifting them to the top of the word
--- gives the same result whether 48 was subtracted from each or each is masked to its lower half. So
+-- gives the same result whether 48 is subtracted from each or each is masked to its lower half. So
 -- the engine may use the subtraction instead of the mask.
 pub lowered_at_top : (len word : ℕ) → len ≤ 8 → len ≤ run_len decimal_table (low_bytes 8 word)
     → (word + without_48 8) % 2 ^ 64 * 2 ^ (64 - 8 * len) % 2 ^ 64 ≡ bit_and (word * 2 ^ (64 - 8 * len) % 2 ^ 64) (repeated 15 8)

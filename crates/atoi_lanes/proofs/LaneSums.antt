@@ -301,7 +301,7 @@ bytes-skip_leading_zeros (suc n) s h = (omega arith, bytes-skip_leading_zeros n 
 length-front : (s : List ℕ) → length s ≤ 8 → length (replicate (8 - length s) 0 ++ s) ≡ 8
 length-front s few = length-append (replicate (8 - length s) 0) s ∙ omega (arith, length-replicate {A = ℕ} (8 - length s) 0)
 
--- The lanes of the word that `load_high` returns.
+-- The word that `load_high` returns has these lanes.
 half_of_word : (s : List ℕ) → Each1 (λ x. x < 256) s → length s ≤ 8
     → digits_l 256 16 (number_l 256 (replicate (8 - length s) 0 ++ s)) ≡ in_half s
 half_of_word s h few =
@@ -309,7 +309,8 @@ half_of_word s h few =
     digits-number 256 16 8 (replicate (8 - length s) 0 ++ s) (bytes-skip_leading_zeros (8 - length s) s h) (omega (arith, long))
     ∙ take_all 16 (in_half s) (omega (arith, long, length-append (replicate (8 - length s) 0 ++ s) (replicate 8 0)))
 
--- The number that digits spell in base p, lowest first, after n digits of 0.
+-- In the number that digits of base p spell, lowest first, n digits of 0 before the others multiply
+-- it by p^n.
 number-skip_leading_zeros : (p n : ℕ) (xs : List ℕ) → number_l p (replicate n 0 ++ xs) ≡ p ^ n * number_l p xs
 number-skip_leading_zeros p zero xs = omega (arith, ap (λ q. q * number_l p xs) (pow-zero p))
 number-skip_leading_zeros p (suc n) xs =
@@ -356,7 +357,7 @@ count_by-zeros p none zero = refl
 count_by-zeros p none (suc n) =
     sum_by-cons (one_if p) 0 (replicate n 0) ∙ ap₂ (λ a b. a + b) (ap (λ b. cond b 1 0) none) (count_by-zeros p none n)
 
--- So as many lanes pass as bytes of the slice.
+-- So as many lanes pass as bytes of the slice do.
 count-in_half : (p : ℕ → Bool) → p 0 ≡ false → (s : List ℕ) → count_by p (in_half s) ≡ count_by p s
 count-in_half p none s =
     let zeros = 8 - length s in
@@ -477,8 +478,8 @@ all_digits s h few word mask v loaded lanes ones count =
     let written = half_values s few digits v is in
     (sym digits, (written.0 ∙ sym (ap (value decimal_table) (take_all (run_len decimal_table s) s (omega (arith, digits)))), written.1))
 
--- Otherwise the mask gives the length of the run, and the lanes of the word that is shifted by the
--- bytes after the run spell the value.
+-- The mask gives the length of the run, and the lanes of the word that is shifted by the bytes
+-- after the run spell its value.
 pub first_digits : (s : List ℕ) → Each1 (λ x. x < 256) s → length s ≤ 8 → (word mask len : ℕ) (v : List ℕ) → word ≡ word_of (replicate (8 - length s) 0 ++ s)
     → v ≡ digits_l 256 16 word → mask ≡ mask_l (map (is_digit decimal_table) v) → len ≡ trailing_ones w64 (mask / 2 ^ (8 - length s))
     → (len ≡ run_len decimal_table s) × ((len ≤ length s) × ((w : List ℕ) → w ≡ digits_l 256 16 (word * 2 ^ (8 * (length s - len)) % 2 ^ 64) → Written s w))

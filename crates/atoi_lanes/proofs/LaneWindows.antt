@@ -189,7 +189,7 @@ few-zeros law skip s len leading number reading ends on =
 pub below_ten : IsBelowTen decimal_table
 below_ten byte = grind (arith, nat_tests)
 
--- The number of significant digits of a window, and of its zeros that are skipped.
+-- All digits of a window are significant except its zeros that are skipped.
 counted : (skip : Bool) (len told leading : ℕ) → told ≤ len → ((skip ≡ true) × (leading ≡ told)) ⊎ ((skip ≡ false) × (leading ≡ 0))
     → (counting_digits skip len told ≡ len - leading) × (len - counting_digits skip len told ≡ leading)
 counted true len told leading most is = elim is [ inl h ↦ (omega (arith, h), omega (arith, h)) | inr h ↦ absurd (false≢true (sym h.0)) ]

@@ -88,7 +88,7 @@ mask-drop (suc k) (b ∷ bs) =
 abbrev shifts : List ℕ
 shifts = replicate 16 128 ++ range_with_len 0 16
 
--- The first n of consecutive indices.
+-- The first n of k consecutive indices are n consecutive indices.
 take-range : (n k a : ℕ) → n ≤ k → take n (range_with_len a k) ≡ range_with_len a n
 take-range zero k a le = refl
 take-range (suc n) zero a le = absurd (omega arith)
@@ -139,7 +139,7 @@ shift_ok n le =
 abbrev fronts : List ℕ
 fronts = range_with_len 0 16 ++ replicate 16 128
 
--- Consecutive indices without the first k.
+-- Consecutive indices without the first k are consecutive indices.
 drop-range : (k n a b m : ℕ) → m ≡ k + n → b ≡ a + k → drop k (range_with_len a m) ≡ range_with_len b n
 drop-range zero n a b m all first = ap₂ range_with_len (omega arith) (omega arith)
 drop-range (suc k) n a b zero all first = absurd (omega arith)
@@ -186,7 +186,8 @@ front_ok k le =
 -- ---- Bytes as a number
 -- The bytes of a short slice are the digits of a number in base 256, the lowest first.
 
--- The number of two lists, one after the other.
+-- The number of two lists in a row is that of the first, plus that of the second times the power
+-- for the first's length.
 number-append : (p : ℕ) (xs ys : List ℕ) → number_l p (xs ++ ys) ≡ number_l p xs + p ^ length xs * number_l p ys
 number-append p [] ys = omega (arith, ap (λ q. q * number_l p ys) (pow-zero p))
 number-append p (x ∷ xs) ys =
@@ -210,7 +211,7 @@ bytes-number zero [] = refl
 bytes-number zero (x ∷ xs) = omega arith
 bytes-number (suc n) xs = ap (λ s. s + get_or xs (suc n) 0 * 256 ^ suc n) (bytes-number n xs) ∙ sym (number-take_more 256 (suc n) xs)
 
--- The lowest digit of a number, and the number without it.
+-- Dividing a number by p separates its lowest digit from the number without it.
 lowest-digit : (p x n : ℕ) → x < p → ((x + p * n) % p ≡ x) × ((x + p * n) / p ≡ n)
 lowest-digit p x n h =
     let turned : x + p * n ≡ n * p + x = omega arith in
@@ -272,7 +273,8 @@ bytes s fits = Each1-from_get_or (λ x. x < 256) s 0 (λ k _. (fits k).fits)
 pub word-of_eight : (xs : List ℕ) → length xs ≡ 8 → from_le_bytes w64 xs ≡ number_l 256 xs
 word-of_eight xs long = bytes-number 7 xs ∙ ap (number_l 256) (take_all 8 xs (omega arith))
 
--- The bytes after the first eight, of at most 15, from the word of the last eight.
+-- If a slice has 8 to 15 bytes, those after the first eight are shifted from the word of its last
+-- eight.
 pub high_of_last : (s : List ℕ) → Each1 (λ x. x < 256) s → 8 ≤ length s → length s < 16
     → number_l 256 (drop (length s - 8) s) / 2 ^ (8 * (15 - length s)) / 256 ≡ number_l 256 (drop 8 s)
 high_of_last s h le lt =
