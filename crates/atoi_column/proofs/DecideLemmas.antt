@@ -1,4 +1,4 @@
--- What the items of an input say of its fields.
+-- What the items of an input say about its fields. These lemmas prove the law `ItemsDecide`.
 use Rattle.std.proofs.Common.{◌≡◌, ℕ, ◌+◌, true, List, [], ◌∷◌, ◌++◌, length, drop, map, ℤ, Result, Ok, Err, refl, sym, ap, subst, ◌∙◌, arith, append-nil, length-append}
 use Rattle.std.specs.List.{All, AllZip}
 use Rattle.std.proofs.lemmas.List.Elements.{All-nil, All-cons}
@@ -11,7 +11,7 @@ use Rattle.atoi_column.specs.Items.{Flaw, flaw_at, index_of, place_of}
 use Rattle.atoi_column.specs.Laws.{HasItems, EndsItems, TextsAndItems, IsFirstBad, ItemsDecide, place_after, number_len}
 use Rattle.atoi_column.proofs.FieldLemmas.{length-fields_of}
 
--- a list of values is no list of values and then an error
+-- A list of values is not equal to one that ends with an error.
 no_error : (numbers values : List ℤ) (flaw : Flaw) → map Ok numbers ≡ map Ok values ++ Err flaw ∷ [] → ⊥
 no_error [] [] flaw same = absurd (cc)
 no_error [] (value ∷ values) flaw same = absurd (cc)
@@ -41,7 +41,7 @@ place_of-flaw_at : (index place : ℕ) (read : Result (ℤ × ℕ) Refusal) → 
 place_of-flaw_at index place (Ok found) = refl
 place_of-flaw_at index place (Err reason) = omega arith
 
--- what writes a number is a text of the type
+-- If each field writes a number, each field is a text of the type.
 texts_of : (k : IntType) (texts : List (List ℕ)) (values : List ℤ) → AllZip (TextWrites k true) texts values → All (IsText k) texts
 texts_of k [] [] written = All-nil (IsText k)
 texts_of k [] (value ∷ values) written = elim written [ ]

@@ -1,4 +1,5 @@
--- The first field of a rest, and how many fields there are.
+-- The first field of an input, and how many fields there are. These lemmas prove the law
+-- `FirstField`.
 use Rattle.std.proofs.Common.{◌≡◌, ◌≢◌, inl, inr, ℕ, ◌+◌, ◌<◌, ◌≤◌, ◌==◌, List, [], ◌∷◌, length, Bool, true, false, if◌then◌else◌, refl, ap, ◌∙◌, arith}
 use Rattle.std.specs.List.{slice_split, onto_first, position_or_len, before_first, after_first}
 use Rattle.std.proofs.lemmas.List.{take_all, drop_all}
@@ -8,12 +9,13 @@ use Rattle.std.proofs.lemmas.Bool.Decides.{leb_tells}
 use Rattle.std.proofs.lemmas.Bool.{ne_eqb}
 use Rattle.atoi_column.specs.Fields.{without_empty_last, fields_of}
 
--- there is always a piece behind a separator
+-- If a byte is put before the pieces, there is at least one piece, so the piece before it is not
+-- the last one.
 onto_first-last : (piece : List ℕ) (x : ℕ) (pieces : List (List ℕ)) → without_empty_last (piece ∷ onto_first x pieces) ≡ piece ∷ without_empty_last (onto_first x pieces)
 onto_first-last piece x [] = refl
 onto_first-last piece x (next ∷ pieces) = refl
 
--- so the piece before it is not the last
+-- A piece that is followed by others is kept, even if it is empty.
 split-last : (piece : List ℕ) (p : ℕ → Bool) (xs : List ℕ) → without_empty_last (piece ∷ slice_split p xs) ≡ piece ∷ without_empty_last (slice_split p xs)
 split-last piece p [] = refl
 split-last piece p (x ∷ xs) =
@@ -24,13 +26,14 @@ split-last piece p (x ∷ xs) =
     ]
 
 module _ (p : ℕ → Bool) (xs : List ℕ) where
-  -- the pieces of an input, but for a last one that is empty: the first stands before the first separator
+  -- If there is a separator, the fields are what comes before the first one, and the fields of what
+  -- comes after it.
   pieces_ended : position_or_len p xs < length xs
       → without_empty_last (slice_split p xs) ≡ before_first p xs ∷ without_empty_last (slice_split p (after_first p xs))
   pieces_ended found =
       ap without_empty_last (slice_split_first p xs 0 found) ∙ split-last (before_first p xs) p (after_first p xs)
 
-  -- an input with no separator is one piece
+  -- If there is no separator, the only field is the whole input.
   pieces_last : 0 < length xs → length xs ≤ position_or_len p xs
       → without_empty_last (slice_split p xs) ≡ before_first p xs ∷ without_empty_last (slice_split p (after_first p xs))
   pieces_last some absent =
@@ -47,7 +50,7 @@ fields_of_first separator rest some =
       | inr found ↦ pieces_ended p rest found.1
     ]
 
--- one more element makes at most one more piece
+-- One more byte makes at most one more piece.
 onto_first-length : (x : ℕ) (pieces : List (List ℕ)) → length (without_empty_last (onto_first x pieces)) ≤ length (without_empty_last pieces) + 1
 onto_first-length x [] = omega arith
 onto_first-length x (piece ∷ []) =
@@ -63,6 +66,6 @@ pieces-fit p (x ∷ xs) =
       | false ↦ omega (arith, pieces-fit p xs, onto_first-length x (slice_split p xs))
     ]
 
--- there are no more fields than bytes
+-- There are at most as many fields as bytes.
 pub length-fields_of : (separator : ℕ) (rest : List ℕ) → length (fields_of separator rest) ≤ length rest
 length-fields_of separator rest = pieces-fit (λ byte. byte == separator) rest

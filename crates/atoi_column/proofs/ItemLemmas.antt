@@ -1,4 +1,4 @@
--- The first item of a rest.
+-- The first item of what is left of an input, in each case that `Column::next` distinguishes.
 use Rattle.std.proofs.Common.{◌≡◌, ◌≢◌, ℕ, ◌+◌, ◌-◌, ◌<◌, ◌≤◌, ◌==◌, true, not, inl, inr, Some, add-one, drop-cons, List, [], ◌∷◌, length, take, drop, get_or, ℤ, Result, Ok, Err, refl, sym, ap, subst, ◌∙◌, arith}
 use Rattle.std.specs.List.{position_or_len, before_first, after_first}
 use Rattle.std.proofs.lemmas.List.{take_rest, drop_all}
@@ -18,18 +18,18 @@ use Rattle.atoi_column.proofs.PrefixLemmas.{length-before_first}
 abbrev same_answer : (r q : Result (ℤ × ℕ) Refusal) → Type 0
 same_answer r q = r ≡ q
 
--- equal answers have equal counts
+-- Equal answers have equal counts.
 second_same : (v w : ℤ) (m n : ℕ) → same_answer (Ok (v, m)) (Ok (w, n)) → m ≡ n
 second_same v w m n h = let pair : (v, m) ≡ (w, n) = cc in ap (λ (p : ℤ × ℕ). p.1) pair
 
 module _ (whole : List ℕ → Result ℤ Refusal) (prefix : List ℕ → Result (ℤ × ℕ) Refusal) where
-  -- a field that is accepted gives its value
+  -- An accepted field gives its value, and the items of the other fields follow.
   pub items_from-ok : (index place : ℕ) (rest text : List ℕ) (texts : List (List ℕ)) (v : ℤ) → whole text ≡ Ok v
       → items_from whole prefix index place rest (text ∷ texts)
       ≡ Ok v ∷ items_from whole prefix (index + 1) (place + length text + 1) (drop (length text + 1) rest) texts
   items_from-ok index place rest text texts v h = rw (h, items_from) refl
 
-  -- a field that is refused gives the last item, a flaw
+  -- A refused field gives the last item, an error.
   pub items_from-err : (index place : ℕ) (rest text : List ℕ) (texts : List (List ℕ)) → ((v : ℤ) → whole text ≡ Ok v → ⊥)
       → items_from whole prefix index place rest (text ∷ texts) ≡ Err (flaw_at index place (prefix rest)) ∷ []
   items_from-err index place rest text texts refused =
@@ -41,7 +41,7 @@ module _ (whole : List ℕ → Result ℤ Refusal) (prefix : List ℕ → Result
         | Err reason ↦ λ none. refl
       ] refused
 
-  -- there is at most one item for each field
+  -- There is at most one item for each field.
   length-items_from : (index place : ℕ) (rest : List ℕ) (texts : List (List ℕ)) → length (items_from whole prefix index place rest texts) ≤ length texts
   length-items_from index place rest [] = omega arith
   length-items_from index place rest (text ∷ texts) =
@@ -66,7 +66,8 @@ module _ (whole : List ℕ → Result ℤ Refusal) (prefix : List ℕ → Result
     first_field : items_from whole prefix index place rest (fields_of separator rest) ≡ items_from whole prefix index place rest (text ∷ fields_of separator behind)
     first_field = ap (items_from whole prefix index place rest) (fields_of_first separator rest some)
 
-    -- a number that ends where the field does is the first item, and the others are those of what stands behind
+    -- If the number at the start ends where the field ends, its value is the first item. The others
+    -- are those of what comes after the separator.
     item-value : (v : ℤ) → prefix rest ≡ Ok (v, field_end)
         → items_from whole prefix index place rest (fields_of separator rest)
         ≡ Ok v ∷ items_from whole prefix (index + 1) (place + field_end + 1) behind (fields_of separator behind)
@@ -75,13 +76,13 @@ module _ (whole : List ℕ → Result ℤ Refusal) (prefix : List ℕ → Result
         first_field ∙ (items_from-ok index place rest text (fields_of separator behind) v (law.to_field v h)
         ∙ ap (λ n. Ok v ∷ items_from whole prefix (index + 1) (place + n + 1) (drop (n + 1) rest) (fields_of separator behind)) ends)
 
-    -- a field that is refused gives the last item
+    -- If no number ends where the field ends, the only item is an error.
     item-flaw : ((v : ℤ) → prefix rest ≡ Ok (v, field_end) → ⊥)
         → items_from whole prefix index place rest (fields_of separator rest) ≡ Err (flaw_at index place (prefix rest)) ∷ []
     item-flaw none =
         first_field ∙ items_from-err index place rest text (fields_of separator behind) (λ v h. none v (law.to_prefix v h))
 
-    -- a number behind which the separator stands ends where the field does
+    -- If a number is followed by the separator, it ends where the field ends.
     ends_with_field : (v : ℤ) (count : ℕ) → prefix rest ≡ Ok (v, count)
         → count < length rest → get_or rest count 0 ≡ separator → count ≡ field_end
     ends_with_field v count h inside is =
@@ -91,7 +92,8 @@ module _ (whole : List ℕ → Result ℤ Refusal) (prefix : List ℕ → Result
           | inr before ↦ absurd (false≢true (sym (fails_before_first (λ byte. byte == separator) rest count 0 before.1) ∙ eq-eqb (get_or rest count 0) separator is))
         ]
 
-    -- where the separator ends the field, no number that another byte stands behind does
+    -- If a number is followed by another byte than the separator, no number ends where the field
+    -- ends.
     ends_apart : (v : ℤ) (count : ℕ) → prefix rest ≡ Ok (v, count) → count < length rest → get_or rest count 0 ≢ separator
         → (w : ℤ) → prefix rest ≡ Ok (w, field_end) → ⊥
     ends_apart v count h inside other w at =
@@ -99,7 +101,7 @@ module _ (whole : List ℕ → Result ℤ Refusal) (prefix : List ℕ → Result
         let found : field_end < length rest = omega arith in
         other (ap (λ n. get_or rest n 0) same ∙ eqb-true _ _ (passes_at_first (λ byte. byte == separator) rest 0 found))
 
--- the elements from one on: which it is, and those behind it
+-- If dropping n elements leaves b and others, b is element n.
 drop_first : (n : ℕ) (xs : List ℕ) (b : ℕ) (ys : List ℕ) → drop n xs ≡ b ∷ ys
     → (n < length xs) × (get_or xs n 0 ≡ b) × (drop (n + 1) xs ≡ ys)
 drop_first n xs b ys h =
@@ -109,7 +111,7 @@ drop_first n xs b ys h =
           (within.1, cc, cc)
     ]
 
--- nothing is left at the end
+-- If nothing is left, there are no items.
 pub items_left-nil : (k : IntType) (separator index place : ℕ) → items_left k separator index place [] ≡ []
 unfolding items_left
 items_left-nil k separator index place = refl
@@ -118,7 +120,7 @@ pub items_left-empty : (k : IntType) (separator index place : ℕ) (rest : List 
 items_left-empty k separator index place [] h = items_left-nil k separator index place
 items_left-empty k separator index place (byte ∷ bytes) h = absurd (omega arith)
 
--- nor behind the whole of a rest
+-- After the whole rest is read, there are no items.
 pub items_left-after_all : (k : IntType) (separator index place : ℕ) (rest : List ℕ)
     → items_left k separator index place (take (length rest - length rest) (drop (length rest) rest)) ≡ []
 items_left-after_all k separator index place rest =
@@ -126,7 +128,7 @@ items_left-after_all k separator index place rest =
     ∙ items_left-nil k separator index place
 
 module _ (k : IntType) (separator index place : ℕ) where
-  -- no more items are left than bytes
+  -- There are at most as many items left as bytes.
   pub length-items_left : (rest : List ℕ) → length (items_left k separator index place rest) ≤ length rest
   unfolding items_left
   length-items_left rest =
@@ -150,7 +152,8 @@ module _ (k : IntType) (separator index place : ℕ) where
     flaw_alone none =
         item-flaw (parse_answer k true true) (parse_prefix_answer k true true) separator index place rest some law none
 
-    -- a number that the separator ends: its value, and the items behind
+    -- If a number is followed by the separator, its value is the first item, and the items of what
+    -- comes after it follow.
     pub items_left-ended : (v : ℤ) (count : ℕ) (behind : List ℕ) → parse_prefix_answer k true true rest ≡ Ok (v, count)
         → drop count rest ≡ separator ∷ behind
         → items_left k separator index place rest ≡ Ok v ∷ items_left k separator (index + 1) (place + count + 1) behind
@@ -159,7 +162,7 @@ module _ (k : IntType) (separator index place : ℕ) where
         value_then v count h (ends_with_field (parse_answer k true true) (parse_prefix_answer k true true) separator index place rest some law v count h first.0 first.1)
         ∙ ap (λ t. Ok v ∷ items_left k separator (index + 1) (place + count + 1) t) first.2
 
-    -- a number that the input ends: its value alone
+    -- If a number ends with the input, its value is the only item.
     pub items_left-last : (v : ℤ) (count : ℕ) → parse_prefix_answer k true true rest ≡ Ok (v, count)
         → length rest ≤ count → items_left k separator index place rest ≡ Ok v ∷ []
     items_left-last v count h all =
@@ -169,7 +172,7 @@ module _ (k : IntType) (separator index place : ℕ) where
         ∙ ap (λ t. Ok v ∷ items_left k separator (index + 1) (place + count + 1) t) (drop_all (count + 1) rest (omega arith))
         ∙ ap (λ items. Ok v ∷ items) (items_left-nil k separator (index + 1) (place + count + 1))
 
-    -- a number behind which another byte stands
+    -- If a number is followed by another byte, the only item is the error `Trailing`.
     pub items_left-trailing : (v : ℤ) (count byte : ℕ) (behind : List ℕ) → parse_prefix_answer k true true rest ≡ Ok (v, count)
         → drop count rest ≡ byte ∷ behind → byte ≢ separator
         → items_left k separator index place rest ≡ Err (trailing index (place + count)) ∷ []
@@ -178,13 +181,13 @@ module _ (k : IntType) (separator index place : ℕ) where
         flaw_alone (ends_apart (parse_answer k true true) (parse_prefix_answer k true true) separator index place rest some law v count h first.0 (λ e. other (sym first.1 ∙ e)))
         ∙ ap (λ r. Err (flaw_at index place r) ∷ []) h
 
-    -- no number can be read
+    -- If no number can be read, the only item is the error `Field`.
     pub items_left-refused : (reason : Refusal) → parse_prefix_answer k true true rest ≡ Err reason
         → items_left k separator index place rest ≡ Err (field index place reason) ∷ []
     items_left-refused reason h =
         flaw_alone (λ v ok. absurd (cc (h, ok))) ∙ ap (λ r. Err (flaw_at index place r) ∷ []) h
 
--- a call that gives the first item leaves one item less
+-- A call that gives the first of the items leaves one item less.
 pub starts_with_digit : {A B : Type 0} (can : List B → Type 0) → ((left : List B) → can left) → (before after : List B) (item : B) (given : A)
     → before ≡ item ∷ after → MakesProgress can (item_count (λ left. left)) before (Some given) after
 starts_with_digit can always before after item given first = record {

@@ -1,4 +1,4 @@
--- Where a column's flaws are: within its input.
+-- The places and indices in the errors of a column: each is within the input.
 use Rattle.std.proofs.Common.{◌≡◌, ℕ, ◌+◌, ◌-◌, ◌<◌, ◌≤◌, ◌==◌, true, false, if◌then◌else◌, Bool, List, [], ◌∷◌, length, drop, ℤ, Result, Ok, Err, refl, arith, length-drop}
 use Rattle.std.specs.Prelude.{IfErr}
 use Rattle.std.specs.List.{All, slice_split, onto_first}
@@ -21,12 +21,13 @@ place_after-some : (texts : List (List ℕ)) → 0 < length texts → 0 < place_
 place_after-some [] some = absurd (omega arith)
 place_after-some (text ∷ texts) some = omega (arith, place_after-cons text texts)
 
--- one more byte in the first piece
+-- One more byte in the first piece makes the pieces longer by at most one byte.
 onto_first-place : (x : ℕ) (pieces : List (List ℕ)) → 0 < length pieces → place_after (onto_first x pieces) ≤ place_after pieces + 1
 onto_first-place x [] some = absurd (omega arith)
 onto_first-place x (piece ∷ pieces) some = omega (arith, place_after-cons (x ∷ piece) pieces, place_after-cons piece pieces)
 
--- the pieces of an input reach one separator further than it
+-- The pieces of an input, each with a separator after it, are together at most one byte longer than
+-- the input.
 split-place : (p : ℕ → Bool) (xs : List ℕ) → place_after (slice_split p xs) ≤ length xs + 1
 split-place p [] = omega arith
 split-place p (x ∷ xs) =
@@ -49,7 +50,7 @@ fields_of-place : (separator : ℕ) (rest : List ℕ) → place_after (fields_of
 fields_of-place separator rest =
     omega (arith, without_last-place (slice_split (λ byte. byte == separator) rest), split-place (λ byte. byte == separator) rest)
 
--- an item that is no error, or one at most so many bytes from the start, after fewer fields
+-- If the item is an error, its place is at most `bytes`, and its index is less than that.
 abbrev IsInside : ℕ → Result ℤ Flaw → Type 0
 IsInside bytes item = IfErr item (λ flaw. (place_of flaw ≤ bytes) × (index_of flaw < bytes))
 
@@ -78,7 +79,8 @@ module _ (whole : List ℕ → Result ℤ Refusal) (prefix : List ℕ → Result
         | Err reason ↦ All-cons (IsInside bytes) (Err (flaw_at index place (prefix rest))) [] (flaw_at-inside index place rest here (omega arith)) (All-nil (IsInside bytes))
       ]
 
--- each place that the items of an input tell is in it, or at its end, and each index is below its length
+-- The place of each error is within the input or at its end, and its index is less than the length
+-- of the input.
 pub items_left-inside : (k : IntType) → PrefixOfCut k → (separator : ℕ) (input : List ℕ)
     → All (λ item. IfErr item (λ flaw. (place_of flaw ≤ length input) × (index_of flaw < length input))) (items_left k separator 0 0 input)
 unfolding items_left

@@ -1,4 +1,5 @@
--- A field as a whole, and the number at the front of the rest that it begins.
+-- A field and the number at its start: a field is accepted exactly if that number ends where the
+-- field ends. These lemmas prove the law `FieldsArePrefixes`.
 use Rattle.std.proofs.Common.{◌≡◌, ℕ, ◌+◌, ◌==◌, ◌&&◌, ◌||◌, not, Bool, true, false, cond, if◌then◌else◌, List, [], ◌∷◌, ◌++◌, length, take, get_or, Result, Ok, Err, refl, sym, ap, ◌∙◌, subst, inl, inr, arith}
 use Rattle.std.proofs.lemmas.Bool.{eqb-true}
 use Rattle.std.specs.List.{prefix_len, position_or_len, before_first, after_first}
@@ -14,12 +15,12 @@ use Rattle.atoi_core.specs.Laws.{looked_for, prefix_call, HaveSameRun, HaveSameO
 use Rattle.atoi_column.specs.Fields.{is_separator}
 use Rattle.atoi_column.specs.Laws.{FieldsArePrefixes}
 
--- how many pass does not change behind an element that does not
+-- If an element does not pass a test, nothing after it changes the passing prefix.
 prefix_len-stops : (p : ℕ → Bool) (b : ℕ) (ys : List ℕ) → p b ≡ false → (xs : List ℕ) → prefix_len p (xs ++ b ∷ ys) ≡ prefix_len p xs
 prefix_len-stops p b ys fails [] = rw fails refl
 prefix_len-stops p b ys fails (x ∷ xs) = ap (λ n. cond (p x) (1 + n) 0) (prefix_len-stops p b ys fails xs)
 
--- nor does the front of those that pass
+-- The passing prefix itself does not change either.
 front-stops : (p : ℕ → Bool) (b : ℕ) (ys : List ℕ) → p b ≡ false → (xs : List ℕ)
     → take (prefix_len p xs) xs ≡ take (prefix_len p (xs ++ b ∷ ys)) (xs ++ b ∷ ys)
 front-stops p b ys fails xs =
@@ -28,14 +29,15 @@ front-stops p b ys fails xs =
 pub length-before_first : (p : ℕ → Bool) (xs : List ℕ) → length (before_first p xs) ≡ position_or_len p xs
 length-before_first p xs = length-take-le (position_or_len p xs) xs (prefix_len-le-length (λ x. not (p x)) xs)
 
--- a sign at the front of bytes, where the first is a plus that is taken, or a minus
+-- The sign that is consumed from a slice with the first byte `x`, if it is known whether this is a
+-- plus or a minus.
 abbrev sign_by : (is_plus is_minus : Bool) → ℕ → List ℕ → Sign
 sign_by is_plus is_minus x xs =
     if is_plus then record { minus = false; taken = 1; body = xs }
     else (if is_minus then record { minus = true; taken = 1; body = xs }
     else record { minus = false; taken = 0; body = x ∷ xs })
 
--- two signs that stand before equal runs of digits
+-- Two signs are the same, and the bodies after them begin with equal runs.
 record HaveSamePrefix (g h : Sign) : Type 0 where
   minus : g.minus ≡ h.minus
   taken : g.taken ≡ h.taken
@@ -50,7 +52,7 @@ module _ (b : ℕ) (ys : List ℕ) (fails : is_digit decimal_table b ≡ false) 
   same_front false true x xs = record { minus = refl; taken = refl; run = same_run xs }
   same_front false false x xs = record { minus = refl; taken = refl; run = same_run (x ∷ xs) }
 
--- a byte that may stand between fields is no digit, no plus and no minus
+-- The byte is no digit, no plus and no minus, so it may be a separator.
 record IsApart (byte : ℕ) : Type 0 where
   no_digit : is_digit decimal_table byte ≡ false
   no_plus : (byte == plus_sign) ≡ false
@@ -72,7 +74,8 @@ and_false true b h = h
 and_false false b h = refl
 
 module _ (k : IntType) where
-  -- a call takes the same sign of a field as of the field with more behind it, and finds the same digits
+  -- If such a byte and others are put after a field, a call consumes the same sign and reads the
+  -- same digits.
   same_run_before : (b : ℕ) (ys : List ℕ) → IsApart b → (xs : List ℕ) → HaveSameRun k (looked_for true) xs (xs ++ b ∷ ys)
   same_run_before b ys is [] =
       let none : sign_of k.signed true (b ∷ ys) ≡ record { minus = false; taken = 0; body = b ∷ ys } =
@@ -86,7 +89,8 @@ module _ (k : IntType) where
       let front = same_front b ys is.no_digit (x == plus_sign) (k.signed && x == minus_sign) x xs in
       record { minus = front.minus; taken = front.taken; run = front.run }
 
-  -- and so it is with the first field of a rest
+  -- So a call consumes the same sign and reads the same digits in the first field and in the whole
+  -- rest.
   same_run_of_field : (separator : ℕ) → is_separator separator ≡ true → (rest : List ℕ)
       → HaveSameRun k (looked_for true) (before_first (λ byte. byte == separator) rest) rest
   same_run_of_field separator is rest =
@@ -101,7 +105,7 @@ module _ (k : IntType) where
             (same_run_before separator (after_first p rest) (apart separator is) (before_first p rest))
       ]
 
--- answers of one kind have the same value
+-- If two answers have the same outcome and one is `Ok`, the other is `Ok` with the same value.
 same_outcome-ok : {A : Type 0} (a b : Result A Refusal) (x : A) → HaveSameOutcome a b → a ≡ Ok x → b ≡ Ok x
 same_outcome-ok (Ok x) (Ok y) z same h = cc
 same_outcome-ok (Ok x) (Err other) z same h = absurd same
@@ -112,7 +116,7 @@ same_outcome-ok_back (Ok x) (Ok y) z same h = cc
 same_outcome-ok_back (Err reason) (Ok y) z same h = absurd same
 same_outcome-ok_back a (Err other) z same h = absurd (cc h)
 
--- the law of fields, by three laws of parses
+-- The law `FieldsArePrefixes`, which follows from three laws of `atoi_core`.
 pub fields_are_prefixes : (k : IntType) → PrefixIsWhole k → PrefixOfCut k → RestChangesNothing k → FieldsArePrefixes k
 fields_are_prefixes k is_whole of_cut rest_changes separator is rest =
     let p : ℕ → Bool = λ byte. byte == separator in

@@ -1,4 +1,5 @@
--- The items of fields, in the words of the texts of the type.
+-- The items of an input, described with the texts of the type. These lemmas prove the law
+-- `TextsAndItems`.
 use Rattle.std.proofs.Common.{◌≡◌, ℕ, ◌+◌, true, List, [], ◌∷◌, ◌++◌, length, drop, map, ℤ, Result, Ok, Err, refl, ap, ◌∙◌, arith, zero-add, add-zero}
 use Rattle.std.specs.List.{AllZip}
 use Rattle.std.proofs.lemmas.List.{drop-drop}
@@ -13,13 +14,14 @@ use Rattle.atoi_column.specs.Items.{Flaw, flaw_at, items_from, items_left}
 use Rattle.atoi_column.specs.Laws.{place_after, EndsItems, TextsAndItems}
 use Rattle.atoi_column.proofs.ItemLemmas.{items_from-ok, items_from-err}
 
--- what a field is: a text that writes a number, or none
+-- A field is accepted and writes its number, or it is refused and is no text of the type.
 data IsRead (k : IntType) (whole : List ℕ → Result ℤ Refusal) (text : List ℕ) : Type 0 where
   accepted : (v : ℤ) → whole text ≡ Ok v → TextWrites k true text v → IsRead k whole text
   refused : ((v : ℤ) → whole text ≡ Ok v → ⊥) → ¬ IsText k text → IsRead k whole text
 
 module _ (k : IntType) (whole : List ℕ → Result ℤ Refusal) (prefix : List ℕ → Result (ℤ × ℕ) Refusal) (read : (text : List ℕ) → IsRead k whole text) where
-  -- `HasItems` of fields of which the first has the number `index` and the place `place`
+  -- `HasItems` for some of the fields: the first of them has the index `index` and begins at
+  -- `place`.
   record HasItemsFrom (index place : ℕ) (rest : List ℕ) (fields : List (List ℕ)) : Type 0 where
     texts : List (List ℕ)
     others : List (List ℕ)
@@ -30,7 +32,8 @@ module _ (k : IntType) (whole : List ℕ → Result ℤ Refusal) (prefix : List 
     items : items_from whole prefix index place rest fields ≡ map Ok numbers ++ last
     end : EndsItems k prefix (index + length texts) (place + place_after texts) (drop (place_after texts) rest) others last
 
-  -- one more field before the others
+  -- If the items of the other fields end as described, so do the items with one more field before
+  -- them.
   ends_behind : (index place : ℕ) (rest text : List ℕ) (texts others : List (List ℕ)) (last : List (Result ℤ Flaw))
       → EndsItems k prefix (index + 1 + length texts) (place + length text + 1 + place_after texts) (drop (place_after texts) (drop (length text + 1) rest)) others last
       → EndsItems k prefix (index + length (text ∷ texts)) (place + place_after (text ∷ texts)) (drop (place_after (text ∷ texts)) rest) others last
@@ -70,7 +73,7 @@ module _ (k : IntType) (whole : List ℕ → Result ℤ Refusal) (prefix : List 
 ok_or_err : (r : Result ℤ Refusal) (v : ℤ) (reason : Refusal) → r ≡ Ok v → r ≡ Err reason → ⊥
 ok_or_err r v reason h other = absurd (cc)
 
--- the accepted texts are read as their numbers, and no others
+-- A text of the type is accepted with its number, and no other field is.
 module _ (k : IntType) (texts : AcceptedTexts k) (numbers : AcceptedNumbers k) (text : List ℕ) where
   read_as : (r : Result ℤ Refusal) → parse_answer k true true text ≡ r → IsRead k (parse_answer k true true) text
   read_as (Ok v) h = accepted v h (numbers.written (looked_for true) true text v h)

@@ -1,4 +1,5 @@
--- Reading the items of a column in turn: nothing follows an error.
+-- Reading the items of a column one after the other: nothing follows an error. These lemmas prove
+-- the law `ItemsInTurn`.
 use Rattle.std.proofs.Common.{◌≡◌, ℕ, ◌+◌, true, List, [], ◌∷◌, ◌++◌, length, drop, map, ℤ, Result, Ok, Err, refl, sym, ap, ◌∙◌, arith, append_assoc, append-nil, length-append}
 use Rattle.std.proofs.lemmas.List.{map-append}
 use Rattle.atoi_core.specs.Refusal.{Refusal}
@@ -8,7 +9,7 @@ use Rattle.atoi_column.specs.Fields.{fields_of}
 use Rattle.atoi_column.specs.Items.{Flaw, flaw_at, items_from, items_left, items_of}
 use Rattle.atoi_column.specs.Laws.{HaveRead, ItemsInTurn}
 
--- a first value is the first of the numbers
+-- If the items begin with a value, it is the first of the numbers.
 behind_value : (value : ℤ) (items : List (Result ℤ Flaw)) (numbers : List ℤ) (flaw : Flaw) (after : List (Result ℤ Flaw))
     → Ok value ∷ items ≡ map Ok numbers ++ Err flaw ∷ after → (others : List ℤ) × (items ≡ map Ok others ++ Err flaw ∷ after)
 behind_value value items [] flaw after same = absurd (cc)
@@ -49,7 +50,7 @@ one_more items left after numbers number read next = record {
   count = omega (arith, read.count, ap length next, length-append numbers (number ∷ []));
 }
 
--- the law
+-- The law `ItemsInTurn`.
 pub items_in_turn : ItemsInTurn
 items_in_turn = record {
   start = λ items. record { parts = refl; count = omega arith };

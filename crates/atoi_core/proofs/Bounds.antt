@@ -1,4 +1,5 @@
--- Bounds and limits of the integer types, and both signs from one parse under the negative bound.
+-- Bounds and limits of the integer types, and how the answer for both signs follows from one parse
+-- under the negative bound, the magnitude of `T::MIN`.
 use Rattle.std.proofs.Common.{◌≡◌, ◌⊎◌, ℕ, ◌+◌, ◌-◌, ◌^◌, ◌<◌, ◌≤◌, Bool, true, false, cond, eqb, List, Option, Some, None, refl, arith, inl, inr, lt_of_le_of_lt, le-ltb, ltb-false, ◌*◌, ◌/◌, ltb, leb, not, ◌&&◌, length, drop, Ok, Err, sym, ap, ap₂, ◌∙◌, subst, lit<}
 use Rattle.std.proofs.Math.Nat.{pow-le-pow_right}
 use Rattle.std.proofs.lemmas.Bool.{cases_lt, lt-leb, lt-ltb, ltb-true, eqb-false}
@@ -16,33 +17,34 @@ use Rattle.atoi_core.specs.Answer.{whole_answer, prefix_answer}
 use Rattle.std.proofs.lemmas.List.{length-take-le}
 use Rattle.std.proofs.lemmas.List.Sums.{prefix_len-le-length}
 
--- A number in range never has too many digits.
+-- ---- A number in range never has too many significant digits
 
--- no class finds a count of a whole slice within the limit too long
+-- A whole slice with at most as many digits as the limit is not too long, whatever the class.
 pub short_enough : (class : Class) (skip : Bool) (limit count : ℕ) → count ≤ limit → is_above (limit_at class whole skip limit) count ≡ false
 short_enough narrow skip limit count h = refl
 short_enough wide64 skip limit count h = le-ltb limit count h
 short_enough wide128 skip limit count h = le-ltb limit count h
 
--- a shorter count is not too long where a longer is not
+-- If a number of digits is not too large, no smaller number is.
 pub shorter : (limit : Option ℕ) (count less : ℕ) → less ≤ count → is_above limit count ≡ false → is_above limit less ≡ false
 shorter None count less h e = refl
 shorter (Some limit) count less h e = le-ltb limit less (omega (arith, ltb-false limit count e))
 
--- a whole slice has one limit, whether its zeros are skipped or not
+-- The limit for a whole slice does not depend on whether zeros are skipped.
 pub limit_of_whole : (class : Class) (skip : Bool) (limit : ℕ) → limit_at class whole skip limit ≡ limit_at class whole false limit
 limit_of_whole narrow skip limit = refl
 limit_of_whole wide64 skip limit = refl
 limit_of_whole wide128 skip limit = refl
 
--- what is not too long for a prefix is not for a whole slice
+-- If a number of digits is not too large for a prefix, it is not too large for a whole slice.
 pub long_as_whole : (class : Class) (skip : Bool) (limit count : ℕ) → is_above (limit_at class prefix skip limit) count ≡ false
     → is_above (limit_at class whole skip limit) count ≡ false
 long_as_whole narrow skip limit count h = refl
 long_as_whole wide64 skip limit count h = h
 long_as_whole wide128 skip limit count h = h
 
--- a prefix has the limit of the whole slice where zeros are skipped, or on a wide type
+-- If zeros are skipped, or the type has more than 32 bits, a prefix has the same limit as a whole
+-- slice.
 pub limit_of_prefix : (k : IntType) (skip : Bool) (limit : ℕ) → HasLimitOfWhole k skip → limit_at (class_of k) prefix skip limit ≡ limit_at (class_of k) whole skip limit
 limit_of_prefix k skip limit h =
     elim h [
@@ -59,7 +61,8 @@ limit_of_prefix k skip limit h =
     wide true = refl
     wide false = refl
 
--- a magnitude of that many bits is the greatest of the signed numbers or of the others, or one more
+-- The bound of a type is at most one more than its largest value, so it is below a power of ten
+-- that is larger than that.
 magnitude_below : (limit bits : ℕ) (signed minus : Bool) → greatest_of bits true + 1 < 10 ^ limit → greatest_of bits false + 1 < 10 ^ limit
     → cond minus (greatest_of bits signed + 1) (greatest_of bits signed) < 10 ^ limit
 magnitude_below limit bits true true p q = p
@@ -67,14 +70,14 @@ magnitude_below limit bits true false p q = omega arith
 magnitude_below limit bits false true p q = q
 magnitude_below limit bits false false p q = omega arith
 
--- the greatest magnitudes of 64 bits have 19 and 20 digits
+-- The bounds of 64-bit types have at most 19 digits if signed, and 20 if unsigned.
 bound-64 : (signed minus : Bool) → cond minus (greatest_of 64 signed + 1) (greatest_of 64 signed) < 10 ^ cond signed 19 20
 bound-64 true true = omega arith
 bound-64 true false = omega arith
 bound-64 false true = omega arith
 bound-64 false false = omega arith
 
--- the greatest magnitude of a wide type has no more digits than its limit
+-- The bound of a wide type has at most as many digits as its limit says.
 pub bound-limit : (k : IntType) → IsSized k → (minus : Bool)
     → (class_of k ≡ narrow) ⊎ (bound_of k minus < 10 ^ limit_of k)
 bound-limit k sized minus =
@@ -86,7 +89,7 @@ bound-limit k sized minus =
       | inr (inr (inr (inr e))) ↦ inr (rw (sized.greatest, e) (magnitude_below 39 128 k.signed minus (omega arith) (omega arith)))
     ]
 
--- no type has a magnitude of 64 digits
+-- The bound of each type is below 10^64.
 below-64 : (bits : ℕ) (signed minus : Bool) → ((bits ≡ 8) ⊎ ((bits ≡ 16) ⊎ ((bits ≡ 32) ⊎ ((bits ≡ 64) ⊎ (bits ≡ 128)))))
     → cond minus (greatest_of bits signed + 1) (greatest_of bits signed) < 10 ^ 64
 below-64 bits signed minus h =
@@ -98,11 +101,11 @@ below-64 bits signed minus h =
       | inr (inr (inr (inr e))) ↦ rw e (magnitude_below 64 128 signed minus (omega arith) (omega arith))
     ]
 
--- each magnitude has far fewer than 64 digits
+-- As above, for an integer type.
 pub bound_below-64 : (k : IntType) → IsSized k → (minus : Bool) → bound_of k minus < 10 ^ 64
 bound_below-64 k sized minus = rw sized.greatest (below-64 k.bits k.signed minus sized.bits)
 
--- digits that write a number below a power of ten have no more places behind their zeros
+-- A number below 10^limit has at most `limit` significant digits, those after its leading zeros.
 pub places-le : (table : Table) (s : List ℕ) (limit : ℕ) → value table (run table s) < 10 ^ limit → run_len table s - zeros table s ≤ limit
 places-le table s limit h =
     elim (cases_lt limit (run_len table s - zeros table s)) [
@@ -114,7 +117,7 @@ places-le table s limit h =
       | inr le ↦ le
     ]
 
--- where zeros are skipped, digits that write a number in range are not too many
+-- If zeros are skipped and the value is in range, there are not too many digits.
 pub in_range_short : (table : Table) (k : IntType) → IsSized k → (minus : Bool) (s : List ℕ)
     → value table (run table s) ≤ bound_of k minus
     → is_above (limit_at (class_of k) whole true (limit_of k)) (counting_digits table true s) ≡ false
@@ -124,9 +127,11 @@ in_range_short table k sized minus s le =
       | inr lt ↦ short_enough (class_of k) true (limit_of k) _ (places-le table s (limit_of k) (lt_of_le_of_lt le lt))
     ]
 
--- Both signs from one parse under the negative bound: the answers of the two bounds are the same, but for the magnitude of the smallest value, which overflows without a minus.
+-- ---- Both signs from one parse
+-- A signed body is parsed under the negative bound. The answer without a minus is the same, except
+-- for the magnitude of `T::MIN`, which overflows.
 
--- of digits that spell a number, all but its own are zeros
+-- If digits spell a number of `digits` decimal digits, all digits before these are zeros.
 pub leading_zeros : (t : Table) → IsBelowTen t → (digits number : ℕ) → HasDigits digits number
     → (s : List ℕ) → value t (run t s) ≡ number → zeros t s ≡ run_len t s - digits
 leading_zeros t below digits number has s is =
@@ -145,7 +150,8 @@ leading_zeros t below digits number has s is =
     ]
 
 module _ (k : IntType) (skip : Bool) (limit digits skipped : ℕ) where
-  -- the zeros that the slice of an overflow leaves out: for all of a slice
+  -- For a whole slice, an overflow leaves out the skipped zeros if the type has more than 32 bits,
+  -- and otherwise none.
   pub dropped_whole : (rule_of (class_of k) whole skip limit digits skipped).dropped ≡ cond (leb k.bits 32) 0 skipped
   dropped_whole = wide (leb k.bits 32) (eqb k.bits 64)
     where
@@ -154,7 +160,9 @@ module _ (k : IntType) (skip : Bool) (limit digits skipped : ℕ) where
       wide false true = refl
       wide false false = refl
 
-  -- and for its front
+  -- For a prefix, an overflow leaves out the skipped zeros too. But if the type has at most 32 bits
+  -- and the digits fill no more windows of 16 bytes than the zeros do, it leaves out only the zeros
+  -- that fill whole windows.
   pub dropped_prefix : (skip ≡ false → skipped ≡ 0)
       → (rule_of (class_of k) prefix skip limit digits skipped).dropped
       ≡ cond (leb k.bits 32 && not (ltb (skipped / 16) (digits / 16))) (16 * (skipped / 16)) skipped
@@ -176,11 +184,11 @@ module _ (k : IntType) (skip : Bool) (limit digits skipped : ℕ) where
       cases false true skips none = refl
       cases false false skips none = refl
 
--- a run is within its slice
+-- A run is at most as long as its slice.
 pub run_within : (t : Table) (s : List ℕ) → run_len t s ≤ length s
 run_within t s = prefix_len-le-length (is_digit t) s
 
--- the number of `invalid` is its first, the index its second
+-- The error `invalid` holds its number first and its index second.
 number_in-invalid : (class : Class) (number index : ℕ) (s : List ℕ) → number_in (invalid class number index s) ≡ number
 number_in-invalid narrow number index s = refl
 number_in-invalid wide64 number index s = refl
@@ -191,7 +199,8 @@ index_in-invalid narrow number index s = refl
 index_in-invalid wide64 number index s = refl
 index_in-invalid wide128 number index s = refl
 
--- another third test leaves the first reason, where it holds as well, and where the fourth reason forbids it
+-- Replacing the third test by one that holds whenever the old one did leaves the chosen error the
+-- same, unless that is the fourth error and the new test holds.
 other_third : (a b c e d : Bool) (p q r i reason : Refusal) → (c ≡ true → e ≡ true) → (i ≡ reason → e ≡ false)
     → first_of a b c d p q r i ≡ Some reason → first_of a b e d p q r i ≡ Some reason
 other_third true b c e d p q r i reason more none h = h
@@ -200,7 +209,7 @@ other_third false false true e d p q r i reason more none h = rw (more refl) h
 other_third false false false e true p q r i reason more none h = rw (none (cc h)) h
 other_third false false false e false p q r i reason more none h = absurd (cc h)
 
--- a reason that holds a number is the fourth, that of a byte after the digits
+-- An error that holds a number is the fourth one, for a byte that follows the digits.
 only_fourth : (a b c d : Bool) (p q r i reason : Refusal) (least : ℕ) → number_in p ≡ 0 → number_in q ≡ 0 → number_in r ≡ 0 → least < number_in reason
     → first_of a b c d p q r i ≡ Some reason → (a ≡ false) × (b ≡ false) × (c ≡ false) × (i ≡ reason)
 only_fourth true b c d p q r i reason least hp hq hr more h = let e : p ≡ reason = cc h in absurd (omega (arith, ap number_in e))
@@ -209,32 +218,34 @@ only_fourth false false true d p q r i reason least hp hq hr more h = let e : r 
 only_fourth false false false true p q r i reason least hp hq hr more h = (refl, refl, refl, cc h)
 only_fourth false false false false p q r i reason least hp hq hr more h = absurd (cc h)
 
--- of the magnitudes that the negative bound admits, only that of the smallest value is above another bound
+-- The negative bound admits only one magnitude that is above another bound: that of `T::MIN`.
 only_least : (k : IntType) (minus : Bool) (v : ℕ) → v ≤ bound_of k true → bound_of k minus < v → v ≡ k.greatest + 1
 only_least k true v most above = absurd (omega arith)
 only_least k false v most above = omega arith
 
 module _ (t : Table) (k : IntType) (minus : Bool) (extent : Extent) (skip : Bool) (s : List ℕ) where
-  -- the digits of the body, as they are refused under the bound of a sign
+  -- The refusal of the body under the bound of a sign.
   abbrev pub refused : Bool → Option Refusal
   refused sign = refusal t (class_of k) (bound_of k sign) (limit_of k) extent skip s
 
-  -- the slice of an overflow
+  -- The error `Overflow` for this body.
   abbrev pub overflows : Refusal
   overflows = overflow (drop (rule_of (class_of k) extent skip (limit_of k) (run_len t s) (skipped_zeros t skip s)).dropped s)
 
-  -- the digits spell the magnitude of the smallest value, and are refused without a minus
+  -- The digits spell the magnitude of `T::MIN`, and are refused as an overflow under the bound of
+  -- the sign.
   pub record IsLeast : Type 0 where
     pub least : value t (run t s) ≡ k.greatest + 1
     pub refused_is : refused minus ≡ Some overflows
 
-  -- digits that are accepted under the negative bound are accepted under another, if that is high enough
+  -- A body that is accepted under the negative bound is accepted under a bound that its value does
+  -- not exceed.
   accepted_too : refused true ≡ None → value t (run t s) ≤ bound_of k minus → refused minus ≡ None
   accepted_too h within =
       let so = accepted t (class_of k) (bound_of k true) (limit_of k) extent skip s h in
       refusal-none t (class_of k) (bound_of k minus) (limit_of k) extent skip s (record { some = so.some; short = so.short; in_range = within; ends = so.ends })
 
-  -- else they spell the magnitude of the smallest value
+  -- If its value is above the other bound, it is the magnitude of `T::MIN`.
   accepted_least : refused true ≡ None → bound_of k minus < value t (run t s) → IsLeast
   accepted_least h above =
       let so = accepted t (class_of k) (bound_of k true) (limit_of k) extent skip s h in
@@ -243,7 +254,8 @@ module _ (t : Table) (k : IntType) (minus : Bool) (extent : Extent) (skip : Bool
         refused_is = refused_overflow t (class_of k) (bound_of k minus) (limit_of k) extent skip s so.some so.short above;
       }
 
-  -- digits that are refused under the negative bound are refused under another for the same reason, unless that holds a number above it
+  -- A body that is refused under the negative bound is refused with the same error under another
+  -- bound, unless the error holds a number above that bound.
   refused_too : (reason : Refusal) → refused true ≡ Some reason → number_in reason ≤ bound_of k minus → refused minus ≡ Some reason
   refused_too reason h within =
       let number = value t (run t s) in
@@ -262,7 +274,8 @@ module _ (t : Table) (k : IntType) (minus : Bool) (extent : Extent) (skip : Bool
       bound-true k true = omega arith
       bound-true k false = omega arith
 
-  -- and if it does, they spell the magnitude of the smallest value, as many as the reason says
+  -- If it holds such a number, the digits spell the magnitude of `T::MIN`, and the index in the
+  -- error is their number.
   refused_least : (reason : Refusal) → refused true ≡ Some reason → bound_of k minus < number_in reason → IsLeast × (index_in reason ≡ run_len t s)
   refused_least reason h above =
       let number = value t (run t s) in
@@ -281,17 +294,17 @@ module _ (t : Table) (k : IntType) (minus : Bool) (extent : Extent) (skip : Bool
         sym index_is,
       )
 
--- a value that is there is the one that was chosen
+-- If a number is in range, it is the number that was chosen.
 chosen : (above : Bool) (y z : ℤ) → Some y ≡ cond above None (Some z) → (above ≡ false) × (y ≡ z)
 chosen true y z h = absurd (cc h)
 chosen false y z h = (refl, cc)
 
--- and if there is none, the test holds
+-- If there is no number in range, the value is above the bound.
 not_chosen : (above : Bool) (z : ℤ) → None ≡ cond above None (Some z) → above ≡ true
 not_chosen true z h = refl
 not_chosen false z h = absurd (cc h)
 
--- the same of a count that is there if the test holds
+-- If there is a count, the value is above the bound and the count is the index.
 counted : (above : Bool) (count index : ℕ) → Some count ≡ cond above (Some index) None → (above ≡ true) × (count ≡ index)
 counted true count index h = (refl, cc)
 counted false count index h = absurd (cc h)
@@ -300,21 +313,22 @@ not_counted : (above : Bool) (index : ℕ) → None ≡ cond above (Some index) 
 not_counted true index h = absurd (cc h)
 not_counted false index h = refl
 
--- `either` is the number with the sign whose magnitude is that of `negative`, or none if it is out of range
+-- `either` is the number whose magnitude is that of `negative` and which has the sign `minus`, or
+-- `None` if that is out of range.
 abbrev pub IsInRange : IntType → Bool → (negative : ℤ) → Option ℤ → Type 0
 IsInRange k minus negative either =
     (magnitude : ℕ) → negative ≡ with_sign true magnitude
     → either ≡ cond (ltb (bound_of k minus) magnitude) None (Some (with_sign minus magnitude))
 
 module _ (t : Table) (k : IntType) (minus skip : Bool) (s : List ℕ) where
-  -- all of a slice: a number in range
+  -- Whole slice: the number is in range.
   pub whole_number : (x y : ℤ) → Ok x ≡ whole_answer t k true skip s → IsInRange k minus x (Some y) → Ok y ≡ whole_answer t k minus skip s
   whole_number x y h so =
       let both = map_unless_ok (with_sign true) _ _ x (sym h) in
       let number = chosen _ y _ (so (value t (run t s)) both.1) in
       rw (accepted_too t k minus whole skip s both.0 (ltb-false _ _ number.0)) (ap Ok number.1)
 
-  -- a number out of range
+  -- Whole slice: the number is out of range, so it is the magnitude of `T::MIN`.
   pub whole_least : (x : ℤ) → Ok x ≡ whole_answer t k true skip s → IsInRange k minus x None → IsLeast t k minus whole skip s × (length s ≡ run_len t s)
   whole_least x h so =
       let both = map_unless_ok (with_sign true) _ _ x (sym h) in
@@ -322,13 +336,14 @@ module _ (t : Table) (k : IntType) (minus skip : Bool) (s : List ℕ) where
       let was = accepted t (class_of k) (bound_of k true) (limit_of k) whole skip s both.0 in
       (accepted_least t k minus whole skip s both.0 (ltb-true _ _ above), sym (whole_is_run (run_len t s) (length s) was.ends))
 
-  -- an error with no number above the bound
+  -- Whole slice: the error holds no number above the bound, so it stays the same.
   pub whole_error : (reason : Refusal) → Err reason ≡ whole_answer t k true skip s
       → None ≡ cond (ltb (bound_of k minus) (number_in reason)) (Some (index_in reason)) None → Err reason ≡ whole_answer t k minus skip s
   whole_error reason h none =
       rw (refused_too t k minus whole skip s reason (map_unless_err (with_sign true) _ _ reason (sym h)) (ltb-false _ _ (not_counted _ _ none))) refl
 
-  -- an error with a number above it
+  -- Whole slice: the error holds a number above the bound, so the digits spell the magnitude of
+  -- `T::MIN`.
   pub whole_error_least : (reason : Refusal) (count : ℕ) → Err reason ≡ whole_answer t k true skip s
       → Some count ≡ cond (ltb (bound_of k minus) (number_in reason)) (Some (index_in reason)) None → IsLeast t k minus whole skip s × (count ≡ run_len t s)
   whole_error_least reason count h some =
@@ -336,13 +351,13 @@ module _ (t : Table) (k : IntType) (minus skip : Bool) (s : List ℕ) where
       let least = refused_least t k minus whole skip s reason (map_unless_err (with_sign true) _ _ reason (sym h)) (ltb-true _ _ above.0) in
       (least.0, above.1 ∙ least.1)
 
-  -- the answer of the smallest value's magnitude
+  -- Whole slice: the magnitude of `T::MIN` overflows.
   pub whole_overflows : (count : ℕ) (rest : List ℕ) → IsLeast t k minus whole skip s → count ≡ run_len t s
       → rest ≡ drop (rule_of (class_of k) whole skip (limit_of k) count (skipped_zeros t skip s)).dropped s
       → Err (overflow rest) ≡ whole_answer t k minus skip s
   whole_overflows count rest least count_is rest_is = rw (rest_is, count_is, least.refused_is) refl
 
-  -- the front of a slice: a number in range
+  -- Prefix: the number is in range.
   pub prefix_number : (x y : ℤ) (len : ℕ) → Ok (x, len) ≡ prefix_answer t k true skip s → IsInRange k minus x (Some y) → Ok (y, len) ≡ prefix_answer t k minus skip s
   prefix_number x y len h so =
       let both = map_unless_ok (counted_number true) _ _ (x, len) (sym h) in
@@ -350,14 +365,14 @@ module _ (t : Table) (k : IntType) (minus skip : Bool) (s : List ℕ) where
       let count : len ≡ run_len t s = ap (λ (pair : ℤ × ℕ). pair.1) both.1 in
       rw (accepted_too t k minus prefix skip s both.0 (ltb-false _ _ number.0)) (ap₂ (λ (n : ℤ) (m : ℕ). Ok (n, m)) number.1 count)
 
-  -- a number out of range
+  -- Prefix: the number is out of range, so it is the magnitude of `T::MIN`.
   pub prefix_least : (x : ℤ) (len : ℕ) → Ok (x, len) ≡ prefix_answer t k true skip s → IsInRange k minus x None → IsLeast t k minus prefix skip s × (len ≡ run_len t s)
   prefix_least x len h so =
       let both = map_unless_ok (counted_number true) _ _ (x, len) (sym h) in
       let above = not_chosen _ _ (so (value t (run t s)) (ap (λ (pair : ℤ × ℕ). pair.0) both.1)) in
       (accepted_least t k minus prefix skip s both.0 (ltb-true _ _ above), ap (λ (pair : ℤ × ℕ). pair.1) both.1)
 
-  -- an error never holds a number
+  -- Prefix: an error never holds a number, so it stays the same.
   pub prefix_error : (reason : Refusal) → Err reason ≡ prefix_answer t k true skip s → Err reason ≡ prefix_answer t k minus skip s
   prefix_error reason h =
       let refused_is = map_unless_err (counted_number true) _ _ reason (sym h) in
@@ -365,7 +380,7 @@ module _ (t : Table) (k : IntType) (minus skip : Bool) (s : List ℕ) where
       refusal-cases t (class_of k) (bound_of k true) (limit_of k) prefix skip s (λ r. number_in r ≡ 0) (λ _. refl) (λ _ _. refl) (λ _ _ _. refl) (λ _ _ _ e. absurd (cc e)) reason refused_is in
       rw (refused_too t k minus prefix skip s reason refused_is (omega arith)) refl
 
-  -- the answer of the smallest value's magnitude
+  -- Prefix: the magnitude of `T::MIN` overflows.
   pub prefix_overflows : (count : ℕ) (rest : List ℕ) → IsLeast t k minus prefix skip s → count ≡ run_len t s
       → rest ≡ drop (rule_of (class_of k) prefix skip (limit_of k) count (skipped_zeros t skip s)).dropped s
       → Err (overflow rest) ≡ prefix_answer t k minus skip s

@@ -1,4 +1,6 @@
--- Answers of calls: when a body is refused, the sign before it, and the answer for an integer type.
+-- Answers of calls: when a body (the slice after its sign) is refused, which sign is consumed
+-- before it, and what the answer is for an integer type. The proofs of the laws and of the core
+-- calls use these lemmas.
 use Rattle.std.proofs.Common.{◌≡◌, ℕ, ◌+◌, ◌-◌, ◌<◌, ◌≤◌, min, Bool, true, false, cond, eqb, ltb, List, [], length, drop, subst, Option, Some, None, option_map, refl, sym, ap, ◌∙◌, arith, ltb-false, le-ltb, ne_eqb, ◌&&◌, ◌∷◌, ◌++◌, take, Result, Ok, Err, ℤ, add-zero, eqb-true, eq-eqb}
 use Rattle.std.proofs.lemmas.Bool.{eqb-false, lt-ltb, and_right, not-false}
 use Rattle.std.proofs.Math.Seq.{drop-length}
@@ -13,13 +15,15 @@ use Rattle.atoi_core.specs.Laws.{SignForm, looked_for, given, sign_in, whole_cal
 use Rattle.atoi_core.specs.Answer.{map_answer, whole_answer, prefix_answer, with_more}
 use Rattle.std.proofs.lemmas.List.Sums.{prefix_len-le-length}
 
--- Where a body is refused, and why: the cases of `refusal`, each as a fact.
+-- ---- When a body is refused
+-- The definition `refusal` tests four conditions in a row. These lemmas state each case as a fact
+-- of its own.
 
--- the first of four whose test holds
+-- The first of four results whose test holds.
 abbrev pub first_of : {A : Type 0} → (a b c d : Bool) → (p q r s : A) → Option A
 first_of a b c d p q r s = cond a (Some p) (cond b (Some q) (cond c (Some r) (cond d (Some s) None)))
 
--- there is no reason only where no test holds
+-- If there is no result, none of the four tests holds.
 first_none : (a b c d : Bool) (p q r s : Refusal) → first_of a b c d p q r s ≡ None
     → (a ≡ false) × (b ≡ false) × (c ≡ false) × (d ≡ false)
 first_none true b c d p q r s h = absurd (cc h)
@@ -28,7 +32,8 @@ first_none false false true d p q r s h = absurd (cc h)
 first_none false false false true p q r s h = absurd (cc h)
 first_none false false false false p q r s h = (refl, refl, refl, refl)
 
--- what holds of each reason where its test is the first that holds, holds of the first reason
+-- If a property holds for each result under the condition that its test is the first to hold, it
+-- holds for the result that is chosen.
 first_cases : (P : Refusal → Type 0) (a b c d : Bool) (p q r s : Refusal)
     → (a ≡ true → P p) → (a ≡ false → b ≡ true → P q) → (a ≡ false → b ≡ false → c ≡ true → P r)
     → (a ≡ false → b ≡ false → c ≡ false → d ≡ true → P s)
@@ -39,7 +44,7 @@ first_cases P false false true d p q r s hp hq hr hs reason h = let e : r ≡ re
 first_cases P false false false true p q r s hp hq hr hs reason h = let e : s ≡ reason = cc h in subst P e (hs refl refl refl refl)
 first_cases P false false false false p q r s hp hq hr hs reason h = absurd (cc h)
 
--- the rank of the first reason is the first rank
+-- The rank of the chosen error is the one that the same tests choose among the four ranks.
 first_map : (a b c d : Bool) (p q r s : Refusal)
     → option_map rank (first_of a b c d p q r s) ≡ first_of a b c d (rank p) (rank q) (rank r) (rank s)
 first_map true b c d p q r s = refl
@@ -48,11 +53,11 @@ first_map false false true d p q r s = refl
 first_map false false false true p q r s = refl
 first_map false false false false p q r s = refl
 
--- the limit of a class, extent and flag, which no digits change
+-- The limit on digits for a class, extent and flag. It does not depend on the digits.
 abbrev pub limit_at : Class → Extent → Bool → ℕ → Option ℕ
 limit_at class extent skip limit = (rule_of class extent skip limit 0 0).limit
 
--- it is that of every rule
+-- Each rule has that limit.
 limit-is : (class : Class) (extent : Extent) (skip : Bool) (limit digits skipped : ℕ) → (rule_of class extent skip limit digits skipped).limit ≡ limit_at class extent skip limit
 limit-is narrow whole skip limit digits skipped = refl
 limit-is narrow prefix true limit digits skipped = refl
@@ -60,63 +65,63 @@ limit-is narrow prefix false limit digits skipped = refl
 limit-is wide64 extent skip limit digits skipped = refl
 limit-is wide128 extent skip limit digits skipped = refl
 
--- how many digits of a body count
+-- How many digits of a body are significant: those of its run after the skipped zeros.
 abbrev pub counting_digits : Table → Bool → List ℕ → ℕ
 counting_digits table skip body = run_len table body - skipped_zeros table skip body
 
--- nothing is to be refused of the body
+-- The body is accepted: no test refuses it.
 pub record IsAccepted (table : Table) (class : Class) (bound limit : ℕ) (extent : Extent) (skip : Bool) (body : List ℕ) : Type 0 where
   pub some : 0 < run_len table body
   pub short : is_above (limit_at class extent skip limit) (counting_digits table skip body) ≡ false
   pub in_range : value table (run table body) ≤ bound
   pub ends : leaves_rest extent (run_len table body) (length body) ≡ false
 
--- the rank of `invalid` is that of its class
+-- The rank of an `invalid` error depends on the class only.
 rank-invalid : (class : Class) (number index : ℕ) (body : List ℕ) → rank (invalid class number index body) ≡ rank (invalid class 0 0 [])
 rank-invalid narrow number index body = refl
 rank-invalid wide64 number index body = refl
 rank-invalid wide128 number index body = refl
 
--- the slice of `invalid` is the body
+-- The slice in an `invalid` error is the whole body.
 input-invalid : (class : Class) (number index : ℕ) (body : List ℕ) → input_of (invalid class number index body) ≡ body
 input-invalid narrow number index body = refl
 input-invalid wide64 number index body = refl
 input-invalid wide128 number index body = refl
 
 module _ (table : Table) (class : Class) (bound limit : ℕ) (extent : Extent) (skip : Bool) (body : List ℕ) where
-  -- the four tests
+  -- The first test: the body does not begin with a digit.
   abbrev pub is_empty : Bool
   is_empty = eqb (run_len table body) 0
 
-  -- too many digits count
+  -- The second test: there are more significant digits than the limit.
   abbrev pub is_long : Bool
   is_long = is_above (limit_at class extent skip limit) (counting_digits table skip body)
 
-  -- the value is above the bound
+  -- The third test: the value is larger than the bound.
   abbrev pub is_over : Bool
   is_over = ltb bound (value table (run table body))
 
-  -- bytes stand behind the digits of a whole slice
+  -- The fourth test: the digits of a whole slice are followed by another byte.
   abbrev pub is_followed : Bool
   is_followed = leaves_rest extent (run_len table body) (length body)
 
-  -- the rule that the reasons go by
+  -- The rule that sets the limit and the contents of the errors.
   abbrev pub rule : Rule
   rule = rule_of class extent skip limit (run_len table body) (skipped_zeros table skip body)
 
-  -- too many digits, with how many there are
+  -- The error for too many digits, with the number of digits that it reports.
   abbrev pub too_long : Refusal
   too_long = size (skipped_zeros table skip body + min (counting_digits table skip body) rule.cap) (drop (skipped_zeros table skip body) body)
 
-  -- a value above the bound
+  -- The error for a value above the bound.
   abbrev pub over : Refusal
   over = overflow (drop rule.dropped body)
 
-  -- a byte behind the digits
+  -- The error for a byte that follows the digits.
   abbrev pub followed : Refusal
   followed = invalid class (value table (run table body)) (run_len table body) body
 
-  -- the refusal is the first reason whose test holds
+  -- The refusal is the error of the first test that holds.
   pub refusal-is : refusal table class bound limit extent skip body
       ≡ first_of is_empty is_long is_over is_followed empty too_long over followed
   unfolding refusal
@@ -124,19 +129,19 @@ module _ (table : Table) (class : Class) (bound limit : ℕ) (extent : Extent) (
       ap (λ most. first_of is_empty (is_above most (counting_digits table skip body)) is_over is_followed empty too_long over followed)
       (limit-is class extent skip limit (run_len table body) (skipped_zeros table skip body))
 
-  -- no digit
+  -- If the body does not begin with a digit, the error is `Empty`.
   pub refused_empty : run_len table body ≡ 0 → refusal table class bound limit extent skip body ≡ Some empty
   refused_empty none =
       let e : is_empty ≡ true = eq-eqb (run_len table body) 0 none in
       refusal-is ∙ rw e refl
 
-  -- too many digits
+  -- If too many digits are significant, the error is `Size`.
   pub refused_size : 0 < run_len table body → is_long ≡ true → refusal table class bound limit extent skip body ≡ Some too_long
   refused_size some long =
       let e : is_empty ≡ false = ne_eqb (run_len table body) 0 (omega arith) in
       refusal-is ∙ rw (e, long) refl
 
-  -- a value above the bound
+  -- If the digits are few enough and the value is larger than the bound, the error is `Overflow`.
   pub refused_overflow : 0 < run_len table body → is_long ≡ false
       → bound < value table (run table body)
       → refusal table class bound limit extent skip body ≡ Some over
@@ -145,7 +150,7 @@ module _ (table : Table) (class : Class) (bound limit : ℕ) (extent : Extent) (
       let o : is_over ≡ true = lt-ltb bound (value table (run table body)) above in
       refusal-is ∙ rw (e, short, o) refl
 
-  -- what is accepted is not refused
+  -- An accepted body is not refused.
   pub refusal-none : IsAccepted table class bound limit extent skip body → refusal table class bound limit extent skip body ≡ None
   refusal-none h =
       let e : is_empty ≡ false = ne_eqb (run_len table body) 0 (omega arith) in
@@ -154,7 +159,7 @@ module _ (table : Table) (class : Class) (bound limit : ℕ) (extent : Extent) (
       let f : is_followed ≡ false = h.ends in
       refusal-is ∙ rw (e, l, o, f) refl
 
-  -- what is not refused is accepted
+  -- A body that is not refused is accepted.
   pub accepted : refusal table class bound limit extent skip body ≡ None → IsAccepted table class bound limit extent skip body
   accepted h =
       let tests = first_none is_empty is_long is_over is_followed empty too_long over followed (sym refusal-is ∙ h) in
@@ -165,7 +170,8 @@ module _ (table : Table) (class : Class) (bound limit : ℕ) (extent : Extent) (
         ends = tests.3;
       }
 
-  -- what holds of each reason where it is the first, holds of the reason
+  -- If a property holds for each error under the condition that its test is the first to hold, it
+  -- holds for the error of the refusal.
   pub refusal-cases : (P : Refusal → Type 0)
       → (is_empty ≡ true → P empty)
       → (is_empty ≡ false → is_long ≡ true → P too_long)
@@ -175,7 +181,7 @@ module _ (table : Table) (class : Class) (bound limit : ℕ) (extent : Extent) (
   refusal-cases P p q r s reason h =
       first_cases P is_empty is_long is_over is_followed empty too_long over followed p q r s reason (sym refusal-is ∙ h)
 
-  -- the slice of a reason is the body, but for some bytes in front
+  -- The slice in an error is the body without some bytes at its start.
   pub refusal-input : (reason : Refusal) → refusal table class bound limit extent skip body ≡ Some reason
       → (n : ℕ) × (input_of reason ≡ drop n body)
   refusal-input reason h =
@@ -183,16 +189,17 @@ module _ (table : Table) (class : Class) (bound limit : ℕ) (extent : Extent) (
       (λ e. (length body, sym (drop-length body))) (λ e l. (skipped_zeros table skip body, refl)) (λ e l o. (rule.dropped, refl))
       (λ e l o f. (0, input-invalid class _ _ body)) reason h
 
-  -- the kind of a reason is told by the four tests
+  -- The four tests decide the rank of the error.
   pub refusal-rank : option_map rank (refusal table class bound limit extent skip body)
       ≡ first_of is_empty is_long is_over is_followed 0 1 2 (rank (invalid class 0 0 []))
   refusal-rank =
       ap (option_map rank) refusal-is ∙ first_map is_empty is_long is_over is_followed empty too_long over followed
       ∙ ap (first_of is_empty is_long is_over is_followed 0 1 2) (rank-invalid class _ _ body)
 
--- The sign at the front of a slice: what it leaves, and when it is taken again.
+-- ---- The sign at the start of a slice
+-- These lemmas say what remains after it, and when the same sign is consumed again.
 
--- a fact of each of the three ways to take a sign, by the tests
+-- A property of three signs, chosen by two tests, holds for the sign that is chosen.
 one_of_three : (a b : Bool) (x y z : Sign) (P : Sign → Type 0)
     → (a ≡ true → P x) → (a ≡ false → b ≡ true → P y) → P z
     → P (cond a x (cond b y z))
@@ -200,7 +207,7 @@ one_of_three true b x y z P p q r = p refl
 one_of_three false true x y z P p q r = q refl refl
 one_of_three false false x y z P p q r = r
 
--- the three ways to take a sign
+-- There are three cases: a plus is consumed, a minus is consumed, or no sign is.
 pub sign_cases : (signed plus : Bool) (byte : ℕ) (bytes : List ℕ) (P : Sign → Type 0)
     → ((plus && eqb byte plus_sign) ≡ true → P (record { minus = false; taken = 1; body = bytes }))
     → ((plus && eqb byte plus_sign) ≡ false → (signed && eqb byte minus_sign) ≡ true → P (record { minus = true; taken = 1; body = bytes }))
@@ -212,25 +219,25 @@ sign_cases signed plus byte bytes P p q r =
     (record { minus = true; taken = 1; body = bytes })
     (record { minus = false; taken = 0; body = byte ∷ bytes }) P p q r
 
--- the body is what stands behind the bytes taken
+-- The body is the slice without the bytes of its sign.
 pub drop-taken : (k : IntType) (form : SignForm) (s : List ℕ) → drop (sign_in k form s).taken s ≡ (sign_in k form s).body
 drop-taken k (looked_for plus) [] = refl
 drop-taken k (looked_for plus) (byte ∷ bytes) =
     sign_cases k.signed plus byte bytes (λ g. drop g.taken (byte ∷ bytes) ≡ g.body) (λ e. refl) (λ p e. refl) refl
 drop-taken k (given is_negative) s = refl
 
--- the bytes taken and the body make up the slice
+-- The bytes of the sign and of the body make up the slice.
 pub length-taken : (k : IntType) (form : SignForm) (s : List ℕ) → (sign_in k form s).taken + length (sign_in k form s).body ≡ length s
 length-taken k (looked_for plus) [] = omega arith
 length-taken k (looked_for plus) (byte ∷ bytes) =
     sign_cases k.signed plus byte bytes (λ g. g.taken + length g.body ≡ length (byte ∷ bytes)) (λ e. omega arith) (λ p e. omega arith) (omega arith)
 length-taken k (given is_negative) s = omega arith
 
--- a digit is a byte from 48 to 57
+-- A decimal digit is a byte from 48 to 57.
 pub digit_in_range : (byte : ℕ) → is_digit decimal_table byte ≡ true → (48 ≤ byte) × (byte ≤ 57)
 digit_in_range byte h = (grind (arith, nat_tests), grind (arith, nat_tests))
 
--- a slice that begins with digits begins with a digit
+-- If the run is not empty, the first byte is a digit.
 first_digit : (byte : ℕ) (bytes : List ℕ) → 0 < run_len decimal_table (byte ∷ bytes) → is_digit decimal_table byte ≡ true
 first_digit byte bytes h = first (is_digit decimal_table byte) h
   where
@@ -238,7 +245,7 @@ first_digit byte bytes h = first (is_digit decimal_table byte) h
     first true lt = refl
     first false lt = absurd (omega arith)
 
--- no sign is taken from a slice that begins with a digit
+-- No sign is consumed from a slice that begins with a digit.
 pub sign_of_digits : (signed plus : Bool) (s : List ℕ) → 0 < run_len decimal_table s
     → sign_of signed plus s ≡ record { minus = false; taken = 0; body = s }
 sign_of_digits signed plus [] h = absurd (omega arith)
@@ -248,7 +255,8 @@ sign_of_digits signed plus (byte ∷ bytes) h =
     let no_minus : eqb byte 45 ≡ false = ne_eqb byte 45 (omega arith) in
     rw (and_right plus (eqb byte 43) no_plus, and_right signed (eqb byte 45) no_minus) refl
 
--- the sign that was taken is taken again before another body that begins with a digit
+-- If the body after a sign is replaced by another body that begins with a digit, the same sign is
+-- consumed.
 pub sign_again : (k : IntType) (form : SignForm) (s t : List ℕ) → 0 < run_len decimal_table t
     → sign_in k form (take (sign_in k form s).taken s ++ t)
     ≡ record { minus = (sign_in k form s).minus; taken = (sign_in k form s).taken; body = t }
@@ -259,55 +267,58 @@ sign_again k (looked_for plus) (byte ∷ bytes) t h =
     (λ e. rw e refl) (λ p e. rw (p, e) refl) (sign_of_digits k.signed plus t h)
 sign_again k (given is_negative) s t h = refl
 
--- The calls by the sign that they go by, and what an answer that is `Ok` tells.
+-- ---- Calls and their results
+-- These lemmas express the answer of a call with the sign that it uses, and say what follows from
+-- an `Ok`.
 
--- a count that grows by 0 stays
+-- Adding 0 to the count of an answer does not change it.
 pub with_more-zero : (r : Result (ℤ × ℕ) Refusal) → with_more 0 r ≡ r
 with_more-zero (Ok found) = rw add-zero refl
 with_more-zero (Err reason) = refl
 
--- a whole parse reads the body behind its sign
+-- A whole parse answers as its body does, with the sign before it.
 pub whole_call-is : (k : IntType) (form : SignForm) (skip : Bool) (s : List ℕ)
     → whole_call k form skip s ≡ whole_answer decimal_table k (sign_in k form s).minus skip (sign_in k form s).body
 whole_call-is k (looked_for plus) skip s = refl
 whole_call-is k (given is_negative) skip s = refl
 
--- a prefix parse too, and counts the sign's byte
+-- A prefix parse does too, and its count includes the byte of the sign.
 pub prefix_call-is : (k : IntType) (form : SignForm) (skip : Bool) (s : List ℕ)
     → prefix_call k form skip s
     ≡ with_more (sign_in k form s).taken (prefix_answer decimal_table k (sign_in k form s).minus skip (sign_in k form s).body)
 prefix_call-is k (looked_for plus) skip s = refl
 prefix_call-is k (given is_negative) skip s = sym (with_more-zero (prefix_answer decimal_table k is_negative skip s))
 
--- the magnitude with its sign, and how many bytes were read
+-- The magnitude with its sign, and the number of bytes read.
 abbrev pub counted_number : Bool → ℕ × ℕ → ℤ × ℕ
 counted_number minus found = (with_sign minus found.0, found.1)
 
--- an answer of one value, unless there is a reason
+-- If the answer is `Ok`, nothing was refused, and the value is the expected one.
 pub map_unless_ok : {A B : Type 0} (f : A → B) (r : Option Refusal) (x : A) (y : B)
     → map_answer f (unless_refused r x) ≡ Ok y → (r ≡ None) × (y ≡ f x)
 map_unless_ok f None x y h = (refl, cc)
 map_unless_ok f (Some reason) x y h = absurd (cc h)
 
--- an answer that is an error has the reason
+-- If the answer is an error, it is the refusal.
 pub map_unless_err : {A B : Type 0} (f : A → B) (r : Option Refusal) (x : A) (reason : Refusal)
     → map_answer f (unless_refused r x) ≡ Err reason → r ≡ Some reason
 map_unless_err f None x reason h = absurd (cc h)
 map_unless_err f (Some other) x reason h = cc
 
--- with no reason the answer is the value
+-- If nothing is refused, the answer is `Ok` of the value.
 map_unless_none : {A B : Type 0} (f : A → B) (r : Option Refusal) (x : A) → r ≡ None → map_answer f (unless_refused r x) ≡ Ok (f x)
 map_unless_none f r x h = rw h refl
 
--- what is read as a whole is digits to its end
+-- A whole slice that leaves no rest consists of digits only.
 pub whole_is_run : (digits length : ℕ) → leaves_rest whole digits length ≡ false → digits ≡ length
 whole_is_run digits length h = eqb-true digits length (not-false (eqb digits length) h)
 
--- and digits to the end leave no rest
+-- A whole slice that consists of digits only leaves no rest.
 pub run_is_whole : (digits length : ℕ) → digits ≡ length → leaves_rest whole digits length ≡ false
 run_is_whole digits length h = rw (eq-eqb digits length h) refl
 
--- the same answer, with the sign's byte counted
+-- If adding to the count gives `Ok`, the answer before was `Ok` with the same value and the smaller
+-- count.
 with_more_ok : (more : ℕ) (r : Result (ℤ × ℕ) Refusal) (v : ℤ) (count : ℕ) → with_more more r ≡ Ok (v, count)
     → (read : ℕ) × (r ≡ Ok (v, read)) × (count ≡ read + more)
 with_more_ok more (Ok found) v count h =
@@ -316,39 +327,41 @@ with_more_ok more (Ok found) v count h =
 with_more_ok more (Err reason) v count h = absurd (cc h)
 
 module _ (k : IntType) (minus skip : Bool) (body : List ℕ) where
-  -- nothing is to be refused of the body as a whole
+  -- The body is accepted as a whole slice.
   abbrev pub IsWhole : Type 0
   IsWhole = IsAccepted decimal_table (class_of k) (bound_of k minus) (limit_of k) whole skip body
 
-  -- nothing is to be refused of its front
+  -- The body is accepted as a slice that begins with a number.
   abbrev pub IsPrefix : Type 0
   IsPrefix = IsAccepted decimal_table (class_of k) (bound_of k minus) (limit_of k) prefix skip body
 
-  -- a whole body that is answered `Ok` is accepted, and the answer is its number
+  -- If a whole body is answered `Ok`, it is accepted, and the answer is its value with the sign.
   pub from_whole : (v : ℤ) → whole_answer decimal_table k minus skip body ≡ Ok v
       → IsWhole × (v ≡ with_sign minus (value decimal_table (run decimal_table body)))
   from_whole v h =
       let found = map_unless_ok (with_sign minus) _ _ v h in
       (accepted decimal_table (class_of k) (bound_of k minus) (limit_of k) whole skip body found.0, found.1)
 
-  -- a whole body that is accepted is answered with its number
+  -- An accepted whole body is answered with its value and the sign.
   pub to_whole : IsWhole → whole_answer decimal_table k minus skip body ≡ Ok (with_sign minus (value decimal_table (run decimal_table body)))
   to_whole h =
       map_unless_none (with_sign minus) _ _ (refusal-none decimal_table (class_of k) (bound_of k minus) (limit_of k) whole skip body h)
 
-  -- the same of a front, with its length
+  -- If a prefix is answered `Ok`, the body is accepted, and the answer is the value and the length
+  -- of its run.
   pub from_prefix : (v : ℤ) (count : ℕ) → prefix_answer decimal_table k minus skip body ≡ Ok (v, count)
       → IsPrefix × (v ≡ with_sign minus (value decimal_table (run decimal_table body))) × (count ≡ run_len decimal_table body)
   from_prefix v count h =
       let found = map_unless_ok (counted_number minus) _ _ (v, count) h in
       (accepted decimal_table (class_of k) (bound_of k minus) (limit_of k) prefix skip body found.0, ap (λ (p : ℤ × ℕ). p.0) found.1, ap (λ (p : ℤ × ℕ). p.1) found.1)
 
-  -- a front that is accepted is answered with its number and length
+  -- An accepted prefix is answered with its value and its length.
   pub to_prefix : IsPrefix → prefix_answer decimal_table k minus skip body ≡ Ok (with_sign minus (value decimal_table (run decimal_table body)), run_len decimal_table body)
   to_prefix h =
       map_unless_none (counted_number minus) _ _ (refusal-none decimal_table (class_of k) (bound_of k minus) (limit_of k) prefix skip body h)
 
-  -- what makes a whole body accepted
+  -- A body is accepted as a whole if it has digits only, at least one and not too many, and a value
+  -- within the bound.
   pub is_whole : 0 < run_len decimal_table body
       → is_above (limit_at (class_of k) whole skip (limit_of k)) (counting_digits decimal_table skip body) ≡ false
       → value decimal_table (run decimal_table body) ≤ bound_of k minus
@@ -357,13 +370,14 @@ module _ (k : IntType) (minus skip : Bool) (body : List ℕ) where
   is_whole some short in_range all =
       record { some = some; short = short; in_range = in_range; ends = run_is_whole (run_len decimal_table body) (length body) all }
 
--- what a prefix that is `Ok` tells: its front is not refused, and gives the value and the count
+-- What an `Ok` of a prefix parse means: the body is accepted, and value and count are those of its
+-- run and sign.
 pub record IsFound (k : IntType) (g : Sign) (skip : Bool) (v : ℤ) (count : ℕ) : Type 0 where
   pub front : IsPrefix k g.minus skip g.body
   pub number : v ≡ with_sign g.minus (value decimal_table (run decimal_table g.body))
   pub counted : count ≡ run_len decimal_table g.body + g.taken
 
--- a prefix call that is `Ok` has found such a front
+-- If a prefix call is `Ok`, its value and count are of this form.
 pub found_prefix : (k : IntType) (form : SignForm) (skip : Bool) (s : List ℕ) (v : ℤ) (count : ℕ)
     → prefix_call k form skip s ≡ Ok (v, count) → IsFound k (sign_in k form s) skip v count
 found_prefix k form skip s v count h =
@@ -372,7 +386,7 @@ found_prefix k form skip s v count h =
     let found = from_prefix k g.minus skip g.body v counted.0 counted.1 in
     record { front = found.0; number = found.1; counted = rw (← found.2) counted.2 }
 
--- a prefix call that finds such a front is `Ok`
+-- If value and count are of this form, the prefix call is `Ok` of them.
 pub ok_prefix : (k : IntType) (form : SignForm) (skip : Bool) (s : List ℕ) (v : ℤ) (count : ℕ)
     → IsFound k (sign_in k form s) skip v count → prefix_call k form skip s ≡ Ok (v, count)
 ok_prefix k form skip s v count h =
@@ -381,9 +395,10 @@ ok_prefix k form skip s v count h =
     ∙ ap (with_more g.taken) (to_prefix k g.minus skip g.body h.front)
     ∙ rw (h.number, h.counted) refl
 
--- The answers for an integer type, from those of the loops.
+-- ---- Answers for an integer type
+-- These lemmas say how the answers are related to bounds, limits and counts.
 
--- a prefix that is not refused is in bounds
+-- A prefix that is answered `Ok` has a value within the bound.
 pub prefix_in_bounds : (table : Table) (class : Class) (bound limit : ℕ) (skip : Bool) (s : List ℕ) (number len : ℕ)
     → Ok (number, len) ≡ prefix_magnitude table class bound limit skip s → number ≤ bound
 prefix_in_bounds table class bound limit skip s number len found =
@@ -391,7 +406,7 @@ prefix_in_bounds table class bound limit skip s number len found =
     let P : ℕ → Type 0 = λ n. n ≤ bound in
     subst P (ap (λ (pair : ℕ × ℕ). pair.0) (sym both.1)) (accepted table class bound limit prefix skip s both.0).in_range
 
--- a whole slice that is not refused is in bounds
+-- A whole slice that is answered `Ok` has a value within the bound.
 pub whole_in_bounds : (table : Table) (class : Class) (bound limit : ℕ) (skip : Bool) (s : List ℕ) (number : ℕ)
     → Ok number ≡ whole_magnitude table class bound limit skip s → number ≤ bound
 whole_in_bounds table class bound limit skip s number found =
@@ -399,20 +414,20 @@ whole_in_bounds table class bound limit skip s number found =
     let P : ℕ → Type 0 = λ n. n ≤ bound in
     subst P (sym both.1) (accepted table class bound limit whole skip s both.0).in_range
 
--- the limit of a narrow prefix is its own
+-- The limit that is passed in does not matter for a narrow prefix, which has a limit of its own.
 pub narrow_prefix_limit : (table : Table) (bound limit : ℕ) (skip : Bool) (s : List ℕ)
     → refusal table narrow bound limit prefix skip s ≡ refusal table narrow bound 0 prefix skip s
 unfolding refusal
 narrow_prefix_limit table bound limit true s = refl
 narrow_prefix_limit table bound limit false s = refl
 
--- a narrow whole slice has no limit, and it is no matter whether its zeros are skipped
+-- For a narrow whole slice neither the limit matters nor whether zeros are skipped.
 pub narrow_whole_limit : (table : Table) (bound limit : ℕ) (skip : Bool) (s : List ℕ)
     → refusal table narrow bound limit whole skip s ≡ refusal table narrow bound 0 whole false s
 unfolding refusal
 narrow_whole_limit table bound limit skip s = refl
 
--- what a prefix counts lies within the slice
+-- The count of a prefix is at most the length of the slice.
 pub prefix_within : (table : Table) (class : Class) (bound limit : ℕ) (skip : Bool) (s : List ℕ) (number len : ℕ)
     → Ok (number, len) ≡ prefix_magnitude table class bound limit skip s → len ≤ length s
 prefix_within table class bound limit skip s number len found =

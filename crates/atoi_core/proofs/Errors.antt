@@ -1,4 +1,5 @@
--- Errors: their order, their slices, their reasons and their texts.
+-- Errors: how they are ordered, which slices they hold, what they say about the body, and how their
+-- texts are built.
 use Rattle.std.proofs.Common.{◌≡◌, ◌↔◌, refl, ℕ, ◌+◌, Bool, List, ◌++◌, take, drop, Some, Result, Ok, Err, ℤ, sym, ap, ◌∙◌, take-append-drop, drop-drop, ◌<◌, ◌≤◌, true, false, eqb, length, Option, None, arith, eqb-true, ltb-true, ltb-false, ◌/◌, ◌%◌, ◌^◌, [], ◌∷◌, decimal, length-append, ◌⊎◌, inl, inr, suc, codes, get_or, IsAscii, rules}
 use Rattle.std.specs.declared.cmp.Ordering.{Ordering}
 use Rattle.std.specs.declared.cmp.Ordering.TheVariants.{Less, Equal, Greater}
@@ -27,9 +28,9 @@ use Rattle.std.proofs.lemmas.Bool.Decides.{nat_tests}
 use Rattle.std.proofs.lemmas.Str.{IsAscii-append}
 use Rattle.std.proofs.lemmas.Str.Ascii.{IsAscii-nil, IsAscii-cons}
 
--- The order of errors.
+-- ---- The order of errors
 
--- where one comparison after another answers `Equal`, both did
+-- If two comparisons one after the other give `Equal`, the first one does.
 then_first : (first rest : Ordering) → ordering_then first rest ≡ Equal → first ≡ Equal
 then_first Less rest equal = cc
 then_first Equal rest equal = refl
@@ -40,22 +41,22 @@ then_rest Less rest equal = cc
 then_rest Equal rest equal = equal
 then_rest Greater rest equal = cc
 
--- the order of errors is total
+-- The order of errors is total.
 pub refusal_cmp-total : IsTotalOrder refusal_cmp
 refusal_cmp-total =
     then_total (on_total rank nat_cmp_total)
     (then_total (on_total numbers nat_list_cmp_total) (on_total input_of nat_list_cmp_total))
 
--- the numbers of two errors of which neither is less are the same
+-- Errors that compare as equal hold the same numbers.
 same_numbers : (a b : Refusal) → refusal_cmp a b ≡ Equal → numbers a ≡ numbers b
 same_numbers a b equal = exact_bytes _ _ (then_first _ _ (then_rest (nat_cmp (rank a) (rank b)) _ equal))
 
--- and so are their slices
+-- Errors that compare as equal hold the same slice.
 same_input : (a b : Refusal) → refusal_cmp a b ≡ Equal → input_of a ≡ input_of b
 same_input a b equal =
     exact_bytes _ _ (then_rest (slice_cmp nat_cmp (numbers a) (numbers b)) _ (then_rest (nat_cmp (rank a) (rank b)) _ equal))
 
--- two errors compare as equal only where they are the same
+-- Errors that compare as equal are the same.
 same-refusal_cmp : (a b : Refusal) → refusal_cmp a b ≡ Equal → a ≡ b
 same-refusal_cmp empty empty equal = refl
 same-refusal_cmp (size m s) (size n t) equal =
@@ -71,31 +72,32 @@ same-refusal_cmp (invalid128 m i s) (invalid128 n j t) equal =
     let f = same_input (invalid128 m i s) (invalid128 n j t) equal in cc
 same-refusal_cmp a b equal = cc
 
--- two errors compare as equal exactly where they are the same
+-- Two errors compare as equal exactly if they are the same.
 pub refusal_cmp-Equal : (a b : Refusal) → (refusal_cmp a b ≡ Equal) ↔ (a ≡ b)
 refusal_cmp-Equal a b = (same-refusal_cmp a b, λ same. rw (← same) (tied_itself refusal_cmp-total a))
 
--- Each slice in an error of an answer stands at the end of the slice that was parsed.
+-- ---- Slices in errors
+-- Each slice in an error is a suffix of the slice that was parsed.
 
--- what stands at the end of the body stands at the end of the slice
+-- A suffix of the body is a suffix of the slice.
 suffix_of_body : (k : IntType) (form : SignForm) (s t : List ℕ) → (n : ℕ) × (t ≡ drop n (sign_in k form s).body) → IsSuffix t s
 suffix_of_body k form s t end =
     let taken = (sign_in k form s).taken in
     let at : t ≡ drop (taken + end.0) s = end.1 ∙ ap (drop end.0) (sym (drop-taken k form s)) ∙ drop-drop end.0 taken s in
     (take (taken + end.0) s, sym (take-append-drop (taken + end.0) s) ∙ ap (λ rest. take (taken + end.0) s ++ rest) (sym at))
 
--- a count does not touch an error
+-- Adding to the count of an answer does not change an error.
 with_more_err : (more : ℕ) (r : Result (ℤ × ℕ) Refusal) (reason : Refusal) → with_more more r ≡ Err reason → r ≡ Err reason
 with_more_err more (Ok found) reason h = absurd (cc h)
 with_more_err more (Err other) reason h = cc
 
--- a whole call's error is what its body is refused for
+-- The error of a whole call is the refusal of its body.
 pub whole_refused : (k : IntType) (form : SignForm) (skip : Bool) (s : List ℕ) (reason : Refusal) → whole_call k form skip s ≡ Err reason
     → refusal decimal_table (class_of k) (bound_of k (sign_in k form s).minus) (limit_of k) whole skip (sign_in k form s).body ≡ Some reason
 whole_refused k form skip s reason h =
     map_unless_err (with_sign (sign_in k form s).minus) _ _ reason (sym (whole_call-is k form skip s) ∙ h)
 
--- so is a prefix call's
+-- The error of a prefix call is the refusal of its body.
 pub prefix_refused : (k : IntType) (form : SignForm) (skip : Bool) (s : List ℕ) (reason : Refusal) → prefix_call k form skip s ≡ Err reason
     → refusal decimal_table (class_of k) (bound_of k (sign_in k form s).minus) (limit_of k) prefix skip (sign_in k form s).body ≡ Some reason
 prefix_refused k form skip s reason h =
@@ -103,7 +105,7 @@ prefix_refused k form skip s reason h =
     map_unless_err (counted_number g.minus) _ _ reason
     (with_more_err g.taken (prefix_answer decimal_table k g.minus skip g.body) reason (sym (prefix_call-is k form skip s) ∙ h))
 
--- the law: the order of errors, and where their slices stand
+-- The law `OrderAndSuffix`: the order of errors, and that their slices are suffixes.
 pub order_and_suffix : (k : IntType) → OrderAndSuffix k
 order_and_suffix k = record {
   order = refusal_cmp-Equal;
@@ -117,9 +119,9 @@ order_and_suffix k = record {
       (refusal-input decimal_table (class_of k) (bound_of k g.minus) (limit_of k) prefix skip g.body reason (prefix_refused k form skip s reason h));
 }
 
--- What a body is like where it is refused, for each reason.
+-- ---- What an error says about the body
 
--- the test of a limit, as a fact
+-- If the test of the limit holds, there is a limit, and the count is larger.
 above : (limit : Option ℕ) (count : ℕ) → is_above limit count ≡ true → IsAbove limit count
 above None count h = absurd (cc h)
 above (Some limit) count h = ltb-true limit count h
@@ -128,20 +130,21 @@ not_above : (limit : Option ℕ) (count : ℕ) → is_above limit count ≡ fals
 not_above None count h = λ p. p
 not_above (Some limit) count h = λ p. absurd (omega (arith, ltb-false limit count h))
 
--- only a whole slice leaves a rest, and then not all of it are digits
+-- Only a whole slice is refused for bytes after its digits, and then it has fewer digits than
+-- bytes.
 rest_left : (extent : Extent) (digits length : ℕ) → digits ≤ length → leaves_rest extent digits length ≡ true → digits < length
 rest_left whole digits length le h = omega (arith, eqb-false digits length (not-true (eqb digits length) h))
 rest_left prefix digits length le h = absurd (cc h)
 
 module _ (k : IntType) (extent : Extent) (is_negative skip : Bool) (body : List ℕ) where
-  -- what stands behind the digits, by the class of the type
+  -- If a byte follows the digits, the `invalid` error of the type's width says so correctly.
   invalid_explained : (class : Class) (number index : ℕ) → IsFollowed k extent is_negative skip body number index
       → Explains k extent is_negative skip body (invalid class number index body)
   invalid_explained narrow number index h = h
   invalid_explained wide64 number index h = h
   invalid_explained wide128 number index h = h
 
-  -- digits that are not too many, from the two tests
+  -- If the first two tests do not hold, the body begins with digits, and not with too many.
   begins : eqb (run_len decimal_table body) 0 ≡ false
       → is_above (limit_at (class_of k) extent skip (limit_of k)) (counting_digits decimal_table skip body) ≡ false
       → HasSomeDigits k extent skip body
@@ -150,7 +153,7 @@ module _ (k : IntType) (extent : Extent) (is_negative skip : Bool) (body : List 
     short = not_above (limit_at (class_of k) extent skip (limit_of k)) (counting_digits decimal_table skip body) short;
   }
 
-  -- each reason is explained
+  -- If a body is refused, what `Explains` says about its error holds.
   explained : (reason : Refusal) → refusal decimal_table (class_of k) (bound_of k is_negative) (limit_of k) extent skip body ≡ Some reason
       → Explains k extent is_negative skip body reason
   explained reason h =
@@ -170,14 +173,14 @@ module _ (k : IntType) (extent : Extent) (is_negative skip : Bool) (body : List 
       }))
       reason h
 
--- no byte behind the digits of a prefix is a reason
+-- A prefix is never refused for a byte that follows its digits.
 not_followed : (table : Table) (class : Class) (bound limit : ℕ) (skip : Bool) (body : List ℕ) (reason : Refusal)
     → refusal table class bound limit prefix skip body ≡ Some reason → rank reason ≤ 2
 not_followed table class bound limit skip body reason h =
     refusal-cases table class bound limit prefix skip body (λ r. rank r ≤ 2)
     (λ e. omega arith) (λ e l. omega arith) (λ e l o. omega arith) (λ e l o f. absurd (cc f)) reason h
 
--- the law: errors come in their order
+-- The law `ErrorsInOrder`: the error is the first that applies.
 pub errors_in_order : (k : IntType) → ErrorsInOrder k
 errors_in_order k = record {
   whole = λ form skip s reason h.
@@ -189,36 +192,38 @@ errors_in_order k = record {
       (prefix_refused k form skip s reason h);
 }
 
--- The digits of a number of up to 128 bits, in decimal, and of a byte, in hexadecimal.
+-- ---- Texts of numbers
+-- Numbers of up to 128 bits are written in decimal, and bytes in hexadecimal.
 
--- the text of a number of two digits or more is that of its front and then its last digit
+-- The text of a number of two or more digits is the text of the number without its last digit, and
+-- then that digit.
 pub decimal_more : (n : ℕ) → 10 ≤ n → n < 2 ^ 128 → decimal n ≡ decimal (n / 10) ++ (48 + n % 10) ∷ []
 decimal_more n low high = decimal_step_wide n low (omega arith)
 
--- it is longer by one than that of the front
+-- It is one byte longer than the text without the last digit.
 pub length_decimal_more : (n : ℕ) → 10 ≤ n → n < 2 ^ 128 → length (decimal n) ≡ length (decimal (n / 10)) + 1
 length_decimal_more n low high =
     omega (arith, ap length (decimal_more n low high), length-append (decimal (n / 10)) ((48 + n % 10) ∷ []))
 
--- a number of 128 bits has 39 digits at most
+-- The text of a 128-bit number has at most 39 digits.
 pub length_decimal_of_128_bits : (n : ℕ) → n < 2 ^ 128 → length (decimal n) ≤ 39
 length_decimal_of_128_bits n small = length-decimal-le_wide 39 n (omega arith) (omega arith) (omega arith)
 
--- a number of 64 bits has 20 digits at most
+-- The text of a 64-bit number has at most 20 digits.
 pub length_decimal_of_64_bits : (n : ℕ) → n < 2 ^ 64 → length (decimal n) ≤ 20
 length_decimal_of_64_bits n small = length-decimal-le_wide 20 n (omega arith) (omega arith) (omega arith)
 
--- a byte below 16 has one hexadecimal digit
+-- A byte below 16 has one hexadecimal digit.
 pub hex_text_of_one_digit : (byte : ℕ) → byte < 16 → hex_text byte ≡ digit_glyph true byte ∷ []
 hex_text_of_one_digit byte small = hex_one_digit true byte small
 
--- a byte from 16 on has two hexadecimal digits
+-- A byte from 16 on has two hexadecimal digits.
 pub hex_text_of_two_digits : (byte : ℕ) → 16 ≤ byte → byte < 256 → hex_text byte ≡ digit_glyph true (byte / 16) ∷ digit_glyph true (byte % 16) ∷ []
 hex_text_of_two_digits byte low small = hex_two_digits true byte low small
 
--- The texts of errors hold ASCII only.
+-- ---- Error texts are ASCII
 
--- a literal is ASCII where the test of each of its bytes says so
+-- A literal text is ASCII if each of its bytes passes the test.
 pub IsAscii-literal : (bytes : List ℕ) → list_all is_ascii bytes ≡ true → IsAscii bytes
 IsAscii-literal [] passes = IsAscii-nil
 IsAscii-literal (byte ∷ bytes) passes =
@@ -226,11 +231,11 @@ IsAscii-literal (byte ∷ bytes) passes =
     let rest : list_all is_ascii bytes ≡ true = grind (arith, nat_tests) in
     IsAscii-cons byte bytes small (IsAscii-literal bytes rest)
 
--- a hexadecimal digit is ASCII
+-- A hexadecimal digit is ASCII.
 digit_glyph-lt : (digit : ℕ) → digit < 16 → digit_glyph true digit < 128
 digit_glyph-lt digit small = grind (arith, nat_tests)
 
--- the hexadecimal text of a byte is ASCII
+-- The hexadecimal text of a byte is ASCII.
 IsAscii-hex_text : (byte : ℕ) → byte < 256 → IsAscii (hex_text byte)
 IsAscii-hex_text byte small = by_digits (cases_lt byte 16)
   where
@@ -249,7 +254,7 @@ IsAscii-hex_text byte small = by_digits (cases_lt byte 16)
         (IsAscii-cons (digit_glyph true (byte / 16)) (digit_glyph true (byte % 16) ∷ []) (digit_glyph-lt (byte / 16) high)
         (IsAscii-cons (digit_glyph true (byte % 16)) [] (digit_glyph-lt (byte % 16) low) IsAscii-nil))
 
--- the bytes in hexadecimal behind the first, each with comma and space before it
+-- The bytes after the first, in hexadecimal, each with a comma and a space before it.
 abbrev joined : List ℕ → List ℕ
 joined bytes = flat_map (λ b. codes ", " ++ hex_text b) bytes
 
@@ -260,13 +265,13 @@ IsAscii-joined (byte ∷ bytes) small =
     (IsAscii-append (codes ", ") (hex_text byte) (IsAscii-literal (codes ", ") refl) (IsAscii-hex_text byte (small 0)))
     (IsAscii-joined bytes (λ k. small (suc k)))
 
--- the list of bytes in hexadecimal is ASCII
+-- The list of bytes in hexadecimal is ASCII.
 pub IsAscii-hex_list : (bytes : List ℕ) → ((k : ℕ) → get_or bytes k 0 < 256) → IsAscii (hex_list bytes)
 IsAscii-hex_list [] small = IsAscii-nil
 IsAscii-hex_list (byte ∷ bytes) small =
     IsAscii-append (hex_text byte) (joined bytes) (IsAscii-hex_text byte (small 0)) (IsAscii-joined bytes (λ k. small (suc k)))
 
--- the text of an error is ASCII where its numbers and its slice are shown so
+-- The text of the error `Size` is ASCII if the text of its number and that of its slice are.
 pub IsAscii-size_text : (length : ℕ) (input : List ℕ) → IsAscii (decimal length) → IsAscii (input_text input) → IsAscii (error_text (size length input))
 IsAscii-size_text length input number shown = search (rules, IsAscii-append, IsAscii-literal, number, shown)
 

@@ -1,4 +1,7 @@
--- Words that hold the bytes of a slice, and what they say about these bytes.
+-- Words that hold the bytes of a slice: how they are loaded, and how the digits, zeros and value
+-- counted in a word are those of the slice. The word engine and the loads of `words` are proved
+-- with these lemmas. The weighted sum of bytes (`low_value`) adds the lower half of each byte times
+-- its power of ten.
 use Rattle.std.proofs.Common.{◌≡◌, ℕ, zero, suc, ◌+◌, ◌-◌, ◌*◌, ◌/◌, ◌%◌, ◌^◌, ◌<◌, ◌≤◌, List, [], ◌∷◌, ◌++◌, length, take, drop, replicate, get_or, take-take, refl, sym, ap, ap₂, ◌∙◌, arith, ◌≢◌, min, Bool, true, false, cond, ◌==◌, if◌then◌else◌}
 use Rattle.std.proofs.Math.Nat.{mod-lt, div-one, zero-div, suc-mul, div-div-eq-div-mul, zero-add, suc-add, pow-suc}
 use Rattle.std.proofs.lemmas.List.{take_all, length-drop, get_or-drop, drop-drop, length-take, length-take-le}
@@ -20,9 +23,10 @@ use Rattle.atoi_core.specs.declared.window.Window.{Window}
 use Rattle.atoi_core.proofs.Runs.{prefix_len-take, prefix_len-drop, value-take-add}
 use Rattle.atoi_core.proofs.WordFields.{length-digits}
 
--- Words made of the first bytes of a slice.
+-- ---- Loading a word from a slice
 
--- eight bytes in the order of a load are the word of these bytes; what is missing is 0 in both
+-- The first eight bytes, read as a little-endian number, are the word of these bytes. Missing bytes
+-- are 0 in both.
 pub word_from_bytes : (s : List ℕ) → from_le_bytes w64 s ≡ word_of (take 8 s)
 unfolding word_of
 word_from_bytes [] = omega arith
@@ -35,17 +39,17 @@ word_from_bytes (a ∷ b ∷ c ∷ d ∷ e ∷ f ∷ []) = omega arith
 word_from_bytes (a ∷ b ∷ c ∷ d ∷ e ∷ f ∷ g ∷ []) = omega arith
 word_from_bytes (a ∷ b ∷ c ∷ d ∷ e ∷ f ∷ g ∷ h ∷ rest) = omega arith
 
--- the same of the first eight bytes in an array
+-- As above, if the first eight bytes are given as an array.
 pub word_of_first : (s bytes : List ℕ) → bytes ≡ take 8 s → from_le_bytes w64 bytes ≡ word_of (take 8 s)
 word_of_first s bytes e = ap (from_le_bytes w64) e ∙ word_from_bytes (take 8 s) ∙ ap word_of (take-take 8 8 s (omega arith))
 
--- no bytes make 0
+-- The word of no bytes is 0.
 pub word_of_none : (s : List ℕ) → length s ≡ 0 → 0 ≡ word_of s
 unfolding word_of
 word_of_none [] none = refl
 word_of_none (a ∷ s) none = absurd (omega arith)
 
--- the same of four bytes and of two
+-- As above for four bytes, and for two.
 pub word_from_four : (s : List ℕ) → length s ≤ 4 → from_le_bytes w32 s ≡ word_of s
 unfolding word_of
 word_from_four [] few = omega arith
@@ -62,7 +66,7 @@ word_from_two (a ∷ []) few = omega arith
 word_from_two (a ∷ b ∷ []) few = omega arith
 word_from_two (a ∷ b ∷ c ∷ rest) few = absurd (omega arith)
 
--- a number and its own low bits
+-- A number with its own low bits added by `|` does not change.
 with_low_bits : (a r : ℕ) → bit_or (a % 2 ^ r) a ≡ a
 with_low_bits a r =
     let low = a % 2 ^ r in
@@ -73,7 +77,8 @@ with_low_bits a r =
     ∙ ap (λ x. a / 2 ^ r * 2 ^ r + x) (or_self low)
     ∙ shr_split a r
 
--- THE OVERLAP: low bits of a number and high bits of it make the number where none is missing between
+-- Low bits of a number, joined by `|` with high bits of it, give the number, if no bit between them
+-- is missing.
 overlap : (whole low high r k : ℕ) → low ≡ whole % 2 ^ (r + k) → high ≡ whole / 2 ^ k * 2 ^ k → bit_or low high ≡ whole
 overlap whole low high r k low_is high_is =
     let q = whole / 2 ^ k in
@@ -83,7 +88,7 @@ overlap whole low high r k low_is high_is =
     ∙ ap₂ (λ x y. x * 2 ^ k + y) (with_low_bits q r) (or_zero_r rest)
     ∙ shr_split whole k
 
--- a shift of whole bytes leaves those above them
+-- Shifting a word right by whole bytes leaves the word of the bytes above them.
 bytes_above : (k : ℕ) (s : List ℕ) → ((i : ℕ) → get_or s i 0 < 256) → word_of s / 2 ^ (k * 8) ≡ word_of (drop k s)
 unfolding word_of
 bytes_above zero s fits = div-one (number_l 256 s)
@@ -95,7 +100,8 @@ bytes_above (suc k) (b ∷ bs) fits =
     ap (λ p. (b + 256 * word) / p) up ∙ sym (div-div-eq-div-mul (b + 256 * word) 256 (2 ^ (k * 8)))
     ∙ ap (λ w. w / 2 ^ (k * 8)) rest ∙ bytes_above k bs (λ i. fits (suc i))
 
--- where a slice ends among the eight bytes from a place on, these are the highest of its last eight
+-- If a slice of at least eight bytes ends less than eight bytes after offset `at`, the bytes from
+-- there on are the highest ones in the word of its last eight bytes.
 pub last_bytes : (s last : List ℕ) (at : ℕ) → 8 ≤ length s → at ≤ length s → length s < at + 8 → ((i : ℕ) → get_or s i 0 < 256) → last ≡ drop (length s - 8) s
     → from_le_bytes w64 last / 2 ^ (8 * (at + 7 - length s)) / 2 ^ 8 ≡ word_of (take 8 (drop at s))
 last_bytes s last at enough inside few fits is =
@@ -111,9 +117,9 @@ last_bytes s last at enough inside few fits is =
     ∙ bytes_above missing back (λ i. rw get_or-drop (fits (length s - 8 + i)))
     ∙ ap word_of (drop-drop missing (length s - 8) s ∙ ap (λ n. drop n s) above ∙ sym rest)
 
--- THE SHORT LOAD. One to eight bytes are put where they stand in the highest bytes of a word: the
--- first four, of which the first two are a part, the last four and the last. Below four bytes the
--- fours are 0.
+-- How `load_high` builds the word of one to eight bytes. It joins the first two, the first four,
+-- the last four bytes and the last byte, each moved to where the word has them. With fewer than
+-- four bytes, both parts of four bytes are 0.
 module _ (whole two first_four last_four last n r : ℕ) where
   of_four : two ≡ first_four % 2 ^ 16 → first_four * 2 ^ n % 2 ^ 64 ≡ whole % 2 ^ (r + 32) → last_four * 2 ^ 32 % 2 ^ 64 ≡ whole / 2 ^ 32 * 2 ^ 32
       → last * 2 ^ 56 % 2 ^ 64 ≡ whole / 2 ^ 56 * 2 ^ 56 → whole < 2 ^ 64
@@ -185,13 +191,14 @@ below_four (a ∷ b ∷ c ∷ []) two first_four last_four some few fits is none
     of_two (word_of (replicate 5 0 ++ s)) two first_four last_four c 40 0 none_first none_last (omega arith) (omega arith)
 below_four (a ∷ b ∷ c ∷ d ∷ rest) two first_four last_four some few fits is none none_first none_last = absurd (omega arith)
 
--- What the word of a slice's first bytes tells of these bytes.
+-- ---- Digits and zeros of a loaded word
 
--- the lowest byte of a word, and the word of those above it
+-- Dividing a word by 256 separates its lowest byte from the word of the bytes above it.
 low_and_high : (b word : ℕ) → b < 256 → ((b + 256 * word) % 256 ≡ b) × ((b + 256 * word) / 256 ≡ word)
 low_and_high b word small = (omega arith, omega arith)
 
--- a word of bytes, read in bytes again: what passes a test that fails at 0 is the same front
+-- The bytes of a loaded word begin with as many bytes that pass a test as the slice, if the byte 0
+-- does not pass.
 loaded_start : (p : ℕ → Bool) → p 0 ≡ false → (k : ℕ) (s : List ℕ) → ((i : ℕ) → get_or s i 0 < 256)
     → prefix_len p (digits_l 256 k (number_l 256 (take k s))) ≡ prefix_len p (take k s)
 loaded_start p stops zero s fits = refl
@@ -202,7 +209,7 @@ loaded_start p stops (suc k) (b ∷ bs) fits =
     ap₂ (λ x y. cond (p x) (1 + prefix_len p (digits_l 256 k y)) 0) parts.0 parts.1
     ∙ ap (λ n. cond (p b) (1 + n) 0) (loaded_start p stops k bs (λ i. fits (suc i)))
 
--- where enough bytes are there, the word's are theirs
+-- If the slice has enough bytes, the bytes of the loaded word are its first bytes.
 loaded_whole : (k : ℕ) (s : List ℕ) → k ≤ length s → ((i : ℕ) → get_or s i 0 < 256) → digits_l 256 k (number_l 256 (take k s)) ≡ take k s
 loaded_whole zero s enough fits = refl
 loaded_whole (suc k) [] enough fits = absurd (omega arith)
@@ -211,16 +218,17 @@ loaded_whole (suc k) (b ∷ bs) enough fits =
     let parts = low_and_high b word (fits 0) in
     ap₂ (λ x xs. x ∷ xs) parts.0 (ap (digits_l 256 k) parts.1 ∙ loaded_whole k bs (omega arith) (λ i. fits (suc i)))
 
--- the lower half of a digit is its worth
+-- The lower half of a digit's byte is its digit value.
 half_is_value : (b : ℕ) → is_digit decimal_table b ≡ true → b % 16 ≡ digit_value decimal_table b
 half_is_value b digit = grind (arith, nat_tests)
 
--- a front that passes n + 1 elements passes the first of them, and n behind it
+-- If the passing prefix has at least n + 1 elements, the first one passes, and at least n passing
+-- ones follow it.
 first_passes : (t : Bool) (n m : ℕ) → suc n ≤ cond t (1 + m) 0 → (t ≡ true) × (n ≤ m)
 first_passes true n m h = (refl, omega arith)
 first_passes false n m h = absurd (omega arith)
 
--- the sum over digits is their value
+-- The weighted sum of leading digits is their value.
 loaded_value : (n k : ℕ) (s : List ℕ) → ((i : ℕ) → get_or s i 0 < 256) → n ≤ run_len decimal_table (take k s)
     → low_value (digits_l 256 n (number_l 256 (take k s))) ≡ value decimal_table (take n (take k s))
 loaded_value zero k s fits digits = refl
@@ -236,31 +244,32 @@ loaded_value (suc n) (suc k) (b ∷ bs) fits digits =
     ∙ ap₂ (λ x e. x * 10 ^ e + low_value (digits_l 256 n word)) (half_is_value b passes.0) places
     ∙ ap (λ v. digit_value decimal_table b * 10 ^ length (take n (take k bs)) + v) (loaded_value n k bs (λ i. fits (suc i)) passes.1)
 
--- ---- the same in the words of the kernels
+-- ---- Stated for words of eight bytes
+-- These lemmas use the definitions of the kernels' contracts.
 
--- as many digits stand at the front of the loaded word as at the front of the bytes
+-- The loaded word begins with as many digits as the first eight bytes.
 pub loaded_run : (s : List ℕ) → ((i : ℕ) → get_or s i 0 < 256) → (word : ℕ) → word ≡ word_of (take 8 s)
     → run_len decimal_table (low_bytes 8 word) ≡ run_len decimal_table (take 8 s)
 unfolding low_bytes word_of
 loaded_run s fits word is = ap (λ w. run_len decimal_table (low_bytes 8 w)) is ∙ loaded_start (is_digit decimal_table) refl 8 s fits
 
--- and as many zeros
+-- The loaded word begins with as many zeros as the first eight bytes.
 pub loaded_zeros : (s : List ℕ) → ((i : ℕ) → get_or s i 0 < 256) → (word : ℕ) → word ≡ word_of (take 8 s)
     → zeros decimal_table (low_bytes 8 word) ≡ zeros decimal_table (take 8 s)
 unfolding low_bytes word_of
 loaded_zeros s fits word is = ap (λ w. zeros decimal_table (low_bytes 8 w)) is ∙ loaded_start (is_zero decimal_table) refl 8 s fits
 
--- the bytes of the loaded word, where eight are there
+-- If the slice has at least eight bytes, the bytes of the loaded word are the first eight.
 pub loaded_bytes : (s : List ℕ) → ((i : ℕ) → get_or s i 0 < 256) → (word : ℕ) → word ≡ word_of (take 8 s) → 8 ≤ length s
     → low_bytes 8 word ≡ take 8 s
 unfolding low_bytes word_of
 loaded_bytes s fits word is enough = ap (low_bytes 8) is ∙ loaded_whole 8 s enough fits
 
--- bytes behind others are bytes
+-- The elements of the slice after its first eight are bytes too.
 pub fits_behind : (s : List ℕ) → ((i : ℕ) → get_or s i 0 < 256) → (i : ℕ) → get_or (drop 8 s) i 0 < 256
 fits_behind s fits i = rw get_or-drop (fits (8 + i))
 
--- the sum of as many digits is their value
+-- The weighted sum of all leading digits is their value.
 pub loaded_sum : (s : List ℕ) → ((i : ℕ) → get_or s i 0 < 256) → (word len : ℕ) → word ≡ word_of (take 8 s) → len ≡ run_len decimal_table (low_bytes 8 word)
     → low_value (low_bytes len word) ≡ value decimal_table (take len s)
 unfolding low_bytes word_of
@@ -269,28 +278,30 @@ loaded_sum s fits word len is len_is =
     let within : run_len decimal_table (take 8 s) ≡ min 8 (run_len decimal_table s) = prefix_len-take (is_digit decimal_table) 8 s in
     ap (λ w. low_value (low_bytes len w)) is ∙ loaded_value len 8 s fits (omega arith) ∙ ap (value decimal_table) (take-take len 8 s (omega arith))
 
--- no bytes write 0
+-- The weighted sum of no bytes is 0.
 pub sum_of_none : (word len : ℕ) → len ≡ 0 → 0 ≡ low_value (low_bytes len word)
 unfolding low_bytes
 sum_of_none word len e = ap (λ l. low_value (low_bytes l word)) (sym e)
 
--- the zeros of two words go on from the first to the next where the first holds zeros only
+-- The leading zeros of two words: those of the second are added only if the first consists of
+-- zeros.
 pub zeros_of_two : (first next : ℕ) → zeros decimal_table (low_bytes 8 first ++ low_bytes 8 next)
     ≡ (if zeros decimal_table (low_bytes 8 first) == 8 then 8 + zeros decimal_table (low_bytes 8 next) else zeros decimal_table (low_bytes 8 first))
 unfolding low_bytes
 zeros_of_two first next = prefix_len-append (is_zero decimal_table) (digits_l 256 8 first) (digits_l 256 8 next)
 
--- ---- windows
+-- ---- Windows read by words
 
--- zeros are told of a full window alone
+-- A window that is full of digits reports its zeros.
 pub told_full : (n c z : ℕ) → n ≡ c → (if n == c then z else 0) ≡ z
 told_full n c z e = ap (λ t. cond t z 0) (eq-eqb n c e)
 
--- and none of another
+-- Any other window reports no zeros.
 pub told_none : (n c z : ℕ) → n ≢ c → (if n == c then z else 0) ≡ 0
 told_none n c z ne = ap (λ t. cond t z 0) (ne_eqb n c ne)
 
--- a window by its three numbers
+-- Three numbers that are the run, the reported zeros and the value of the first bytes make up their
+-- window.
 pub window_from : (c : ℕ) (s : List ℕ) (len leading number : ℕ)
     → len ≡ run_len decimal_table (take c s)
     → leading ≡ (if len == c then zeros decimal_table (take c s) else 0)
@@ -304,7 +315,7 @@ window_from c s len leading number len_is leading_is number_is =
     number_is ∙ ap (value decimal_table) (sym (take-take len c s (omega arith)) ∙ ap (λ n. take n (take c s)) len_is) in
     λ i. record { len = len_is i; zeroes = same_leading i; number = same_number i }
 
--- what a loaded word tells is the window of its bytes
+-- What is counted in a loaded word makes up the window of its bytes.
 pub loaded_window : (s : List ℕ) → ((i : ℕ) → get_or s i 0 < 256) → (word : ℕ) (w : Window) → word ≡ word_of (take 8 s)
     → w.len ≡ run_len decimal_table (low_bytes 8 word)
     → w.zeroes ≡ (if w.len == 8 then zeros decimal_table (low_bytes 8 word) else 0)
@@ -316,7 +327,7 @@ loaded_window s fits word w is len_is zeroes_are number_is =
     (zeroes_are ∙ ap (λ z. if w.len == 8 then z else 0) (loaded_zeros s fits word is))
     (number_is ∙ loaded_sum s fits word w.len is len_is)
 
--- where the first eight bytes are not all digits, sixteen tell no more than they
+-- If the first eight bytes are not all digits, the window of 16 bytes is determined by these eight.
 pub window_short : (s : List ℕ) (len number : ℕ) → len ≡ run_len decimal_table (take 8 s) → len ≢ 8
     → number ≡ value decimal_table (take len s)
     → ◌≡◌ {A = Window} (record { len = len; zeroes = 0; number = number }) (window_of decimal_table 16 s)
@@ -325,7 +336,7 @@ window_short s len number len_is short number_is =
     let more : run_len decimal_table (take 16 s) ≡ min 16 (run_len decimal_table s) = prefix_len-take (is_digit decimal_table) 16 s in
     window_from 16 s len 0 number (omega arith) (sym (told_none len 16 (zeros decimal_table (take 16 s)) (omega arith))) number_is
 
--- of fewer than eight bytes a window of eight tells what one of sixteen does
+-- For fewer than eight bytes, the window of 8 bytes is the same as that of 16.
 pub few_in_both : (s : List ℕ) → length s < 8 → window_of decimal_table 16 s ≡ window_of decimal_table 8 s
 few_in_both s few =
     let within : run_len decimal_table s ≤ length s = prefix_len-le-length (is_digit decimal_table) s in
@@ -337,11 +348,12 @@ few_in_both s few =
     ∙ ap (λ (z : ℕ). let w : Window = record { len = run_len decimal_table s; zeroes = z; number = value decimal_table (run decimal_table s) } in w) none
     ∙ ap (λ (r : List ℕ). let w : Window = record { len = run_len decimal_table r; zeroes = if run_len decimal_table r == 8 then zeros decimal_table r else 0; number = value decimal_table (run decimal_table r) } in w) eight
 
--- a slice whose first eight bytes are digits has as many
+-- If the first eight bytes of a slice are digits, it has at least eight bytes.
 pub enough_bytes : (s : List ℕ) → run_len decimal_table (take 8 s) ≡ 8 → 8 ≤ length s
 enough_bytes s full = omega (arith, prefix_len-le-length (is_digit decimal_table) (take 8 s), length-take 8 s)
 
--- THE JOIN: behind eight digits a window of sixteen bytes reads the next eight
+-- If the first eight bytes are digits, the window of 16 bytes is made of them and of the window of
+-- the next eight.
 pub window_joined : (s : List ℕ) (more leading first next : ℕ)
     → run_len decimal_table (take 8 s) ≡ 8
     → more ≡ run_len decimal_table (take 8 (drop 8 s))
@@ -363,9 +375,10 @@ window_joined s more leading first next full more_is leading_is first_is next_is
     ap₂ (λ x y. x * 10 ^ more + y) first_is next_is ∙ sym (value-take-add decimal_table 8 more s (omega arith)) in
     window_from 16 s (8 + more) leading (first * 10 ^ more + next) (omega arith) same_leading same_number
 
--- Words whose highest bytes are those of a short slice: the others are 0, or zeros that are filled in.
+-- ---- Short slices in the highest bytes of a word
+-- The bytes below them are 0, or are filled with zeros, the byte 48.
 
--- bytes of 0 before others move these up
+-- Putting m bytes of 0 before the others shifts the word left by m bytes.
 pub word_shifted : (m : ℕ) (s : List ℕ) → word_of (replicate m 0 ++ s) ≡ word_of s * 2 ^ (m * 8)
 unfolding word_of
 word_shifted zero s = omega arith
@@ -374,7 +387,7 @@ word_shifted (suc m) s =
     let up : 2 ^ (suc m * 8) ≡ 2 ^ (m * 8) * 256 = ap (λ e. 2 ^ e) (suc-mul m 8) ∙ pow-add 2 (m * 8) 8 in
     omega (arith, ap (λ p. number_l 256 s * p) up)
 
--- and a shift moves them back
+-- Shifting it right gives the word back.
 pub shifted_back : (s : List ℕ) → length s ≤ 8 → word_of (replicate (8 - length s) 0 ++ s) / 2 ^ (64 - 8 * length s) ≡ word_of s
 shifted_back s few =
     let places : 64 - 8 * length s ≡ (8 - length s) * 8 = omega arith in
@@ -383,13 +396,13 @@ shifted_back s few =
     ∙ ap (λ x. x / up) (omega arith)
     ∙ div-mul-add (word_of s) up 0 (pow_pos ((8 - length s) * 8))
 
--- zeros in their place add what they make by themselves
+-- Adding the word of m zeros fills the bytes of 0 with them.
 pub word_filled : (m : ℕ) (s : List ℕ) → word_of (replicate m 0 ++ s) + word_of (replicate m 48) ≡ word_of (replicate m 48 ++ s)
 unfolding word_of
 word_filled zero s = omega arith
 word_filled (suc m) s = omega (arith, word_filled m s)
 
--- a word of so many bytes
+-- The word of n bytes is below 256^n.
 word_most : (s : List ℕ) → ((i : ℕ) → get_or s i 0 < 256) → word_of s < 256 ^ length s
 unfolding word_of
 word_most [] fits = omega arith
@@ -397,7 +410,7 @@ word_most (b ∷ bs) fits =
     let up : 256 ^ suc (length bs) ≡ 256 ^ length bs * 256 = pow-suc 256 (length bs) in
     omega (arith, fits 0, word_most bs (λ i. fits (suc i)))
 
--- the filled bytes are bytes
+-- The elements are still bytes after zeros are put before them.
 filled_fit : (m : ℕ) (s : List ℕ) → ((i : ℕ) → get_or s i 0 < 256) → (i : ℕ) → get_or (replicate m 48 ++ s) i 0 < 256
 filled_fit zero s fits i = fits i
 filled_fit (suc m) s fits zero = omega arith
@@ -407,12 +420,12 @@ filled_length : (m : ℕ) (s : List ℕ) → length (replicate m 48 ++ s) ≡ m 
 filled_length zero s = omega arith
 filled_length (suc m) s = omega (arith, filled_length m s)
 
--- and digits
+-- The run becomes longer by the zeros that are put before it.
 filled_run : (m : ℕ) (s : List ℕ) → run_len decimal_table (replicate m 48 ++ s) ≡ m + run_len decimal_table s
 filled_run zero s = omega arith
 filled_run (suc m) s = omega (arith, filled_run m s)
 
--- a filled word of eight bytes fits a word
+-- The filled word of at most eight bytes fits in 64 bits.
 pub filled_fits : (s : List ℕ) → length s ≤ 8 → ((i : ℕ) → get_or s i 0 < 256)
     → word_of (replicate (8 - length s) 0 ++ s) + word_of (replicate (8 - length s) 48) < 2 ^ 64
 filled_fits s few fits =
@@ -422,7 +435,7 @@ filled_fits s few fits =
     let power : 256 ^ length (replicate m 48 ++ s) ≡ 256 ^ 8 = ap (λ n. 256 ^ n) eight in
     omega (arith, word_filled m s)
 
--- the digits of the filled word are those of the slice, and the filled ones
+-- The filled word begins with the zeros that fill it, and then has as many digits as the slice.
 pub filled_digits : (s : List ℕ) → length s ≤ 8 → ((i : ℕ) → get_or s i 0 < 256) → (word filling digits : ℕ)
     → word ≡ word_of (replicate (8 - length s) 0 ++ s) → filling ≡ word_of (replicate (8 - length s) 48)
     → digits ≡ run_len decimal_table (low_bytes 8 (word + filling))
@@ -437,7 +450,7 @@ filled_digits s few fits word filling digits word_is filling_is digits_is =
     ∙ ap (run_len decimal_table) all
     ∙ filled_run m s
 
--- zeros below the other bytes add nothing to their sum
+-- Zeros before the other bytes add nothing to the weighted sum.
 low_value_filled : (z k : ℕ) (s : List ℕ) → low_value (digits_l 256 (z + k) (word_of (replicate z 48 ++ s))) ≡ low_value (digits_l 256 k (word_of s))
 unfolding word_of
 low_value_filled zero k s = ap (λ n. low_value (digits_l 256 n (number_l 256 s))) (zero-add k)
@@ -450,7 +463,9 @@ low_value_filled (suc z) k s =
     ∙ omega arith
     ∙ low_value_filled z k s
 
--- THE SHORT WINDOW: of the word with zeros filled in, and the digits after them, the sum is their value
+-- The window of a slice of at most eight bytes follows from the filled word: its length is the
+-- number of leading digits without the zeros that fill the word, and its number is the weighted sum
+-- of these digits.
 pub filled_window : (s : List ℕ) → length s ≤ 8 → ((i : ℕ) → get_or s i 0 < 256) → (filled digits found number : ℕ)
     → filled ≡ word_of (replicate (8 - length s) 48 ++ s)
     → digits ≡ 8 - length s + run_len decimal_table s

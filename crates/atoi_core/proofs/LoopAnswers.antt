@@ -1,4 +1,6 @@
--- Answers of the loops over windows, by the size of the type.
+-- Answers of the loops over windows, for each size of type. A loop loads windows of 16 bytes, skips
+-- their leading zeros, and ends with a last window at offset `at`. These lemmas say which answer
+-- that window decides.
 use Rattle.std.proofs.Common.{◌≡◌, ℕ, ◌+◌, ◌*◌, ◌^◌, ◌<◌, ◌≤◌, Bool, true, List, length, take, drop, Some, Ok, Err, refl, sym, ap₂, ◌∙◌, lit<, arith, ◌≢◌, ◌==◌, false, not, None, Result, ap, if◌then◌else◌, ◌-◌, ◌/◌, min, nat_lt, ltb-true, ◌&&◌, inl, inr, ◌⊎◌, cond, eqb, ltb, Option, le-ltb, ne_eqb}
 use Rattle.std.proofs.lemmas.Bool.{eq-eqb, cases_lt, lt-ltb}
 use Rattle.std.proofs.lemmas.List.{length-drop, take_rest}
@@ -15,39 +17,40 @@ use Rattle.std.proofs.lemmas.Bool.Decides.{nat_tests}
 use Rattle.std.proofs.Math.Nat.{pow-le-pow_right}
 use Rattle.atoi_core.specs.Window.{window_of}
 
--- The answers of a wide class, from what was read behind the zeros that are skipped.
+-- ---- Wide types
+-- The windows after the skipped zeros decide the answers for 64 and 128 bits.
 
--- what the two wide classes have in common: the limit is handed in, and zeros that are skipped count
--- neither against it nor for the slice
+-- What the two wide classes have in common: the limit is passed in and applies to the significant
+-- digits, and the slice of an overflow begins with these.
 pub record IsWide (class : Class) : Type 0 where
   pub rule : (extent : Extent) (skip : Bool) (limit digits skipped : ℕ)
       → rule_of class extent skip limit digits skipped ≡ record { limit = Some limit; cap = cap class; dropped = skipped }
 
--- the class of 64 bits
+-- The class of 64-bit types has these rules.
 pub wide_64 : IsWide wide64
 wide_64 = record { rule = λ extent skip limit digits skipped. refl }
 
--- the class of 128 bits
+-- The class of 128-bit types has these rules.
 pub wide_128 : IsWide wide128
 wide_128 = record { rule = λ extent skip limit digits skipped. refl }
 
--- before the last window stand only zeros that are skipped
+-- All bytes before the last window are skipped zeros.
 is_skipped : {t : Table} {skip : Bool} {s : List ℕ} {at before now : ℕ} {w : Window} → Skipped t skip s at before now w → IsSkipped t skip s at
 is_skipped so = record { zeros_only = omega (arith, so.zeros_are); asked = so.off }
 
--- and where it is full it begins with none
+-- If the last window is full and zeros are skipped, it begins with none.
 none_left : (t : Table) (skip : Bool) (s : List ℕ) (at before now : ℕ) (w : Window) → Skipped t skip s at before now w → 16 ≤ w.len
     → skip ≡ true → zeros t (take 16 (drop at s)) ≡ 0
 none_left t skip s at before now w so full on =
     omega (arith, so.full on (omega (arith, so.shown.len_is)), so.zeros_are, prefix_len-take (is_zero t) 16 (drop at s))
 
--- no digit at all, in any class
+-- If there is no digit at all, the answer is `Empty`, whatever the class.
 pub answers_empty : (t : Table) (class : Class) (bound limit : ℕ) (skip : Bool) (s : List ℕ) (at before now : ℕ) (w : Window) →
     Skipped t skip s at before now w → at + w.len ≡ 0 → Err empty ≡ prefix_magnitude t class bound limit skip s
 answers_empty t class bound limit skip s at before now w so none =
     rw (refused_empty t class bound limit prefix skip s (omega (arith, so.run_is, so.shown.len_is))) refl
 
--- the last window is not full: it holds the rest of the run, which is too short to pass the bound
+-- If the last window is not full, it holds the rest of the run, whose value is within the bound.
 pub answers_short : (t : Table) (class : Class) (bound limit : ℕ) (skip : Bool) (s : List ℕ) (at before now : ℕ) (w : Window) (number len : ℕ) →
     limit < cap class → Skipped t skip s at before now w → w.len < 16 → 0 < at + w.len → 16 < limit → HasDigits limit bound →
     number ≡ w.number → len ≡ at + w.len → Ok (number, len) ≡ prefix_magnitude t class bound limit skip s
@@ -55,7 +58,8 @@ answers_short t class bound limit skip s at before now w number len less so few 
     let decides = short_below t class bound limit less digits skip s at 16 w.len _ w.number (is_skipped so) so.shown.reading few (omega arith) so.shown.below in
     ap₂ (λ n l. Ok (n, l)) number_is len_is ∙ sym (decides.1 ∙ rw (ne_eqb (at + w.len) 0 (omega arith)) refl)
 
--- a full window, and behind it one that is not full
+-- If a full window is followed by one that is not full, the two hold the rest of the run, whose
+-- value is within a bound of 39 digits.
 pub answers_two : (t : Table) → IsBelowTen t → (bound : ℕ) (skip : Bool) (s : List ℕ) (at before now : ℕ) (first second : Window) (number len : ℕ) →
     Skipped t skip s at before now first → 16 ≤ first.len → Shows t 16 (drop 16 (drop at s)) second → second.len < 16 → HasDigits 39 bound →
     number ≡ first.number * 10 ^ second.len + second.number → len ≡ at + (16 + second.len) →
@@ -65,7 +69,7 @@ answers_two t ten bound skip s at before now first second number len so full beh
     let decides = short t ten wide128 bound 39 (lit< tt) digits skip s at 32 (16 + second.len) _ _ (is_skipped so) both (omega arith) (omega arith) in
     ap₂ (λ n l. Ok (n, l)) number_is len_is ∙ sym (decides.1 ∙ rw (ne_eqb (at + (16 + second.len)) 0 (omega arith)) refl)
 
--- 64 bits: a full window and the eight bytes behind it decide
+-- For 64 bits, a full window and the 8 bytes after it decide the answer.
 pub answers_64 : (t : Table) (bound limit : ℕ) (skip : Bool) (s : List ℕ) (at before now : ℕ) (front back : Window) →
     limit < 24 → Skipped t skip s at before now front → 16 ≤ front.len → Shows t 8 (drop 16 (drop at s)) back →
     (at + (16 + back.len) ≤ length s) × (answer_by_digits wide64 bound limit at (16 + back.len) (front.number * 10 ^ back.len + back.number) s ≡ prefix_magnitude t wide64 bound limit skip s)
@@ -77,7 +81,7 @@ answers_64 t bound limit skip s at before now front back less so full behind =
       sym (all_decide t wide64 bound limit less skip s at _ _ _ (is_skipped so) both none),
     )
 
--- 128 bits: two full windows and the eight bytes behind them decide
+-- For 128 bits, two full windows and the 8 bytes after them decide the answer.
 pub answers_128 : (t : Table) → IsBelowTen t → (bound : ℕ) (skip : Bool) (s : List ℕ) (at before now : ℕ) (front middle back : Window) →
     Skipped t skip s at before now front → 16 ≤ front.len → Shows t 16 (drop 16 (drop at s)) middle → 16 ≤ middle.len → Shows t 8 (drop 32 (drop at s)) back →
     let number = (front.number * 10 ^ 16 + middle.number) * 10 ^ back.len + back.number in
@@ -92,14 +96,16 @@ answers_128 t ten bound skip s at before now front middle back so full next more
       sym (all_decide t wide128 bound 39 (lit< tt) skip s at _ _ _ (is_skipped so) all none),
     )
 
--- The answer for a whole slice of a wide class, from the answer for its front.
+-- ---- From prefix to whole slice
+-- The answer to a whole slice of a wide type follows from the answer to its prefix.
 
--- a front that is refused is refused, and one that ends before the slice is invalid
+-- An error of the prefix is an error of the whole slice. A number that ends before the slice makes
+-- the slice invalid.
 abbrev whole_from_prefix : (ℕ → ℕ → List ℕ → Refusal) → List ℕ → Result (ℕ × ℕ) Refusal → Result ℕ Refusal
 whole_from_prefix invalid s (Err reason) = Err reason
 whole_from_prefix invalid s (Ok found) = if found.1 == length s then Ok found.0 else Err (invalid found.0 found.1 s)
 
--- one more reason, the last of four
+-- A fourth test after three others can be applied to their result.
 last_reason : (invalid : ℕ → ℕ → List ℕ → Refusal) (s : List ℕ) (a b c : Bool) (none long above : Refusal) (v n : ℕ) →
     unless_refused (if a then Some none else (if b then Some long else (if c then Some above
     else (if not (n == length s) then Some (invalid v n s) else None)))) v
@@ -111,7 +117,7 @@ last_reason invalid s false false false none long above v n =
     elim (n == length s) as (λ d. unless_refused (if not d then Some (invalid v n s) else None) v ≡ (if d then Ok v else Err (invalid v n s)))
     [ true ↦ refl | false ↦ refl ]
 
--- a whole slice has one reason more than its front
+-- The answer to a whole slice is the one derived from its prefix.
 whole_is : (t : Table) (class : Class) (bound limit : ℕ) (skip : Bool) (s : List ℕ) → IsWide class
     → whole_magnitude t class bound limit skip s ≡ whole_from_prefix (invalid class) s (prefix_magnitude t class bound limit skip s)
 unfolding refusal
@@ -124,27 +130,29 @@ whole_is t wide128 bound limit skip s wide =
     empty (too_long t wide128 bound limit prefix skip s) (over t wide128 bound limit prefix skip s) (value t (run t s)) (run_len t s)
 
 module _ (t : Table) (class : Class) (bound limit : ℕ) (skip : Bool) (s : List ℕ) (wide : IsWide class) where
-  -- a front that is refused
+  -- If the prefix is refused, the whole slice is refused with the same error.
   pub whole_err : (reason : Refusal) → Err reason ≡ prefix_magnitude t class bound limit skip s → Err reason ≡ whole_magnitude t class bound limit skip s
   whole_err reason front = ap (whole_from_prefix (invalid class) s) front ∙ sym (whole_is t class bound limit skip s wide)
 
-  -- a front that is the whole slice
+  -- If the number reaches to the end of the slice, the whole slice is answered with it.
   pub whole_ok : (number len : ℕ) → Ok (number, len) ≡ prefix_magnitude t class bound limit skip s → len ≡ length s
       → Ok number ≡ whole_magnitude t class bound limit skip s
   whole_ok number len front all =
       ap (λ b. if b then Ok number else Err (invalid class number len s)) (sym (eq-eqb len (length s) all))
       ∙ ap (whole_from_prefix (invalid class) s) front ∙ sym (whole_is t class bound limit skip s wide)
 
-  -- a front that ends before the slice
+  -- If the number ends before the slice, the whole slice is invalid.
   pub whole_invalid : (number len : ℕ) → Ok (number, len) ≡ prefix_magnitude t class bound limit skip s → len ≢ length s
       → Err (invalid class number len s) ≡ whole_magnitude t class bound limit skip s
   whole_invalid number len front rest =
       ap (λ b. if b then Ok number else Err (invalid class number len s)) (sym (ne_eqb len (length s) rest))
       ∙ ap (whole_from_prefix (invalid class) s) front ∙ sym (whole_is t class bound limit skip s wide)
 
--- The answers of the narrow class for a front, from the last window behind the zeros that are skipped.
+-- ---- Narrow types
+-- The last window after the skipped zeros decides the answer to a prefix of a type of up to 32
+-- bits.
 
--- how many zeros the slice of an overflow leaves out
+-- The slice of an overflow leaves out exactly the zeros before the last window.
 dropped_is : (t : Table) (skip : Bool) (limit : ℕ) (s : List ℕ) (at before now : ℕ) (w : Window) →
     Skipped t skip s at before now w → (rule_of narrow prefix skip limit (run_len t s) (skipped_zeros t skip s)).dropped ≡ at
 dropped_is t false limit s at before now w so = sym (so.off refl)
@@ -164,26 +172,26 @@ dropped_is t true limit s at before now w so =
           ])
     ]
 
--- the window's number is no more than that of the run
+-- The number of the last window is at most the value of the run.
 number_most : (t : Table) (skip : Bool) (s : List ℕ) (at before now : ℕ) (w : Window) →
     Skipped t skip s at before now w → w.number ≤ value t (run t s)
 number_most t skip s at before now w so =
     omega (arith, so.value_is, so.shown.number_is, value-take-le t (drop at s) w.len (run_len t (drop at s)) (omega (arith, so.shown.len_is)))
 
--- a full window that begins with no zero has a number of 16 places
+-- The number of a full window that begins with no zero has 16 digits.
 least : (t : Table) (s : List ℕ) (w : Window) → Shows t 16 s w → 16 ≤ w.len → w.zeroes ≡ 0 → 10 ^ 15 ≤ w.number
 least t s w tell full none =
     let len : w.len ≡ 16 = omega (arith, tell.len_is) in
     let some : zeros t s ≡ 0 = omega (arith, tell.zeroes_of len) in
     omega (arith, value-least t 15 s (omega (arith, tell.len_is)) some, tell.number_is ∙ ap (λ (n : ℕ). value t (take n s)) len)
 
--- up to 16 digits are not too many, nor is any number of them where zeros are skipped
+-- There are not too many digits if there are at most 16, or if zeros are skipped.
 not_too_long : (t : Table) (skip : Bool) (limit : ℕ) (s : List ℕ) → (skip ≡ false → run_len t s ≤ 16)
     → is_above (limit_at narrow prefix skip limit) (counting_digits t skip s) ≡ false
 not_too_long t true limit s few = refl
 not_too_long t false limit s few = le-ltb 16 (counting_digits t false s) (omega (arith, few refl))
 
--- a number of up to 32 bits has too few digits to fill a window behind the zeros
+-- If the number of the last window fits in 32 bits, the window holds the rest of the run.
 ends : (t : Table) (skip : Bool) (s : List ℕ) (at before now : ℕ) (w : Window) →
     Skipped t skip s at before now w → (skip ≡ false → run_len t s ≤ 16) → w.number ≤ 4294967295 → run_len t (drop at s) ≡ w.len
 ends t false s at before now w so few small = omega (arith, few refl, so.off refl, so.run_is, so.shown.len_is)
@@ -194,7 +202,7 @@ ends t true s at before now w so few small =
           absurd (omega (arith, least t (drop at s) w so.shown h (so.last refl)))
     ]
 
--- a number above the bound
+-- If the number of the last window is larger than the bound, the answer is `Overflow`.
 narrow_overflow : (t : Table) (bound limit : ℕ) (skip : Bool) (s : List ℕ) (at before now : ℕ) (w : Window) →
     Skipped t skip s at before now w → (skip ≡ false → run_len t s ≤ 16) → 0 < at + w.len → bound < w.number →
     Err (overflow (drop at s)) ≡ prefix_magnitude t narrow bound limit skip s
@@ -204,13 +212,13 @@ narrow_overflow t bound limit skip s at before now w so few some over =
     rw (refused_overflow t narrow bound limit prefix skip s digits (not_too_long t skip limit s few) above)
     (rw (dropped_is t skip limit s at before now w so) refl)
 
--- a first window full of digits that tells no zeros is above the bound
+-- If the first window is full and begins with no zero, the answer is `Overflow`.
 pub narrow_full : (t : Table) (bound limit : ℕ) (s : List ℕ) (before now : ℕ) (w : Window) →
     Skipped t true s 0 before now w → bound ≤ 4294967295 → 16 ≤ w.len → Err (overflow s) ≡ prefix_magnitude t narrow bound limit true s
 narrow_full t bound limit s before now w so high full =
     narrow_overflow t bound limit true s 0 before now w so (λ no. absurd (cc no)) (omega arith) (omega (arith, least t s w so.shown full (so.last refl)))
 
--- a number within the bound
+-- If the number of the last window is within the bound, the answer is `Ok`.
 narrow_ok : (t : Table) (bound limit : ℕ) (skip : Bool) (s : List ℕ) (at before now : ℕ) (w : Window) →
     Skipped t skip s at before now w → bound ≤ 4294967295 → (skip ≡ false → run_len t s ≤ 16) → 0 < at + w.len → w.number ≤ bound →
     Ok (w.number, at + w.len) ≡ prefix_magnitude t narrow bound limit skip s
@@ -223,7 +231,8 @@ narrow_ok t bound limit skip s at before now w so high few some within =
     record { some = omega arith; short = not_too_long t skip limit s few; in_range = omega arith; ends = refl } in
     rw (refusal-none t narrow bound limit prefix skip s accepted, number, len) refl
 
--- both answers of the last window, where there is a digit, and where zeros count at most 16 digits
+-- If there is a digit, and at most 16 digits unless zeros are skipped, the number of the last
+-- window decides between `Ok` and `Overflow`.
 pub narrow_told : (t : Table) (bound limit : ℕ) (skip : Bool) (s : List ℕ) (at before now : ℕ) (w : Window) →
     Skipped t skip s at before now w → bound ≤ 4294967295 → (skip ≡ false → run_len t s ≤ 16) → 0 < at + w.len →
     (if nat_lt bound w.number then Err (overflow (drop at s)) else Ok (w.number, at + w.len)) ≡ prefix_magnitude t narrow bound limit skip s
@@ -233,7 +242,7 @@ narrow_told t bound limit skip s at before now w so high few some =
       | inr fits ↦ rw (le-ltb bound w.number fits) (narrow_ok t bound limit skip s at before now w so high few some fits)
     ]
 
--- where zeros count, more than 16 digits are too many
+-- If zeros are not skipped, more than 16 digits are too many, and the error reports 17.
 pub narrow_size : (t : Table) (bound limit : ℕ) (skip : Bool) (s : List ℕ) → true ≡ (not skip && nat_lt 16 (run_len t s)) →
     Err (size 17 s) ≡ prefix_magnitude t narrow bound limit skip s
 narrow_size t bound limit true s long = absurd (cc long)
@@ -243,7 +252,8 @@ narrow_size t bound limit false s long =
     let told : 0 + min (counting_digits t false s) 17 ≡ 17 = omega arith in
     rw (refused_size t narrow bound limit prefix false s (omega arith) too_long) (rw told refl)
 
--- after 16 digits there is one more where there are more than 16
+-- If the first 16 bytes are digits, the bytes after them begin with a digit exactly if there are
+-- more than 16 digits.
 pub digit_after_16 : (t : Table) (s : List ℕ) → run_len t (take 16 s) ≡ 16 →
     nat_lt 0 (run_len t (take (length s - 16) (drop 16 s))) ≡ nat_lt 16 (run_len t s)
 digit_after_16 t s full =
@@ -251,13 +261,14 @@ digit_after_16 t s full =
     let run_is : run_len t s ≡ 16 + run_len t (drop 16 s) = prefix_len-drop (is_digit t) 16 s (omega arith) in
     rw (take_rest s 16) (grind (arith, nat_tests))
 
--- a narrow whole slice is answered by its front where zeros are skipped: an overflow holds the whole
--- slice, and a front that ends before the slice is invalid
+-- How the answer to a narrow whole slice follows from the answer to its prefix with zeros skipped:
+-- the slice of an overflow is the whole slice, and a number that ends before the slice makes it
+-- invalid.
 abbrev pub whole_of_front : List ℕ → Result (ℕ × ℕ) Refusal → Result ℕ Refusal
 whole_of_front s (Ok found) = if found.1 == length s then Ok found.0 else Err (invalid64 found.0 found.1 s)
 whole_of_front s (Err reason) = Err (if rank reason == 0 then empty else overflow s)
 
--- one more reason, the last of three
+-- A third test after two others can be applied to their result.
 last_of_three : (s rest : List ℕ) (a b : Bool) (v n : ℕ)
     → unless_refused (if a then Some empty else (if b then Some (overflow s) else (if not (n == length s) then Some (invalid64 v n s) else None))) v
     ≡ whole_of_front s (unless_refused (if a then Some empty else (if b then Some (overflow rest) else None)) (v, n))
@@ -267,7 +278,7 @@ last_of_three s rest false false v n =
     elim (n == length s) as (λ d. unless_refused (if not d then Some (invalid64 v n s) else None) v ≡ (if d then Ok v else Err (invalid64 v n s)))
     [ true ↦ refl | false ↦ refl ]
 
--- a narrow front where zeros are skipped, by the length of the run and its value
+-- The answer to a narrow prefix with zeros skipped depends on the length and the value of the run.
 narrow_front_is : (t : Table) (bound limit : ℕ) (s : List ℕ)
     → prefix_magnitude t narrow bound limit true s
     ≡ unless_refused (if run_len t s == 0 then Some empty
@@ -276,7 +287,8 @@ narrow_front_is : (t : Table) (bound limit : ℕ) (s : List ℕ)
 unfolding refusal
 narrow_front_is t bound limit s = refl
 
--- the answer for a narrow whole slice, from that for its front
+-- The answer to a narrow whole slice is the one derived from its prefix, whether zeros are skipped
+-- or not.
 pub narrow_whole_of : (t : Table) (bound limit : ℕ) (s : List ℕ) (skip : Bool) (front : Result (ℕ × ℕ) Refusal)
     → front ≡ prefix_magnitude t narrow bound limit true s
     → whole_of_front s front ≡ whole_magnitude t narrow bound limit skip s
@@ -285,19 +297,21 @@ narrow_whole_of t bound limit s skip front e =
     ∙ sym (last_of_three s _ (run_len t s == 0) (nat_lt bound (value t (run t s))) (value t (run t s)) (run_len t s))
     ∙ sym (narrow_whole_is t bound limit skip s (run_len t s) (value t (run t s)) refl refl)
 
--- Below 16 digits every class, extent and flag answers alike, but for the variant of one error.
+-- ---- Fewer than 16 digits
+-- A first window that is not full decides the answer. It is the same for each class, extent and
+-- flag, except for the variant of `invalid`.
 
--- the class is narrow, or 16 digits stay below its limit and its bound
+-- The class is narrow, or its limit is at least 16 digits and its bound at least 10^15.
 abbrev pub HasRoom : Class → (bound limit : ℕ) → Type 0
 HasRoom class bound limit = (class ≡ narrow) ⊎ ((16 ≤ limit) × (10 ^ 15 ≤ bound))
 
--- so has a wide class, whose bound has as many digits as its limit says
+-- A wide class whose bound has as many digits as its limit, and at least 17, is such a class.
 pub wide_room : (class : Class) (bound limit : ℕ) → 17 ≤ limit → HasDigits limit bound → HasRoom class bound limit
 wide_room class bound limit long digits =
     let least : 10 ^ 15 ≤ 10 ^ (limit - 1) = pow-le-pow_right {n = 10} (lit< tt) {i = 15} {j = limit - 1} (omega arith) in
     inr (omega arith, omega (arith, digits.0))
 
--- so few digits are never too many
+-- Fewer than 16 significant digits are never too many.
 short_enough : (class : Class) (extent : Extent) (skip : Bool) (bound limit counting : ℕ) → HasRoom class bound limit → counting < 16
     → is_above (limit_at class extent skip limit) counting ≡ false
 short_enough narrow whole skip bound limit counting room few = refl
@@ -306,7 +320,7 @@ short_enough narrow prefix false bound limit counting room few = le-ltb 16 count
 short_enough wide64 extent skip bound limit counting room few = elim room [ inl e ↦ absurd (cc e) | inr h ↦ le-ltb limit counting (omega (arith, h.0)) ]
 short_enough wide128 extent skip bound limit counting room few = elim room [ inl e ↦ absurd (cc e) | inr h ↦ le-ltb limit counting (omega (arith, h.0)) ]
 
--- and where their number is above the bound, no zeros are left out
+-- With fewer than 16 digits, the slice of an overflow leaves out no zeros.
 whole_slice : (class : Class) (extent : Extent) (skip : Bool) (bound limit digits skipped number : ℕ) (s : List ℕ) (next : Option Refusal)
     → HasRoom class bound limit → digits < 16 → skipped ≤ digits → number < 10 ^ 15
     → cond (ltb bound number) (Some (overflow (drop (rule_of class extent skip limit digits skipped).dropped s))) next ≡ cond (ltb bound number) (Some (overflow s)) next
@@ -321,12 +335,14 @@ whole_slice wide64 extent skip bound limit digits skipped number s next room few
 whole_slice wide128 extent skip bound limit digits skipped number s next room few within below =
     elim room [ inl e ↦ absurd (cc e) | inr h ↦ rw (le-ltb bound number (omega (arith, h.1))) refl ]
 
--- no more zeros are skipped than there are digits
+-- At most as many zeros are skipped as there are digits.
 skipped_most : (t : Table) (skip : Bool) (s : List ℕ) → skipped_zeros t skip s ≤ run_len t s
 skipped_most t true s = zeros-le t s
 skipped_most t false s = omega arith
 
--- THE SHORT RUN: refused are no digit, a number above the bound, and bytes after a whole slice's digits, in this order
+-- The answer to fewer than 16 digits: `Empty` if there is none, `Overflow` if the value is larger
+-- than the bound, and `invalid` if the digits of a whole slice are followed by another byte, tested
+-- in this order.
 pub short_run : (t : Table) (class : Class) (bound limit : ℕ) (extent : Extent) (skip : Bool) (s : List ℕ) → HasRoom class bound limit
     → run_len t s < 16 → value t (run t s) < 10 ^ 15
     → refusal t class bound limit extent skip s
@@ -343,7 +359,7 @@ short_run t class bound limit extent skip s room few below =
     ∙ ap (λ (x : Option Refusal). cond (eqb digits 0) (Some empty) x)
     (whole_slice class extent skip bound limit digits (skipped_zeros t skip s) number s some_left room few within below)
 
--- the tests of a front, as an answer
+-- Two tests that choose between errors and a value can be written as a refusal or none.
 picked : {A : Type 0} (a b : Bool) (p q : Refusal) (v : A) → cond a (Err p) (cond b (Err q) (Ok v)) ≡ unless_refused (cond a (Some p) (cond b (Some q) None)) v
 picked true b p q v = refl
 picked false true p q v = refl
@@ -351,17 +367,17 @@ picked false false p q v = refl
 
 module _ (t : Table) (ten : IsBelowTen t) (class : Class) (bound limit : ℕ) (skip : Bool) (s : List ℕ) (w : Window)
     (is : w ≡ window_of t 16 s) (short : w.len < 16) (room : HasRoom class bound limit) where
-  -- a window that is not full holds the whole run
+  -- A window that is not full holds the whole run.
   told : Shows t 16 s w
   told = shows t ten 16 s w is
 
-  -- its number has at most 15 digits
+  -- Its number has at most 15 digits.
   pub short_number : w.number < 10 ^ 15
   short_number =
       let most : 10 ^ w.len ≤ 10 ^ 15 = pow-le-pow_right {n = 10} (lit< tt) {i = w.len} {j = 15} (omega arith) in
       omega (arith, told.below)
 
-  -- and decides the answer for a front
+  -- The window decides the answer to the prefix.
   short_front : cond (eqb w.len 0) (Err empty) (cond (ltb bound w.number) (Err (overflow s)) (Ok (w.number, w.len))) ≡ prefix_magnitude t class bound limit skip s
   short_front =
       let len : run_len t s ≡ w.len = omega (arith, told.len_is) in
@@ -371,19 +387,20 @@ module _ (t : Table) (ten : IsBelowTen t) (class : Class) (bound limit : ℕ) (s
       ∙ sym (ap₂ (λ (n m : ℕ). unless_refused (cond (eqb m 0) (Some empty) (cond (ltb bound n) (Some (overflow s)) None)) (n, m)) number len)
       ∙ sym (ap (λ (r : Option Refusal). unless_refused r (value t (run t s), run_len t s)) (short_run t class bound limit prefix skip s room (omega arith) small))
 
-  -- no digit
+  -- If the window has no digit, the answer is `Empty`.
   pub short_none : w.len ≡ 0 → Err empty ≡ prefix_magnitude t class bound limit skip s
   short_none none = sym (ap (λ b. cond b (Err empty) (cond (ltb bound w.number) (Err (overflow s)) (Ok (w.number, w.len)))) (eq-eqb w.len 0 none)) ∙ short_front
 
-  -- some digits
+  -- If the window has a digit, its number decides between `Overflow` and `Ok`.
   pub short_some : 0 < w.len → cond (ltb bound w.number) (Err (overflow s)) (Ok (w.number, w.len)) ≡ prefix_magnitude t class bound limit skip s
   short_some some = sym (ap (λ b. cond b (Err empty) (cond (ltb bound w.number) (Err (overflow s)) (Ok (w.number, w.len)))) (ne_eqb w.len 0 (omega arith))) ∙ short_front
 
-  -- some digits, which write no more than the bound
+  -- If the number of that window is within the bound, the answer is `Ok`.
   pub short_ok : 0 < w.len → w.number ≤ bound → Ok (w.number, w.len) ≡ prefix_magnitude t class bound limit skip s
   short_ok some within = sym (ap (λ b. cond b (Err (overflow s)) (Ok (w.number, w.len))) (le-ltb bound w.number within)) ∙ short_some some
 
--- the same of a wide class, whose bound no such number passes
+-- For a wide class the answer is always `Ok` if there is a digit, because the bound is larger than
+-- any such number.
 pub short_wide : (t : Table) → IsBelowTen t → (class : Class) (bound limit : ℕ) (skip : Bool) (s : List ℕ) (w : Window) →
     w ≡ window_of t 16 s → w.len < 16 → 17 ≤ limit → HasDigits limit bound → 0 < w.len → Ok (w.number, w.len) ≡ prefix_magnitude t class bound limit skip s
 short_wide t ten class bound limit skip s w is short long digits some =
@@ -391,7 +408,7 @@ short_wide t ten class bound limit skip s w is short long digits some =
     let least : 10 ^ 15 ≤ 10 ^ (limit - 1) = pow-le-pow_right {n = 10} (lit< tt) {i = 15} {j = limit - 1} (omega arith) in
     short_ok t ten class bound limit skip s w is short room some (omega (arith, short_number t ten class bound limit skip s w is short room, digits.0))
 
--- and no digit
+-- For a wide class the answer is `Empty` if there is no digit.
 pub short_empty : (t : Table) → IsBelowTen t → (class : Class) (bound limit : ℕ) (skip : Bool) (s : List ℕ) (w : Window) →
     w ≡ window_of t 16 s → 17 ≤ limit → HasDigits limit bound → w.len ≡ 0 → Err empty ≡ prefix_magnitude t class bound limit skip s
 short_empty t ten class bound limit skip s w is long digits none =

@@ -1,4 +1,6 @@
--- Prefixes of slices that spell a number, and the results of a type for them.
+-- Prefixes of slices that write a number: where a prefix parse stops, how it is related to a whole
+-- parse, and what the results for a type say about their slices. Most of the laws of this crate are
+-- proved here.
 use Rattle.std.proofs.Common.{◌≡◌, ℕ, ◌≤◌, Bool, List, ◌++◌, length, take, get_or, Ok, ℤ, refl, sym, ap, ◌∙◌, subst, arith, inl, inr, get_or-drop, take-add, add_comm, ◌+◌, ◌<◌, true, IsFalse, [], ◌∷◌, drop, IsOk, Result, Err, eq-eqb, length-drop, append_assoc, append-nil, length-append, IfOk, OnErr}
 use Rattle.std.proofs.lemmas.Bool.{cases_lt, cases_Bool}
 use Rattle.std.proofs.lemmas.List.Sums.{prefix_len-le-length, prefix_len_stops}
@@ -21,9 +23,10 @@ use Rattle.atoi_core.proofs.Texts.{digit_is, own, run_of_digits, sign_of_text, w
 use Rattle.atoi_core.specs.Refusal.{Refusal}
 use Rattle.atoi_core.specs.declared.error.AtoiSimdError.{AtoiSimdError}
 
--- Prefixes: where they stop, what they answer where the slice ends with them, and that one which reaches the end is a whole parse.
+-- ---- Where a prefix parse stops
 
--- the law: a prefix stops at the end or before a byte that is no digit
+-- The law `PrefixStopsAtRest`: a prefix parse stops at the end of the slice, or before a byte that
+-- is no digit.
 pub prefix_stops_at_rest : (k : IntType) → PrefixStopsAtRest k
 prefix_stops_at_rest k form skip s v count h =
     let counts = (found_prefix k form skip s v count h).counted in
@@ -40,7 +43,7 @@ prefix_stops_at_rest k form skip s v count h =
       | inr le ↦ inl (omega (arith, prefix_len-le-length (is_digit decimal_table) g.body))
     ]
 
--- a prefix that reaches the end is a whole parse
+-- If a prefix parse reaches the end of the slice, the whole parse gives the same value.
 whole_of_prefix : (k : IntType) (form : SignForm) (skip : Bool) (s : List ℕ) (v : ℤ)
     → prefix_call k form skip s ≡ Ok (v, length s) → whole_call k form skip s ≡ Ok v
 whole_of_prefix k form skip s v h =
@@ -52,7 +55,8 @@ whole_of_prefix k form skip s v h =
     let body_is = is_whole k g.minus skip g.body front.some short front.in_range to_end in
     whole_call-is k form skip s ∙ to_whole k g.minus skip g.body body_is ∙ ap Ok (sym found.number)
 
--- a whole parse is a prefix that reaches the end, where a prefix may have as many digits
+-- If a whole parse gives a value, and a prefix may have as many digits as a whole slice, the prefix
+-- parse gives the same value and reaches the end.
 prefix_of_whole : (k : IntType) (form : SignForm) (skip : Bool) (s : List ℕ) (v : ℤ) → HasLimitOfWhole k skip
     → whole_call k form skip s ≡ Ok v → prefix_call k form skip s ≡ Ok (v, length s)
 prefix_of_whole k form skip s v limit h =
@@ -68,14 +72,14 @@ prefix_of_whole k form skip s v limit h =
       counted = omega arith;
     })
 
--- the law: both directions
+-- The law `PrefixIsWhole`, which has both directions.
 pub prefix_is_whole : (k : IntType) → PrefixIsWhole k
 prefix_is_whole k = record {
   whole = whole_of_prefix k;
   back = prefix_of_whole k;
 }
 
--- the front that was read is read again where the body ends with it
+-- If a number is found at the start of a body, it is found in the run of that body too.
 found_again : (k : IntType) (g : Sign) (skip : Bool) (v : ℤ) (count : ℕ) → IsFound k g skip v count
     → IsFound k (record g { body = run decimal_table g.body }) skip v count
 found_again k g skip v count h =
@@ -95,7 +99,8 @@ found_again k g skip v count h =
       counted = rw len h.counted;
     }
 
--- a prefix is answered alike where the slice ends with it
+-- A prefix that is found is not empty and lies within the slice. If the slice is cut after it, the
+-- answer is the same.
 found_in_cut : (k : IntType) (form : SignForm) (skip : Bool) (s : List ℕ) (v : ℤ) (count : ℕ) → prefix_call k form skip s ≡ Ok (v, count)
     → (1 ≤ count) × (count ≤ length s) × (prefix_call k form skip (take count s) ≡ Ok (v, count))
 found_in_cut k form skip s v count h =
@@ -118,19 +123,20 @@ found_in_cut k form skip s v count h =
           (subst (λ (h : Sign). IsFound k h skip v count) (sym again) (found_again k g skip v count found)),
     )
 
--- the law
+-- The law `PrefixOfCut`.
 pub prefix_of_cut : (k : IntType) → PrefixOfCut k
 prefix_of_cut k = record { cut = found_in_cut k }
 
--- The slices and fronts that write a number are exactly what a parse accepts and finds.
+-- ---- Slices and prefixes that write a number
+-- They are exactly those that a parse accepts.
 
--- no run begins where no digit stands
+-- If a rest does not begin with a digit, its run is empty.
 stops : (rest : List ℕ) → ¬ BeginsWithDigit rest → run_len decimal_table rest ≡ 0
 stops [] ends = refl
 stops (byte ∷ bytes) ends =
     elim (cases_Bool (is_digit decimal_table byte)) [ inl e ↦ absurd (ends (digit_in_range byte e)) | inr e ↦ rw e refl ]
 
--- no digit stands where the first byte is none
+-- If the first byte of a rest is no digit, the rest does not begin with a digit.
 no_digit : (rest : List ℕ) → (0 < length rest → IsFalse (is_digit decimal_table (get_or rest 0 0))) → ¬ BeginsWithDigit rest
 no_digit [] h = λ digit. digit
 no_digit (byte ∷ bytes) h = λ digit.
@@ -139,7 +145,7 @@ no_digit (byte ∷ bytes) h = λ digit.
     absurd (cc)
 
 module _ (digits rest : List ℕ) (all : AllDigits 10 digits) (ends : ¬ BeginsWithDigit rest) where
-  -- digits with no digit after them are a run
+  -- If no digit follows the digits, they are the run of the slice.
   run_len_before : run_len decimal_table (digits ++ rest) ≡ length digits
   run_len_before =
       prefix_len-append (is_digit decimal_table) digits rest
@@ -148,7 +154,7 @@ module _ (digits rest : List ℕ) (all : AllDigits 10 digits) (ends : ¬ BeginsW
   run_before : run decimal_table (digits ++ rest) ≡ digits
   run_before = ap (λ (n : ℕ). take n (digits ++ rest)) run_len_before ∙ take-append_seam digits rest
 
--- digits that write a number are found at the front of a body
+-- If digits write a number and no digit follows them, that number is found at the start of a body.
 front_found : (k : IntType) → IsSized k → (is_negative : Bool) (taken : ℕ) (digits rest : List ℕ) (number : ℤ)
     → DigitsWrite k is_negative digits number → ¬ BeginsWithDigit rest
     → IsFound k (record { minus = is_negative; taken = taken; body = digits ++ rest }) true number (length digits + taken)
@@ -168,7 +174,7 @@ front_found k sized is_negative taken digits rest number written ends =
       counted = rw len refl;
     }
 
--- digits without a sign
+-- If a prefix consists of digits that write a number, that number is found.
 found_digits : (k : IntType) → IsSized k → (is_negative : Bool) (s : List ℕ) (number : ℤ) (count : ℕ)
     → PrefixWrites (DigitsWrite k is_negative) s number count → IsFound k (record { minus = is_negative; taken = 0; body = s }) true number count
 found_digits k sized is_negative s number count h =
@@ -176,7 +182,7 @@ found_digits k sized is_negative s number count h =
     let len : length (take count s) + 0 ≡ count = omega (arith, length-take-le count s h.within) in
     rw (take-append-drop count s, len) at found
 
--- digits with the sign before them
+-- If a prefix consists of a sign and digits that write a number, that number is found.
 found_text : (k : IntType) → IsSized k → (takes_plus : Bool) (s : List ℕ) (number : ℤ) (count : ℕ)
     → PrefixWrites (TextWrites k takes_plus) s number count → IsFound k (sign_of k.signed takes_plus s) true number count
 found_text k sized takes_plus s number count h =
@@ -195,7 +201,8 @@ found_text k sized takes_plus s number count h =
     subst (λ (g : Sign). IsFound k g true number count) (sym sign_is)
     (rw len at (front_found k sized (is_minus text.sign) (length (sign_bytes text.sign)) text.digits rest number text.written h.ends))
 
--- the law: what a prefix finds is written there, and what is written there is found
+-- The law `AcceptedPrefixes`: what a prefix parse finds is written there, and with zeros skipped,
+-- what is written there is found.
 pub accepted_prefixes : (k : IntType) → IsSized k → AcceptedPrefixes k
 accepted_prefixes k sized = record { written = written; accepted = accepted }
   where
@@ -221,7 +228,7 @@ accepted_prefixes k sized = record { written = written; accepted = accepted }
     accepted (given is_negative) s number count h =
         ok_prefix k (given is_negative) true s number count (found_digits k sized is_negative s number count h)
 
--- bytes that write a number are not empty
+-- Bytes that write a number are not empty.
 some : (k : IntType) (form : SignForm) (front : List ℕ) (number : ℤ) → Writes k form front number → 0 < length front
 some k (looked_for takes_plus) front number h = omega (arith, ap length h.parts, length-append {A = ℕ}, h.written.numeral.0)
 some k (given is_negative) front number h = h.numeral.0
@@ -237,20 +244,22 @@ joined k form s front rest number parts written ends =
       ends = rw (front_rest s front rest parts) ends;
     }
 
--- two answers of one call are the same number and count
+-- If a call gives two answers, they have the same number and the same count.
 same_answer : {E : Type 0} (a b : ℤ) (m n : ℕ) (answer : Result (ℤ × ℕ) E) → answer ≡ Ok (a, m) → answer ≡ Ok (b, n) → (a ≡ b) × (m ≡ n)
 same_answer a b m n answer h k =
     let both = sym h ∙ k in
     let pair : (a, m) ≡ (b, n) = cc in (ap (λ (p : ℤ × ℕ). p.0) pair, ap (λ (p : ℤ × ℕ). p.1) pair)
 
--- both are what a prefix that skips zeros answers
+-- A slice has only one prefix that writes a number and is followed by no digit, because a prefix
+-- parse that skips zeros answers each of them.
 only : (k : IntType) → IsSized k → (form : SignForm) (s : List ℕ) (number other : ℤ) (count len : ℕ)
     → PrefixWrites (Writes k form) s number count → PrefixWrites (Writes k form) s other len → (number ≡ other) × (count ≡ len)
 only k sized form s number other count len h g =
     let found = (accepted_prefixes k sized).accepted in
     same_answer number other count len (prefix_call k form true s) (found form s number count h) (found form s other len g)
 
--- so a front that was found cuts the slice where these bytes end
+-- If a slice begins with bytes that write a number and are followed by no digit, the prefix that
+-- was found ends where these bytes end.
 cut : (k : IntType) → IsSized k → (form : SignForm) (s front rest : List ℕ) (number other : ℤ) (count : ℕ)
     → s ≡ front ++ rest → Writes k form front number → ¬ BeginsWithDigit rest → PrefixWrites (Writes k form) s other count
     → (number ≡ other) × ((take count s ≡ front) × (drop count s ≡ rest))
@@ -263,30 +272,32 @@ cut k sized form s front rest number other count parts written ends found =
       ),
     )
 
--- the law
+-- The law `PrefixesAndRests`.
 pub prefixes_and_rests : (k : IntType) → IsSized k → PrefixesAndRests k
 prefixes_and_rests k sized = record { joined = joined k; only = only k sized; cut = cut k sized }
 
--- a slice that writes a number is a front of itself, so a whole parse that skips zeros accepts it
+-- If a slice writes a number, it is its own prefix, so a whole parse that skips zeros accepts it.
 whole_accepted : (k : IntType) → IsSized k → (form : SignForm) (s : List ℕ) (number : ℤ) → Writes k form s number → whole_call k form true s ≡ Ok number
 whole_accepted k sized form s number h =
     (prefix_is_whole k).whole form true s number
     ((accepted_prefixes k sized).accepted form s number (length s) (joined k form s s [] number (sym (append-nil s)) h (λ digit. digit)))
 
--- the law: what a whole parse answers is written there, and what is written is answered
+-- The law `AcceptedNumbers`: what a whole parse gives is written there, and with zeros skipped,
+-- what is written there is given.
 pub accepted_numbers : (k : IntType) → IsSized k → AcceptedNumbers k
 accepted_numbers k sized = record { written = whole_written k; accepted = whole_accepted k sized }
 
--- an answer that is `Ok` has a value
+-- An answer that is `Ok` has a value.
 ok_value : {A E : Type 0} (r : Result A E) → IsOk r → (x : A) × (r ≡ Ok x)
 ok_value (Ok x) h = (x, refl)
 ok_value (Err e) h = absurd (cc h)
 
--- an answer with a value is `Ok`
+-- An answer with a value is `Ok`.
 ok_is_ok : {A E : Type 0} (r : Result A E) (x : A) → r ≡ Ok x → IsOk r
 ok_is_ok r x h = rw h refl
 
--- the law: what is accepted are the texts, and the answer is the number
+-- The law `AcceptedTexts`: with both flags on, a parse accepts exactly the texts of the type, and
+-- gives their number.
 pub accepted_texts : (k : IntType) → IsSized k → AcceptedTexts k
 accepted_texts k sized = record {
   accepted = λ s. (
@@ -297,22 +308,24 @@ accepted_texts k sized = record {
   number = whole_accepted k sized (looked_for true);
 }
 
--- What the results of a type say of their slices, from what the answers say.
+-- ---- What the results of a type say about their slices
+-- It follows from what the answers say.
 
 module _ {T : Type 0} (number : T → ℤ) where
-  -- what holds of the answer's number holds of the result's
+  -- A property of each number that can be answered holds for the number of the result.
   if_ok : (result : Result T AtoiSimdError) (answer : Result ℤ Refusal) (P : ℤ → Type 0) → typed_answer number result ≡ answer
       → ((any : ℤ) → answer ≡ Ok any → P any) → IfOk result (λ value. P (number value))
   if_ok (Ok value) answer P is h = h (number value) (sym is)
   if_ok (Err error) answer P is h = tt
 
-  -- what would be answered cannot hold where there is an error
+  -- If each number with a property would be answered, and the result is an error, no number has
+  -- that property.
   on_err : (result : Result T AtoiSimdError) (answer : Result ℤ Refusal) (P : ℤ → Type 0) → typed_answer number result ≡ answer
       → ((any : ℤ) → P any → answer ≡ Ok any) → OnErr result ((any : ℤ) → ¬ P any)
   on_err (Ok value) answer P is h = tt
   on_err (Err error) answer P is h = λ any p. let same = is ∙ h any p in absurd (cc)
 
-  -- the same of a number with a count
+  -- As above for a number with a count.
   if_found : (result : Result (T × ℕ) AtoiSimdError) (answer : Result (ℤ × ℕ) Refusal) (P : ℤ → ℕ → Type 0) → typed_prefix_answer number result ≡ answer
       → ((any : ℤ) (count : ℕ) → answer ≡ Ok (any, count) → P any count) → IfOk result (λ found. P (number found.0) found.1)
   if_found (Ok found) answer P is h = h (number found.0) found.1 (sym is)
@@ -324,7 +337,7 @@ module _ {T : Type 0} (number : T → ℤ) where
   on_none (Err error) answer P is h = λ any count p. let same = is ∙ h any count p in absurd (cc)
 
 module _ {T : Type 0} (k : IntType) (sized : IsSized k) (number : T → ℤ) (skip : Bool) where
-  -- the law of whole parses
+  -- The law `WholeResults`.
   pub whole_results : WholeResults k number skip
   whole_results = record {
     text = λ plus s result is.
@@ -340,7 +353,7 @@ module _ {T : Type 0} (k : IntType) (sized : IsSized k) (number : T → ℤ) (sk
       law : AcceptedNumbers k
       law = accepted_numbers k sized
 
-  -- the law of prefixes
+  -- The law `PrefixResults`.
   pub prefix_results : PrefixResults k number skip
   prefix_results = record {
     text = λ plus s result is.

@@ -1,4 +1,6 @@
--- Runs of digits, where they are cut, and the values that they spell.
+-- The run of a slice, which is its longest prefix of digits: how long it is, how it changes when
+-- the slice is cut, and which value its digits spell. Nearly all other lemmas of this crate rest on
+-- these.
 use Rattle.std.proofs.Common.{◌≡◌, ℕ, zero, suc, ◌+◌, ◌≤◌, min, Bool, true, false, cond, List, [], ◌∷◌, take, drop, arith, ◌&&◌, ◌==◌, ◌*◌, ◌^◌, ◌<◌, ◌++◌, length, refl, ap, ◌∙◌, ◌-◌, replicate, All, IsTrue, subst, Option, lit<, lit≤, get_or, Some, None, is_some, unwrap_or, sym, Ok, Err, if◌then◌else◌, nat_lt, not}
 use Rattle.std.specs.List.{prefix_len}
 use Rattle.atoi_core.specs.Digit.{Table, is_digit, digit_value, IsBelowTen, is_zero, decimal_table}
@@ -14,9 +16,10 @@ use Rattle.std.proofs.lemmas.List.Folds.{length-prefix_len}
 use Rattle.atoi_core.specs.Refusal.{empty, overflow, invalid64}
 use Rattle.atoi_core.specs.Magnitude.{narrow, refusal, unless_refused, whole_magnitude}
 
--- The length of the front of a slice that passes a test, where the slice is cut.
+-- ---- Passing prefixes of a cut slice
+-- `prefix_len p s` is the length of the longest prefix of `s` whose elements all pass the test `p`.
 
--- the passing front of the first bytes ends with these bytes at the latest
+-- If a slice is cut to its first n elements, the passing prefix is cut to n elements too.
 pub prefix_len-take : (p : ℕ → Bool) (n : ℕ) (s : List ℕ) → prefix_len p (take n s) ≡ min n (prefix_len p s)
 prefix_len-take p zero s = omega arith
 prefix_len-take p (suc n) [] = omega arith
@@ -24,7 +27,7 @@ prefix_len-take p (suc n) (b ∷ bs) =
     elim (p b) as (λ v. cond v (1 + prefix_len p (take n bs)) 0 ≡ min (suc n) (cond v (1 + prefix_len p bs) 0))
     [ true ↦ omega (arith, prefix_len-take p n bs) | false ↦ omega arith ]
 
--- a cut within the passing front leaves the rest of that front
+-- If n passing elements are dropped, the passing prefix becomes shorter by n.
 pub prefix_len-drop : (p : ℕ → Bool) (n : ℕ) (s : List ℕ) → n ≤ prefix_len p s → prefix_len p s ≡ n + prefix_len p (drop n s)
 prefix_len-drop p zero s = λ _. omega arith
 prefix_len-drop p (suc n) [] = λ h. absurd (omega arith)
@@ -32,7 +35,7 @@ prefix_len-drop p (suc n) (b ∷ bs) =
     elim (p b) as (λ v. suc n ≤ cond v (1 + prefix_len p bs) 0 → cond v (1 + prefix_len p bs) 0 ≡ suc n + prefix_len p (drop n bs))
     [ true ↦ λ h. omega (arith, prefix_len-drop p n bs (omega arith)) | false ↦ λ h. absurd (omega arith) ]
 
--- zeros are digits
+-- A slice has at most as many leading zeros as leading digits.
 pub zeros-le : (t : Table) (s : List ℕ) → zeros t s ≤ run_len t s
 zeros-le t [] = omega arith
 zeros-le t (b ∷ bs) =
@@ -42,9 +45,11 @@ zeros-le t (b ∷ bs) =
       | false ↦ omega arith
     ]
 
--- The number that digits write, where they are cut or begin with zeros.
+-- ---- Values of digits
+-- These lemmas say what the value is when digits are cut or begin with zeros.
 
--- the digits in front count ten times for each digit behind them
+-- To append `ys` to `xs`, the value of `xs` is multiplied by ten for each digit of `ys`, and the
+-- value of `ys` is added.
 pub value-append : (t : Table) (xs ys : List ℕ) → value t (xs ++ ys) ≡ value t xs * 10 ^ length ys + value t ys
 value-append t [] ys = omega arith
 value-append t (x ∷ xs) ys =
@@ -53,7 +58,7 @@ value-append t (x ∷ xs) ys =
     ∙ ap (λ (e : ℕ). digit_value t x * e) (pow-add 10 (length xs) (length ys)) in
     omega (arith, power, value-append t xs ys)
 
--- a number is below ten to the count of its digits
+-- If each digit value is below ten, the value is below ten to the power of the number of digits.
 pub value-below : (t : Table) → IsBelowTen t → (xs : List ℕ) → value t xs < 10 ^ length xs
 value-below t below [] = omega arith
 value-below t below (x ∷ xs) =
@@ -61,7 +66,7 @@ value-below t below (x ∷ xs) =
     mul-le-mul_right (10 ^ length xs) (omega (arith, below x)) in
     rw pow-succ' (omega (arith, value-below t below xs))
 
--- the first digits of a front of digits: the number is cut at them
+-- The value of the first n + k bytes consists of that of the first n and that of the k after them.
 pub value-take-add : (t : Table) (n k : ℕ) (s : List ℕ) → n + k ≤ length s →
     value t (take (n + k) s) ≡ value t (take n s) * 10 ^ k + value t (take k (drop n s))
 value-take-add t n k s h =
@@ -70,7 +75,7 @@ value-take-add t n k s h =
     ∙ value-append t (take n s) (take k (drop n s))
     ∙ ap (λ (e : ℕ). value t (take n s) * 10 ^ e + value t (take k (drop n s))) len
 
--- zeros write 0
+-- The value of leading zeros is 0.
 pub value-zeros : (t : Table) (n : ℕ) (s : List ℕ) → n ≤ zeros t s → value t (take n s) ≡ 0
 value-zeros t zero s = λ _. refl
 value-zeros t (suc n) [] = λ h. absurd (omega arith)
@@ -84,7 +89,7 @@ value-zeros t (suc n) (b ∷ bs) =
       | false ↦ λ h. absurd (omega arith)
     ]
 
--- leading zeros can be left out
+-- Dropping leading zeros does not change the value of the run.
 pub value-drop_zeros : (t : Table) (n : ℕ) (s : List ℕ) → n ≤ zeros t s → value t (run t s) ≡ value t (run t (drop n s))
 value-drop_zeros t n s h =
     let parts : run_len t s ≡ n + run_len t (drop n s) = prefix_len-drop (is_digit t) n s (omega (arith, zeros-le t s)) in
@@ -93,7 +98,7 @@ value-drop_zeros t n s h =
     ∙ value-take-add t n (run_len t (drop n s)) s (omega arith)
     ∙ omega (arith, ap (λ (e : ℕ). e * 10 ^ run_len t (drop n s)) (value-zeros t n s h))
 
--- a number whose first digit is no zero has a digit for each of its places
+-- If the first digit is not zero, the value of n + 1 digits is at least 10^n.
 pub value-least : (t : Table) (n : ℕ) (s : List ℕ) → suc n ≤ run_len t s → zeros t s ≡ 0 → 10 ^ n ≤ value t (take (suc n) s)
 value-least t n [] = λ h z. absurd (omega arith)
 value-least t n (b ∷ bs) =
@@ -111,9 +116,10 @@ value-least t n (b ∷ bs) =
       | false ↦ λ h z. absurd (omega arith)
     ]
 
--- Runs, zeros and values under `take`, under `++`, and under zeros put before them.
+-- ---- Runs, zeros and values of parts and sums of slices
+-- These lemmas say what `take`, `++` and added leading zeros do to them.
 
--- elements that pass, put before a list, all count
+-- If n copies of a passing element are put before a list, its passing prefix becomes longer by n.
 pub prefix_len-replicate_append : {X : Type 0} (p : X → Bool) (x : X) → p x ≡ true → (n : ℕ) (xs : List X)
     → prefix_len p (replicate n x ++ xs) ≡ n + prefix_len p xs
 prefix_len-replicate_append p x h zero xs = omega arith
@@ -121,39 +127,39 @@ prefix_len-replicate_append p x h (suc n) xs =
     rw h (omega (arith, prefix_len-replicate_append p x h n xs))
 
 module _ (table : Table) where
-  -- the run is as long as its length says
+  -- The run has as many bytes as `run_len` says.
   pub length-run : (s : List ℕ) → length (run table s) ≡ run_len table s
   length-run s = length-prefix_len (is_digit table) s
 
-  -- a slice that is its own run holds digits only
+  -- If the run is as long as the slice, each byte of the slice is a digit.
   pub digits_all : (s : List ℕ) → run_len table s ≡ length s → All (λ byte. IsTrue (is_digit table byte)) s
   digits_all s h = λ i d lt. prefix_len_passes (is_digit table) s i d (omega arith)
 
-  -- and its run is the slice
+  -- If the run is as long as the slice, it is the slice.
   pub run_all : (s : List ℕ) → run_len table s ≡ length s → run table s ≡ s
   run_all s h = take_all (run_len table s) s (omega arith)
 
-  -- where the slice is cut within its run, the run is cut there
+  -- If a slice is cut within its run, what is left has digits only.
   pub run_len-take : (n : ℕ) (s : List ℕ) → n ≤ run_len table s → run_len table (take n s) ≡ n
   run_len-take n s h = omega (arith, prefix_len-take (is_digit table) n s)
 
-  -- so are the zeros, as far as the cut reaches
+  -- A slice that is cut to n bytes keeps its leading zeros, but at most n of them.
   pub zeros-take : (n : ℕ) (s : List ℕ) → zeros table (take n s) ≡ min n (zeros table s)
   zeros-take n s = prefix_len-take (is_zero table) n s
 
-  -- the run of the run is all of it
+  -- The run of a run is the run itself.
   pub run_len-run : (s : List ℕ) → run_len table (run table s) ≡ run_len table s
   run_len-run s = run_len-take (run_len table s) s (omega arith)
 
-  -- the zeros are those of the run
+  -- A run begins with as many zeros as its slice.
   pub zeros-run : (s : List ℕ) → zeros table (run table s) ≡ zeros table s
   zeros-run s = omega (arith, zeros-take (run_len table s) s, zeros-le table s)
 
-  -- a zero is worth 0
+  -- The digit value of a zero is 0.
   value_of_zero : (byte : ℕ) → is_zero table byte ≡ true → digit_value table byte ≡ 0
   value_of_zero byte h = grind (arith, eqb_tells)
 
-  -- where not all digits are zeros, the number is at least the power of ten of its places
+  -- If n digits of the run are significant, at least one, its value is at least 10^(n - 1).
   pub value-ge : (s : List ℕ) → zeros table s < run_len table s
       → 10 ^ (run_len table s - zeros table s - 1) ≤ value table (run table s)
   value-ge s h =
@@ -166,68 +172,71 @@ module _ (table : Table) where
       (subst (λ (m : ℕ). 10 ^ (run_len table s - z - 1) ≤ value table (take m rest)) places
       (value-least table (run_len table s - z - 1) rest (omega arith) (omega arith)))
 
-  -- zeros before a number do not change it
+  -- Zeros put before a slice do not change its value.
   pub value-replicate : (zero_digit : ℕ) → is_zero table zero_digit ≡ true → (n : ℕ) (s : List ℕ)
       → value table (replicate n zero_digit ++ s) ≡ value table s
   value-replicate z h zero s = refl
   value-replicate z h (suc n) s = rw (value_of_zero z h) (omega (arith, value-replicate z h n s))
 
--- The run of a slice and its value, digit by digit.
+-- ---- Digit by digit
+-- These lemmas say how the run and its value grow from one byte to the next.
 
--- one more digit
+-- One more digit multiplies the value by ten and adds the digit value.
 pub value_more : (t : Table) (s : List ℕ) (i w : ℕ) → i < length s → t (get_or s i 0) ≡ Some w → value t (take (i + 1) s) ≡ value t (take i s) * 10 + w
 value_more t s i w here digit =
     let e : digit_value t (get_or s i 0) ≡ w = ap (λ (o : Option ℕ). unwrap_or o 0) digit in
     rw (take_more s i 0 here, value-append t (take i s) (get_or s i 0 ∷ []), ← e) (grind arith)
 
--- a number that goes on with digits is no less
+-- More digits after a number never make its value smaller.
 pub value-append-le : (t : Table) (xs ys : List ℕ) → value t xs ≤ value t (xs ++ ys)
 value-append-le t xs ys =
     let power : 1 ≤ 10 ^ length ys = one-le-pow (length ys) 10 (lit< tt) in
     omega (arith, value-append t xs ys, mul-le-mul_left (value t xs) power)
 
--- a longer front is worth no less
+-- A longer prefix never has a smaller value.
 pub value-take-le : (t : Table) (s : List ℕ) (i j : ℕ) → i ≤ j → value t (take i s) ≤ value t (take j s)
 value-take-le t s i j le =
     rw (← take-append-drop i (take j s), take-take i j s le)
     (value-append-le t (take i s) (drop i (take j s)))
 
--- a digit makes the run longer by one
+-- If i bytes of the run are read and the next byte is a digit, i + 1 bytes of the run are read.
 pub run_more : (t : Table) (s : List ℕ) (i w : ℕ) → i < length s → t (get_or s i 0) ≡ Some w → i + run_len t (drop i s) ≡ run_len t s → i + 1 + run_len t (drop (i + 1) s) ≡ run_len t s
 run_more t s i w here digit so_far =
     let yes = prefix_len-drop_yes (is_digit t) s i 0 here (ap is_some digit) in
     omega (arith, yes, so_far)
 
--- a byte that is no digit ends the run
+-- If i bytes of the run are read and the next byte is no digit, the run has i digits.
 pub run_ends : (t : Table) (s : List ℕ) (i : ℕ) → i < length s → t (get_or s i 0) ≡ None → i + run_len t (drop i s) ≡ run_len t s → run_len t s ≡ i
 run_ends t s i here none so_far =
     let no = prefix_len-drop_no (is_digit t) s i 0 here (ap is_some none) in
     omega (arith, no, so_far)
 
--- a decimal digit is worth less than ten
+-- A decimal digit value is below ten.
 pub decimal_below_ten : IsBelowTen decimal_table
 decimal_below_ten byte = grind (arith, nat_tests)
 
--- a digit behind a number
+-- If a number is below 10^len, it is below 10^(len + 1) after one more digit.
 pub digit_joins : (len number w : ℕ) → number < 10 ^ len → w < 10 → number * 10 + w < 10 ^ (len + 1)
 digit_joins len number w small digit = rw (pow-add 10 len 1) (grind arith)
 
--- a number of at most 16 digits has 64 bits
+-- A number of at most 16 digits fits in 64 bits.
 pub sixteen_digits : (len number : ℕ) → len ≤ 16 → number < 10 ^ len → number < 2 ^ 64
 sixteen_digits len number short small =
     let most : 10 ^ len ≤ 10 ^ 16 = pow-le-pow_right {n = 10} (lit< tt) short in
     let fits : 10 ^ 16 ≤ 2 ^ 64 = lit≤ tt in
     omega (arith, most, fits)
 
--- what a digit is worth is below ten
+-- If all digit values of a table are below ten, so is the one that the table gives for this byte.
 pub digit_value_of : (t : Table) → IsBelowTen t → (byte w : ℕ) → t byte ≡ Some w → w < 10
 digit_value_of t small byte w digit =
     let P : ℕ → Type 0 = λ n. n < 10 in
     subst P (ap (λ (o : Option ℕ). unwrap_or o 0) digit) (small byte)
 
--- The answers case by case.
+-- ---- Answers of narrow whole parses
+-- There is a lemma for each case that the loop over single bytes distinguishes.
 
--- a narrow whole answer by the length of the run and its value
+-- The answer to a narrow whole slice depends on the length n of its run and on the run's value
+-- only.
 pub narrow_whole_is : (t : Table) (bound limit : ℕ) (skip : Bool) (s : List ℕ) (n number : ℕ) → run_len t s ≡ n → value t (take n s) ≡ number
     → whole_magnitude t narrow bound limit skip s ≡ unless_refused (if n == 0 then Some empty
     else (if nat_lt bound number then Some (overflow s)
@@ -235,7 +244,8 @@ pub narrow_whole_is : (t : Table) (bound limit : ℕ) (skip : Bool) (s : List �
 unfolding refusal
 narrow_whole_is t bound limit skip s n number at_n is_number = rw (at_n, is_number) refl
 
--- a byte that is no digit stands behind i digits that write a number in bounds
+-- If i digits within the bound are followed by another byte, the answer is `Empty` for i = 0, and
+-- otherwise `Invalid64`.
 pub narrow_whole_rest : (t : Table) (bound limit : ℕ) (skip : Bool) (s : List ℕ) (i number : ℕ) → i < length s → t (get_or s i 0) ≡ None
     → i + run_len t (drop i s) ≡ run_len t s → number ≡ value t (take i s) → number ≤ bound
     → whole_magnitude t narrow bound limit skip s ≡ Err (if i == 0 then empty else invalid64 number i s)
@@ -243,7 +253,7 @@ narrow_whole_rest t bound limit skip s i number here none so_far is_number fits 
     narrow_whole_is t bound limit skip s i number (run_ends t s i here none so_far) (sym is_number)
     ∙ grind (arith, nat_tests)
 
--- one digit more makes a number above the bound
+-- If one more digit makes the value larger than the bound, the answer is `Overflow`.
 pub narrow_whole_over : (t : Table) (bound limit : ℕ) (skip : Bool) (s : List ℕ) (i w : ℕ) → i < length s → t (get_or s i 0) ≡ Some w
     → i + run_len t (drop i s) ≡ run_len t s → bound < value t (take i s) * 10 + w
     → whole_magnitude t narrow bound limit skip s ≡ Err (overflow s)
@@ -253,7 +263,8 @@ narrow_whole_over t bound limit skip s i w here digit so_far over =
     narrow_whole_is t bound limit skip s (run_len t s) (value t (take (run_len t s) s)) refl refl
     ∙ grind (arith, nat_tests)
 
--- all bytes are digits
+-- If all bytes are digits and their value is within the bound, the answer is `Empty` for no byte,
+-- and otherwise `Ok`.
 pub narrow_whole_end : (t : Table) (bound limit : ℕ) (skip : Bool) (s : List ℕ) (i number : ℕ) → i ≤ length s → length s ≤ i
     → i + run_len t (drop i s) ≡ run_len t s → number ≡ value t (take i s) → number ≤ bound
     → whole_magnitude t narrow bound limit skip s ≡ (if length s == 0 then Err empty else Ok number)

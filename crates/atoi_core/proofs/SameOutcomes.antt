@@ -1,4 +1,7 @@
--- Answers of one kind: what decides the kind, and that neither the rest behind a run nor zeros before it change it.
+-- When two answers have the same outcome: both are `Ok` with the same value, or both are errors of
+-- the same variant. The lemmas prove two laws: bytes after the run (the digits that a body begins
+-- with) do not change the outcome of a prefix parse (`RestChangesNothing`), and added leading zeros
+-- do not change the outcome of a parse that skips zeros (`ZerosChangeNothing`).
 use Rattle.std.proofs.Common.{◌≡◌, ℕ, ◌+◌, ◌-◌, ◌<◌, Bool, true, not, if◌then◌else◌, eqb, ltb, List, [], ◌++◌, length, take, replicate, Option, Some, None, Result, ℤ, option_map, refl, sym, ap, ◌∙◌, subst₂, arith, take_at, drop_at, length-append, ne_eqb}
 use Rattle.std.proofs.lemmas.List.{length-replicate}
 use Rattle.std.proofs.lemmas.Bool.Decides.{nat_tests}
@@ -14,7 +17,8 @@ use Rattle.atoi_core.specs.Laws.{SignForm, sign_in, with_zeros, zero_byte, HaveS
 use Rattle.atoi_core.proofs.Runs.{length-run, zeros-run, value-replicate, prefix_len-replicate_append}
 use Rattle.atoi_core.proofs.Calls.{refusal-rank, first_of, limit_at, counting_digits, sign_again, whole_call-is, prefix_call-is, counted_number, with_more-zero}
 
--- two whole answers are of one kind where the reasons are, and the values are equal
+-- Two whole answers have the same outcome if their refusals have the same rank and their values are
+-- equal.
 same_outcome : (minus other_minus : Bool) (r q : Option Refusal) (x y : ℕ) → option_map rank r ≡ option_map rank q
     → with_sign minus x ≡ with_sign other_minus y
     → HaveSameOutcome (map_answer (with_sign minus) (unless_refused r x)) (map_answer (with_sign other_minus) (unless_refused q y))
@@ -23,7 +27,8 @@ same_outcome minus other_minus (Some reason) (Some other) x y h e = cc h
 same_outcome minus other_minus None (Some other) x y h e = absurd (cc h)
 same_outcome minus other_minus (Some reason) None x y h e = absurd (cc h)
 
--- two prefix answers, of which the first has a count that is less by `more`
+-- Two prefix answers have the same outcome if, moreover, the count of the first is smaller by
+-- `more`.
 same_prefix_outcome : (more taken other_taken : ℕ) (minus other_minus : Bool) (r q : Option Refusal) (x y : ℕ × ℕ) → option_map rank r ≡ option_map rank q
     → with_sign minus x.0 ≡ with_sign other_minus y.0 → x.1 + taken + more ≡ y.1 + other_taken
     → HaveSameOutcome (with_more more (with_more taken (map_answer (counted_number minus) (unless_refused r x))))
@@ -33,19 +38,19 @@ same_prefix_outcome more taken other_taken minus other_minus (Some reason) (Some
 same_prefix_outcome more taken other_taken minus other_minus None (Some other) x y h e c = absurd (cc h)
 same_prefix_outcome more taken other_taken minus other_minus (Some reason) None x y h e c = absurd (cc h)
 
--- the reason to refuse a body behind its sign
+-- The refusal of the body after a sign, if there is one.
 abbrev reason_at : IntType → Bool → Extent → Sign → Option Refusal
 reason_at k skip extent g = refusal decimal_table (class_of k) (bound_of k g.minus) (limit_of k) extent skip g.body
 
--- the length of its run
+-- The length of the body's run.
 abbrev len_at : Sign → ℕ
 len_at g = run_len decimal_table g.body
 
--- the number that its run writes
+-- The value of the body's run.
 abbrev number_at : Sign → ℕ
 number_at g = value decimal_table (run decimal_table g.body)
 
--- what the four tests are of two bodies that are refused for reasons of one kind, or not at all
+-- The four tests of `refusal` give the same results for two bodies with their signs.
 record IsAlike (k : IntType) (skip : Bool) (extent : Extent) (g h : Sign) : Type 0 where
   bound : bound_of k g.minus ≡ bound_of k h.minus
   is_empty : eqb (run_len decimal_table g.body) 0 ≡ eqb (run_len decimal_table h.body) 0
@@ -53,7 +58,8 @@ record IsAlike (k : IntType) (skip : Bool) (extent : Extent) (g h : Sign) : Type
   number : number_at g ≡ number_at h
   followed : leaves_rest extent (run_len decimal_table g.body) (length g.body) ≡ leaves_rest extent (run_len decimal_table h.body) (length h.body)
 
--- bodies that the tests do not tell apart are refused for reasons of one kind
+-- If the four tests give the same results for two bodies, their refusals have the same rank, or
+-- neither is refused.
 same_reason : (k : IntType) (skip : Bool) (extent : Extent) (g h : Sign) → IsAlike k skip extent g h
     → option_map rank (reason_at k skip extent g) ≡ option_map rank (reason_at k skip extent h)
 same_reason k skip extent g h alike =
@@ -61,23 +67,23 @@ same_reason k skip extent g h alike =
     ∙ (λ i. first_of (alike.is_empty i) (is_above (limit_at (class_of k) extent skip (limit_of k)) (alike.counts i)) (ltb (alike.bound i) (alike.number i)) (alike.followed i) 0 1 2 (rank (invalid (class_of k) 0 0 [])))
     ∙ sym (refusal-rank decimal_table (class_of k) (bound_of k h.minus) (limit_of k) extent skip h.body)
 
--- what a call answers that goes by a sign
+-- What a prefix call answers when it uses the sign `g`.
 abbrev prefix_at : IntType → Bool → Sign → Result (ℤ × ℕ) Refusal
 prefix_at k skip g = with_more g.taken (prefix_answer decimal_table k g.minus skip g.body)
 
--- the same for a whole parse
+-- What a whole call answers when it uses the sign `g`.
 abbrev whole_at : IntType → Bool → Sign → Result ℤ Refusal
 whole_at k skip g = whole_answer decimal_table k g.minus skip g.body
 
--- equal runs have equal lengths, zeros and values
+-- Equal runs have equal lengths.
 same_len : (s t : List ℕ) → run decimal_table s ≡ run decimal_table t → run_len decimal_table s ≡ run_len decimal_table t
 same_len s t e = sym (length-run decimal_table s) ∙ ap length e ∙ length-run decimal_table t
 
--- and the same zeros
+-- Slices with equal runs have equally many leading zeros.
 same_zeros : (s t : List ℕ) → run decimal_table s ≡ run decimal_table t → zeros decimal_table s ≡ zeros decimal_table t
 same_zeros s t e = sym (zeros-run decimal_table s) ∙ ap (zeros decimal_table) e ∙ zeros-run decimal_table t
 
--- two bodies with equal runs, behind the same sign
+-- Two bodies with equal runs and the same sign give prefix answers of the same outcome.
 same_run : (k : IntType) (skip : Bool) (g h : Sign) → g.minus ≡ h.minus → g.taken ≡ h.taken → run decimal_table g.body ≡ run decimal_table h.body
     → HaveSameOutcome (with_more 0 (prefix_at k skip g)) (prefix_at k skip h)
 same_run k skip g h minus taken runs =
@@ -95,38 +101,39 @@ same_run k skip g h minus taken runs =
     }))
     (λ i. with_sign (minus i) (number i)) (omega arith)
 
--- the law: what stands behind a run changes nothing
+-- The law: bytes after the run change nothing.
 pub rest_changes_nothing : (k : IntType) → RestChangesNothing k
 rest_changes_nothing k form skip s t same =
     subst₂ (λ x y. HaveSameOutcome x y) (with_more-zero (prefix_at k skip (sign_in k form s)) ∙ sym (prefix_call-is k form skip s)) (sym (prefix_call-is k form skip t))
     (same_run k skip (sign_in k form s) (sign_in k form t) same.minus same.taken same.run)
 
--- ---- zeros put before a body
+-- ---- Added leading zeros
 
--- a body with that many zeros before it
+-- A body with `count` zeros put before it.
 abbrev padded : ℕ → List ℕ → List ℕ
 padded count body = replicate count zero_byte ++ body
 
--- its run is longer by the zeros
+-- Its run is longer by these zeros.
 run_len-padded : (count : ℕ) (body : List ℕ) → run_len decimal_table (padded count body) ≡ count + run_len decimal_table body
 run_len-padded count body = prefix_len-replicate_append (is_digit decimal_table) zero_byte refl count body
 
--- it begins with as many zeros more
+-- It has as many more leading zeros.
 zeros-padded : (count : ℕ) (body : List ℕ) → zeros decimal_table (padded count body) ≡ count + zeros decimal_table body
 zeros-padded count body = prefix_len-replicate_append (is_zero decimal_table) zero_byte refl count body
 
--- it is longer by them
+-- It is longer by these zeros.
 length-padded : (count : ℕ) (body : List ℕ) → length (padded count body) ≡ count + length body
 length-padded count body = simp (length-append, length-replicate)
 
--- a front of them is a front of the body behind the zeros
+-- A prefix of it that includes the added zeros is a prefix of the body with the zeros put before
+-- it.
 take-padded : (count n : ℕ) (body : List ℕ) → take (count + n) (padded count body) ≡ padded count (take n body)
 take-padded count n body =
     let len = length-replicate count zero_byte in
     take-add count n (padded count body)
     ∙ (λ i. take_at (replicate count zero_byte) body count len i ++ take n (drop_at (replicate count zero_byte) body count len i))
 
--- its run writes the same number
+-- Its run has the same value.
 value-padded : (count : ℕ) (body : List ℕ) → value decimal_table (run decimal_table body) ≡ value decimal_table (run decimal_table (padded count body))
 value-padded count body =
     let n = run_len decimal_table body in
@@ -134,11 +141,11 @@ value-padded count body =
     ∙ ap (value decimal_table) (sym (take-padded count n body))
     ∙ ap (λ (m : ℕ). value decimal_table (take m (padded count body))) (sym (run_len-padded count body))
 
--- a test of two numbers stays where both grow alike
+-- Adding the same number to both sides does not change a comparison for equality.
 eqb-add : (more m n : ℕ) → eqb m n ≡ eqb (more + m) (more + n)
 eqb-add more m n = grind (arith, nat_tests)
 
--- a rest behind the digits stays
+-- Bytes follow the digits of the new body exactly if they follow those of the old one.
 followed-padded : (extent : Extent) (count : ℕ) (body : List ℕ)
     → leaves_rest extent (run_len decimal_table body) (length body) ≡ leaves_rest extent (run_len decimal_table (padded count body)) (length (padded count body))
 followed-padded prefix count body = refl
@@ -146,7 +153,8 @@ followed-padded whole count body =
     ap not (eqb-add count (run_len decimal_table body) (length body))
     ∙ rw (run_len-padded count body, length-padded count body) refl
 
--- the tests do not tell a body from the same with zeros before it
+-- If zeros are skipped and the body begins with a digit, the four tests give the same results after
+-- zeros are added.
 padded_alike : (k : IntType) (extent : Extent) (count : ℕ) (g : Sign) → 0 < run_len decimal_table g.body
     → IsAlike k true extent g (record g { body = padded count g.body })
 padded_alike k extent count g some =
@@ -160,7 +168,7 @@ padded_alike k extent count g some =
       followed = followed-padded extent count g.body;
     }
 
--- the sign is taken before the zeros too
+-- The same sign is consumed before the added zeros.
 sign_of_padded : (k : IntType) (form : SignForm) (s : List ℕ) (count : ℕ) → 0 < run_len decimal_table (sign_in k form s).body
     → sign_in k form (with_zeros k form count s)
     ≡ record { minus = (sign_in k form s).minus; taken = (sign_in k form s).taken; body = padded count (sign_in k form s).body }
@@ -168,7 +176,7 @@ sign_of_padded k form s count some =
     let longer = run_len-padded count (sign_in k form s).body in
     sign_again k form s (padded count (sign_in k form s).body) (omega arith)
 
--- a whole parse and a prefix parse of the body with zeros before it, behind the same sign
+-- If zeros are skipped, adding zeros after the sign does not change the outcome of a whole parse.
 whole_padded : (k : IntType) (g : Sign) (count : ℕ) → 0 < run_len decimal_table g.body
     → HaveSameOutcome (whole_at k true g) (whole_at k true (record g { body = padded count g.body }))
 whole_padded k g count some =
@@ -177,7 +185,8 @@ whole_padded k g count some =
     (same_reason k true whole g h (padded_alike k whole count g some))
     (ap (with_sign g.minus) (value-padded count g.body))
 
--- the same of a prefix parse, whose count grows by the zeros
+-- If zeros are skipped, adding zeros after the sign does not change the outcome of a prefix parse,
+-- except that its count grows by them.
 prefix_padded : (k : IntType) (g : Sign) (count : ℕ) → 0 < run_len decimal_table g.body
     → HaveSameOutcome (with_more count (prefix_at k true g)) (prefix_at k true (record g { body = padded count g.body }))
 prefix_padded k g count some =
@@ -188,7 +197,7 @@ prefix_padded k g count some =
     (same_reason k true prefix g h (padded_alike k prefix count g some))
     (ap (with_sign g.minus) (value-padded count g.body)) (omega arith)
 
--- the law: zeros before a body change nothing
+-- The law: added leading zeros change nothing.
 pub zeros_change_nothing : (k : IntType) → ZerosChangeNothing k
 zeros_change_nothing k = record {
   whole = λ form s count some.

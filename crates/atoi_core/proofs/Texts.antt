@@ -1,4 +1,5 @@
--- Texts of numbers: decimal digits, and what a whole parse accepts.
+-- Texts of numbers: decimal digits as std defines them, the texts that a whole parse accepts, and
+-- the text that `decimal` writes.
 use Rattle.std.proofs.Common.{◌≡◌, ℕ, suc, ◌+◌, ◌-◌, ◌^◌, ◌<◌, ◌≤◌, Bool, true, false, cond, eqb, List, [], ◌∷◌, length, decimal, Ok, ℤ, pos, negsuc, neg_ℤ, ◌≤ℤ◌, refl, sym, ap, ◌∙◌, arith, inl, inr, add-one, leb→le, le-leb, lt_of_le_of_lt, Some, All, IsTrue, ◌++◌, eqb-true, ◌≢◌, zero, ◌*◌, ◌/◌, ◌%◌, get_or, append_assoc, append-nil, length-append}
 use Rattle.std.specs.Fmt.{signed_decimal}
 use Rattle.std.specs.Str.Parse.{AllDigits, IsNumeral, digits_value, digits_value_after}
@@ -21,9 +22,9 @@ use Rattle.std.proofs.Math.ListN.{get_or-append}
 use Rattle.std.specs.Char.{digit_value as std_digit_value}
 use Rattle.std.proofs.lemmas.Str.{digit_value_digit}
 
--- The decimal text of a number is parsed to that number.
+-- ---- The decimal text of a number is parsed to that number
 
--- what is accepted where zeros count is accepted where they are skipped
+-- What a whole parse accepts without skipping zeros, it accepts with skipping, with the same value.
 whole_skipping : (k : IntType) (is_negative : Bool) (body : List ℕ) (v : ℤ)
     → whole_answer decimal_table k is_negative false body ≡ Ok v → whole_answer decimal_table k is_negative true body ≡ Ok v
 whole_skipping k is_negative body v h =
@@ -37,37 +38,38 @@ whole_skipping k is_negative body v h =
     (is_whole k is_negative true body old.some short old.in_range (whole_is_run n (length body) old.ends))
     ∙ ap Ok (sym found.1)
 
--- the law: skipping zeros agrees with counting them, where the latter succeeds
+-- The law `SkippingAgrees`: if a parse succeeds without skipping zeros, it gives the same with
+-- skipping.
 pub skipping_agrees : (k : IntType) → SkippingAgrees k
 skipping_agrees k form s v h =
     whole_call-is k form true s ∙ whole_skipping k (sign_in k form s).minus (sign_in k form s).body v (sym (whole_call-is k form false s) ∙ h)
 
--- a decimal digit, by its byte
+-- A byte from 48 to 57 is a decimal digit.
 pub digit_is : (byte : ℕ) → 48 ≤ byte → byte ≤ 57 → decimal_table byte ≡ Some (byte - 48)
 digit_is byte lo hi = rw (le-leb 48 byte lo, le-leb byte 57 hi) refl
 
--- its worth is its distance from `0`
+-- Its digit value is its distance from the byte `0`.
 digit_value_is : (byte : ℕ) → 48 ≤ byte → byte ≤ 57 → digit_value decimal_table byte ≡ byte - 48
 digit_value_is byte lo hi = rw (digit_is byte lo hi) refl
 
--- the number that digits write is std's
+-- The value of decimal digits is the one that std defines.
 pub own : IsNumeralModel (AllDigits 10) (value decimal_table)
 own = numerals_by_weight (AllDigits 10) tells_digits (value decimal_table) (record { empty = refl; more = λ c cs h. rw (digit_value_is c h.0 h.1) refl })
 
--- std's digits are ours
+-- If std counts all bytes as digits, the run is the whole slice.
 pub run_of_digits : (ds : List ℕ) → AllDigits 10 ds → run_len decimal_table ds ≡ length ds
 run_of_digits [] h = refl
 run_of_digits (d ∷ ds) h =
     let r = digit_from_value d h.0 in
     rw (digit_is d r.0 r.1) (omega (arith, run_of_digits ds h.1))
 
--- the decimal text of a number: all digits, at least one, and the number is their value
+-- The bytes are a decimal text of n: they are all digits, at least one, and n is their value.
 record IsTextOf (n : ℕ) (ds : List ℕ) : Type 0 where
   all : run_len decimal_table ds ≡ length ds
   some : 0 < length ds
   is : value decimal_table ds ≡ n
 
--- std writes such a text
+-- The text that std writes for a number is such a text.
 decimal_text : (n : ℕ) → n < 10 ^ 64 → IsTextOf n (decimal n)
 decimal_text n h =
     let numeral = decimal_is_IsNumeral_wide n h in
@@ -77,7 +79,8 @@ decimal_text n h =
       is = own.same (decimal n) numeral.0.1 ∙ numeral.1;
     }
 
--- the digits of a number in range are not too many, even where zeros count
+-- The decimal text of a number in range does not have too many digits, even if zeros are not
+-- skipped.
 decimal_short : (k : IntType) → IsSized k → (is_negative : Bool) (n : ℕ) → n ≤ bound_of k is_negative
     → is_above (limit_at (class_of k) whole false (limit_of k)) (length (decimal n)) ≡ false
 decimal_short k sized is_negative n le =
@@ -96,7 +99,7 @@ decimal_short k sized is_negative n le =
         cases true false = omega arith
         cases false b = omega arith
 
--- the decimal text of a magnitude in range is parsed to its number
+-- The decimal text of a magnitude in range is parsed to its number if zeros are not skipped.
 counting_text : (k : IntType) → IsSized k → (is_negative : Bool) (n : ℕ) → n ≤ bound_of k is_negative
     → whole_answer decimal_table k is_negative false (decimal n) ≡ Ok (with_sign is_negative n)
 counting_text k sized is_negative n le =
@@ -112,25 +115,27 @@ counting_text k sized is_negative n le =
     ∙ ap (λ digits. Ok (with_sign is_negative (value decimal_table digits))) is_run
     ∙ ap (λ m. Ok (with_sign is_negative m)) text.is
 
--- the same whether zeros are skipped or not
+-- The decimal text of a magnitude in range is parsed to its number, whether zeros are skipped or
+-- not.
 magnitude_text : (k : IntType) → IsSized k → (is_negative skip : Bool) (n : ℕ) → n ≤ bound_of k is_negative
     → whole_answer decimal_table k is_negative skip (decimal n) ≡ Ok (with_sign is_negative n)
 magnitude_text k sized is_negative true n le = whole_skipping k is_negative (decimal n) (with_sign is_negative n) (counting_text k sized is_negative n le)
 magnitude_text k sized is_negative false n le = counting_text k sized is_negative n le
 
--- a minus before the digits of a signed type is taken
+-- A minus before the digits is consumed if the type is signed.
 sign_of_minus : (signed takes_plus : Bool) (digits : List ℕ) → signed ≡ true
     → sign_of signed takes_plus (45 ∷ digits) ≡ record { minus = true; taken = 1; body = digits }
 sign_of_minus signed true digits h = rw h refl
 sign_of_minus signed false digits h = rw h refl
 
--- what the least number says of one below 0
+-- If a negative number is not below the smallest value of the type, the type is signed and the
+-- magnitude in range.
 pub negative_in_range : (signed : Bool) (greatest n : ℕ) → cond signed (neg_ℤ (pos (greatest + 1))) (pos 0) ≤ℤ negsuc n
     → (signed ≡ true) × (n ≤ greatest)
 negative_in_range false greatest n h = absurd h.le
 negative_in_range true greatest n h = let within = rw add-one at h in (refl, leb→le n greatest within.le)
 
--- the law: the decimal text of every number of the type is parsed to it
+-- The law `TextOfValue`: the decimal text of each number of the type is parsed to that number.
 pub text_of_value : (k : IntType) → IsSized k → TextOfValue k
 text_of_value k sized = record { parsed = parsed }
   where
@@ -144,15 +149,15 @@ text_of_value k sized = record { parsed = parsed }
         ap (λ (g : Sign). whole_answer decimal_table k g.minus skip g.body) (sign_of_minus k.signed takes_plus (decimal (suc n)) within.0)
         ∙ magnitude_text k sized true skip (suc n) (omega (arith, within.1))
 
--- Decimal digits and their value are those of std.
+-- ---- Decimal digits and their values are those of std
 
--- our digits are std's
+-- If all bytes are decimal digits for this crate, they are for std.
 pub to_std : (s : List ℕ) → All (λ byte. IsTrue (is_digit decimal_table byte)) s → AllDigits 10 s
 to_std [] h = tt
 to_std (byte ∷ bytes) h =
     tells_digits.more byte bytes (digit_in_range byte (h 0 0 (omega arith))) (to_std bytes (λ i d lt. h (suc i) d (omega arith)))
 
--- the law: digits, value and bound
+-- The law `DecimalDigits`: digits, values and their bounds are those of std.
 pub decimal_digits : DecimalDigits
 decimal_digits = record {
   byte = λ byte. (digit_in_range byte, λ r. rw (digit_is byte r.0 r.1) refl);
@@ -162,9 +167,9 @@ decimal_digits = record {
   below = value-below decimal_table decimal_below_ten;
 }
 
--- What a whole parse accepts writes the number, and the sign of a text is the one that is taken.
+-- ---- What a whole parse accepts
 
--- a slice as the sign that is taken from it, and its body
+-- A slice consists of the sign that is consumed from it and its body.
 record IsSplit (signed takes_plus : Bool) (s : List ℕ) (g : Sign) : Type 0 where
   mark : SignMark
   parts : s ≡ sign_bytes mark ++ g.body
@@ -172,7 +177,7 @@ record IsSplit (signed takes_plus : Bool) (s : List ℕ) (g : Sign) : Type 0 whe
   allowed : is_minus mark ≡ true → signed ≡ true
   plus_taken : is_plus mark ≡ true → takes_plus ≡ true
 
--- each slice is split by its sign
+-- Each slice consists of these two parts.
 split : (signed takes_plus : Bool) (s : List ℕ) → IsSplit signed takes_plus s (sign_of signed takes_plus s)
 split signed takes_plus [] = record { mark = no_sign; parts = refl; same = refl; allowed = λ e. absurd (cc e); plus_taken = λ e. absurd (cc e) }
 split signed takes_plus (byte ∷ bytes) =
@@ -183,7 +188,7 @@ split signed takes_plus (byte ∷ bytes) =
     record { mark = minus; parts = ap (λ b. b ∷ bytes) (eqb-true byte minus_sign both.1); same = refl; allowed = λ q. both.0; plus_taken = λ q. absurd (cc q) })
     (record { mark = no_sign; parts = refl; same = refl; allowed = λ q. absurd (cc q); plus_taken = λ q. absurd (cc q) })
 
--- the sign of a text is the one that is taken from it
+-- The sign of a text is the one that is consumed from it.
 pub sign_of_text : (signed takes_plus : Bool) (mark : SignMark) (digits : List ℕ) → (is_minus mark ≡ true → signed ≡ true)
     → (is_plus mark ≡ true → takes_plus ≡ true) → 0 < run_len decimal_table digits
     → sign_of signed takes_plus (sign_bytes mark ++ digits) ≡ record { minus = is_minus mark; taken = length (sign_bytes mark); body = digits }
@@ -192,7 +197,8 @@ sign_of_text signed takes_plus plus digits h p some = rw (p refl) refl
 sign_of_text signed true minus digits h p some = rw (h refl) refl
 sign_of_text signed false minus digits h p some = rw (h refl) refl
 
--- a body that is accepted as a whole is digits alone, and these write its number
+-- A body that is accepted as a whole consists of digits only, and these write the number of the
+-- answer.
 digits_written : (k : IntType) (is_negative skip : Bool) (body : List ℕ) (number : ℤ)
     → whole_answer decimal_table k is_negative skip body ≡ Ok number → DigitsWrite k is_negative body number
 digits_written k is_negative skip body number h =
@@ -203,7 +209,7 @@ digits_written k is_negative skip body number h =
     let same = own.same body digits in
     record { numeral = (omega (arith, found.0.some), digits); in_range = rw (is_run, same) at found.0.in_range; value_is = rw (is_run, same) at found.1 }
 
--- what is accepted with a sign is a text that writes the number
+-- A slice that `parse` accepts is a text that writes the number of the answer.
 text_written : (k : IntType) (takes_plus skip : Bool) (s : List ℕ) (number : ℤ)
     → parse_answer k skip takes_plus s ≡ Ok number → TextWrites k takes_plus s number
 text_written k takes_plus skip s number h =
@@ -218,26 +224,27 @@ text_written k takes_plus skip s number h =
       written = rw parts.same (digits_written k g.minus skip g.body number h);
     }
 
--- what a whole parse answers is written there
+-- If a whole call gives a number, its slice writes that number.
 pub whole_written : (k : IntType) (form : SignForm) (skip : Bool) (s : List ℕ) (number : ℤ)
     → whole_call k form skip s ≡ Ok number → Writes k form s number
 whole_written k (looked_for takes_plus) skip s number h = text_written k takes_plus skip s number h
 whole_written k (given is_negative) skip s number h = digits_written k is_negative skip s number h
 
--- The decimal text of a number is the digits that write it with no needless zero.
+-- ---- Texts with no needless zero
+-- The decimal text of a number is the only text of digits with no needless zero that writes it.
 
--- bytes that write a number begin with a digit
+-- Bytes that write a number begin with a digit.
 begins : (k : IntType) (is_negative : Bool) (digits : List ℕ) (number : ℤ) → DigitsWrite k is_negative digits number → BeginsWithDigit digits
 begins k is_negative [] number h = absurd (omega (arith, h.numeral.0))
 begins k is_negative (digit ∷ digits) number h = digit_from_value digit h.numeral.1.0
 
--- `decimal n` writes n
+-- `decimal n` writes n.
 decimal_writes : (k : IntType) → IsSized k → (is_negative : Bool) (n : ℕ) → n ≤ bound_of k is_negative → DigitsWrite k is_negative (decimal n) (with_sign is_negative n)
 decimal_writes k sized is_negative n le =
     let numeral = decimal_is_IsNumeral_wide n (lt_of_le_of_lt le (bound_below-64 k sized is_negative)) in
     record { numeral = numeral.0; in_range = omega (arith, numeral.1); value_is = rw numeral.1 refl }
 
--- a text is not empty, and of a number above 0 it does not begin with a zero
+-- The digits are not empty, and if n is above 0 they do not begin with a zero.
 abbrev IsLed : ℕ → List ℕ → Type 0
 IsLed n digits = (0 < length digits) × (0 < n → 48 < get_or digits 0 0)
 
@@ -250,7 +257,7 @@ no_needless [] h = refl
 no_needless (digit ∷ []) h = refl
 no_needless (digit ∷ next ∷ more) h = ne_eqb digit 48 (λ same. omega arith)
 
--- and it has no needless zero
+-- `decimal n` has no needless zero.
 decimal_shortest : (n : ℕ) → n < 10 ^ 64 → IsFalse (has_needless_zero (decimal n))
 decimal_shortest zero small = rw (decimal_digit 0 (omega arith)) refl
 decimal_shortest (suc n) small = no_needless (decimal (suc n)) ((led (suc n) small).1 (omega arith))
@@ -259,7 +266,8 @@ value_after-least : (n : ℕ) (digits : List ℕ) → n ≤ digits_value_after 1
 value_after-least n [] = omega arith
 value_after-least n (digit ∷ digits) = omega (arith, value_after-least (n * 10 + std_digit_value digit) digits)
 
--- digits after a number above 0 are the last of the text of the value of all
+-- If digits are appended to a number above 0, the text of the new number is the old text with these
+-- digits after it.
 decimal_after : (n : ℕ) (digits : List ℕ) → 0 < n → AllDigits 10 digits → digits_value_after 10 n digits < 10 ^ 64
     → decimal (digits_value_after 10 n digits) ≡ decimal n ++ digits
 decimal_after n [] some all small = sym (append-nil (decimal n))
@@ -272,7 +280,7 @@ decimal_after n (digit ∷ digits) some all small =
     ∙ ap (λ text. text ++ digits) (decimal_step_wide m (omega arith) (omega (arith, value_after-least m digits)) ∙ (λ i. decimal (front i) ++ (end i ∷ [])))
     ∙ append_assoc (decimal n) (digit ∷ []) digits
 
--- digits with no needless zero are the text of their value
+-- Digits with no needless zero are the decimal text of their value.
 decimal_of_digits : (digits : List ℕ) → IsNumeral 10 digits → IsFalse (has_needless_zero digits) → digits_value 10 digits < 10 ^ 64
     → digits ≡ decimal (digits_value 10 digits)
 decimal_of_digits [] numeral shortest small = absurd (omega (arith, numeral.0))
@@ -293,14 +301,14 @@ with_sign-injective true (suc m) zero h = absurd (cc)
 with_sign-injective true (suc m) (suc n) h = cc
 with_sign-injective false m n h = cc
 
--- so no other digits without a needless zero write n
+-- If digits with no needless zero write n, they are `decimal n`.
 decimal_only : (k : IntType) → IsSized k → (is_negative : Bool) (digits : List ℕ) (n : ℕ)
     → DigitsWrite k is_negative digits (with_sign is_negative n) → IsFalse (has_needless_zero digits) → digits ≡ decimal n
 decimal_only k sized is_negative digits n h shortest =
     decimal_of_digits digits h.numeral shortest (lt_of_le_of_lt h.in_range (bound_below-64 k sized is_negative))
     ∙ ap decimal (sym (with_sign-injective is_negative n (digits_value 10 digits) h.value_is))
 
--- `signed_decimal x` writes x
+-- `signed_decimal x` writes x.
 signed_writes : (k : IntType) → IsSized k → (takes_plus : Bool) (x : ℤ) → least_of k ≤ℤ x → x ≤ℤ pos k.greatest → TextWrites k takes_plus (signed_decimal x) x
 signed_writes k sized takes_plus (pos n) low high = record {
   sign = no_sign;
@@ -321,12 +329,13 @@ signed_writes k sized takes_plus (negsuc n) low high =
       written = decimal_writes k sized true (suc n) (omega (arith, within.1));
     }
 
--- the text of a number with a minus, if the number is not 0
+-- If x is not 0 and has a minus, its text is a minus followed by its decimal digits.
 minus_text : (x : ℤ) (n : ℕ) → x ≢ pos 0 → x ≡ neg_ℤ (pos n) → 45 ∷ decimal n ≡ signed_decimal x
 minus_text x zero some is = absurd (some is)
 minus_text x (suc n) some is = rw is refl
 
--- and no other text with nothing needless writes it
+-- If a text writes x with no needless zero, no plus and no minus before 0, it is `signed_decimal
+-- x`.
 signed_only : (k : IntType) → IsSized k → (s : List ℕ) (x : ℤ) (text : TextWrites k false s x)
     → IsFalse (has_needless_zero text.digits) → (is_minus text.sign ≡ true → x ≢ pos 0) → s ≡ signed_decimal x
 signed_only k sized s x text shortest some =
@@ -341,7 +350,7 @@ signed_only k sized s x text shortest some =
     by_sign plus n some is none = absurd (cc (none refl))
     by_sign minus n some is none = minus_text x n (some refl) is
 
--- the law
+-- The law `DecimalTexts`.
 pub decimal_texts : (k : IntType) → IsSized k → DecimalTexts k
 decimal_texts k sized = record {
   begins = begins k;

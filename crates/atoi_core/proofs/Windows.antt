@@ -1,4 +1,6 @@
--- Windows: what they say about their slice, and the loop that skips leading zeros by them.
+-- Windows: what one load reports about its slice, how several loads are put together, and the loop
+-- that skips leading zeros window by window. A window describes the first 8 or 16 bytes of a slice:
+-- the length and the value of their run, and their leading zeros if all of them are digits.
 use Rattle.std.proofs.Common.{◌≡◌, ◌⊎◌, ℕ, ◌+◌, ◌-◌, ◌*◌, ◌^◌, ◌<◌, ◌≤◌, min, Bool, true, false, cond, eqb, ltb, List, length, take, drop, Some, None, Ok, Err, refl, sym, ap, ◌∙◌, subst, inl, inr, arith, ne_eqb, le-ltb, lit<, ◌==◌, ◌/◌, ◌||◌, nat_lt, if◌then◌else◌}
 use Rattle.std.proofs.Math.Nat.{pow-le-pow_right}
 use Rattle.std.proofs.lemmas.Bool.{cases_lt, eqb-true, eqb-false, lt-ltb, false≢true}
@@ -15,15 +17,19 @@ use Rattle.atoi_core.specs.declared.window.Window.{Window}
 use Rattle.std.proofs.lemmas.Bool.Decides.{nat_tests}
 use Rattle.atoi_core.specs.Loads.{LoadsWithin, most_loads}
 
--- What was read at the front of a slice decides the answer of a wide class.
+-- ---- Readings decide the answers of wide types
+-- A reading is what was read of the first bytes of a slice: the number of their leading digits and
+-- leading zeros, and the value of the digits. These lemmas are the fields of the law
+-- `ReadingDecides`.
 
--- zeros that are left behind some of them
+-- If `place` leading zeros are dropped, the next bytes begin with the zeros that are left.
 pub zeros_left : (t : Table) (count : ℕ) (s : List ℕ) (place : ℕ) → place ≤ zeros t s
     → zeros t (take count (drop place s)) ≡ min count (zeros t s - place)
 zeros_left t count s place within =
     omega (arith, prefix_len-take (is_zero t) count (drop place s), prefix_len-drop (is_zero t) place s within)
 
--- how many lead both of two readings
+-- In two readings in a row, the leading zeros of the second matter only if the first has zeros
+-- only.
 leading_both : (n m k z y : ℕ) → k ≡ min n z → (n ≤ z → z ≡ n + y) → min (n + m) z ≡ cond (eqb k n) (n + min m y) k
 leading_both n m k z y k_is more =
     (elim (eqb k n) as (λ b. eqb k n ≡ b → min (n + m) z ≡ cond b (n + min m y) k) [
@@ -31,7 +37,8 @@ leading_both n m k z y k_is more =
       | false ↦ λ e. omega (arith, eqb-false k n e)
     ]) refl
 
--- a reading that is full of digits, and one behind it
+-- A reading that is full of digits and the reading of the bytes after it are one reading of all
+-- these bytes.
 pub joined : (t : Table) (count more : ℕ) (s : List ℕ) (leading high digits others low : ℕ)
     → Reading t count s count leading high → Reading t more (drop count s) digits others low
     → Reading t (count + more) s (count + digits) (cond (eqb leading count) (count + others) leading) (high * 10 ^ digits + low)
@@ -60,7 +67,7 @@ joined t count more s leading high digits others low front back =
       number_is = sym (cut ∙ sum);
     }
 
--- a reading that does not end in digits tells of more bytes too
+-- A reading that is not full of digits is also a reading of more bytes.
 pub widened : (t : Table) (count more : ℕ) (s : List ℕ) (digits leading number : ℕ) → Reading t count s digits leading number
     → digits < count → count ≤ more → Reading t more s digits leading number
 widened t count more s digits leading number reading ends longer =
@@ -75,14 +82,14 @@ widened t count more s digits leading number reading ends longer =
           ∙ ap (λ (n : ℕ). value t (take n (take more s))) len;
     }
 
--- zeros are digits, and digits are bytes
+-- A reading has at most as many zeros as digits, and at most as many digits as bytes were read.
 pub within : (t : Table) (count : ℕ) (s : List ℕ) (digits leading number : ℕ) → Reading t count s digits leading number
     → (leading ≤ digits) × (digits ≤ min count (length s))
 within t count s digits leading number reading =
     let most : run_len t (take count s) ≤ length (take count s) = prefix_len-le-length (is_digit t) (take count s) in
     (omega (arith, reading.leading_are, reading.digits_are, zeros-le t (take count s)), omega (arith, reading.digits_are, length-take count s))
 
--- the number of a reading is that of a front of digits
+-- The value of a reading with n digits is below 10^n.
 pub below : (t : Table) → IsBelowTen t → (count : ℕ) (s : List ℕ) (digits leading number : ℕ) → Reading t count s digits leading number
     → number < 10 ^ digits
 below t ten count s digits leading number reading =
@@ -91,7 +98,7 @@ below t ten count s digits leading number reading =
     let P : ℕ → Type 0 = λ (n : ℕ). value t (run t front) < 10 ^ n in
     omega (arith, reading.number_is, subst P len (value-below t ten (run t front)))
 
--- the first of three tests that holds refuses
+-- The first of three tests that holds decides the error.
 first_refusal : {A : Type 0} (a b c : Bool) (p q r : Refusal) (v : A)
     → unless_refused (cond a (Some p) (cond b (Some q) (cond c (Some r) None))) v ≡ cond a (Err p) (cond b (Err q) (cond c (Err r) (Ok v)))
 first_refusal true b c p q r v = refl
@@ -99,7 +106,8 @@ first_refusal false true c p q r v = refl
 first_refusal false false true p q r v = refl
 first_refusal false false false p q r v = refl
 
--- the answer of a wide class by all digits of the slice, the zeros that are skipped told apart
+-- The answer for a wide type can be written with all digits of the slice, of which `skipped` are
+-- skipped zeros.
 by_all_digits : (t : Table) (class : Class) (bound limit : ℕ) (skip : Bool) (s : List ℕ) (skipped counting : ℕ) → limit < cap class
     → skipped_zeros t skip s ≡ skipped → run_len t s ≡ skipped + counting
     → prefix_magnitude t class bound limit skip s ≡ answer_by_digits class bound limit skipped counting (value t (run t s)) s
@@ -112,7 +120,8 @@ by_all_digits t wide128 bound limit skip s skipped counting less zeros_are total
     let others : skipped + counting - skipped ≡ counting = omega arith in
     rw (zeros_are, total, others) (first_refusal (eqb (skipped + counting) 0) (ltb limit counting) _ empty (size (skipped + min counting 40) (drop skipped s)) (overflow (drop skipped s)) _)
 
--- as many digits as a size tells are too many, whatever they write
+-- As many significant digits as the error `Size` can report are always too many, whatever their
+-- value.
 by_many_digits : (class : Class) (bound limit skipped counting number : ℕ) (s : List ℕ) → limit < cap class → cap class ≤ counting
     → answer_by_digits class bound limit skipped counting number s ≡ Err (size (skipped + cap class) (drop skipped s))
 by_many_digits class bound limit skipped counting number s less many =
@@ -121,18 +130,19 @@ by_many_digits class bound limit skipped counting number s less many =
     let most : min counting (cap class) ≡ cap class = omega arith in
     rw (some, long, most) refl
 
--- the zeros that are skipped are those before the place and those that were read
+-- The skipped zeros are those before `place` and the leading ones of the reading.
 skipped_is : (skip : Bool) (z place digits leading : ℕ) → leading ≤ digits → (skip ≡ false → place ≡ 0) → (skip ≡ true → z ≡ place + leading)
     → cond skip z 0 ≡ place + (digits - counting_digits skip digits leading)
 skipped_is true z place digits leading most asked zeros_are = omega (arith, zeros_are refl)
 skipped_is false z place digits leading most asked zeros_are = omega (arith, asked refl)
 
--- no more digits count than were read
+-- At most as many digits are significant as were read.
 counting_most : (skip : Bool) (digits leading : ℕ) → counting_digits skip digits leading ≤ digits
 counting_most true digits leading = omega arith
 counting_most false digits leading = omega arith
 
--- behind zeros that are skipped, what was read decides
+-- A reading after skipped zeros decides the answer if it is not full of digits, or if as many of
+-- its digits are significant as the error `Size` can report.
 pub decided : (t : Table) (class : Class) (bound limit : ℕ) → limit < cap class
     → (skip : Bool) (s : List ℕ) (place count digits leading number : ℕ) → IsSkipped t skip s place
     → Reading t count (drop place s) digits leading number
@@ -168,13 +178,14 @@ decided t class bound limit less skip s place count digits leading number skippe
           ∙ sym (by_many_digits class bound limit front counting number s less many)
     ]
 
--- fewer digits than the bound has write less than it
+-- A number with fewer digits than the bound is smaller than the bound.
 pub below_bound : (limit bound digits number : ℕ) → HasDigits limit bound → digits < limit → number < 10 ^ digits → number < bound
 below_bound limit bound digits number bounds few small =
     let most : 10 ^ digits ≤ 10 ^ (limit - 1) = pow-le-pow_right (lit< tt) (omega arith) in
     omega (arith, bounds.0)
 
--- fewer digits than the limit, with no digit after them, do not pass the bound
+-- If a reading is not full of digits and has fewer of them than the limit, its value is within the
+-- bound, and the answer is `Ok`, or `Empty` without a digit.
 pub short_below : (t : Table) (class : Class) (bound limit : ℕ) → limit < cap class → HasDigits limit bound
     → (skip : Bool) (s : List ℕ) (place count digits leading number : ℕ) → IsSkipped t skip s place
     → Reading t count (drop place s) digits leading number → digits < count → digits < limit → number < 10 ^ digits
@@ -189,7 +200,7 @@ short_below t class bound limit less bounds skip s place count digits leading nu
           ∙ rw (le-ltb limit counting (omega arith), le-ltb bound number (omega arith), total) refl,
     )
 
--- as no digit is worth more than nine
+-- As above, for any table whose digit values are below ten.
 pub short : (t : Table) → IsBelowTen t → (class : Class) (bound limit : ℕ) → limit < cap class → HasDigits limit bound
     → (skip : Bool) (s : List ℕ) (place count digits leading number : ℕ) → IsSkipped t skip s place
     → Reading t count (drop place s) digits leading number → digits < count → digits < limit
@@ -198,12 +209,13 @@ short t ten class bound limit less bounds skip s place count digits leading numb
     short_below t class bound limit less bounds skip s place count digits leading number skipped reading ends few
     (below t ten count (drop place s) digits leading number reading)
 
--- all digits count of a reading that begins with no zero to skip
+-- If the reading begins with no zero that is skipped, all its digits are significant.
 all_count : (skip : Bool) (digits leading : ℕ) → (skip ≡ true → leading ≡ 0) → counting_digits skip digits leading ≡ digits
 all_count true digits leading none = omega (arith, none refl)
 all_count false digits leading none = refl
 
--- so they decide, where as many bytes were read as a size tells
+-- A reading of as many bytes as the error `Size` can report, which begins with no zero that is
+-- skipped, decides the answer with all its digits.
 pub all_decide : (t : Table) (class : Class) (bound limit : ℕ) → limit < cap class
     → (skip : Bool) (s : List ℕ) (place digits leading number : ℕ) → IsSkipped t skip s place
     → Reading t (cap class) (drop place s) digits leading number → (skip ≡ true → leading ≡ 0)
@@ -217,25 +229,25 @@ all_decide t class bound limit less skip s place digits leading number skipped r
     ∙ ap (λ (n : ℕ). answer_by_digits class bound limit n (counting_digits skip digits leading) number s) at
     ∙ ap (λ (n : ℕ). answer_by_digits class bound limit place n number s) counting
 
--- the law that these add up to
+-- The law `ReadingDecides`, put together from its fields.
 pub reading_decides : ReadingDecides
 reading_decides = record { zeros_left = zeros_left; joined = joined; widened = widened; within = within; below = below; decided = decided; short = short; full = all_decide }
 
--- What a window tells of the slice that it was loaded from.
+-- ---- What a window says about its slice
 
--- what a window w of c bytes tells of a slice s
+-- The window `w`, loaded from the first c bytes of the slice `s`, is a reading of these bytes.
 pub record Shows (t : Table) (c : ℕ) (s : List ℕ) (w : Window) : Type 0 where
   pub reading : Reading t c s w.len (zeros t (take c s)) w.number
   pub len_is : w.len ≡ min c (run_len t s)
   pub number_is : w.number ≡ value t (take w.len s)
-  -- the number has as many places as there are digits
+  -- A number of n digits is below 10^n.
   pub below : w.number < 10 ^ w.len
-  -- zeros are told of a full one alone
+  -- A window reports leading zeros only if it is full of digits.
   pub zeroes : w.zeroes ≤ zeros t s
   pub full : 0 < w.zeroes → w.len ≡ c
   pub zeroes_of : w.len ≡ c → w.zeroes ≡ min c (zeros t s)
 
--- zeros that are told only of n bytes that fill the window
+-- If zeros are reported only when all c bytes of the window are digits, these three facts follow.
 zeroes_cases : (n c z k : ℕ) → z ≡ min c k → (cond (n == c) z 0 ≤ k) × (0 < cond (n == c) z 0 → n ≡ c) × (n ≡ c → cond (n == c) z 0 ≡ min c k)
 zeroes_cases n c z k e =
     (elim (n == c) as (λ b. (n == c) ≡ b → (cond b z 0 ≤ k) × (0 < cond b z 0 → n ≡ c) × (n ≡ c → cond b z 0 ≡ min c k)) [
@@ -243,7 +255,7 @@ zeroes_cases n c z k e =
       | false ↦ λ q. (omega arith, λ p. absurd (omega arith), λ p. absurd (eqb-false n c q p))
     ]) refl
 
--- of a window as it is defined
+-- The window that the definition `window_of` gives describes its slice.
 shows_of : (t : Table) → IsBelowTen t → (c : ℕ) (s : List ℕ) → Shows t c s (window_of t c s)
 shows_of t ten c s =
     let n : ℕ = run_len t (take c s) in
@@ -261,27 +273,27 @@ shows_of t ten c s =
       zeroes_of = tell.2;
     }
 
--- of any window that is equal to it
+-- So does any window that is equal to it.
 pub shows : (t : Table) → IsBelowTen t → (c : ℕ) (s : List ℕ) (w : Window) → w ≡ window_of t c s → Shows t c s w
 shows t ten c s w e = let P : Window → Type 0 = λ v. Shows t c s v in subst P (sym e) (shows_of t ten c s)
 
--- the zeros of two readings, the first of c bytes
+-- The leading zeros of two readings in a row, the first of c bytes.
 abbrev pub zeros_both : (c leading others : ℕ) → ℕ
 zeros_both c leading others = cond (eqb leading c) (c + others) leading
 
--- a full window is a reading of as many digits as it has bytes
+-- A window that is full of digits is a reading with as many digits as bytes.
 Shows-full : (t : Table) (c : ℕ) (s : List ℕ) (w : Window) → Shows t c s w → c ≤ w.len → Reading t c s c (zeros t (take c s)) w.number
 Shows-full t c s w tell more =
     let full : w.len ≡ c = omega (arith, tell.len_is) in
     let P : ℕ → Type 0 = λ n. Reading t c s n (zeros t (take c s)) w.number in
     subst P full tell.reading
 
--- a full window of 16 bytes, and the window behind it
+-- A full window of 16 bytes and the window after it are one reading.
 pub Shows-join : (t : Table) (d : ℕ) (s : List ℕ) (front back : Window) → Shows t 16 s front → 16 ≤ front.len → Shows t d (drop 16 s) back
     → Reading t (16 + d) s (16 + back.len) (zeros_both 16 (zeros t (take 16 s)) (zeros t (take d (drop 16 s)))) (front.number * 10 ^ back.len + back.number)
 Shows-join t d s front back first full second = joined t 16 d s _ _ _ _ _ (Shows-full t 16 s front first full) second.reading
 
--- two full windows, and the window behind them
+-- Two full windows and the window of 8 bytes after them are one reading.
 pub Shows-join_two : (t : Table) (s : List ℕ) (front middle back : Window) → Shows t 16 s front → 16 ≤ front.len
     → Shows t 16 (drop 16 s) middle → 16 ≤ middle.len → Shows t 8 (drop 32 s) back
     → Reading t 40 s (32 + back.len) (zeros_both 32 (zeros_both 16 (zeros t (take 16 s)) (zeros t (take 16 (drop 16 s)))) (zeros t (take 8 (drop 32 s))))
@@ -289,10 +301,12 @@ pub Shows-join_two : (t : Table) (s : List ℕ) (front middle back : Window) →
 Shows-join_two t s front middle back first full second more third =
     joined t 32 8 s _ _ _ _ _ (joined t 16 16 s _ _ _ _ _ (Shows-full t 16 s front first full) (Shows-full t 16 (drop 16 s) middle second more)) third.reading
 
--- The loop that skips zeros by whole windows: how far it comes, and how many windows it loads.
+-- ---- The loop that skips zeros
+-- These lemmas say how far it gets, and how many windows it loads.
 
--- before a window is loaded at a place `at`: only zeros stand before it, a window was loaded for
--- each 16 of them, and one more where it told fewer
+-- The state of the loop before it loads a window at offset `at`. Only skipped zeros come before
+-- `at`. So far one window was loaded for each 16 of them, and one more if the last window began
+-- with fewer than 16.
 pub record Skipping (t : Table) (skip : Bool) (s : List ℕ) (at before now : ℕ) : Type 0 where
   pub bounded : at ≤ zeros t s
   pub within : at ≤ length s
@@ -301,18 +315,18 @@ pub record Skipping (t : Table) (skip : Bool) (s : List ℕ) (at before now : �
   pub least : at + 16 * before ≤ 16 * now
   pub place : (16 * now ≡ 16 * before + at) ⊎ ((at ≡ zeros t s) × (zeros t s / 16 < run_len t s / 16))
 
--- a window of the rest of a slice from a place on
+-- A window that is loaded from offset `at` describes the slice from there on.
 pub shows_rest : (t : Table) → IsBelowTen t → (c : ℕ) (s : List ℕ) (at : ℕ) (w : Window) →
     w ≡ window_of t c (take (length s - at) (drop at s)) → Shows t c (drop at s) w
 shows_rest t below c s at w e = shows t below c (drop at s) w (e ∙ ap (window_of t c) (take_rest s at))
 
--- two windows full of digits are 32 digits
+-- If two windows in a row are full, the slice begins with at least 32 digits.
 pub two_full : (t : Table) → IsBelowTen t → (s : List ℕ) (first second : Window) → first ≡ window_of t 16 s → first.len ≡ 16
     → second ≡ window_of t 16 (take (length s - 16) (drop 16 s)) → 16 ≤ second.len → 32 ≤ run_len t s
 two_full t below s first second is full next more =
     omega (arith, prefix_len-drop (is_digit t) 16 s (omega (arith, full, (shows t below 16 s first is).len_is)), (shows_rest t below 16 s 16 second next).len_is)
 
--- a window k bytes behind such a place
+-- A window that is loaded k bytes after offset `at` describes the slice from there on.
 pub shows_behind : (t : Table) → IsBelowTen t → (c k : ℕ) (s : List ℕ) (at : ℕ) (w : Window) →
     w ≡ window_of t c (take (length (take (length s - at) (drop at s)) - k) (drop k (take (length s - at) (drop at s)))) →
     Shows t c (drop k (drop at s)) w
@@ -320,7 +334,7 @@ shows_behind t below c k s at w e =
     shows_rest t below c (drop at s) k w
     (e ∙ ap (λ (r : List ℕ). window_of t c (take (length r - k) (drop k r))) (take_rest s at))
 
--- nothing is skipped at first
+-- Before the first window, nothing is skipped and nothing is loaded.
 pub Skipping-none : (t : Table) (skip : Bool) (s : List ℕ) (n : ℕ) → Skipping t skip s 0 n n
 Skipping-none t skip s n = record {
   bounded = omega arith;
@@ -331,7 +345,7 @@ Skipping-none t skip s n = record {
   place = inl (omega arith);
 }
 
--- a window that tells zeros is skipped by them
+-- If zeros are skipped and the window reports some, the loop goes on after these zeros.
 pub Skipping-more : (t : Table) → IsBelowTen t → (skip : Bool) (s : List ℕ) (at after before now next : ℕ) (w : Window) →
     Skipping t skip s at before now → w ≡ window_of t 16 (take (length s - at) (drop at s)) → next ≡ now + 1 →
     skip ≡ true → 0 < w.zeroes → after ≡ at + w.zeroes → Skipping t skip s after before next
@@ -358,8 +372,10 @@ Skipping-more t below skip s at after before now next w so e one on some dropped
       ];
     }
 
--- after the last window w at a place `at`: the run, the zeros and the value go on from there, a full
--- window of a call that skips begins behind all zeros, and the windows are counted
+-- The state after the loop, whose last window `w` was loaded at offset `at`. The rest of the run,
+-- of the zeros and of the value are those of the slice from `at` on. If zeros are skipped and the
+-- window is full, it begins at the first significant digit. The number of windows loaded is bounded
+-- from both sides.
 pub record Skipped (t : Table) (skip : Bool) (s : List ℕ) (at before now : ℕ) (w : Window) : Type 0 where
   pub shown : Shows t 16 (drop at s) w
   pub within : at ≤ length s
@@ -375,7 +391,7 @@ pub record Skipped (t : Table) (skip : Bool) (s : List ℕ) (at before now : ℕ
   pub least : skip ≡ true → zeros t s + 16 * before ≤ 16 * now
   pub place : skip ≡ true → (at ≡ 16 * (zeros t s / 16)) ⊎ ((at ≡ zeros t s) × (zeros t s / 16 < run_len t s / 16))
 
--- a window that tells no zeros, or a call that does not skip, ends the loop
+-- The loop ends if zeros are not skipped, or if the window reports no zeros.
 pub Skipped-end : (t : Table) → IsBelowTen t → (skip : Bool) (s : List ℕ) (at before now next : ℕ) (w : Window) →
     Skipping t skip s at before now → w ≡ window_of t 16 (take (length s - at) (drop at s)) → next ≡ now + 1 →
     (skip ≡ false) ⊎ ((skip ≡ true) × (w.zeroes ≡ 0)) → Skipped t skip s at before next w
@@ -413,7 +429,7 @@ Skipped-end t below skip s at before now next w so e one stops =
       ];
     }
 
--- a call that loads so many windows more, where these are within its bound
+-- If `more` windows are loaded after the loop, the number of loads is within the given bounds.
 pub Skipped-loads : {t : Table} {skip : Bool} {s : List ℕ} {at before now last most unskipped : ℕ} {w : Window} →
     Skipped t skip s at before now w → (more : ℕ) → last ≡ now + more → zeros t s / 16 + 2 + more ≤ most → 1 + more ≤ unskipped →
     LoadsWithin most unskipped t skip s before last
@@ -424,7 +440,8 @@ Skipped-loads so more counted bounded few = record {
   at_least_skipping = λ on. omega (arith, so.least on);
 }
 
--- a first window is all that is loaded, and where zeros count and it is full one more
+-- If the loop loads one window, and one more is loaded only if zeros are not skipped and the first
+-- 16 bytes are digits, the number of loads is within the bounds for a narrow type.
 pub Skipped-one : (t : Table) (skip : Bool) (s : List ℕ) (at before now last : ℕ) {w : Window} → Skipped t skip s at before now w →
     now ≡ before + 1 → last ≡ now + (if skip || nat_lt (run_len t s) 16 then 0 else 1) → LoadsWithin (most_loads t narrow s) 2 t skip s before last
 Skipped-one t true s at before now last so one counted = record {
@@ -440,7 +457,7 @@ Skipped-one t false s at before now last so one counted = record {
   at_least_skipping = λ on. absurd (cc on);
 }
 
--- the zeros that a first window tells are skipped
+-- If the first window reports zeros, `Skipping` holds after these zeros.
 pub Skipping-told : (t : Table) → IsBelowTen t → (s : List ℕ) (n zeroes : ℕ) → zeroes ≡ (window_of t 16 s).zeroes → 0 < zeroes →
     Skipping t true s zeroes n (n + 1)
 Skipping-told t below s n zeroes e some =
@@ -448,14 +465,16 @@ Skipping-told t below s n zeroes e some =
     Skipping-more t below true s 0 zeroes n n (n + 1) w (Skipping-none t true s n) (ap (window_of t 16) (sym (take_rest s 0))) refl refl
     (omega arith) (omega arith)
 
--- a first window is the last one where no zeros are skipped
+-- If no zeros are skipped, or the first window reports none, the first window is the last one of
+-- the loop.
 pub Skipped-at_once : (t : Table) → IsBelowTen t → (skip : Bool) (s : List ℕ) (before next : ℕ) (w : Window) →
     w ≡ window_of t 16 s → next ≡ before + 1 → (skip ≡ false) ⊎ ((skip ≡ true) × (w.zeroes ≡ 0)) → Skipped t skip s 0 before next w
 Skipped-at_once t below skip s before next w e one stops =
     Skipped-end t below skip s 0 before before next w (Skipping-none t skip s before)
     (e ∙ ap (window_of t 16) (sym (take_rest s 0))) one stops
 
--- one that is not full tells no zeros, and holds the whole run
+-- A first window that is not full reports no zeros and holds the whole run, so it is the last one
+-- too.
 pub Skipped-first : (t : Table) → IsBelowTen t → (skip : Bool) (s : List ℕ) (before next : ℕ) (w : Window) →
     w ≡ window_of t 16 s → next ≡ before + 1 → w.len < 16 → Skipped t skip s 0 before next w
 Skipped-first t below skip s before next w e one short =

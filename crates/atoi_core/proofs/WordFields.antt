@@ -1,4 +1,7 @@
--- Words as numbers: their fields, sums of fields, and bitwise operators on them.
+-- Words seen as numbers: the fields that they consist of, how the kernels compute decimal values in
+-- them, and what bitwise operators do to each field. A field is a group of neighbouring bits, such
+-- as a byte. The weighted sum of bytes (`low_value`) adds the lower half of each byte times its
+-- power of ten. For digits this is their value.
 use Rattle.std.proofs.Common.{◌≡◌, ℕ, zero, suc, ◌+◌, ◌-◌, ◌*◌, ◌/◌, ◌%◌, ◌^◌, ◌<◌, ◌≤◌, List, [], ◌∷◌, length, refl, sym, ap, ap₂, ◌∙◌, arith, lit<, map, inl, inr, cond, ◌==◌, mod-lt}
 use Rattle.std.proofs.Math.Nat.{add-mul-div_right, div-div-eq-div-mul, mul_comm, zero-mod, suc-mul, mul-le-mul_right, mul_assoc, pow-zero, pow-suc, suc-add, zero-add, mul-one, mod-eq_of_lt, pow-le-pow_right, div-one, add_comm, eq-zero-or-pos}
 use Rattle.std.proofs.Math.Pow.{mod-mod-pow, ones_lt, pow_mono}
@@ -11,34 +14,38 @@ use Rattle.std.proofs.lemmas.Bool.{eq-eqb, ne_eqb}
 use Rattle.std.specs.List.{prefix_len}
 use Rattle.std.specs.Int.Count.{count_trailing_zeros, under}
 
--- One round of a sum by places: a mask, a product by 1 + t * 2 ^ (h + h), its wrap, and a shift.
+-- ---- One round of a weighted sum
+-- A round joins neighbouring digits: it masks the lower half of each field, multiplies the word by
+-- 1 + t * 2^(h + h), wraps it, and shifts it right by one field of h + h bits.
 
--- the lower halves of the lowest k fields of h + h bits
+-- The lower halves of the lowest k fields of h + h bits, the lowest field first.
 abbrev pub lows : ℕ → ℕ → ℕ → List ℕ
 lows h zero word = []
 lows h (suc k) word = (word % 2 ^ h) ∷ lows h k (word / 2 ^ (h + h))
 
--- the word whose k fields of h + h bits have their lower halves set
+-- The mask that keeps the lower halves of k fields of h + h bits.
 abbrev pub masks : ℕ → ℕ → ℕ
 masks h zero = 0
 masks h (suc k) = masks h k * 2 ^ (h + h) + (2 ^ h - 1)
 
--- twice m, in two steps for each of m, as pairs are taken
+-- Twice m. This definition takes two steps for each of m, as `pairs` takes two digits for each
+-- pair.
 abbrev pub twice : ℕ → ℕ
 twice zero = zero
 twice (suc m) = suc (suc (twice m))
 
--- neighbours as two digits in base t, the first the higher
+-- Neighbours joined in pairs to digits of base t * t. The first of a pair is its higher digit in
+-- base t.
 abbrev pub pairs : ℕ → List ℕ → List ℕ
 pairs t [] = []
 pairs t (x ∷ []) = x ∷ []
 pairs t (x ∷ y ∷ rest) = (y + x * t) ∷ pairs t rest
 
--- the bits of half a field fit a field
+-- Half a field of set bits is a number that fits in a field.
 half_below : (h : ℕ) → 2 ^ h - 1 < 2 ^ (h + h)
 half_below h = let le : 2 ^ h ≤ 2 ^ (h + h) = pow_mono (omega arith) in omega (arith, ones_lt h)
 
--- a mask keeps the lower half of each field
+-- A mask keeps the lower half of the lowest field, and masks the fields above it.
 mask_step : (h k word : ℕ) → bit_and word (masks h (suc k)) ≡ bit_and (word / 2 ^ (h + h)) (masks h k) * 2 ^ (h + h) + word % 2 ^ h
 mask_step h k word =
     let b = 2 ^ (h + h) in
@@ -46,7 +53,7 @@ mask_step h k word =
     ∙ and_block (h + h) (word / b) (masks h k) (word % b) (2 ^ h - 1) (mod-lt word (pow_pos (h + h))) (half_below h)
     ∙ ap (λ r. bit_and (word / b) (masks h k) * b + r) (and_mask (word % b) h ∙ mod-mod-pow word h h)
 
--- so the lowest field of a masked word is below the half's bound
+-- So the lowest field of a masked word is below 2^h.
 masked_low : (h k word : ℕ) → bit_and word (masks h k) % 2 ^ (h + h) < 2 ^ h
 masked_low h zero word =
     let e : bit_and word 0 % 2 ^ (h + h) ≡ 0 = ap (λ x. x % 2 ^ (h + h)) (and_zero_r word) ∙ zero-mod (2 ^ (h + h)) in
@@ -58,19 +65,20 @@ masked_low h (suc k) word =
     ap (λ x. x % 2 ^ (h + h)) (mask_step h k word) ∙ mod-mul-add (bit_and (word / 2 ^ (h + h)) (masks h k)) (2 ^ (h + h)) (word % 2 ^ h) fits in
     omega arith
 
--- what a word becomes by the product and the shift, before it wraps
+-- The word after the multiplication and the shift, if nothing wraps.
 pub spread : ℕ → ℕ → ℕ → ℕ
 spread b t word = word / b + word * t
 
--- the product and the shift by one field are that sum
+-- Multiplying by 1 + t * b and dividing by b gives that sum.
 product_shifted : (b t word : ℕ) → 0 < b → word * (1 + t * b) / b ≡ spread b t word
 unfolding spread
 product_shifted b t word pos =
     let e : word * (1 + t * b) ≡ word + word * t * b = omega arith in
     ap (λ x. x / b) e ∙ add-mul-div_right word (word * t) pos
 
--- the pair f, g at the bottom of a word, whose next field is that of u: the upper half of the pair's
--- sum takes one part from u, and carries nothing into it
+-- If the two lowest fields of a word are f and g, the lowest field of the spread word is the sum g
+-- + f * t of this pair. The next field takes the lowest field of u, the word above them, and
+-- nothing is carried into the fields above it.
 spread_pair : (b t u f g : ℕ) → f < b → spread b t ((u * b + g) * b + f) ≡ spread b t u * (b * b) + ((u % b + g * t) * b + (g + f * t))
 unfolding spread
 spread_pair b t u f g below =
@@ -81,17 +89,18 @@ spread_pair b t u f g below =
     let e : ((u * b + g) * b + f) / b ≡ u * b + g = div-mul-add (u * b + g) b f below in
     ap (λ x. x + ((u * b + g) * b + f) * t) (e ∙ ap (λ x. x * b + g) (sym split)) ∙ omega arith
 
--- what the fields of a spread word show: the lowest half is the first pair's sum, and above the pair
--- stands the rest, spread
+-- What a round does to all fields, if two digits in base t fit in a field: the lowest half is the
+-- sum of the first pair, and the fields above the pair are spread in the same way.
 module _ (h t : ℕ) (room : (2 ^ h - 1) * (1 + t) < 2 ^ (h + h)) where
-  -- two digits in base t fit a field
+  -- Two digits in base t fit in a field.
   two_digits : (f g : ℕ) → f < 2 ^ h → g < 2 ^ h → g + f * t < 2 ^ (h + h)
   two_digits f g f_below g_below =
       let g_most : g ≤ 2 ^ h - 1 = omega arith in
       let f_most : f * t ≤ (2 ^ h - 1) * t = mul-le-mul_right t (omega arith) in
       omega arith
 
-  -- the lower halves of the fields of pairs, once the masked word is spread, are the pairs' sums
+  -- After a masked word is spread, the lower halves of its fields of double size are the sums of
+  -- the pairs.
   spread_masked : (m word : ℕ) → lows (h + h) m (spread (2 ^ (h + h)) t (bit_and word (masks h (twice m)))) ≡ pairs t (lows h (twice m) word)
   spread_masked zero word = refl
   spread_masked (suc m) word =
@@ -120,7 +129,8 @@ module _ (h t : ℕ) (room : (2 ^ h - 1) * (1 + t) < 2 ^ (h + h)) where
       ∙ div-mul-add (spread b t u) b (u % b + g * t) carried in
       ap₂ (λ x xs. x ∷ xs) low (ap (lows (h + h) m) high ∙ spread_masked m rest)
 
--- the lower halves of m fields of g + g bits stay, where a word is cut to these fields before a shift by g
+-- Cutting a word to m fields of g + g bits before a shift by g does not change the lower halves of
+-- the shifted fields.
 shift_cut : (g m word : ℕ) → lows g m (word % 2 ^ (m * (g + g)) / 2 ^ g) ≡ lows g m (word / 2 ^ g)
 shift_cut g zero word = refl
 shift_cut g (suc m) word =
@@ -138,7 +148,7 @@ shift_cut g (suc m) word =
     swap (word % 2 ^ (suc m * (g + g))) ∙ ap (λ x. x / w / b) cut ∙ ap (λ x. x / b) (div-mul-add rest w (word % w) (mod-lt word (pow_pos (g + g)))) in
     ap₂ (λ x xs. x ∷ xs) low (ap (lows g m) high ∙ shift_cut g m (word / w) ∙ ap (lows g m) (sym (swap word)))
 
--- ONE ROUND: of the lower halves of neighbours it makes the two digits in base t that they are
+-- One round turns the lower halves of 2 * m fields into the sums of m pairs.
 pub round : (h t : ℕ) → (2 ^ h - 1) * (1 + t) < 2 ^ (h + h) → (m word : ℕ)
     → lows (h + h) m (bit_and word (masks h (twice m)) * (1 + t * 2 ^ (h + h)) % 2 ^ (m * ((h + h) + (h + h))) / 2 ^ (h + h)) ≡ pairs t (lows h (twice m) word)
 round h t room m word =
@@ -147,29 +157,30 @@ round h t room m word =
     ∙ ap (lows (h + h) m) (product_shifted (2 ^ (h + h)) t kept (pow_pos (h + h)))
     ∙ spread_masked h t room m word
 
--- the number that digits write in base t, the first the highest
+-- The number that digits spell in base t, the highest digit first.
 abbrev pub number_in : ℕ → List ℕ → ℕ
 number_in t [] = 0
 number_in t (digit ∷ digits) = digit * t ^ length digits + number_in t digits
 
--- as many halves as fields
+-- There are as many lower halves as fields.
 pub length-lows : (h k word : ℕ) → length (lows h k word) ≡ k
 length-lows h zero word = refl
 length-lows h (suc k) word = ap suc (length-lows h k (word / 2 ^ (h + h)))
 
--- half as many pairs as digits
+-- There are half as many pairs as digits.
 length-pairs : (h t m word : ℕ) → length (pairs t (lows h (twice m) word)) ≡ m
 length-pairs h t zero word = refl
 length-pairs h t (suc m) word = ap suc (length-pairs h t m (word / 2 ^ (h + h) / 2 ^ (h + h)))
 
--- a power of a square is the power of twice the exponent
+-- A power of t * t is the power of t with twice the exponent.
 power_of_square : (t m : ℕ) → (t * t) ^ m ≡ t ^ twice m
 power_of_square t zero = pow-zero (t * t) ∙ sym (pow-zero t)
 power_of_square t (suc m) =
     pow-suc (t * t) m ∙ ap (λ x. x * (t * t)) (power_of_square t m) ∙ sym (mul_assoc (t ^ twice m) t t)
     ∙ ap (λ x. x * t) (sym (pow-suc t (twice m))) ∙ sym (pow-suc t (suc (twice m)))
 
--- pairs of digits in base t are digits in base t * t, and write the same number
+-- Joining digits of base t in pairs, to digits of base t * t, does not change the number that they
+-- spell.
 number_in_pairs : (h t m word : ℕ) → number_in (t * t) (pairs t (lows h (twice m) word)) ≡ number_in t (lows h (twice m) word)
 number_in_pairs h t zero word = refl
 number_in_pairs h t (suc m) word =
@@ -186,19 +197,20 @@ number_in_pairs h t (suc m) word =
     ∙ regroup
     ∙ ap₂ (λ x y. f * x + (g * y + behind)) (sym higher) (sym lower)
 
--- the number stays over one round, by digits in the square of the base
+-- One round does not change the number that the digits spell. Afterwards they are in base t * t.
 pub round_number : (h t : ℕ) → (2 ^ h - 1) * (1 + t) < 2 ^ (h + h) → (m word : ℕ)
     → number_in (t * t) (lows (h + h) m (bit_and word (masks h (twice m)) * (1 + t * 2 ^ (h + h)) % 2 ^ (m * ((h + h) + (h + h))) / 2 ^ (h + h))) ≡ number_in t (lows h (twice m) word)
 round_number h t room m word = ap (number_in (t * t)) (round h t room m word) ∙ number_in_pairs h t m word
 
--- Fields of a word: its lowest digits in a base that is a power of two.
+-- ---- Fields of a word
+-- They are the lowest digits of the word in a base that is a power of two.
 
--- as many fields as are looked at
+-- There are as many fields as we ask for.
 pub length-digits : (base k word : ℕ) → length (digits_l base k word) ≡ k
 length-digits base zero word = refl
 length-digits base (suc k) word = ap suc (length-digits base k (word / base))
 
--- what stands above the fields that are looked at does not show in them
+-- Bits above the lowest k fields do not change these fields.
 pub digits_cut : (g k word : ℕ) → digits_l (2 ^ g) k (word % 2 ^ (k * g)) ≡ digits_l (2 ^ g) k word
 digits_cut g zero word = refl
 digits_cut g (suc k) word =
@@ -210,7 +222,7 @@ digits_cut g (suc k) word =
     (ap (λ x. x % b) cut ∙ mod-mul-add (word / b % 2 ^ (k * g)) b (word % b) small)
     (ap (λ x. digits_l b k (x / b)) cut ∙ ap (digits_l b k) (div-mul-add (word / b % 2 ^ (k * g)) b (word % b) small) ∙ digits_cut g k (word / b))
 
--- bytes of 0 below the others add nothing to their sum
+-- Bytes of 0 below the others add nothing to their weighted sum.
 pub low_value_shifted : (z k word : ℕ) → low_value (digits_l 256 (z + k) (word * 2 ^ (z * 8))) ≡ low_value (digits_l 256 k word)
 low_value_shifted zero k word = ap₂ (λ c x. low_value (digits_l 256 c x)) (zero-add k) (mul-one word)
 low_value_shifted (suc z) k word =
@@ -223,7 +235,7 @@ low_value_shifted (suc z) k word =
     ∙ omega arith
     ∙ low_value_shifted z k word
 
--- the sum by places is the number in base ten of the bytes' lower halves
+-- The weighted sum of bytes is the number that their lower halves spell in base ten.
 low_value_of_lows : (k word : ℕ) → number_in 10 (lows 4 k word) ≡ low_value (digits_l 256 k word)
 low_value_of_lows zero word = refl
 low_value_of_lows (suc k) word =
@@ -232,8 +244,8 @@ low_value_of_lows (suc k) word =
     ap₂ (λ x n. x * 10 ^ n + number_in 10 (lows 4 k (word / 256))) half places
     ∙ ap (λ y. (word % 256 % 16) * 10 ^ length (digits_l 256 k (word / 256)) + y) (low_value_of_lows k (word / 256))
 
--- a word shifted so far to the left that its lowest bytes are its highest: the sum of all bytes is
--- the sum of these
+-- If a word is shifted left so far that its lowest `len` bytes become its highest, the weighted sum
+-- of the whole word is that of these bytes.
 pub shifted_sum : (k count len word : ℕ) → k ≡ (count - len) * 8 → len ≤ count
     → number_in 10 (lows 4 count (word * 2 ^ k % 2 ^ (count * 8))) ≡ low_value (low_bytes len word)
 unfolding low_bytes
@@ -244,13 +256,14 @@ shifted_sum k count len word e le =
     ∙ ap₂ (λ n x. low_value (digits_l 256 n (word * 2 ^ x))) (sym all) e
     ∙ low_value_shifted (count - len) len word
 
--- The sums by places of eight and of sixteen bytes: three rounds, and four.
+-- ---- Weighted sums of eight and of sixteen bytes
+-- Eight bytes take three rounds, sixteen take four.
 
--- a sum that fits one field is the one digit that is left
+-- If a word has one field left, its lower half is the number itself.
 one_field : (base half word : ℕ) → word < 2 ^ half → number_in base (lows half 1 word) ≡ word
 one_field base half word below = omega (arith, mod-eq_of_lt below, ap (λ p. word % 2 ^ half * p) (pow-zero base))
 
--- three rounds of eight bytes
+-- Three rounds compute the weighted sum of eight bytes.
 pub sum_8 : (val len : ℕ) → len ≤ 8
     → let ones = val * 2 ^ (64 - 8 * len) % 2 ^ 64 in
     let tens = bit_and ones 0x0F0F_0F0F_0F0F_0F0F * 0xA01 % 2 ^ 64 / 2 ^ 8 in
@@ -266,7 +279,7 @@ sum_8 val len most =
     ∙ round_number 4 10 (lit< tt) 4 ones
     ∙ shifted_sum (64 - 8 * len) 8 len val (omega arith) most
 
--- four rounds of sixteen bytes
+-- Four rounds compute the weighted sum of sixteen bytes.
 pub sum_16 : (val len : ℕ) → len ≤ 16
     → let ones = val * 2 ^ (128 - 8 * len) % 2 ^ 128 in
     let tens = bit_and ones 0x0F0F_0F0F_0F0F_0F0F_0F0F_0F0F_0F0F_0F0F * 0xA01 % 2 ^ 128 / 2 ^ 8 in
@@ -285,7 +298,8 @@ sum_16 val len most =
     ∙ round_number 4 10 (lit< tt) 8 ones
     ∙ shifted_sum (128 - 8 * len) 16 len val (omega arith) most
 
--- the lower half of a byte is at most 15, and so is each place of a sum
+-- The lower half of a byte is at most 15. So the weighted sum of n bytes is at most 15 times 11..1,
+-- the number that n ones spell.
 places_most : (bytes : List ℕ) → 9 * low_value bytes + 15 ≤ 15 * 10 ^ length bytes
 places_most [] = omega arith
 places_most (byte ∷ bytes) =
@@ -293,7 +307,7 @@ places_most (byte ∷ bytes) =
     let power : 10 ^ suc (length bytes) ≡ 10 ^ length bytes * 10 = pow-suc 10 (length bytes) in
     omega (arith, places_most bytes)
 
--- so the sum of the lowest bytes is bounded by how many they may be
+-- This bounds the weighted sum of the lowest bytes by how many there can be.
 pub sum_most : (count len val : ℕ) → len ≤ count → 9 * low_value (low_bytes len val) + 15 ≤ 15 * 10 ^ count
 unfolding low_bytes
 sum_most count len val most =
@@ -302,24 +316,26 @@ sum_most count len val most =
     let power : 10 ^ length (digits_l 256 len val) ≤ 10 ^ count = pow-le-pow_right (lit< tt) few in
     omega (arith, places_most (digits_l 256 len val))
 
--- The fields of a word under a bitwise operator, and of a word that repeats one field.
+-- ---- Bitwise operators on fields
+-- Some of the lemmas are about a word that repeats one byte.
 
--- the word whose lowest k bytes are all b
+-- The word whose lowest k bytes are all b.
 abbrev pub repeated : ℕ → ℕ → ℕ
 repeated b zero = 0
 repeated b (suc k) = repeated b k * 256 + b
 
--- an operator that works on the high bits and on the low ones apart works on each field apart
+-- An operator that acts separately on high and on low bits acts separately on each field.
 module _ (op : ℕ → ℕ → ℕ)
     (high : (a b g : ℕ) → op a b / 2 ^ g ≡ op (a / 2 ^ g) (b / 2 ^ g))
     (low : (a b g : ℕ) → op a b % 2 ^ g ≡ op (a % 2 ^ g) (b % 2 ^ g)) where
-  -- field by field, of two words
+  -- The operator's result for two words has the results for their fields as its fields.
   op_fields : (g k a b : ℕ) → digits_l (2 ^ g) k (op a b) ≡ zip2 op (digits_l (2 ^ g) k a) (digits_l (2 ^ g) k b)
   op_fields g zero a b = refl
   op_fields g (suc k) a b =
       ap₂ (λ x xs. x ∷ xs) (low a b g) (ap (digits_l (2 ^ g) k) (high a b g) ∙ op_fields g k (a / 2 ^ g) (b / 2 ^ g))
 
-  -- with a byte that stands in each place of the other word
+  -- The operator's result for a word and one that repeats the byte b has the results for its bytes
+  -- and b as its bytes.
   pub op_repeated : (b : ℕ) → b < 256 → (k a : ℕ) → digits_l 256 k (op a (repeated b k)) ≡ map (λ x. op x b) (digits_l 256 k a)
   op_repeated b fits zero a = refl
   op_repeated b fits (suc k) a =
@@ -328,19 +344,20 @@ module _ (op : ℕ → ℕ → ℕ)
       (ap (digits_l 256 k) (high a (repeated b (suc k)) 8 ∙ ap (op (a / 256)) (div-mul-add (repeated b k) 256 b fits))
       ∙ op_repeated b fits k (a / 256))
 
--- the bytes of a disjunction of two words
+-- The bytes of `x | y` are those of x and of y, joined by `|`.
 pub or_bytes : (k a b : ℕ) → digits_l 256 k (bit_or a b) ≡ zip2 bit_or (digits_l 256 k a) (digits_l 256 k b)
 or_bytes = op_fields bit_or or_shr or_mod 8
 
--- the bytes under a mask that is the same for each
+-- A mask that is the same for each byte masks each byte.
 pub and_repeated : (b : ℕ) → b < 256 → (k a : ℕ) → digits_l 256 k (bit_and a (repeated b k)) ≡ map (λ x. bit_and x b) (digits_l 256 k a)
 and_repeated = op_repeated bit_and and_shr and_mod
 
--- the bytes, each combined with the same byte
+-- A word xor one that repeats the byte b is, byte by byte, xor b.
 pub xor_repeated : (b : ℕ) → b < 256 → (k a : ℕ) → digits_l 256 k (bit_xor a (repeated b k)) ≡ map (λ x. bit_xor x b) (digits_l 256 k a)
 xor_repeated = op_repeated bit_xor xor_shr xor_mod
 
--- the upper halves of the bytes, in the lower halves' places
+-- Shifting a word right by four bits and masking it moves the upper half of each byte to its lower
+-- half.
 pub upper_halves : (k a : ℕ) → digits_l 256 k (bit_and (a / 16) (repeated 15 k)) ≡ map (λ x. x / 16) (digits_l 256 k a)
 upper_halves k a = and_repeated 15 (omega arith) k (a / 16) ∙ halves k a
   where
@@ -351,17 +368,18 @@ upper_halves k a = and_repeated 15 (omega arith) k (a / 16) ∙ halves k a
         ap₂ (λ x xs. x ∷ xs) (and_mask (a / 16 % 256) 4 ∙ omega arith)
         (ap (λ x. map (λ y. bit_and y 15) (digits_l 256 k x)) next ∙ halves k (a / 256))
 
--- Trailing zero bits, and the bytes of 0 that they make.
+-- ---- Trailing zero bits
+-- They are counted in whole bytes of 0.
 
--- a field of a + 1 bits: its lowest bit, and the a bits above it
+-- A field of a + 1 bits consists of its lowest bit and the a bits above it.
 lowest_bit : (a n : ℕ) → n % 2 ^ suc a ≡ (n / 2 % 2 ^ a) * 2 + n % 2
 lowest_bit a n = ap (λ e. n % 2 ^ e) (sym (add-one a)) ∙ mod-pow-add n a 1
 
--- what stands above the lowest bit, above a bits more
+-- Dropping the lowest bit and then a bits is the same as dropping a + 1 bits.
 halves : (a n : ℕ) → n / 2 / 2 ^ a ≡ n / 2 ^ suc a
 halves a n = div-div-eq-div-mul n 2 (2 ^ a) ∙ ap (λ m. n / m) (mul_comm 2 (2 ^ a) ∙ sym (pow-suc 2 a))
 
--- a lowest field of zeros counts whole, and the count goes on above it
+-- If the lowest a bits are 0, all of them are counted, and the count goes on above them.
 zero_field : (a b n : ℕ) → n % 2 ^ a ≡ 0 → count_trailing_zeros (a + b) n ≡ a + count_trailing_zeros b (n / 2 ^ a)
 unfolding count_trailing_zeros
 zero_field zero b n e = ap₂ count_trailing_zeros (zero-add b) (sym (div-one n)) ∙ sym (zero-add (count_trailing_zeros b (n / 1)))
@@ -374,7 +392,7 @@ zero_field (suc a) b n e =
     ∙ ap suc (zero_field a b (n / 2) rest ∙ ap (λ x. a + count_trailing_zeros b x) (halves a n))
     ∙ sym (suc-add a (count_trailing_zeros b (n / 2 ^ suc a)))
 
--- a lowest field with a one ends the count inside it
+-- If one of the lowest a bits is set, the count is less than a.
 stopping_field : (a b n : ℕ) → 0 < n % 2 ^ a → count_trailing_zeros (a + b) n < a
 unfolding count_trailing_zeros
 stopping_field zero b n some = absurd (omega (arith, mod-lt n (pow_pos 0)))
@@ -394,7 +412,8 @@ stopping_field (suc a) b n some = go (n % 2) refl (stopping_field a b (n / 2))
         let is : count_trailing_zeros (suc a + b) n ≡ 0 = bits ∙ ap (λ d. under d (count_trailing_zeros (a + b) (n / 2))) e in
         omega arith
 
--- THE TRAILING BYTES OF 0: the trailing zero bits of k bytes, by eight
+-- The number of trailing zero bits of k bytes, divided by eight, is the number of leading bytes of
+-- 0, counted from the lowest byte.
 pub trailing_bytes : (k word : ℕ) → count_trailing_zeros (k * 8) word / 8 ≡ prefix_len (λ b. b == 0) (digits_l 256 k word)
 unfolding count_trailing_zeros
 trailing_bytes zero word = refl

@@ -1,4 +1,5 @@
--- How many lowest bytes of a word are digits, and how many are zeros, as the kernels count them.
+-- How many digits and how many zeros a word begins with, counted from its lowest byte. The lemmas
+-- show that the kernels and the word engine count them correctly.
 use Rattle.std.proofs.Common.{◌≡◌, ℕ, zero, suc, ◌+◌, ◌*◌, ◌/◌, ◌%◌, ◌^◌, ◌<◌, ◌≤◌, ◌-◌, Bool, true, false, cond, ◌==◌, List, [], ◌∷◌, map, refl, sym, ap, ap₂, ◌∙◌, arith, mod-lt, zero-lt-suc}
 use Rattle.std.proofs.Math.Dec.{lit<}
 use Rattle.std.proofs.lemmas.Bool.{agree_below_at}
@@ -16,24 +17,26 @@ use Rattle.atoi_core.specs.Words.{low_bytes}
 use Rattle.atoi_core.proofs.Calls.{digit_in_range}
 use Rattle.atoi_core.proofs.WordFields.{trailing_bytes, repeated, or_bytes, and_repeated, xor_repeated, upper_halves, digits_cut}
 
--- the front of a mapped list that passes a test is the front that passes the test of the map
+-- The passing prefix of a mapped list is as long as that of the list itself under the composed
+-- test.
 prefix_len-map : (p : ℕ → Bool) (f : ℕ → ℕ) (xs : List ℕ) → prefix_len p (map f xs) ≡ prefix_len (λ x. p (f x)) xs
 prefix_len-map p f [] = refl
 prefix_len-map p f (x ∷ xs) = ap (λ n. cond (p (f x)) (1 + n) 0) (prefix_len-map p f xs)
 
--- ---- zeros
+-- ---- Counting zeros
 
--- a byte combined with 48 is 0 exactly where it is the zero
+-- A byte xor 48 is 0 exactly if the byte is the digit zero.
 combined_is_zero : (b : ℕ) → b < 256 → (bit_xor b 48 == 0) ≡ is_zero decimal_table b
 combined_is_zero b h = agree_below_at (λ x. bit_xor x 48 == 0) (is_zero decimal_table) 256 b refl h
 
--- two tests that agree on each byte agree on the run that they pass at the front of a word's bytes
+-- If two tests agree on each byte, they pass equally many leading bytes of a word.
 prefix_len-agree : (p q : ℕ → Bool) → ((b : ℕ) → b < 256 → p b ≡ q b) → (k word : ℕ) → prefix_len p (digits_l 256 k word) ≡ prefix_len q (digits_l 256 k word)
 prefix_len-agree p q agree zero word = refl
 prefix_len-agree p q agree (suc k) word =
     ap₂ (λ b n. cond b (1 + n) 0) (agree (word % 256) (mod-lt word (zero-lt-suc 255))) (prefix_len-agree p q agree k (word / 256))
 
--- the bytes of 48, by the trailing bytes of 0 once 48 is taken from each
+-- The word xor 48 in each byte: its trailing zero bits, divided by 8, are the number of leading
+-- zeros.
 pub zeros_counted : (k word : ℕ) → count_trailing_zeros (k * 8) (bit_xor word (repeated 48 k)) / 8 ≡ zeros decimal_table (low_bytes k word)
 unfolding low_bytes
 zeros_counted k word =
@@ -42,38 +45,39 @@ zeros_counted k word =
     ∙ prefix_len-map (λ b. b == 0) (λ x. bit_xor x 48) (digits_l 256 k word)
     ∙ prefix_len-agree (λ x. bit_xor x 48 == 0) (is_zero decimal_table) combined_is_zero k word
 
--- ---- digits
+-- ---- Counting digits
 
--- two runs behind one test have to agree only where the test passes
+-- Two lengths after the same test need to agree only if the test passes.
 run_goes_on : (t : Bool) (m n : ℕ) → (t ≡ true → m ≡ n) → cond t (1 + m) 0 ≡ cond t (1 + n) 0
 run_goes_on true m n e = ap (λ x. 1 + x) (e refl)
 run_goes_on false m n e = refl
 
--- a function of what two lists are joined by
+-- Mapping a function over the results of a pairwise operation is one pairwise operation.
 marked : (h : ℕ → ℕ) (op : ℕ → ℕ → ℕ) (xs ys : List ℕ) → map h (zip2 op xs ys) ≡ zip2 (λ x y. h (op x y)) xs ys
 marked h op [] ys = refl
 marked h op (x ∷ xs) [] = refl
 marked h op (x ∷ xs) (y ∷ ys) = ap (λ zs. h (op x y) ∷ zs) (marked h op xs ys)
 
--- two lists whose members are first changed each by itself
+-- Mapping both lists first and then combining them pairwise is one pairwise operation too.
 changed : (f g : ℕ → ℕ) (op : ℕ → ℕ → ℕ) (xs ys : List ℕ) → zip2 op (map f xs) (map g ys) ≡ zip2 (λ x y. op (f x) (g y)) xs ys
 changed f g op [] ys = refl
 changed f g op (x ∷ xs) [] = refl
 changed f g op (x ∷ xs) (y ∷ ys) = ap (λ zs. op (f x) (g y) ∷ zs) (changed f g op xs ys)
 
--- THE CARRY. A number is added to the whole word, or taken from it. What this makes of the lowest byte
--- is what it makes of a byte by itself; and where that is a digit, nothing is carried into the next.
+-- How an addition or subtraction acts on the bytes of a word. A constant is added to each byte, or
+-- subtracted from it, in one operation on the whole word. The lowest byte then changes as a byte on
+-- its own would (`low`). If it is a digit, nothing is carried to the bytes above it (`rest`).
 record Change : Type 0 where
   of_word : ℕ → ℕ → ℕ
   of_byte : ℕ → ℕ
   low : (k word : ℕ) → of_word (suc k) word % 256 ≡ of_byte (word % 256)
   rest : (k word : ℕ) → is_digit decimal_table (word % 256) ≡ true → of_word (suc k) word / 256 ≡ of_word k (word / 256)
 
--- the word as it is
+-- The change that leaves the word as it is.
 abbrev unchanged : Change
 unchanged = record { of_word = λ k word. word; of_byte = λ b. b; low = λ k word. refl; rest = λ k word e. refl }
 
--- the word with a number in each byte added: up to 198 a digit carries nothing
+-- The change that adds c to each byte. With c below 199, no digit carries.
 abbrev added : (c : ℕ) → c < 199 → Change
 added c h =
     record {
@@ -83,7 +87,7 @@ added c h =
       rest = λ k word e. let digit = digit_in_range (word % 256) e in omega arith;
     }
 
--- what takes 48 from each byte when it is added, where words wrap
+-- The constant that subtracts 48 from each byte when it is added to a wrapping word.
 abbrev pub without_48 : ℕ → ℕ
 without_48 zero = 1
 without_48 (suc k) = 256 * without_48 k - 48
@@ -92,7 +96,7 @@ without_48-some : (k : ℕ) → 1 ≤ without_48 k
 without_48-some zero = omega arith
 without_48-some (suc k) = let some = without_48-some k in omega arith
 
--- the word with 48 in each byte taken from it: a digit borrows nothing
+-- The change that subtracts 48 from each byte. No digit borrows.
 abbrev lowered : Change
 lowered =
     record {
@@ -105,8 +109,9 @@ lowered =
           omega arith;
     }
 
--- So the marks of two changed words are those of the bytes alone, up to the first that is no digit, and
--- where a mark is 0 for a digit and for no other byte, its zeros are the run of digits.
+-- Two changed words are combined to a mark for each byte. Up to the first byte that is no digit,
+-- each mark is what the byte on its own gives. So if the mark is 0 exactly for digits, the leading
+-- marks of 0 are as many as the leading digits.
 module _ (first second : Change) (mark : ℕ → ℕ → ℕ)
     (digit_byte : (b : ℕ) → b < 256 → (mark (first.of_byte b) (second.of_byte b) == 0) ≡ is_digit decimal_table b) where
   carried_run : (k word : ℕ)
@@ -122,15 +127,15 @@ module _ (first second : Change) (mark : ℕ → ℕ → ℕ)
       ∙ run_goes_on (is_digit decimal_table byte) now (prefix_len (is_digit decimal_table) (digits_l 256 k (word / 256)))
       (λ e. ap₂ run (first.rest k word e) (second.rest k word e) ∙ carried_run k (word / 256))
 
--- the mark that the kernel makes of a byte
+-- The mark that the kernel `check_len_8` computes for a byte.
 abbrev kernel_mark : ℕ → ℕ → ℕ
 kernel_mark raised byte = bit_xor (bit_or (raised / 16) (bit_and byte 240)) 51
 
--- it is 0 for a digit, and for no other byte
+-- This mark is 0 exactly for digits.
 kernel_byte : (b : ℕ) → b < 256 → (kernel_mark ((b + 6) % 256) b == 0) ≡ is_digit decimal_table b
 kernel_byte b h = agree_below_at (λ x. kernel_mark ((x + 6) % 256) x == 0) (is_digit decimal_table) 256 b refl h
 
--- the digits, by the trailing bytes of 0 among the marks
+-- The trailing zero bits of these marks, divided by 8, are the number of leading digits.
 pub digits_counted : (k word : ℕ)
     → count_trailing_zeros (k * 8) (bit_xor (bit_or (bit_and ((word + repeated 6 k) % 2 ^ (k * 8) / 16) (repeated 15 k)) (bit_and word (repeated 240 k))) (repeated 51 k)) / 8
     ≡ run_len decimal_table (low_bytes k word)
@@ -151,16 +156,16 @@ digits_counted k word =
     ∙ marked (λ x. bit_xor x 51) (λ x y. bit_or (x / 16) (bit_and y 240)) (digits_l 256 k (word + repeated 6 k)) (digits_l 256 k word))
     ∙ carried_run (added 6 (lit< tt)) unchanged kernel_mark kernel_byte k word
 
--- the mark that the engine makes of a byte
+-- The mark that the word engine computes for a byte.
 abbrev engine_mark : ℕ → ℕ → ℕ
 engine_mark above below = bit_and (bit_or above below) 128
 
--- it too is 0 for a digit, and for no other byte
+-- This mark is 0 exactly for digits too.
 engine_byte : (b : ℕ) → b < 256 → (engine_mark ((b + 70) % 256) ((b + 208) % 256) == 0) ≡ is_digit decimal_table b
 engine_byte b h =
     agree_below_at (λ x. engine_mark ((x + 70) % 256) ((x + 208) % 256) == 0) (is_digit decimal_table) 256 b refl h
 
--- the digits, as the engine counts them
+-- The trailing zero bits of the engine's marks, divided by 8, are the number of leading digits.
 pub marks_counted : (k word : ℕ)
     → count_trailing_zeros (k * 8) (bit_and (bit_or ((word + repeated 70 k) % 2 ^ (k * 8)) ((word + without_48 k) % 2 ^ (k * 8))) (repeated 128 k)) / 8
     ≡ run_len decimal_table (low_bytes k word)
@@ -176,17 +181,17 @@ marks_counted k word =
     ∙ marked (λ x. bit_and x 128) bit_or (digits_l 256 k (word + repeated 70 k)) (digits_l 256 k (word + without_48 k)))
     ∙ carried_run (added 70 (lit< tt)) lowered engine_mark engine_byte k word
 
--- ---- the word with 48 taken from each byte
+-- ---- The word with 48 subtracted from each byte
 
--- its lowest byte is 0 exactly where the word's is the zero
+-- A byte minus 48 is 0 exactly if the byte is the digit zero.
 lowered_zero : (b : ℕ) → b < 256 → ((b + 208) % 256 == 0) ≡ is_zero decimal_table b
 lowered_zero b h = agree_below_at (λ x. (x + 208) % 256 == 0) (is_zero decimal_table) 256 b refl h
 
--- a zero is a digit
+-- A zero is a digit.
 zero_is_digit : (b : ℕ) → b < 256 → is_zero decimal_table b ≡ true → is_digit decimal_table b ≡ true
 zero_is_digit b h e = grind (arith, nat_tests)
 
--- so its lowest bytes of 0 are the zeros that the word begins with
+-- After the subtraction, the word begins with as many bytes of 0 as it began with zeros.
 lowered_zeros : (k word : ℕ) → prefix_len (λ b. b == 0) (digits_l 256 k (word + without_48 k)) ≡ prefix_len (is_zero decimal_table) (digits_l 256 k word)
 lowered_zeros zero word = refl
 lowered_zeros (suc k) word =
@@ -198,7 +203,7 @@ lowered_zeros (suc k) word =
     ∙ run_goes_on (is_zero decimal_table byte) now (prefix_len (is_zero decimal_table) (digits_l 256 k (word / 256)))
     (λ e. ap (λ x. prefix_len (λ b. b == 0) (digits_l 256 k x)) (lowered.rest k word (zero_is_digit byte fits e)) ∙ lowered_zeros k (word / 256))
 
--- the zeros, by the trailing bytes of 0
+-- The trailing zero bits of the difference, divided by 8, are the number of leading zeros.
 pub lowered_zeros_counted : (k word : ℕ) → count_trailing_zeros (k * 8) ((word + without_48 k) % 2 ^ (k * 8)) / 8 ≡ zeros decimal_table (low_bytes k word)
 unfolding low_bytes
 lowered_zeros_counted k word =
@@ -206,16 +211,17 @@ lowered_zeros_counted k word =
     ∙ ap (prefix_len (λ b. b == 0)) (digits_cut 8 k (word + without_48 k))
     ∙ lowered_zeros k word
 
--- a front that has n + 1 digits has the first of them, and n after it
+-- If the passing prefix has at least n + 1 elements, the first one passes, and at least n passing
+-- ones follow it.
 first_digit : (t : Bool) (n m : ℕ) → suc n ≤ cond t (1 + m) 0 → (t ≡ true) × (n ≤ m)
 first_digit true n m h = (refl, omega arith)
 first_digit false n m h = absurd (omega arith)
 
--- the lower half of a digit is what is left of it
+-- The lower half of a digit's byte is the byte minus 48.
 lower_half : (b : ℕ) → is_digit decimal_table b ≡ true → bit_and b 15 ≡ (b + 208) % 256
 lower_half b digit = and_mask b 4 ∙ (let range = digit_in_range b digit in omega arith)
 
--- the lowest k bytes, where these are digits, keep their lower halves
+-- If the lowest k bytes are digits, subtracting 48 from each leaves their lower halves.
 lowered_digits : (j k word : ℕ) → k ≤ prefix_len (is_digit decimal_table) (digits_l 256 (k + j) word)
     → (word + without_48 (k + j)) % 2 ^ (k * 8) ≡ bit_and (word % 2 ^ (k * 8)) (repeated 15 k)
 lowered_digits j zero word digits = omega (arith, and_zero_r (word % 2 ^ (zero * 8)))
@@ -233,7 +239,7 @@ lowered_digits j (suc k) word digits =
     ∙ ap (λ x. bit_and x (repeated 15 (suc k))) (sym (mod-pow-add word (k * 8) 8))
     ∙ ap (λ e. bit_and (word % 2 ^ e) (repeated 15 (suc k))) (sym bits)
 
--- bytes of 0 below them have lower halves of 0
+-- Masking to lower halves and shifting up by whole bytes can be exchanged.
 shifted_halves : (z k word : ℕ) → bit_and word (repeated 15 k) * 2 ^ (z * 8) ≡ bit_and (word * 2 ^ (z * 8)) (repeated 15 (z + k))
 shifted_halves zero k word =
     let one : bit_and word (repeated 15 k) * 2 ^ (zero * 8) ≡ bit_and word (repeated 15 k) = omega arith in
@@ -246,7 +252,7 @@ shifted_halves (suc z) k word =
     ∙ omega (arith, shifted_halves z k word, and_block 8 (word * 2 ^ (z * 8)) (repeated 15 (z + k)) 0 15 (lit< tt) (lit< tt))
     ∙ ap₂ (λ x n. bit_and x (repeated 15 n)) (sym next) (sym (suc-add z k))
 
--- a shifted number under a bound that is shifted as far
+-- Cutting a shifted number is the same as shifting the number that is cut.
 shift_cut : (a j z : ℕ) → a * 2 ^ z % 2 ^ (j + z) ≡ a % 2 ^ j * 2 ^ z
 shift_cut a j z =
     let p = 2 ^ z in
@@ -255,8 +261,9 @@ shift_cut a j z =
     let low : a * p % p ≡ 0 = ap (λ x. x % p) none ∙ mod-mul-add a p 0 (pow_pos z) in
     mod-pow-add (a * p) j z ∙ ap₂ (λ x y. x % 2 ^ j * p + y) high low ∙ omega arith
 
--- THE DIGITS BY SUBTRACTION: the lowest bytes, which are digits, moved to the top of a word of eight. Less
--- 48 each they are their lower halves
+-- If the lowest `len` bytes of an 8-byte word are digits, shifting them to the top of the word
+-- gives the same result whether 48 is subtracted from each or each is masked to its lower half. So
+-- the engine may use the subtraction instead of the mask.
 pub lowered_at_top : (len word : ℕ) → len ≤ 8 → len ≤ run_len decimal_table (low_bytes 8 word)
     → (word + without_48 8) % 2 ^ 64 * 2 ^ (64 - 8 * len) % 2 ^ 64 ≡ bit_and (word * 2 ^ (64 - 8 * len) % 2 ^ 64) (repeated 15 8)
 unfolding low_bytes

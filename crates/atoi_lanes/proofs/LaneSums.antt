@@ -1,4 +1,6 @@
--- Sums of the lanes of a vector, and of half a vector.
+-- The number that the decimal digits in the lanes of a vector spell, and in half a vector for
+-- slices of fewer than 8 bytes. The lemmas show that `sum_lanes` and `read_short` return the value
+-- of the run, the digits that the slice begins with.
 use Rattle.std.proofs.Common.{◌≡◌, ℕ, zero, suc, ◌+◌, ◌-◌, ◌*◌, ◌%◌, ◌^◌, ◌<◌, ◌≤◌, true, false, cond, List, [], ◌∷◌, ◌++◌, map, length, take, replicate, get_or, refl, sym, ap, ap₂, subst, ◌∙◌, arith, ◌/◌, Fits, w16, Bool, drop, w64}
 use Rattle.std.proofs.Math.Arith.{digits_lt}
 use Rattle.std.proofs.Math.Nat.{pow-zero, pow-suc, mul-le-mul_left, mul-le-mul_right, mod-eq_of_lt, div-add-mod, div-lt_iff_lt-mul}
@@ -19,32 +21,34 @@ use Rattle.std.proofs.lemmas.List.Sums.{count_by-le-length, prefix_len-le-length
 use Rattle.atoi_core.specs.Words.{word_of}
 use Rattle.atoi_lanes.proofs.LoadedLanes.{digits-number, byte_shift, first-and_rest, mask-drop, ones-of_mask}
 
--- From joined digits to the value of the run.
+-- ---- From joined digits to the value of the run
+-- Neighbouring digits of base t are joined to one digit of base t * t (`paired`), which does not
+-- change the number that they spell.
 
--- two digits in base t are one below t * t
+-- If all digits are below t, all joined digits are below t * t.
 pub paired-below : (t : ℕ) (xs : List ℕ) → Each1 (λ x. x < t) xs → Each1 (λ x. x < t * t) (paired t xs)
 paired-below t [] h = tt
 paired-below t (x ∷ []) h = tt
 paired-below t (x ∷ y ∷ rest) h = (digits_lt {q = x} {m = t} h.0 h.1.0, paired-below t rest h.1.1)
 
--- half as many of them
+-- There are half as many joined digits.
 pub length-paired : (t m : ℕ) (xs : List ℕ) → length xs ≡ m + m → length (paired t xs) ≡ m
 length-paired t m [] long = omega arith
 length-paired t m (x ∷ []) long = absurd (omega arith)
 length-paired t zero (x ∷ y ∷ rest) long = absurd (omega arith)
 length-paired t (suc m) (x ∷ y ∷ rest) long = ap suc (length-paired t m rest (omega arith))
 
--- the number that digits in base t write, the first the highest
+-- The number that digits spell in base t, the highest digit first.
 abbrev number_in : ℕ → List ℕ → ℕ
 number_in t [] = 0
 number_in t (x ∷ xs) = x * t ^ length xs + number_in t xs
 
--- it is the value in base ten
+-- In base ten it is the value that the specification defines.
 in_ten : (xs : List ℕ) → number_in 10 xs ≡ value itself xs
 in_ten [] = refl
 in_ten (x ∷ xs) = ap (λ n. x * 10 ^ length xs + n) (in_ten xs)
 
--- joined digits write the same number
+-- Joined digits spell the same number in base t * t.
 number-paired : (t m : ℕ) (xs : List ℕ) → length xs ≡ m + m → number_in (t * t) (paired t xs) ≡ number_in t xs
 number-paired t m [] long = refl
 number-paired t m (x ∷ []) long = absurd (omega arith)
@@ -55,14 +59,15 @@ number-paired t (suc m) (x ∷ y ∷ rest) long =
     let next : t ^ suc (length rest) ≡ t ^ length rest * t = pow-suc t (length rest) in
     omega (arith, ap (λ p. (x * t + y) * p) power, ap (λ p. x * p) next, number-paired t m rest (omega arith))
 
--- the number of two digits
+-- Two digits below t spell the first times t plus the second.
 number-two : (t : ℕ) (xs : List ℕ) → length xs ≡ 2 → Each1 (λ x. x < t) xs → (get_or xs 0 0 < t) × ((get_or xs 1 0 < t) × (get_or xs 0 0 * t + get_or xs 1 0 ≡ number_in t xs))
 number-two t [] long h = absurd (omega arith)
 number-two t (x ∷ []) long h = absurd (omega arith)
 number-two t (x ∷ y ∷ []) long h = (h.0, (h.1.0, omega (arith, pow-suc t 0, pow-zero t, ap (λ p. x * p) (pow-suc t 0), ap (λ p. y * p) (pow-zero t), ap (λ p. x * (p * t)) (pow-zero t))))
 number-two t (x ∷ y ∷ z ∷ rest) long h = absurd (omega arith)
 
--- sixteen digits by their two eights
+-- Two groups of eight digits, each joined to one number, spell the value of all 16 digits, and each
+-- is below 10^8.
 pub by_eights : (digits : List ℕ) → length digits ≡ 16 → Each1 (λ x. x < 10) digits → (eights : List ℕ) → eights ≡ paired 10000 (paired 100 (paired 10 digits))
     → (get_or eights 0 0 < 100000000) × ((get_or eights 1 0 < 100000000) × (get_or eights 0 0 * 100000000 + get_or eights 1 0 ≡ value itself digits))
 by_eights digits long below eights made =
@@ -73,7 +78,7 @@ by_eights digits long below eights made =
     let number = number-two 100000000 eights (ap length made ∙ two) (subst (Each1 (λ x. x < 100000000)) (sym made) small) in
     (number.0, (number.1.0, number.1.1 ∙ ap (number_in 100000000) made ∙ number-paired 10000 2 _ fours ∙ number-paired 100 4 _ pairs ∙ number-paired 10 8 digits long ∙ in_ten digits))
 
--- the first joined digits are joined from the first digits
+-- The first m joined digits are the first 2 * m digits, joined.
 take-paired : (t m : ℕ) (xs : List ℕ) → take m (paired t xs) ≡ paired t (take (m + m) xs)
 take-paired t zero xs = refl
 take-paired t (suc m) [] =
@@ -86,12 +91,12 @@ take-paired t (suc m) (x ∷ y ∷ rest) =
     let two : suc m + suc m ≡ suc (suc (m + m)) = omega arith in
     rw two (ap (λ l. (x * t + y) ∷ l) (take-paired t m rest))
 
--- the first of them by its number
+-- The first of two digits is the number that it spells.
 first_of-one : (t : ℕ) (xs : List ℕ) → length xs ≡ 2 → get_or xs 0 0 ≡ number_in t (take 1 xs)
 first_of-one t [] long = absurd (omega arith)
 first_of-one t (x ∷ rest) long = omega (arith, ap (λ p. x * p) (pow-zero t))
 
--- the first eight of sixteen digits by the first of their two eights
+-- The first group of eight joined digits is the value of the first eight of 16 digits.
 pub by_first_eight : (digits : List ℕ) → length digits ≡ 16 → (eights : List ℕ) → eights ≡ paired 10000 (paired 100 (paired 10 digits))
     → get_or eights 0 0 ≡ value itself (take 8 digits)
 by_first_eight digits long eights made =
@@ -107,24 +112,25 @@ by_first_eight digits long eights made =
     ∙ ap (number_in 100000000) front
     ∙ number-paired 10000 1 _ pair ∙ number-paired 100 2 _ four ∙ number-paired 10 4 (take 8 digits) eight ∙ in_ten (take 8 digits)
 
--- zeros in front add nothing
+-- Zeros before digits add nothing to their value.
 pub value-skip_leading_zeros : (n : ℕ) (xs : List ℕ) → value itself (replicate n 0 ++ xs) ≡ value itself xs
 value-skip_leading_zeros zero xs = refl
 value-skip_leading_zeros (suc n) xs = omega (arith, value-skip_leading_zeros n xs)
 
--- what a byte is worth as a digit, by a subtraction that wraps
+-- The digit value of a byte, computed by a subtraction that wraps.
 abbrev pub above_zero : ℕ → ℕ
 above_zero x = (x + (2 ^ 8 - 48)) % 2 ^ 8
 
--- of a digit it is the worth, below ten
+-- For a digit this is its digit value, which is below ten.
 above_zero-digit : (x : ℕ) → is_digit decimal_table x ≡ true → (above_zero x ≡ digit_value decimal_table x) × (above_zero x < 10)
 above_zero-digit x h = (grind (arith, nat_tests), grind (arith, nat_tests))
 
--- that f of a digit is its worth
+-- For each digit, f returns its digit value.
 abbrev pub MakesWorths : (ℕ → ℕ) → Type 0
 MakesWorths f = (x : ℕ) → is_digit decimal_table x ≡ true → (f x ≡ digit_value decimal_table x) × (f x < 10)
 
--- digits write the number that their worths do
+-- If f returns digit values, the numbers that it returns for leading digits spell their value, and
+-- each is below ten.
 pub digits_value : (f : ℕ → ℕ) → MakesWorths f → (n : ℕ) (v : List ℕ) → n ≤ run_len decimal_table v
     → (value itself (take n (map f v)) ≡ value decimal_table (take n v)) × Each1 (λ x. x < 10) (take n (map f v))
 digits_value f makes zero v h = (refl, tt)
@@ -141,39 +147,42 @@ digits_value f makes (suc n) (x ∷ xs) h =
       | false ↦ λ is none. absurd (omega arith)
     ]) refl h
 
--- and so do lanes that hold digits, from each of which the code takes the byte of zero
+-- If the first `n` lanes hold digits, subtracting the byte `0` from each gives digits that spell
+-- their value.
 pub values_sum : (n : ℕ) (v : List ℕ) → length v ≡ 16 → n ≤ run_len decimal_table v
     → value itself (take n (zip2 (λ x y. (x + (2 ^ 8 - y)) % 2 ^ 8) v (replicate 16 48))) ≡ value decimal_table (take n v)
 values_sum n v long digits =
     ap (λ digit_values. value itself (take n digit_values)) (zip2_splat (λ x y. (x + (2 ^ 8 - y)) % 2 ^ 8) v 16 48 long) ∙ (digits_value above_zero above_zero-digit n v digits).0
 
--- digits behind zeros are digits
+-- Zeros before numbers below ten are below ten too.
 pub skip_leading_zeros : (n : ℕ) (xs : List ℕ) → Each1 (λ x. x < 10) xs → Each1 (λ x. x < 10) (replicate n 0 ++ xs)
 skip_leading_zeros zero xs h = h
 skip_leading_zeros (suc n) xs h = (omega arith, skip_leading_zeros n xs h)
 
--- and the worths of digits are digits
+-- Zeros followed by the digit values of digits are all below ten.
 pub values_below : (zeros n : ℕ) (v : List ℕ) → length v ≡ 16 → n ≤ run_len decimal_table v
     → Each1 (λ x. x < 10) (replicate zeros 0 ++ take n (zip2 (λ x y. (x + (2 ^ 8 - y)) % 2 ^ 8) v (replicate 16 48)))
 values_below zeros n v long digits =
     let digit_values = zip2_splat (λ x y. (x + (2 ^ 8 - y)) % 2 ^ 8) v 16 48 long in
     skip_leading_zeros zeros _ (subst (λ l. Each1 (λ x. x < 10) (take n l)) (sym digit_values) (digits_value above_zero above_zero-digit n v digits).1)
 
--- Fields of twice the width, and what joins the two halves of each.
+-- ---- Joining the two halves of each field
+-- A step on a field of double width joins its two halves to one number.
 
--- n digits write less than the power
+-- The number that n digits of base p spell is below p^n.
 pub number-lt : (p : ℕ) (xs : List ℕ) → Each1 (λ x. x < p) xs → number_l p xs < p ^ length xs
 number-lt p [] h = omega (arith, pow-zero p)
 number-lt p (x ∷ xs) h = omega (arith, h.0, pow-suc p (length xs), mul-le-mul_right p (number-lt p xs h.1))
 
--- all digits of a number write it
+-- A number below p^n is spelled by its n digits.
 number-digits : (p n x : ℕ) → 0 < p → x < p ^ n → number_l p (digits_l p n x) ≡ x
 number-digits p zero x some lt = omega (arith, pow-zero p)
 number-digits p (suc n) x some lt =
     let above : x / p < p ^ n = (div-lt_iff_lt-mul {k = p} some).1 (omega (arith, pow-suc p n)) in
     ap (λ m. x % p + p * m) (number-digits p n (x / p) some above) ∙ omega (arith, div-add-mod x p)
 
--- a step on the fields of two digits each, the first of them the lower, that makes of each two digits in base t one joins all neighbours
+-- If a step on a field of two digits joins them to one, applying it to all fields joins all
+-- neighbours. The first digit of a field is the lower one.
 joined : (p t : ℕ) (step : ℕ → ℕ) → t ≤ p → ((x y : ℕ) → x < t → y < t → step (y * p + x) ≡ x * t + y)
     → (m : ℕ) (xs : List ℕ) → length xs ≡ m + m → Each1 (λ x. x < t) xs → map step (digits_l (p * p) m (number_l p xs)) ≡ paired t xs
 joined p t step le joins zero [] long h = refl
@@ -188,20 +197,21 @@ joined p t step le joins (suc m) (x ∷ y ∷ rest) long h =
     (ap (λ k. map step (digits_l (p * p) m k)) (ap (λ k. k / (p * p)) all ∙ div-mul-add n (p * p) (y * p + x) field)
     ∙ joined p t step le joins m rest (omega arith) h.1.1)
 
--- a number of whole bytes, by its bytes
+-- Splitting a number into bytes and reading these gives the same number, if the digits fill whole
+-- bytes.
 recast : (p n : ℕ) (xs : List ℕ) → p ^ length xs ≡ 256 ^ n → Each1 (λ x. x < p) xs → number_l 256 (digits_l 256 n (number_l p xs)) ≡ number_l p xs
 recast p n xs same h = number-digits 256 n (number_l p xs) (omega arith) (omega (arith, same, number-lt p xs h))
 
--- what the code makes of a field of h and h bits: its lower half times t, and the upper half
+-- What the code computes for a field of 2 * h bits: its lower half times t, plus its upper half.
 abbrev step : ℕ → ℕ → ℕ → ℕ
 step h t field = ((bit_and field (2 ^ h - 1) * t) % (2 ^ h * 2 ^ h) + field / 2 ^ h) % (2 ^ h * 2 ^ h)
 
--- a square is no less
+-- A number is at most its square.
 square : (t : ℕ) → t ≤ t * t
 square zero = omega arith
 square (suc t) = omega arith
 
--- of two digits in base t it makes one
+-- For a field that holds two digits of base t, this joins them to one digit of base t * t.
 step-joins : (h t : ℕ) → t * t ≤ 2 ^ h → (x y : ℕ) → x < t → y < t → step h t (y * 2 ^ h + x) ≡ x * t + y
 step-joins h t room x y a b =
     let both : x * t + y < t * t = digits_lt {q = x} {m = t} a b in
@@ -213,7 +223,7 @@ step-joins h t room x y a b =
     let product : (x * t) % (2 ^ h * 2 ^ h) ≡ x * t = mod-eq_of_lt (omega arith) in
     ap₂ (λ l u. ((l * t) % (2 ^ h * 2 ^ h) + u) % (2 ^ h * 2 ^ h)) low high ∙ ap (λ l. (l + y) % (2 ^ h * 2 ^ h)) product ∙ mod-eq_of_lt (omega arith)
 
--- a level of the sum
+-- One level of the computation joins all neighbours in a vector.
 level : (h t n m : ℕ) → t * t ≤ 2 ^ h → (2 ^ h) ^ (m + m) ≡ 256 ^ n → (xs : List ℕ) → length xs ≡ m + m → Each1 (λ x. x < t) xs
     → map (step h t) (digits_l (2 ^ h * 2 ^ h) m (number_l 256 (digits_l 256 n (number_l (2 ^ h) xs)))) ≡ paired t xs
 level h t n m room bytes xs long below =
@@ -221,7 +231,9 @@ level h t n m room bytes xs long below =
     ap (λ k. map (step h t) (digits_l (2 ^ h * 2 ^ h) m k)) (recast (2 ^ h) n xs (ap (λ k. (2 ^ h) ^ k) long ∙ bytes) (Each1-weaker (λ x. x < t) (λ x. x < 2 ^ h) (λ x lt. omega arith) xs below))
     ∙ joined (2 ^ h) t (step h t) le (step-joins h t room) m xs long below
 
--- what the bytes of lanes count that hold a pair in the upper byte, and how many bytes these are
+-- The weights for bytes of lanes that hold a pair of digits in the upper byte: two neighbouring
+-- pairs have the weights 100 and 1, and the lower bytes have the weight 0. `four_each` is the
+-- number of these bytes.
 abbrev hundreds : ℕ → List ℕ
 hundreds zero = []
 hundreds (suc m) = 0 ∷ 100 ∷ 0 ∷ 1 ∷ hundreds m
@@ -230,11 +242,11 @@ abbrev four_each : ℕ → ℕ
 four_each zero = zero
 four_each (suc m) = suc (suc (suc (suc (four_each m))))
 
--- the upper byte
+-- The upper byte of a lane of 16 bits.
 abbrev upper : ℕ → ℕ
 upper lane = lane / 256
 
--- the bytes of such lanes, counted so
+-- The weighted sum of these bytes joins neighbouring pairs to numbers of four digits.
 weighed : (m : ℕ) (xs : List ℕ) → length xs ≡ m + m → Each1 (Fits w16) xs
     → dots (digits_l 256 (four_each m) (number_l 65536 xs)) (hundreds m) ≡ paired 100 (map upper xs)
 weighed zero [] long h = refl
@@ -252,12 +264,13 @@ weighed (suc m) (x ∷ y ∷ rest) long h =
     ap₂ (λ d ds. d ∷ ds) (omega (arith, first, second))
     (ap (λ k. dots (digits_l 256 (four_each m) k) (hundreds m)) behind ∙ weighed m rest (omega arith) h.1.1)
 
--- a product that wraps fits
+-- A product that wraps fits in its lane.
 wrapped : (factor : ℕ) (xs : List ℕ) → Each1 (Fits w16) (map (λ field. field * factor % 65536) xs)
 wrapped factor [] = tt
 wrapped factor (x ∷ xs) = (record { fits = omega arith }, wrapped factor xs)
 
--- all levels: pairs in the upper bytes, fours and eights
+-- All three levels: the digits are joined to pairs, which are in the upper bytes, then to fours and
+-- to eights.
 pub all_levels : (digits : List ℕ) → length digits ≡ 16 → Each1 (λ x. x < 10) digits
     → map (step 32 10000) (digits_l (2 ^ 64) 2 (number_l 256 (digits_l 256 16 (number_l (2 ^ 32)
     (dots (digits_l 256 16 (number_l 65536 (map (λ field. field * 2561 % 65536) (digits_l 65536 8 (number_l 256 digits))))) (hundreds 4))))))
@@ -271,22 +284,24 @@ all_levels digits long below =
     ap (λ l. map (step 32 10000) (digits_l (2 ^ 64) 2 (number_l 256 (digits_l 256 16 (number_l (2 ^ 32) l))))) fours
     ∙ level 32 10000 16 2 (omega arith) refl (paired 100 (paired 10 digits)) four small
 
--- A short slice in the first half of a vector, its last byte the last.
+-- ---- A short slice in the first half of a vector
+-- It ends at lane 8, and the lanes before it are 0.
 
--- bytes behind zeros, eight in all, and eight zeros behind them
+-- The lanes of a slice of at most eight bytes: zeros fill the first half before it, and the second
+-- half is 0.
 abbrev in_half : List ℕ → List ℕ
 in_half s = (replicate (8 - length s) 0 ++ s) ++ replicate 8 0
 
--- bytes behind bytes of 0 are bytes
+-- Bytes of 0 and then other bytes are all bytes.
 bytes-skip_leading_zeros : (n : ℕ) (s : List ℕ) → Each1 (λ x. x < 256) s → Each1 (λ x. x < 256) (replicate n 0 ++ s)
 bytes-skip_leading_zeros zero s h = h
 bytes-skip_leading_zeros (suc n) s h = (omega arith, bytes-skip_leading_zeros n s h)
 
--- the first eight are eight
+-- The first half has eight lanes.
 length-front : (s : List ℕ) → length s ≤ 8 → length (replicate (8 - length s) 0 ++ s) ≡ 8
 length-front s few = length-append (replicate (8 - length s) 0) s ∙ omega (arith, length-replicate {A = ℕ} (8 - length s) 0)
 
--- the lanes of their word
+-- The word that `load_high` returns has these lanes.
 half_of_word : (s : List ℕ) → Each1 (λ x. x < 256) s → length s ≤ 8
     → digits_l 256 16 (number_l 256 (replicate (8 - length s) 0 ++ s)) ≡ in_half s
 half_of_word s h few =
@@ -294,7 +309,8 @@ half_of_word s h few =
     digits-number 256 16 8 (replicate (8 - length s) 0 ++ s) (bytes-skip_leading_zeros (8 - length s) s h) (omega (arith, long))
     ∙ take_all 16 (in_half s) (omega (arith, long, length-append (replicate (8 - length s) 0 ++ s) (replicate 8 0)))
 
--- zeros below digits
+-- In the number that digits of base p spell, lowest first, n digits of 0 before the others multiply
+-- it by p^n.
 number-skip_leading_zeros : (p n : ℕ) (xs : List ℕ) → number_l p (replicate n 0 ++ xs) ≡ p ^ n * number_l p xs
 number-skip_leading_zeros p zero xs = omega (arith, ap (λ q. q * number_l p xs) (pow-zero p))
 number-skip_leading_zeros p (suc n) xs =
@@ -302,7 +318,8 @@ number-skip_leading_zeros p (suc n) xs =
     let power = ap (λ q. q * number_l p xs) (pow-suc p n) in
     omega (arith, rest, power)
 
--- a shift of the word drops the last bytes
+-- Shifting that word left drops the last bytes of the slice, as if only the first `len` had been
+-- loaded.
 shifted_word : (len : ℕ) (s : List ℕ) → Each1 (λ x. x < 256) s → len ≤ length s → length s ≤ 8
     → number_l 256 (replicate (8 - length s) 0 ++ s) * 2 ^ (8 * (length s - len)) % 2 ^ 64 ≡ number_l 256 (replicate (8 - len) 0 ++ take len s)
 shifted_word len s h le few =
@@ -322,7 +339,7 @@ shifted_word len s h le few =
     ∙ omega (arith, ap (λ q. number_l 256 s * q) moved, ap (λ m. 256 ^ (8 - len) * m) (first-and_rest len s le), ap (λ q. rest * q) whole, number-skip_leading_zeros 256 (8 - len) front) in
     ap (λ m. m % 2 ^ 64) parts ∙ mod-mul-add rest (2 ^ 64) kept below
 
--- so its lanes hold the first bytes only
+-- So its lanes hold the first `len` bytes only.
 half_of_start : (len : ℕ) (s : List ℕ) → Each1 (λ x. x < 256) s → len ≤ length s → length s ≤ 8
     → digits_l 256 16 (number_l 256 (replicate (8 - length s) 0 ++ s) * 2 ^ (8 * (length s - len)) % 2 ^ 64) ≡ in_half (take len s)
 half_of_start len s h le few =
@@ -330,23 +347,23 @@ half_of_start len s h le few =
     ap (digits_l 256 16) (shifted_word len s h le few ∙ ap (λ k. number_l 256 (replicate (8 - k) 0 ++ take len s)) (sym count))
     ∙ half_of_word (take len s) (Each1-chunk _ 0 len s h) (omega (arith, count))
 
--- what a byte adds to the count of those that pass
+-- What one element adds to the count of those that pass a test.
 abbrev one_if : (ℕ → Bool) → ℕ → ℕ
 one_if p x = cond (p x) 1 0
 
--- of zeros that do not pass none does
+-- If 0 does not pass, zeros add nothing to the count.
 count_by-zeros : (p : ℕ → Bool) → p 0 ≡ false → (n : ℕ) → count_by p (replicate n 0) ≡ 0
 count_by-zeros p none zero = refl
 count_by-zeros p none (suc n) =
     sum_by-cons (one_if p) 0 (replicate n 0) ∙ ap₂ (λ a b. a + b) (ap (λ b. cond b 1 0) none) (count_by-zeros p none n)
 
--- so the lanes that pass are the bytes that do
+-- So as many lanes pass as bytes of the slice do.
 count-in_half : (p : ℕ → Bool) → p 0 ≡ false → (s : List ℕ) → count_by p (in_half s) ≡ count_by p s
 count-in_half p none s =
     let zeros = 8 - length s in
     omega (arith, sum_by-append (one_if p) (replicate zeros 0 ++ s) (replicate 8 0), sum_by-append (one_if p) (replicate zeros 0) s, count_by-zeros p none zeros, count_by-zeros p none 8)
 
--- where as many bytes pass as there are, all do
+-- If the count of bytes that pass is the length of the slice, all of them pass.
 all_pass : (p : ℕ → Bool) (s : List ℕ) → count_by p s ≡ length s → prefix_len p s ≡ length s
 all_pass p [] h = refl
 all_pass p (x ∷ xs) h =
@@ -355,25 +372,27 @@ all_pass p (x ∷ xs) h =
       | false ↦ λ more. absurd (omega (arith, more, h, count_by-le-length p xs))
     ]) (sum_by-cons (one_if p) x xs)
 
--- where the mask of the lanes that are digits has as many ones as there are bytes, all bytes are digits
+-- If the mask of the lanes that are digits has as many ones as the slice has bytes, all bytes are
+-- digits.
 counts_all : (s v : List ℕ) (mask : ℕ) → v ≡ in_half s → mask ≡ mask_l (map (is_digit decimal_table) v)
     → count_ones mask ≡ length s → run_len decimal_table s ≡ length s
 counts_all s v mask is ones h =
     let digit = is_digit decimal_table in
     all_pass digit s (sym (ap count_ones ones ∙ ones-mask_l digit v ∙ ap (count_by digit) is ∙ count-in_half digit refl s) ∙ h)
 
--- the front ends where zeros that do not pass begin
+-- Zeros after the elements do not change the passing prefix, if 0 does not pass.
 prefix_len-before_zeros : (p : ℕ → Bool) → p 0 ≡ false → (n : ℕ) (s : List ℕ) → prefix_len p (s ++ replicate n 0) ≡ prefix_len p s
 prefix_len-before_zeros p none zero [] = refl
 prefix_len-before_zeros p none (suc n) [] = ap (λ b. cond b (1 + prefix_len p (replicate n 0)) 0) none
 prefix_len-before_zeros p none n (x ∷ xs) = ap (λ k. cond (p x) (1 + k) 0) (prefix_len-before_zeros p none n xs)
 
--- without the zeros in front
+-- Dropping the zeros before a slice leaves the slice.
 drop-zeros : (n : ℕ) (s : List ℕ) → drop n (replicate n 0 ++ s) ≡ s
 drop-zeros zero s = refl
 drop-zeros (suc n) s = drop-zeros n s
 
--- the mask without its bits for these zeros begins with the digits of the slice
+-- Without its bits for the zeros before the slice, the mask begins with as many ones as the slice
+-- with digits.
 digits_first : (s v : List ℕ) (mask : ℕ) → length s ≤ 8 → v ≡ in_half s → mask ≡ mask_l (map (is_digit decimal_table) v)
     → trailing_ones w64 (mask / 2 ^ (8 - length s)) ≡ run_len decimal_table s
 digits_first s v mask few is ones =
@@ -385,28 +404,29 @@ digits_first s v mask few is ones =
     (ap (λ m. m / 2 ^ zeros) ones ∙ mask-drop zeros (map digit v) ∙ ap mask_l (drop-map digit zeros v ∙ ap (map digit) rest))
     ∙ prefix_len-before_zeros digit refl 8 s
 
--- the lower half of a byte
+-- The lower half of a byte.
 abbrev low_half : ℕ → ℕ
 low_half x = bit_and x 15
 
--- of a digit it is the worth
+-- For a digit this is its digit value.
 low_half-digit : MakesWorths low_half
 low_half-digit x h =
     let half : bit_and x 15 ≡ x % 16 = and_mask x 4 in
     (half ∙ grind (arith, nat_tests), rw half (grind (arith, nat_tests)))
 
--- of 0 it is 0
+-- For 0 it is 0.
 low_half-zeros : (n : ℕ) → map low_half (replicate n 0) ≡ replicate n 0
 low_half-zeros zero = refl
 low_half-zeros (suc n) = ap (λ l. 0 ∷ l) (low_half-zeros n)
 
--- digits before zeros are digits
+-- Numbers below ten and then zeros are all below ten.
 before_zeros : (n : ℕ) (xs : List ℕ) → Each1 (λ x. x < 10) xs → Each1 (λ x. x < 10) (xs ++ replicate n 0)
 before_zeros zero [] h = tt
 before_zeros (suc n) [] h = (omega arith, before_zeros n [] h)
 before_zeros n (x ∷ xs) h = (h.0, before_zeros n xs h.1)
 
--- the lower halves of lanes that hold nothing but digits are their worths, and the first eight write their number
+-- If the slice has digits only, the lower halves of its lanes are below ten, and the first eight
+-- spell its value.
 half_values : (s : List ℕ) → length s ≤ 8 → run_len decimal_table s ≡ length s → (v : List ℕ) → v ≡ in_half s
     → (value itself (take 8 (zip2 bit_and v (replicate 16 15))) ≡ value decimal_table s)
     × Each1 (λ x. x < 10) (zip2 bit_and v (replicate 16 15))
@@ -430,7 +450,7 @@ half_values s few digits v is =
       subst (Each1 (λ x. x < 10)) (sym lanes) (before_zeros 8 _ (skip_leading_zeros zeros digit_values (subst (Each1 (λ x. x < 10)) whole known.1))),
     )
 
--- the run of the run is all of it
+-- The run of a run is the whole run.
 run_len-run : (p : ℕ → Bool) (s : List ℕ) → prefix_len p (take (prefix_len p s) s) ≡ length (take (prefix_len p s) s)
 run_len-run p [] = refl
 run_len-run p (x ∷ xs) =
@@ -441,13 +461,14 @@ run_len-run p (x ∷ xs) =
       | false ↦ λ h. refl
     ] refl
 
--- what the code makes of lanes that hold digits only, and of the word's: the number and digits
+-- The lower halves of the lanes are below ten, and the first eight spell the value of the run.
 abbrev Written : List ℕ → List ℕ → Type 0
 Written s v =
     (value itself (take 8 (zip2 bit_and v (replicate 16 15))) ≡ value decimal_table (run decimal_table s))
     × Each1 (λ x. x < 10) (zip2 bit_and v (replicate 16 15))
 
--- lanes of a slice's word, where as many of them are digits as there are bytes
+-- If the mask has as many ones as the slice has bytes, the whole slice is its run, and its lanes
+-- spell the value.
 pub all_digits : (s : List ℕ) → Each1 (λ x. x < 256) s → length s ≤ 8 → (word mask : ℕ) (v : List ℕ) → word ≡ word_of (replicate (8 - length s) 0 ++ s)
     → v ≡ digits_l 256 16 word → mask ≡ mask_l (map (is_digit decimal_table) v) → count_ones mask ≡ length s → (length s ≡ run_len decimal_table s) × Written s v
 unfolding word_of
@@ -457,7 +478,8 @@ all_digits s h few word mask v loaded lanes ones count =
     let written = half_values s few digits v is in
     (sym digits, (written.0 ∙ sym (ap (value decimal_table) (take_all (run_len decimal_table s) s (omega (arith, digits)))), written.1))
 
--- the run's length by the mask, and the lanes of the word that is shifted by what follows the run
+-- The mask gives the length of the run, and the lanes of the word that is shifted by the bytes
+-- after the run spell its value.
 pub first_digits : (s : List ℕ) → Each1 (λ x. x < 256) s → length s ≤ 8 → (word mask len : ℕ) (v : List ℕ) → word ≡ word_of (replicate (8 - length s) 0 ++ s)
     → v ≡ digits_l 256 16 word → mask ≡ mask_l (map (is_digit decimal_table) v) → len ≡ trailing_ones w64 (mask / 2 ^ (8 - length s))
     → (len ≡ run_len decimal_table s) × ((len ≤ length s) × ((w : List ℕ) → w ≡ digits_l 256 16 (word * 2 ^ (8 * (length s - len)) % 2 ^ 64) → Written s w))

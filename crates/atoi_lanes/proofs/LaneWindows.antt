@@ -1,4 +1,6 @@
--- Windows of 16 and of 32 lanes, and the answers that they decide.
+-- Windows of 16 and of 32 bytes, read in lanes, and the answers that they decide. A window
+-- describes the run, the longest prefix of digits, of these bytes. The lemmas prove the engine
+-- `Lanes` and its parses of wide integers.
 use Rattle.std.proofs.Common.{◌≡◌, ℕ, zero, suc, ◌+◌, ◌<◌, ◌==◌, Bool, true, false, cond, List, [], ◌∷◌, ◌++◌, length, take, replicate, refl, sym, ap, ap₂, ◌∙◌, arith, if◌then◌else◌, ◌-◌, ◌≤◌, drop, ◌⊎◌, ◌*◌, ◌/◌, min, inl, inr, ◌^◌, eqb, subst, lit<}
 use Rattle.std.specs.List.{prefix_len}
 use Rattle.std.proofs.lemmas.List.{take_all, length-take, take-append-le, drop-drop, length-drop, take-replicate, take_rest}
@@ -17,16 +19,17 @@ use Rattle.std.proofs.lemmas.Bool.Decides.{nat_tests}
 use Rattle.atoi_core.specs.Magnitude.{wide64, wide128, prefix_magnitude}
 use Rattle.atoi_lanes.specs.declared.window_32.Window32.{Window32}
 
--- Zeros in the lanes behind a slice do not show in what the lanes tell.
+-- ---- Lanes after a short slice
+-- They are 0, which is no digit, so they do not change what is read.
 
--- a zero that fails the test ends the front, as the end does
+-- If 0 does not pass the test, filling up with zeros does not change the passing prefix.
 pub prefix_len-padded : (p : ℕ → Bool) → p 0 ≡ false → (n m : ℕ) (s : List ℕ) → prefix_len p (take n (s ++ replicate m 0)) ≡ prefix_len p (take n s)
 prefix_len-padded p h zero m s = refl
 prefix_len-padded p h (suc n) zero [] = refl
 prefix_len-padded p h (suc n) (suc m) [] = ap (λ b. cond b (1 + prefix_len p (take n (replicate m 0))) 0) h
 prefix_len-padded p h (suc n) m (x ∷ xs) = ap (λ k. cond (p x) (1 + k) 0) (prefix_len-padded p h n m xs)
 
--- a front that ends within the slice is not changed by what is put behind it
+-- What is put after the elements does not change a prefix that ends within them.
 pub front-padded : (p : ℕ → Bool) (n : ℕ) (s zs : List ℕ) → take (prefix_len p (take n s)) (take n (s ++ zs)) ≡ take (prefix_len p (take n s)) (take n s)
 front-padded p zero s zs = refl
 front-padded p (suc n) [] zs = refl
@@ -38,7 +41,7 @@ front-padded p (suc n) (x ∷ xs) zs =
       | false ↦ refl
     ]
 
--- the lanes tell what the bytes in them do
+-- A window read from lanes is the one read from the bytes in them.
 lanes_tell : (size : ℕ) (s : List ℕ) → lane_window size (padded_start 16 s) ≡ lane_window size (take 16 s)
 lanes_tell size s =
     let len = prefix_len-padded (is_digit decimal_table) refl 16 16 s in
@@ -49,15 +52,15 @@ lanes_tell size s =
     ap₂ (λ n z. window n z (run decimal_table (padded_start 16 s))) len leading
     ∙ ap (window (run_len decimal_table (take 16 s)) (zeros decimal_table (take 16 s))) front
 
--- sixteen bytes in sixteen lanes are a window
+-- 16 lanes that hold the first 16 bytes give the window of 16 bytes.
 pub window-of_lanes : (s : List ℕ) → lane_window 16 (padded_start 16 s) ≡ window_of decimal_table 16 s
 window-of_lanes s = lanes_tell 16 s
 
--- and so are eight
+-- 16 lanes that hold the first 8 bytes give the window of 8 bytes.
 pub window-of_half_the_lanes : (s : List ℕ) → lane_window 8 (padded_start 16 (take 8 s)) ≡ window_of decimal_table 8 s
 window-of_half_the_lanes s = lanes_tell 8 (take 8 s) ∙ ap (lane_window 8) (take_all 16 (take 8 s) (omega (arith, length-take 8 s)))
 
--- the window of fewer than 16 bytes is what 32 bytes tell
+-- The window of a slice with fewer than 16 bytes is also a reading of 32 bytes.
 pub reading-of_few : (s : List ℕ) (w : Window) → length s < 16 → w ≡ window_of decimal_table 16 s
     → Reading decimal_table 32 s w.len (zeros decimal_table (take 32 s)) w.number
 reading-of_few s w few e =
@@ -68,9 +71,9 @@ reading-of_few s w few e =
       number_is = ap (λ v. v.number) e ∙ ap (λ l. value decimal_table (run decimal_table l)) all;
     }
 
--- Thirty-two bytes in the lanes of two halves.
+-- ---- 32 bytes in two vectors
 
--- what sixteen lanes tell is what the bytes in them do
+-- What is counted in 16 lanes is a reading of the first 16 bytes.
 pub reading-of_lanes : (s lanes : List ℕ) (len number : ℕ) → lanes ≡ padded_start 16 s → len ≡ run_len decimal_table lanes
     → number ≡ value decimal_table (take len lanes) → Reading decimal_table 16 s len (zeros decimal_table lanes) number
 reading-of_lanes s lanes len number loaded digits writes =
@@ -83,11 +86,12 @@ reading-of_lanes s lanes len number loaded digits writes =
           ∙ ap (value decimal_table) (front-padded (is_digit decimal_table) 16 s (replicate 16 0));
     }
 
--- the 16 bytes behind the first 16, where there are as many
+-- If the slice has at least 32 bytes, its second 16 fill a vector.
 pub after_all : (s : List ℕ) → 32 ≤ length s → take 16 (drop 16 s) ≡ padded_start 16 (drop 16 s)
 after_all s enough = sym (take-append-le 16 (drop 16 s) (replicate 16 0) (omega (arith, length-drop 16 s)))
 
--- and where there are fewer, of the last 16 of the slice
+-- If it has fewer, they are the last lanes of the vector of its last 16 bytes, and zeros follow
+-- them.
 pub behind_some : (s : List ℕ) → 16 ≤ length s → length s < 32
     → drop (32 - length s) (take 16 (drop (length s - 16) s)) ++ replicate (32 - length s) 0 ≡ padded_start 16 (drop 16 s)
 behind_some s enough short =
@@ -104,10 +108,12 @@ behind_some s enough short =
     ∙ sym (take-append-add behind (replicate 16 0) (32 - end))
     ∙ ap (λ n. take n (behind ++ replicate 16 0)) fill
 
--- The loop that drops zeros by whole windows: how far it comes, and how many windows it loads.
+-- ---- The loop that skips zeros
+-- It drops the zeros of one window of 32 bytes in each turn. These lemmas say how far it gets and
+-- how many windows it loads.
 
--- before a window is loaded at a place: only zeros that are skipped stand before it, a window was
--- loaded for each 32 of them, and one more where that dropped the last
+-- The state before a window is loaded at offset `at`: only skipped zeros come before it. So far one
+-- window was loaded for each 32 of them, and one more if the last window began with fewer than 32.
 pub record Skipping (skip : Bool) (s : List ℕ) (at before now : ℕ) : Type 0 where
   pub skipped : IsSkipped decimal_table skip s at
   pub within : at ≤ length s
@@ -115,7 +121,7 @@ pub record Skipping (skip : Bool) (s : List ℕ) (at before now : ℕ) : Type 0 
   pub least : at + 32 * before ≤ 32 * now
   pub place : (32 * now ≡ 32 * before + at) ⊎ (at ≡ zeros decimal_table s)
 
--- nothing is skipped at first
+-- Before the first window, nothing is skipped and nothing is loaded.
 pub Skipping-none : (skip : Bool) (s : List ℕ) (n : ℕ) → Skipping skip s 0 n n
 Skipping-none skip s n = record {
   skipped = record { zeros_only = omega arith; asked = λ _. refl };
@@ -125,7 +131,7 @@ Skipping-none skip s n = record {
   place = inl (omega arith);
 }
 
--- a window that tells zeros is skipped by them
+-- If the window begins with zeros, the loop goes on after them.
 pub Skipping-more : (skip : Bool) (s : List ℕ) (at before now next leading : ℕ) → Skipping skip s at before now
     → leading ≡ min 32 (zeros decimal_table s - at) → next ≡ now + 1 → skip ≡ true → 0 < leading → Skipping skip s (at + leading) before next
 Skipping-more skip s at before now next leading so told one on some =
@@ -140,12 +146,14 @@ Skipping-more skip s at before now next leading so told one on some =
       place = elim (cases_lt leading 32) [ inl h ↦ inr (omega arith) | inr h ↦ inl (omega arith) ];
     }
 
--- the last window leaves fewer than 32 zeros
+-- If the last window begins with fewer than 32 zeros, at least one window was loaded for each 32
+-- zeros of the slice.
 pub Skipping-loads : (skip : Bool) (s : List ℕ) (at before now leading : ℕ) → Skipping skip s at before now
     → leading ≡ min 32 (zeros decimal_table s - at) → leading < 32 → before + zeros decimal_table s / 32 ≤ now
 Skipping-loads skip s at before now leading so told few = omega (arith, so.least)
 
--- where the first window does not begin with zeros that are skipped and fill it, or is not full
+-- The loop is not entered if zeros are not skipped, or if the first window begins with none or is
+-- not full. So a full first window begins with no zero that is skipped.
 pub first-ends : (skip : Bool) (len leading : ℕ) → len ≤ 32
     → ((skip ≡ true) × (0 < leading) × (len ≡ 32 → ⊥)) ⊎ (((skip ≡ true) × (leading ≤ 0)) ⊎ (skip ≡ false))
     → skip ≡ true → 32 ≤ len → leading ≡ 0
@@ -155,7 +163,7 @@ first-ends skip len leading most ends on full =
       | inr rest ↦ (elim rest [ inl none ↦ omega (arith, none.1) | inr off ↦ absurd (false≢true (sym off ∙ on)) ])
     ]
 
--- before it nothing is skipped
+-- Then `ReadsAfterZeros` holds for the first window, with nothing skipped before it.
 pub reads-first : ReadingDecides → (skip : Bool) (s : List ℕ) (len leading number : ℕ) → Reading decimal_table 32 s len leading number
     → (skip ≡ true → 32 ≤ len → leading ≡ 0) → ReadsAfterZeros skip s 0 len leading number
 reads-first law skip s len leading number reading ends =
@@ -167,7 +175,7 @@ reads-first law skip s len leading number reading ends =
       ends = ends;
     }
 
--- and fewer zeros than it has bytes stand in front, where they are skipped
+-- Then the slice begins with fewer than 32 zeros, if these are skipped.
 pub few-zeros : ReadingDecides → (skip : Bool) (s : List ℕ) (len leading number : ℕ) → Reading decimal_table 32 s len leading number
     → (skip ≡ true → 32 ≤ len → leading ≡ 0) → skip ≡ true → zeros decimal_table s < 32
 few-zeros law skip s len leading number reading ends on =
@@ -175,19 +183,19 @@ few-zeros law skip s len leading number reading ends on =
     let most = law.within decimal_table 32 s len leading number reading in
     elim (cases_lt len 32) [ inl less ↦ omega (arith, most.0, told) | inr more ↦ omega (arith, ends on more, told) ]
 
--- What windows of 32 lanes told decides the answers.
+-- ---- Windows of 32 bytes decide the answers
 
--- no digit is worth more than nine
+-- A decimal digit value is below ten.
 pub below_ten : IsBelowTen decimal_table
 below_ten byte = grind (arith, nat_tests)
 
--- what counts of the digits of a window, and the zeros before it that do not
+-- All digits of a window are significant except its zeros that are skipped.
 counted : (skip : Bool) (len told leading : ℕ) → told ≤ len → ((skip ≡ true) × (leading ≡ told)) ⊎ ((skip ≡ false) × (leading ≡ 0))
     → (counting_digits skip len told ≡ len - leading) × (len - counting_digits skip len told ≡ leading)
 counted true len told leading most is = elim is [ inl h ↦ (omega (arith, h), omega (arith, h)) | inr h ↦ absurd (false≢true (sym h.0)) ]
 counted false len told leading most is = elim is [ inl h ↦ absurd (false≢true h.0) | inr h ↦ (omega (arith, h), omega (arith, h)) ]
 
--- 64 bits: a window decides that is not full of digits, or begins with no zero that is skipped
+-- For 64 bits, the last window decides the answer.
 pub decided_64 : ReadingDecides → (bound limit : ℕ) (skip : Bool) (s : List ℕ) (at leading : ℕ) (w : Window32) → limit ≤ 20
     → ReadsAfterZeros skip s at w.len w.zeroes w.number → ((skip ≡ true) × (leading ≡ w.zeroes)) ⊎ ((skip ≡ false) × (leading ≡ 0))
     → answer_by_digits wide64 bound limit (at + leading) (w.len - leading) w.number s ≡ prefix_magnitude decimal_table wide64 bound limit skip s
@@ -203,7 +211,7 @@ decided_64 law bound limit skip s at leading w few front is =
     ∙ ap (λ (n : ℕ). answer_by_digits wide64 bound limit (at + n) (counting_digits skip w.len w.zeroes) w.number s) count.1
     ∙ ap (λ (n : ℕ). answer_by_digits wide64 bound limit (at + leading) n w.number s) count.0)
 
--- 128 bits: a window that is full of digits decides together with the eight bytes behind it
+-- For 128 bits, a full window and the 8 bytes after it decide the answer.
 pub decided_full : ReadingDecides → (bound : ℕ) (skip : Bool) (s : List ℕ) (at : ℕ) (w : Window32) (back : Window)
     → ReadsAfterZeros skip s at w.len w.zeroes w.number → 32 ≤ w.len
     → back ≡ window_of decimal_table 8 (drop 32 (take (length s - at) (drop at s)))

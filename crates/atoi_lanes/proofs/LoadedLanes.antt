@@ -1,4 +1,5 @@
--- Vectors that hold the bytes of a slice: how they are loaded, shifted and tested for digits.
+-- Vectors that hold the bytes of a slice: how they are loaded, shifted and tested for digits. The
+-- kernels of this crate are proved with these lemmas.
 use Rattle.std.proofs.Common.{◌≡◌, ℕ, zero, suc, ◌+◌, ◌-◌, ◌*◌, ◌/◌, ◌%◌, ◌^◌, ◌<◌, Bool, true, false, cond, List, [], ◌∷◌, map, length, drop, Fits, w8, w64, refl, sym, ap, ap₂, ◌∙◌, arith, pow_pos, ◌≤◌, ◌||◌, ◌++◌, take, replicate, get_or, rules, inl, inr}
 use Rattle.std.specs.Int.{trailing_ones, from_le_bytes, byte_worth, sum_through}
 use Rattle.std.specs.List.{prefix_len, range_with_len}
@@ -16,9 +17,10 @@ use lib.Dec.{T, ltb, leb}
 use mir.Val.{zeroes}
 use Rattle.std.proofs.lemmas.Nat.{mod-mul-add, div-mul-add, pow-add}
 
--- From the mask of a comparison of lanes to the first lanes that pass a test.
+-- ---- Masks
+-- The mask of a comparison gives the number of leading lanes that pass a test.
 
--- a number with a zero below its other bits
+-- A 0 below the bits of a number adds one trailing zero bit.
 trailing-even : (k n : ℕ) → count_trailing_zeros (suc k) (2 * n) ≡ suc (count_trailing_zeros k n)
 unfolding count_trailing_zeros
 trailing-even k n =
@@ -26,12 +28,12 @@ trailing-even k n =
     let lowest : 2 * n % 2 ≡ 0 = omega arith in
     rw (lowest, rest)
 
--- a number with a one below its other bits
+-- A number that ends with a 1 has no trailing zero bits.
 trailing-odd : (k n : ℕ) → count_trailing_zeros (suc k) (2 * n + 1) ≡ 0
 unfolding count_trailing_zeros
 trailing-odd k n = let lowest : (2 * n + 1) % 2 ≡ 1 = omega arith in rw lowest
 
--- in the complement of a mask, the bits below the lowest one that is set are the first lanes that pass
+-- The complement of a mask has as many trailing zero bits as leading lanes pass.
 trailing-complement : (p : ℕ → Bool) (k : ℕ) (xs : List ℕ) → length xs < k → count_trailing_zeros k ((2 ^ k - 1) - mask_l (map p xs)) ≡ prefix_len p xs
 trailing-complement p zero xs h = absurd (omega arith)
 trailing-complement p (suc k) [] h =
@@ -50,12 +52,13 @@ trailing-complement p (suc k) (x ∷ xs) h =
           ap (count_trailing_zeros (suc k)) odd ∙ trailing-odd k ((2 ^ k - 1) - m)
     ]
 
--- two tests that agree at each byte pass the same bytes of a list
+-- Two tests that agree on each byte pass the same elements of a list of bytes.
 map-agree : (p q : ℕ → Bool) → agree_below p q 256 ≡ true → (xs : List ℕ) → Each1 (Fits w8) xs → map p xs ≡ map q xs
 map-agree p q all [] fits = refl
 map-agree p q all (x ∷ xs) fits = ap₂ (λ b bs. b ∷ bs) (agree_below_at p q 256 x all fits.0.fits) (map-agree p q all xs fits.1)
 
--- the mask of the lanes that pass, where f of a lane is set just where the lane passes
+-- If the top bit of `f x` is set exactly for the bytes x that pass the test, the bit mask of the
+-- mapped lanes is the mask of the lanes that pass.
 pub mask-of_lanes : (q : ℕ → Bool) (v : List ℕ) (f : ℕ → ℕ) (z : List ℕ) → length v < 64 → Each1 (Fits w8) v → z ≡ map f v
     → agree_below (λ x. top 7 (f x)) q 256 ≡ true → mask_l (map (top 7) z) % 2 ^ 64 ≡ mask_l (map q v)
 mask-of_lanes q v f z long fits lanes all =
@@ -64,11 +67,11 @@ mask-of_lanes q v f z long fits lanes all =
     ∙ mask_l-mod (map set v) 64 (omega (arith, length-map v set))
     ∙ ap mask_l (map-agree set q all v fits)
 
--- the ones at the low end of a mask are the first lanes that pass
+-- The trailing ones of the mask are as many as the leading lanes that pass.
 pub ones-of_mask : (q : ℕ → Bool) (v : List ℕ) → length v < 64 → (mask : ℕ) → mask ≡ mask_l (map q v) → trailing_ones w64 mask ≡ prefix_len q v
 ones-of_mask q v long mask is = ap (trailing_ones w64) is ∙ trailing-complement q 64 v (omega arith)
 
--- a mask without its lowest bits is the mask of the other lanes
+-- Dropping the lowest bits of a mask gives the mask of the other lanes.
 pub mask-drop : (k : ℕ) (ms : List Bool) → mask_l ms / 2 ^ k ≡ mask_l (drop k ms)
 mask-drop zero ms = ap (λ p. mask_l ms / p) (pow-zero 2) ∙ div-one (mask_l ms)
 mask-drop (suc k) [] = zero-div (2 ^ suc k)
@@ -78,19 +81,20 @@ mask-drop (suc k) (b ∷ bs) =
     let others : all / 2 ≡ mask_l bs = elim b as (λ a. (cond a 1 zero + 2 * mask_l bs) / 2 ≡ mask_l bs) [ true ↦ omega arith | false ↦ omega arith ] in
     ap (λ p. all / p) power ∙ sym (div-div-eq-div-mul all 2 (2 ^ k)) ∙ ap (λ m. m / 2 ^ k) others ∙ mask-drop k bs
 
--- The shuffles that move the first lanes of a vector to its end, and its last lanes to its front.
+-- ---- Shuffles
+-- They move the first lanes of a vector to its end, or its last lanes to its start.
 
--- the table of shifts: 16 places without a lane, and the lanes in order
+-- The table `SHIFTS`: 16 entries that select no lane, and then the lanes in order.
 abbrev shifts : List ℕ
 shifts = replicate 16 128 ++ range_with_len 0 16
 
--- the first of neighbouring places
+-- The first n of k consecutive indices are n consecutive indices.
 take-range : (n k a : ℕ) → n ≤ k → take n (range_with_len a k) ≡ range_with_len a n
 take-range zero k a le = refl
 take-range (suc n) zero a le = absurd (omega arith)
 take-range (suc n) (suc k) a le = ap (λ l. a ∷ l) (take-range n k (a + 1) (omega arith))
 
--- sixteen entries of the table, from entry n on: none for the lanes in front, and then the first n lanes
+-- The 16 entries from entry n on select no lane for the first places, and then the first n lanes.
 entries_from : (n : ℕ) → n ≤ 16 → take 16 (take (32 - n) (drop n shifts)) ≡ replicate (16 - n) 128 ++ range_with_len 0 n
 entries_from n le =
     let behind : drop n shifts ≡ replicate (16 - n) 128 ++ range_with_len 0 16 =
@@ -101,12 +105,12 @@ entries_from n le =
     ∙ take-append-add (replicate (16 - n) 128) (range_with_len 0 16) n
     ∙ ap (λ l. replicate (16 - n) 128 ++ l) (take-range n 16 0 le)
 
--- 128 leaves a lane of 0
+-- The entry 128 gives a lane of 0.
 no_lanes : (n i : ℕ) (xs js : List ℕ) → swz_l w8 16 xs i (replicate n 128 ++ js) ≡ replicate n 0 ++ swz_l w8 16 xs (i + n) js
 no_lanes zero i xs js = ap (λ k. swz_l w8 16 xs k js) (omega arith)
 no_lanes (suc n) i xs js = ap (λ l. 0 ∷ l) (no_lanes n (suc i) xs js ∙ ap (λ k. replicate n 0 ++ swz_l w8 16 xs k js) (omega arith))
 
--- neighbouring places name neighbouring lanes
+-- Consecutive entries select consecutive lanes.
 lanes_from : (n i a : ℕ) (xs : List ℕ) → i + n ≤ 16 → a + n ≤ length xs → length xs ≤ 16 → swz_l w8 16 xs i (range_with_len a n) ≡ take n (drop a xs)
 lanes_from zero i a xs fits room few = refl
 lanes_from (suc n) i a xs fits room few =
@@ -115,14 +119,15 @@ lanes_from (suc n) i a xs fits room few =
     ap₂ (λ l ls. l ∷ ls) (cond-false _ _ _ named ∙ ap (λ k. get_or xs k 0) block) (lanes_from n (suc i) (a + 1) xs (omega arith) (omega arith) few)
     ∙ ap (take (suc n)) (sym (drop_more xs a 0 (omega arith)))
 
--- the shuffle by the table from entry n on
+-- The shuffle with the entries from n on moves the first n lanes to the end, with zeros before
+-- them.
 pub shifted : (n : ℕ) (v : List ℕ) → n ≤ 16 → length v ≡ 16 → swz_l w8 16 v 0 (take 16 (take (32 - n) (drop n shifts))) ≡ replicate (16 - n) 0 ++ take n v
 shifted n v le long =
     ap (swz_l w8 16 v 0) (entries_from n le)
     ∙ no_lanes (16 - n) 0 v (range_with_len 0 n)
     ∙ ap (λ l. replicate (16 - n) 0 ++ l) (lanes_from n (0 + (16 - n)) 0 v (omega arith) (omega arith) (omega arith))
 
--- each entry of the table may stand in a shuffle
+-- All entries of the table are valid in a shuffle.
 pub shift_ok : (n : ℕ) → n ≤ 16 → SwzOk w8 16 16 0 (take 16 (take (32 - n) (drop n shifts)))
 shift_ok n le =
     let entries = take (32 - n) (drop n shifts) in
@@ -130,17 +135,17 @@ shift_ok n le =
     SwzOk-from_Each1 w8 16 1 16 0 (take 16 entries) refl (omega (arith, length-take 16 entries))
     (Each1-chunk _ 0 16 entries (Each1-chunk _ n (32 - n) shifts each))
 
--- the table of the other shifts: the lanes in order, and 16 places without a lane
+-- The table `FROM`: the lanes in order, and then 16 entries that select no lane.
 abbrev fronts : List ℕ
 fronts = range_with_len 0 16 ++ replicate 16 128
 
--- neighbouring places without the first of them
+-- Consecutive indices without the first k are consecutive indices.
 drop-range : (k n a b m : ℕ) → m ≡ k + n → b ≡ a + k → drop k (range_with_len a m) ≡ range_with_len b n
 drop-range zero n a b m all first = ap₂ range_with_len (omega arith) (omega arith)
 drop-range (suc k) n a b zero all first = absurd (omega arith)
 drop-range (suc k) n a b (suc m) all first = drop-range k n (a + 1) b m (omega arith) (omega arith)
 
--- sixteen entries of that table, from entry k on: the lanes from k on, and then none
+-- The 16 entries from entry k on select the lanes from k on, and then no lane.
 entries_after : (k : ℕ) → k ≤ 16 → take 16 (take (32 - k) (drop k fronts)) ≡ range_with_len k (16 - k) ++ replicate k 128
 entries_after k le =
     let rest : drop k (range_with_len 0 16) ≡ range_with_len k (16 - k) = drop-range k (16 - k) 0 k 16 (omega arith) (omega arith) in
@@ -152,13 +157,14 @@ entries_after k le =
     ∙ take-append-add (range_with_len k (16 - k)) (replicate 16 128) k
     ∙ ap (λ l. range_with_len k (16 - k) ++ l) (take-replicate k 16 128 le)
 
--- a shuffle by some places, and behind these by others
+-- A shuffle with two lists of entries is one with the first list, and then one with the second.
 swz-append : (xs : List ℕ) (i : ℕ) (is js : List ℕ) → swz_l w8 16 xs i (is ++ js) ≡ swz_l w8 16 xs i is ++ swz_l w8 16 xs (i + length is) js
 swz-append xs i [] js = ap (λ k. swz_l w8 16 xs k js) (omega arith)
 swz-append xs i (l ∷ is) js =
     ap (λ ls. swz_l w8 16 xs i (l ∷ []) ++ ls) (swz-append xs (suc i) is js ∙ ap (λ k. swz_l w8 16 xs (suc i) is ++ swz_l w8 16 xs k js) (omega arith))
 
--- the shuffle by that table from entry k on
+-- The shuffle with the entries from k on moves the lanes from k on to the start, with zeros after
+-- them.
 pub moved_front : (k : ℕ) (v : List ℕ) → k ≤ 16 → length v ≡ 16 → swz_l w8 16 v 0 (take 16 (take (32 - k) (drop k fronts))) ≡ drop k v ++ replicate k 0
 moved_front k v le long =
     let count : length (range_with_len k (16 - k)) ≡ 16 - k = length-range_with_len k (16 - k) in
@@ -169,7 +175,7 @@ moved_front k v le long =
     ∙ no_lanes k (0 + length (range_with_len k (16 - k))) v [] ∙ append-nil (replicate k 0) in
     ap (swz_l w8 16 v 0) (entries_after k le) ∙ swz-append v 0 (range_with_len k (16 - k)) (replicate k 128) ∙ ap₂ (λ a b. a ++ b) lanes none
 
--- each entry of that table may stand in a shuffle
+-- All entries of that table are valid in a shuffle.
 pub front_ok : (k : ℕ) → k ≤ 16 → SwzOk w8 16 16 0 (take 16 (take (32 - k) (drop k fronts)))
 front_ok k le =
     let entries = take (32 - k) (drop k fronts) in
@@ -177,9 +183,11 @@ front_ok k le =
     SwzOk-from_Each1 w8 16 1 16 0 (take 16 entries) refl (omega (arith, length-take 16 entries))
     (Each1-chunk _ 0 16 entries (Each1-chunk _ k (32 - k) fronts each))
 
--- The bytes of a short slice as the number that they spell, the lowest first.
+-- ---- Bytes as a number
+-- The bytes of a short slice are the digits of a number in base 256, the lowest first.
 
--- one list behind another
+-- The number of two lists in a row is that of the first, plus that of the second times the power
+-- for the first's length.
 number-append : (p : ℕ) (xs ys : List ℕ) → number_l p (xs ++ ys) ≡ number_l p xs + p ^ length xs * number_l p ys
 number-append p [] ys = omega (arith, ap (λ q. q * number_l p ys) (pow-zero p))
 number-append p (x ∷ xs) ys =
@@ -187,7 +195,7 @@ number-append p (x ∷ xs) ys =
     let power = ap (λ q. q * number_l p ys) (pow-suc p (length xs)) in
     omega (arith, rest, power)
 
--- the digits from place n up, one more
+-- One more digit adds its value times the power that belongs to its position.
 number-take_more : (p n : ℕ) (xs : List ℕ) → number_l p (take (suc n) xs) ≡ number_l p (take n xs) + get_or xs n 0 * p ^ n
 number-take_more p zero [] = omega arith
 number-take_more p zero (x ∷ xs) = omega (arith, ap (λ q. x * q) (pow-zero p))
@@ -197,19 +205,19 @@ number-take_more p (suc n) (x ∷ xs) =
     let power = ap (λ q. get_or xs n 0 * q) (pow-suc p n) in
     omega (arith, rest, power)
 
--- the bytes of a word, each by its place
+-- The sum of the bytes, each times its power of 256, is the number that they spell.
 bytes-number : (n : ℕ) (xs : List ℕ) → sum_through (λ i. byte_worth i (get_or xs i 0)) n ≡ number_l 256 (take (suc n) xs)
 bytes-number zero [] = refl
 bytes-number zero (x ∷ xs) = omega arith
 bytes-number (suc n) xs = ap (λ s. s + get_or xs (suc n) 0 * 256 ^ suc n) (bytes-number n xs) ∙ sym (number-take_more 256 (suc n) xs)
 
--- the lowest digit, and the others
+-- Dividing a number by p separates its lowest digit from the number without it.
 lowest-digit : (p x n : ℕ) → x < p → ((x + p * n) % p ≡ x) × ((x + p * n) / p ≡ n)
 lowest-digit p x n h =
     let turned : x + p * n ≡ n * p + x = omega arith in
     (ap (λ m. m % p) turned ∙ mod-mul-add n p x h, ap (λ m. m / p) turned ∙ div-mul-add n p x h)
 
--- a division takes the lowest digits off
+-- Dividing by p^n drops the lowest n digits.
 number-drop : (p n : ℕ) (xs : List ℕ) → Each1 (λ x. x < p) xs → number_l p xs / p ^ n ≡ number_l p (drop n xs)
 number-drop p zero xs h = ap (λ q. number_l p xs / q) (pow-zero p) ∙ div-one (number_l p xs)
 number-drop p (suc n) [] h = zero-div (p ^ suc n)
@@ -218,7 +226,7 @@ number-drop p (suc n) (x ∷ xs) h =
     let power : p ^ suc n ≡ p * p ^ n = omega (arith, pow-suc p n) in
     ap (λ q. all / q) power ∙ sym (div-div-eq-div-mul all p (p ^ n)) ∙ ap (λ m. m / p ^ n) (lowest-digit p x (number_l p xs) h.0).1 ∙ number-drop p n xs h.1
 
--- a number's digits are those that it was made of, and zeros
+-- The digits of a number are those that it was made of, followed by zeros.
 pub digits-number : (p n m : ℕ) (xs : List ℕ) → Each1 (λ x. x < p) xs → n ≤ length xs + m → digits_l p n (number_l p xs) ≡ take n (xs ++ replicate m 0)
 digits-number p zero m xs h room = refl
 digits-number p (suc n) zero [] h room = absurd (omega arith)
@@ -228,18 +236,18 @@ digits-number p (suc n) m (x ∷ xs) h room =
     let parts = lowest-digit p x (number_l p xs) h.0 in
     ap₂ (λ d ds. d ∷ ds) parts.0 (ap (digits_l p n) parts.1 ∙ digits-number p n m xs h.1 (omega arith))
 
--- a shift by whole bytes
+-- A shift by n bytes multiplies or divides by 256^n.
 pub byte_shift : (n : ℕ) → 256 ^ n ≡ 2 ^ (8 * n)
 byte_shift zero = refl
 byte_shift (suc n) = pow-suc 256 n ∙ ap (λ p. p * 256) (byte_shift n) ∙ sym (ap (λ k. 2 ^ k) (omega arith) ∙ pow-add 2 (8 * n) 8)
 
--- a part of bytes are bytes
+-- The elements of a part of the list are bytes too.
 Each1-drop : (p n : ℕ) (xs : List ℕ) → Each1 (λ x. x < p) xs → Each1 (λ x. x < p) (drop n xs)
 Each1-drop p zero xs h = h
 Each1-drop p (suc n) [] h = tt
 Each1-drop p (suc n) (x ∷ xs) h = Each1-drop p n xs h.1
 
--- of the last n bytes, those behind the first n
+-- Of a word with the last n bytes of the slice, a shift leaves those after the first n.
 pub rest_of_last : (n : ℕ) (s : List ℕ) → Each1 (λ x. x < 256) s → n ≤ length s → length s ≤ 2 * n
     → number_l 256 (drop (length s - n) s) / 2 ^ (8 * (2 * n - length s)) ≡ number_l 256 (drop n s)
 rest_of_last n s h le ge =
@@ -250,22 +258,23 @@ rest_of_last n s h le ge =
     ∙ number-drop 256 over last (Each1-drop 256 (length s - n) s h)
     ∙ ap (number_l 256) (drop-drop over (length s - n) s ∙ ap (λ k. drop k s) count)
 
--- the first n bytes below the others
+-- The first n bytes and the bytes above them make up the number.
 pub first-and_rest : (n : ℕ) (s : List ℕ) → n ≤ length s → number_l 256 (take n s) + number_l 256 (drop n s) * 256 ^ n ≡ number_l 256 s
 first-and_rest n s le =
     let parts = number-append 256 (take n s) (drop n s) in
     let power = ap (λ k. 256 ^ k * number_l 256 (drop n s)) (length-take-le n s le) in
     omega (arith, parts, power, ap (number_l 256) (take-append-drop n s))
 
--- the bytes of a slice are below 256
+-- The elements of a slice of bytes are below 256.
 pub bytes : (s : List ℕ) → ((k : ℕ) → Fits w8 (get_or s k 0)) → Each1 (λ x. x < 256) s
 bytes s fits = Each1-from_get_or (λ x. x < 256) s 0 (λ k _. (fits k).fits)
 
--- a word of eight bytes
+-- A little-endian word of eight bytes is the number that they spell.
 pub word-of_eight : (xs : List ℕ) → length xs ≡ 8 → from_le_bytes w64 xs ≡ number_l 256 xs
 word-of_eight xs long = bytes-number 7 xs ∙ ap (number_l 256) (take_all 8 xs (omega arith))
 
--- what stands behind the first eight of at most fifteen bytes, from the last eight
+-- If a slice has 8 to 15 bytes, those after the first eight are shifted from the word of its last
+-- eight.
 pub high_of_last : (s : List ℕ) → Each1 (λ x. x < 256) s → 8 ≤ length s → length s < 16
     → number_l 256 (drop (length s - 8) s) / 2 ^ (8 * (15 - length s)) / 256 ≡ number_l 256 (drop 8 s)
 high_of_last s h le lt =
@@ -273,7 +282,7 @@ high_of_last s h le lt =
     let power : 2 ^ (8 * (15 - length s)) * 256 ≡ 2 ^ (8 * (2 * 8 - length s)) = sym (ap (λ k. 2 ^ k) (omega arith) ∙ pow-add 2 (8 * (15 - length s)) 8) in
     div-div-eq-div-mul last (2 ^ (8 * (15 - length s))) 256 ∙ ap (λ p. last / p) power ∙ rest_of_last 8 s h le (omega arith)
 
--- sixteen lanes from two words of a short slice
+-- The two words of a slice with fewer than 16 bytes make up its 16 lanes.
 pub lanes-of_words : (s : List ℕ) → Each1 (λ x. x < 256) s → length s < 16
     → digits_l 256 16 (number_l (2 ^ 64) (number_l 256 (take 8 s) ∷ number_l 256 (drop 8 s) ∷ [])) ≡ take 16 (s ++ replicate 16 0)
 lanes-of_words s h lt =

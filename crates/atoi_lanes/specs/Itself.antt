@@ -1,7 +1,7 @@
--- Digits that stand for themselves.
+-- The table of digits that are given as numbers.
 use Rattle.std.specs.Prelude.{Some}
 use Rattle.atoi_core.specs.Digit.{Table}
 
--- each byte is worth what it is
+-- The digit value of each element is the element itself.
 abbrev pub itself : Table
 itself byte = Some byte

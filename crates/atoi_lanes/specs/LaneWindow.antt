@@ -1,10 +1,11 @@
--- What lanes tell as a window.
+-- The window that is read from lanes.
 use Rattle.std.specs.Prelude.{ℕ, ◌==◌, if◌then◌else◌, List}
 use Rattle.atoi_core.specs.Digit.{decimal_table}
 use Rattle.atoi_core.specs.Run.{run_len, run, zeros, value}
 use Rattle.atoi_core.specs.declared.window.Window.{Window}
 
--- the run that the lanes begin with and its value, and the zeros, where the run has `size` digits
+-- The length and the value of the run that the lanes begin with, and the number of their leading
+-- zeros, if the run has `size` digits, and otherwise 0.
 abbrev pub lane_window : ℕ → List ℕ → Window
 lane_window size lanes =
     record {

@@ -1,7 +1,7 @@
--- Neighbouring digits as one digit of a greater base.
+-- Neighbouring digits, joined to digits of a larger base.
 use Rattle.std.specs.Prelude.{ℕ, ◌+◌, ◌*◌, List, [], ◌∷◌}
 
--- each two neighbours as one digit, the first of them worth the base
+-- Each two neighbours become one number: the first times the base, plus the second.
 abbrev pub paired : ℕ → List ℕ → List ℕ
 paired base [] = []
 paired base (last ∷ []) = []

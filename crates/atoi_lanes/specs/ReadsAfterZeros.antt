@@ -1,10 +1,11 @@
--- Where the reading of a wide integer ends.
+-- What the last window of a parse of a wide integer has read.
 use Rattle.std.specs.Prelude.{◌≡◌, ℕ, ◌+◌, ◌≤◌, Bool, true, List, length, drop}
 use Rattle.atoi_core.specs.Digit.{decimal_table}
 use Rattle.atoi_core.specs.Reading.{Reading, IsSkipped}
 
--- behind zeros that are skipped, 32 bytes begin with `len` digits, `zeroes` of them zeros, and
--- these write `number`; where zeros are skipped, all 32 are digits only if the first is no zero
+-- After skipped zeros, at offset `at`, the next 32 bytes begin with `len` digits, which spell
+-- `number` and of which the first `zeroes` are zeros. If zeros are skipped and all 32 bytes are
+-- digits, the first of these is not zero.
 pub record ReadsAfterZeros (skip : Bool) (s : List ℕ) (at len zeroes number : ℕ) : Type 0 where
   pub skipped : IsSkipped decimal_table skip s at
   pub reading : Reading decimal_table 32 (drop at s) len zeroes number

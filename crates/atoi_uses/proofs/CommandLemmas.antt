@@ -1,4 +1,4 @@
--- What the word and the text of a line say of the commands that it is.
+-- A line is at most one command: its word and its text decide which.
 use Rattle.std.proofs.Common.{◌≡◌, ◌≢◌, ℕ, true, List, drop, ℤ, Ok, refl, sym, ap, ◌∙◌, arith}
 use Rattle.std.specs.Prelude.{slice_index}
 use Rattle.atoi_core.specs.Answer.{parse_answer}
@@ -9,18 +9,18 @@ use Rattle.atoi_uses.specs.declared.commands.Command.{Command}
 use Rattle.atoi_uses.specs.declared.commands.Word.{Word}
 use Rattle.atoi_uses.specs.declared.commands.Word.TheVariants.{Set, IncrBy}
 
--- a line has one first byte
+-- The first byte of a line cannot be two different bytes.
 first_apart : (line : List ℕ) (a b : ℕ) → slice_index line 0 ≡ a → slice_index line 0 ≡ b → a ≢ b → ⊥
 first_apart line a b h k apart = apart (sym h ∙ k)
 
--- a line has at most one word, and one text after it
+-- A line begins with at most one word, and only one text follows it.
 one_word : (line : List ℕ) (v w : Word) (s t : List ℕ) → HasWord line v s → HasWord line w t → (v ≡ w) × (s ≡ t)
 one_word line Set Set s t h k = (refl, ap (drop 4) (sym h ∙ k))
 one_word line Set IncrBy s t h k = absurd (first_apart line 83 73 (ap (λ l. slice_index l 0) h) (ap (λ l. slice_index l 0) k) (omega arith))
 one_word line IncrBy Set s t h k = absurd (first_apart line 73 83 (ap (λ l. slice_index l 0) h) (ap (λ l. slice_index l 0) k) (omega arith))
 one_word line IncrBy IncrBy s t h k = (refl, ap (drop 7) (sym h ∙ k))
 
--- a line is one command at most: that of its word, and of the number that the text after it writes
+-- A line is at most one command: that of its word, with the number that its text writes.
 pub only_command : AcceptedTexts i64_type → (line text : List ℕ) (word : Word) (number : ℤ) → HasWord line word text
     → parse_answer i64_type true true text ≡ Ok number
     → (command : Command) → IsCommand line command → record { word = word; number = number } ≡ command

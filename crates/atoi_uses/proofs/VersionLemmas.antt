@@ -1,4 +1,5 @@
--- The parts of a version: the first is a front that writes its number, and the others stand after it.
+-- The parts of a version: each is a prefix that writes its number, and the next one follows it
+-- after a dot.
 use Rattle.std.proofs.Common.{◌≡◌, ℕ, false, List, [], ◌∷◌, length, pos, ap, ◌∙◌, subst, arith}
 use Rattle.atoi_simd.specs.IntTypes.{u32_type}
 use Rattle.atoi_simd.specs.Laws.{positive, PrefixesAndRests}
@@ -6,7 +7,7 @@ use Rattle.atoi_simd.specs.Text.{DigitsWrite, PrefixWrites}
 use Rattle.atoi_uses.specs.Versions.{IsPart, IsVersion, dot}
 use Rattle.atoi_uses.specs.declared.versions.Version.{Version}
 
--- a part is a front that writes its number
+-- A part is a prefix that writes its number.
 pub front_of : PrefixesAndRests u32_type → (text : List ℕ) (number : ℕ) (rest : List ℕ) (h : IsPart text number rest)
     → PrefixWrites (DigitsWrite u32_type false) text (pos number) (length h.digits)
 front_of law text number rest h =
@@ -14,19 +15,19 @@ front_of law text number rest h =
     record { numeral = h.numeral; in_range = omega (arith, h.value_is, h.in_range); value_is = ap pos h.value_is } in
     law.joined positive text h.digits rest (pos number) h.parts written h.ends
 
--- there is one part at the front of a text: the number, and what stands after it
+-- The text begins with only one part: this number, followed by this rest.
 abbrev pub IsOnlyPart : List ℕ → ℕ → List ℕ → Type 0
 IsOnlyPart text number rest = (n : ℕ) (r : List ℕ) → IsPart text n r → (n ≡ number) × (r ≡ rest)
 
 module _ (text : List ℕ) (number : ℕ) (after rest : List ℕ) (only : IsOnlyPart text number after) (is : after ≡ dot ∷ rest) where
-  -- so the second part of a version stands after the first and a dot
+  -- So the second part of a version follows the first one and a dot.
   pub minor_at : (version : Version) (h : IsVersion text version) → IsPart rest version.minor (dot ∷ h.after_minor)
   minor_at version h =
       let same = (only version.major (dot ∷ h.after_major) h.major).1 ∙ is in
       let here : h.after_major ≡ rest = cc in
       subst (λ s. IsPart s version.minor (dot ∷ h.after_minor)) here h.minor
 
-  -- and the third after the second and a dot
+  -- So the third part follows the second one and a dot.
   pub patch_at : (minor : ℕ) (after_minor last : List ℕ) → IsOnlyPart rest minor after_minor → after_minor ≡ dot ∷ last
       → (version : Version) → IsVersion text version → IsPart last version.patch []
   patch_at minor after_minor last only_minor is_minor version h =

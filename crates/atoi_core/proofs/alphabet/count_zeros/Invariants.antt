@@ -1,4 +1,4 @@
--- What the loop keeps: what it has read are zeros.
+-- The loop invariant: all bytes read so far are zeros.
 use Rattle.std.proofs.Common.{◌≡◌, ◌+◌, drop}
 use Rattle.atoi_core.specs.Run.{zeros}
 use Rattle.atoi_core.proofs.alphabet.count_zeros.Given as goal

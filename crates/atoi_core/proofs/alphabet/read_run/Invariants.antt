@@ -1,4 +1,4 @@
--- What the loop keeps: what it has read are digits, and it has their number.
+-- The loop invariant: all bytes read so far are digits, and `number` is their value.
 use Rattle.std.proofs.Common.{◌≡◌, ◌<◌, ◌+◌, ◌^◌, take, drop}
 use Rattle.atoi_core.specs.Run.{run_len, value}
 use Rattle.atoi_core.proofs.alphabet.read_run.Given as goal

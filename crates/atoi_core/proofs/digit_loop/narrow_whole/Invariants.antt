@@ -1,4 +1,5 @@
--- What the loop keeps: what it has read are digits, and it has their number, which is in bounds.
+-- The loop invariant: all bytes read so far are digits, and `number` is their value, which is
+-- within the bound.
 use Rattle.std.proofs.Common.{◌≡◌, ◌≤◌, ◌+◌, take, drop}
 use Rattle.atoi_core.specs.Digit.{decimal_table}
 use Rattle.atoi_core.specs.Run.{run_len, value}

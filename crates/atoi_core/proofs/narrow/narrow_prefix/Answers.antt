@@ -1,4 +1,4 @@
--- Where no zeros are skipped, the first window is the last one.
+-- If no zeros are skipped, the first window is the last one, and it decides the answer.
 use Rattle.std.proofs.Common.{◌≡◌, ◌≤◌, ℕ, Bool, false, not, ◌&&◌, nat_lt, inl, inr, sym, ◌∙◌, ltb-false, arith}
 use Rattle.atoi_core.proofs.Windows.{Skipped, Skipped-at_once, Skipped-first, Skipped-one}
 use Rattle.atoi_core.proofs.LoopAnswers.{narrow_told, answers_empty}
@@ -11,11 +11,11 @@ returns-then-window-eq0-clause-answer g c =
     c.window-window.ensures.window c.window-window.ensures.one_step (omega arith) in
     answers_empty _ _ _ _ _ _ _ _ _ _ so (omega arith)
 
--- at most 16 digits stand there where zeros count
+-- If zeros are not skipped and the body is not too long, it begins with at most 16 digits.
 few : (skip : Bool) (digits : ℕ) → false ≡ (not skip && nat_lt 16 digits) → skip ≡ false → digits ≤ 16
 few skip digits short counts = ltb-false 16 digits (rw counts at (sym short))
 
--- where no zeros are told, or none are skipped
+-- If the first window reports no zeros, or zeros are not skipped, it is the last window.
 last : (g : _) (c : After-answer_at g)
     → Skipped g.E.Engine.table c.args.skip c.args.s.now 0 c.args.steps.now c.window-window.new.steps c.window-window.result
 last g c =

@@ -1,4 +1,5 @@
--- The loop goes on behind the zeros of the first window; the answer and the loads follow from where it ends.
+-- The loop begins after the zeros of the first window. The answer and the number of loads follow
+-- from where it ends.
 use Rattle.std.proofs.Common.{◌+◌, true, inr, refl, ◌∙◌, arith}
 use Rattle.atoi_core.proofs.Windows.{Skipping-told, Skipping-more, Skipped, Skipped-end}
 use Rattle.atoi_core.proofs.LoopAnswers.{narrow_told}
@@ -20,7 +21,7 @@ loop-window-preserved g c =
       some = omega (arith, c.loop-window.invariant.some);
     }
 
--- where the loop ends
+-- What holds when the loop has ended.
 ended : (g : _) (c : After-answer_at g)
     → Skipped g.E.Engine.table true c.args.s.now c.loop-window.at c.args.steps.now (c.window-window.new.steps + 1) c.window-window.result
 ended g c =

@@ -1,4 +1,4 @@
--- The answer for the front, with one reason more.
+-- The answer to a whole slice follows from that to its prefix, in each of the three cases.
 use Rattle.std.proofs.Common.{◌∙◌, sym, ap, Ok, Err, if◌then◌else◌}
 use Rattle.std.proofs.lemmas.Bool.{eq-eqb, ne_eqb}
 use Rattle.atoi_core.specs.Refusal.{answer_of, invalid64}

@@ -1,4 +1,4 @@
--- What the answer under the negative bound says of each case.
+-- In each case, the answer with the sign follows from the answer under the negative bound.
 use Rattle.std.proofs.Common.{◌∙◌, sym, ap, arith}
 use Rattle.atoi_core.specs.Answer.{typed_prefix_answer}
 use Rattle.atoi_core.proofs.Bounds.{prefix_number, prefix_least, prefix_error, prefix_overflows}

@@ -1,4 +1,5 @@
--- Two windows are read: the second goes on where the first is full.
+-- The second window continues the run after the first, which is full. If it is not full, both
+-- decide the answer. Otherwise the slice begins with at least 32 digits.
 use Rattle.std.proofs.Common.{refl, arith}
 use Rattle.std.proofs.lemmas.List.Sums.{prefix_len-le-length}
 use Rattle.atoi_core.specs.Digit.{is_digit}

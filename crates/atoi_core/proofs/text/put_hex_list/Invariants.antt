@@ -1,3 +1,4 @@
+-- The loop invariant: all bytes read so far are written, each with a comma and a space before it.
 use Rattle.std.proofs.Common.{◌≡◌, ◌+◌, ◌*◌, ◌≤◌, ◌++◌, take, codes}
 use Rattle.std.specs.List.{flat_map}
 use Rattle.atoi_core.specs.ErrorText.{hex_text}

@@ -1,4 +1,5 @@
--- The marks of eight bytes: none is set, or the trailing bytes of 0 are counted.
+-- If no byte is marked, all eight are digits. Otherwise the bytes before the first mark are
+-- counted.
 use Rattle.std.proofs.Common.{◌/◌, sym, ap, ◌∙◌}
 use Rattle.std.specs.Int.Count.{count_trailing_zeros}
 use Rattle.atoi_core.proofs.WordRuns.{marks_counted}

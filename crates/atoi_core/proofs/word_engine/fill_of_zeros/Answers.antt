@@ -1,4 +1,4 @@
--- The zeros that a shift leaves out are compared with the word of zeros, length by length.
+-- The result is compared with the word of zeros for each length.
 use Rattle.std.proofs.Common.{◌≡◌, ℕ, ◌-◌, ◌*◌, ◌%◌, ◌^◌, ◌<◌, ◌≤◌, ◌==◌, ◌∙◌, true, false, nat_lt, ltb-false, replicate, refl, ap, arith}
 use Rattle.std.proofs.lemmas.Bool.{eqb-true, agree_below_at}
 use Rattle.atoi_core.specs.Words.{word_of}

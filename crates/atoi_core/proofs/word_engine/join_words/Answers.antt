@@ -1,4 +1,4 @@
--- The two words are the first sixteen bytes.
+-- The two words hold the first 16 bytes, so together they give their window.
 use Rattle.std.proofs.Common.{◌≡◌, ℕ, ◌+◌, ◌*◌, ◌^◌, ◌<◌, ◌∙◌, ap, ap₂, sym, drop, take, ◌++◌, get_or, arith}
 use Rattle.atoi_core.specs.Digit.{decimal_table}
 use Rattle.atoi_core.specs.Run.{run_len, zeros}

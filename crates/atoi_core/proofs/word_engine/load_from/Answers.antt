@@ -1,4 +1,4 @@
--- Where the slice ends among the bytes, they are the highest of its last eight.
+-- If the slice ends among the eight bytes, they are the highest ones of its last eight.
 use Rattle.std.proofs.Common.{◌∙◌, ap, ◌+◌, ◌/◌, ◌-◌, ◌*◌, ◌^◌, length}
 use Rattle.atoi_core.proofs.LoadedWords.{last_bytes}
 use Rattle.atoi_core.proofs.word_engine.load_from.Goals as goal

@@ -1,4 +1,4 @@
--- No bytes write 0.
+-- The value of no digits is 0.
 use Rattle.atoi_core.proofs.LoadedWords.{sum_of_none}
 use Rattle.atoi_core.proofs.word_engine.number_in_word.Goals as goal
 

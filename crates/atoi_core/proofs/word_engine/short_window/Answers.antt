@@ -1,4 +1,4 @@
--- The window of the filled word is the slice's.
+-- The window of a short slice follows from the word that is filled with zeros.
 use Rattle.std.proofs.Common.{◌≡◌, ◌+◌, ◌-◌, ◌++◌, ◌∙◌, refl, sym, ap₂, length, replicate, arith}
 use Rattle.atoi_core.specs.Digit.{decimal_table}
 use Rattle.atoi_core.specs.Run.{run_len}
@@ -10,11 +10,11 @@ use Rattle.atoi_core.proofs.word_engine.short_window.Goals.{After-digits_of-digi
 pub overflow_add-filled : goal.overflow_add-filled
 overflow_add-filled c = omega (arith, filled_fits c.args.s.now c.requires (λ i. (c.type_inv.s i).fits))
 
--- zeros fill the word
+-- The word after the zeros are added.
 filled : (c : After-digits_of-digits) → c.load_high.result + c.fill_of_zeros.result ≡ word_of (replicate (8 - length c.args.s.now) 48 ++ c.args.s.now)
 filled c = ap₂ (λ x y. x + y) c.load_high.ensures c.fill_of_zeros.ensures ∙ word_filled (8 - length c.args.s.now) c.args.s.now
 
--- the digits of the filled word
+-- How many digits this word begins with.
 digits : (c : After-digits_of-digits) → c.digits_of-digits.result ≡ 8 - length c.args.s.now + run_len decimal_table c.args.s.now
 digits c =
     filled_digits c.args.s.now c.requires (λ i. (c.type_inv.s i).fits) c.load_high.result c.fill_of_zeros.result

@@ -1,4 +1,5 @@
--- The loop goes on after the zeros of the first window; the answers and the loads follow from where it ends.
+-- The loop begins after the zeros of the first window. The answers and the number of loads follow
+-- from where it ends.
 use Rattle.std.proofs.Common.{◌≡◌, ◌+◌, ◌-◌, ◌≤◌, ℕ, List, true, inr, refl, ap, ◌∙◌, arith, drop, length}
 use Rattle.std.proofs.lemmas.List.{length-drop, take_rest}
 use Rattle.std.proofs.lemmas.List.Sums.{prefix_len-le-length}
@@ -25,7 +26,7 @@ loop-window-preserved c =
       some = omega (arith, c.loop-window.invariant.some);
     }
 
--- where the loop ends
+-- What holds when the loop has ended.
 ended : (c : After-window-window) → c.window-window.result.zeroes ≡ 0
     → Skipped decimal_table true c.args.s.now c.loop-window.at c.args.steps.now (c.window-window.new.steps + 1) c.window-window.result
 ended c none =
@@ -47,7 +48,7 @@ returns-then-front-lt16-clause-loads c =
       at_least_skipping = λ _. omega (arith, so.least refl);
     }
 
--- the slice has so many bytes
+-- If the last window is full, the slice has at least 16 bytes from there on.
 long : (c : After-window-window) → 16 ≤ c.window-window.result.len → c.window-window.result.zeroes ≡ 0 → 16 ≤ length c.args.s.now - c.loop-window.at
 long c full none =
     omega (arith, full, (ended c none).shown.len_is, prefix_len-le-length (is_digit decimal_table) (drop c.loop-window.at c.args.s.now), length-drop c.loop-window.at c.args.s.now)
@@ -57,7 +58,7 @@ window_after_16-back-requires c =
     let at = (goal.at.window_after_16-back-requires c).After-window-window in
     rw (take_rest c.args.s.now c.loop-window.at, length-drop c.loop-window.at c.args.s.now) (long at c.if-front-lt16.false c.if-window-eq0.true)
 
--- the eight bytes after it
+-- The window of 8 bytes after the last window.
 behind : (c : After-window_after_16-back) → Shows decimal_table 8 (drop 16 (drop c.loop-window.at c.args.s.now)) c.window_after_16-back.result
 behind c =
     shows decimal_table decimal_below_ten 8 (drop 16 (drop c.loop-window.at c.args.s.now)) c.window_after_16-back.result

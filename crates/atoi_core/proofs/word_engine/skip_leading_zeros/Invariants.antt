@@ -1,4 +1,4 @@
--- The window whose zeros were told before the call is counted with those of the loop.
+-- The loop keeps `Skipping`, which also counts the window that the caller loaded before.
 use Rattle.std.proofs.Common.{length, ◌-◌, ◌+◌, ◌<◌, true}
 use Rattle.atoi_core.specs.Digit.{decimal_table}
 use Rattle.atoi_core.proofs.Windows.{Skipping}

@@ -1,4 +1,4 @@
--- What the word tells is the window of the loaded bytes.
+-- What is counted in the loaded word makes up the window of its bytes.
 use Rattle.std.proofs.Common.{◌+◌, drop}
 use Rattle.std.proofs.lemmas.List.{get_or-drop}
 use Rattle.atoi_core.proofs.LoadedWords.{loaded_window}

@@ -1,4 +1,4 @@
--- The trailing bytes of 0 are the zeros.
+-- The trailing bytes of 0 of the difference are the leading zeros.
 use Rattle.atoi_core.proofs.WordRuns.{lowered_zeros_counted}
 use Rattle.atoi_core.proofs.word_engine.zeroes_of.Goals as goal
 

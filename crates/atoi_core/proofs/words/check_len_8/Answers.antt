@@ -1,4 +1,5 @@
--- The shift of the masked sum is the mask of the shifted sum; the rest is the lemma at eight bytes.
+-- Masking the sum before the shift or after it gives the same. The rest is the lemma
+-- `digits_counted` for eight bytes.
 use Rattle.std.proofs.Common.{◌+◌, ◌/◌, ◌%◌, ◌^◌, ap, ◌∙◌}
 use Rattle.std.proofs.lemmas.Nat.{and_shr}
 use Rattle.std.specs.Int.Bits.{bit_and, bit_or, bit_xor}

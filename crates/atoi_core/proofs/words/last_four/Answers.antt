@@ -1,4 +1,4 @@
--- Four bytes are the last of the slice, or all are 0 where it has fewer.
+-- The four bytes are the last of the slice, or the word is 0 if the slice has fewer.
 use Rattle.std.proofs.Common.{◌-◌, ◌∙◌, ap, drop, length, arith}
 use Rattle.std.proofs.lemmas.List.{length-drop}
 use Rattle.std.specs.Int.{from_le_bytes, w32}

@@ -1,4 +1,4 @@
--- The zeros are counted by the trailing bytes of 0, at eight bytes.
+-- The lemma `zeros_counted` for eight bytes.
 use Rattle.atoi_core.proofs.WordRuns.{zeros_counted}
 use Rattle.atoi_core.proofs.words.len_zeroes.Goals as goal
 

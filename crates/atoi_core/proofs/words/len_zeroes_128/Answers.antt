@@ -1,4 +1,4 @@
--- The zeros are counted by the trailing bytes of 0, at sixteen bytes.
+-- The lemma `zeros_counted` for 16 bytes.
 use Rattle.atoi_core.proofs.WordRuns.{zeros_counted}
 use Rattle.atoi_core.proofs.words.len_zeroes_128.Goals as goal
 

@@ -1,4 +1,4 @@
--- The parts join to the bytes of the slice.
+-- The overlapping parts join to the word of the slice.
 use Rattle.std.proofs.Common.{◌-◌, ◌*◌, ◌%◌, ◌^◌, ◌<◌, ◌∙◌, ap, inl, inr, length, take, get_or, ℕ, arith}
 use Rattle.std.proofs.lemmas.Bool.{cases_lt}
 use Rattle.std.specs.Int.Bits.{bit_or}

@@ -1,4 +1,5 @@
--- The rounds make the sum of the bytes that the shift leaves, whose places bound it.
+-- Four rounds compute the weighted sum of the bytes that the shift leaves, and their number bounds
+-- it.
 use Rattle.std.proofs.Common.{arith}
 use Rattle.atoi_core.proofs.WordFields.{sum_16, sum_most}
 use Rattle.atoi_core.proofs.words.process_16.Goals as goal

@@ -1,4 +1,5 @@
--- The rounds make the sum of the bytes that the shift leaves, whose places bound it.
+-- Three rounds compute the weighted sum of the bytes that the shift leaves, and their number bounds
+-- it.
 use Rattle.std.proofs.Common.{arith}
 use Rattle.atoi_core.proofs.WordFields.{sum_8, sum_most}
 use Rattle.atoi_core.proofs.words.process_8.Goals as goal

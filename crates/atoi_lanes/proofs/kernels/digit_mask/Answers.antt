@@ -4,7 +4,7 @@ use Rattle.atoi_core.specs.Digit.{decimal_table, is_digit}
 use Rattle.atoi_lanes.proofs.LoadedLanes.{mask-of_lanes}
 use Rattle.atoi_lanes.proofs.kernels.digit_mask.Goals as goal
 
--- the mask of the lanes that pass a comparison
+-- What a comparison gives for a lane: all bits set if it holds, and otherwise 0.
 abbrev mask : (ℕ → ℕ → ℕ)
 mask a b = cond (leb a b) 255 0
 

@@ -1,3 +1,4 @@
+-- The two groups of eight digits make up the value, which fits in 64 bits.
 use Rattle.std.proofs.Common.{arith}
 use Rattle.atoi_lanes.proofs.LaneSums.{by_eights}
 use Rattle.atoi_lanes.proofs.kernels.number_in_lanes.Goals as goal

@@ -1,3 +1,4 @@
+-- The first lanes, moved to the end, hold digit values, which spell the value of the run.
 use Rattle.std.proofs.Common.{◌-◌, ap, ◌∙◌}
 use Rattle.atoi_core.specs.Run.{value}
 use Rattle.atoi_lanes.specs.Itself.{itself}

@@ -1,4 +1,4 @@
--- What the last window told decides.
+-- The last window decides the answer.
 use Rattle.std.proofs.Common.{◌≡◌, ◌⊎◌, true, false, ◌∙◌, inl, inr, arith}
 use Rattle.atoi_core.specs.Digit.{decimal_table}
 use Rattle.atoi_lanes.proofs.LaneWindows.{decided_64}

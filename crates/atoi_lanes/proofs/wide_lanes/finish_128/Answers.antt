@@ -1,4 +1,4 @@
--- What both windows told decides.
+-- The last window of 32 bytes and the 8 bytes after it decide the answer.
 use Rattle.std.proofs.Common.{◌∙◌}
 use Rattle.atoi_lanes.proofs.LaneWindows.{decided_full}
 use Rattle.atoi_lanes.proofs.wide_lanes.finish_128.Goals as goal

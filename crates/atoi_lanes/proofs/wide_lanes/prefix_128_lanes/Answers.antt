@@ -1,3 +1,4 @@
+-- If no zeros are to be skipped, the first window is the last one. The number of loads follows.
 use Rattle.std.proofs.Common.{arith}
 use Rattle.atoi_core.specs.Digit.{decimal_table}
 use Rattle.atoi_lanes.proofs.LaneWindows.{first-ends, reads-first, few-zeros}

@@ -1,4 +1,4 @@
--- The loop keeps what `Skipping` says; the loads follow from it.
+-- The loop keeps `Skipping`, and the number of loads follows from where it ends.
 use Rattle.std.proofs.Common.{◌≡◌, ℕ, ◌+◌, ◌<◌, true, List, take, drop, refl, sym, ap, ◌∙◌, subst, arith, inl, inr}
 use Rattle.std.proofs.lemmas.List.{length-take, length-drop}
 use Rattle.std.proofs.lemmas.List.Sums.{prefix_len-le-length}
@@ -8,7 +8,7 @@ use Rattle.atoi_core.specs.Run.{zeros}
 use Rattle.atoi_lanes.proofs.LaneWindows.{Skipping, Skipping-none, Skipping-more, Skipping-loads}
 use Rattle.atoi_lanes.proofs.wide_lanes.skip_leading_zeros.Goals as goal
 
--- a turn drops the zeros that its window tells
+-- A turn drops the leading zeros of its window.
 dropped : ReadingDecides → (s : List ℕ) (place before now next leading at : ℕ) → Skipping true s place before now
     → leading ≡ zeros decimal_table (take 32 (drop place s)) → 0 < leading → at ≡ place + zeros decimal_table (take 32 (drop place s))
     → next ≡ now + 1 → Skipping true s at before next

@@ -1,3 +1,4 @@
+-- The loop keeps `Skipping`, and the last window is a reading of the bytes at its offset.
 use Rattle.std.proofs.Common.{true, ◌-◌, length, drop}
 use Rattle.atoi_core.specs.Digit.{decimal_table}
 use Rattle.atoi_core.specs.Reading.{Reading}

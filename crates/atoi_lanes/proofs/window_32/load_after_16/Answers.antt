@@ -1,3 +1,4 @@
+-- The bytes after the first 16 fill a vector, or are shuffled from the last 16.
 use Rattle.std.proofs.Common.{◌∙◌}
 use Rattle.atoi_lanes.proofs.LaneWindows.{after_all, behind_some}
 use Rattle.atoi_lanes.proofs.window_32.load_after_16.Goals as goal

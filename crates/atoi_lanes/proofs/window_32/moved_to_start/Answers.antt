@@ -1,3 +1,4 @@
+-- The shuffle is valid, and moves the last lanes to the start.
 use Rattle.atoi_lanes.proofs.LoadedLanes.{moved_front, front_ok}
 use Rattle.atoi_lanes.proofs.window_32.moved_to_start.Goals as goal
 

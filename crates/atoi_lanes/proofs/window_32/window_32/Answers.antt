@@ -1,4 +1,4 @@
--- What the lanes tell, in the words of a reading.
+-- What is counted in the lanes is a reading of the first 32 bytes.
 use Rattle.std.proofs.Common.{refl, ◌∙◌, arith}
 use Rattle.atoi_core.specs.Digit.{decimal_table}
 use Rattle.atoi_lanes.proofs.LaneWindows.{reading-of_lanes}

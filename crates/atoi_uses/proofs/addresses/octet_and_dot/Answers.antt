@@ -7,7 +7,7 @@ use Rattle.atoi_simd.specs.Text.{DigitsWrite, PrefixWrites, has_needless_zero}
 use Rattle.atoi_uses.specs.Versions.{dot}
 use Rattle.atoi_uses.proofs.addresses.octet_and_dot.Goals as goal
 
--- a number that was found before a dot is the octet there
+-- If a text begins with an octet and a dot, the number that was found at its start is this octet.
 found_octet : DecimalTexts u8_type → PrefixesAndRests u8_type → (text rest : List ℕ) (n octet count : ℕ) → n < 2 ^ 8 → text ≡ decimal n ++ dot ∷ rest
     → PrefixWrites (DigitsWrite u8_type false) text (pos octet) count → (pos n ≡ pos octet) × ((take count text ≡ decimal n) × (drop count text ≡ dot ∷ rest))
 found_octet decimals fronts text rest n octet count fits same =

@@ -1,3 +1,4 @@
+-- A line is accepted exactly if it is a command, and an error says why it is none.
 use Rattle.std.proofs.Common.{◌≡◌, Ok, ap, sym, subst, rules, w64}
 use Rattle.std.proofs.lemmas.Int.{to_z-of_z}
 use Rattle.atoi_uses.specs.Commands.{IsCommand}

@@ -1,4 +1,4 @@
--- Four digits fit: their value is below ten thousand.
+-- The value of at most four digits is below 10000, so it fits in a `u16`.
 use Rattle.std.proofs.Common.{pos, refl, ap, arith}
 use Rattle.std.proofs.lemmas.Str.Parse.{digits_value_short, numerals_by_value, tells_digits}
 use Rattle.atoi_uses.proofs.dates.number.Goals as goal

@@ -1,4 +1,4 @@
--- The day is no number, and so the text is no date.
+-- If the day is no number, the text is no date.
 use Rattle.atoi_uses.proofs.dates.parse_date.Goals as goal
 
 pub returns-in_err-day-clause-none : goal.returns-in_err-day-clause-none

@@ -1,4 +1,5 @@
--- What the loop keeps: the blanks of the text before `rest` are gone.
+-- The loop invariant: only blanks were dropped before `rest`, so the result for it is that for the
+-- whole text.
 use Rattle.std.proofs.Common.{◌≡◌, length}
 use Rattle.atoi_uses.specs.Headers.{without_blanks}
 use Rattle.atoi_uses.proofs.headers.without_blanks.Given as goal

@@ -1,3 +1,5 @@
+-- A text begins with at most one JSON integer. If the number found has a needless zero, the text
+-- begins with none.
 use Rattle.std.proofs.Common.{◌≡◌, ℕ, Bool, true, false, List, ◌++◌, length, take, drop, ℤ, refl, ap, ◌∙◌, sym, rules, w64}
 use Rattle.std.proofs.Math.Seq.{take-append_seam}
 use Rattle.std.proofs.lemmas.Bool.{both_ways}
@@ -9,7 +11,7 @@ use Rattle.atoi_simd.specs.Text.{SignMark, no_sign, plus, minus, sign_bytes, is_
 use Rattle.atoi_uses.specs.Json.{IsJsonInteger, minus_of, leads_with_zero}
 use Rattle.atoi_uses.proofs.json.json_integer.Goals as goal
 
--- without a plus, a sign is a minus or none
+-- If the sign is no plus, it is a minus or absent.
 same_sign : (sign : SignMark) → (is_plus sign ≡ true → false ≡ true) → sign_bytes sign ≡ minus_of (is_minus sign)
 same_sign no_sign h = refl
 same_sign plus h = absurd (cc (h refl))
@@ -22,7 +24,7 @@ text_of true digits number h =
 text_of false digits number h =
     record { sign = no_sign; digits = digits; parts = refl; signed = λ e. refl; plus_taken = λ e. e; written = h }
 
--- an integer of JSON is a front that writes its number
+-- If a text begins with a JSON integer, this integer is a prefix that writes its number.
 front_of : PrefixesAndRests i64_type → (text : List ℕ) (number : ℤ) (rest : List ℕ) (h : IsJsonInteger text number rest)
     → PrefixWrites (TextWrites i64_type false) text number (length (minus_of h.is_negative ++ h.digits))
 front_of law text number rest h =

@@ -1,4 +1,4 @@
--- What the loop keeps: no space stands from the place on.
+-- The loop invariant: there is no space from `start` on.
 use Rattle.std.proofs.Common.{◌≡◌, ◌+◌, ◌≤◌, ◌==◌, not, length, take}
 use Rattle.std.specs.List.{suffix_len}
 use Rattle.atoi_uses.proofs.log_lines.columns.Given as goal

@@ -1,3 +1,5 @@
+-- The total is the sum of the line's numbers, and an error is that of the first bad field, or says
+-- that the sum is too large.
 use Rattle.std.proofs.Common.{sym, subst, ◌∙◌, arith}
 use Rattle.atoi_column.specs.Items.{flaw_of}
 use Rattle.atoi_uses.specs.LogLines.{Refuses}

@@ -1,3 +1,4 @@
+-- The loop keeps `IsAddedUpTo`.
 use Rattle.atoi_core.specs.IntTypes.{u64_type}
 use Rattle.atoi_column.specs.Items.{items_of}
 use Rattle.atoi_uses.proofs.TotalLemmas.{IsAddedUpTo}

@@ -1,4 +1,4 @@
--- Each `None` comes where a part of the text is no number, or no dot stands after it.
+-- `None` is returned if a part is no number, or no dot follows it.
 use Rattle.std.proofs.Common.{ℕ, List, [], ◌∷◌, ◌==◌, length, sym, ap, ◌∙◌}
 use Rattle.std.proofs.lemmas.Bool.{both_ways}
 use Rattle.atoi_uses.specs.Versions.{dot}

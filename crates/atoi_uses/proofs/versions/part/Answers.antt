@@ -1,3 +1,4 @@
+-- A text begins with at most one part, and with none if no number is found.
 use Rattle.std.proofs.Common.{◌≡◌, pos, refl, sym, ◌∙◌}
 use Rattle.std.proofs.lemmas.List.{take_rest}
 use Rattle.std.proofs.lemmas.List.Prefix.{front_rest}

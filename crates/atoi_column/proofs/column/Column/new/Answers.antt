@@ -1,3 +1,4 @@
+-- There are at most as many items as bytes, and the places of errors are within the input.
 use Rattle.atoi_column.proofs.ItemLemmas.{length-items_left}
 use Rattle.atoi_column.proofs.PlaceLemmas.{items_left-inside}
 use Rattle.atoi_column.proofs.column.Column.new.Goals as goal

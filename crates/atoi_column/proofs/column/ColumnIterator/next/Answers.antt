@@ -1,3 +1,4 @@
+-- In each case, `next` gives the first of the items that are left, and leaves the others.
 use Rattle.std.proofs.Common.{◌≡◌, ◌+◌, ◌<◌, Ok, Err, ◌∷◌, length, drop, length-drop, sym, ap, ◌∙◌, arith}
 use Rattle.std.proofs.lemmas.List.{take_rest}
 use Rattle.std.proofs.lemmas.Bool.Decides.{nat_tests}

@@ -2,7 +2,7 @@ use Rattle.std.proofs.Common.{IsAscii, subst, sym, rules}
 use Rattle.std.proofs.lemmas.Str.{IsUtf8-from_ascii}
 use Rattle.atoi_core.proofs.error.AtoiSimdErrorDisplay.fmt.Goals as goal
 
--- ASCII is valid text
+-- The text is ASCII, so it is valid UTF-8.
 pub unwrap-requires : goal.unwrap-requires
 unwrap-requires g c =
     let ascii = subst IsAscii (sym c.text-length.ensures.text) c.text-length.ensures.ascii in

@@ -1,4 +1,5 @@
--- The result has no bytes, and its fields are those that the view reads as 0.
+-- `Steps` has no bytes at run time, so the result holds nothing but fields that the view reads as
+-- 0.
 use Rattle.std.proofs.Common.{[], ◌∷◌, refl}
 use Rattle.std.proofs.raw_atomic.Walks.{proved}
 use mir.Val.{Val, vstruct, vcons, vnil}

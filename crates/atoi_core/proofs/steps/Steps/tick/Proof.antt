@@ -1,4 +1,5 @@
--- An empty body. The borrow is opened, and closed at fields that the view reads as one more.
+-- The body is empty. The proof opens the borrow and closes it with fields that the view reads as
+-- one more than before.
 use Rattle.std.proofs.Common.{◌≡◌, ℕ, ◌+◌, List, [], ◌∷◌, refl, ap}
 use Rattle.std.proofs.raw_atomic.Walks.{proved}
 use mir.Syntax.{named}
@@ -22,7 +23,7 @@ use Rattle.atoi_core.proofs.steps.Steps.tick.Code as code
 abbrev stayed : Stays tick.ended.signature.params tick.ended.kept
 stayed = (stay_ref (0 ∷ []) tt (plain (λ _. the_row)), tt)
 
--- the fields that are read as n
+-- Fields that the view reads as n.
 abbrev Fields : ℕ → Type 0
 Fields n = (fields : Inside) × ((the_view fields ≡ n) × the_invariant fields)
 

@@ -1,4 +1,4 @@
--- A first window that tells no zeros to skip is the last one of those that skip; the answers follow from it.
+-- If there are no zeros to skip, the first window is the last one, and the answers follow from it.
 use Rattle.std.proofs.Common.{◌≡◌, ◌⊎◌, ◌≤◌, true, false, inl, inr, refl, ◌∙◌, arith, drop}
 use Rattle.std.proofs.lemmas.List.Sums.{prefix_len-le-length}
 use Rattle.atoi_core.specs.Digit.{decimal_table, is_digit}
@@ -8,7 +8,7 @@ use Rattle.atoi_core.proofs.LoopAnswers.{answers_empty, answers_short, answers_6
 use Rattle.atoi_core.proofs.word_engine.WordsEngine.prefix_64.Goals as goal
 use Rattle.atoi_core.proofs.word_engine.WordsEngine.prefix_64.Goals.{After-window-front, After-window_after_16-back}
 
--- no zeros to skip are told
+-- What holds if no zeros are skipped, or the first window reports none.
 last : (c : After-window-front) → (c.args.skip ≡ true × c.window-front.result.zeroes ≤ 0) ⊎ (c.args.skip ≡ false)
     → Skipped decimal_table c.args.skip c.args.s.now 0 c.args.steps.now c.window-front.new.steps c.window-front.result
 last c stops =
@@ -35,7 +35,7 @@ window_after_16-back-requires c =
     let so = last (goal.at.window_after_16-back-requires c).After-window-front c.else-skip.either in
     omega (arith, c.if-front-lt16.false, so.shown.len_is, prefix_len-le-length (is_digit decimal_table) c.args.s.now)
 
--- the eight bytes after it
+-- The window of 8 bytes after the first one.
 behind : (c : After-window_after_16-back) → Shows decimal_table 8 (drop 16 c.args.s.now) c.window_after_16-back.result
 behind c = shows decimal_table decimal_below_ten 8 (drop 16 c.args.s.now) c.window_after_16-back.result c.window_after_16-back.ensures.window
 

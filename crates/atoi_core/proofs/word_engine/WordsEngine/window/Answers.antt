@@ -1,4 +1,4 @@
--- A window of eight bytes that stops inside them is the one of sixteen.
+-- If the run ends within the first eight bytes, these determine the window of 16 bytes.
 use Rattle.std.proofs.Common.{ℕ, ◌<◌, ◌∙◌, get_or}
 use Rattle.atoi_core.proofs.LoadedWords.{loaded_run, loaded_sum, window_short}
 use Rattle.atoi_core.proofs.word_engine.WordsEngine.window.Goals as goal

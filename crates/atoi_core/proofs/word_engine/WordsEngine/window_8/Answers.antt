@@ -1,4 +1,4 @@
--- What the word tells is the window of the loaded bytes.
+-- What is counted in the loaded word makes up the window of its bytes.
 use Rattle.atoi_core.proofs.LoadedWords.{loaded_window}
 use Rattle.atoi_core.proofs.word_engine.WordsEngine.window_8.Goals as goal
 
