@@ -156,7 +156,7 @@ pub fn parse_prefix<T: Parse, const SKIP_ZEROES: bool, const SKIP_PLUS: bool>(
 /// differs from `parse_prefix` only in the sign: none is accepted, and the body is all of `s`.
 ///
 /// `parse_prefix_pos::<u16, false>(b"80/tcp")` returns `Ok((80, 2))`. Mirrors
-/// `atoi_simd::parse_prefix_pos`, which differs on more than 16 digits as `parse_prefix` says.
+/// `atoi_simd::parse_prefix_pos`, except for numbers of more than 16 digits: see `parse_prefix`.
 ///
 /// # Errors
 ///
@@ -186,7 +186,7 @@ pub fn parse_prefix_pos<T: Parse, const SKIP_ZEROES: bool>(
 /// number is read as if a `-` preceded it.
 ///
 /// `parse_prefix_neg::<i32, false>(b"12a")` returns `Ok((-12, 2))`. Mirrors
-/// `atoi_simd::parse_prefix_neg`, which differs on more than 16 digits as `parse_prefix` says.
+/// `atoi_simd::parse_prefix_neg`, except for numbers of more than 16 digits: see `parse_prefix`.
 ///
 /// # Errors
 ///
