@@ -7,9 +7,9 @@
 //! ten functions do, and when to use this module.
 //!
 //! An *engine* is an implementation of the reads that the parsers of `atoi_core` need. The engine
-//! of this crate is `Lanes`, which can be passed to those parsers as their type `E`. The module
-//! `kernels` and the functions `prefix_64_lanes` and `prefix_128_lanes` are the parts that it is
-//! made of. The crate uses `atoi_core`.
+//! of this crate is `Lanes`, which can be passed to those parsers as their type parameter `E`. It
+//! is made of the module `kernels` and the functions `prefix_64_lanes` and `prefix_128_lanes`. The
+//! crate uses `atoi_core`.
 #![tactic(auto)]
 
 mod parse_trait;

@@ -114,8 +114,9 @@ struct Front {
     window: Window32,
 }
 
-// Calls `prefix_64_after_zeros`, which is never inlined. The call is kept in a function of its own,
-// which is inlined, so that the stack slot of its result is zeroed only on the path that makes it.
+// Calls `prefix_64_after_zeros`, which is never inlined. The call and the match of its result are
+// in a function of their own, which is inlined, so that the stack slot of the result is zeroed only
+// on the path that makes the call.
 #[inline(always)]
 fn prefix_64_cold<'a>(
     bound: u64,
@@ -289,8 +290,8 @@ fn after_32(s: &[u8]) -> &[u8]
     s.split_at(32).1
 }
 
-// Returns the answer of 64 bits if the slice begins with fewer than `limit` digits. Their value is
-// within the bound, so only `Empty` is possible as an error.
+// Returns the answer of 64 bits for a slice that begins with fewer than `limit` digits. Their value
+// is within the bound, so only `Empty` is possible as an error.
 #[inline(always)]
 fn answer_short_64<'a>(
     bound: u64,
@@ -336,8 +337,8 @@ fn answer_from_window_64<'a>(
     answer_64(bound, limit, skipped, counting, front.window.number, s)
 }
 
-// Returns the answer of 128 bits if the last window is not full of digits. The value of fewer than
-// 32 digits is within the bound, so only `Empty` is possible as an error.
+// Returns the answer of 128 bits for a last window that is not full of digits. The value of fewer
+// than 32 digits is within the bound, so only `Empty` is possible as an error.
 fn answer_short_128<'a>(
     bound: u128,
     skip: bool,

@@ -112,14 +112,14 @@ pub fn parse_neg<T: ParseNeg, const SKIP_ZEROES: bool>(s: &[u8]) -> Result<T, At
 /// in bytes. A sign may precede the digits.
 ///
 /// The number ends before the first byte that is not a digit, or at the end of `s`. The returned
-/// length `count` includes the sign, also a `+`, and leading zeros, so `s[count..]` is the rest.
+/// length `count` includes the sign (a `+` too) and leading zeros, so `s[count..]` is the rest.
 ///
-/// Signs and leading zeros are accepted as in `parse`, with one difference: a type of at most 32
-/// bits has a limit too if `SKIP_ZEROES` is off. It is 16 digits, including leading zeros.
+/// Signs and leading zeros are accepted as in `parse`, with one difference: without `SKIP_ZEROES`,
+/// types of at most 32 bits have a limit too. It is 16 digits, including leading zeros.
 ///
 /// `parse_prefix::<u64, false, false>(b"123something_else")` returns `Ok((123, 3))`. Mirrors
 /// `atoi_simd::parse_prefix`, which does not count a `+` that it consumed, and which reads only the
-/// first 16 digits if a type of at most 32 bits has more and `SKIP_ZEROES` is off.
+/// first 16 digits for a type of at most 32 bits without `SKIP_ZEROES`.
 ///
 /// # Errors
 ///

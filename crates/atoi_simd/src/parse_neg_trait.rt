@@ -31,7 +31,8 @@ pub trait ParseNeg: Signed {
             ≡ whole_answer decimal_table Self.int_type true skip_zeroes s.now };
 
     /// Parses the digits of a negative number at the start of `s`, without its minus, as the
-    /// function `parse_prefix_neg` does, and returns it with the length of the digits in bytes.
+    /// function `parse_prefix_neg` does, and returns the number with the length of its digits in
+    /// bytes.
     ///
     /// `skip_zeroes` is the flag `SKIP_ZEROES` of that function. The length includes leading zeros.
     ///
