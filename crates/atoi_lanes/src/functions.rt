@@ -1,5 +1,6 @@
-//! The ten functions. Each hands its const flags to the trait of its type. It uses the three
-//! traits, and the laws of `atoi_core` on accepted texts and results.
+//! The ten public functions. Each passes its const flags as arguments to a method of the traits
+//! that its type `T` implements. The file uses these three traits, and the laws of `atoi_core` on
+//! accepted texts and on results.
 ghost use Rattle.std.specs.Prelude.{◌≡◌, ◌≤◌, ◌↔◌, ℕ, ℤ, true, false, IsTrue, IsOk, IfOk, OnErr, length};
 ghost use Rattle.atoi_core.specs.Answer.{typed_answer, typed_prefix_answer, whole_answer, prefix_answer, parse_answer, parse_prefix_answer};
 ghost use Rattle.atoi_core.specs.Digit.{decimal_table};
@@ -10,32 +11,37 @@ use crate::parse_neg_trait::ParseNeg;
 use atoi_core::AtoiSimdError;
 use atoi_core::laws::{accepted_texts, prefix_results, whole_results};
 
-/// Parses the whole of `s`: at most one sign, then digits to the end.
+/// Parses all of `s` as an integer of type `T`. A sign may precede the digits.
 ///
-/// A first `+` is taken where `SKIP_PLUS` is on, and a first `-` where `T` is signed. The body is
-/// what stands behind the sign, or `s`. With `SKIP_ZEROES` any number of leading zeros is accepted;
-/// without it they count as digits of a type of 64 or 128 bits. With both flags on it succeeds
-/// exactly on an optional `+`, or `-` where `T` is signed, then one or more digits, then nothing,
-/// with the signed value in the range of `T`.
+/// `s` may start with a `-` if `T` is signed, or with a `+` if `SKIP_PLUS` is on. What follows the
+/// sign, or all of `s` if there is none, is the *body*. It must be one or more decimal digits and
+/// nothing else. With `SKIP_ZEROES`, any number of leading zeros is accepted. Without it, leading
+/// zeros count towards the digit limit of 64- and 128-bit types, which is 20 digits for `u64` and
+/// `usize`, 19 for `i64` and `isize`, and 39 for `u128` and `i128`. Narrower types have no limit.
 ///
-/// `parse::<i64, false, false>(b"-2345")` is `Ok(-2345)`. Mirrors `atoi_simd::parse`.
+/// With both flags on, `parse` accepts exactly what `str::parse::<T>` accepts: an optional sign
+/// (`-` for signed types only), one or more digits, nothing else, and a value in the range of `T`.
+///
+/// `parse::<i64, false, false>(b"-2345")` returns `Ok(-2345)`. Mirrors `atoi_simd::parse`.
 ///
 /// # Errors
 ///
-/// The first that holds of:
-/// - `Empty` where the body does not begin with a digit;
-/// - `Size(length, rest)` for a type of 64 or 128 bits, where more digits count than its greatest
-///   number has, which are 20 of an unsigned type of 64 bits, 19 of a signed one and 39 of 128
-///   bits: the leading zeros count unless `SKIP_ZEROES`. `rest` begins with the first digit that
-///   counts, and `length` is the number of zeros before it and of digits that count, of these at
-///   most 24, or 40 of 128 bits;
-/// - `Overflow(rest)` where the number is above the greatest of `T`, or below the least. `rest` is
-///   the body, and of a type of 64 or 128 bits it begins with the first digit that counts;
-/// - `Invalid64(number, index, body)`, or `Invalid128` for a type of 128 bits, where another byte
-///   stands behind the digits: the magnitude that they write, and the place of the byte in the
-///   body.
+/// Returns the first of these errors that applies. The *significant* digits of the body are those
+/// after its skipped leading zeros. Without `SKIP_ZEROES` no zeros are skipped, so all digits are
+/// significant.
 ///
-/// Each slice in an error is a suffix of `s` and is not copied; the sign is not in it.
+/// - `Empty` if the body does not start with a digit.
+/// - `Size(count, slice)` if `T` has 64 or 128 bits and the body starts with more significant
+///   digits than the limit. `slice` is the body from its first significant digit on. `count` is the
+///   number of skipped zeros plus the number of significant digits, of which at most 24 are counted
+///   for 64-bit types and at most 40 for 128-bit types.
+/// - `Overflow(slice)` if the value does not fit in `T`. `slice` is the body; for 64- and 128-bit
+///   types it is the body without the skipped zeros.
+/// - `Invalid64(value, index, slice)`, or `Invalid128` for 128-bit types, if another byte follows
+///   the digits. `value` is what the digits before that byte spell, without the sign. `index` is
+///   the position of that byte in the body, and `slice` is the body.
+///
+/// Each slice is a suffix of `s`: it is borrowed, not copied, and never contains the sign.
 #[inline(always)]
 pub fn parse<T: Parse, const SKIP_ZEROES: bool, const SKIP_PLUS: bool>(
     s: &[u8],
@@ -48,30 +54,22 @@ pub fn parse<T: Parse, const SKIP_ZEROES: bool, const SKIP_PLUS: bool>(
     ensures refused { IsTrue SKIP_ZEROES → OnErr result ((number : ℤ)
         → ¬ TextWrites T.int_type SKIP_PLUS s.now number) }
 {
-    // The laws that the clauses rest on. The calls do nothing.
+    // The clauses `texts`, `number` and `refused` follow from these two laws. The calls do nothing.
     accepted_texts::<T>();
     whole_results::<T, SKIP_ZEROES>();
     T::atoi_simd_parse(s, SKIP_ZEROES, SKIP_PLUS)
 }
 
-/// Parses the whole of `s`, digits without a sign, as a number that is not negative.
+/// Parses all of `s` as an integer of type `T`, without a sign.
 ///
-/// With `SKIP_ZEROES` any number of leading zeros is accepted; without it they count as digits of a
-/// type of 64 or 128 bits.
+/// Returns what the digits of `s` spell, which is never negative. `parse_pos` differs from `parse`
+/// only in the sign: none is accepted, and the body is all of `s`.
 ///
-/// `parse_pos::<u128, true>(b"0012")` is `Ok(12)`. Mirrors `atoi_simd::parse_pos`.
+/// `parse_pos::<u128, true>(b"0012")` returns `Ok(12)`. Mirrors `atoi_simd::parse_pos`.
 ///
 /// # Errors
 ///
-/// The first that holds of:
-/// - `Empty` where `s` does not begin with a digit;
-/// - `Size` for a type of 64 or 128 bits, where more digits count than its greatest number has: the
-///   leading zeros count unless `SKIP_ZEROES`;
-/// - `Overflow` where the digits write a number above the greatest of `T`;
-/// - `Invalid64`, or `Invalid128` for a type of 128 bits, where another byte stands behind the
-///   digits.
-///
-/// What an error carries is told at `parse`; the body is `s`.
+/// Returns the errors of `parse`.
 #[inline(always)]
 pub fn parse_pos<T: Parse, const SKIP_ZEROES: bool>(s: &[u8]) -> Result<T, AtoiSimdError<'_>>
     ensures answer { typed_answer T.number result
@@ -80,31 +78,23 @@ pub fn parse_pos<T: Parse, const SKIP_ZEROES: bool>(s: &[u8]) -> Result<T, AtoiS
     ensures refused { IsTrue SKIP_ZEROES → OnErr result ((number : ℤ)
         → ¬ DigitsWrite T.int_type false s.now number) }
 {
-    // The law that `number` and `refused` rest on. The call does nothing.
+    // The clauses `number` and `refused` follow from this law. The call does nothing.
     whole_results::<T, SKIP_ZEROES>();
     T::atoi_simd_parse_pos(s, SKIP_ZEROES)
 }
 
-/// Parses the whole of `s`, the digits behind a minus that is not in `s`, as a number that is not
-/// positive.
+/// Parses all of `s`, the digits of a negative number without its minus, as an integer of type `T`.
 ///
-/// With `SKIP_ZEROES` any number of leading zeros is accepted; without it they count as digits of a
-/// type of 64 or 128 bits.
+/// Returns the negated value of the digits of `s`, which is never positive. `parse_neg` differs
+/// from `parse` only in the sign: none is accepted, the body is all of `s`, and the number is read
+/// as if a `-` preceded it.
 ///
-/// `parse_neg::<i8, false>(b"128")` is `Ok(-128)`. Mirrors `atoi_simd::parse_neg`.
+/// `parse_neg::<i8, false>(b"128")` returns `Ok(-128)`. Mirrors `atoi_simd::parse_neg`.
 ///
 /// # Errors
 ///
-/// The first that holds of:
-/// - `Empty` where `s` does not begin with a digit;
-/// - `Size` for a type of 64 or 128 bits, where more digits count than its greatest number has: the
-///   leading zeros count unless `SKIP_ZEROES`;
-/// - `Overflow` where the digits write a magnitude above that of the least number of `T`;
-/// - `Invalid64`, or `Invalid128` for a type of 128 bits, where another byte stands behind the
-///   digits.
-///
-/// What an error carries is told at `parse`; the body is `s`, and the number of an error is a
-/// magnitude.
+/// Returns the errors of `parse`. `Overflow` means that the negated value is less than `T::MIN`.
+/// `Invalid64` and `Invalid128` hold the value of the digits before it is negated.
 #[inline(always)]
 pub fn parse_neg<T: ParseNeg, const SKIP_ZEROES: bool>(s: &[u8]) -> Result<T, AtoiSimdError<'_>>
     ensures answer { typed_answer T.number result
@@ -113,33 +103,35 @@ pub fn parse_neg<T: ParseNeg, const SKIP_ZEROES: bool>(s: &[u8]) -> Result<T, At
     ensures refused { IsTrue SKIP_ZEROES → OnErr result ((number : ℤ)
         → ¬ DigitsWrite T.int_type true s.now number) }
 {
-    // The law that `number` and `refused` rest on. The call does nothing.
+    // The clauses `number` and `refused` follow from this law. The call does nothing.
     whole_results::<T, SKIP_ZEROES>();
     T::atoi_simd_parse_neg(s, SKIP_ZEROES)
 }
 
-/// Parses the number at the front of `s`, with at most one sign before it, and tells how many bytes
-/// of `s` it takes.
+/// Parses the number at the start of `s` as an integer of type `T`, and returns it with its length
+/// in bytes. A sign may precede the digits.
 ///
-/// A sign is taken as by `parse`, and the count is of its byte, of the zeros and of the other
-/// digits: `s[count..]` is the rest. With `SKIP_ZEROES` any number of leading zeros is read;
-/// without it they count as digits.
+/// The number ends before the first byte that is not a digit, or at the end of `s`. The returned
+/// length `count` includes the sign (a `+` too) and leading zeros, so `s[count..]` is the rest.
 ///
-/// `parse_prefix::<u64, false, false>(b"123something_else")` is `Ok((123, 3))`. Mirrors
-/// `atoi_simd::parse_prefix`, which leaves a taken `+` out of the count.
+/// Signs and leading zeros are accepted as in `parse`, with one difference: without `SKIP_ZEROES`,
+/// types of at most 32 bits have a limit too. It is 16 digits, including leading zeros.
+///
+/// `parse_prefix::<u64, false, false>(b"123something_else")` returns `Ok((123, 3))`. Mirrors
+/// `atoi_simd::parse_prefix`, which does not count a `+` that it consumed, and which reads only the
+/// first 16 digits for a type of at most 32 bits without `SKIP_ZEROES`.
 ///
 /// # Errors
 ///
-/// The first that holds of:
-/// - `Empty` where the body does not begin with a digit;
-/// - `Size` for a type of 64 or 128 bits, where more digits count than its greatest number has: the
-///   leading zeros count unless `SKIP_ZEROES`. For a type of at most 32 bits, without `SKIP_ZEROES`
-///   alone, where there are more than 16 digits: it tells 17, and holds the body;
-/// - `Overflow` where the number is above the greatest of `T`, or below the least. With
-///   `SKIP_ZEROES` the slice of a type of at most 32 bits leaves out the leading zeros in whole
-///   blocks of 16 bytes, and the others too where the block in which they end is full of digits.
+/// Returns the errors of `parse`, with these differences:
 ///
-/// Everything else that an error carries is told at `parse`.
+/// - It never returns `Invalid64` or `Invalid128`, since another byte ends the number.
+/// - It returns `Size(17, slice)` if `T` has at most 32 bits, `SKIP_ZEROES` is off, and the body
+///   starts with more than 16 digits. `slice` is the body.
+/// - The slice of `Overflow` is cut differently if `T` has at most 32 bits and `SKIP_ZEROES` is on.
+///   Let the body be divided into blocks of 16 bytes. The slice starts at the first digit that is
+///   not zero if the block of that digit consists of 16 digits, otherwise at the start of that
+///   block.
 #[inline(always)]
 pub fn parse_prefix<T: Parse, const SKIP_ZEROES: bool, const SKIP_PLUS: bool>(
     s: &[u8],
@@ -152,29 +144,23 @@ pub fn parse_prefix<T: Parse, const SKIP_ZEROES: bool, const SKIP_PLUS: bool>(
     ensures refused { IsTrue SKIP_ZEROES → OnErr result ((number : ℤ) (count : ℕ)
         → ¬ PrefixWrites (TextWrites T.int_type SKIP_PLUS) s.now number count) }
 {
-    // The law that `front` and `refused` rest on. The call does nothing.
+    // The clauses `front` and `refused` follow from this law. The call does nothing.
     prefix_results::<T, SKIP_ZEROES>();
     T::atoi_simd_parse_prefix(s, SKIP_ZEROES, SKIP_PLUS)
 }
 
-/// Parses the digits at the front of `s`, without a sign, and tells how many bytes of `s` they are.
+/// Parses the number at the start of `s`, without a sign, as an integer of type `T`, and returns it
+/// with its length in bytes.
 ///
-/// The count is of the zeros and of the other digits: `s[count..]` is the rest. With `SKIP_ZEROES`
-/// any number of leading zeros is read; without it they count as digits.
+/// The returned number is never negative, and its length includes leading zeros. `parse_prefix_pos`
+/// differs from `parse_prefix` only in the sign: none is accepted, and the body is all of `s`.
 ///
-/// `parse_prefix_pos::<u16, false>(b"80/tcp")` is `Ok((80, 2))`. Mirrors
-/// `atoi_simd::parse_prefix_pos`.
+/// `parse_prefix_pos::<u16, false>(b"80/tcp")` returns `Ok((80, 2))`. Mirrors
+/// `atoi_simd::parse_prefix_pos`, except for numbers of more than 16 digits: see `parse_prefix`.
 ///
 /// # Errors
 ///
-/// The first that holds of:
-/// - `Empty` where `s` does not begin with a digit;
-/// - `Size` for a type of 64 or 128 bits, where more digits count than its greatest number has: the
-///   leading zeros count unless `SKIP_ZEROES`; and for a type of at most 32 bits, without
-///   `SKIP_ZEROES`, where there are more than 16 digits;
-/// - `Overflow` where the digits write a number above the greatest of `T`.
-///
-/// What an error carries is told at `parse_prefix`; the body is `s`.
+/// Returns the errors of `parse`, with the differences listed at `parse_prefix`.
 #[inline(always)]
 pub fn parse_prefix_pos<T: Parse, const SKIP_ZEROES: bool>(
     s: &[u8],
@@ -187,30 +173,25 @@ pub fn parse_prefix_pos<T: Parse, const SKIP_ZEROES: bool>(
     ensures refused { IsTrue SKIP_ZEROES → OnErr result ((number : ℤ) (count : ℕ)
         → ¬ PrefixWrites (DigitsWrite T.int_type false) s.now number count) }
 {
-    // The law that `front` and `refused` rest on. The call does nothing.
+    // The clauses `front` and `refused` follow from this law. The call does nothing.
     prefix_results::<T, SKIP_ZEROES>();
     T::atoi_simd_parse_prefix_pos(s, SKIP_ZEROES)
 }
 
-/// Parses the digits at the front of `s`, behind a minus that is not in `s`, as a number that is
-/// not positive, and tells how many bytes of `s` they are.
+/// Parses the digits of a negative number at the start of `s`, without its minus, as an integer of
+/// type `T`, and returns it with the length of the digits in bytes.
 ///
-/// The count is of the zeros and of the other digits: `s[count..]` is the rest. With `SKIP_ZEROES`
-/// any number of leading zeros is read; without it they count as digits.
+/// The returned number is never positive, and the length includes leading zeros. `parse_prefix_neg`
+/// differs from `parse_prefix` only in the sign: none is accepted, the body is all of `s`, and the
+/// number is read as if a `-` preceded it.
 ///
-/// `parse_prefix_neg::<i32, false>(b"12a")` is `Ok((-12, 2))`. Mirrors
-/// `atoi_simd::parse_prefix_neg`.
+/// `parse_prefix_neg::<i32, false>(b"12a")` returns `Ok((-12, 2))`. Mirrors
+/// `atoi_simd::parse_prefix_neg`, except for numbers of more than 16 digits: see `parse_prefix`.
 ///
 /// # Errors
 ///
-/// The first that holds of:
-/// - `Empty` where `s` does not begin with a digit;
-/// - `Size` for a type of 64 or 128 bits, where more digits count than its greatest number has: the
-///   leading zeros count unless `SKIP_ZEROES`; and for a type of at most 32 bits, without
-///   `SKIP_ZEROES`, where there are more than 16 digits;
-/// - `Overflow` where the digits write a magnitude above that of the least number of `T`.
-///
-/// What an error carries is told at `parse_prefix`; the body is `s`.
+/// Returns the errors of `parse`, with the differences listed at `parse_prefix`. `Overflow` means
+/// that the negated value is less than `T::MIN`.
 #[inline(always)]
 pub fn parse_prefix_neg<T: ParseNeg, const SKIP_ZEROES: bool>(
     s: &[u8],
@@ -223,14 +204,19 @@ pub fn parse_prefix_neg<T: ParseNeg, const SKIP_ZEROES: bool>(
     ensures refused { IsTrue SKIP_ZEROES → OnErr result ((number : ℤ) (count : ℕ)
         → ¬ PrefixWrites (DigitsWrite T.int_type true) s.now number count) }
 {
-    // The law that `front` and `refused` rest on. The call does nothing.
+    // The clauses `front` and `refused` follow from this law. The call does nothing.
     prefix_results::<T, SKIP_ZEROES>();
     T::atoi_simd_parse_prefix_neg(s, SKIP_ZEROES)
 }
 
-/// An old name of `parse::<T, true, true>`, with its answers and errors.
+/// Returns what `parse::<T, true, true>` returns. This is an old name of that call, which the Rust
+/// crate has deprecated.
 ///
-/// `parse_skipped::<isize>(b"+007")` is `Ok(7)`. Mirrors `atoi_simd::parse_skipped`.
+/// `parse_skipped::<isize>(b"+007")` returns `Ok(7)`. Mirrors `atoi_simd::parse_skipped`.
+///
+/// # Errors
+///
+/// Returns the errors of `parse`.
 #[inline(always)]
 pub fn parse_skipped<T: Parse>(s: &[u8]) -> Result<T, AtoiSimdError<'_>>
     ensures answer { typed_answer T.number result ≡ parse_answer T.int_type true true s.now }
@@ -241,9 +227,14 @@ pub fn parse_skipped<T: Parse>(s: &[u8]) -> Result<T, AtoiSimdError<'_>>
     parse::<T, true, true>(s)
 }
 
-/// An old name of `parse_prefix::<T, false, false>`, with its answers and errors.
+/// Returns what `parse_prefix::<T, false, false>` returns. This is an old name of that call, which
+/// the Rust crate has deprecated.
 ///
-/// `parse_any::<usize>(b"7 ")` is `Ok((7, 1))`. Mirrors `atoi_simd::parse_any`.
+/// `parse_any::<usize>(b"7 ")` returns `Ok((7, 1))`. Mirrors `atoi_simd::parse_any`.
+///
+/// # Errors
+///
+/// Returns the errors of `parse`, with the differences listed at `parse_prefix`.
 #[inline(always)]
 pub fn parse_any<T: Parse>(s: &[u8]) -> Result<(T, usize), AtoiSimdError<'_>>
     ensures answer { typed_prefix_answer T.number result
@@ -255,9 +246,14 @@ pub fn parse_any<T: Parse>(s: &[u8]) -> Result<(T, usize), AtoiSimdError<'_>>
     parse_prefix::<T, false, false>(s)
 }
 
-/// An old name of `parse_prefix_pos::<T, false>`, with its answers and errors.
+/// Returns what `parse_prefix_pos::<T, false>` returns. This is an old name of that call, which the
+/// Rust crate has deprecated.
 ///
-/// `parse_any_pos::<u8>(b"255.")` is `Ok((255, 3))`. Mirrors `atoi_simd::parse_any_pos`.
+/// `parse_any_pos::<u8>(b"255.")` returns `Ok((255, 3))`. Mirrors `atoi_simd::parse_any_pos`.
+///
+/// # Errors
+///
+/// Returns the errors of `parse`, with the differences listed at `parse_prefix`.
 #[inline(always)]
 pub fn parse_any_pos<T: Parse>(s: &[u8]) -> Result<(T, usize), AtoiSimdError<'_>>
     ensures answer { typed_prefix_answer T.number result
@@ -269,9 +265,14 @@ pub fn parse_any_pos<T: Parse>(s: &[u8]) -> Result<(T, usize), AtoiSimdError<'_>
     parse_prefix_pos::<T, false>(s)
 }
 
-/// An old name of `parse_prefix_neg::<T, false>`, with its answers and errors.
+/// Returns what `parse_prefix_neg::<T, false>` returns. This is an old name of that call, which the
+/// Rust crate has deprecated.
 ///
-/// `parse_any_neg::<i16>(b"1-")` is `Ok((-1, 1))`. Mirrors `atoi_simd::parse_any_neg`.
+/// `parse_any_neg::<i16>(b"1-")` returns `Ok((-1, 1))`. Mirrors `atoi_simd::parse_any_neg`.
+///
+/// # Errors
+///
+/// Returns the errors of `parse`, with the differences listed at `parse_prefix`.
 #[inline(always)]
 pub fn parse_any_neg<T: ParseNeg>(s: &[u8]) -> Result<(T, usize), AtoiSimdError<'_>>
     ensures answer { typed_prefix_answer T.number result

@@ -1,6 +1,7 @@
-//! Sixteen bytes in the lanes of one vector: a load, how many digits or zeros they begin with, and
-//! the number that they write; and both of a slice of fewer than eight bytes, in half of a vector.
-//! It uses `std::simd`, and `words` for the load of a short slice.
+//! Functions that load up to sixteen bytes into the lanes of one vector, count the digits or zeros
+//! that the lanes begin with, and compute the number that the digits spell. One of them counts and
+//! computes for a slice of fewer than eight bytes, in half of a vector. The file uses `std::simd`,
+//! and `atoi_core::words` to load short slices.
 ghost use Rattle.std.specs.Prelude.{◌≡◌, ◌-◌, ◌/◌, ◌≤◌, ◌<◌, ◌++◌, length, map, take, drop, replicate};
 ghost use Rattle.std.specs.Simd.Lanes.{Each1, mask_l, digits_l};
 ghost use Rattle.atoi_core.specs.Digit.{decimal_table, is_digit};
@@ -13,22 +14,22 @@ ghost use Rattle.atoi_lanes.specs.Paired.{paired};
 use atoi_core::words::{load_8, load_high};
 use std::simd::prelude::*;
 
-// How many bytes a vector holds.
+// The number of bytes in a vector.
 const LANES: usize = 16;
 
-// From entry `len` on: for each place of a vector the lane that goes there, so that the first `len`
-// lanes stand at its end. By 128 a shuffle makes a lane of 0.
+// The 16 entries from `SHIFTS[len]` on are the indices of a shuffle that moves the first `len`
+// lanes of a vector to its end. The index 128 selects no lane, and the shuffle puts 0 there.
 const SHIFTS: [u8; 32] = [
     128, 128, 128, 128, 128, 128, 128, 128, 128, 128, 128, 128, 128, 128, 128, 128, 0, 1, 2, 3, 4,
     5, 6, 7, 8, 9, 10, 11, 12, 13, 14, 15,
 ];
 
-// What the bytes of two neighbouring pairs count in the four digits that they make. The value of a
-// pair is in the upper byte of its lane, and the lower byte counts nothing.
+// The weights of the bytes of two neighbouring pairs of digits, in the sum that joins them to four
+// digits. The value of a pair is in the upper byte of its 16 bits, so the lower byte has weight 0.
 const HUNDREDS: [u8; 16] = [0, 100, 0, 1, 0, 100, 0, 1, 0, 100, 0, 1, 0, 100, 0, 1];
 
-/// The first 16 bytes, or all where there are fewer: the first in the first lane. A lane whose byte
-/// is missing is 0.
+/// Returns the first 16 bytes of `s`, or all if there are fewer, as lanes: the first byte is in the
+/// first lane. A lane whose byte is missing is 0.
 #[inline(always)]
 pub fn load_lanes(s: &[u8]) -> u8x16
     ensures { result ≡ padded_start 16 s.now }
@@ -39,8 +40,10 @@ pub fn load_lanes(s: &[u8]) -> u8x16
     }
 }
 
-// The bytes behind the first 8, of fewer than 16: they are those of the last 8 that are left. These
-// are shifted twice: by 64 bits at once, where none is left, a word cannot be.
+// Returns the bytes after the first 8 of a slice of fewer than 16, as a word, or 0 if there are
+// none. They are read with the last 8 bytes of the slice, and a shift drops those that belong to
+// the first 8. If the slice has exactly 8 bytes, all 64 bits have to be dropped. One shift of a
+// word cannot do that, so there are two.
 fn load_after_8(s: &[u8]) -> u64
     requires { length s.now < LANES }
     ensures { result ≡ word_of (drop 8 s.now) }
@@ -51,7 +54,7 @@ fn load_after_8(s: &[u8]) -> u64
     }
 }
 
-/// How many first lanes in a row are digits, the bytes 48 to 57: 0 to 16.
+/// Returns how many digits, the bytes 48 to 57, the lanes begin with: 0 to 16.
 pub fn len_lanes(v: u8x16) -> u32
     ensures len { result ≡ run_len decimal_table v }
     ensures most { result ≤ 16 }
@@ -59,7 +62,7 @@ pub fn len_lanes(v: u8x16) -> u32
     digit_mask(v).trailing_ones()
 }
 
-// A bit for each lane, the lowest for the first: whether it is a digit.
+// Returns a mask with one bit for each lane, the lowest for the first, which is 1 for a digit.
 fn digit_mask(v: u8x16) -> u64
     ensures { result ≡ mask_l (map (is_digit decimal_table) v) }
 {
@@ -67,7 +70,7 @@ fn digit_mask(v: u8x16) -> u64
     digits.to_bitmask()
 }
 
-/// How many first lanes in a row are zeros, the byte 48: 0 to 16.
+/// Returns how many zeros, the byte 48, the lanes begin with: 0 to 16.
 pub fn zeroes_lanes(v: u8x16) -> u32
     ensures zeroes { result ≡ zeros decimal_table v }
     ensures most { result ≤ 16 }
@@ -75,8 +78,8 @@ pub fn zeroes_lanes(v: u8x16) -> u32
     v.simd_eq(u8x16::splat(b'0')).to_bitmask().trailing_ones()
 }
 
-/// The number that the first `len` lanes write in decimal, whatever stands in the lanes behind
-/// them. For a `len` of at most 16 where these lanes are digits.
+/// Returns the number that the first `len` lanes spell in decimal. `len` must be at most 16, and
+/// these lanes must be digits. The lanes after them may hold any bytes.
 #[inline(always)]
 pub fn sum_lanes(v: u8x16, len: u32) -> u64
     requires within { len ≤ 16 }
@@ -84,11 +87,11 @@ pub fn sum_lanes(v: u8x16, len: u32) -> u64
     ensures { result ≡ value decimal_table (take len v) }
 {
     let digit_values = v - u8x16::splat(b'0');
-    // One chain for every length: where lengths vary, a branch on them is mispredicted.
+    // The same instructions serve every length: if lengths vary, a branch on them is mispredicted.
     number_in_lanes(moved_to_end(digit_values, len))
 }
 
-// The first `len` lanes at the end, behind lanes of 0.
+// Returns a vector with the first `len` lanes of `v` at its end, after lanes of 0.
 fn moved_to_end(v: u8x16, len: u32) -> u8x16
     requires { len ≤ 16 }
     ensures { result ≡ replicate (16 - len) 0 ++ take len v }
@@ -96,7 +99,8 @@ fn moved_to_end(v: u8x16, len: u32) -> u8x16
     v.swizzle_dyn_within::<16>(u8x16::from_slice(&SHIFTS[len as usize..]))
 }
 
-/// How many digits a slice of fewer than 8 bytes begins with, and the number that they write.
+/// Returns how many digits a slice of fewer than 8 bytes begins with, and the number that they
+/// spell.
 #[inline(always)]
 pub fn read_short(s: &[u8]) -> (u32, u64)
     requires few { length s.now < 8 }
@@ -109,9 +113,9 @@ pub fn read_short(s: &[u8]) -> (u32, u64)
     let word = load_high(s);
     let lanes = half(word);
     let mask = digit_mask(lanes);
-    // Of a digit the lower half is its value. A lane whose byte is missing stays 0.
+    // The lower four bits of a digit are its value. A lane whose byte is missing stays 0.
     if mask.count_ones() as usize == s.len() {
-        // All bytes are digits. The processor need not wait for their count.
+        // All bytes are digits, so the number can be computed without waiting for their count.
         return (s.len() as u32, number_in_half(lanes & u8x16::splat(0x0F)));
     }
     let len = (mask >> (8 - s.len())).trailing_ones();
@@ -120,14 +124,14 @@ pub fn read_short(s: &[u8]) -> (u32, u64)
     (len, number_in_half(digits & u8x16::splat(0x0F)))
 }
 
-// The bytes of a word in the first eight lanes, the lowest first. All other lanes are 0.
+// Returns the bytes of a word in the first eight lanes, the lowest first. All other lanes are 0.
 fn half(word: u64) -> u8x16
     ensures { result ≡ digits_l 256 16 word }
 {
     u64x2::from_array([word, 0]).to_le_bytes()
 }
 
-// The number that the first eight of sixteen digits write.
+// Returns the number that the first eight of sixteen digit values spell.
 fn number_in_half(digits: u8x16) -> u64
     requires { Each1 (λ digit. digit < 10) digits }
     ensures { result ≡ value itself (take 8 digits) }
@@ -136,7 +140,7 @@ fn number_in_half(digits: u8x16) -> u64
     number
 }
 
-// The number that sixteen digits write.
+// Returns the number that sixteen digit values spell.
 fn number_in_lanes(digits: u8x16) -> u64
     requires { Each1 (λ digit. digit < 10) digits }
     ensures { result ≡ value itself digits }
@@ -145,13 +149,14 @@ fn number_in_lanes(digits: u8x16) -> u64
     high * 100_000_000 + low
 }
 
-// Each eight of sixteen digits as one lane: pairs become fours, and fours become eights.
+// Joins sixteen digit values into two numbers of eight digits, one in each lane of 64 bits: first
+// into pairs, the pairs into fours, and the fours into eights.
 fn eights(digits: u8x16) -> u64x2
     requires { Each1 (λ digit. digit < 10) digits }
     ensures { result ≡ paired 10000 (paired 100 (paired 10 digits)) }
 {
-    // The first digit is the lower byte. The product adds ten times it to the second, and so the
-    // upper byte is the pair.
+    // The first digit of a pair is the lower byte of its 16 bits. The product adds ten times this
+    // digit to the second one, so the upper byte becomes the value of the pair.
     let pairs = u16x8::from_le_bytes(digits) * u16x8::splat(0xA01);
     let fours = pairs.to_le_bytes().dot4(u8x16::from_array(HUNDREDS));
     let fields = u64x2::from_le_bytes(fours.to_le_bytes());

@@ -1,5 +1,6 @@
-//! The engine that reads a window into sixteen vector lanes at once. It uses the four kernels,
-//! `wide_lanes` for wide types, and `atoi_core`'s trait, window and steps.
+//! The engine `Lanes`, which reads sixteen bytes at once into vector lanes. An *engine* is an
+//! implementation of the reads that a parse makes. The file uses the functions of `kernels`,
+//! `wide_lanes` for 64- and 128-bit types, and `Engine`, `Window` and `Steps` of `atoi_core`.
 ghost use Rattle.std.specs.Prelude.{◌≡◌, ◌+◌};
 ghost use Rattle.std.proofs.Common.{arith};
 ghost use Rattle.std.proofs.lemmas.Bool.Decides.{nat_tests};
@@ -12,15 +13,18 @@ use crate::wide_lanes::{prefix_64_lanes, prefix_128_lanes};
 use atoi_core::{AtoiSimdError, Engine, Steps, Window};
 use std::simd::prelude::*;
 
-/// The engine that reads sixteen bytes at once, in vector lanes. Its digits are the decimal ones.
+/// An engine, which is an implementation of the reads that a parse makes. It reads sixteen bytes at
+/// once, in vector lanes, and its digits are the decimal ones.
 pub struct Lanes;
 
-// What the lanes tell of a window of that many bytes.
+// Returns the window of the `size` bytes that were loaded into the lanes. A *window* describes the
+// longest prefix of digits of these bytes: its length, its value and, if all of the bytes are
+// digits, its leading zeros.
 fn lane_window(lanes: u8x16, size: u32) -> Window
     ensures { result ≡ lane_window size lanes }
 {
     let len = len_lanes(lanes);
-    // `sum_lanes` first: where it finds the run short, LLVM drops the comparison with `size`.
+    // Zeros are counted only if all bytes of the window are digits, as `Window` documents.
     let number = sum_lanes(lanes, len);
     let zeroes = if len == size { zeroes_lanes(lanes) } else { 0 };
     Window {
@@ -33,8 +37,9 @@ fn lane_window(lanes: u8x16, size: u32) -> Window
 impl Engine for Lanes {
     ghost table = { decimal_table };
 
-    /// The first 16 bytes, or all where there are fewer: how many digits they begin with, the
-    /// number that these write, and the zeros among them where all 16 are digits. Adds one step.
+    /// Returns the window of the first 16 bytes, or of all if there are fewer: how many digits they
+    /// begin with, the number that these spell, and their leading zeros if all 16 are digits. Adds
+    /// one step.
     #[inline(always)]
     fn window(s: &[u8], steps: &mut Steps) -> Window {
         steps.tick();
@@ -49,7 +54,8 @@ impl Engine for Lanes {
         lane_window(load_lanes(s), 16)
     }
 
-    /// The same of the first 8 bytes. Adds one step.
+    /// Returns the window of the first 8 bytes, or of all if there are fewer: its leading zeros are
+    /// counted if all 8 are digits. Adds one step.
     #[inline(always)]
     fn window_8(s: &[u8], steps: &mut Steps) -> Window {
         steps.tick();

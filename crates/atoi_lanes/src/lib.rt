@@ -1,6 +1,15 @@
 //! The engine of `atoi_core` on vector lanes, which compares sixteen bytes at once, and multiplies
 //! and adds four or eight, and the ten functions of `atoi_simd` on it, under the same names, with
-//! the same signatures and answers. It uses `atoi_core`.
+//! the same signatures and results.
+//!
+//! Callers find this crate as the module `lanes` of `atoi_simd`, for instance in the call
+//! `atoi_simd::lanes::parse::<u64, false, false>(b"8080")`. The page of `atoi_simd` says what the
+//! ten functions do, and when to use this module.
+//!
+//! An *engine* is an implementation of the reads that the parsers of `atoi_core` need. The engine
+//! of this crate is `Lanes`, which can be passed to those parsers as their type parameter `E`. It
+//! is made of the module `kernels` and the functions `prefix_64_lanes` and `prefix_128_lanes`. The
+//! crate uses `atoi_core`.
 #![tactic(auto)]
 
 mod parse_trait;

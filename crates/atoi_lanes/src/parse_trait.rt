@@ -1,5 +1,6 @@
-//! `Parse` and its twelve types: numbers that may have a sign. Each method is one call of a parse of
-//! `atoi_core`, over the crate's engine.
+//! The trait `Parse`, whose methods parse numbers that may have a sign, and its implementations for
+//! the twelve integer types. Each method makes one call of a parser of `atoi_core`, with the
+//! crate's *engine*, which is its implementation of the reads.
 ghost use Rattle.std.specs.Prelude.{◌≡◌, ◌≤◌, IfOk, length};
 ghost use Rattle.atoi_core.specs.Answer.{typed_answer, typed_prefix_answer, parse_answer, parse_prefix_answer};
 
@@ -9,22 +10,22 @@ use atoi_core::{
     AtoiSimdError, Steps, parse_prefix_signed, parse_prefix_unsigned, parse_signed, parse_unsigned,
 };
 
-/// A type that a number with a sign before it is parsed to.
+/// An integer type that can be parsed from text with or without a sign.
 ///
-/// Mirrors `Parse` of the Rust crate, whose functions have the flags as const parameters. It is
-/// implemented for the twelve types, and for no others, since no other crate can name `ParsePos`.
+/// It is implemented for the twelve integer types. No other crate can implement it, since no other
+/// crate can name its supertrait `ParsePos`. Mirrors `Parse` of the Rust crate, whose methods have
+/// the flags as const parameters.
 pub trait Parse: ParsePos {
-    /// At most one sign, and behind it digits to the end of `s`.
+    /// Parses all of `s`, with at most one sign, as the function `parse` does.
     ///
-    /// A first `+` is taken where `skip_plus` is on, and a first `-` where the type is signed.
+    /// `skip_zeroes` and `skip_plus` are the flags `SKIP_ZEROES` and `SKIP_PLUS` of that function.
     ///
-    /// `i64::atoi_simd_parse(b"-2345", false, false)` is `Ok(-2345)`. Mirrors
+    /// `i64::atoi_simd_parse(b"-2345", false, false)` returns `Ok(-2345)`. Mirrors
     /// `Parse::atoi_simd_parse`.
     ///
     /// # Errors
     ///
-    /// Those of `ParseNeg::atoi_simd_parse_neg` where a `-` was taken, else of
-    /// `ParsePos::atoi_simd_parse_pos`, on what stands behind the sign.
+    /// Returns the errors of `parse`.
     fn atoi_simd_parse(
         s: &[u8],
         skip_zeroes: bool,
@@ -33,19 +34,19 @@ pub trait Parse: ParsePos {
         ensures answer { typed_answer Self.number result
             ≡ parse_answer Self.int_type skip_zeroes skip_plus s.now };
 
-    /// At most one sign, taken as by `atoi_simd_parse`, and the number at the front of what stands
-    /// behind it.
+    /// Parses the number at the start of `s`, with at most one sign, as the function `parse_prefix`
+    /// does, and returns it with its length in bytes.
     ///
-    /// The count is in bytes of `s`: the sign, the zeros and the other digits.
+    /// `skip_zeroes` and `skip_plus` are the flags `SKIP_ZEROES` and `SKIP_PLUS` of that function.
+    /// The length includes the sign and leading zeros.
     ///
-    /// `i32::atoi_simd_parse_prefix(b"+12a", false, true)` is `Ok((12, 3))`. Mirrors
-    /// `Parse::atoi_simd_parse_prefix`, which leaves the `+` out of the count.
+    /// `i32::atoi_simd_parse_prefix(b"+12a", false, true)` returns `Ok((12, 3))`. Mirrors
+    /// `Parse::atoi_simd_parse_prefix`, with the differences described at `parse_prefix`, such as
+    /// that the Rust crate does not count the `+`.
     ///
     /// # Errors
     ///
-    /// `Empty`, `Size` and `Overflow`, as of `atoi_simd_parse`; `Size` also where a type of at most
-    /// 32 bits has more than 16 digits without `skip_zeroes`. The slice of an `Overflow` is told at
-    /// `parse_prefix`.
+    /// Returns the errors of `parse_prefix`.
     fn atoi_simd_parse_prefix(
         s: &[u8],
         skip_zeroes: bool,

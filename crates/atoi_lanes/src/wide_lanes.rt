@@ -1,5 +1,7 @@
-//! The parses of wide integers at the front of a slice, by windows of 32 lanes. It uses
-//! `window_32`, the engine's windows, and `atoi_core`'s law of what was read and its wide answers.
+//! The parsers of 64- and 128-bit integers at the start of a slice, which read windows of 32 bytes.
+//! A *window* says how many digits and zeros its bytes begin with, and what number the digits
+//! spell. The file uses `window_32`, the smaller windows of `Lanes`, and from `atoi_core` the law
+//! `reading_decides` and the functions `answer_64` and `answer_128`.
 ghost use Rattle.std.specs.Prelude.{◌≡◌, ◌+◌, ◌/◌, ◌<◌, ◌≤◌, length, take, drop, true, IsTrue};
 ghost use Rattle.atoi_core.specs.Digit.{decimal_table};
 ghost use Rattle.atoi_core.specs.Loads.{LoadsWithin};
@@ -16,16 +18,19 @@ use atoi_core::reading::reading_decides;
 use atoi_core::wide_answer::{answer_64, answer_128};
 use atoi_core::{AtoiSimdError, Engine, Steps, Window};
 
-/// The number at the front of `s`, and how many bytes it has, for an integer of 64 bits: what
-/// `Engine::prefix_64` answers, under its conditions, by windows of 32 bytes.
+/// Parses the digits at the start of `s` for an integer type of 64 bits, and returns their value
+/// and how many there are.
 ///
-/// `bound` is the greatest number, and has exactly `limit` digits, 17 to 20. With `skip` the zeros
-/// at the front do not count against `limit`, however many there are. Each turn loads one window,
-/// and one that skips drops at most 32 zeros.
+/// This is `Engine::prefix_64` of the engine `Lanes`, with the same conditions: `bound` is the
+/// largest accepted value, and has exactly `limit` digits, 17 to 20. With `skip`, any number of
+/// leading zeros is accepted, and they do not count towards `limit`.
+///
+/// Each turn of the loop is one *load*: it reads a window of 32 bytes and adds one step. A turn
+/// that skips zeros skips at most 32. A slice of fewer than 16 bytes is read as a window of 16.
 ///
 /// # Errors
 ///
-/// `Empty`, `Size` and `Overflow`, as of `Engine::prefix_64`.
+/// Returns the errors of `Engine::prefix_64`, which are `Empty`, `Size` and `Overflow`.
 #[inline(always)]
 pub fn prefix_64_lanes<'a>(
     bound: u64,
@@ -41,7 +46,8 @@ pub fn prefix_64_lanes<'a>(
     ensures loads { LoadsWithin (zeros decimal_table s.now / 32 + 2) 1 decimal_table skip s.now
         steps.old steps.new }
 {
-    // A window tells the zeros of the slice, but for those behind it.
+    // By this law the zeros that a window begins with are the leading zeros of the slice, as far as
+    // the window goes. The call does nothing.
     reading_decides();
     if s.len() < 16 {
         let only = Lanes::window(s, steps);
@@ -61,17 +67,20 @@ pub fn prefix_64_lanes<'a>(
     answer_from_window_64(bound, limit, skip, front, s)
 }
 
-/// The number at the front of `s`, and how many bytes it has, for an integer of 128 bits: what
-/// `Engine::prefix_128` answers, under its condition, by windows of 32 bytes.
+/// Parses the digits at the start of `s` for an integer type of 128 bits, and returns their value
+/// and how many there are.
 ///
-/// `bound` is the greatest number, and has exactly 39 digits. With `skip` the zeros at the front do
-/// not count against these, however many there are. Each turn loads one window, and one that skips
-/// drops at most 32 zeros; behind 32 digits that begin with no zero that is skipped, the next 8
-/// bytes are loaded too.
+/// This is `Engine::prefix_128` of the engine `Lanes`, with the same condition: `bound` is the
+/// largest accepted value, and has exactly 39 digits. With `skip`, any number of leading zeros is
+/// accepted, and they do not count towards these 39.
+///
+/// Each turn of the loop is one *load*: it reads a window of 32 bytes and adds one step. A turn
+/// that skips zeros skips at most 32. If the last of these windows is full of digits, the 8 bytes
+/// after it are loaded too.
 ///
 /// # Errors
 ///
-/// `Empty`, `Size` and `Overflow`, as of `Engine::prefix_128`.
+/// Returns the errors of `Engine::prefix_128`, which are `Empty`, `Size` and `Overflow`.
 pub fn prefix_128_lanes<'a>(
     bound: u128,
     skip: bool,
@@ -83,7 +92,8 @@ pub fn prefix_128_lanes<'a>(
     ensures loads { LoadsWithin (zeros decimal_table s.now / 32 + 3) 2 decimal_table skip s.now
         steps.old steps.new }
 {
-    // A window tells the zeros of the slice, but for those behind it.
+    // By this law the zeros that a window begins with are the leading zeros of the slice, as far as
+    // the window goes. The call does nothing.
     reading_decides();
     let first = window_32(s, steps);
     if skip && first.zeroes > 0 && first.len == 32 {
@@ -96,15 +106,17 @@ pub fn prefix_128_lanes<'a>(
     finish_128(bound, skip, front, s, steps)
 }
 
-// A place behind zeros that are skipped, and the window that was read there.
+// An offset in the slice, with nothing but skipped zeros before it, and the window that was read
+// there.
 #[derive(Clone, Copy)]
 struct Front {
     at: usize,
     window: Window32,
 }
 
-// What `prefix_64_after_zeros` answers, whose call is out of line. The place of its result is cleared
-// where this function is put in line: on the way that makes the call, and on no other.
+// Calls `prefix_64_after_zeros`, which is never inlined. The call and the match of its result are
+// in a function of their own, which is inlined, so that the stack slot of the result is zeroed only
+// on the path that makes the call.
 #[inline(always)]
 fn prefix_64_cold<'a>(
     bound: u64,
@@ -127,7 +139,7 @@ fn prefix_64_cold<'a>(
     }
 }
 
-// The same for 128 bits.
+// Calls `prefix_128_after_zeros`, and is kept separate for the reason given at `prefix_64_cold`.
 #[inline(always)]
 fn prefix_128_cold<'a>(
     bound: u128,
@@ -148,8 +160,8 @@ fn prefix_128_cold<'a>(
     }
 }
 
-// What `prefix_64_lanes` answers where zeros are skipped, and the first window tells some and is
-// full of digits.
+// Returns the answer of `prefix_64_lanes` with `skip`. It is called if the first window is full of
+// digits and begins with zeros; `zeroes` is their number.
 #[inline(never)]
 fn prefix_64_after_zeros<'a>(
     bound: u64,
@@ -169,8 +181,8 @@ fn prefix_64_after_zeros<'a>(
     answer_from_window_64(bound, limit, true, skip_leading_zeros(zeroes, s, steps), s)
 }
 
-// What `prefix_128_lanes` answers where zeros are skipped, and the first window tells some and is
-// full of digits.
+// Returns the answer of `prefix_128_lanes` with `skip`. It is called if the first window is full of
+// digits and begins with zeros; `zeroes` is their number.
 #[inline(never)]
 fn prefix_128_after_zeros<'a>(
     bound: u128,
@@ -189,7 +201,9 @@ fn prefix_128_after_zeros<'a>(
     finish_128(bound, true, front, s, steps)
 }
 
-// Drops the zeros of windows that are full of digits. `zeroes` are those of the first window.
+// Skips the `zeroes` zeros of the first window, and those of each later window that is full of
+// digits and begins with a zero. Returns the first later window for which this does not hold, with
+// its offset.
 fn skip_leading_zeros(zeroes: u32, s: &[u8], steps: &mut Steps) -> Front
     requires some { 0 < zeroes }
     requires first_window { zeroes ≡ zeros decimal_table (take 32 s.now) }
@@ -198,7 +212,8 @@ fn skip_leading_zeros(zeroes: u32, s: &[u8], steps: &mut Steps) -> Front
     ensures most { steps.new ≤ steps.old + zeros decimal_table s.now / 32 + 1 }
     ensures least { steps.old + zeros decimal_table s.now / 32 ≤ steps.new }
 {
-    // Zeros that are left behind a place are those of the slice, but for as many.
+    // By this law the zeros left after an offset are the leading zeros of the slice, minus those
+    // before that offset. The call does nothing.
     reading_decides();
     let mut front = next_window(0, zeroes, s, steps);
     loop {
@@ -209,7 +224,8 @@ fn skip_leading_zeros(zeroes: u32, s: &[u8], steps: &mut Steps) -> Front
     }
 }
 
-// One turn: drops all zeros of the window behind `place`, and reads the next one behind them.
+// One turn of the loop: skips the zeros that the window at the offset `place` begins with, and
+// reads the window that follows them.
 fn next_window(place: usize, zeroes: u32, s: &[u8], steps: &mut Steps) -> Front
     requires first_window { zeroes ≡ zeros decimal_table (take 32 (drop place s.now)) }
     requires within { place + zeroes ≤ length s.now }
@@ -225,8 +241,8 @@ fn next_window(place: usize, zeroes: u32, s: &[u8], steps: &mut Steps) -> Front
     }
 }
 
-// The answer of 128 bits, which the last window of 32 bytes decides, or the eight bytes behind it
-// too, where it is full of digits.
+// Returns the answer of 128 bits, which the last window of 32 bytes decides. If that window is full
+// of digits, the eight bytes after it are read too.
 #[inline(always)]
 fn finish_128<'a>(
     bound: u128,
@@ -257,7 +273,7 @@ fn finish_128<'a>(
     )
 }
 
-// The eight bytes behind the first 32.
+// Returns the window of the eight bytes after the first 32, or of fewer if the slice ends there.
 fn window_after_32(s: &[u8], steps: &mut Steps) -> Window
     requires { 32 ≤ length s.now }
     ensures window { result ≡ window_of decimal_table 8 (drop 32 s.now) }
@@ -266,7 +282,7 @@ fn window_after_32(s: &[u8], steps: &mut Steps) -> Window
     Lanes::window_8(after_32(s), steps)
 }
 
-// The bytes behind the first 32.
+// Returns the bytes after the first 32.
 fn after_32(s: &[u8]) -> &[u8]
     requires { 32 ≤ length s.now }
     ensures { result.now ≡ drop 32 s.now }
@@ -274,8 +290,8 @@ fn after_32(s: &[u8]) -> &[u8]
     s.split_at(32).1
 }
 
-// The answer of 64 bits, where the slice begins with fewer digits than `limit`: these are too few to
-// pass the bound, whatever zeros they begin with.
+// Returns the answer of 64 bits for a slice that begins with fewer than `limit` digits. Their value
+// is within the bound, so only `Empty` is possible as an error.
 #[inline(always)]
 fn answer_short_64<'a>(
     bound: u64,
@@ -299,7 +315,8 @@ fn answer_short_64<'a>(
     }
 }
 
-// The answer of 64 bits, which the last window decides.
+// Returns the answer of 64 bits, which the last window decides. With `skip`, the zeros that this
+// window begins with are skipped too.
 #[inline(always)]
 fn answer_from_window_64<'a>(
     bound: u64,
@@ -320,8 +337,8 @@ fn answer_from_window_64<'a>(
     answer_64(bound, limit, skipped, counting, front.window.number, s)
 }
 
-// The answer of 128 bits, where a window that is not full of digits decides it: these are too few
-// to pass the bound.
+// Returns the answer of 128 bits for a last window that is not full of digits. The value of fewer
+// than 32 digits is within the bound, so only `Empty` is possible as an error.
 fn answer_short_128<'a>(
     bound: u128,
     skip: bool,

@@ -1,5 +1,6 @@
-//! What one step tells of 32 bytes, in the lanes of two vectors of sixteen. It uses `std::simd`,
-//! the kernels, and `atoi_core`'s steps and joined numbers.
+//! Windows of 32 bytes, which are read into the lanes of two vectors of sixteen. The file uses
+//! `std::simd`, `kernels`, and from `atoi_core` the count of steps, `append_digits` and the law
+//! `reading_decides`.
 ghost use Rattle.std.specs.Prelude.{◌≡◌, ◌+◌, ◌*◌, ◌^◌, ◌≤◌, ◌==◌, ◌++◌, if◌then◌else◌, take, drop, replicate};
 ghost use Rattle.atoi_core.specs.Digit.{decimal_table};
 ghost use Rattle.atoi_core.specs.Reading.{Reading};
@@ -12,31 +13,32 @@ use atoi_core::reading::reading_decides;
 use atoi_core::wide_answer::append_digits;
 use std::simd::prelude::*;
 
-// From entry `n` on: for each place of a vector the lane that goes there, so that the lanes from
-// `n` on stand at its front. By 128 a shuffle makes a lane of 0.
+// The 16 entries from `FROM[n]` on are the indices of a shuffle that moves the lanes from index `n`
+// on to the start of a vector. The index 128 selects no lane, and the shuffle puts 0 there.
 const FROM: [u8; 32] = [
     0, 1, 2, 3, 4, 5, 6, 7, 8, 9, 10, 11, 12, 13, 14, 15, 128, 128, 128, 128, 128, 128, 128, 128,
     128, 128, 128, 128, 128, 128, 128, 128,
 ];
 
-/// What a window of 32 bytes tells of the front of a slice.
+/// What one read says of the first 32 bytes of a slice, or of all if there are fewer. These bytes
+/// are the *window*.
 #[derive(Clone, Copy)]
 pub(crate) struct Window32 {
     /// How many digits the window begins with.
     pub(crate) len: u32,
     /// How many zeros it begins with.
     pub(crate) zeroes: u32,
-    /// The number that its digits write.
+    /// The number that these digits spell.
     pub(crate) number: u128,
 }
 
-/// What the first 32 bytes tell, or all where there are fewer. Adds one step.
+/// Returns the window of the first 32 bytes of `s`, or of all if there are fewer. Adds one step.
 #[inline(always)]
 pub(crate) fn window_32(s: &[u8], steps: &mut Steps) -> Window32
     ensures reading { Reading decimal_table 32 s.now result.len result.zeroes result.number }
     ensures one_step { steps.new ≡ steps.old + 1 }
 {
-    // Two readings of 16 bytes make one of 32.
+    // By this law two reads of 16 bytes make one of 32. The call does nothing.
     reading_decides();
     steps.tick();
     let first = load_lanes(s);
@@ -57,8 +59,9 @@ pub(crate) fn window_32(s: &[u8], steps: &mut Steps) -> Window32
     }
 }
 
-// The 16 bytes behind the first 16, or all where there are fewer. Where the slice ends among them,
-// its last 16 hold them all: one shuffle serves every length, without a branch on it.
+// Returns the 16 bytes after the first 16, or all that there are, as lanes; missing bytes are 0. If
+// the slice ends among them, its last 16 bytes contain them all, and a shuffle moves them to the
+// start: one shuffle serves all these lengths, without a branch on the length.
 fn load_after_16(s: &[u8]) -> u8x16
     ensures { result ≡ padded_start 16 (drop 16 s.now) }
 {
@@ -71,7 +74,7 @@ fn load_after_16(s: &[u8]) -> u8x16
     moved_to_start(u8x16::from_slice(&s[s.len() - 16..]), 32 - s.len())
 }
 
-// The lanes from place `from` on at the front, before lanes of 0.
+// Returns a vector with the lanes of `v` from index `from` on at its start, before lanes of 0.
 fn moved_to_start(v: u8x16, from: usize) -> u8x16
     requires { from ≤ 16 }
     ensures { result ≡ drop from v ++ replicate from 0 }
@@ -79,8 +82,8 @@ fn moved_to_start(v: u8x16, from: usize) -> u8x16
     v.swizzle_dyn_within::<16>(u8x16::from_slice(&FROM[from..]))
 }
 
-// How many first lanes of two vectors in a row are zeros, the byte 48: 0 to 32. Most begin with
-// none.
+// Returns how many zeros, the byte 48, two vectors begin with, one after the other: 0 to 32. Most
+// slices begin with none, so the first lane is tested before the others.
 fn zeroes_of_two(first: u8x16, second: u8x16) -> u32
     ensures { result ≡ (if zeros decimal_table first == 16 then 16 + zeros decimal_table second
         else zeros decimal_table first) }
@@ -96,7 +99,8 @@ fn zeroes_of_two(first: u8x16, second: u8x16) -> u32
     }
 }
 
-// The number that sixteen lanes write in decimal, and the first `more` lanes of a second vector.
+// Returns the number that all lanes of `first`, and after them the first `more` lanes of `second`,
+// spell in decimal.
 #[inline(always)]
 fn number_in_two(first: u8x16, second: u8x16, more: u32) -> u128
     requires within { more ≤ 16 }

@@ -1,4 +1,4 @@
-//! The engine that the crate's parses read by: words of 64 bits. It uses that engine alone, and no
-//! parse of the crate names the engine itself.
+//! The *engine* of this crate, which is the implementation of the reads that its parses make: it
+//! reads words of 64 bits. The traits name only `DefaultEngine`, so the engine is chosen here.
 
 pub(crate) type DefaultEngine = atoi_core::Words;

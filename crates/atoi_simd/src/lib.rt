@@ -1,9 +1,28 @@
 //! Decimal digits at the front of a byte slice, as integers of twelve types: exact, without
 //! allocation.
 //!
-//! The names and answers are those of the Rust crate `atoi_simd` 0.18.1 in its portable
-//! configuration. The parses read eight bytes at once, as a word; the module `lanes` has the same
-//! functions with the same answers on `std::simd`. It uses `atoi_core` and `atoi_lanes`.
+//! The functions have the names, flags, results and errors of the Rust crate `atoi_simd` 0.18.1 in
+//! its portable configuration, except for the differences listed in `docs/DIFFERENCES.md`.
+//!
+//! - `parse`, `parse_pos` and `parse_neg` parse all of a slice.
+//! - `parse_prefix`, `parse_prefix_pos` and `parse_prefix_neg` parse the number that a slice begins
+//!   with. They return it with its length in bytes.
+//! - `parse_skipped`, `parse_any`, `parse_any_pos` and `parse_any_neg` are old names of such calls.
+//!
+//! For example, `parse::<u16, false, false>(b"8080")` returns `Ok(8080)`, and
+//! `parse_prefix::<i32, true, true>(b"+0042,7")` returns `Ok((42, 5))`.
+//!
+//! The type `T` is one of `u8` to `u128`, `i8` to `i128`, `usize` and `isize`; the last two have 64
+//! bits. The flag `SKIP_ZEROES` says that leading zeros do not count towards the limit of digits,
+//! and the flag `SKIP_PLUS` that a `+` before the digits is accepted. Functions without `_pos` and
+//! `_neg` always accept a `-` if `T` is signed. Those with `_pos` accept no sign. Those with `_neg`
+//! accept none either: they read the digits of a negative number, without its minus, and need a
+//! signed type. The documentation of `parse` lists the errors.
+//!
+//! These functions read eight bytes at a time. The module `lanes` has the same functions with the
+//! same results, which read 16 or 32 bytes at a time with `std::simd`: it is for 64- and 128-bit
+//! numbers with many digits. The functions in `laws` do nothing when called; their contracts are
+//! facts that the proofs of a caller can use. The crate uses `atoi_core` and `atoi_lanes`.
 #![tactic(auto)]
 
 mod parse_trait;

@@ -1,5 +1,7 @@
-//! `ParseNeg` and its six types: the digits of a negative number, without a sign. It uses `Signed`,
-//! `Steps` and the core calls `whole_neg` and `prefix_neg`, over the crate's reader.
+//! The trait `ParseNeg`, whose methods parse the digits of a negative number without its minus, and
+//! its implementations for the six signed integer types. Each method makes one call of `whole_neg`
+//! or `prefix_neg` of `atoi_core`, with the crate's *engine*, which is its implementation of the
+//! reads.
 ghost use Rattle.std.specs.Prelude.{◌≡◌, ◌≤◌, true, IfOk, length};
 ghost use Rattle.atoi_core.specs.Answer.{typed_answer, typed_prefix_answer, whole_answer, prefix_answer};
 ghost use Rattle.atoi_core.specs.Digit.{decimal_table};
@@ -7,43 +9,40 @@ ghost use Rattle.atoi_core.specs.Digit.{decimal_table};
 use crate::default_engine::DefaultEngine;
 use atoi_core::{AtoiSimdError, Signed, Steps, prefix_neg, whole_neg};
 
-/// A type that the digits of a negative number are parsed to.
+/// A signed type that can be parsed from the digits of a negative number, without its minus.
 ///
-/// Mirrors `ParseNeg` of the Rust crate, whose functions have the flag as a const parameter. It is
-/// implemented for the six signed types. An outside type that implements it proves the same
-/// answers.
+/// It is implemented for the six signed integer types. A type of another crate can implement it
+/// too; that crate must then prove the clauses of both methods. Mirrors `ParseNeg` of the Rust
+/// crate, whose methods have the flag as a const parameter.
 pub trait ParseNeg: Signed {
-    /// The whole of `s`, digits alone, as the magnitude of a number that is not positive.
+    /// Parses all of `s`, the digits of a negative number without its minus, as the function
+    /// `parse_neg` does.
     ///
-    /// `i8::atoi_simd_parse_neg(b"128", false)` is `Ok(-128)`. Mirrors
+    /// `skip_zeroes` is the flag `SKIP_ZEROES` of that function.
+    ///
+    /// `i8::atoi_simd_parse_neg(b"128", false)` returns `Ok(-128)`. Mirrors
     /// `ParseNeg::atoi_simd_parse_neg`.
     ///
     /// # Errors
     ///
-    /// The first that holds of:
-    /// - `Empty` where `s` does not begin with a digit;
-    /// - `Size` for a type of 64 or 128 bits, where more digits count than its greatest number has:
-    ///   the leading zeros count unless `skip_zeroes`;
-    /// - `Overflow` where the digits write a magnitude above that of the least number of the type;
-    /// - `Invalid64`, or `Invalid128` for a type of 128 bits, where another byte stands behind the
-    ///   digits.
-    ///
-    /// The number of an error is a magnitude.
+    /// Returns the errors of `parse_neg`.
     fn atoi_simd_parse_neg(s: &[u8], skip_zeroes: bool) -> Result<Self, AtoiSimdError<'_>>
         ensures answer { typed_answer Self.number result
             ≡ whole_answer decimal_table Self.int_type true skip_zeroes s.now };
 
-    /// The number whose magnitude stands at the front of `s`, and the length of its digits in
-    /// bytes, zeros included.
+    /// Parses the digits of a negative number at the start of `s`, without its minus, as the
+    /// function `parse_prefix_neg` does, and returns the number with the length of its digits in
+    /// bytes.
     ///
-    /// `i32::atoi_simd_parse_prefix_neg(b"12a", false)` is `Ok((-12, 2))`. Mirrors
-    /// `ParseNeg::atoi_simd_parse_prefix_neg`.
+    /// `skip_zeroes` is the flag `SKIP_ZEROES` of that function. The length includes leading zeros.
+    ///
+    /// `i32::atoi_simd_parse_prefix_neg(b"12a", false)` returns `Ok((-12, 2))`. Mirrors
+    /// `ParseNeg::atoi_simd_parse_prefix_neg`, except for numbers of more than 16 digits: see
+    /// `parse_prefix`.
     ///
     /// # Errors
     ///
-    /// `Empty`, `Size` and `Overflow`, as of `atoi_simd_parse_neg`; `Size` also where a type of at
-    /// most 32 bits has more than 16 digits without `skip_zeroes`. The slice of an `Overflow` is
-    /// told at `parse_prefix`.
+    /// Returns the errors of `parse_prefix_neg`.
     fn atoi_simd_parse_prefix_neg(
         s: &[u8],
         skip_zeroes: bool,

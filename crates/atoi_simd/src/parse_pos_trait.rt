@@ -1,5 +1,7 @@
-//! `ParsePos` and its twelve types: the digits of a number that is not negative, without a sign. It
-//! uses `Number`, `Steps` and the core calls `whole_pos` and `prefix_pos`, over the crate's reader.
+//! The trait `ParsePos`, whose methods parse numbers without a sign that are not negative, and its
+//! implementations for the twelve integer types. Each method makes one call of `whole_pos` or
+//! `prefix_pos` of `atoi_core`, with the crate's *engine*, which is its implementation of the
+//! reads.
 ghost use Rattle.std.specs.Prelude.{◌≡◌, ◌≤◌, false, IfOk, length};
 ghost use Rattle.atoi_core.specs.Answer.{typed_answer, typed_prefix_answer, whole_answer, prefix_answer};
 ghost use Rattle.atoi_core.specs.Digit.{decimal_table};
@@ -7,39 +9,37 @@ ghost use Rattle.atoi_core.specs.Digit.{decimal_table};
 use crate::default_engine::DefaultEngine;
 use atoi_core::{AtoiSimdError, Number, Steps, prefix_pos, whole_pos};
 
-/// A type that the digits of a number without a sign are parsed to.
+/// An integer type that can be parsed from digits without a sign.
 ///
-/// Mirrors `ParsePos` of the Rust crate, whose functions have the flag as a const parameter. It is
-/// implemented for the twelve types, and no other crate can name it.
+/// It is implemented for the twelve integer types, and no other crate can name it. Mirrors
+/// `ParsePos` of the Rust crate, whose methods have the flag as a const parameter.
 pub trait ParsePos: Number {
-    /// The whole of `s`, digits alone, as a number that is not negative.
+    /// Parses all of `s`, digits without a sign, as the function `parse_pos` does.
     ///
-    /// `u8::atoi_simd_parse_pos(b"255", false)` is `Ok(255)`. Mirrors
+    /// `skip_zeroes` is the flag `SKIP_ZEROES` of that function.
+    ///
+    /// `u8::atoi_simd_parse_pos(b"255", false)` returns `Ok(255)`. Mirrors
     /// `ParsePos::atoi_simd_parse_pos`.
     ///
     /// # Errors
     ///
-    /// The first that holds of:
-    /// - `Empty` where `s` does not begin with a digit;
-    /// - `Size` for a type of 64 or 128 bits, where more digits count than its greatest number has:
-    ///   the leading zeros count unless `skip_zeroes`;
-    /// - `Overflow` where the digits write a number above the greatest of the type;
-    /// - `Invalid64`, or `Invalid128` for a type of 128 bits, where another byte stands behind the
-    ///   digits.
+    /// Returns the errors of `parse_pos`.
     fn atoi_simd_parse_pos(s: &[u8], skip_zeroes: bool) -> Result<Self, AtoiSimdError<'_>>
         ensures answer { typed_answer Self.number result
             ≡ whole_answer decimal_table Self.int_type false skip_zeroes s.now };
 
-    /// The number at the front of `s`, and its length in bytes, zeros included.
+    /// Parses the number at the start of `s`, without a sign, as the function `parse_prefix_pos`
+    /// does, and returns it with its length in bytes.
     ///
-    /// `u16::atoi_simd_parse_prefix_pos(b"80/tcp", false)` is `Ok((80, 2))`. Mirrors
-    /// `ParsePos::atoi_simd_parse_prefix_pos`.
+    /// `skip_zeroes` is the flag `SKIP_ZEROES` of that function. The length includes leading zeros.
+    ///
+    /// `u16::atoi_simd_parse_prefix_pos(b"80/tcp", false)` returns `Ok((80, 2))`. Mirrors
+    /// `ParsePos::atoi_simd_parse_prefix_pos`, except for numbers of more than 16 digits: see
+    /// `parse_prefix`.
     ///
     /// # Errors
     ///
-    /// `Empty`, `Size` and `Overflow`, as of `atoi_simd_parse_pos`; `Size` also where a type of at
-    /// most 32 bits has more than 16 digits without `skip_zeroes`. The slice of an `Overflow` is
-    /// told at `parse_prefix`.
+    /// Returns the errors of `parse_prefix_pos`.
     fn atoi_simd_parse_prefix_pos(
         s: &[u8],
         skip_zeroes: bool,
