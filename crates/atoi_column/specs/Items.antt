@@ -34,15 +34,15 @@ abbrev pub item_of : {T : Type 0} → (T → ℤ) → Result T ColumnError → R
 item_of number (Ok value) = Ok (number value)
 item_of number (Err error) = Err (flaw_of error)
 
--- The flaw of a refused field. It depends on what can be read from the field's first byte to the end
--- of the input: nothing, for that reason, or a number that ends before the field does.
+-- The flaw of a refused field. It depends on what can be read from the field's first byte to the
+-- end of the input: nothing, for that reason, or a number that ends before the field does.
 abbrev pub flaw_at : (index place : ℕ) → Result (ℤ × ℕ) Refusal → Flaw
 flaw_at index place (Ok found) = trailing index (place + found.1)
 flaw_at index place (Err reason) = field index place reason
 
 -- The items of a list of fields. The first field has the index `index`; it begins at the offset
--- `place`, and so does `rest`. `whole` is the answer to one field, and `prefix` is the answer to the
--- input from the field's first byte on.
+-- `place`, and so does `rest`. `whole` is the answer to one field, and `prefix` is the answer to
+-- the input from the field's first byte on.
 abbrev pub items_from : (whole : List ℕ → Result ℤ Refusal) (prefix : List ℕ → Result (ℤ × ℕ) Refusal)
     → (index place : ℕ) → (rest : List ℕ) → List (List ℕ) → List (Result ℤ Flaw)
 items_from whole prefix index place rest [] = []
@@ -52,8 +52,8 @@ items_from whole prefix index place rest (text ∷ texts) =
       | Err reason ↦ Err (flaw_at index place (prefix rest)) ∷ []
     ]
 
--- The items that are left, if `rest` is still to be read: it begins with the field of index `index`,
--- at the offset `place`.
+-- The items that are left, if `rest` is still to be read: it begins with the field of index
+-- `index`, at the offset `place`.
 unfoldable pub items_left : IntType → (separator index place : ℕ) → List ℕ → List (Result ℤ Flaw)
 items_left k separator index place rest =
     items_from (parse_answer k true true) (parse_prefix_answer k true true) index place rest (fields_of separator rest)

@@ -29,9 +29,9 @@ FieldsArePrefixes k =
 abbrev pub place_after : List (List ℕ) → ℕ
 place_after texts = sum_by (λ text. length text + 1) texts
 
--- How the items end. If no field is left, no item is left. Otherwise the first field that is left is
--- not a text of the type, and the one item left is its flaw, which depends on what `prefix` answers
--- to the input from the field's first byte on.
+-- How the items end. If no field is left, no item is left. Otherwise the first field that is left
+-- is not a text of the type, and the one item left is its flaw, which depends on what `prefix`
+-- answers to the input from the field's first byte on.
 abbrev pub EndsItems : IntType → (prefix : List ℕ → Result (ℤ × ℕ) Refusal) → (index place : ℕ) → (rest : List ℕ) → List (List ℕ) → List (Result ℤ Flaw) → Type 0
 EndsItems k prefix index place rest [] last = last ≡ []
 EndsItems k prefix index place rest (text ∷ texts) last =
@@ -58,9 +58,9 @@ abbrev pub number_len : Result (ℤ × ℕ) Refusal → ℕ
 number_len (Ok found) = found.1
 number_len (Err reason) = 0
 
--- The field of index `index` is the first field of the input that is not a text of the type. `place`
--- is the offset of the byte after the number that the field begins with, or the offset of the field's
--- first byte if no number can be read there.
+-- The field of index `index` is the first field of the input that is not a text of the type.
+-- `place` is the offset of the byte after the number that the field begins with, or the offset of
+-- the field's first byte if no number can be read there.
 pub record IsFirstBad (k : IntType) (separator : ℕ) (input : List ℕ) (index place : ℕ) : Type 0 where
   pub before : List (List ℕ)
   pub field : List ℕ
@@ -90,15 +90,15 @@ FirstField =
     → fields_of separator input
     ≡ before_first (λ byte. byte == separator) input ∷ fields_of separator (after_first (λ byte. byte == separator) input)
 
--- Some of the items have been read, and all of them were values: `numbers`, in that order. The other
--- items are `left`. A loop over a column keeps this invariant.
+-- Some of the items have been read, and all of them were values: `numbers`, in that order. The
+-- other items are `left`. A loop over a column keeps this invariant.
 pub record HaveRead (items : List (Result ℤ Flaw)) (numbers : List ℤ) (left : List (Result ℤ Flaw)) : Type 0 where
   pub parts : items ≡ map Ok numbers ++ left
   pub count : length items ≡ length numbers + length left
 
--- How the invariant is kept when items are read one after another. It holds before the first item, and
--- each value adds one number. If no item is left, all items are numbers. Nothing follows an error, so
--- at an error the items are these numbers and then the error.
+-- How the invariant is kept when items are read one after another. It holds before the first item,
+-- and each value adds one number. If no item is left, all items are numbers. Nothing follows an
+-- error, so at an error the items are these numbers and then the error.
 pub record ItemsInTurn : Type 0 where
   pub start : (items : List (Result ℤ Flaw)) → HaveRead items [] items
   pub more : (items left after : List (Result ℤ Flaw)) (numbers : List ℤ) (number : ℤ) → HaveRead items numbers left

@@ -23,7 +23,7 @@ pub enum ColumnError<'a> {
         /// extends to the end of the input.
         cause: AtoiSimdError<'a>,
     },
-    /// The field begins with a number, but another byte follows it.
+    /// The field begins with a number, but a byte that is not the separator follows it.
     Trailing {
         /// The index of the field, from 0.
         index: usize,
