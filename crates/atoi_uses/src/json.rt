@@ -10,8 +10,8 @@ use atoi_simd::parse_prefix;
 /// Reads the integer of JSON that `text` begins with. Returns it, and what follows it: for `-40,7`
 /// these are -40 and `,7`.
 ///
-/// Returns `None` if `text` does not begin with an integer of JSON, as for `+1`, `-`, `007` and `
-/// 1`, and if the integer is out of the range of `i64`.
+/// Returns `None` if `text` does not begin with an integer of JSON, as for `+1`, `-`, `007` and
+/// ` 1`, and if the integer is out of the range of `i64`.
 pub fn json_integer(text: &[u8]) -> Option<(i64, &[u8])>
     ensures some { IfSome result (λ found. IsJsonInteger text.now found.0 found.1.now) }
     ensures none { IfNone result ((number : ℤ) (rest : List ℕ)
