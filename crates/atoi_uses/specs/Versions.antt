@@ -4,8 +4,7 @@ use Rattle.std.specs.Str.Parse.{IsNumeral, digits_value}
 use Rattle.atoi_simd.specs.Text.{BeginsWithDigit}
 use Rattle.atoi_uses.specs.declared.versions.Version.{Version}
 
--- The text is the digits of a number of 32 bits, followed by a rest that does not begin with a
--- digit.
+-- The text is the digits of a number of 32 bits, then a rest that does not begin with a digit.
 pub record IsPart (text : List ℕ) (number : ℕ) (rest : List ℕ) : Type 0 where
   pub digits : List ℕ
   pub parts : text ≡ digits ++ rest
