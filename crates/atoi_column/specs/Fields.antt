@@ -4,17 +4,17 @@ use Rattle.std.specs.List.{slice_split}
 use Rattle.atoi_core.specs.Digit.{decimal_table, is_digit}
 use Rattle.atoi_core.specs.Sign.{plus_sign, minus_sign}
 
--- a byte that may stand between fields: no digit and no sign
+-- Any byte may separate fields, except digits and signs.
 abbrev pub is_separator : ℕ → Bool
 is_separator byte = not (is_digit decimal_table byte || (byte == plus_sign || byte == minus_sign))
 
--- the pieces, but for a last one that is empty
+-- All pieces, except a last one that is empty.
 abbrev pub without_empty_last : List (List ℕ) → List (List ℕ)
 without_empty_last [] = []
 without_empty_last (piece ∷ []) = if length piece == 0 then [] else piece ∷ []
 without_empty_last (piece ∷ next ∷ pieces) = piece ∷ without_empty_last (next ∷ pieces)
 
--- the fields of an input: it is cut at each separator, and what stands behind the last one counts
--- where it is not empty
+-- The fields of an input are the pieces before and after each separator. What follows the last
+-- separator is a field only if it is not empty.
 abbrev pub fields_of : (separator : ℕ) → List ℕ → List (List ℕ)
 fields_of separator input = without_empty_last (slice_split (λ byte. byte == separator) input)

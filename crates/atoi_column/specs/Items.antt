@@ -1,4 +1,4 @@
--- The items of a column: a value for each field, up to the first that is refused.
+-- The items of a column: a value for each field, up to the first field that is refused.
 use Rattle.std.specs.Prelude.{ℕ, ◌+◌, true, ℤ, Result, Ok, Err, List, [], ◌∷◌, length, drop}
 use Rattle.atoi_core.specs.Refusal.{Refusal, refusal_of}
 use Rattle.atoi_core.specs.IntType.{IntType}
@@ -7,40 +7,42 @@ use Rattle.atoi_column.specs.declared.error.ColumnError.{ColumnError}
 use Rattle.atoi_column.specs.declared.error.ColumnError.TheVariants.{Field, Trailing}
 use Rattle.atoi_column.specs.Fields.{fields_of}
 
--- what is told of a refused field: its number from 0, and a place in the input: of its first byte,
--- with the reason for which no number can be read there, or of the byte behind the number
+-- What an error says about a refused field. Both variants hold the index of the field, from 0, and
+-- an offset in the input. `field`: no number can be read at the field's first byte, which has that
+-- offset; the third part is the reason. `trailing`: the byte at that offset follows the number.
 pub data Flaw : Type 0 where
   field : ℕ → ℕ → Refusal → Flaw
   trailing : ℕ → ℕ → Flaw
 
--- the number of the field that a flaw is of
+-- The index of the field that a flaw is about.
 abbrev pub index_of : Flaw → ℕ
 index_of (field index place reason) = index
 index_of (trailing index place) = index
 
--- the place of a flaw
+-- The offset that a flaw holds.
 abbrev pub place_of : Flaw → ℕ
 place_of (field index place reason) = place
 place_of (trailing index place) = place
 
--- the flaw that an error tells
+-- A `ColumnError` as a flaw, which has the slice in its cause as a list of bytes.
 abbrev pub flaw_of : ColumnError → Flaw
 flaw_of (Field index place cause) = field index place (refusal_of cause)
 flaw_of (Trailing index place) = trailing index place
 
--- an item, with the number that a value stands for
+-- An item of a column as contracts see it. `number` says which integer a value of the type means.
 abbrev pub item_of : {T : Type 0} → (T → ℤ) → Result T ColumnError → Result ℤ Flaw
 item_of number (Ok value) = Ok (number value)
 item_of number (Err error) = Err (flaw_of error)
 
--- the flaw of a field, by what is read from its first byte on, to the end of the input: a reason
--- to refuse it, or a number that ends before the field does
+-- The flaw of a refused field. It depends on what can be read from the field's first byte to the
+-- end of the input: nothing, for that reason, or a number that ends before the field does.
 abbrev pub flaw_at : (index place : ℕ) → Result (ℤ × ℕ) Refusal → Flaw
 flaw_at index place (Ok found) = trailing index (place + found.1)
 flaw_at index place (Err reason) = field index place reason
 
--- the items of fields, of which the first has the number `index` and begins at `place`, where
--- `rest` begins: `whole` is the answer of a field, `prefix` of what stands from its first byte on
+-- The items of a list of fields. The first field has the index `index`; it begins at the offset
+-- `place`, and so does `rest`. `whole` is the answer to one field, and `prefix` is the answer to
+-- the input from the field's first byte on.
 abbrev pub items_from : (whole : List ℕ → Result ℤ Refusal) (prefix : List ℕ → Result (ℤ × ℕ) Refusal)
     → (index place : ℕ) → (rest : List ℕ) → List (List ℕ) → List (Result ℤ Flaw)
 items_from whole prefix index place rest [] = []
@@ -50,11 +52,12 @@ items_from whole prefix index place rest (text ∷ texts) =
       | Err reason ↦ Err (flaw_at index place (prefix rest)) ∷ []
     ]
 
--- the items of a rest of an input, which begins with the field of number `index`, at `place`
+-- The items that are left, if `rest` is still to be read: it begins with the field of index
+-- `index`, at the offset `place`.
 unfoldable pub items_left : IntType → (separator index place : ℕ) → List ℕ → List (Result ℤ Flaw)
 items_left k separator index place rest =
     items_from (parse_answer k true true) (parse_prefix_answer k true true) index place rest (fields_of separator rest)
 
--- the items of an input
+-- The items of an input.
 abbrev pub items_of : IntType → (separator : ℕ) → List ℕ → List (Result ℤ Flaw)
 items_of k separator input = items_left k separator 0 0 input

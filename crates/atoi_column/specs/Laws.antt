@@ -1,4 +1,4 @@
--- Laws of fields and items. Each is a statement about the definitions alone.
+-- Laws about fields and items. Each is a statement about the definitions only.
 use Rattle.std.specs.Prelude.{◌≡◌, ℕ, ◌+◌, ◌<◌, ◌≤◌, ◌==◌, true, List, [], ◌∷◌, ◌++◌, length, drop, map, All, ℤ, Result, Ok, Err}
 use Rattle.std.specs.List.{AllZip, before_first, after_first, position_or_len, sum_by}
 use Rattle.atoi_core.specs.Refusal.{Refusal}
@@ -8,9 +8,9 @@ use Rattle.atoi_core.specs.Text.{IsText, TextWrites}
 use Rattle.atoi_column.specs.Fields.{is_separator, fields_of}
 use Rattle.atoi_column.specs.Items.{Flaw, flaw_at, index_of, place_of, items_of}
 
--- the first field of a rest and the number at the rest's front: `whole` accepts the field exactly
--- where the number that `prefix` finds ends with it, with the same value, and no number reaches
--- behind the field
+-- How the first field of a rest is related to the number at the start of the rest: `whole` accepts
+-- the field exactly if the number that `prefix` finds ends where the field does, both have the same
+-- value, and no number extends past the field.
 pub record FieldIsPrefix (whole : List ℕ → Result ℤ Refusal) (prefix : List ℕ → Result (ℤ × ℕ) Refusal) (separator : ℕ) (rest : List ℕ) : Type 0 where
   pub to_prefix : (value : ℤ) → whole (before_first (λ byte. byte == separator) rest) ≡ Ok value
       → prefix rest ≡ Ok (value, position_or_len (λ byte. byte == separator) rest)
@@ -19,25 +19,26 @@ pub record FieldIsPrefix (whole : List ℕ → Result ℤ Refusal) (prefix : Lis
   pub within : (value : ℤ) (count : ℕ) → prefix rest ≡ Ok (value, count)
       → count ≤ position_or_len (λ byte. byte == separator) rest
 
--- so it is with the parses that skip zeros and take a plus, and every separator
+-- This holds for the parses that skip zeros and accept a plus, with every separator and rest.
 abbrev pub FieldsArePrefixes : IntType → Type 0
 FieldsArePrefixes k =
     (separator : ℕ) → is_separator separator ≡ true → (rest : List ℕ)
     → FieldIsPrefix (parse_answer k true true) (parse_prefix_answer k true true) separator rest
 
--- the place behind fields that stand at the front of an input, each with its separator
+-- The offset that follows these fields at the start of an input, each with its separator.
 abbrev pub place_after : List (List ℕ) → ℕ
 place_after texts = sum_by (λ text. length text + 1) texts
 
--- how items end: with the fields; or where a field is no text of the type, with its flaw, by what
--- `prefix` answers of what stands from its place on
+-- How the items end. If no field is left, no item is left. Otherwise the first field that is left
+-- is not a text of the type, and the one item left is its flaw, which depends on what `prefix`
+-- answers to the input from the field's first byte on.
 abbrev pub EndsItems : IntType → (prefix : List ℕ → Result (ℤ × ℕ) Refusal) → (index place : ℕ) → (rest : List ℕ) → List (List ℕ) → List (Result ℤ Flaw) → Type 0
 EndsItems k prefix index place rest [] last = last ≡ []
 EndsItems k prefix index place rest (text ∷ texts) last =
     ¬ IsText k text × (last ≡ Err (flaw_at index place (prefix rest)) ∷ [])
 
--- the items of an input in the words of the texts: the fields before the first that is no text of
--- the type, the numbers that they write, and how the items end
+-- The items of an input, described by the texts of its fields: the fields before the first that is
+-- not a text of the type, the numbers that they write, and how the items end.
 pub record HasItems (k : IntType) (separator : ℕ) (input : List ℕ) : Type 0 where
   pub texts : List (List ℕ)
   pub others : List (List ℕ)
@@ -48,18 +49,18 @@ pub record HasItems (k : IntType) (separator : ℕ) (input : List ℕ) : Type 0 
   pub items : items_of k separator input ≡ map Ok numbers ++ last
   pub end : EndsItems k (parse_prefix_answer k true true) (length texts) (place_after texts) (drop (place_after texts) input) others last
 
--- so it is with every input and every byte between fields
+-- This holds for every input, with any byte as the separator.
 abbrev pub TextsAndItems : IntType → Type 0
 TextsAndItems k = (separator : ℕ) (input : List ℕ) → HasItems k separator input
 
--- how many bytes a number takes at the front of what was read: none where there is no number
+-- The length in bytes of the number that was read, or 0 if there was none.
 abbrev pub number_len : Result (ℤ × ℕ) Refusal → ℕ
 number_len (Ok found) = found.1
 number_len (Err reason) = 0
 
--- the field of that number is the first of the input that is no text of the type, and the place is
--- that of the first byte of it that belongs to no number: where one can be read at its front, of the
--- byte after it, else of the field's first
+-- The field of index `index` is the first field of the input that is not a text of the type.
+-- `place` is the offset of the byte after the number that the field begins with, or the offset of
+-- the field's first byte if no number can be read there.
 pub record IsFirstBad (k : IntType) (separator : ℕ) (input : List ℕ) (index place : ℕ) : Type 0 where
   pub before : List (List ℕ)
   pub field : List ℕ
@@ -72,8 +73,8 @@ pub record IsFirstBad (k : IntType) (separator : ℕ) (input : List ℕ) (index 
   pub place_is : place
       ≡ place_after before + number_len (parse_prefix_answer k true true (drop (place_after before) input))
 
--- the items of an input decide what its fields are: where all are values, every field is a text that
--- writes its value; and where an error comes after values, it is that of the first bad field
+-- The items of an input decide what its fields are. If all items are values, every field is a text
+-- that writes its value. If an error follows some values, it is about the first bad field.
 pub record ItemsDecide (k : IntType) : Type 0 where
   pub whole : (separator : ℕ) (input : List ℕ) (numbers : List ℤ) → items_of k separator input ≡ map Ok numbers
       → AllZip (TextWrites k true) (fields_of separator input) numbers
@@ -81,22 +82,23 @@ pub record ItemsDecide (k : IntType) : Type 0 where
       → items_of k separator input ≡ map Ok numbers ++ Err flaw ∷ []
       → IsFirstBad k separator input (index_of flaw) (place_of flaw)
 
--- an input that has a byte begins with a field, which its first separator ends, and the other fields
--- are those of what stands after that separator
+-- If an input is not empty, its first field ends before the first separator, and its other fields
+-- are the fields of what follows that separator.
 abbrev pub FirstField : Type 0
 FirstField =
     (separator : ℕ) (input : List ℕ) → 0 < length input
     → fields_of separator input
     ≡ before_first (λ byte. byte == separator) input ∷ fields_of separator (after_first (λ byte. byte == separator) input)
 
--- some of the items have been read, and all of these were values, `numbers` in turn; `left` are the
--- others. A loop over a column keeps this
+-- Some of the items have been read, and all of them were values: `numbers`, in that order. The
+-- other items are `left`. A loop over a column keeps this invariant.
 pub record HaveRead (items : List (Result ℤ Flaw)) (numbers : List ℤ) (left : List (Result ℤ Flaw)) : Type 0 where
   pub parts : items ≡ map Ok numbers ++ left
   pub count : length items ≡ length numbers + length left
 
--- reading items in turn: nothing is read at first; each value is one number more; if no item is left,
--- all are numbers. Nothing follows an error, so at an error these numbers and it are all items
+-- How the invariant is kept when items are read one after another. It holds before the first item,
+-- and each value adds one number. If no item is left, all items are numbers. Nothing follows an
+-- error, so at an error the items are these numbers and then the error.
 pub record ItemsInTurn : Type 0 where
   pub start : (items : List (Result ℤ Flaw)) → HaveRead items [] items
   pub more : (items left after : List (Result ℤ Flaw)) (numbers : List ℤ) (number : ℤ) → HaveRead items numbers left

@@ -1,9 +1,9 @@
--- Where a column stands in its input.
+-- The invariant of a column that reads an input.
 use Rattle.std.specs.Prelude.{◌≡◌, ℕ, ◌+◌, ◌^◌, ◌<◌, ◌≤◌, true, List, length}
 use Rattle.atoi_column.specs.Fields.{is_separator}
 
--- its separator may stand between fields, there are no more fields than bytes before the rest, and
--- the rest ends where the input does
+-- The separator is a byte that may separate fields. The index of the next field is at most its
+-- offset `place`. `rest` begins at that offset, and ends at an offset below `2 ^ 64`.
 pub record IsInside (separator index place : ℕ) (rest : List ℕ) : Type 0 where
   pub separates : is_separator separator ≡ true
   pub fewer : index ≤ place

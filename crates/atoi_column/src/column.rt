@@ -1,4 +1,4 @@
-//! A column as an iterator over the values of its fields.
+//! `Column`, an iterator over the numbers of a byte slice that has a separator between them.
 //! It uses `parse_prefix` of `atoi_simd`, `error`, the law of `fields` and one of `atoi_core`.
 ghost use Rattle.std.specs.Prelude.{◌≡◌, ◌<◌, ◌≤◌, true, length, All, IfErr};
 ghost use Rattle.std.specs.Iterator.{YieldsFirstBy, item_count};
@@ -12,23 +12,25 @@ use atoi_simd::{Parse, parse_prefix};
 use std::iter::FusedIterator;
 use std::marker::{Model, PhantomData};
 
-/// The fields of a byte slice between separators, as an iterator over their values.
+/// An iterator over the numbers of a byte slice that has a separator between them.
 ///
-/// Each field is ended by the separator; the last may lack it. The empty slice has no field, and
-/// two separators in a row hold an empty one. A field is read by
-/// `atoi_simd::parse_prefix::<T, true, true>`: an optional `+`, or `-` where `T` is signed, any
-/// number of zeros, and digits whose number is in the range of `T`. The first field that is
-/// anything else is answered by an error, and ends the column: behind it, and behind the last
-/// field, comes `None` for good.
+/// The separator ends each field; after the last field it may be missing. So the empty slice has no
+/// field, and two separators in a row have an empty field between them. Each field must be a text
+/// that `atoi_simd::parse::<T, true, true>` accepts: an optional sign (`-` for signed types only),
+/// one or more digits, which may begin with any number of zeros, nothing else, and a value in the
+/// range of `T`.
 ///
-/// `Column::<u8>::new(b"1,002,x", b',')` gives `Ok(1)`, `Ok(2)` and the error of the field `x`.
-/// A contract sees a column as the list of the items that it has still to give.
+/// For the first field that is anything else, the iterator returns an error. After the error, and
+/// after the last field, it returns `None` for good.
+///
+/// `Column::<u8>::new(b"1,002,x", b',')` yields `Ok(1)`, `Ok(2)` and an error for the field `x`.
+/// In contracts, the value of a column is the list of the items that are still to come.
 #[derive(Drop)]
 pub struct Column<'a, T: Parse> {
-    // What is not read yet: empty at the end, and after an error.
+    // The part of the input that is not read yet. It is empty at the end, and after an error.
     rest: &'a [u8],
     separator: u8,
-    // The number of the field that `rest` begins with, and the place of its first byte.
+    // The index of the field that `rest` begins with, and the offset of its first byte.
     index: usize,
     place: usize,
     values: PhantomData<T>,
@@ -51,11 +53,12 @@ impl<'a, T: Parse> Model for Column<'a, T> {
 }
 
 impl<'a, T: Parse> Column<'a, T> {
-    /// The column that `input` is, its fields ended by `separator`, which has to be a byte that
-    /// `is_separator` accepts.
+    /// Makes a column of the fields of `input`, each of which `separator` ends.
     ///
-    /// There are no more items than bytes. The place of an error is in `input` or at its end, and
-    /// its index is less than the length of `input`, so `index + 1` cannot overflow.
+    /// `separator` has to be a byte for which `is_separator` returns `true`.
+    ///
+    /// There are at most as many items as bytes of `input`. In an error, `place` is at most the
+    /// length of `input`, and `index` is less than that length, so `index + 1` cannot overflow.
     #[inline]
     pub fn new(input: &'a [u8], separator: u8) -> Column<'a, T>
         requires { is_separator separator ≡ true }
@@ -64,7 +67,7 @@ impl<'a, T: Parse> Column<'a, T> {
         ensures places { All (λ item. IfErr item (λ flaw.
             (place_of flaw ≤ length input.now) × (index_of flaw < length input.now))) result }
     {
-        // The law that `places` follows from. The call does nothing.
+        // The clause `places` follows from this law. The call does nothing.
         prefix_of_cut::<T>();
         Column {
             rest: input,
@@ -76,7 +79,7 @@ impl<'a, T: Parse> Column<'a, T> {
     }
 }
 
-// There is no `size_hint`: how many fields are left is not known before they are read.
+// There is no `size_hint`: the number of fields that are left is not known before they are read.
 impl<'a, T: Parse> Iterator for Column<'a, T> {
     type Item = Result<T, ColumnError<'a>>;
 
@@ -84,17 +87,18 @@ impl<'a, T: Parse> Iterator for Column<'a, T> {
 
     ghost remaining = { item_count (λ left. left) };
 
-    /// The value of the next field, or why it has none; `None` at the end, and after an error.
+    /// Returns the value of the next field, or an error that says why it has none. Returns `None`
+    /// at the end, and after an error.
     #[inline]
     fn next(&mut self) -> Option<Result<T, ColumnError<'a>>> {
-        // What the items follow from. The call does nothing.
+        // The items follow from this law. The call does nothing.
         fields_are_prefixes::<T>();
         let rest = self.rest;
         let (index, place) = (self.index, self.place);
         if rest.is_empty() {
             return None;
         }
-        // Only a field that is ended by the separator leaves more to read.
+        // The column ends here unless a separator follows this field: then `rest` is set below.
         self.rest = &rest[rest.len()..];
         match parse_prefix::<T, true, true>(rest) {
             Ok(found) => {

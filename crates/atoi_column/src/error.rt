@@ -1,4 +1,4 @@
-//! Why a field of a column gives no value.
+//! `ColumnError`, which says why a field of a column has no value.
 //! It uses the error of `atoi_simd`, and a law of `atoi_core`.
 ghost use Rattle.std.specs.Prelude.{◌≡◌, ◌↔◌, IsTrue};
 
@@ -7,26 +7,27 @@ use atoi_simd::AtoiSimdError;
 use std::error::Error;
 use std::fmt;
 
-/// Why a field of a column gives no value.
+/// The reason why a field of a column has no value.
 ///
-/// A field's `index` is its number, from 0. A `place` is counted in bytes, from 0 at the first byte
-/// of the slice that the column was made of.
+/// `index` counts the fields from 0. `place` is the offset of a byte, counted from the first byte
+/// of the slice that the column was made from.
 #[derive(Debug, Clone, Copy, PartialEq, Eq)]
 pub enum ColumnError<'a> {
-    /// No number of the type can be read at the field's front.
+    /// No number of the type can be read at the start of the field.
     Field {
-        /// The field's number, from 0.
+        /// The index of the field, from 0.
         index: usize,
-        /// The place of the field's first byte.
+        /// The offset of the field's first byte.
         place: usize,
-        /// What `parse_prefix` answered from that place on; its slice reaches to the input's end.
+        /// The error that `parse_prefix` returned for the input from that byte on. Its slice
+        /// extends to the end of the input.
         cause: AtoiSimdError<'a>,
     },
-    /// Another byte stands behind the number that the field begins with.
+    /// The field begins with a number, but a byte that is not the separator follows it.
     Trailing {
-        /// The field's number, from 0.
+        /// The index of the field, from 0.
         index: usize,
-        /// The place of that byte.
+        /// The offset of that byte.
         place: usize,
     },
 }
@@ -34,7 +35,7 @@ pub enum ColumnError<'a> {
 impl ColumnError<'_> {
     ghost use Rattle.atoi_column.specs.Items.{flaw_of, index_of, place_of};
 
-    /// The number of the field, from 0.
+    /// Returns the index of the field, from 0.
     #[inline]
     pub fn index(&self) -> usize
         ensures { result ≡ index_of (flaw_of self.now) }
@@ -44,8 +45,8 @@ impl ColumnError<'_> {
         }
     }
 
-    /// The place of the error: of the field's first byte where no number can be read there,
-    /// or else of the byte after the number.
+    /// Returns the offset of the error in the input: that of the field's first byte if no number
+    /// can be read there, otherwise that of the byte after the number.
     #[inline]
     pub fn place(&self) -> usize
         ensures { result ≡ place_of (flaw_of self.now) }
@@ -55,7 +56,8 @@ impl ColumnError<'_> {
         }
     }
 
-    /// Whether both are one variant and hold equal numbers and equal errors: what `==` returns.
+    /// Says whether both errors are of the same variant and hold equal numbers and equal causes.
+    /// This is what `==` returns; a contract can use it through this function.
     pub fn is_same_as(&self, other: &ColumnError<'_>) -> bool
         ensures { IsTrue result ↔ (flaw_of self.now ≡ flaw_of other.now) }
     {
@@ -63,12 +65,12 @@ impl ColumnError<'_> {
     }
 }
 
-// The law of `clone`, for errors of a column.
+// Proves that a clone of a `ColumnError` is the same value.
 fn clones() {
     clones_are_the_same::<ColumnError<'_>>();
 }
 
-// The text has the index, the place and the cause.
+// The text names the index and the place, and for `Field` also the cause.
 impl fmt::Display for ColumnError<'_> {
     ghost use Rattle.std.specs.Prelude.{Some};
     ghost use Rattle.atoi_column.specs.ErrorText.{flaw_text};

@@ -1,12 +1,13 @@
-//! A field read as a whole, and the number at the front of the rest of the input. It uses the laws
-//! of `atoi_core` alone.
+//! The law that lets a column read each field with `parse_prefix`. It uses only the laws of
+//! `atoi_core`.
 ghost use Rattle.atoi_column.specs.Laws.{FieldsArePrefixes};
 
 use atoi_core::Number;
 use atoi_core::laws::{prefix_is_whole, prefix_of_cut, rest_changes_nothing};
 
-/// A field is accepted as a whole exactly where the number at the front of the rest of the input
-/// ends with the field, and with the same value. Calling it does nothing.
+/// `parse` accepts a field exactly if the number that `parse_prefix` reads from the field's first
+/// byte on ends where the field ends, and both return the same value. Both have their two flags on.
+/// So a column need not look for the end of a field first. Calling this function does nothing.
 #[tactic(auto, using(crate::proofs::PrefixLemmas::fields_are_prefixes))]
 pub fn fields_are_prefixes<T: Number>()
     ensures { FieldsArePrefixes T.int_type }

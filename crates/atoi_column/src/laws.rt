@@ -1,14 +1,17 @@
-//! The laws of columns: each function's contract says one, and calling it does nothing.
-//! They use the laws of `atoi_core` on accepted texts and the numbers that they write, and no parse.
+//! The laws of columns. The contract of each function states one; calling it does nothing.
+//! They use the laws of `atoi_core` about accepted texts and the numbers that they write, no parse.
 ghost use Rattle.atoi_column.specs.Laws.{TextsAndItems, ItemsDecide, ItemsInTurn, FirstField};
 
 use atoi_core::Number;
 use atoi_core::laws::{accepted_numbers, accepted_texts};
 
-/// The items of every input are the numbers of its fields before the first that is no text of the
-/// type: an optional `+`, or `-` where the type is signed, one or more digits, nothing behind them,
-/// and the value in range. Where there is such a field, one error follows, by what `parse_prefix`
-/// with both flags answers from the field's first byte on, and nothing behind it.
+/// The items of an input are the numbers of its fields, up to the first field that is not a text
+/// of the type. A text of the type is what `atoi_simd::parse` with both flags accepts: an optional
+/// sign (`-` for signed types only), one or more digits, nothing else, and a value in range.
+///
+/// If some field is not such a text, one error follows the numbers, and it is the last item. It
+/// depends on what `parse_prefix` with both flags returns for the input from that field's first
+/// byte on.
 #[tactic(auto, using(crate::proofs::TextLemmas::texts_and_items))]
 pub fn texts_and_items<T: Number>()
     ensures { TextsAndItems T.int_type }
@@ -17,10 +20,11 @@ pub fn texts_and_items<T: Number>()
     accepted_numbers::<T>();
 }
 
-/// What a column's items say of its fields. Where all items are values, every field is a text of
-/// the type that writes its value. Where an error comes after values, it is that of the first field
-/// that is no such text: `index` is the field's number, which is below the input's length, and
-/// `place` is that of the first byte of it that belongs to no number.
+/// What the items of a column say about its fields. If all items are values, every field is a text
+/// of the type that writes its value. If an error follows some values, it is about the first field
+/// that is not such a text. Its `index` is the index of the field, and is less than the length of
+/// the input. Its `place` is the offset of the byte after the number that the field begins with, or
+/// the offset of the field's first byte if no number can be read there.
 #[tactic(auto, using(crate::proofs::DecideLemmas::items_decide))]
 pub fn items_decide<T: Number>()
     ensures { ItemsDecide T.int_type }
@@ -28,17 +32,17 @@ pub fn items_decide<T: Number>()
     texts_and_items::<T>();
 }
 
-/// What a loop over a column keeps: `HaveRead items numbers left` says that the items read so far
-/// are `numbers`, and that `left` are still to come. It holds before the first item, each value adds
-/// one number to it, and if no item is left, all items are `numbers`. Nothing follows an error, so an
-/// error comes right after `numbers` and is the last item.
+/// An invariant for a loop over a column: `HaveRead items numbers left` says that the items read so
+/// far are `numbers`, and that `left` are still to come. It holds before the first item, and each
+/// value that is read adds one number to it. If no item is left, all items are `numbers`. Nothing
+/// follows an error, so an error comes right after `numbers` and is the last item.
 #[tactic(auto, using(crate::proofs::TurnLemmas::items_in_turn))]
 pub fn items_in_turn()
     ensures { ItemsInTurn }
 {}
 
-/// The first field of an input that has a byte ends before its first separator, and the other
-/// fields are those of what stands after that separator.
+/// If an input is not empty, its first field ends before the first separator, and its other fields
+/// are the fields of what follows that separator.
 #[tactic(auto, using(crate::proofs::FieldLemmas::fields_of_first))]
 pub fn first_field()
     ensures { FirstField }

@@ -2,7 +2,7 @@
 //! their values up to the first field that is refused.
 //!
 //! It uses `atoi_simd::parse_prefix` with both flags on, and the definitions and laws of
-//! `atoi_core`. It takes no memory and copies nothing.
+//! `atoi_core`. It allocates no memory and copies nothing.
 #![tactic(auto)]
 
 mod column;

@@ -1,8 +1,9 @@
-//! The bytes that may stand between fields. It uses no other module.
+//! `is_separator`, which says which bytes may separate fields. It uses no other module.
 ghost use Rattle.std.specs.Prelude.{◌≡◌};
 ghost use Rattle.atoi_column.specs.Fields.{is_separator};
 
-/// Whether `byte` may stand between the fields of a column: it is no digit, no `+` and no `-`.
+/// Says whether `byte` may separate the fields of a column. Any byte may, except digits, `+` and
+/// `-`.
 #[inline]
 pub fn is_separator(byte: u8) -> bool
     ensures { result ≡ is_separator byte }

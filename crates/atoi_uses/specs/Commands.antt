@@ -1,4 +1,4 @@
--- The commands of a protocol: a word, one space, and a number.
+-- The commands of a protocol: a word, one space and a number.
 use Rattle.std.specs.Prelude.{◌≡◌, ℕ, true, Option, Some, None, List, ◌++◌, Err, codes}
 use Rattle.atoi_core.specs.Answer.{parse_answer}
 use Rattle.atoi_core.specs.ErrorText.{error_text as cause_text}
@@ -11,35 +11,35 @@ use Rattle.atoi_uses.specs.declared.commands.CommandError.TheVariants.{UnknownWo
 use Rattle.atoi_uses.specs.declared.commands.Word.{Word}
 use Rattle.atoi_uses.specs.declared.commands.Word.TheVariants.{Set, IncrBy}
 
--- how a word is written
+-- How a word is written.
 abbrev pub word_text : Word → List ℕ
 word_text Set = codes "SET"
 word_text IncrBy = codes "INCRBY"
 
--- the line is the word, one space, and then the text
+-- The line is the word, one space, and then the text.
 abbrev pub HasWord : List ℕ → Word → (text : List ℕ) → Type 0
 HasWord line word text = line ≡ word_text word ++ codes " " ++ text
 
--- the line is the command: its word, one space, and then a text of an `i64` that writes its number
+-- The line is the command: its word, one space, and then a text that writes its number, an `i64`.
 pub record IsCommand (line : List ℕ) (command : Command) : Type 0 where
   pub text : List ℕ
   pub parts : HasWord line command.word text
   pub written : TextWrites i64_type true text command.number
 
--- what an error says of the line: it begins with no word and space; or it does, and `parse` refuses
--- the text after them for that reason
+-- What an error says about the line. `UnknownWord`: it does not begin with a word and a space.
+-- `BadNumber`: it does, and `cause` is the error of `parse` for the text after them.
 abbrev pub Refuses : List ℕ → CommandError → Type 0
 Refuses line UnknownWord = (word : Word) (text : List ℕ) → ¬ HasWord line word text
 Refuses line (BadNumber cause) =
     (word : Word) × ((text : List ℕ)
     × (HasWord line word text × (parse_answer i64_type true true text ≡ Err (refusal_of cause))))
 
--- what an error says of the number, if it says that there is none
+-- The error of `parse` that a command's error holds, if it holds one.
 abbrev pub cause_of : CommandError → Option Refusal
 cause_of UnknownWord = None
 cause_of (BadNumber cause) = Some (refusal_of cause)
 
--- the text of an error
+-- The text that an error prints.
 abbrev pub error_text : CommandError → List ℕ
 error_text UnknownWord = codes "unknown word"
 error_text (BadNumber cause) = codes "no number after the word: " ++ cause_text (refusal_of cause)

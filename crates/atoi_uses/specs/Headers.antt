@@ -4,16 +4,17 @@ use Rattle.std.specs.List.{AllPass}
 use Rattle.atoi_simd.specs.IntTypes.{u64_type}
 use Rattle.atoi_simd.specs.Text.{DigitsWrite}
 
--- a space or a tab
+-- A blank is a space or a tab.
 abbrev pub is_blank : ℕ → Bool
 is_blank byte = byte == 32 || byte == 9
 
--- what follows the blanks at the front
+-- What follows the blanks at the start.
 abbrev pub without_blanks : List ℕ → List ℕ
 without_blanks [] = []
 without_blanks (byte ∷ bytes) = if is_blank byte then without_blanks bytes else byte ∷ bytes
 
--- the value is digits that write the length as a `u64`, with blanks before and after them or none
+-- The value is digits that write the length, a `u64`, with any number of blanks before and after
+-- them.
 pub record IsContentLength (value : List ℕ) (content_length : ℕ) : Type 0 where
   pub before : List ℕ
   pub digits : List ℕ

@@ -1,22 +1,22 @@
--- The integers of JSON, in the words of its grammar.
+-- The integers of JSON, as its grammar defines them.
 use Rattle.std.specs.Prelude.{◌≡◌, ℕ, Bool, true, false, ◌&&◌, ◌||◌, not, ◌==◌, IsFalse, List, [], ◌∷◌, ◌++◌, codes, length, ℤ}
 use Rattle.atoi_simd.specs.IntTypes.{i64_type}
 use Rattle.atoi_simd.specs.Text.{DigitsWrite, BeginsWithDigit}
 
--- what stands before the digits
+-- What precedes the digits: a minus if the number is negative.
 abbrev pub minus_of : Bool → List ℕ
 minus_of true = codes "-"
 minus_of false = []
 
--- a zero stands at the front, or after a minus there, and more after it
+-- The bytes begin with a zero, or a minus and a zero, and more bytes follow.
 abbrev pub leads_with_zero : List ℕ → Bool
 leads_with_zero [] = false
 leads_with_zero (first ∷ []) = false
 leads_with_zero (first ∷ second ∷ more) = first == 48 || first == 45 && (second == 48 && not (length more == 0))
 
--- the text is an integer of JSON in the range of an `i64`, and a rest that does not begin with a
--- digit. The integer is an optional minus, then the digits, which write the number: `0` alone, or a
--- digit 1 to 9 and more digits
+-- The text is an integer of JSON in the range of `i64`, followed by a rest that does not begin with
+-- a digit. The integer is an optional minus, then the digits that write the number: either only
+-- `0`, or a digit 1 to 9 and any number of digits.
 pub record IsJsonInteger (text : List ℕ) (number : ℤ) (rest : List ℕ) : Type 0 where
   pub is_negative : Bool
   pub digits : List ℕ

@@ -1,4 +1,4 @@
--- The columns of a log line: the fields between commas after its last space.
+-- The numbers of a log line: the fields after its last space, with commas between them.
 use Rattle.std.specs.Prelude.{◌≡◌, ℕ, ◌+◌, ◌-◌, ◌^◌, ◌≤◌, ◌==◌, true, List, ◌++◌, length, map, sum, pos, codes, decimal}
 use Rattle.std.specs.List.{AllZip, after_last}
 use Rattle.atoi_core.specs.IntTypes.{u64_type}
@@ -14,19 +14,20 @@ space = 32
 abbrev pub comma : ℕ
 comma = 44
 
--- the columns of a line: what stands after its last space, or all of it where it has none
+-- The columns of a line: what follows its last space, or all of the line if it has no space.
 abbrev pub columns_of : List ℕ → List ℕ
 columns_of line = after_last (λ byte. byte == space) line
 
--- each field is a text of a `u64`, and the total is the sum of the numbers that they write
+-- Each field is a text of a `u64`, and the total is the sum of the numbers that the fields write.
 abbrev pub HasTotal : List ℕ → ℕ → Type 0
 HasTotal line total =
     (numbers : List ℕ)
     × (AllZip (TextWrites u64_type true) (fields_of comma (columns_of line)) (map pos numbers)
     × (total ≡ sum numbers))
 
--- what an error says of the line: that field is the first of its columns that is no text of a
--- `u64`, and the place is counted from the line's first byte; or its total is too large
+-- What an error says about the line. `BadField`: the field of that index is the first that is not a
+-- text of a `u64`, and the place is an offset in the line. `TooLarge`: every field is such a text,
+-- and their total is not in the range of `u64`.
 abbrev pub Refuses : List ℕ → LogError → Type 0
 Refuses line (BadField index place) =
     (place_in_columns : ℕ)
@@ -34,7 +35,7 @@ Refuses line (BadField index place) =
     × (place ≡ length line - length (columns_of line) + place_in_columns))
 Refuses line (TooLarge total) = HasTotal line total × (2 ^ 64 ≤ total)
 
--- the text of an error
+-- The text that an error prints.
 abbrev pub error_text : LogError → List ℕ
 error_text (BadField index place) =
     codes "field " ++ decimal index ++ codes " is no number, at byte " ++ decimal place

@@ -15,20 +15,20 @@ use Rattle.atoi_uses.specs.declared.signed_totals.SignedTotalError.TheVariants.{
 abbrev pub sum_of : List ℤ → ℤ
 sum_of numbers = fold ◌+ℤ◌ (pos 0) numbers
 
--- each field is a text of an `i64`, and the total is the sum of the numbers that they write
+-- Each field is a text of an `i64`, and the total is the sum of the numbers that the fields write.
 abbrev pub HasTotal : (separator : ℕ) → List ℕ → ℤ → Type 0
 HasTotal separator input total =
     (numbers : List ℤ)
     × (AllZip (TextWrites i64_type true) (fields_of separator input) numbers × (total ≡ sum_of numbers))
 
--- what an error says of the input: that field is the first that is no text of an `i64`; or the total
--- does not fit in one
+-- What an error says about the input. `BadField`: its field is the first that is not a text of an
+-- `i64`. `OutOfRange`: every field is such a text, and their total is not in the range of `i64`.
 abbrev pub Refuses : (separator : ℕ) → List ℕ → SignedTotalError → Type 0
 Refuses separator input (BadField error) =
     IsFirstBad i64_type separator input (index_of (flaw_of error)) (place_of (flaw_of error))
 Refuses separator input (OutOfRange total) = HasTotal separator input total × ¬ FitsSigned w64 total
 
--- the text of an error
+-- The text that an error prints.
 abbrev pub error_text : SignedTotalError → List ℕ
 error_text (BadField error) = flaw_text (flaw_of error)
 error_text (OutOfRange total) = codes "the total " ++ signed_decimal total ++ codes " is out of range"

@@ -1,10 +1,10 @@
--- Versions, as `1.22.333`.
+-- Versions such as `1.22.333`.
 use Rattle.std.specs.Prelude.{◌≡◌, ℕ, ◌^◌, ◌<◌, List, [], ◌∷◌, ◌++◌}
 use Rattle.std.specs.Str.Parse.{IsNumeral, digits_value}
 use Rattle.atoi_simd.specs.Text.{BeginsWithDigit}
 use Rattle.atoi_uses.specs.declared.versions.Version.{Version}
 
--- the text is the digits of a number of 32 bits, and a rest that does not begin with a digit
+-- The text is the digits of a number of 32 bits, then a rest that does not begin with a digit.
 pub record IsPart (text : List ℕ) (number : ℕ) (rest : List ℕ) : Type 0 where
   pub digits : List ℕ
   pub parts : text ≡ digits ++ rest
@@ -16,7 +16,7 @@ pub record IsPart (text : List ℕ) (number : ℕ) (rest : List ℕ) : Type 0 wh
 abbrev pub dot : ℕ
 dot = 46
 
--- the text is three numbers with dots between them, and nothing else
+-- The text is three numbers with dots between them, and nothing else.
 pub record IsVersion (text : List ℕ) (version : Version) : Type 0 where
   pub after_major : List ℕ
   pub after_minor : List ℕ

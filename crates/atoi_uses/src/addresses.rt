@@ -1,5 +1,5 @@
 //! A reader of IPv4 addresses. It uses `atoi_simd::parse_pos` and `parse_prefix_pos`, and two laws:
-//! that a slice begins with one number at most, and which digits `decimal` writes.
+//! that a slice begins with at most one number, and which digits `decimal` writes.
 ghost use Rattle.std.specs.Prelude.{◌≡◌, ◌^◌, ◌<◌, ◌++◌, ℕ, List, ◌∷◌, IfSome, IfNone, decimal};
 ghost use Rattle.atoi_simd.specs.Text.{has_needless_zero};
 ghost use Rattle.atoi_uses.specs.Addresses.{IsAddress};
@@ -23,8 +23,8 @@ pub struct Address {
     pub fourth: u8,
 }
 
-/// The address that `text` is, such as `192.168.0.1`: four numbers below 256, each without needless
-/// zeros, with dots between them.
+/// Parses `text` as an IPv4 address such as `192.168.0.1`: four numbers below 256, with dots
+/// between them, each without needless leading zeros.
 ///
 /// Returns `None` for every other text, such as `1.2.3`, `1.2.3.04` and `1.2.3.256`.
 pub fn parse_address(text: &[u8]) -> Option<Address>
@@ -43,7 +43,7 @@ pub fn parse_address(text: &[u8]) -> Option<Address>
     })
 }
 
-// The octet that `text` begins with, and what follows the dot after it.
+// Reads the octet that `text` begins with. Returns it, and what follows the dot after it.
 fn octet_and_dot(text: &[u8]) -> Option<(u8, &[u8])>
     ensures some { IfSome result (λ found. text.now ≡ decimal found.0 ++ dot ∷ found.1.now) }
     ensures only { IfSome result (λ found. (n : ℕ) (rest : List ℕ) → n < 2 ^ 8
@@ -51,7 +51,7 @@ fn octet_and_dot(text: &[u8]) -> Option<(u8, &[u8])>
     ensures none { IfNone result ((n : ℕ) (rest : List ℕ) → n < 2 ^ 8
         → ¬ (text.now ≡ decimal n ++ dot ∷ rest)) }
 {
-    // The laws. The calls do nothing.
+    // The clauses follow from these laws. The calls do nothing.
     decimal_texts::<u8>();
     prefixes_and_rests::<u8>();
     let Ok((octet, count)) = parse_prefix_pos::<u8, true>(text) else {
@@ -65,12 +65,12 @@ fn octet_and_dot(text: &[u8]) -> Option<(u8, &[u8])>
     }
 }
 
-// The octet that `text` is.
+// Parses all of `text` as an octet.
 fn octet(text: &[u8]) -> Option<u8>
     ensures some { IfSome result (λ octet. text.now ≡ decimal octet) }
     ensures none { IfNone result ((n : ℕ) → n < 2 ^ 8 → ¬ (text.now ≡ decimal n)) }
 {
-    // The law. The call does nothing.
+    // The clauses follow from this law. The call does nothing.
     decimal_texts::<u8>();
     let Ok(octet) = parse_pos::<u8, true>(text) else {
         return None;
@@ -82,7 +82,7 @@ fn octet(text: &[u8]) -> Option<u8>
     }
 }
 
-// Whether `digits` begin with a zero and go on after it.
+// Says whether `digits` begin with a zero and have more bytes after it.
 fn has_needless_zero(digits: &[u8]) -> bool
     ensures { result ≡ has_needless_zero digits.now }
 {

@@ -1,5 +1,5 @@
-//! A total that names the first bad line by its number, from 1. It uses `totals`, and its function
-//! has no proof file.
+//! A total whose error names the first bad line by its number, counted from 1. It uses `totals`,
+//! and its function has no proof file.
 ghost use Rattle.std.specs.Prelude.{◌≡◌, ◌+◌, ◌++◌, ℕ, List, Ok, IfOk, IfErr, map, pos, sum, codes, decimal};
 ghost use Rattle.atoi_core.specs.IntTypes.{u64_type};
 ghost use Rattle.atoi_column.specs.ErrorText.{flaw_text};
@@ -13,20 +13,21 @@ use std::fmt;
 
 const NEWLINE: u8 = b'\n';
 
-/// The first line that is no number of `u64`.
+/// The first line that is not a number of type `u64`.
 #[derive(Clone, Copy, Debug, PartialEq, Eq)]
 pub struct BadLine<'a> {
-    /// The number of the line, from 1.
+    /// The number of the line, counted from 1.
     pub line: usize,
-    /// Why it is no number.
+    /// Why it is not a number.
     pub error: ColumnError<'a>,
 }
 
-/// The sum of the numbers of `lines`, one a line.
+/// Adds up the numbers of `lines`, one on each line.
 ///
 /// # Errors
 ///
-/// The first line that is no number of `u64`: `total_or_bad_line(b"7\n8x\n9")` names line 2.
+/// Returns the first line that is not a number of type `u64`: `total_or_bad_line(b"7\n8x\n9")`
+/// names line 2.
 pub fn total_or_bad_line(lines: &[u8]) -> Result<u128, BadLine<'_>>
     ensures all { IfOk result (λ total. (numbers : List ℕ)
         × (items_of u64_type NEWLINE lines.now ≡ map Ok (map pos numbers))

@@ -1,5 +1,5 @@
-//! A type of one's own that a negative number is parsed to. It uses `atoi_simd::ParseNeg` of `i64`,
-//! and owes the same answers.
+//! A type of our own to which the digits of a negative number can be parsed. It uses
+//! `atoi_simd::ParseNeg` of `i64`, and must return the same answers.
 ghost use Rattle.std.specs.Prelude.{true, refl};
 ghost use Rattle.std.proofs.Common.{inl, inr};
 ghost use Rattle.atoi_core.specs.IntTypes.{i64_type};

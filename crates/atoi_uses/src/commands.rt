@@ -1,5 +1,5 @@
-//! The commands of a protocol, each a word, one space and a number.
-//! They use `atoi_simd::parse` with both flags, and the law of the texts that it accepts.
+//! A reader of the commands of a protocol, each of which is a word, one space and a number.
+//! It uses `atoi_simd::parse` with both flags, and the law that says which texts it accepts.
 ghost use Rattle.std.specs.Prelude.{◌≡◌, ◌↔◌, ℕ, List, IfSome, IfNone, IfErr, Ok};
 ghost use Rattle.atoi_uses.specs.Commands.{HasWord, IsCommand, Refuses};
 ghost use Rattle.atoi_uses.specs.declared.commands.Command.{Command};
@@ -19,19 +19,19 @@ pub enum Word {
     IncrBy,
 }
 
-/// A command: `INCRBY -7` is the word `IncrBy` and the number -7.
+/// A command. `INCRBY -7` has the word `IncrBy` and the number -7.
 #[derive(Clone, Copy, Debug, PartialEq, Eq)]
 pub struct Command {
     pub word: Word,
     pub number: i64,
 }
 
-/// Why a line is no command.
+/// Why a line is not a command.
 #[derive(Clone, Copy, Debug, PartialEq, Eq)]
 pub enum CommandError<'a> {
-    /// The line does not begin with a word in capitals and a space.
+    /// The line does not begin with `SET` or `INCRBY` and a space.
     UnknownWord,
-    /// The rest of the line is no number of `i64`: the error of `atoi_simd::parse`.
+    /// What follows them is not a number of type `i64`. Holds the error of `atoi_simd::parse`.
     BadNumber(AtoiSimdError<'a>),
 }
 
@@ -51,20 +51,21 @@ impl fmt::Display for CommandError<'_> {
 
 impl Error for CommandError<'_> {}
 
-/// The command that `line` is: a word in capitals, one space, and a number of `i64`, which may have
-/// a sign and zeros in front. Nothing else may stand in the line, not even a line feed at its end.
+/// Parses all of `line` as a command: a word in capitals, one space, and a number of type `i64`,
+/// which may have a sign and leading zeros. Nothing else is accepted, not even a line feed at the
+/// end.
 ///
-/// `read_command(b"SET 42")` answers the word `Set` and the number 42.
+/// `read_command(b"SET 42")` returns the word `Set` and the number 42.
 ///
 /// # Errors
 ///
-/// - `UnknownWord` where the line does not begin with a word and a space;
-/// - `BadNumber` where what stands after them is no number of `i64`.
+/// - `UnknownWord` if the line does not begin with a word and a space;
+/// - `BadNumber` if what follows them is not a number of type `i64`.
 pub fn read_command(line: &[u8]) -> Result<Command, CommandError<'_>>
     ensures exact { (command : Command) → (result ≡ Ok command) ↔ IsCommand line.now command }
     ensures refused { IfErr result (λ error. Refuses line.now error) }
 {
-    // The law of the numbers that texts write. The call does nothing.
+    // The law that says which texts `parse` accepts, and as which number. The call does nothing.
     accepted_texts::<i64>();
     let Some((word, text)) = word_and_text(line) else {
         return Err(CommandError::UnknownWord);
@@ -75,7 +76,7 @@ pub fn read_command(line: &[u8]) -> Result<Command, CommandError<'_>>
     }
 }
 
-// The word that `line` begins with, and what stands after the space behind it.
+// Returns the word that `line` begins with, and what follows the space after it.
 fn word_and_text(line: &[u8]) -> Option<(Word, &[u8])>
     ensures some { IfSome result (λ found. HasWord line.now found.0 found.1.now) }
     ensures none { IfNone result ((word : Word) (text : List ℕ) → ¬ HasWord line.now word text) }

@@ -1,5 +1,5 @@
 //! A reader of dates.
-//! It uses `atoi_simd::parse_pos`, which says which digits write a number.
+//! It uses `atoi_simd::parse_pos`, whose contract says which digits write a number.
 ghost use Rattle.std.specs.Prelude.{◌≡◌, ◌↔◌, ◌≤◌, ℕ, IsTrue, IfSome, IfNone, length};
 ghost use Rattle.atoi_uses.specs.Dates.{is_leap_year, days_of, IsDay, AreDigitsOf, HasDashes, IsDate};
 ghost use Rattle.atoi_uses.specs.declared.dates.Date.{Date as DateValue};
@@ -17,9 +17,10 @@ pub struct Date {
     pub day: u16,
 }
 
-/// The date that `text` is, as `2024-02-29`: four digits, two and two, with dashes between them.
+/// Parses `text` as a date such as `2024-02-29`: four digits of the year, two of the month and two
+/// of the day, with dashes between them.
 ///
-/// It is `None` for every other text, and where the calendar has no such day, as of `2023-02-29`.
+/// Returns `None` for every other text, and if the calendar has no such day, as for `2023-02-29`.
 pub fn parse_date(text: &[u8]) -> Option<Date>
     ensures some { IfSome result (λ date. IsDate text.now date) }
     ensures none { IfNone result ((any : DateValue) → ¬ IsDate text.now any) }
@@ -37,14 +38,15 @@ pub fn parse_date(text: &[u8]) -> Option<Date>
     }
 }
 
-// Whether `text` has ten bytes, with dashes where a date has them.
+// Says whether `text` has ten bytes, with dashes at the offsets 4 and 7.
 fn has_dashes(text: &[u8]) -> bool
     ensures { IsTrue result ↔ HasDashes text.now }
 {
     text.len() == 10 && text[4] == b'-' && text[7] == b'-'
 }
 
-// The number that `digits` write, where these are digits alone.
+// Returns the number that `digits` write, or `None` if they are not one or more digits and nothing
+// else.
 fn number(digits: &[u8]) -> Option<u16>
     requires { length digits.now ≤ 4 }
     ensures some { IfSome result (λ number. AreDigitsOf digits.now number) }
@@ -56,14 +58,14 @@ fn number(digits: &[u8]) -> Option<u16>
     }
 }
 
-// Whether the calendar has that day.
+// Says whether the calendar has that day.
 fn is_day(year: u16, month: u16, day: u16) -> bool
     ensures { IsTrue result ↔ IsDay year month day }
 {
     1 <= month && month <= 12 && 1 <= day && day <= days_in(year, month)
 }
 
-// How many days the month has.
+// Returns how many days the month has.
 fn days_in(year: u16, month: u16) -> u16
     ensures { result ≡ days_of year month }
 {
@@ -75,7 +77,7 @@ fn days_in(year: u16, month: u16) -> u16
     }
 }
 
-// Whether the year has a 29th of February.
+// Says whether the year has a 29th of February.
 fn is_leap(year: u16) -> bool
     ensures { result ≡ is_leap_year year }
 {

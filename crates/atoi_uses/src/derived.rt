@@ -1,4 +1,5 @@
-//! The laws of `clone` and `==` for the types of this crate. It uses `atoi_core::derived`.
+//! Proves for the types of this crate that a clone is the same value, and that `==` says whether
+//! two values are the same. It uses `atoi_core::derived`.
 ghost use Rattle.std.specs.Prelude.{◌≡◌, ◌↔◌, IsTrue};
 ghost use Rattle.atoi_uses.specs.Commands.{cause_of};
 

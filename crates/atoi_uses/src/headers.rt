@@ -1,13 +1,13 @@
 //! A reader of the header `Content-Length` of HTTP. It uses `atoi_simd::parse_prefix_pos`, and two
-//! laws: that a slice begins with one number at most, and that a number begins with a digit.
+//! laws: that a slice begins with at most one number, and that a number begins with a digit.
 ghost use Rattle.std.specs.Prelude.{◌≡◌, ℕ, IfSome, IfNone};
 ghost use Rattle.atoi_uses.specs.Headers.{IsContentLength, without_blanks};
 
 use atoi_simd::laws::{decimal_texts, prefixes_and_rests};
 use atoi_simd::parse_prefix_pos;
 
-/// The length that the value of a header `Content-Length` is: the digits of a number of `u64`, with
-/// spaces and tabs before and after them or none.
+/// Parses the value of a header `Content-Length`: the digits of a number of type `u64`, with any
+/// number of spaces and tabs before and after them.
 ///
 /// `content_length(b" 348 ")` is `Some(348)`. Returns `None` for every other value, such as `+1`,
 /// `1 2` and an empty one.
@@ -15,7 +15,7 @@ pub fn content_length(value: &[u8]) -> Option<u64>
     ensures some { IfSome result (λ length. IsContentLength value.now length) }
     ensures none { IfNone result ((any : ℕ) → ¬ IsContentLength value.now any) }
 {
-    // The laws. The calls do nothing.
+    // The clauses follow from these laws. The calls do nothing.
     decimal_texts::<u64>();
     prefixes_and_rests::<u64>();
     let field = without_blanks(value);
@@ -29,7 +29,7 @@ pub fn content_length(value: &[u8]) -> Option<u64>
     }
 }
 
-// What follows the blanks that `text` begins with.
+// Returns what follows the spaces and tabs that `text` begins with.
 fn without_blanks(text: &[u8]) -> &[u8]
     ensures { result.now ≡ without_blanks text.now }
 {

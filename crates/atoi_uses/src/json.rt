@@ -1,23 +1,23 @@
 //! A reader of the integers of JSON.
-//! It uses `atoi_simd::parse_prefix`, which says what front of a slice writes a number, and the law
-//! that there is one such front.
+//! It uses `atoi_simd::parse_prefix`, whose contract says which prefix of a slice writes a number,
+//! and the law that there is at most one such prefix.
 ghost use Rattle.std.specs.Prelude.{◌≡◌, ℕ, ℤ, List, IfSome, IfNone};
 ghost use Rattle.atoi_uses.specs.Json.{IsJsonInteger, leads_with_zero};
 
 use atoi_simd::laws::prefixes_and_rests;
 use atoi_simd::parse_prefix;
 
-/// The integer at the front of `text`, as JSON writes one, and what stands after it: of `-40,7`
+/// Reads the integer of JSON that `text` begins with. Returns it, and what follows it: for `-40,7`
 /// these are -40 and `,7`.
 ///
-/// It is `None` where no integer of JSON stands there, as of `+1`, `-`, `007` and ` 1`, and where
-/// the integer is out of the range of an `i64`.
+/// Returns `None` if `text` does not begin with an integer of JSON, as for `+1`, `-`, `007` and
+/// ` 1`, and if the integer is out of the range of `i64`.
 pub fn json_integer(text: &[u8]) -> Option<(i64, &[u8])>
     ensures some { IfSome result (λ found. IsJsonInteger text.now found.0 found.1.now) }
     ensures none { IfNone result ((number : ℤ) (rest : List ℕ)
         → ¬ IsJsonInteger text.now number rest) }
 {
-    // The law that a slice has one front that writes a number. The call does nothing.
+    // The law that at most one prefix of a slice writes a number. The call does nothing.
     prefixes_and_rests::<i64>();
     let Ok((number, count)) = parse_prefix::<i64, true, false>(text) else {
         return None;
@@ -29,7 +29,7 @@ pub fn json_integer(text: &[u8]) -> Option<(i64, &[u8])>
     }
 }
 
-// Whether `integer` begins with a zero, or a minus and a zero, and goes on after it.
+// Says whether `integer` begins with a zero, or a minus and a zero, and has more bytes after it.
 fn has_leading_zero(integer: &[u8]) -> bool
     ensures { result ≡ leads_with_zero integer.now }
 {

@@ -1,5 +1,5 @@
-//! The columns of a log line, summed: the numbers between commas after its last space.
-//! They use `totals`, which sums the column, and a law of `atoi_column`.
+//! The sum of the numbers of a log line: those after its last space, with commas between them.
+//! It uses `totals`, which adds up a column, and a law of `atoi_column`.
 ghost use Rattle.std.specs.Prelude.{◌≡◌, ◌+◌, ◌^◌, ◌<◌, IfOk, IfErr};
 ghost use Rattle.atoi_column.specs.Items.{flaw_of, index_of, place_of};
 ghost use Rattle.atoi_uses.specs.LogLines.{columns_of, HasTotal, Refuses};
@@ -10,18 +10,18 @@ use atoi_column::laws::items_decide;
 use std::error::Error;
 use std::fmt;
 
-/// Why the columns of a log line have no total of 64 bits.
+/// Why the numbers of a log line have no total of type `u64`.
 #[derive(Clone, Copy, Debug, PartialEq, Eq)]
 pub enum LogError {
-    /// A field is no number of `u64`; it is the first such field.
+    /// A field is not a number of type `u64`. This is the first such field.
     BadField {
-        /// The field's number, from 0.
+        /// The index of the field, from 0.
         index: usize,
-        /// The place of a byte in the line, from 0: of the field's first, where no number can be
-        /// read there, or else of the one after the number.
+        /// The offset of a byte in the line: of the field's first byte if no number can be read
+        /// there, otherwise of the byte after the number.
         place: usize,
     },
-    /// Every field is a number, and this sum of them is above the greatest `u64`.
+    /// Every field is a number, but their sum, which this holds, is larger than `u64::MAX`.
     TooLarge(u128),
 }
 
@@ -43,20 +43,22 @@ impl fmt::Display for LogError {
 
 impl Error for LogError {}
 
-/// The sum of the numbers after the last space of `line`, between commas; of all of `line` where it
-/// has no space. A comma may stand after the last number too. The sum of no numbers is 0.
+/// Adds up the numbers that follow the last space of `line`, with commas between them. If `line`
+/// has no space, all of it is read in this way. A comma may also follow the last number. The sum of
+/// no numbers is 0.
 ///
 /// `columns_total(b"2026-11-22T10:00:00 200,512,13")` is `Ok(725)`.
 ///
 /// # Errors
 ///
-/// - `BadField` for the first field that is no number of `u64`, which may have a `+` and zeros;
-/// - `TooLarge` where the sum is above the greatest `u64`.
+/// - `BadField` for the first field that is not a number of type `u64`. A field may begin with a
+///   `+` and with zeros.
+/// - `TooLarge` if the sum is larger than `u64::MAX`.
 pub fn columns_total(line: &[u8]) -> Result<u64, LogError>
     ensures total { IfOk result (λ total. HasTotal line.now total) }
     ensures refused { IfErr result (λ error. Refuses line.now error) }
 {
-    // The law of what a column's items say of its fields. The call does nothing.
+    // The law that says what the items of a column mean for its fields. The call does nothing.
     items_decide::<u64>();
     let columns = columns(line);
     let start = line.len() - columns.len();
@@ -69,7 +71,8 @@ pub fn columns_total(line: &[u8]) -> Result<u64, LogError>
     }
 }
 
-// The error of a line whose columns begin at `start`, by theirs.
+// Returns the error for a line whose fields begin at the offset `start`. `error` is the error for
+// these fields.
 fn bad_field(start: usize, error: &ColumnError<'_>) -> LogError
     requires { start + place_of (flaw_of error.now) < 2 ^ 64 }
     ensures { result ≡ LogError.BadField (index_of (flaw_of error.now))
@@ -81,7 +84,7 @@ fn bad_field(start: usize, error: &ColumnError<'_>) -> LogError
     }
 }
 
-// What stands after the last space of `line`, or all of it where it has none.
+// Returns what follows the last space of `line`, or all of it if it has no space.
 fn columns(line: &[u8]) -> &[u8]
     ensures { result.now ≡ columns_of line.now }
 {
@@ -114,7 +117,7 @@ mod tests {
         assert_eq!(rt; columns_total(b""), Ok(0));
     }
 
-    // The columns begin at place 20.
+    // In the lines with a date and a space, the fields begin at the offset 20.
     #[test]
     fn the_first_bad_field_is_told_by_its_place(rt: HostRuntime) {
         assert_eq!(rt;

@@ -1,6 +1,7 @@
-//! An engine of one's own: numbers in EBCDIC, as mainframes write them.
-//! It uses the traits `Alphabet` and `Engine` of `atoi_core`, and its parse of a prefix, for the
-//! type `Cents`.
+//! An engine of our own, for numbers in EBCDIC, as mainframes write them. An engine implements the
+//! reads of digits that the parses of `atoi_core` are made of.
+//! It uses the traits `Alphabet` and `Engine` of `atoi_core`, and its `prefix_pos` with the type
+//! `Cents`.
 ghost use Rattle.std.specs.Prelude.{◌≡◌, ◌≤◌, true, false, IfOk, length};
 ghost use Rattle.std.proofs.Common.{arith};
 ghost use Rattle.std.proofs.lemmas.Bool.Decides.{nat_tests};
@@ -12,7 +13,7 @@ use crate::cents::Cents;
 use atoi_core::{Alphabet, Engine, Steps, Window, front_of, prefix_pos};
 use atoi_simd::AtoiSimdError;
 
-/// The engine of EBCDIC: its digits are the bytes `0xF0` to `0xF9`, and it reads byte by byte.
+/// The engine of EBCDIC. Its digits are the bytes `0xF0` to `0xF9`, and it reads byte by byte.
 pub struct Ebcdic;
 
 impl Alphabet for Ebcdic {
@@ -44,13 +45,14 @@ impl Engine for Ebcdic {
     ghost below_ten = { λ byte. Prim.grind (arith, nat_tests) };
 }
 
-/// The amount at the front of `field`, in cents, and how many bytes of it are its digits.
+/// Reads the amount in cents that `field` begins with. Returns it, and the length of its digits in
+/// bytes.
 ///
-/// `field` has digits in EBCDIC and no sign; any number of zeros may stand in front.
+/// `field` has digits in EBCDIC and no sign. It may begin with any number of zeros.
 ///
 /// # Errors
 ///
-/// Those of `atoi_simd::parse_prefix_pos::<i64, true>`, with the digits of EBCDIC.
+/// Returns the errors of `atoi_simd::parse_prefix_pos::<i64, true>`, with the digits of EBCDIC.
 pub fn amount(field: &[u8]) -> Result<(Cents, usize), AtoiSimdError<'_>>
     ensures answer { typed_prefix_answer (λ amount. amount.0) result
         ≡ prefix_answer ebcdic_table i64_type false true field.now }

@@ -1,4 +1,4 @@
-//! Calls and their results, as the pages CALLING.md print them. It has tests only.
+//! Calls and their results, which the pages CALLING.md show. It has only tests.
 
 #[cfg(test)]
 mod tests {
@@ -7,14 +7,14 @@ mod tests {
 
     #[test]
     fn errors_of_a_parse(rt: HostRuntime) {
-        // No digit: the second flag is off, so a `+` is not accepted.
+        // No digit at the start: SKIP_PLUS is off, so the `+` is not accepted.
         assert_eq!(rt; parse::<i8, false, false>(b"+5"), Err(AtoiSimdError::Empty));
-        // Too many digits: without SKIP_ZEROES leading zeros count.
+        // Too many digits: without SKIP_ZEROES, leading zeros count towards the limit.
         assert_eq!(rt;
             parse::<i64, false, false>(b"09223372036854775807"),
             Err(AtoiSimdError::Size(20, b"09223372036854775807"))
         );
-        // Out of range.
+        // Out of range. With 16 digits the slice leaves out skipped zeros, with 15 it keeps them.
         assert_eq!(rt;
             parse_prefix::<u8, true, false>(b"0000000000000999x"),
             Err(AtoiSimdError::Overflow(b"999x"))
@@ -23,7 +23,7 @@ mod tests {
             parse_prefix::<u8, true, false>(b"000000000000999x"),
             Err(AtoiSimdError::Overflow(b"000000000000999x"))
         );
-        // At index 7 another byte, after digits of value 12.
+        // Another byte follows the digits, at index 7. The value of the digits is 12.
         assert_eq!(rt;
             parse::<u128, true, false>(b"0000012x"),
             Err(AtoiSimdError::Invalid128(12, 7, b"0000012x"))
@@ -51,7 +51,7 @@ mod tests {
                 cause,
             }))
         );
-        // A space is no part of a number, and the column skips none.
+        // A space is not part of a number, and a column does not skip spaces.
         assert_eq!(rt;
             Column::<u8>::new(b"1, 2", b',').nth(1),
             Some(Err(ColumnError::Field {
@@ -70,7 +70,7 @@ mod tests {
             Column::<u8>::new(b"12\r\n3\r\n", b'\n').next(),
             Some(Err(ColumnError::Trailing { index: 0, place: 2 }))
         );
-        // The slice in a cause goes on to the end of the input.
+        // The slice in `cause` extends to the end of the input.
         let cause = AtoiSimdError::Overflow(b"256,1");
         assert_eq!(rt;
             Column::<u8>::new(b"256,1", b',').next(),

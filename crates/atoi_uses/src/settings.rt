@@ -7,11 +7,12 @@ ghost use Rattle.atoi_core.specs.Refusal.{refusal_of};
 
 use atoi_simd::{AtoiSimdError, parse_prefix};
 
-/// The number that `text` begins with, which may have a sign and leading zeros, and what follows it.
+/// Reads the number that `text` begins with, which may have a sign and leading zeros. Returns it,
+/// and what follows it.
 ///
 /// # Errors
 ///
-/// Those of `atoi_simd::parse_prefix::<i64, true, true>`.
+/// Returns the errors of `atoi_simd::parse_prefix::<i64, true, true>`.
 pub fn number_and_rest(text: &[u8]) -> Result<(i64, &[u8]), AtoiSimdError<'_>>
     ensures some { IfOk result (λ found. (count : ℕ)
         × (parse_prefix_answer i64_type true true text.now ≡ Ok (found.0, count))
@@ -23,10 +24,10 @@ pub fn number_and_rest(text: &[u8]) -> Result<(i64, &[u8]), AtoiSimdError<'_>>
     Ok((number, &text[count..]))
 }
 
-/// The key and the number of the setting that `line` begins with, and what follows it: for
-/// `w=+12px` these are `w`, 12 and `px`. The key is any one byte.
+/// Reads the setting that `line` begins with: a key, which is any one byte, then `=` and a number.
+/// Returns the key, the number and what follows it: for `w=+12px` these are `w`, 12 and `px`.
 //
-// A key of one byte needs no proof by hand; a cut by `strip_prefix` left goals that did.
+// With a key of one byte, no proof by hand is needed. A body that called `strip_prefix` needed one.
 pub fn setting(line: &[u8]) -> Option<(u8, i64, &[u8])>
     ensures some { IfSome result (λ found. (count : ℕ)
         × (take 2 line.now ≡ found.0 ∷ codes "=")

@@ -9,29 +9,30 @@ use atoi_column::{Column, ColumnError};
 use std::error::Error;
 use std::fmt;
 
-/// Why a column of signed numbers has no total of 64 bits.
+/// Why a column of signed numbers has no total of type `i64`.
 #[derive(Clone, Copy, Debug, PartialEq, Eq)]
 pub enum SignedTotalError<'a> {
-    /// A field is no number of `i64`; it is the first such field.
+    /// A field is not a number of type `i64`. This is the first such field.
     BadField(ColumnError<'a>),
-    /// Every field is a number, and this sum of them is not in the range of `i64`.
+    /// Every field is a number, but their sum, which this holds, is out of the range of `i64`.
     OutOfRange(i128),
 }
 
-/// The sum of the numbers of `input`, whose fields are ended by `separator`.
+/// Adds up the numbers of `input`, whose fields `separator` ends.
 ///
-/// The sums of the first few numbers may leave the range of `i64`; only the sum of all matters.
+/// The sum of the first few numbers may be out of the range of `i64`; only the sum of all matters.
 ///
 /// # Errors
 ///
-/// - `BadField` if a field is no number of `i64`, which may have a sign and leading zeros;
-/// - `OutOfRange` if the sum is not in the range of `i64`.
+/// - `BadField` if a field is not a number of type `i64`, which may have a sign and leading zeros;
+/// - `OutOfRange` if the sum is out of the range of `i64`.
 pub fn signed_total(input: &[u8], separator: u8) -> Result<i64, SignedTotalError<'_>>
     requires { is_separator separator ≡ true }
     ensures total { IfOk result (λ total. HasTotal separator input.now total) }
     ensures refused { IfErr result (λ error. Refuses separator input.now error) }
 {
-    // The laws of reading items in turn, and of what they say of the fields. The calls do nothing.
+    // The laws about reading items one after another, and about what they say of the fields. The
+    // calls do nothing.
     items_in_turn();
     items_decide::<i64>();
     let mut total = 0i128;

@@ -1,9 +1,9 @@
-//! The text of an error, for tests.
+//! The text that an error prints, for tests. It uses only std.
 
 use std::alloc::{AllocError, Global};
 use std::error::Error;
 
-/// The text of an error of which only the trait `Error` is known.
+/// Returns the text that `error` prints. Nothing is known of its type except the trait `Error`.
 pub(crate) fn printed<E: Error>(alloc: Global, error: &E) -> Result<String, AllocError> {
     format!(in alloc; "{error}")
 }

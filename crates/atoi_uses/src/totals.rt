@@ -1,5 +1,5 @@
-//! The total of a column of numbers: one a line, or between other separators. It uses
-//! `atoi_column::Column`, whose contract names the items, and two laws of `atoi_column`.
+//! The total of a column of numbers, which has one number on each line or another separator. It
+//! uses `atoi_column::Column`, whose contract names the items, and two laws of `atoi_column`.
 ghost use Rattle.std.specs.Prelude.{◌≡◌, ◌<◌, ◌≤◌, ◌++◌, ℕ, true, List, [], ◌∷◌, length, pos, Ok, Err, IfOk, IfErr, map, sum};
 ghost use Rattle.atoi_core.specs.IntTypes.{u64_type};
 ghost use Rattle.atoi_column.specs.Fields.{is_separator};
@@ -11,12 +11,12 @@ use atoi_column::{Column, ColumnError};
 
 const NEWLINE: u8 = b'\n';
 
-/// The sum of the numbers of `lines`, one a line.
+/// Adds up the numbers of `lines`, one on each line.
 ///
 /// # Errors
 ///
-/// Why the first line that is no number is refused: the error holds the index of the line, from 0,
-/// and the place of a byte.
+/// Returns the error of the first line that is not a number of type `u64`. It holds the index of
+/// the line, from 0, and the offset of a byte in `lines`.
 pub fn total(lines: &[u8]) -> Result<u128, ColumnError<'_>>
     ensures all { IfOk result (λ total. (numbers : List ℕ)
         × (items_of u64_type NEWLINE lines.now ≡ map Ok (map pos numbers))
@@ -32,12 +32,12 @@ pub fn total(lines: &[u8]) -> Result<u128, ColumnError<'_>>
     column_total(lines, NEWLINE)
 }
 
-/// The sum of the numbers of `input`, whose fields are ended by `separator`.
+/// Adds up the numbers of `input`, whose fields `separator` ends.
 ///
 /// # Errors
 ///
-/// Why the first field that is no number is refused: the error holds the index of the field, from
-/// 0, and the place of a byte in `input`.
+/// Returns the error of the first field that is not a number of type `u64`. It holds the index of
+/// the field, from 0, and the offset of a byte in `input`.
 pub fn column_total(input: &[u8], separator: u8) -> Result<u128, ColumnError<'_>>
     requires { is_separator separator ≡ true }
     ensures all { IfOk result (λ total. (numbers : List ℕ)
@@ -51,7 +51,8 @@ pub fn column_total(input: &[u8], separator: u8) -> Result<u128, ColumnError<'_>
     ensures inside { IfErr result (λ error. (place_of (flaw_of error) ≤ length input.now)
         × (index_of (flaw_of error) < length input.now)) }
 {
-    // The laws of reading items in turn, and of what they say of the fields. The calls do nothing.
+    // The laws about reading items one after another, and about what they say of the fields. The
+    // calls do nothing.
     items_in_turn();
     items_decide::<u64>();
     let mut total = 0;

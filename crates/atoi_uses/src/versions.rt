@@ -1,6 +1,6 @@
 //! A reader of versions.
-//! It uses `atoi_simd::parse_prefix_pos`, which says what front of a slice writes a number, and the
-//! law that there is one such front.
+//! It uses `atoi_simd::parse_prefix_pos`, whose contract says which prefix of a slice writes a
+//! number, and the law that there is at most one such prefix.
 ghost use Rattle.std.specs.Prelude.{◌≡◌, ℕ, List, ◌∷◌, IfSome, IfNone};
 ghost use Rattle.atoi_uses.specs.Versions.{IsPart, IsVersion, dot};
 ghost use Rattle.atoi_uses.specs.declared.versions.Version.{Version as VersionValue};
@@ -19,9 +19,10 @@ pub struct Version {
     pub patch: u32,
 }
 
-/// The version that `text` is, as `1.22.333`: three numbers of 32 bits with dots between them.
+/// Parses `text` as a version such as `1.22.333`: three numbers of type `u32`, with dots between
+/// them.
 ///
-/// It is `None` for every other text, as `1.2`, `1..3`, `1.2.3-rc1` and `v1.2.3`.
+/// Returns `None` for every other text, such as `1.2`, `1..3`, `1.2.3-rc1` and `v1.2.3`.
 pub fn parse_version(text: &[u8]) -> Option<Version>
     ensures some { IfSome result (λ version. IsVersion text.now version) }
     ensures none { IfNone result ((any : VersionValue) → ¬ IsVersion text.now any) }
@@ -40,14 +41,14 @@ pub fn parse_version(text: &[u8]) -> Option<Version>
     }
 }
 
-// The number at the front of `text`, and what stands after it.
+// Reads the number that `text` begins with. Returns it, and what follows it.
 fn part(text: &[u8]) -> Option<(u32, &[u8])>
     ensures some { IfSome result (λ found. IsPart text.now found.0 found.1.now) }
     ensures only { IfSome result (λ found. (number : ℕ) (rest : List ℕ)
         → IsPart text.now number rest → (number ≡ found.0) × (rest ≡ found.1.now)) }
     ensures none { IfNone result ((number : ℕ) (rest : List ℕ) → ¬ IsPart text.now number rest) }
 {
-    // The law that a slice has one front that writes a number. The call does nothing.
+    // The law that at most one prefix of a slice writes a number. The call does nothing.
     prefixes_and_rests::<u32>();
     match parse_prefix_pos::<u32, true>(text) {
         Ok((number, count)) => Some((number, &text[count..])),
@@ -55,7 +56,7 @@ fn part(text: &[u8]) -> Option<(u32, &[u8])>
     }
 }
 
-// What stands after the dot that `text` begins with.
+// Returns what follows the dot that `text` begins with.
 pub(crate) fn after_dot(text: &[u8]) -> Option<&[u8]>
     ensures some { IfSome result (λ rest. text.now ≡ dot ∷ rest.now) }
     ensures none { IfNone result ((rest : List ℕ) → ¬ (text.now ≡ dot ∷ rest)) }

@@ -1,15 +1,15 @@
-//! That a call gives the answer that is expected, stated once for all tests: an assertion by itself
-//! costs the proof of each test that makes it. It uses std alone.
+//! Functions that check whether a call returned the expected answer. All tests share them: a test
+//! with `assert_eq!` in its own body takes longer to prove. It uses only std.
 
 use std::fmt::Debug;
 use std::process::Abort;
 
-/// A call gives the expected answer.
+/// Checks that a call returned the expected answer.
 pub(crate) fn gives<A: Copy + Debug + PartialEq>(rt: &impl Abort, answer: A, expected: A) {
     assert_eq!(rt; answer, expected);
 }
 
-/// The root and `lanes` give the expected answer.
+/// Checks that the root of `atoi_simd` and its module `lanes` returned the expected answer.
 pub(crate) fn both_give<A: Copy + Debug + PartialEq>(
     rt: &impl Abort,
     root: A,
@@ -20,7 +20,7 @@ pub(crate) fn both_give<A: Copy + Debug + PartialEq>(
     assert_eq!(rt; lanes, expected, "of lanes");
 }
 
-/// The three engines give the expected answer.
+/// Checks that the call returned the expected answer over each of the three engines.
 pub(crate) fn each_gives<A: Copy + Debug + PartialEq>(
     rt: &impl Abort,
     plain: A,

@@ -1,5 +1,6 @@
-//! That each call over an engine answers by the plain rules. It uses `plain_rules`, `answers` and
-//! the calls of `atoi_core`.
+//! Checks that each call over an engine returns what `plain_rules` says. An engine implements the
+//! reads of digits that the parses are made of. It uses `plain_rules`, `answers` and the calls of
+//! `atoi_core`.
 ghost use Rattle.std.specs.Prelude.{◌<◌};
 
 use crate::answers::gives;
@@ -12,8 +13,8 @@ use atoi_core::{
 use atoi_simd::lanes::Lanes;
 use std::process::Abort;
 
-/// Checks the windows of each of the three engines, the parses over them, and the digit loop, on one
-/// slice.
+/// Checks on one slice the windows of each of the three engines, the parses over each engine, and
+/// the digit loop. A window is what an engine reads from the first 8 or 16 bytes.
 pub(crate) fn check(rt: &impl Abort, text: &[u8]) {
     check_digit_loop(rt, text);
     check_decimal::<Plain>(rt, text);
@@ -21,7 +22,7 @@ pub(crate) fn check(rt: &impl Abort, text: &[u8]) {
     check_decimal::<Lanes>(rt, text);
 }
 
-/// The same, and the core calls of each type.
+/// Checks what `check` does, and the core calls of each type.
 pub(crate) fn check_all(rt: &impl Abort, text: &[u8]) {
     check(rt, text);
     check_types::<Plain>(rt, Body::of(text));
@@ -40,7 +41,7 @@ fn check_digit_loop(rt: &impl Abort, text: &[u8]) {
     }
 }
 
-// Checks the windows of an engine of decimal digits, and the parses over it.
+// Checks the windows of an engine for decimal digits, and the parses over it.
 fn check_decimal<E: Engine>(rt: &impl Abort, text: &[u8]) {
     let mut steps = Steps::new();
     let window = told(E::window(text, &mut steps));
@@ -50,7 +51,7 @@ fn check_decimal<E: Engine>(rt: &impl Abort, text: &[u8]) {
     check_engine::<E>(rt, Body::of(text));
 }
 
-// What a window says: its digits, its zeros, and the number that the digits write.
+// Returns what a window holds: how many digits, how many zeros, and the value of the digits.
 fn told(window: Window) -> (usize, usize, Option<u128>) {
     (
         window.len as usize,
@@ -59,7 +60,7 @@ fn told(window: Window) -> (usize, usize, Option<u128>) {
     )
 }
 
-/// Checks the parses over an engine, whose digits are those of the body.
+/// Checks the parses over an engine. `body` counts the digits of that engine.
 pub(crate) fn check_engine<E: Engine>(rt: &impl Abort, body: Body<'_>) {
     for skip in [false, true] {
         check_narrow::<E>(rt, skip, body);
@@ -129,7 +130,7 @@ fn check_128<E: Engine>(rt: &impl Abort, skip: bool, body: Body<'_>) {
     }
 }
 
-/// Checks the core calls of each type over an engine, whose digits are those of the body.
+/// Checks the core calls of each type over an engine. `body` counts the digits of that engine.
 pub(crate) fn check_types<E: Engine>(rt: &impl Abort, body: Body<'_>) {
     let (unsigned, signed) = (Class::Wide64(20), Class::Wide64(19));
     for skip in [false, true] {
@@ -148,7 +149,8 @@ pub(crate) fn check_types<E: Engine>(rt: &impl Abort, body: Body<'_>) {
     }
 }
 
-// Whether the number of a whole parse is negative, and its magnitude.
+// Splits the number of a whole parse: says whether it is negative, and returns its magnitude, which
+// is its value without the sign.
 fn parts<T: Number>(
     answer: Result<T, AtoiSimdError<'_>>,
 ) -> Result<(bool, u128), AtoiSimdError<'_>> {
@@ -158,7 +160,7 @@ fn parts<T: Number>(
     }
 }
 
-// The same of a prefix, and its length.
+// Does the same for a prefix, and also returns its length.
 fn prefix_parts<T: Number>(
     answer: Result<(T, usize), AtoiSimdError<'_>>,
 ) -> Result<(bool, u128, usize), AtoiSimdError<'_>> {
@@ -171,7 +173,7 @@ fn prefix_parts<T: Number>(
     }
 }
 
-// The core calls for numbers from 0 to `bound`.
+// Checks the core calls for numbers from 0 to `bound`.
 fn check_pos<E: Engine, T: Number>(
     rt: &impl Abort,
     class: Class,
@@ -193,7 +195,7 @@ fn check_pos<E: Engine, T: Number>(
     );
 }
 
-// All core calls of a signed type, whose least number has that magnitude.
+// Checks all core calls of a signed type, whose smallest value has the magnitude `magnitude`.
 fn check_both<E: Engine, T: Signed>(
     rt: &impl Abort,
     class: Class,

@@ -1,5 +1,6 @@
-//! Decimal texts, those of every u8 and every i8 under the four choices of flags. It uses `answers`,
-//! `decimal` of `atoi_core` and the public calls of `atoi_simd`.
+//! Checks the decimal texts that `decimal` writes: `parse` returns the value of every u8 and every
+//! i8 from its text, with each of the four choices of flags. It uses `answers`, `decimal` of
+//! `atoi_core` and the public calls of `atoi_simd`.
 ghost use Rattle.std.specs.Prelude.{◌≤◌};
 
 use crate::answers::both_give;
@@ -8,7 +9,7 @@ use atoi_simd::{lanes, parse};
 use std::fmt::Debug;
 use std::process::Abort;
 
-// Both crates parse the text to the value, whatever the flags.
+// Checks that `parse` of the root and of `lanes` returns the value, whatever the flags.
 fn check<T: atoi_simd::Parse + lanes::Parse + Debug + PartialEq>(
     rt: &impl Abort,
     text: &[u8],
@@ -45,8 +46,8 @@ fn every_u8(rt: HostRuntime) {
     }
 }
 
-// Puts the decimal text of the magnitude of `value` behind the first byte of `out`, and answers its
-// length.
+// Writes the decimal text of the magnitude of `value` to `out`, after the first byte, and returns
+// the length of the text.
 fn put_magnitude(value: i8, out: &mut [u8; 40]) -> usize
     ensures { result ≤ 39 }
 {

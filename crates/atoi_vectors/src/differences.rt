@@ -1,9 +1,9 @@
-//! Rows of the tool's form that the Rust crate `atoi_simd` 0.18.1 and this port answer otherwise,
-//! by the rule in which they differ, with both answers. It uses no other module; the crate's
-//! README.md says how the original's answers were made.
+//! Rows in the form of the tool, for which the Rust crate `atoi_simd` 0.18.1 and this port give
+//! different answers, with both answers: one list for each of the two rules that differ. It uses no
+//! other module. The README.md of this crate says how the answers of the original were made.
 
-/// `parse_prefix` counts a plus that it takes: the rows with SKIP_PLUS and a text that begins with a
-/// plus and digits that are accepted, one a line.
+/// The first rule: `parse_prefix` counts a plus that it consumes. These are the rows with SKIP_PLUS
+/// and a text that begins with a plus and digits, which are accepted, one on each line.
 pub const PLUS_ROWS: &[u8] = b"\
 w prefix u128 -p +000000000000000008!
 w prefix u128 zp +000000000000000008!
@@ -38,7 +38,7 @@ w prefix i32 -p +12a
 w prefix u64 -p +000000000000000008!
 ";
 
-/// What the original answers to these rows: its count leaves the plus out.
+/// What the original answers to these rows: its count does not include the plus.
 pub const PLUS_ORIGINAL: &[u8] = b"\
 ok 8 18
 ok 8 18
@@ -108,8 +108,8 @@ ok 12 3
 ok 8 19
 ";
 
-/// A prefix of a type of up to 32 bits that skips no zeros has at most 16 digits: the rows with such
-/// a call and a text with more digits, one a line.
+/// The second rule: a prefix of a type of up to 32 bits, without SKIP_ZEROES, has at most 16
+/// digits. These are the rows with such a call and a text with more digits, one on each line.
 pub const LONG_ROWS: &[u8] = b"\
 w prefix_pos u32 -- 0000000000000000000000000000000000000000x
 w prefix u16 -p +000000000000000008!
@@ -137,8 +137,8 @@ w prefix_pos u16 -- 0000000000000000000000000000000000000000x
 w prefix i16 -p +000000000000000008!
 ";
 
-/// What the original answers to these rows: it reads the first 16 digits alone, and stops inside the
-/// run.
+/// What the original answers to these rows: it reads only the first 16 digits, so that its count
+/// ends between two digits.
 pub const LONG_ORIGINAL: &[u8] = b"\
 ok 0 16
 ok 0 16

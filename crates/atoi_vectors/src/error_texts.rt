@@ -1,6 +1,6 @@
-//! What `Display` writes of an error, against texts written by hand. No clause says that it returns
-//! `Ok`, so each variant is printed here, with the shortest and the longest slices and numbers. It
-//! uses `parse` and the error of `atoi_simd`.
+//! Compares what `Display` writes for an error with texts written by hand. No clause says that
+//! `Display` returns `Ok`, so the tests print each variant, with the shortest and the longest
+//! slices and numbers. It uses `parse` and the error of `atoi_simd`.
 
 use atoi_simd::AtoiSimdError::{self, Empty, Invalid64, Invalid128, Overflow, Size};
 use atoi_simd::parse;

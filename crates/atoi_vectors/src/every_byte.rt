@@ -1,11 +1,11 @@
-//! That each engine answers by the plain rules on every byte at every place, in each call. It uses
-//! `core_calls` only.
+//! Checks that each call over each engine returns what the plain rules say, with every byte at
+//! every offset. It uses only `core_calls`.
 ghost use Rattle.std.specs.Prelude.{◌<◌, ◌≤◌};
 
 use crate::core_calls::check;
 use std::process::Abort;
 
-// Forty-one times `fill`, with each byte in turn at `place`.
+// Checks a slice of 41 bytes `fill`, with each byte in turn at the offset `place`.
 fn check_place(rt: &impl Abort, fill: u8, place: usize)
     requires { place < 41 }
 {
@@ -30,8 +30,8 @@ fn among_ones(rt: HostRuntime) {
     }
 }
 
-// A run of `len` ones, each byte from 0xFA on in turn, which carries into the byte above it in a
-// sum over a word, and eight nines.
+// Checks `len` ones, then each byte from 0xFA on in turn, then eight nines. If a constant is added
+// to all bytes of a word at once, such a byte carries into the next one.
 fn check_carry(rt: &impl Abort, len: usize)
     requires { len ≤ 16 }
 {
@@ -50,7 +50,7 @@ fn before_nines(rt: HostRuntime) {
     }
 }
 
-// `len` times `fill`.
+// Checks a slice of `len` bytes `fill`.
 fn check_run(rt: &impl Abort, fill: u8, len: usize)
     requires { len ≤ 48 }
 {
@@ -58,7 +58,7 @@ fn check_run(rt: &impl Abort, fill: u8, len: usize)
     check(rt, &text[..len]);
 }
 
-// `len` zeros and then a seven.
+// Checks `len` zeros and then a seven.
 fn check_seven(rt: &impl Abort, len: usize)
     requires { len ≤ 48 }
 {

@@ -1,5 +1,6 @@
-//! The kernels on words and on lanes, on every byte at every place and on loads of every kind of
-//! length. It uses `plain_rules` and `answers`, the kernels and the engines.
+//! Checks the kernels, which are public functions on a word or a vector of bytes: with every byte
+//! at every offset, and after loads of short and long slices. It uses `plain_rules`, `answers` and
+//! the kernels of `atoi_core` and `atoi_lanes`.
 ghost use Rattle.std.specs.Prelude.{◌<◌};
 
 use crate::answers::gives;
@@ -9,8 +10,8 @@ use atoi_simd::lanes::kernels::{len_lanes, load_lanes, sum_lanes, zeroes_lanes};
 use std::process::Abort;
 use std::simd::prelude::*;
 
-// The kernels on lanes: what a window of sixteen bytes tells, but that zeros count where it is not
-// full.
+// Checks the kernels on lanes. They return what a window of 16 bytes holds, except that leading
+// zeros are also counted if not all 16 bytes are digits.
 fn check_lanes(rt: &impl Abort, bytes: [u8; 16]) {
     let lanes = u8x16::from_array(bytes);
     let (len, _, number) = plain_rules::window(16, &bytes);
@@ -25,7 +26,7 @@ fn check_lanes(rt: &impl Abort, bytes: [u8; 16]) {
     gives(rt, sum_lanes(lanes, 0), 0);
 }
 
-// Sixteen times `fill`, with each byte in turn at `place`.
+// Checks 16 bytes `fill`, with each byte in turn at the offset `place`.
 fn check_lanes_at(rt: &impl Abort, fill: u8, place: usize)
     requires { place < 16 }
 {
@@ -45,7 +46,7 @@ fn every_byte_in_every_lane(rt: HostRuntime) {
     }
 }
 
-// The kernels on words of eight bytes, likewise.
+// Checks the kernels on words of 8 bytes in the same way.
 fn check_word(rt: &impl Abort, bytes: [u8; 8]) {
     let word = u64::from_le_bytes(bytes);
     let (len, _, number) = plain_rules::window(8, &bytes);
@@ -61,7 +62,7 @@ fn check_word(rt: &impl Abort, bytes: [u8; 8]) {
     }
 }
 
-// Eight times `fill`, with each byte in turn at `place`.
+// Checks 8 bytes `fill`, with each byte in turn at the offset `place`.
 fn check_word_at(rt: &impl Abort, fill: u8, place: usize)
     requires { place < 8 }
 {
@@ -81,7 +82,7 @@ fn every_byte_in_a_word(rt: HostRuntime) {
     }
 }
 
-// The kernels on words of sixteen bytes, likewise.
+// Checks the kernels on words of 16 bytes in the same way.
 fn check_long_word(rt: &impl Abort, bytes: [u8; 16]) {
     let word = u128::from_le_bytes(bytes);
     let (len, _, number) = plain_rules::window(16, &bytes);
@@ -90,7 +91,8 @@ fn check_long_word(rt: &impl Abort, bytes: [u8; 16]) {
         len_zeroes_128(word) as usize,
         plain_rules::count_zeros(&bytes),
     );
-    // How many digits there are is told on lanes: no kernel counts those of sixteen bytes.
+    // A kernel on lanes counts the digits here, because no kernel on words counts those of 16
+    // bytes.
     let told = len_lanes(u8x16::from_array(bytes));
     gives(rt, told as usize, len);
     if told > 0 {
@@ -98,7 +100,7 @@ fn check_long_word(rt: &impl Abort, bytes: [u8; 16]) {
     }
 }
 
-// Sixteen times `fill`, with each byte in turn at `place`.
+// Checks 16 bytes `fill`, with each byte in turn at the offset `place`.
 fn check_long_word_at(rt: &impl Abort, fill: u8, place: usize)
     requires { place < 16 }
 {
@@ -117,7 +119,7 @@ fn every_byte_in_a_long_word(rt: HostRuntime) {
     }
 }
 
-// The first bytes of `text`, and zeros behind them.
+// Returns the first `N` bytes of `text`. If there are fewer, bytes 0 follow them.
 fn padded<const N: usize>(text: &[u8]) -> [u8; N] {
     let mut bytes = [0; N];
     for (byte, loaded) in text.iter().zip(&mut bytes) {

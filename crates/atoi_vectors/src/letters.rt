@@ -1,12 +1,13 @@
-//! Two engines of other digits, and what the calls answer over them: they are generic over engines,
-//! so they read by any table of digits. It uses `Alphabet` and `front_of` of `atoi_core`.
+//! Two engines whose digits are letters, and tests of the calls over them. The calls are generic
+//! over engines, so they work with any table of digits. It uses `Alphabet` and `front_of` of
+//! `atoi_core`.
 ghost use Rattle.std.proofs.Common.{arith};
 ghost use Rattle.std.proofs.lemmas.Bool.Decides.{nat_tests};
 ghost use Rattle.std.specs.Prelude.{◌-◌, ◌&&◌, nat_le, Some, None, if◌then◌else◌};
 
 use atoi_core::{Alphabet, Engine, Steps, Window, front_of};
 
-/// The letters `A` to `J`, worth 0 to 9.
+/// The engine whose digits are the letters `A` to `J`, with the values 0 to 9.
 pub(crate) struct Letters;
 
 impl Alphabet for Letters {
@@ -38,7 +39,7 @@ impl Engine for Letters {
     ghost below_ten = { λ byte. Prim.grind (arith, nat_tests) };
 }
 
-/// The letters `A` to `J` and `a` to `j`: two bytes for each worth.
+/// The engine whose digits are the letters `A` to `J` and `a` to `j`: two bytes for each value.
 pub(crate) struct BothCases;
 
 impl Alphabet for BothCases {

@@ -1,5 +1,5 @@
-//! The worked rows of the loops under the ten functions, on each of the three engines. It uses
-//! `answers`, `atoi_core` and `Lanes`.
+//! Worked examples of the loops that the ten functions call, over each of the three engines. It
+//! uses `answers`, `atoi_core` and `Lanes`.
 
 use crate::answers::{each_gives, gives};
 use atoi_core::AtoiSimdError::{self, Empty, Invalid64, Invalid128, Overflow, Size};
@@ -11,10 +11,10 @@ use atoi_simd::lanes::Lanes;
 use std::process::Abort;
 use std::test::Fail;
 
-// The greatest u8.
+// `u8::MAX` as a bound.
 const GREATEST_U8: u64 = 255;
 
-// Runs each function of rows on each engine, on a text where one is given.
+// Calls each function of examples with each engine, and with a text if one is given.
 macro_rules! on_each_engine {
     ($rt:expr; $($rows:ident $(($text:expr))?),*) => {
         $(
@@ -83,7 +83,8 @@ fn narrow_overflows<E: Engine>(rt: &impl Abort) {
     );
 }
 
-// Checks that each engine, and the digit loop, answers so to a whole slice.
+// Checks that a parse of the whole slice returns `expected`, over each engine and by the digit
+// loop.
 fn check_narrow_whole(rt: &impl Abort, text: &[u8], expected: Result<u64, AtoiSimdError<'_>>) {
     let mut steps = Steps::new();
     let plain = narrow_whole_windows::<Plain>(GREATEST_U8, text, &mut steps);

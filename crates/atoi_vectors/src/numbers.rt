@@ -1,10 +1,11 @@
-//! The constants and the ends of the twelve types, compared with std's. It uses `Number` and `Signed`
-//! of `atoi_core`.
+//! Compares the constants, the largest and the smallest values of the twelve types with those of
+//! std. It uses `Number` and `Signed` of `atoi_core`.
 
 use crate::answers::gives;
 use atoi_core::{Number, Signed};
 
-// Each row is a type of std, and the magnitudes of its largest and of its smallest value.
+// Each row is a type of std and its largest value. In `signed!` the magnitude of its smallest value
+// follows.
 macro_rules! unsigned {
     ($rt:expr; $($integer:ident, $largest:expr;)*) => {
         $(

@@ -1,9 +1,10 @@
-//! Rows of the tool's form that the Rust crate `atoi_simd` 0.18.1 and this port answer alike, and
-//! their answers, which are the original's. It uses no other module; the rows with two answers are
-//! in `differences`, and the crate's README.md says how all answers were made.
+//! Rows in the form of the tool, for which the Rust crate `atoi_simd` 0.18.1 and this port give the
+//! same answers, and these answers, which the Rust crate gave. It uses no other module. The rows
+//! with two different answers are in `differences`; the README.md of this crate says how all
+//! answers were made.
 
-/// The rows, one a line: `ENGINE CALL TYPE FLAGS TEXT`. Engine `l` answers as engine `w`, so each
-/// row serves both.
+/// The rows, one on each line: `ENGINE CALL TYPE FLAGS TEXT`. All name the engine `w`. The answers
+/// of the engine `l` are the same, so each row serves both.
 pub const ROWS: &[u8] = b"\
 w parse u32 z- -0
 w parse isize -- +5
@@ -672,7 +673,7 @@ w prefix u8 zp -0x
 w prefix u64 -- -0x
 ";
 
-/// The answer to each row, one a line in the order of the rows.
+/// The answers, one on each line, in the order of the rows.
 pub const ANSWERS: &[u8] = b"\
 err atoi_simd string is empty
 err atoi_simd string is empty

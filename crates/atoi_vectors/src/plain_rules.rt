@@ -1,10 +1,10 @@
-//! What a call answers, counted digit by digit from the rules alone. It uses the error type, and no
-//! engine and no loop of the libraries.
+//! The rules of `docs/SPECIFICATION.md` once more, as code that counts digit by digit. The tests
+//! compare each call with it. It uses the error type, but no engine and no loop of the libraries.
 ghost use Rattle.std.specs.Prelude.{◌≤◌, length};
 
 use atoi_simd::AtoiSimdError::{self, Empty, Invalid64, Invalid128, Overflow, Size};
 
-// How many digits `s` begins with.
+// Returns how many digits `s` begins with.
 fn count_digits(s: &[u8]) -> usize
     ensures { result ≤ length s.now }
 {
@@ -13,14 +13,14 @@ fn count_digits(s: &[u8]) -> usize
         .unwrap_or(s.len())
 }
 
-/// How many zeros `s` begins with.
+/// Returns how many zeros `s` begins with.
 pub(crate) fn count_zeros(s: &[u8]) -> usize
     ensures { result ≤ length s.now }
 {
     s.iter().position(|byte| *byte != b'0').unwrap_or(s.len())
 }
 
-// The number that digits write; none if it is above `u128::MAX`.
+// Returns the value of the digits, or `None` if it is above `u128::MAX`.
 fn with_sign(digits: &[u8]) -> Option<u128> {
     let mut number = 0u128;
     for digit in digits {
@@ -31,7 +31,8 @@ fn with_sign(digits: &[u8]) -> Option<u128> {
     Some(number)
 }
 
-/// What a window of `size` bytes says: its digits, its zeros, and the number that the digits write.
+/// Returns what the window of the first `size` bytes holds: how many digits they begin with; how
+/// many zeros, or 0 if not all `size` bytes are digits; and the value of the digits.
 pub(crate) fn window(size: usize, s: &[u8]) -> (usize, usize, Option<u128>) {
     let front = &s[..size.min(s.len())];
     let len = count_digits(front);
@@ -39,8 +40,8 @@ pub(crate) fn window(size: usize, s: &[u8]) -> (usize, usize, Option<u128>) {
     (len, zeros, with_sign(&front[..len]))
 }
 
-/// The rules of a type: those of at most 32 bits; those of 64 bits, with the most digits that count;
-/// or those of 128 bits.
+/// The size of a type, on which its rules depend: up to 32 bits; 64 bits, with the limit of
+/// significant digits, which are those after the skipped leading zeros; or 128 bits.
 #[derive(Clone, Copy)]
 pub(crate) enum Class {
     Narrow,
@@ -54,14 +55,14 @@ pub(crate) struct Body<'a> {
     pub bytes: &'a [u8],
     /// How many zeros it begins with.
     pub zeros: usize,
-    /// How many digits it begins with, these zeros among them.
+    /// How many digits it begins with, including these zeros.
     pub digits: usize,
-    /// The number that the digits write; none if it is above `u128::MAX`.
+    /// The value of the digits, or `None` if it is above `u128::MAX`.
     pub number: Option<u128>,
 }
 
 impl<'a> Body<'a> {
-    /// The slice, its decimal digits counted one by one.
+    /// Counts the decimal digits of a slice one by one.
     pub(crate) fn of(bytes: &'a [u8]) -> Body<'a> {
         let digits = count_digits(bytes);
         Body {
@@ -72,13 +73,14 @@ impl<'a> Body<'a> {
         }
     }
 
-    // The slice without so many of its zeros.
+    // Returns the slice without its first `zeros` bytes.
     fn without(self, zeros: usize) -> &'a [u8] {
         &self.bytes[zeros.min(self.bytes.len())..]
     }
 
-    // How many zeros the slice of an overflow leaves out. With skipping, a narrow prefix leaves out
-    // the zeros in whole blocks of 16 bytes, and the others too if the next block is full of digits.
+    // Returns how many zeros the slice of `Overflow` leaves out. For a narrow prefix with
+    // SKIP_ZEROES these are the leading zeros in whole blocks of 16 bytes, and the others too if
+    // the next block is full of digits.
     fn dropped(self, class: Class, skip: bool) -> usize {
         match class {
             _ if !skip => 0,
@@ -87,7 +89,7 @@ impl<'a> Body<'a> {
         }
     }
 
-    // The error that the digits give whatever they write, if there is one.
+    // Returns the error that depends only on how many digits there are, if there is one.
     fn refusal(self, class: Class, skip: bool) -> Option<AtoiSimdError<'a>> {
         let zeros = if skip { self.zeros } else { 0 };
         let counting = self.digits.saturating_sub(zeros);
@@ -107,7 +109,7 @@ impl<'a> Body<'a> {
         }
     }
 
-    /// What a prefix answers for numbers of at most `bound`: the number, and its length.
+    /// Returns the answer of a prefix parse for numbers up to `bound`: the number, and its length.
     pub(crate) fn prefix(
         self,
         class: Class,
@@ -121,8 +123,8 @@ impl<'a> Body<'a> {
         }
     }
 
-    /// What a whole parse answers. One of a narrow type always skips, and keeps all zeros of an
-    /// overflow.
+    /// Returns the answer of a whole parse for numbers up to `bound`. That of a narrow type always
+    /// skips leading zeros, and the slice of its `Overflow` keeps all of them.
     pub(crate) fn whole(
         self,
         class: Class,

@@ -1,12 +1,13 @@
-//! That each engine answers by the plain rules on the slices of the worked rows and on the original's
-//! texts, in each call. It uses `core_calls` only.
+//! Checks that each call over each engine returns what the plain rules say, on the slices of the
+//! worked examples and on the texts of the original's rows. It uses `core_calls` and these rows.
 
 use crate::core_calls::check_all;
 use crate::differences::{LONG_ROWS, PLUS_ROWS};
 use crate::original::ROWS;
 use std::process::Abort;
 
-// The slices of the worked rows, without their signs, and those of the windows: one a line.
+// The slices of the worked examples, without their signs, and those of the tests of windows: one on
+// each line.
 const WORKED: &[u8] = b"\
 000000000000000000001234
 1234
@@ -81,7 +82,7 @@ fn on_every_worked_slice(rt: HostRuntime) {
     }
 }
 
-// Checks the text of each row, which has four words before it.
+// Checks the text of each row, which follows the first four words.
 fn check_texts(rt: &impl Abort, rows: &[u8]) {
     for row in rows.split(is_end) {
         let text = row.splitn(5, |byte| *byte == b' ').nth(4);

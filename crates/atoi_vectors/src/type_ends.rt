@@ -1,6 +1,7 @@
-//! Both ends of each of the twelve types, and one past each: after the sign, after zeros, before
-//! another byte, as a whole and as a prefix, with and without skipping. It uses `plain_rules`,
-//! `answers` and the public calls of `atoi_simd`.
+//! Checks the largest value of each of the twelve types, the smallest of each signed type, and the
+//! number one past each of these: with each sign, after zeros, before another byte, as a whole and
+//! as a prefix, with and without SKIP_ZEROES. It uses `plain_rules`, `answers` and the public calls
+//! of `atoi_simd`.
 
 use crate::answers::both_give;
 use crate::plain_rules::{Body, Class};
@@ -9,19 +10,19 @@ use std::alloc::{AllocError, Global};
 use std::fmt::Debug;
 use std::process::Abort;
 
-// The signs of a number that is not negative, and that of one that is.
+// The signs of a number that is not negative. Below is the sign of a negative number.
 const POSITIVE: &[&[u8]] = &[b"", b"+"];
 
 const NEGATIVE: &[&[u8]] = &[b"-"];
 
-// The rules of a type, and the digits of one end of it.
+// The rules of a type, and the digits of its largest or its smallest value.
 #[derive(Clone, Copy)]
 struct End {
     class: Class,
     digits: &'static [u8],
 }
 
-// A sign, zeros, digits and what follows them.
+// Joins a sign, zeros, digits and what follows them.
 fn text_of(
     alloc: Global,
     sign: &[u8],
@@ -38,8 +39,8 @@ fn text_of(
     Ok(text)
 }
 
-// The whole parses and the prefixes of both libraries answer by the rules: the value of the end
-// where the digits are in range, and else an error.
+// Checks that `parse` and `parse_prefix` of both libraries follow the rules: they return `value` if
+// the digits are in range, and otherwise an error.
 fn check_text<T: atoi_simd::Parse + lanes::Parse + Copy + Debug + PartialEq>(
     rt: &impl Abort,
     end: End,
@@ -86,8 +87,8 @@ fn check<T: atoi_simd::Parse + lanes::Parse + Copy + Debug + PartialEq>(
     }
 }
 
-// Each row is a type and its class, signs, the digits of an end of it and its value, and the digits
-// of the number one past it.
+// Each row has a type, its rules, signs, the digits of its largest or smallest value, that value,
+// and the digits of the number one past it.
 macro_rules! check_ends {
     ($rt:expr; $($integer:ident, $class:expr, $signs:expr, $digits:expr => $value:expr, $past:expr;)*) => {
         $(
@@ -112,7 +113,7 @@ fn of_unsigned_types(rt: HostRuntime) {
     );
 }
 
-// One past the largest value stands the magnitude of the smallest.
+// The number one past the largest value is the magnitude of the smallest value.
 #[test]
 fn of_narrow_signed_types(rt: HostRuntime) {
     check_ends!(rt;

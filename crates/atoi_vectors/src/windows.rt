@@ -1,10 +1,11 @@
-//! What one window says, on each of the three engines. It uses the engines only.
+//! Checks what one window holds, read by each of the three engines. A window describes the digits
+//! that the first 8 or 16 bytes begin with. It uses only the engines.
 
 use atoi_core::{Engine, Plain, Steps, Window, Words, front_of};
 use atoi_simd::lanes::Lanes;
 use std::process::Abort;
 
-// The slice, and how many digits its window has, how many zeros, and the number that they write.
+// A slice, and what its window holds: how many digits, how many zeros, and the value of the digits.
 type Row = (&'static [u8], (u32, u32, u64));
 
 fn told(window: Window) -> (u32, u32, u64) {

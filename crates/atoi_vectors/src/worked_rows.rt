@@ -1,5 +1,5 @@
-//! The worked rows of the ten functions. Each is stated once and runs on the root and on `lanes`.
-//! It uses `answers`, the public calls of `atoi_simd`, and `take_sign` of `atoi_core`.
+//! Worked examples of the ten functions. Each is written once, and checked for the root and for
+//! `lanes`. It uses `answers`, the public calls of `atoi_simd`, and `take_sign` of `atoi_core`.
 
 use crate::answers::{both_give, gives};
 use atoi_core::take_sign;
@@ -7,7 +7,7 @@ use atoi_simd::AtoiSimdError::{self, Empty, Invalid64, Overflow, Size};
 use atoi_simd::{lanes, parse};
 use std::process::Abort;
 
-// Each row is a call and its answer, which the root and `lanes` have to give alike.
+// Each row is a call and the answer that both the root and `lanes` must return.
 macro_rules! on_both {
     ($rt:expr; $($call:ident::<$($argument:tt),*>($text:expr) => $answer:expr;)*) => {
         $(

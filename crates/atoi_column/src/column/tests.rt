@@ -10,7 +10,7 @@ use std::alloc::{AllocError, Global};
 use std::error::Error;
 use std::test::Fail;
 
-// Of a field that begins at `place` and has no number.
+// The item for a field that begins at the offset `place` and does not begin with a digit.
 fn empty<'a>(index: usize, place: usize) -> Result<u8, ColumnError<'a>> {
     let cause = AtoiSimdError::Empty;
     Err(ColumnError::Field {
@@ -88,7 +88,7 @@ fn an_error_has_the_number_and_the_place_of_its_field(rt: HostRuntime) {
     assert_eq!(rt; (field.index(), field.place()), (2, 5));
 }
 
-// The text of an error of which no more is known.
+// Returns the text that `error` prints. Nothing is known of its type except the trait `Error`.
 fn printed<E: Error>(alloc: Global, error: &E) -> Result<String, AllocError> {
     format!(in alloc; "{error}")
 }
@@ -146,7 +146,7 @@ fn the_slice_of_a_cause_reaches_to_the_end(rt: HostRuntime) {
     assert_eq!(rt; column.next(), None);
 }
 
-// A `for` that adds up the values.
+// Adds up the values in a `for` loop.
 fn sum(column: Column<'_, u8>) -> u64 {
     let mut sum = 0u64;
     for item in column {
@@ -170,7 +170,7 @@ fn a_column_is_an_iterator_as_any(rt: HostRuntime) -> Result<(), Fail> {
     Ok(())
 }
 
-// A million fields `7`, and a last one that is no number.
+// A million fields `7`, and a last field that is not a number.
 fn sevens(alloc: Global) -> Result<Vec<u8>, AllocError> {
     let mut input = Vec::with_capacity(alloc, 2_000_001)?;
     for _ in 0..1_000_000 {

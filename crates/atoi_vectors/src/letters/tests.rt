@@ -1,5 +1,6 @@
-//! Long runs of letters in each call, answered by what each run was built of, and worked rows. It
-//! uses `core_calls`, `plain_rules`, `answers` and the engines above.
+//! Checks long runs of letters in each call: the expected answer follows from the parts that each
+//! run is made of. Also has worked examples. It uses `core_calls`, `plain_rules`, `answers` and the
+//! engines of `letters`.
 
 use super::{BothCases, Letters};
 use crate::answers::gives;
@@ -9,7 +10,7 @@ use atoi_core::AtoiSimdError::{Empty, Invalid64, Invalid128, Overflow};
 use atoi_core::{Engine, Steps, narrow_prefix, prefix_pos, whole_64, whole_128};
 use std::test::Fail;
 
-// Letters, and the number that they write: none if it is above `u128::MAX`.
+// Letters and their value, which is `None` if it is above `u128::MAX`.
 const RUNS: [(&[u8], Option<u128>); 12] = [
     (b"", Some(0)),
     (b"H", Some(7)),
@@ -28,7 +29,8 @@ const RUNS: [(&[u8], Option<u128>); 12] = [
     (b"BBBBBBBBBBBBBBBBBBBBBBBBBBBBBBBBBBBBBBBBBBBBBBBB", None),
 ];
 
-// Each run after 0 to 48 zeros, at the end of the slice and before a digit 7, which is no letter.
+// Each run follows 0 to 48 zeros. It ends the slice, or the byte `7` follows, which is not a
+// letter.
 #[test]
 fn long_runs_of_letters(rt: HostRuntime) -> Result<(), Fail> {
     for zeros in 0..=48 {

@@ -1,5 +1,5 @@
-//! Each row of the original crate, answered by the root and by `lanes`. It uses the public calls of
-//! `atoi_simd`, and what `atoi_core` prints.
+//! Checks that the root and `lanes` give the expected answer to each row of the original crate. It
+//! uses the public calls of `atoi_simd`, and the texts of numbers and errors of `atoi_core`.
 
 use super::{ANSWERS, ROWS};
 use crate::differences::{
@@ -67,7 +67,7 @@ fn integer_of(word: &[u8]) -> Option<Integer> {
     }
 }
 
-// A row without its engine.
+// A row, except its engine.
 #[derive(Clone, Copy)]
 struct Row<'a> {
     call: Call,
@@ -135,12 +135,13 @@ fn put_prefix<T: Number>(
     }
 }
 
-// What a row whose type has no such call is answered: no row has that answer, so the test fails.
+// Writes the answer to a row whose type does not have its call. No row has that answer, so the test
+// fails.
 fn put_unknown(line: &mut Vec<u8>) -> Result<(), AllocError> {
     line.extend_from_slice(b"unknown")
 }
 
-// A call whose const flags are those of the row.
+// Calls a function with the flags of the row as its const arguments.
 macro_rules! by_flag {
     ($surface:ident::$call:ident, $row:expr) => {
         if $row.skip_zeroes {
@@ -282,8 +283,8 @@ fn check_rows(
     Ok(())
 }
 
-// How many rows there are: those that the original answers alike, those with a plus that is counted
-// here alone, and the narrow prefixes of more than 16 digits.
+// How many rows there are: those with the same answer in the original, those with a plus that only
+// this port counts, and the prefixes of types up to 32 bits with more than 16 digits.
 const ALIKE: usize = 665;
 
 const PLUS: usize = 31;
@@ -305,7 +306,7 @@ fn both_refuse_a_narrow_prefix_of_more_than_16_digits(rt: HostRuntime) -> Result
     check_rows(&rt, rt.alloc(), LONG_ROWS, LONG_ANSWERS, LONG)
 }
 
-// Checks that the original answers each of these rows, and each otherwise than this port.
+// Checks that the answers of the original and of this port differ in each of the `count` rows.
 fn check_differences(rt: &impl Abort, original: &[u8], answers: &[u8], count: usize) {
     let differing = original
         .split(is_end)
