@@ -60,27 +60,27 @@ module _ (whole : List ℕ → Result ℤ Refusal) (prefix : List ℕ → Result
     abbrev text : List ℕ
     text = before_first (λ byte. byte == separator) rest
 
-    abbrev behind : List ℕ
-    behind = after_first (λ byte. byte == separator) rest
+    abbrev following : List ℕ
+    following = after_first (λ byte. byte == separator) rest
 
-    first_field : items_from whole prefix index place rest (fields_of separator rest) ≡ items_from whole prefix index place rest (text ∷ fields_of separator behind)
+    first_field : items_from whole prefix index place rest (fields_of separator rest) ≡ items_from whole prefix index place rest (text ∷ fields_of separator following)
     first_field = ap (items_from whole prefix index place rest) (fields_of_first separator rest some)
 
     -- If the number at the start ends where the field ends, its value is the first item. The others
     -- are those of what comes after the separator.
     item-value : (v : ℤ) → prefix rest ≡ Ok (v, field_end)
         → items_from whole prefix index place rest (fields_of separator rest)
-        ≡ Ok v ∷ items_from whole prefix (index + 1) (place + field_end + 1) behind (fields_of separator behind)
+        ≡ Ok v ∷ items_from whole prefix (index + 1) (place + field_end + 1) following (fields_of separator following)
     item-value v h =
         let ends : length text ≡ field_end = length-before_first (λ byte. byte == separator) rest in
-        first_field ∙ (items_from-ok index place rest text (fields_of separator behind) v (law.to_field v h)
-        ∙ ap (λ n. Ok v ∷ items_from whole prefix (index + 1) (place + n + 1) (drop (n + 1) rest) (fields_of separator behind)) ends)
+        first_field ∙ (items_from-ok index place rest text (fields_of separator following) v (law.to_field v h)
+        ∙ ap (λ n. Ok v ∷ items_from whole prefix (index + 1) (place + n + 1) (drop (n + 1) rest) (fields_of separator following)) ends)
 
     -- If no number ends where the field ends, the only item is an error.
     item-flaw : ((v : ℤ) → prefix rest ≡ Ok (v, field_end) → ⊥)
         → items_from whole prefix index place rest (fields_of separator rest) ≡ Err (flaw_at index place (prefix rest)) ∷ []
     item-flaw none =
-        first_field ∙ items_from-err index place rest text (fields_of separator behind) (λ v h. none v (law.to_prefix v h))
+        first_field ∙ items_from-err index place rest text (fields_of separator following) (λ v h. none v (law.to_prefix v h))
 
     -- If a number is followed by the separator, it ends where the field ends.
     ends_with_field : (v : ℤ) (count : ℕ) → prefix rest ≡ Ok (v, count)
@@ -154,11 +154,11 @@ module _ (k : IntType) (separator index place : ℕ) where
 
     -- If a number is followed by the separator, its value is the first item, and the items of what
     -- comes after it follow.
-    pub items_left-ended : (v : ℤ) (count : ℕ) (behind : List ℕ) → parse_prefix_answer k true true rest ≡ Ok (v, count)
-        → drop count rest ≡ separator ∷ behind
-        → items_left k separator index place rest ≡ Ok v ∷ items_left k separator (index + 1) (place + count + 1) behind
-    items_left-ended v count behind h cut =
-        let first = drop_first count rest separator behind cut in
+    pub items_left-ended : (v : ℤ) (count : ℕ) (following : List ℕ) → parse_prefix_answer k true true rest ≡ Ok (v, count)
+        → drop count rest ≡ separator ∷ following
+        → items_left k separator index place rest ≡ Ok v ∷ items_left k separator (index + 1) (place + count + 1) following
+    items_left-ended v count following h cut =
+        let first = drop_first count rest separator following cut in
         value_then v count h (ends_with_field (parse_answer k true true) (parse_prefix_answer k true true) separator index place rest some law v count h first.0 first.1)
         ∙ ap (λ t. Ok v ∷ items_left k separator (index + 1) (place + count + 1) t) first.2
 
@@ -173,11 +173,11 @@ module _ (k : IntType) (separator index place : ℕ) where
         ∙ ap (λ items. Ok v ∷ items) (items_left-nil k separator (index + 1) (place + count + 1))
 
     -- If a number is followed by another byte, the only item is the error `Trailing`.
-    pub items_left-trailing : (v : ℤ) (count byte : ℕ) (behind : List ℕ) → parse_prefix_answer k true true rest ≡ Ok (v, count)
-        → drop count rest ≡ byte ∷ behind → byte ≢ separator
+    pub items_left-trailing : (v : ℤ) (count byte : ℕ) (following : List ℕ) → parse_prefix_answer k true true rest ≡ Ok (v, count)
+        → drop count rest ≡ byte ∷ following → byte ≢ separator
         → items_left k separator index place rest ≡ Err (trailing index (place + count)) ∷ []
-    items_left-trailing v count byte behind h cut other =
-        let first = drop_first count rest byte behind cut in
+    items_left-trailing v count byte following h cut other =
+        let first = drop_first count rest byte following cut in
         flaw_alone (ends_apart (parse_answer k true true) (parse_prefix_answer k true true) separator index place rest some law v count h first.0 (λ e. other (sym first.1 ∙ e)))
         ∙ ap (λ r. Err (flaw_at index place r) ∷ []) h
 

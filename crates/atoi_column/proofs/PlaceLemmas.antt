@@ -70,12 +70,12 @@ module _ (whole : List ℕ → Result ℤ Refusal) (prefix : List ℕ → Result
       let here : place + length rest ≤ bytes = room (omega arith) in
       let cut : place_after (text ∷ texts) ≡ length text + 1 + place_after texts = place_after-cons text texts in
       let left : length (drop (length text + 1) rest) ≡ length rest - (length text + 1) = length-drop (length text + 1) rest in
-      let behind = items_from-inside (index + 1) (place + length text + 1) (drop (length text + 1) rest) texts (omega arith) (omega arith) (λ some. omega (arith, place_after-some texts some)) in
+      let following = items_from-inside (index + 1) (place + length text + 1) (drop (length text + 1) rest) texts (omega arith) (omega arith) (λ some. omega (arith, place_after-some texts some)) in
       elim (whole text) as (λ r. All (IsInside bytes) (elim r as (λ _. List (Result ℤ Flaw)) [
         | Ok value ↦ Ok value ∷ items_from whole prefix (index + 1) (place + length text + 1) (drop (length text + 1) rest) texts
         | Err reason ↦ Err (flaw_at index place (prefix rest)) ∷ []
       ])) [
-        | Ok value ↦ All-cons (IsInside bytes) (Ok value) _ tt behind
+        | Ok value ↦ All-cons (IsInside bytes) (Ok value) _ tt following
         | Err reason ↦ All-cons (IsInside bytes) (Err (flaw_at index place (prefix rest))) [] (flaw_at-inside index place rest here (omega arith)) (All-nil (IsInside bytes))
       ]
 

@@ -21,9 +21,9 @@ prefix_len-stops p b ys fails [] = rw fails refl
 prefix_len-stops p b ys fails (x ∷ xs) = ap (λ n. cond (p x) (1 + n) 0) (prefix_len-stops p b ys fails xs)
 
 -- The passing prefix itself does not change either.
-front-stops : (p : ℕ → Bool) (b : ℕ) (ys : List ℕ) → p b ≡ false → (xs : List ℕ)
+prefix-stops : (p : ℕ → Bool) (b : ℕ) (ys : List ℕ) → p b ≡ false → (xs : List ℕ)
     → take (prefix_len p xs) xs ≡ take (prefix_len p (xs ++ b ∷ ys)) (xs ++ b ∷ ys)
-front-stops p b ys fails xs =
+prefix-stops p b ys fails xs =
     rw (prefix_len-stops p b ys fails xs) (sym (take-append-le (prefix_len p xs) xs (b ∷ ys) (prefix_len-le-length p xs)))
 
 pub length-before_first : (p : ℕ → Bool) (xs : List ℕ) → length (before_first p xs) ≡ position_or_len p xs
@@ -45,12 +45,12 @@ record HaveSamePrefix (g h : Sign) : Type 0 where
 
 module _ (b : ℕ) (ys : List ℕ) (fails : is_digit decimal_table b ≡ false) where
   same_run : (xs : List ℕ) → run decimal_table xs ≡ run decimal_table (xs ++ b ∷ ys)
-  same_run xs = front-stops (is_digit decimal_table) b ys fails xs
+  same_run xs = prefix-stops (is_digit decimal_table) b ys fails xs
 
-  same_front : (is_plus is_minus : Bool) (x : ℕ) (xs : List ℕ) → HaveSamePrefix (sign_by is_plus is_minus x xs) (sign_by is_plus is_minus x (xs ++ b ∷ ys))
-  same_front true is_minus x xs = record { minus = refl; taken = refl; run = same_run xs }
-  same_front false true x xs = record { minus = refl; taken = refl; run = same_run xs }
-  same_front false false x xs = record { minus = refl; taken = refl; run = same_run (x ∷ xs) }
+  same_prefix : (is_plus is_minus : Bool) (x : ℕ) (xs : List ℕ) → HaveSamePrefix (sign_by is_plus is_minus x xs) (sign_by is_plus is_minus x (xs ++ b ∷ ys))
+  same_prefix true is_minus x xs = record { minus = refl; taken = refl; run = same_run xs }
+  same_prefix false true x xs = record { minus = refl; taken = refl; run = same_run xs }
+  same_prefix false false x xs = record { minus = refl; taken = refl; run = same_run (x ∷ xs) }
 
 -- The byte is no digit, no plus and no minus, so it may be a separator.
 record IsApart (byte : ℕ) : Type 0 where
@@ -83,10 +83,10 @@ module _ (k : IntType) where
       record {
         minus = sym (ap (λ (g : Sign). g.minus) none);
         taken = sym (ap (λ (g : Sign). g.taken) none);
-        run = front-stops (is_digit decimal_table) b ys is.no_digit [] ∙ sym (ap (λ (g : Sign). run decimal_table g.body) none);
+        run = prefix-stops (is_digit decimal_table) b ys is.no_digit [] ∙ sym (ap (λ (g : Sign). run decimal_table g.body) none);
       }
   same_run_before b ys is (x ∷ xs) =
-      let front = same_front b ys is.no_digit (x == plus_sign) (k.signed && x == minus_sign) x xs in
+      let front = same_prefix b ys is.no_digit (x == plus_sign) (k.signed && x == minus_sign) x xs in
       record { minus = front.minus; taken = front.taken; run = front.run }
 
   -- So a call consumes the same sign and reads the same digits in the first field and in the whole

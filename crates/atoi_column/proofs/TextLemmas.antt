@@ -34,10 +34,10 @@ module _ (k : IntType) (whole : List ℕ → Result ℤ Refusal) (prefix : List 
 
   -- If the items of the other fields end as described, so do the items with one more field before
   -- them.
-  ends_behind : (index place : ℕ) (rest text : List ℕ) (texts others : List (List ℕ)) (last : List (Result ℤ Flaw))
+  ends_after : (index place : ℕ) (rest text : List ℕ) (texts others : List (List ℕ)) (last : List (Result ℤ Flaw))
       → EndsItems k prefix (index + 1 + length texts) (place + length text + 1 + place_after texts) (drop (place_after texts) (drop (length text + 1) rest)) others last
       → EndsItems k prefix (index + length (text ∷ texts)) (place + place_after (text ∷ texts)) (drop (place_after (text ∷ texts)) rest) others last
-  ends_behind index place rest text texts others last h =
+  ends_after index place rest text texts others last h =
       let further : place_after (text ∷ texts) ≡ length text + 1 + place_after texts = sum_by-cons (λ t. length t + 1) text texts in
       let count : index + length (text ∷ texts) ≡ index + 1 + length texts = omega arith in
       let place_is : place + (length text + 1 + place_after texts) ≡ place + length text + 1 + place_after texts = omega arith in
@@ -46,17 +46,17 @@ module _ (k : IntType) (whole : List ℕ → Result ℤ Refusal) (prefix : List 
   has_items_from : (index place : ℕ) (rest : List ℕ) (fields : List (List ℕ)) → HasItemsFrom index place rest fields
   has_items_from index place rest [] = record { texts = []; others = []; numbers = []; last = []; parts = refl; written = tt; items = refl; end = refl }
   has_items_from index place rest (text ∷ fields) =
-      let behind = has_items_from (index + 1) (place + length text + 1) (drop (length text + 1) rest) fields in
+      let following = has_items_from (index + 1) (place + length text + 1) (drop (length text + 1) rest) fields in
       elim (read text) [
         | accepted v h is ↦ record {
-          texts = text ∷ behind.texts;
-          others = behind.others;
-          numbers = v ∷ behind.numbers;
-          last = behind.last;
-          parts = ap (λ fs. text ∷ fs) behind.parts;
-          written = (is, behind.written);
-          items = items_from-ok whole prefix index place rest text fields v h ∙ ap (λ items. Ok v ∷ items) behind.items;
-          end = ends_behind index place rest text behind.texts behind.others behind.last behind.end;
+          texts = text ∷ following.texts;
+          others = following.others;
+          numbers = v ∷ following.numbers;
+          last = following.last;
+          parts = ap (λ fs. text ∷ fs) following.parts;
+          written = (is, following.written);
+          items = items_from-ok whole prefix index place rest text fields v h ∙ ap (λ items. Ok v ∷ items) following.items;
+          end = ends_after index place rest text following.texts following.others following.last following.end;
         }
         | refused h none ↦ record {
           texts = [];

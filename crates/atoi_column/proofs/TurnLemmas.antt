@@ -10,15 +10,15 @@ use Rattle.atoi_column.specs.Items.{Flaw, flaw_at, items_from, items_left, items
 use Rattle.atoi_column.specs.Laws.{HaveRead, ItemsInTurn}
 
 -- If the items begin with a value, it is the first of the numbers.
-behind_value : (value : ℤ) (items : List (Result ℤ Flaw)) (numbers : List ℤ) (flaw : Flaw) (after : List (Result ℤ Flaw))
+after_value : (value : ℤ) (items : List (Result ℤ Flaw)) (numbers : List ℤ) (flaw : Flaw) (after : List (Result ℤ Flaw))
     → Ok value ∷ items ≡ map Ok numbers ++ Err flaw ∷ after → (others : List ℤ) × (items ≡ map Ok others ++ Err flaw ∷ after)
-behind_value value items [] flaw after same = absurd (cc)
-behind_value value items (number ∷ numbers) flaw after same = (numbers, cc)
+after_value value items [] flaw after same = absurd (cc)
+after_value value items (number ∷ numbers) flaw after same = (numbers, cc)
 
-behind_flaw : (other : Flaw) (numbers : List ℤ) (flaw : Flaw) (after : List (Result ℤ Flaw))
+after_flaw : (other : Flaw) (numbers : List ℤ) (flaw : Flaw) (after : List (Result ℤ Flaw))
     → Err other ∷ [] ≡ map Ok numbers ++ Err flaw ∷ after → after ≡ []
-behind_flaw other [] flaw after same = cc
-behind_flaw other (number ∷ numbers) flaw after same = absurd (cc)
+after_flaw other [] flaw after same = cc
+after_flaw other (number ∷ numbers) flaw after same = absurd (cc)
 
 module _ (whole : List ℕ → Result ℤ Refusal) (prefix : List ℕ → Result (ℤ × ℕ) Refusal) (flaw : Flaw) (after : List (Result ℤ Flaw)) where
   following_error : (index place : ℕ) (rest : List ℕ) (texts : List (List ℕ)) (numbers : List ℤ)
@@ -30,9 +30,9 @@ module _ (whole : List ℕ → Result ℤ Refusal) (prefix : List ℕ → Result
         | Ok value ↦ Ok value ∷ items_from whole prefix (index + 1) (place + length text + 1) (drop (length text + 1) rest) texts
         | Err reason ↦ Err (flaw_at index place (prefix rest)) ∷ []
       ] ≡ map Ok numbers ++ Err flaw ∷ after → after ≡ []) [
-        | Ok value ↦ λ same. let others = behind_value value _ numbers flaw after same in
+        | Ok value ↦ λ same. let others = after_value value _ numbers flaw after same in
             following_error (index + 1) (place + length text + 1) (drop (length text + 1) rest) texts others.0 others.1
-        | Err reason ↦ behind_flaw (flaw_at index place (prefix rest)) numbers flaw after
+        | Err reason ↦ after_flaw (flaw_at index place (prefix rest)) numbers flaw after
       ] same
 
 after_error : (k : IntType) (separator : ℕ) (input : List ℕ) (numbers : List ℤ) (flaw : Flaw) (after : List (Result ℤ Flaw))

@@ -105,9 +105,9 @@ impl<'a, T: Parse> Iterator for Column<'a, T> {
                 let (value, count) = found;
                 match rest[count..].split_first() {
                     None => Some(Ok(value)),
-                    Some((byte, behind)) => {
+                    Some((byte, following)) => {
                         if *byte == self.separator {
-                            self.rest = behind;
+                            self.rest = following;
                             self.index = index + 1;
                             self.place = place + count + 1;
                             Some(Ok(value))

@@ -242,16 +242,16 @@ module _ (t : Table) (k : IntType) (minus : Bool) (extent : Extent) (skip : Bool
   -- not exceed.
   accepted_too : refused true ≡ None → value t (run t s) ≤ bound_of k minus → refused minus ≡ None
   accepted_too h within =
-      let so = accepted t (class_of k) (bound_of k true) (limit_of k) extent skip s h in
-      refusal-none t (class_of k) (bound_of k minus) (limit_of k) extent skip s (record { some = so.some; short = so.short; in_range = within; ends = so.ends })
+      let fact = accepted t (class_of k) (bound_of k true) (limit_of k) extent skip s h in
+      refusal-none t (class_of k) (bound_of k minus) (limit_of k) extent skip s (record { some = fact.some; short = fact.short; in_range = within; ends = fact.ends })
 
   -- If its value is above the other bound, it is the magnitude of `T::MIN`.
   accepted_least : refused true ≡ None → bound_of k minus < value t (run t s) → IsLeast
   accepted_least h above =
-      let so = accepted t (class_of k) (bound_of k true) (limit_of k) extent skip s h in
+      let fact = accepted t (class_of k) (bound_of k true) (limit_of k) extent skip s h in
       record {
-        least = only_least k minus (value t (run t s)) so.in_range above;
-        refused_is = refused_overflow t (class_of k) (bound_of k minus) (limit_of k) extent skip s so.some so.short above;
+        least = only_least k minus (value t (run t s)) fact.in_range above;
+        refused_is = refused_overflow t (class_of k) (bound_of k minus) (limit_of k) extent skip s fact.some fact.short above;
       }
 
   -- A body that is refused under the negative bound is refused with the same error under another
@@ -305,9 +305,9 @@ not_chosen true z h = refl
 not_chosen false z h = absurd (cc h)
 
 -- If there is a count, the value is above the bound and the count is the index.
-counted : (above : Bool) (count index : ℕ) → Some count ≡ cond above (Some index) None → (above ≡ true) × (count ≡ index)
-counted true count index h = (refl, cc)
-counted false count index h = absurd (cc h)
+counted_digits : (above : Bool) (count index : ℕ) → Some count ≡ cond above (Some index) None → (above ≡ true) × (count ≡ index)
+counted_digits true count index h = (refl, cc)
+counted_digits false count index h = absurd (cc h)
 
 not_counted : (above : Bool) (index : ℕ) → None ≡ cond above (Some index) None → above ≡ false
 not_counted true index h = absurd (cc h)
@@ -323,16 +323,16 @@ IsInRange k minus negative either =
 module _ (t : Table) (k : IntType) (minus skip : Bool) (s : List ℕ) where
   -- Whole slice: the number is in range.
   pub whole_number : (x y : ℤ) → Ok x ≡ whole_answer t k true skip s → IsInRange k minus x (Some y) → Ok y ≡ whole_answer t k minus skip s
-  whole_number x y h so =
+  whole_number x y h fact =
       let both = map_unless_ok (with_sign true) _ _ x (sym h) in
-      let number = chosen _ y _ (so (value t (run t s)) both.1) in
+      let number = chosen _ y _ (fact (value t (run t s)) both.1) in
       rw (accepted_too t k minus whole skip s both.0 (ltb-false _ _ number.0)) (ap Ok number.1)
 
   -- Whole slice: the number is out of range, so it is the magnitude of `T::MIN`.
   pub whole_least : (x : ℤ) → Ok x ≡ whole_answer t k true skip s → IsInRange k minus x None → IsLeast t k minus whole skip s × (length s ≡ run_len t s)
-  whole_least x h so =
+  whole_least x h fact =
       let both = map_unless_ok (with_sign true) _ _ x (sym h) in
-      let above = not_chosen _ _ (so (value t (run t s)) both.1) in
+      let above = not_chosen _ _ (fact (value t (run t s)) both.1) in
       let was = accepted t (class_of k) (bound_of k true) (limit_of k) whole skip s both.0 in
       (accepted_least t k minus whole skip s both.0 (ltb-true _ _ above), sym (whole_is_run (run_len t s) (length s) was.ends))
 
@@ -347,7 +347,7 @@ module _ (t : Table) (k : IntType) (minus skip : Bool) (s : List ℕ) where
   pub whole_error_least : (reason : Refusal) (count : ℕ) → Err reason ≡ whole_answer t k true skip s
       → Some count ≡ cond (ltb (bound_of k minus) (number_in reason)) (Some (index_in reason)) None → IsLeast t k minus whole skip s × (count ≡ run_len t s)
   whole_error_least reason count h some =
-      let above = counted _ count _ some in
+      let above = counted_digits _ count _ some in
       let least = refused_least t k minus whole skip s reason (map_unless_err (with_sign true) _ _ reason (sym h)) (ltb-true _ _ above.0) in
       (least.0, above.1 ∙ least.1)
 
@@ -359,17 +359,17 @@ module _ (t : Table) (k : IntType) (minus skip : Bool) (s : List ℕ) where
 
   -- Prefix: the number is in range.
   pub prefix_number : (x y : ℤ) (len : ℕ) → Ok (x, len) ≡ prefix_answer t k true skip s → IsInRange k minus x (Some y) → Ok (y, len) ≡ prefix_answer t k minus skip s
-  prefix_number x y len h so =
+  prefix_number x y len h fact =
       let both = map_unless_ok (counted_number true) _ _ (x, len) (sym h) in
-      let number = chosen _ y _ (so (value t (run t s)) (ap (λ (pair : ℤ × ℕ). pair.0) both.1)) in
+      let number = chosen _ y _ (fact (value t (run t s)) (ap (λ (pair : ℤ × ℕ). pair.0) both.1)) in
       let count : len ≡ run_len t s = ap (λ (pair : ℤ × ℕ). pair.1) both.1 in
       rw (accepted_too t k minus prefix skip s both.0 (ltb-false _ _ number.0)) (ap₂ (λ (n : ℤ) (m : ℕ). Ok (n, m)) number.1 count)
 
   -- Prefix: the number is out of range, so it is the magnitude of `T::MIN`.
   pub prefix_least : (x : ℤ) (len : ℕ) → Ok (x, len) ≡ prefix_answer t k true skip s → IsInRange k minus x None → IsLeast t k minus prefix skip s × (len ≡ run_len t s)
-  prefix_least x len h so =
+  prefix_least x len h fact =
       let both = map_unless_ok (counted_number true) _ _ (x, len) (sym h) in
-      let above = not_chosen _ _ (so (value t (run t s)) (ap (λ (pair : ℤ × ℕ). pair.0) both.1)) in
+      let above = not_chosen _ _ (fact (value t (run t s)) (ap (λ (pair : ℤ × ℕ). pair.0) both.1)) in
       (accepted_least t k minus prefix skip s both.0 (ltb-true _ _ above), ap (λ (pair : ℤ × ℕ). pair.1) both.1)
 
   -- Prefix: an error never holds a number, so it stays the same.

@@ -373,18 +373,18 @@ module _ (k : IntType) (minus skip : Bool) (body : List ℕ) where
 -- What an `Ok` of a prefix parse means: the body is accepted, and value and count are those of its
 -- run and sign.
 pub record IsFound (k : IntType) (g : Sign) (skip : Bool) (v : ℤ) (count : ℕ) : Type 0 where
-  pub front : IsPrefix k g.minus skip g.body
+  pub is_prefix : IsPrefix k g.minus skip g.body
   pub number : v ≡ with_sign g.minus (value decimal_table (run decimal_table g.body))
-  pub counted : count ≡ run_len decimal_table g.body + g.taken
+  pub count_is : count ≡ run_len decimal_table g.body + g.taken
 
 -- If a prefix call is `Ok`, its value and count are of this form.
 pub found_prefix : (k : IntType) (form : SignForm) (skip : Bool) (s : List ℕ) (v : ℤ) (count : ℕ)
     → prefix_call k form skip s ≡ Ok (v, count) → IsFound k (sign_in k form s) skip v count
 found_prefix k form skip s v count h =
     let g = sign_in k form s in
-    let counted = with_more_ok g.taken (prefix_answer decimal_table k g.minus skip g.body) v count (sym (prefix_call-is k form skip s) ∙ h) in
-    let found = from_prefix k g.minus skip g.body v counted.0 counted.1 in
-    record { front = found.0; number = found.1; counted = rw (← found.2) counted.2 }
+    let count_is = with_more_ok g.taken (prefix_answer decimal_table k g.minus skip g.body) v count (sym (prefix_call-is k form skip s) ∙ h) in
+    let found = from_prefix k g.minus skip g.body v count_is.0 count_is.1 in
+    record { is_prefix = found.0; number = found.1; count_is = rw (← found.2) count_is.2 }
 
 -- If value and count are of this form, the prefix call is `Ok` of them.
 pub ok_prefix : (k : IntType) (form : SignForm) (skip : Bool) (s : List ℕ) (v : ℤ) (count : ℕ)
@@ -392,8 +392,8 @@ pub ok_prefix : (k : IntType) (form : SignForm) (skip : Bool) (s : List ℕ) (v 
 ok_prefix k form skip s v count h =
     let g = sign_in k form s in
     prefix_call-is k form skip s
-    ∙ ap (with_more g.taken) (to_prefix k g.minus skip g.body h.front)
-    ∙ rw (h.number, h.counted) refl
+    ∙ ap (with_more g.taken) (to_prefix k g.minus skip g.body h.is_prefix)
+    ∙ rw (h.number, h.count_is) refl
 
 -- ---- Answers for an integer type
 -- These lemmas say how the answers are related to bounds, limits and counts.

@@ -255,21 +255,21 @@ IsAscii-hex_text byte small = by_digits (cases_lt byte 16)
         (IsAscii-cons (digit_glyph true (byte % 16)) [] (digit_glyph-lt (byte % 16) low) IsAscii-nil))
 
 -- The bytes after the first, in hexadecimal, each with a comma and a space before it.
-abbrev joined : List ℕ → List ℕ
-joined bytes = flat_map (λ b. codes ", " ++ hex_text b) bytes
+abbrev hex_rest : List ℕ → List ℕ
+hex_rest bytes = flat_map (λ b. codes ", " ++ hex_text b) bytes
 
-IsAscii-joined : (bytes : List ℕ) → ((k : ℕ) → get_or bytes k 0 < 256) → IsAscii (joined bytes)
-IsAscii-joined [] small = IsAscii-nil
-IsAscii-joined (byte ∷ bytes) small =
-    IsAscii-append (codes ", " ++ hex_text byte) (joined bytes)
+IsAscii-hex_rest : (bytes : List ℕ) → ((k : ℕ) → get_or bytes k 0 < 256) → IsAscii (hex_rest bytes)
+IsAscii-hex_rest [] small = IsAscii-nil
+IsAscii-hex_rest (byte ∷ bytes) small =
+    IsAscii-append (codes ", " ++ hex_text byte) (hex_rest bytes)
     (IsAscii-append (codes ", ") (hex_text byte) (IsAscii-literal (codes ", ") refl) (IsAscii-hex_text byte (small 0)))
-    (IsAscii-joined bytes (λ k. small (suc k)))
+    (IsAscii-hex_rest bytes (λ k. small (suc k)))
 
 -- The list of bytes in hexadecimal is ASCII.
 pub IsAscii-hex_list : (bytes : List ℕ) → ((k : ℕ) → get_or bytes k 0 < 256) → IsAscii (hex_list bytes)
 IsAscii-hex_list [] small = IsAscii-nil
 IsAscii-hex_list (byte ∷ bytes) small =
-    IsAscii-append (hex_text byte) (joined bytes) (IsAscii-hex_text byte (small 0)) (IsAscii-joined bytes (λ k. small (suc k)))
+    IsAscii-append (hex_text byte) (hex_rest bytes) (IsAscii-hex_text byte (small 0)) (IsAscii-hex_rest bytes (λ k. small (suc k)))
 
 -- The text of the error `Size` is ASCII if the text of its number and that of its slice are.
 pub IsAscii-size_text : (length : ℕ) (input : List ℕ) → IsAscii (decimal length) → IsAscii (input_text input) → IsAscii (error_text (size length input))

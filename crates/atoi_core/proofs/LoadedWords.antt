@@ -266,8 +266,8 @@ unfolding low_bytes word_of
 loaded_bytes s fits word is enough = ap (low_bytes 8) is ∙ loaded_whole 8 s enough fits
 
 -- The elements of the slice after its first eight are bytes too.
-pub fits_behind : (s : List ℕ) → ((i : ℕ) → get_or s i 0 < 256) → (i : ℕ) → get_or (drop 8 s) i 0 < 256
-fits_behind s fits i = rw get_or-drop (fits (8 + i))
+pub fits_after : (s : List ℕ) → ((i : ℕ) → get_or s i 0 < 256) → (i : ℕ) → get_or (drop 8 s) i 0 < 256
+fits_after s fits i = rw get_or-drop (fits (8 + i))
 
 -- The weighted sum of all leading digits is their value.
 pub loaded_sum : (s : List ℕ) → ((i : ℕ) → get_or s i 0 < 256) → (word len : ℕ) → word ≡ word_of (take 8 s) → len ≡ run_len decimal_table (low_bytes 8 word)
@@ -293,12 +293,12 @@ zeros_of_two first next = prefix_len-append (is_zero decimal_table) (digits_l 25
 -- ---- Windows read by words
 
 -- A window that is full of digits reports its zeros.
-pub told_full : (n c z : ℕ) → n ≡ c → (if n == c then z else 0) ≡ z
-told_full n c z e = ap (λ t. cond t z 0) (eq-eqb n c e)
+pub reported_full : (n c z : ℕ) → n ≡ c → (if n == c then z else 0) ≡ z
+reported_full n c z e = ap (λ t. cond t z 0) (eq-eqb n c e)
 
 -- Any other window reports no zeros.
-pub told_none : (n c z : ℕ) → n ≢ c → (if n == c then z else 0) ≡ 0
-told_none n c z ne = ap (λ t. cond t z 0) (ne_eqb n c ne)
+pub reported_none : (n c z : ℕ) → n ≢ c → (if n == c then z else 0) ≡ 0
+reported_none n c z ne = ap (λ t. cond t z 0) (ne_eqb n c ne)
 
 -- Three numbers that are the run, the reported zeros and the value of the first bytes make up their
 -- window.
@@ -334,7 +334,7 @@ pub window_short : (s : List ℕ) (len number : ℕ) → len ≡ run_len decimal
 window_short s len number len_is short number_is =
     let few : run_len decimal_table (take 8 s) ≡ min 8 (run_len decimal_table s) = prefix_len-take (is_digit decimal_table) 8 s in
     let more : run_len decimal_table (take 16 s) ≡ min 16 (run_len decimal_table s) = prefix_len-take (is_digit decimal_table) 16 s in
-    window_from 16 s len 0 number (omega arith) (sym (told_none len 16 (zeros decimal_table (take 16 s)) (omega arith))) number_is
+    window_from 16 s len 0 number (omega arith) (sym (reported_none len 16 (zeros decimal_table (take 16 s)) (omega arith))) number_is
 
 -- For fewer than eight bytes, the window of 8 bytes is the same as that of 16.
 pub few_in_both : (s : List ℕ) → length s < 8 → window_of decimal_table 16 s ≡ window_of decimal_table 8 s
@@ -343,7 +343,7 @@ few_in_both s few =
     let sixteen : take 16 s ≡ s = take_all 16 s (omega arith) in
     let eight : s ≡ take 8 s = sym (take_all 8 s (omega arith)) in
     let none : (if run_len decimal_table s == 16 then zeros decimal_table s else 0) ≡ (if run_len decimal_table s == 8 then zeros decimal_table s else 0) =
-    told_none (run_len decimal_table s) 16 (zeros decimal_table s) (omega arith) ∙ sym (told_none (run_len decimal_table s) 8 (zeros decimal_table s) (omega arith)) in
+    reported_none (run_len decimal_table s) 16 (zeros decimal_table s) (omega arith) ∙ sym (reported_none (run_len decimal_table s) 8 (zeros decimal_table s) (omega arith)) in
     ap (λ (r : List ℕ). let w : Window = record { len = run_len decimal_table r; zeroes = if run_len decimal_table r == 16 then zeros decimal_table r else 0; number = value decimal_table (run decimal_table r) } in w) sixteen
     ∙ ap (λ (z : ℕ). let w : Window = record { len = run_len decimal_table s; zeroes = z; number = value decimal_table (run decimal_table s) } in w) none
     ∙ ap (λ (r : List ℕ). let w : Window = record { len = run_len decimal_table r; zeroes = if run_len decimal_table r == 8 then zeros decimal_table r else 0; number = value decimal_table (run decimal_table r) } in w) eight
@@ -363,7 +363,7 @@ pub window_joined : (s : List ℕ) (more leading first next : ℕ)
     → ◌≡◌ {A = Window} (record { len = 8 + more; zeroes = leading; number = first * 10 ^ more + next }) (window_of decimal_table 16 s)
 window_joined s more leading first next full more_is leading_is first_is next_is =
     let few : run_len decimal_table (take 8 s) ≡ min 8 (run_len decimal_table s) = prefix_len-take (is_digit decimal_table) 8 s in
-    let behind : run_len decimal_table (take 8 (drop 8 s)) ≡ min 8 (run_len decimal_table (drop 8 s)) = prefix_len-take (is_digit decimal_table) 8 (drop 8 s) in
+    let following : run_len decimal_table (take 8 (drop 8 s)) ≡ min 8 (run_len decimal_table (drop 8 s)) = prefix_len-take (is_digit decimal_table) 8 (drop 8 s) in
     let all : run_len decimal_table (take 16 s) ≡ min 16 (run_len decimal_table s) = prefix_len-take (is_digit decimal_table) 16 s in
     let starts_with_digit : run_len decimal_table s ≡ 8 + run_len decimal_table (drop 8 s) = prefix_len-drop (is_digit decimal_table) 8 s (omega arith) in
     let within : run_len decimal_table s ≤ length s = prefix_len-le-length (is_digit decimal_table) s in
@@ -487,4 +487,4 @@ filled_window s few fits filled digits found number filled_is digits_is found_is
     ∙ loaded_sum s fits (word_of (take 8 s)) len refl run in
     let left : found ≡ len = omega arith in
     ap (λ n. let w : Window = record { len = n; zeroes = 0; number = number } in w) left
-    ∙ window_from 16 s len 0 number (ap (run_len decimal_table) (sym all)) (sym (told_none len 16 (zeros decimal_table (take 16 s)) (omega arith))) sum
+    ∙ window_from 16 s len 0 number (ap (run_len decimal_table) (sym all)) (sym (reported_none len 16 (zeros decimal_table (take 16 s)) (omega arith))) sum

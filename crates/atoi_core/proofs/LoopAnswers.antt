@@ -36,26 +36,26 @@ wide_128 = record { rule = λ extent skip limit digits skipped. refl }
 
 -- All bytes before the last window are skipped zeros.
 is_skipped : {t : Table} {skip : Bool} {s : List ℕ} {at before now : ℕ} {w : Window} → Skipped t skip s at before now w → IsSkipped t skip s at
-is_skipped so = record { zeros_only = omega (arith, so.zeros_are); asked = so.off }
+is_skipped after_skip = record { zeros_only = omega (arith, after_skip.zeros_are); asked = after_skip.off }
 
 -- If the last window is full and zeros are skipped, it begins with none.
 none_left : (t : Table) (skip : Bool) (s : List ℕ) (at before now : ℕ) (w : Window) → Skipped t skip s at before now w → 16 ≤ w.len
     → skip ≡ true → zeros t (take 16 (drop at s)) ≡ 0
-none_left t skip s at before now w so full on =
-    omega (arith, so.full on (omega (arith, so.shown.len_is)), so.zeros_are, prefix_len-take (is_zero t) 16 (drop at s))
+none_left t skip s at before now w after_skip full on =
+    omega (arith, after_skip.full on (omega (arith, after_skip.shown.len_is)), after_skip.zeros_are, prefix_len-take (is_zero t) 16 (drop at s))
 
 -- If there is no digit at all, the answer is `Empty`, whatever the class.
 pub answers_empty : (t : Table) (class : Class) (bound limit : ℕ) (skip : Bool) (s : List ℕ) (at before now : ℕ) (w : Window) →
     Skipped t skip s at before now w → at + w.len ≡ 0 → Err empty ≡ prefix_magnitude t class bound limit skip s
-answers_empty t class bound limit skip s at before now w so none =
-    rw (refused_empty t class bound limit prefix skip s (omega (arith, so.run_is, so.shown.len_is))) refl
+answers_empty t class bound limit skip s at before now w after_skip none =
+    rw (refused_empty t class bound limit prefix skip s (omega (arith, after_skip.run_is, after_skip.shown.len_is))) refl
 
 -- If the last window is not full, it holds the rest of the run, whose value is within the bound.
 pub answers_short : (t : Table) (class : Class) (bound limit : ℕ) (skip : Bool) (s : List ℕ) (at before now : ℕ) (w : Window) (number len : ℕ) →
     limit < cap class → Skipped t skip s at before now w → w.len < 16 → 0 < at + w.len → 16 < limit → HasDigits limit bound →
     number ≡ w.number → len ≡ at + w.len → Ok (number, len) ≡ prefix_magnitude t class bound limit skip s
-answers_short t class bound limit skip s at before now w number len less so few some long digits number_is len_is =
-    let decides = short_below t class bound limit less digits skip s at 16 w.len _ w.number (is_skipped so) so.shown.reading few (omega arith) so.shown.below in
+answers_short t class bound limit skip s at before now w number len less after_skip few some long digits number_is len_is =
+    let decides = short_below t class bound limit less digits skip s at 16 w.len _ w.number (is_skipped after_skip) after_skip.shown.reading few (omega arith) after_skip.shown.below in
     ap₂ (λ n l. Ok (n, l)) number_is len_is ∙ sym (decides.1 ∙ rw (ne_eqb (at + w.len) 0 (omega arith)) refl)
 
 -- If a full window is followed by one that is not full, the two hold the rest of the run, whose
@@ -64,36 +64,36 @@ pub answers_two : (t : Table) → IsBelowTen t → (bound : ℕ) (skip : Bool) (
     Skipped t skip s at before now first → 16 ≤ first.len → Shows t 16 (drop 16 (drop at s)) second → second.len < 16 → HasDigits 39 bound →
     number ≡ first.number * 10 ^ second.len + second.number → len ≡ at + (16 + second.len) →
     Ok (number, len) ≡ prefix_magnitude t wide128 bound 39 skip s
-answers_two t ten bound skip s at before now first second number len so full behind few digits number_is len_is =
-    let both = Shows-join t 16 (drop at s) first second so.shown full behind in
-    let decides = short t ten wide128 bound 39 (lit< tt) digits skip s at 32 (16 + second.len) _ _ (is_skipped so) both (omega arith) (omega arith) in
+answers_two t ten bound skip s at before now first second number len after_skip full following few digits number_is len_is =
+    let both = Shows-join t 16 (drop at s) first second after_skip.shown full following in
+    let decides = short t ten wide128 bound 39 (lit< tt) digits skip s at 32 (16 + second.len) _ _ (is_skipped after_skip) both (omega arith) (omega arith) in
     ap₂ (λ n l. Ok (n, l)) number_is len_is ∙ sym (decides.1 ∙ rw (ne_eqb (at + (16 + second.len)) 0 (omega arith)) refl)
 
 -- For 64 bits, a full window and the 8 bytes after it decide the answer.
-pub answers_64 : (t : Table) (bound limit : ℕ) (skip : Bool) (s : List ℕ) (at before now : ℕ) (front back : Window) →
-    limit < 24 → Skipped t skip s at before now front → 16 ≤ front.len → Shows t 8 (drop 16 (drop at s)) back →
-    (at + (16 + back.len) ≤ length s) × (answer_by_digits wide64 bound limit at (16 + back.len) (front.number * 10 ^ back.len + back.number) s ≡ prefix_magnitude t wide64 bound limit skip s)
-answers_64 t bound limit skip s at before now front back less so full behind =
-    let both = Shows-join t 8 (drop at s) front back so.shown full behind in
+pub answers_64 : (t : Table) (bound limit : ℕ) (skip : Bool) (s : List ℕ) (at before now : ℕ) (first_window back : Window) →
+    limit < 24 → Skipped t skip s at before now first_window → 16 ≤ first_window.len → Shows t 8 (drop 16 (drop at s)) back →
+    (at + (16 + back.len) ≤ length s) × (answer_by_digits wide64 bound limit at (16 + back.len) (first_window.number * 10 ^ back.len + back.number) s ≡ prefix_magnitude t wide64 bound limit skip s)
+answers_64 t bound limit skip s at before now first_window back less after_skip full following =
+    let both = Shows-join t 8 (drop at s) first_window back after_skip.shown full following in
     let none : skip ≡ true → zeros_both 16 (zeros t (take 16 (drop at s))) (zeros t (take 8 (drop 16 (drop at s)))) ≡ 0 =
-    λ on. rw (none_left t skip s at before now front so full on) refl in (
-      omega (arith, so.within, within t 24 (drop at s) _ _ _ both, length-drop at s),
-      sym (all_decide t wide64 bound limit less skip s at _ _ _ (is_skipped so) both none),
+    λ on. rw (none_left t skip s at before now first_window after_skip full on) refl in (
+      omega (arith, after_skip.within, within t 24 (drop at s) _ _ _ both, length-drop at s),
+      sym (all_decide t wide64 bound limit less skip s at _ _ _ (is_skipped after_skip) both none),
     )
 
 -- For 128 bits, two full windows and the 8 bytes after them decide the answer.
-pub answers_128 : (t : Table) → IsBelowTen t → (bound : ℕ) (skip : Bool) (s : List ℕ) (at before now : ℕ) (front middle back : Window) →
-    Skipped t skip s at before now front → 16 ≤ front.len → Shows t 16 (drop 16 (drop at s)) middle → 16 ≤ middle.len → Shows t 8 (drop 32 (drop at s)) back →
-    let number = (front.number * 10 ^ 16 + middle.number) * 10 ^ back.len + back.number in
+pub answers_128 : (t : Table) → IsBelowTen t → (bound : ℕ) (skip : Bool) (s : List ℕ) (at before now : ℕ) (first_window middle back : Window) →
+    Skipped t skip s at before now first_window → 16 ≤ first_window.len → Shows t 16 (drop 16 (drop at s)) middle → 16 ≤ middle.len → Shows t 8 (drop 32 (drop at s)) back →
+    let number = (first_window.number * 10 ^ 16 + middle.number) * 10 ^ back.len + back.number in
     (number < 10 ^ (32 + back.len)) × (at + (32 + back.len) ≤ length s) × (answer_by_digits wide128 bound 39 at (32 + back.len) number s ≡ prefix_magnitude t wide128 bound 39 skip s)
-answers_128 t ten bound skip s at before now front middle back so full next more behind =
-    let all = Shows-join_two t (drop at s) front middle back so.shown full next more behind in
+answers_128 t ten bound skip s at before now first_window middle back after_skip full next more following =
+    let all = Shows-join_two t (drop at s) first_window middle back after_skip.shown full next more following in
     let others : ℕ = zeros t (take 16 (drop 16 (drop at s))) in
     let none : skip ≡ true → zeros_both 32 (zeros_both 16 (zeros t (take 16 (drop at s))) others) (zeros t (take 8 (drop 32 (drop at s)))) ≡ 0 =
-    λ on. rw (none_left t skip s at before now front so full on) refl in (
+    λ on. rw (none_left t skip s at before now first_window after_skip full on) refl in (
       below t ten 40 (drop at s) _ _ _ all,
-      omega (arith, so.within, within t 40 (drop at s) _ _ _ all, length-drop at s),
-      sym (all_decide t wide128 bound 39 (lit< tt) skip s at _ _ _ (is_skipped so) all none),
+      omega (arith, after_skip.within, within t 40 (drop at s) _ _ _ all, length-drop at s),
+      sym (all_decide t wide128 bound 39 (lit< tt) skip s at _ _ _ (is_skipped after_skip) all none),
     )
 
 -- ---- From prefix to whole slice
@@ -132,21 +132,21 @@ whole_is t wide128 bound limit skip s wide =
 module _ (t : Table) (class : Class) (bound limit : ℕ) (skip : Bool) (s : List ℕ) (wide : IsWide class) where
   -- If the prefix is refused, the whole slice is refused with the same error.
   pub whole_err : (reason : Refusal) → Err reason ≡ prefix_magnitude t class bound limit skip s → Err reason ≡ whole_magnitude t class bound limit skip s
-  whole_err reason front = ap (whole_from_prefix (invalid class) s) front ∙ sym (whole_is t class bound limit skip s wide)
+  whole_err reason first_window = ap (whole_from_prefix (invalid class) s) first_window ∙ sym (whole_is t class bound limit skip s wide)
 
   -- If the number reaches to the end of the slice, the whole slice is answered with it.
   pub whole_ok : (number len : ℕ) → Ok (number, len) ≡ prefix_magnitude t class bound limit skip s → len ≡ length s
       → Ok number ≡ whole_magnitude t class bound limit skip s
-  whole_ok number len front all =
+  whole_ok number len first_window all =
       ap (λ b. if b then Ok number else Err (invalid class number len s)) (sym (eq-eqb len (length s) all))
-      ∙ ap (whole_from_prefix (invalid class) s) front ∙ sym (whole_is t class bound limit skip s wide)
+      ∙ ap (whole_from_prefix (invalid class) s) first_window ∙ sym (whole_is t class bound limit skip s wide)
 
   -- If the number ends before the slice, the whole slice is invalid.
   pub whole_invalid : (number len : ℕ) → Ok (number, len) ≡ prefix_magnitude t class bound limit skip s → len ≢ length s
       → Err (invalid class number len s) ≡ whole_magnitude t class bound limit skip s
-  whole_invalid number len front rest =
+  whole_invalid number len first_window rest =
       ap (λ b. if b then Ok number else Err (invalid class number len s)) (sym (ne_eqb len (length s) rest))
-      ∙ ap (whole_from_prefix (invalid class) s) front ∙ sym (whole_is t class bound limit skip s wide)
+      ∙ ap (whole_from_prefix (invalid class) s) first_window ∙ sym (whole_is t class bound limit skip s wide)
 
 -- ---- Narrow types
 -- The last window after the skipped zeros decides the answer to a prefix of a type of up to 32
@@ -155,18 +155,18 @@ module _ (t : Table) (class : Class) (bound limit : ℕ) (skip : Bool) (s : List
 -- The slice of an overflow leaves out exactly the zeros before the last window.
 dropped_is : (t : Table) (skip : Bool) (limit : ℕ) (s : List ℕ) (at before now : ℕ) (w : Window) →
     Skipped t skip s at before now w → (rule_of narrow prefix skip limit (run_len t s) (skipped_zeros t skip s)).dropped ≡ at
-dropped_is t false limit s at before now w so = sym (so.off refl)
-dropped_is t true limit s at before now w so =
+dropped_is t false limit s at before now w after_skip = sym (after_skip.off refl)
+dropped_is t true limit s at before now w after_skip =
     elim (cases_lt (zeros t s / 16) (run_len t s / 16)) [
       | inl h ↦
           rw (lt-ltb _ _ h)
-          (elim (so.place refl) [
+          (elim (after_skip.place refl) [
             | inr k ↦ sym k.0
-            | inl k ↦ sym (so.full refl (omega (arith, so.run_is, so.shown.len_is)))
+            | inl k ↦ sym (after_skip.full refl (omega (arith, after_skip.run_is, after_skip.shown.len_is)))
           ])
       | inr h ↦
           rw (le-ltb _ _ h)
-          (elim (so.place refl) [
+          (elim (after_skip.place refl) [
             | inr k ↦ absurd (omega (arith, k.1))
             | inl k ↦ sym k
           ])
@@ -175,15 +175,15 @@ dropped_is t true limit s at before now w so =
 -- The number of the last window is at most the value of the run.
 number_most : (t : Table) (skip : Bool) (s : List ℕ) (at before now : ℕ) (w : Window) →
     Skipped t skip s at before now w → w.number ≤ value t (run t s)
-number_most t skip s at before now w so =
-    omega (arith, so.value_is, so.shown.number_is, value-take-le t (drop at s) w.len (run_len t (drop at s)) (omega (arith, so.shown.len_is)))
+number_most t skip s at before now w after_skip =
+    omega (arith, after_skip.value_is, after_skip.shown.number_is, value-take-le t (drop at s) w.len (run_len t (drop at s)) (omega (arith, after_skip.shown.len_is)))
 
 -- The number of a full window that begins with no zero has 16 digits.
 least : (t : Table) (s : List ℕ) (w : Window) → Shows t 16 s w → 16 ≤ w.len → w.zeroes ≡ 0 → 10 ^ 15 ≤ w.number
-least t s w tell full none =
-    let len : w.len ≡ 16 = omega (arith, tell.len_is) in
-    let some : zeros t s ≡ 0 = omega (arith, tell.zeroes_of len) in
-    omega (arith, value-least t 15 s (omega (arith, tell.len_is)) some, tell.number_is ∙ ap (λ (n : ℕ). value t (take n s)) len)
+least t s w seen full none =
+    let len : w.len ≡ 16 = omega (arith, seen.len_is) in
+    let some : zeros t s ≡ 0 = omega (arith, seen.zeroes_of len) in
+    omega (arith, value-least t 15 s (omega (arith, seen.len_is)) some, seen.number_is ∙ ap (λ (n : ℕ). value t (take n s)) len)
 
 -- There are not too many digits if there are at most 16, or if zeros are skipped.
 not_too_long : (t : Table) (skip : Bool) (limit : ℕ) (s : List ℕ) → (skip ≡ false → run_len t s ≤ 16)
@@ -194,52 +194,52 @@ not_too_long t false limit s few = le-ltb 16 (counting_digits t false s) (omega 
 -- If the number of the last window fits in 32 bits, the window holds the rest of the run.
 ends : (t : Table) (skip : Bool) (s : List ℕ) (at before now : ℕ) (w : Window) →
     Skipped t skip s at before now w → (skip ≡ false → run_len t s ≤ 16) → w.number ≤ 4294967295 → run_len t (drop at s) ≡ w.len
-ends t false s at before now w so few small = omega (arith, few refl, so.off refl, so.run_is, so.shown.len_is)
-ends t true s at before now w so few small =
+ends t false s at before now w after_skip few small = omega (arith, few refl, after_skip.off refl, after_skip.run_is, after_skip.shown.len_is)
+ends t true s at before now w after_skip few small =
     elim (cases_lt w.len 16) [
-      | inl h ↦ omega (arith, so.shown.len_is)
+      | inl h ↦ omega (arith, after_skip.shown.len_is)
       | inr h ↦
-          absurd (omega (arith, least t (drop at s) w so.shown h (so.last refl)))
+          absurd (omega (arith, least t (drop at s) w after_skip.shown h (after_skip.last refl)))
     ]
 
 -- If the number of the last window is larger than the bound, the answer is `Overflow`.
 narrow_overflow : (t : Table) (bound limit : ℕ) (skip : Bool) (s : List ℕ) (at before now : ℕ) (w : Window) →
     Skipped t skip s at before now w → (skip ≡ false → run_len t s ≤ 16) → 0 < at + w.len → bound < w.number →
     Err (overflow (drop at s)) ≡ prefix_magnitude t narrow bound limit skip s
-narrow_overflow t bound limit skip s at before now w so few some over =
-    let digits : 0 < run_len t s = omega (arith, so.run_is, so.shown.len_is) in
-    let above : bound < value t (run t s) = omega (arith, number_most t skip s at before now w so) in
+narrow_overflow t bound limit skip s at before now w after_skip few some over =
+    let digits : 0 < run_len t s = omega (arith, after_skip.run_is, after_skip.shown.len_is) in
+    let above : bound < value t (run t s) = omega (arith, number_most t skip s at before now w after_skip) in
     rw (refused_overflow t narrow bound limit prefix skip s digits (not_too_long t skip limit s few) above)
-    (rw (dropped_is t skip limit s at before now w so) refl)
+    (rw (dropped_is t skip limit s at before now w after_skip) refl)
 
 -- If the first window is full and begins with no zero, the answer is `Overflow`.
 pub narrow_full : (t : Table) (bound limit : ℕ) (s : List ℕ) (before now : ℕ) (w : Window) →
     Skipped t true s 0 before now w → bound ≤ 4294967295 → 16 ≤ w.len → Err (overflow s) ≡ prefix_magnitude t narrow bound limit true s
-narrow_full t bound limit s before now w so high full =
-    narrow_overflow t bound limit true s 0 before now w so (λ no. absurd (cc no)) (omega arith) (omega (arith, least t s w so.shown full (so.last refl)))
+narrow_full t bound limit s before now w after_skip high full =
+    narrow_overflow t bound limit true s 0 before now w after_skip (λ no. absurd (cc no)) (omega arith) (omega (arith, least t s w after_skip.shown full (after_skip.last refl)))
 
 -- If the number of the last window is within the bound, the answer is `Ok`.
 narrow_ok : (t : Table) (bound limit : ℕ) (skip : Bool) (s : List ℕ) (at before now : ℕ) (w : Window) →
     Skipped t skip s at before now w → bound ≤ 4294967295 → (skip ≡ false → run_len t s ≤ 16) → 0 < at + w.len → w.number ≤ bound →
     Ok (w.number, at + w.len) ≡ prefix_magnitude t narrow bound limit skip s
-narrow_ok t bound limit skip s at before now w so high few some within =
-    let rest : run_len t (drop at s) ≡ w.len = ends t skip s at before now w so few (omega arith) in
+narrow_ok t bound limit skip s at before now w after_skip high few some within =
+    let rest : run_len t (drop at s) ≡ w.len = ends t skip s at before now w after_skip few (omega arith) in
     let number : value t (run t s) ≡ w.number =
-    so.value_is ∙ ap (λ (n : ℕ). value t (take n (drop at s))) rest ∙ sym so.shown.number_is in
-    let len : run_len t s ≡ at + w.len = omega (arith, so.run_is) in
+    after_skip.value_is ∙ ap (λ (n : ℕ). value t (take n (drop at s))) rest ∙ sym after_skip.shown.number_is in
+    let len : run_len t s ≡ at + w.len = omega (arith, after_skip.run_is) in
     let accepted : IsAccepted t narrow bound limit prefix skip s =
     record { some = omega arith; short = not_too_long t skip limit s few; in_range = omega arith; ends = refl } in
     rw (refusal-none t narrow bound limit prefix skip s accepted, number, len) refl
 
 -- If there is a digit, and at most 16 digits unless zeros are skipped, the number of the last
 -- window decides between `Ok` and `Overflow`.
-pub narrow_told : (t : Table) (bound limit : ℕ) (skip : Bool) (s : List ℕ) (at before now : ℕ) (w : Window) →
+pub narrow_after_skip : (t : Table) (bound limit : ℕ) (skip : Bool) (s : List ℕ) (at before now : ℕ) (w : Window) →
     Skipped t skip s at before now w → bound ≤ 4294967295 → (skip ≡ false → run_len t s ≤ 16) → 0 < at + w.len →
     (if nat_lt bound w.number then Err (overflow (drop at s)) else Ok (w.number, at + w.len)) ≡ prefix_magnitude t narrow bound limit skip s
-narrow_told t bound limit skip s at before now w so high few some =
+narrow_after_skip t bound limit skip s at before now w after_skip high few some =
     elim (cases_lt bound w.number) [
-      | inl over ↦ rw (lt-ltb bound w.number over) (narrow_overflow t bound limit skip s at before now w so few some over)
-      | inr fits ↦ rw (le-ltb bound w.number fits) (narrow_ok t bound limit skip s at before now w so high few some fits)
+      | inl over ↦ rw (lt-ltb bound w.number over) (narrow_overflow t bound limit skip s at before now w after_skip few some over)
+      | inr fits ↦ rw (le-ltb bound w.number fits) (narrow_ok t bound limit skip s at before now w after_skip high few some fits)
     ]
 
 -- If zeros are not skipped, more than 16 digits are too many, and the error reports 17.
@@ -249,8 +249,8 @@ narrow_size t bound limit true s long = absurd (cc long)
 narrow_size t bound limit false s long =
     let many : 16 < run_len t s = ltb-true 16 (run_len t s) (sym long) in
     let too_long = lt-ltb 16 (counting_digits t false s) (omega arith) in
-    let told : 0 + min (counting_digits t false s) 17 ≡ 17 = omega arith in
-    rw (refused_size t narrow bound limit prefix false s (omega arith) too_long) (rw told refl)
+    let reported : 0 + min (counting_digits t false s) 17 ≡ 17 = omega arith in
+    rw (refused_size t narrow bound limit prefix false s (omega arith) too_long) (rw reported refl)
 
 -- If the first 16 bytes are digits, the bytes after them begin with a digit exactly if there are
 -- more than 16 digits.
@@ -264,14 +264,14 @@ digit_after_16 t s full =
 -- How the answer to a narrow whole slice follows from the answer to its prefix with zeros skipped:
 -- the slice of an overflow is the whole slice, and a number that ends before the slice makes it
 -- invalid.
-abbrev pub whole_of_front : List ℕ → Result (ℕ × ℕ) Refusal → Result ℕ Refusal
-whole_of_front s (Ok found) = if found.1 == length s then Ok found.0 else Err (invalid64 found.0 found.1 s)
-whole_of_front s (Err reason) = Err (if rank reason == 0 then empty else overflow s)
+abbrev pub whole_of_prefix_answer : List ℕ → Result (ℕ × ℕ) Refusal → Result ℕ Refusal
+whole_of_prefix_answer s (Ok found) = if found.1 == length s then Ok found.0 else Err (invalid64 found.0 found.1 s)
+whole_of_prefix_answer s (Err reason) = Err (if rank reason == 0 then empty else overflow s)
 
 -- A third test after two others can be applied to their result.
 last_of_three : (s rest : List ℕ) (a b : Bool) (v n : ℕ)
     → unless_refused (if a then Some empty else (if b then Some (overflow s) else (if not (n == length s) then Some (invalid64 v n s) else None))) v
-    ≡ whole_of_front s (unless_refused (if a then Some empty else (if b then Some (overflow rest) else None)) (v, n))
+    ≡ whole_of_prefix_answer s (unless_refused (if a then Some empty else (if b then Some (overflow rest) else None)) (v, n))
 last_of_three s rest true b v n = refl
 last_of_three s rest false true v n = refl
 last_of_three s rest false false v n =
@@ -279,21 +279,21 @@ last_of_three s rest false false v n =
     [ true ↦ refl | false ↦ refl ]
 
 -- The answer to a narrow prefix with zeros skipped depends on the length and the value of the run.
-narrow_front_is : (t : Table) (bound limit : ℕ) (s : List ℕ)
+narrow_prefix_is : (t : Table) (bound limit : ℕ) (s : List ℕ)
     → prefix_magnitude t narrow bound limit true s
     ≡ unless_refused (if run_len t s == 0 then Some empty
     else (if nat_lt bound (value t (run t s)) then Some (overflow (drop (rule_of narrow prefix true limit (run_len t s) (zeros t s)).dropped s)) else None))
     (value t (run t s), run_len t s)
 unfolding refusal
-narrow_front_is t bound limit s = refl
+narrow_prefix_is t bound limit s = refl
 
 -- The answer to a narrow whole slice is the one derived from its prefix, whether zeros are skipped
 -- or not.
-pub narrow_whole_of : (t : Table) (bound limit : ℕ) (s : List ℕ) (skip : Bool) (front : Result (ℕ × ℕ) Refusal)
-    → front ≡ prefix_magnitude t narrow bound limit true s
-    → whole_of_front s front ≡ whole_magnitude t narrow bound limit skip s
-narrow_whole_of t bound limit s skip front e =
-    ap (whole_of_front s) (e ∙ narrow_front_is t bound limit s)
+pub narrow_whole_of : (t : Table) (bound limit : ℕ) (s : List ℕ) (skip : Bool) (first_window : Result (ℕ × ℕ) Refusal)
+    → first_window ≡ prefix_magnitude t narrow bound limit true s
+    → whole_of_prefix_answer s first_window ≡ whole_magnitude t narrow bound limit skip s
+narrow_whole_of t bound limit s skip first_window e =
+    ap (whole_of_prefix_answer s) (e ∙ narrow_prefix_is t bound limit s)
     ∙ sym (last_of_three s _ (run_len t s == 0) (nat_lt bound (value t (run t s))) (value t (run t s)) (run_len t s))
     ∙ sym (narrow_whole_is t bound limit skip s (run_len t s) (value t (run t s)) refl refl)
 
@@ -368,20 +368,20 @@ picked false false p q v = refl
 module _ (t : Table) (ten : IsBelowTen t) (class : Class) (bound limit : ℕ) (skip : Bool) (s : List ℕ) (w : Window)
     (is : w ≡ window_of t 16 s) (short : w.len < 16) (room : HasRoom class bound limit) where
   -- A window that is not full holds the whole run.
-  told : Shows t 16 s w
-  told = shows t ten 16 s w is
+  reported : Shows t 16 s w
+  reported = shows t ten 16 s w is
 
   -- Its number has at most 15 digits.
   pub short_number : w.number < 10 ^ 15
   short_number =
       let most : 10 ^ w.len ≤ 10 ^ 15 = pow-le-pow_right {n = 10} (lit< tt) {i = w.len} {j = 15} (omega arith) in
-      omega (arith, told.below)
+      omega (arith, reported.below)
 
   -- The window decides the answer to the prefix.
-  short_front : cond (eqb w.len 0) (Err empty) (cond (ltb bound w.number) (Err (overflow s)) (Ok (w.number, w.len))) ≡ prefix_magnitude t class bound limit skip s
-  short_front =
-      let len : run_len t s ≡ w.len = omega (arith, told.len_is) in
-      let number : value t (run t s) ≡ w.number = ap (λ (n : ℕ). value t (take n s)) len ∙ sym told.number_is in
+  short_prefix : cond (eqb w.len 0) (Err empty) (cond (ltb bound w.number) (Err (overflow s)) (Ok (w.number, w.len))) ≡ prefix_magnitude t class bound limit skip s
+  short_prefix =
+      let len : run_len t s ≡ w.len = omega (arith, reported.len_is) in
+      let number : value t (run t s) ≡ w.number = ap (λ (n : ℕ). value t (take n s)) len ∙ sym reported.number_is in
       let small : value t (run t s) < 10 ^ 15 = omega (arith, short_number) in
       picked (eqb w.len 0) (ltb bound w.number) empty (overflow s) (w.number, w.len)
       ∙ sym (ap₂ (λ (n m : ℕ). unless_refused (cond (eqb m 0) (Some empty) (cond (ltb bound n) (Some (overflow s)) None)) (n, m)) number len)
@@ -389,11 +389,11 @@ module _ (t : Table) (ten : IsBelowTen t) (class : Class) (bound limit : ℕ) (s
 
   -- If the window has no digit, the answer is `Empty`.
   pub short_none : w.len ≡ 0 → Err empty ≡ prefix_magnitude t class bound limit skip s
-  short_none none = sym (ap (λ b. cond b (Err empty) (cond (ltb bound w.number) (Err (overflow s)) (Ok (w.number, w.len)))) (eq-eqb w.len 0 none)) ∙ short_front
+  short_none none = sym (ap (λ b. cond b (Err empty) (cond (ltb bound w.number) (Err (overflow s)) (Ok (w.number, w.len)))) (eq-eqb w.len 0 none)) ∙ short_prefix
 
   -- If the window has a digit, its number decides between `Overflow` and `Ok`.
   pub short_some : 0 < w.len → cond (ltb bound w.number) (Err (overflow s)) (Ok (w.number, w.len)) ≡ prefix_magnitude t class bound limit skip s
-  short_some some = sym (ap (λ b. cond b (Err empty) (cond (ltb bound w.number) (Err (overflow s)) (Ok (w.number, w.len)))) (ne_eqb w.len 0 (omega arith))) ∙ short_front
+  short_some some = sym (ap (λ b. cond b (Err empty) (cond (ltb bound w.number) (Err (overflow s)) (Ok (w.number, w.len)))) (ne_eqb w.len 0 (omega arith))) ∙ short_prefix
 
   -- If the number of that window is within the bound, the answer is `Ok`.
   pub short_ok : 0 < w.len → w.number ≤ bound → Ok (w.number, w.len) ≡ prefix_magnitude t class bound limit skip s

@@ -29,7 +29,7 @@ use Rattle.atoi_core.specs.declared.error.AtoiSimdError.{AtoiSimdError}
 -- is no digit.
 pub prefix_stops_at_rest : (k : IntType) → PrefixStopsAtRest k
 prefix_stops_at_rest k form skip s v count h =
-    let counts = (found_prefix k form skip s v count h).counted in
+    let counts = (found_prefix k form skip s v count h).count_is in
     let g = sign_in k form s in
     let n = run_len decimal_table g.body in
     let parts = length-taken k form s in
@@ -49,10 +49,10 @@ whole_of_prefix : (k : IntType) (form : SignForm) (skip : Bool) (s : List ℕ) (
 whole_of_prefix k form skip s v h =
     let found = found_prefix k form skip s v (length s) h in
     let g = sign_in k form s in
-    let front = found.front in
-    let to_end : run_len decimal_table g.body ≡ length g.body = omega (arith, found.counted, length-taken k form s) in
-    let short = long_as_whole (class_of k) skip (limit_of k) (counting_digits decimal_table skip g.body) front.short in
-    let body_is = is_whole k g.minus skip g.body front.some short front.in_range to_end in
+    let prefix_is = found.is_prefix in
+    let to_end : run_len decimal_table g.body ≡ length g.body = omega (arith, found.count_is, length-taken k form s) in
+    let short = long_as_whole (class_of k) skip (limit_of k) (counting_digits decimal_table skip g.body) prefix_is.short in
+    let body_is = is_whole k g.minus skip g.body prefix_is.some short prefix_is.in_range to_end in
     whole_call-is k form skip s ∙ to_whole k g.minus skip g.body body_is ∙ ap Ok (sym found.number)
 
 -- If a whole parse gives a value, and a prefix may have as many digits as a whole slice, the prefix
@@ -67,9 +67,9 @@ prefix_of_whole k form skip s v limit h =
     let to_end = whole_is_run n (length g.body) body_is.ends in
     let parts = length-taken k form s in
     ok_prefix k form skip s v (length s) (record {
-      front = record { some = body_is.some; short = rw (limit_of_prefix k skip (limit_of k) limit) body_is.short; in_range = body_is.in_range; ends = refl };
+      is_prefix = record { some = body_is.some; short = rw (limit_of_prefix k skip (limit_of k) limit) body_is.short; in_range = body_is.in_range; ends = refl };
       number = found.1;
-      counted = omega arith;
+      count_is = omega arith;
     })
 
 -- The law `PrefixIsWhole`, which has both directions.
@@ -89,14 +89,14 @@ found_again k g skip v count h =
     run_all decimal_table (run decimal_table g.body) (len ∙ sym (length-run decimal_table g.body))
     in
     record {
-      front = record {
-        some = rw len h.front.some;
-        short = rw (len, leading) h.front.short;
-        in_range = rw same h.front.in_range;
+      is_prefix = record {
+        some = rw len h.is_prefix.some;
+        short = rw (len, leading) h.is_prefix.short;
+        in_range = rw same h.is_prefix.in_range;
         ends = refl;
       };
       number = rw same h.number;
-      counted = rw len h.counted;
+      count_is = rw len h.count_is;
     }
 
 -- A prefix that is found is not empty and lies within the slice. If the slice is cut after it, the
@@ -107,12 +107,12 @@ found_in_cut k form skip s v count h =
     let found = found_prefix k form skip s v count h in
     let g = sign_in k form s in
     let n = run_len decimal_table g.body in
-    let some = found.front.some in
-    let counted = found.counted in
+    let some = found.is_prefix.some in
+    let count_is = found.count_is in
     let most = prefix_len-le-length (is_digit decimal_table) g.body in
     let parts = length-taken k form s in
     let cut : take count s ≡ take g.taken s ++ run decimal_table g.body =
-    ap (λ (m : ℕ). take m s) (counted ∙ add_comm n g.taken) ∙ take-add g.taken n s ∙ ap (λ body. take g.taken s ++ take n body) (drop-taken k form s)
+    ap (λ (m : ℕ). take m s) (count_is ∙ add_comm n g.taken) ∙ take-add g.taken n s ∙ ap (λ body. take g.taken s ++ take n body) (drop-taken k form s)
     in
     let again : sign_in k form (take count s) ≡ record g { body = run decimal_table g.body } =
     ap (sign_in k form) cut ∙ sign_again k form s (run decimal_table g.body) (rw (run_len-run decimal_table g.body) some)
@@ -155,30 +155,30 @@ module _ (digits rest : List ℕ) (all : AllDigits 10 digits) (ends : ¬ BeginsW
   run_before = ap (λ (n : ℕ). take n (digits ++ rest)) run_len_before ∙ take-append_seam digits rest
 
 -- If digits write a number and no digit follows them, that number is found at the start of a body.
-front_found : (k : IntType) → IsSized k → (is_negative : Bool) (taken : ℕ) (digits rest : List ℕ) (number : ℤ)
+prefix_found : (k : IntType) → IsSized k → (is_negative : Bool) (taken : ℕ) (digits rest : List ℕ) (number : ℤ)
     → DigitsWrite k is_negative digits number → ¬ BeginsWithDigit rest
     → IsFound k (record { minus = is_negative; taken = taken; body = digits ++ rest }) true number (length digits + taken)
-front_found k sized is_negative taken digits rest number written ends =
+prefix_found k sized is_negative taken digits rest number written ends =
     let len = run_len_before digits rest written.numeral.1 ends in
     let is_run = run_before digits rest written.numeral.1 ends in
     let same = own.same digits written.numeral.1 in
     let in_range : value decimal_table (run decimal_table (digits ++ rest)) ≤ bound_of k is_negative = rw (is_run, same) written.in_range in
     record {
-      front = record {
+      is_prefix = record {
         some = omega (arith, len, written.numeral.0);
         short = rw (limit_of_prefix k true (limit_of k) (inl refl)) (in_range_short decimal_table k sized is_negative (digits ++ rest) in_range);
         in_range = in_range;
         ends = refl;
       };
       number = rw (is_run, same) written.value_is;
-      counted = rw len refl;
+      count_is = rw len refl;
     }
 
 -- If a prefix consists of digits that write a number, that number is found.
 found_digits : (k : IntType) → IsSized k → (is_negative : Bool) (s : List ℕ) (number : ℤ) (count : ℕ)
     → PrefixWrites (DigitsWrite k is_negative) s number count → IsFound k (record { minus = is_negative; taken = 0; body = s }) true number count
 found_digits k sized is_negative s number count h =
-    let found = front_found k sized is_negative 0 (take count s) (drop count s) number h.front h.ends in
+    let found = prefix_found k sized is_negative 0 (take count s) (drop count s) number h.written h.ends in
     let len : length (take count s) + 0 ≡ count = omega (arith, length-take-le count s h.within) in
     rw (take-append-drop count s, len) at found
 
@@ -186,10 +186,10 @@ found_digits k sized is_negative s number count h =
 found_text : (k : IntType) → IsSized k → (takes_plus : Bool) (s : List ℕ) (number : ℤ) (count : ℕ)
     → PrefixWrites (TextWrites k takes_plus) s number count → IsFound k (sign_of k.signed takes_plus s) true number count
 found_text k sized takes_plus s number count h =
-    let text = h.front in
+    let text = h.written in
     let rest = drop count s in
     let parts : s ≡ sign_bytes text.sign ++ (text.digits ++ rest) =
-    sym (take-append-drop count s) ∙ ap (λ front. front ++ rest) text.parts ∙ append_assoc (sign_bytes text.sign) text.digits rest
+    sym (take-append-drop count s) ∙ ap (λ prefix_bytes. prefix_bytes ++ rest) text.parts ∙ append_assoc (sign_bytes text.sign) text.digits rest
     in
     let some : 0 < run_len decimal_table (text.digits ++ rest) =
     omega (arith, run_len_before text.digits rest text.written.numeral.1 h.ends, text.written.numeral.0)
@@ -199,7 +199,7 @@ found_text k sized takes_plus s number count h =
     omega (arith, length-take-le count s h.within, simp length-append at (ap length text.parts))
     in
     subst (λ (g : Sign). IsFound k g true number count) (sym sign_is)
-    (rw len at (front_found k sized (is_minus text.sign) (length (sign_bytes text.sign)) text.digits rest number text.written h.ends))
+    (rw len at (prefix_found k sized (is_minus text.sign) (length (sign_bytes text.sign)) text.digits rest number text.written h.ends))
 
 -- The law `AcceptedPrefixes`: what a prefix parse finds is written there, and with zeros skipped,
 -- what is written there is found.
@@ -213,7 +213,7 @@ accepted_prefixes k sized = record { written = written; accepted = accepted }
         let len : count ≡ length (take count s) = sym (length-take-le count s cut.1) in
         let to_end : prefix_call k form skip (take count s) ≡ Ok (number, length (take count s)) = cut.2 ∙ ap (λ (n : ℕ). Ok (number, n)) len in
         record {
-          front = whole_written k form skip (take count s) number ((prefix_is_whole k).whole form skip (take count s) number to_end);
+          written = whole_written k form skip (take count s) number ((prefix_is_whole k).whole form skip (take count s) number to_end);
           some = omega (arith, cut.0);
           within = cut.1;
           ends = no_digit (drop count s) (λ lt.
@@ -229,19 +229,19 @@ accepted_prefixes k sized = record { written = written; accepted = accepted }
         ok_prefix k (given is_negative) true s number count (found_digits k sized is_negative s number count h)
 
 -- Bytes that write a number are not empty.
-some : (k : IntType) (form : SignForm) (front : List ℕ) (number : ℤ) → Writes k form front number → 0 < length front
-some k (looked_for takes_plus) front number h = omega (arith, ap length h.parts, length-append {A = ℕ}, h.written.numeral.0)
-some k (given is_negative) front number h = h.numeral.0
+some : (k : IntType) (form : SignForm) (prefix_bytes : List ℕ) (number : ℤ) → Writes k form prefix_bytes number → 0 < length prefix_bytes
+some k (looked_for takes_plus) prefix_bytes number h = omega (arith, ap length h.parts, length-append {A = ℕ}, h.written.numeral.0)
+some k (given is_negative) prefix_bytes number h = h.numeral.0
 
-joined : (k : IntType) (form : SignForm) (s front rest : List ℕ) (number : ℤ)
-    → s ≡ front ++ rest → Writes k form front number → ¬ BeginsWithDigit rest → PrefixWrites (Writes k form) s number (length front)
-joined k form s front rest number parts written ends =
-    let cut : take (length front) s ≡ front = ap (take (length front)) parts ∙ take-append_seam front rest in
+of_parts : (k : IntType) (form : SignForm) (s prefix_bytes rest : List ℕ) (number : ℤ)
+    → s ≡ prefix_bytes ++ rest → Writes k form prefix_bytes number → ¬ BeginsWithDigit rest → PrefixWrites (Writes k form) s number (length prefix_bytes)
+of_parts k form s prefix_bytes rest number parts written ends =
+    let cut : take (length prefix_bytes) s ≡ prefix_bytes = ap (take (length prefix_bytes)) parts ∙ take-append_seam prefix_bytes rest in
     record {
-      front = rw cut written;
-      some = some k form front number written;
-      within = omega (arith, ap length parts, length-append front rest);
-      ends = rw (front_rest s front rest parts) ends;
+      written = rw cut written;
+      some = some k form prefix_bytes number written;
+      within = omega (arith, ap length parts, length-append prefix_bytes rest);
+      ends = rw (front_rest s prefix_bytes rest parts) ends;
     }
 
 -- If a call gives two answers, they have the same number and the same count.
@@ -260,27 +260,27 @@ only k sized form s number other count len h g =
 
 -- If a slice begins with bytes that write a number and are followed by no digit, the prefix that
 -- was found ends where these bytes end.
-cut : (k : IntType) → IsSized k → (form : SignForm) (s front rest : List ℕ) (number other : ℤ) (count : ℕ)
-    → s ≡ front ++ rest → Writes k form front number → ¬ BeginsWithDigit rest → PrefixWrites (Writes k form) s other count
-    → (number ≡ other) × ((take count s ≡ front) × (drop count s ≡ rest))
-cut k sized form s front rest number other count parts written ends found =
-    let same = only k sized form s number other (length front) count (joined k form s front rest number parts written ends) found in (
+cut : (k : IntType) → IsSized k → (form : SignForm) (s prefix_bytes rest : List ℕ) (number other : ℤ) (count : ℕ)
+    → s ≡ prefix_bytes ++ rest → Writes k form prefix_bytes number → ¬ BeginsWithDigit rest → PrefixWrites (Writes k form) s other count
+    → (number ≡ other) × ((take count s ≡ prefix_bytes) × (drop count s ≡ rest))
+cut k sized form s prefix_bytes rest number other count parts written ends found =
+    let same = only k sized form s number other (length prefix_bytes) count (of_parts k form s prefix_bytes rest number parts written ends) found in (
       same.0,
       (
-        ap (λ n. take n s) (sym same.1) ∙ (ap (take (length front)) parts ∙ take-append_seam front rest),
-        ap (λ n. drop n s) (sym same.1) ∙ front_rest s front rest parts,
+        ap (λ n. take n s) (sym same.1) ∙ (ap (take (length prefix_bytes)) parts ∙ take-append_seam prefix_bytes rest),
+        ap (λ n. drop n s) (sym same.1) ∙ front_rest s prefix_bytes rest parts,
       ),
     )
 
 -- The law `PrefixesAndRests`.
 pub prefixes_and_rests : (k : IntType) → IsSized k → PrefixesAndRests k
-prefixes_and_rests k sized = record { joined = joined k; only = only k sized; cut = cut k sized }
+prefixes_and_rests k sized = record { of_parts = of_parts k; only = only k sized; cut = cut k sized }
 
 -- If a slice writes a number, it is its own prefix, so a whole parse that skips zeros accepts it.
 whole_accepted : (k : IntType) → IsSized k → (form : SignForm) (s : List ℕ) (number : ℤ) → Writes k form s number → whole_call k form true s ≡ Ok number
 whole_accepted k sized form s number h =
     (prefix_is_whole k).whole form true s number
-    ((accepted_prefixes k sized).accepted form s number (length s) (joined k form s s [] number (sym (append-nil s)) h (λ digit. digit)))
+    ((accepted_prefixes k sized).accepted form s number (length s) (of_parts k form s s [] number (sym (append-nil s)) h (λ digit. digit)))
 
 -- The law `AcceptedNumbers`: what a whole parse gives is written there, and with zeros skipped,
 -- what is written there is given.

@@ -39,16 +39,16 @@ leading_both n m k z y k_is more =
 
 -- A reading that is full of digits and the reading of the bytes after it are one reading of all
 -- these bytes.
-pub joined : (t : Table) (count more : ℕ) (s : List ℕ) (leading high digits others low : ℕ)
+pub join_readings : (t : Table) (count more : ℕ) (s : List ℕ) (leading high digits others low : ℕ)
     → Reading t count s count leading high → Reading t more (drop count s) digits others low
     → Reading t (count + more) s (count + digits) (cond (eqb leading count) (count + others) leading) (high * 10 ^ digits + low)
-joined t count more s leading high digits others low front back =
-    let full : count ≡ min count (run_len t s) = front.digits_are ∙ prefix_len-take (is_digit t) count s in
+join_readings t count more s leading high digits others low first_window back =
+    let full : count ≡ min count (run_len t s) = first_window.digits_are ∙ prefix_len-take (is_digit t) count s in
     let rest : run_len t s ≡ count + run_len t (drop count s) = prefix_len-drop (is_digit t) count s (omega arith) in
-    let behind : digits ≡ min more (run_len t (drop count s)) = back.digits_are ∙ prefix_len-take (is_digit t) more (drop count s) in
+    let following : digits ≡ min more (run_len t (drop count s)) = back.digits_are ∙ prefix_len-take (is_digit t) more (drop count s) in
     let all : run_len t (take (count + more) s) ≡ count + digits = omega (arith, prefix_len-take (is_digit t) (count + more) s) in
     let first : high ≡ value t (take count s) =
-    front.number_is ∙ ap (λ (n : ℕ). value t (take n (take count s))) (sym front.digits_are) ∙ ap (value t) (take-take count count s (omega arith)) in
+    first_window.number_is ∙ ap (λ (n : ℕ). value t (take n (take count s))) (sym first_window.digits_are) ∙ ap (value t) (take-take count count s (omega arith)) in
     let last : low ≡ value t (take digits (drop count s)) =
     back.number_is ∙ ap (λ (n : ℕ). value t (take n (take more (drop count s)))) (sym back.digits_are)
     ∙ ap (value t) (take-take digits more (drop count s) (omega arith)) in
@@ -58,12 +58,12 @@ joined t count more s leading high digits others low front back =
     value-take-add t count digits s (omega (arith, prefix_len-le-length (is_digit t) s))
     ∙ ap (λ (n : ℕ). n * 10 ^ digits + value t (take digits (drop count s))) (sym first)
     ∙ ap (λ (n : ℕ). high * 10 ^ digits + n) (sym last) in
-    let zeros_behind : others ≡ min more (zeros t (drop count s)) = back.leading_are ∙ prefix_len-take (is_zero t) more (drop count s) in
+    let zeros_after : others ≡ min more (zeros t (drop count s)) = back.leading_are ∙ prefix_len-take (is_zero t) more (drop count s) in
     let zeros_both : min (count + more) (zeros t s) ≡ cond (eqb leading count) (count + min more (zeros t (drop count s))) leading =
-    leading_both count more leading (zeros t s) (zeros t (drop count s)) (front.leading_are ∙ prefix_len-take (is_zero t) count s) (prefix_len-drop (is_zero t) count s) in
+    leading_both count more leading (zeros t s) (zeros t (drop count s)) (first_window.leading_are ∙ prefix_len-take (is_zero t) count s) (prefix_len-drop (is_zero t) count s) in
     record {
       digits_are = sym all;
-      leading_are = sym (prefix_len-take (is_zero t) (count + more) s ∙ zeros_both ∙ ap (λ (n : ℕ). cond (eqb leading count) (count + n) leading) (sym zeros_behind));
+      leading_are = sym (prefix_len-take (is_zero t) (count + more) s ∙ zeros_both ∙ ap (λ (n : ℕ). cond (eqb leading count) (count + n) leading) (sym zeros_after));
       number_is = sym (cut ∙ sum);
     }
 
@@ -231,7 +231,7 @@ all_decide t class bound limit less skip s place digits leading number skipped r
 
 -- The law `ReadingDecides`, put together from its fields.
 pub reading_decides : ReadingDecides
-reading_decides = record { zeros_left = zeros_left; joined = joined; widened = widened; within = within; below = below; decided = decided; short = short; full = all_decide }
+reading_decides = record { zeros_left = zeros_left; join_readings = join_readings; widened = widened; within = within; below = below; decided = decided; short = short; full = all_decide }
 
 -- ---- What a window says about its slice
 
@@ -262,15 +262,15 @@ shows_of t ten c s =
     let len : n ≡ min c (run_len t s) = prefix_len-take (is_digit t) c s in
     let reading : Reading t c s n (zeros t (take c s)) (value t (take n (take c s))) =
     record { digits_are = refl; leading_are = refl; number_is = refl } in
-    let tell = zeroes_cases n c (zeros t (take c s)) (zeros t s) (prefix_len-take (is_zero t) c s) in
+    let seen = zeroes_cases n c (zeros t (take c s)) (zeros t s) (prefix_len-take (is_zero t) c s) in
     record {
       reading = reading;
       len_is = len;
       number_is = ap (value t) (take-take n c s (omega arith));
       below = below t ten c s n _ _ reading;
-      zeroes = tell.0;
-      full = tell.1;
-      zeroes_of = tell.2;
+      zeroes = seen.0;
+      full = seen.1;
+      zeroes_of = seen.2;
     }
 
 -- So does any window that is equal to it.
@@ -283,23 +283,23 @@ zeros_both c leading others = cond (eqb leading c) (c + others) leading
 
 -- A window that is full of digits is a reading with as many digits as bytes.
 Shows-full : (t : Table) (c : ℕ) (s : List ℕ) (w : Window) → Shows t c s w → c ≤ w.len → Reading t c s c (zeros t (take c s)) w.number
-Shows-full t c s w tell more =
-    let full : w.len ≡ c = omega (arith, tell.len_is) in
+Shows-full t c s w seen more =
+    let full : w.len ≡ c = omega (arith, seen.len_is) in
     let P : ℕ → Type 0 = λ n. Reading t c s n (zeros t (take c s)) w.number in
-    subst P full tell.reading
+    subst P full seen.reading
 
 -- A full window of 16 bytes and the window after it are one reading.
-pub Shows-join : (t : Table) (d : ℕ) (s : List ℕ) (front back : Window) → Shows t 16 s front → 16 ≤ front.len → Shows t d (drop 16 s) back
-    → Reading t (16 + d) s (16 + back.len) (zeros_both 16 (zeros t (take 16 s)) (zeros t (take d (drop 16 s)))) (front.number * 10 ^ back.len + back.number)
-Shows-join t d s front back first full second = joined t 16 d s _ _ _ _ _ (Shows-full t 16 s front first full) second.reading
+pub Shows-join : (t : Table) (d : ℕ) (s : List ℕ) (first_window back : Window) → Shows t 16 s first_window → 16 ≤ first_window.len → Shows t d (drop 16 s) back
+    → Reading t (16 + d) s (16 + back.len) (zeros_both 16 (zeros t (take 16 s)) (zeros t (take d (drop 16 s)))) (first_window.number * 10 ^ back.len + back.number)
+Shows-join t d s first_window back first full second = join_readings t 16 d s _ _ _ _ _ (Shows-full t 16 s first_window first full) second.reading
 
 -- Two full windows and the window of 8 bytes after them are one reading.
-pub Shows-join_two : (t : Table) (s : List ℕ) (front middle back : Window) → Shows t 16 s front → 16 ≤ front.len
+pub Shows-join_two : (t : Table) (s : List ℕ) (first_window middle back : Window) → Shows t 16 s first_window → 16 ≤ first_window.len
     → Shows t 16 (drop 16 s) middle → 16 ≤ middle.len → Shows t 8 (drop 32 s) back
     → Reading t 40 s (32 + back.len) (zeros_both 32 (zeros_both 16 (zeros t (take 16 s)) (zeros t (take 16 (drop 16 s)))) (zeros t (take 8 (drop 32 s))))
-    ((front.number * 10 ^ 16 + middle.number) * 10 ^ back.len + back.number)
-Shows-join_two t s front middle back first full second more third =
-    joined t 32 8 s _ _ _ _ _ (joined t 16 16 s _ _ _ _ _ (Shows-full t 16 s front first full) (Shows-full t 16 (drop 16 s) middle second more)) third.reading
+    ((first_window.number * 10 ^ 16 + middle.number) * 10 ^ back.len + back.number)
+Shows-join_two t s first_window middle back first full second more third =
+    join_readings t 32 8 s _ _ _ _ _ (join_readings t 16 16 s _ _ _ _ _ (Shows-full t 16 s first_window first full) (Shows-full t 16 (drop 16 s) middle second more)) third.reading
 
 -- ---- The loop that skips zeros
 -- These lemmas say how far it gets, and how many windows it loads.
@@ -327,10 +327,10 @@ two_full t below s first second is full next more =
     omega (arith, prefix_len-drop (is_digit t) 16 s (omega (arith, full, (shows t below 16 s first is).len_is)), (shows_rest t below 16 s 16 second next).len_is)
 
 -- A window that is loaded k bytes after offset `at` describes the slice from there on.
-pub shows_behind : (t : Table) → IsBelowTen t → (c k : ℕ) (s : List ℕ) (at : ℕ) (w : Window) →
+pub shows_following : (t : Table) → IsBelowTen t → (c k : ℕ) (s : List ℕ) (at : ℕ) (w : Window) →
     w ≡ window_of t c (take (length (take (length s - at) (drop at s)) - k) (drop k (take (length s - at) (drop at s)))) →
     Shows t c (drop k (drop at s)) w
-shows_behind t below c k s at w e =
+shows_following t below c k s at w e =
     shows_rest t below c (drop at s) k w
     (e ∙ ap (λ (r : List ℕ). window_of t c (take (length r - k) (drop k r))) (take_rest s at))
 
@@ -349,17 +349,17 @@ Skipping-none t skip s n = record {
 pub Skipping-more : (t : Table) → IsBelowTen t → (skip : Bool) (s : List ℕ) (at after before now next : ℕ) (w : Window) →
     Skipping t skip s at before now → w ≡ window_of t 16 (take (length s - at) (drop at s)) → next ≡ now + 1 →
     skip ≡ true → 0 < w.zeroes → after ≡ at + w.zeroes → Skipping t skip s after before next
-Skipping-more t below skip s at after before now next w so e one on some dropped =
-    let tell : Shows t 16 (drop at s) w = shows_rest t below 16 s at w e in
-    let zeros_are : zeros t s ≡ at + zeros t (drop at s) = prefix_len-drop (is_zero t) at s so.bounded in
-    let run_is : run_len t s ≡ at + run_len t (drop at s) = prefix_len-drop (is_digit t) at s (omega (arith, so.bounded, zeros-le t s)) in
+Skipping-more t below skip s at after before now next w after_skip e one on some dropped =
+    let seen : Shows t 16 (drop at s) w = shows_rest t below 16 s at w e in
+    let zeros_are : zeros t s ≡ at + zeros t (drop at s) = prefix_len-drop (is_zero t) at s after_skip.bounded in
+    let run_is : run_len t s ≡ at + run_len t (drop at s) = prefix_len-drop (is_digit t) at s (omega (arith, after_skip.bounded, zeros-le t s)) in
     let run_most : run_len t s ≤ length s = prefix_len-le-length (is_digit t) s in
     let zero_most : zeros t s ≤ run_len t s = zeros-le t s in
-    let told : w.zeroes ≡ min 16 (zeros t (drop at s)) = tell.zeroes_of (tell.full some) in
-    let full : w.len ≡ 16 = tell.full some in
-    let run_more : w.len ≤ run_len t (drop at s) = omega (arith, tell.len_is) in
+    let reported : w.zeroes ≡ min 16 (zeros t (drop at s)) = seen.zeroes_of (seen.full some) in
+    let full : w.len ≡ 16 = seen.full some in
+    let run_more : w.len ≤ run_len t (drop at s) = omega (arith, seen.len_is) in
     let exact : 16 * now ≡ 16 * before + at =
-    elim so.place [ inl h ↦ h | inr h ↦ absurd (omega (arith, h.0)) ] in
+    elim after_skip.place [ inl h ↦ h | inr h ↦ absurd (omega (arith, h.0)) ] in
     record {
       bounded = omega arith;
       within = omega arith;
@@ -395,36 +395,36 @@ pub record Skipped (t : Table) (skip : Bool) (s : List ℕ) (at before now : ℕ
 pub Skipped-end : (t : Table) → IsBelowTen t → (skip : Bool) (s : List ℕ) (at before now next : ℕ) (w : Window) →
     Skipping t skip s at before now → w ≡ window_of t 16 (take (length s - at) (drop at s)) → next ≡ now + 1 →
     (skip ≡ false) ⊎ ((skip ≡ true) × (w.zeroes ≡ 0)) → Skipped t skip s at before next w
-Skipped-end t below skip s at before now next w so e one stops =
+Skipped-end t below skip s at before now next w after_skip e one stops =
     let last : skip ≡ true → w.zeroes ≡ 0 =
     λ h. elim stops [ inl k ↦ absurd (false≢true (sym k ∙ h)) | inr k ↦ k.1 ] in
-    let tell : Shows t 16 (drop at s) w = shows_rest t below 16 s at w e in
-    let zeros_are : zeros t s ≡ at + zeros t (drop at s) = prefix_len-drop (is_zero t) at s so.bounded in
-    let run_is : run_len t s ≡ at + run_len t (drop at s) = prefix_len-drop (is_digit t) at s (omega (arith, so.bounded, zeros-le t s)) in
+    let seen : Shows t 16 (drop at s) w = shows_rest t below 16 s at w e in
+    let zeros_are : zeros t s ≡ at + zeros t (drop at s) = prefix_len-drop (is_zero t) at s after_skip.bounded in
+    let run_is : run_len t s ≡ at + run_len t (drop at s) = prefix_len-drop (is_digit t) at s (omega (arith, after_skip.bounded, zeros-le t s)) in
     let zero_most : zeros t (drop at s) ≤ run_len t (drop at s) = zeros-le t (drop at s) in
-    let full : skip ≡ true → w.len ≡ 16 → at ≡ zeros t s = λ h k. omega (arith, last h, tell.zeroes_of k) in
-    let short : w.len < 16 → zeros t (drop at s) < 16 = λ h. omega (arith, tell.len_is) in
+    let full : skip ≡ true → w.len ≡ 16 → at ≡ zeros t s = λ h k. omega (arith, last h, seen.zeroes_of k) in
+    let short : w.len < 16 → zeros t (drop at s) < 16 = λ h. omega (arith, seen.len_is) in
     record {
-      shown = tell;
-      within = so.within;
-      off = so.off;
+      shown = seen;
+      within = after_skip.within;
+      off = after_skip.off;
       run_is = run_is;
       zeros_are = zeros_are;
-      value_is = value-drop_zeros t at s so.bounded;
+      value_is = value-drop_zeros t at s after_skip.bounded;
       full = full;
       last = last;
-      more = omega (arith, so.least);
-      most = omega (arith, so.most, so.bounded);
-      unskipped = λ h. omega (arith, so.off h, so.most);
+      more = omega (arith, after_skip.least);
+      most = omega (arith, after_skip.most, after_skip.bounded);
+      unskipped = λ h. omega (arith, after_skip.off h, after_skip.most);
       least = λ h. elim (cases_lt w.len 16) [
-        | inl k ↦ omega (arith, short k, so.least)
-        | inr k ↦ omega (arith, full h (omega (arith, tell.len_is)), so.least)
+        | inl k ↦ omega (arith, short k, after_skip.least)
+        | inr k ↦ omega (arith, full h (omega (arith, seen.len_is)), after_skip.least)
       ];
-      place = λ h. elim so.place [
+      place = λ h. elim after_skip.place [
         | inr k ↦ inr k
         | inl k ↦ (elim (cases_lt w.len 16) [
           | inl m ↦ inl (omega (arith, short m))
-          | inr m ↦ inl (omega (arith, full h (omega (arith, tell.len_is))))
+          | inr m ↦ inl (omega (arith, full h (omega (arith, seen.len_is))))
         ])
       ];
     }
@@ -433,24 +433,24 @@ Skipped-end t below skip s at before now next w so e one stops =
 pub Skipped-loads : {t : Table} {skip : Bool} {s : List ℕ} {at before now last most unskipped : ℕ} {w : Window} →
     Skipped t skip s at before now w → (more : ℕ) → last ≡ now + more → zeros t s / 16 + 2 + more ≤ most → 1 + more ≤ unskipped →
     LoadsWithin most unskipped t skip s before last
-Skipped-loads so more counted bounded few = record {
-  at_most = omega (arith, so.most);
-  at_most_unskipped = λ off. omega (arith, so.unskipped off);
-  at_least = λ _. omega (arith, so.more);
-  at_least_skipping = λ on. omega (arith, so.least on);
+Skipped-loads after_skip more counted bounded few = record {
+  at_most = omega (arith, after_skip.most);
+  at_most_unskipped = λ off. omega (arith, after_skip.unskipped off);
+  at_least = λ _. omega (arith, after_skip.more);
+  at_least_skipping = λ on. omega (arith, after_skip.least on);
 }
 
 -- If the loop loads one window, and one more is loaded only if zeros are not skipped and the first
 -- 16 bytes are digits, the number of loads is within the bounds for a narrow type.
 pub Skipped-one : (t : Table) (skip : Bool) (s : List ℕ) (at before now last : ℕ) {w : Window} → Skipped t skip s at before now w →
     now ≡ before + 1 → last ≡ now + (if skip || nat_lt (run_len t s) 16 then 0 else 1) → LoadsWithin (most_loads t narrow s) 2 t skip s before last
-Skipped-one t true s at before now last so one counted = record {
+Skipped-one t true s at before now last after_skip one counted = record {
   at_most = omega arith;
   at_most_unskipped = λ off. absurd (cc off);
   at_least = λ _. omega arith;
-  at_least_skipping = λ on. omega (arith, so.least on);
+  at_least_skipping = λ on. omega (arith, after_skip.least on);
 }
-Skipped-one t false s at before now last so one counted = record {
+Skipped-one t false s at before now last after_skip one counted = record {
   at_most = grind (arith, nat_tests);
   at_most_unskipped = λ _. grind (arith, nat_tests);
   at_least = λ _. grind (arith, nat_tests);
@@ -458,9 +458,9 @@ Skipped-one t false s at before now last so one counted = record {
 }
 
 -- If the first window reports zeros, `Skipping` holds after these zeros.
-pub Skipping-told : (t : Table) → IsBelowTen t → (s : List ℕ) (n zeroes : ℕ) → zeroes ≡ (window_of t 16 s).zeroes → 0 < zeroes →
+pub Skipping-first_window : (t : Table) → IsBelowTen t → (s : List ℕ) (n zeroes : ℕ) → zeroes ≡ (window_of t 16 s).zeroes → 0 < zeroes →
     Skipping t true s zeroes n (n + 1)
-Skipping-told t below s n zeroes e some =
+Skipping-first_window t below s n zeroes e some =
     let w : Window = window_of t 16 s in
     Skipping-more t below true s 0 zeroes n n (n + 1) w (Skipping-none t true s n) (ap (window_of t 16) (sym (take_rest s 0))) refl refl
     (omega arith) (omega arith)
@@ -478,10 +478,10 @@ Skipped-at_once t below skip s before next w e one stops =
 pub Skipped-first : (t : Table) → IsBelowTen t → (skip : Bool) (s : List ℕ) (before next : ℕ) (w : Window) →
     w ≡ window_of t 16 s → next ≡ before + 1 → w.len < 16 → Skipped t skip s 0 before next w
 Skipped-first t below skip s before next w e one short =
-    let tell : Shows t 16 s w = shows t below 16 s w e in
+    let seen : Shows t 16 s w = shows t below 16 s w e in
     let none : w.zeroes ≡ 0 =
     elim (cases_lt 0 w.zeroes) [
-      | inl h ↦ absurd (omega (arith, tell.full h))
+      | inl h ↦ absurd (omega (arith, seen.full h))
       | inr h ↦ omega arith
     ] in
     let stops : (skip ≡ false) ⊎ ((skip ≡ true) × (w.zeroes ≡ 0)) =

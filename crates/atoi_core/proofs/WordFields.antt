@@ -187,15 +187,15 @@ number_in_pairs h t (suc m) word =
     let f = word % 2 ^ h in
     let g = word / 2 ^ (h + h) % 2 ^ h in
     let rest = word / 2 ^ (h + h) / 2 ^ (h + h) in
-    let behind = number_in t (lows h (twice m) rest) in
+    let following = number_in t (lows h (twice m) rest) in
     let p = t ^ twice m in
     let place : (t * t) ^ length (pairs t (lows h (twice m) rest)) ≡ p = ap (λ k. (t * t) ^ k) (length-pairs h t m rest) ∙ power_of_square t m in
     let lower : t ^ length (lows h (twice m) rest) ≡ p = ap (λ k. t ^ k) (length-lows h (twice m) rest) in
     let higher : t ^ suc (length (lows h (twice m) rest)) ≡ p * t = pow-suc t (length (lows h (twice m) rest)) ∙ ap (λ x. x * t) lower in
-    let regroup : (g + f * t) * p + behind ≡ f * (p * t) + (g * p + behind) = omega arith in
+    let regroup : (g + f * t) * p + following ≡ f * (p * t) + (g * p + following) = omega arith in
     ap₂ (λ x y. (g + f * t) * x + y) place (number_in_pairs h t m rest)
     ∙ regroup
-    ∙ ap₂ (λ x y. f * x + (g * y + behind)) (sym higher) (sym lower)
+    ∙ ap₂ (λ x y. f * x + (g * y + following)) (sym higher) (sym lower)
 
 -- One round does not change the number that the digits spell. Afterwards they are in base t * t.
 pub round_number : (h t : ℕ) → (2 ^ h - 1) * (1 + t) < 2 ^ (h + h) → (m word : ℕ)

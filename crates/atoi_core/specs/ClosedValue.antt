@@ -30,11 +30,11 @@ sum_below-suc (suc n) f =
 
 -- After the first of n + 1 digits there are n more; and after the digit at index i + 1 of these
 -- there are as many as after the digit at index i of the last n.
-behind_first : (n : ℕ) → suc n - 1 - 0 ≡ n
-behind_first n = sub-zero (suc n - 1) ∙ suc-sub-suc n 0 ∙ sub-zero n
+following_first : (n : ℕ) → suc n - 1 - 0 ≡ n
+following_first n = sub-zero (suc n - 1) ∙ suc-sub-suc n 0 ∙ sub-zero n
 
-behind_next : (n i : ℕ) → suc n - 1 - suc i ≡ n - 1 - i
-behind_next n i =
+following_next : (n i : ℕ) → suc n - 1 - suc i ≡ n - 1 - i
+following_next n i =
     ap (λ (k : ℕ). k - suc i) (suc-sub-suc n 0 ∙ sub-zero n)
     ∙ ap (λ (k : ℕ). n - k) (sym (one-add i))
     ∙ sub-add-eq n 1 i
@@ -46,9 +46,9 @@ value_is_closed table (digit ∷ digits) =
     let n : ℕ = length digits in
     let term : ℕ → ℕ = λ i. digit_value table (slice_index (digit ∷ digits) i) * 10 ^ (suc n - 1 - i) in
     let rest : ℕ → ℕ = λ i. digit_value table (slice_index digits i) * 10 ^ (n - 1 - i) in
-    ap (λ (k : ℕ). digit_value table digit * 10 ^ k + value table digits) (sym (behind_first n))
+    ap (λ (k : ℕ). digit_value table digit * 10 ^ k + value table digits) (sym (following_first n))
     ∙ ap (λ (k : ℕ). term 0 + k)
     (value_is_closed table digits
     ∙ sym (sum_below-equal n (λ i. term (suc i)) rest
-    (λ i. ap (λ (k : ℕ). digit_value table (slice_index digits i) * 10 ^ k) (behind_next n i))))
+    (λ i. ap (λ (k : ℕ). digit_value table (slice_index digits i) * 10 ^ k) (following_next n i))))
     ∙ sym (sum_below-suc n term)

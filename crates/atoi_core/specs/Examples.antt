@@ -249,8 +249,8 @@ pub variant_first : refusal_cmp (size 9 (codes "b")) (overflow (codes "a")) ≡ 
 variant_first = refl
 
 -- A proper prefix of a slice is less than the slice.
-pub front_first : refusal_cmp (overflow (codes "1")) (overflow (codes "11")) ≡ Less
-front_first = refl
+pub prefix_first : refusal_cmp (overflow (codes "1")) (overflow (codes "11")) ≡ Less
+prefix_first = refl
 
 -- The left number decides before the right one.
 pub left_number_first : refusal_cmp (invalid64 1 2 (codes "a")) (invalid64 2 1 (codes "a")) ≡ Less

@@ -57,7 +57,7 @@ HasLimitOfWhole k skip = (skip ≡ true) ⊎ (32 < k.bits)
 
 -- `t` is a suffix of `s`.
 abbrev pub IsSuffix : List ℕ → List ℕ → Type 0
-IsSuffix t s = (front : List ℕ) × (s ≡ front ++ t)
+IsSuffix t s = (prefix_bytes : List ℕ) × (s ≡ prefix_bytes ++ t)
 
 -- Two answers are equal values, or reasons of the same variant.
 abbrev pub HaveSameOutcome : {A : Type 0} → Result A Refusal → Result A Refusal → Type 0
@@ -147,16 +147,16 @@ pub record PrefixResults {T : Type 0} (k : IntType) (number : T → ℤ) (skip :
 -- bytes are such a prefix. A slice has at most one such prefix; so a prefix that was found splits
 -- the slice into these bytes and that rest.
 pub record PrefixesAndRests (k : IntType) : Type 0 where
-  pub joined : (form : SignForm) (s front rest : List ℕ) (number : ℤ)
-      → s ≡ front ++ rest → Writes k form front number → ¬ BeginsWithDigit rest
-      → PrefixWrites (Writes k form) s number (length front)
+  pub of_parts : (form : SignForm) (s prefix_bytes rest : List ℕ) (number : ℤ)
+      → s ≡ prefix_bytes ++ rest → Writes k form prefix_bytes number → ¬ BeginsWithDigit rest
+      → PrefixWrites (Writes k form) s number (length prefix_bytes)
   pub only : (form : SignForm) (s : List ℕ) (number other : ℤ) (count len : ℕ)
       → PrefixWrites (Writes k form) s number count → PrefixWrites (Writes k form) s other len
       → (number ≡ other) × (count ≡ len)
-  pub cut : (form : SignForm) (s front rest : List ℕ) (number other : ℤ) (count : ℕ)
-      → s ≡ front ++ rest → Writes k form front number → ¬ BeginsWithDigit rest
+  pub cut : (form : SignForm) (s prefix_bytes rest : List ℕ) (number other : ℤ) (count : ℕ)
+      → s ≡ prefix_bytes ++ rest → Writes k form prefix_bytes number → ¬ BeginsWithDigit rest
       → PrefixWrites (Writes k form) s other count
-      → (number ≡ other) × ((take count s ≡ front) × (drop count s ≡ rest))
+      → (number ≡ other) × ((take count s ≡ prefix_bytes) × (drop count s ≡ rest))
 
 -- If a prefix parse reads its slice to the end, the whole parse returns the same value. If a prefix
 -- may have as many digits as a whole slice, the converse holds too.

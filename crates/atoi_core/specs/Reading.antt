@@ -45,7 +45,7 @@ pub record ReadingDecides : Type 0 where
   pub zeros_left : (table : Table) (count : ℕ) (s : List ℕ) (place : ℕ) → place ≤ zeros table s
       → zeros table (take count (drop place s)) ≡ min count (zeros table s - place)
   -- If a reading is full of digits, it and the reading after it together form one.
-  pub joined : (table : Table) (count more : ℕ) (s : List ℕ) (leading high digits others low : ℕ)
+  pub join_readings : (table : Table) (count more : ℕ) (s : List ℕ) (leading high digits others low : ℕ)
       → Reading table count s count leading high → Reading table more (drop count s) digits others low
       → Reading table (count + more) s (count + digits) (if leading == count then count + others else leading) (high * 10 ^ digits + low)
   -- A reading whose digits end within it, so that `digits < count`, is also a reading of more

@@ -58,7 +58,7 @@ BeginsWithDigit (byte ∷ bytes) = IsAsciiDigit byte
 -- The first `count` bytes of `s` write the number, in the sense of `Writes`, and no digit follows
 -- them.
 pub record PrefixWrites (Writes : List ℕ → ℤ → Type 0) (s : List ℕ) (number : ℤ) (count : ℕ) : Type 0 where
-  pub front : Writes (take count s) number
+  pub written : Writes (take count s) number
   pub some : 0 < count
   pub within : count ≤ length s
   pub ends : ¬ BeginsWithDigit (drop count s)

@@ -8,9 +8,9 @@ use Rattle.atoi_core.specs.declared.window.Window.{Window}
 -- value of their run, and the number of their leading zeros if the window is full of digits.
 abbrev pub window_of : Table → ℕ → List ℕ → Window
 window_of table size s =
-    let front = take size s in
+    let bytes = take size s in
     record {
-      len = run_len table front;
-      zeroes = if run_len table front == size then zeros table front else 0;
-      number = value table (run table front);
+      len = run_len table bytes;
+      zeroes = if run_len table bytes == size then zeros table bytes else 0;
+      number = value table (run table bytes);
     }

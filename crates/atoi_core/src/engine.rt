@@ -71,24 +71,24 @@ pub trait Engine {
             steps.old steps.new }
     {
         let mut at = 0;
-        let front = loop {
+        let first = loop {
             let window = Self::window(&s[at..], steps);
             if !skip || window.zeroes == 0 {
                 break window;
             }
             at = window.after_zeros(at);
         };
-        if front.len < 16 {
-            let len = at + front.len as usize;
+        if first.len < 16 {
+            let len = at + first.len as usize;
             return if len == 0 {
                 Err(AtoiSimdError::Empty)
             } else {
-                Ok((front.number, len))
+                Ok((first.number, len))
             };
         }
         let rest = &s[at..];
         let back = Self::window_8(&rest[16..], steps);
-        let number = append_digits(front.number, back.len, back.number);
+        let number = append_digits(first.number, back.len, back.number);
         answer_64(bound, limit, at, 16 + back.len, number, s)
     }
 

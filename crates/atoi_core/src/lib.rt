@@ -1,6 +1,6 @@
-//! The engines, loops and definitions under `atoi_simd`: exact parses of decimal digits at the
-//! front of a byte slice into integers. It uses std alone. But for `AtoiSimdError` nothing here is
-//! public in the Rust crate.
+//! The parsers under `atoi_simd`, which read the decimal digits at the start of a byte slice as an
+//! integer, with the definitions that say what they return. The crate uses only std. Of its items,
+//! only `AtoiSimdError` is public in the Rust crate `atoi_simd`.
 //!
 //! The comments of this crate use these words:
 //!
@@ -24,12 +24,12 @@ mod digit_loop;
 mod dispatch;
 mod engine;
 mod error;
-mod prefix_128;
 pub mod laws;
 mod narrow;
 mod negative_bound;
 mod number;
 mod plain;
+mod prefix_128;
 pub mod reading;
 mod sign;
 mod steps;

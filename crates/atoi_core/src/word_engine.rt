@@ -65,17 +65,17 @@ impl Engine for Words {
         s: &'a [u8],
         steps: &mut Steps,
     ) -> Result<(u64, usize), AtoiSimdError<'a>> {
-        let front = Words::window(s, steps);
-        if skip && front.zeroes > 0 {
-            return skip_leading_zeros_cold(bound, limit, front.zeroes, s, steps);
+        let first = Words::window(s, steps);
+        if skip && first.zeroes > 0 {
+            return skip_leading_zeros_cold(bound, limit, first.zeroes, s, steps);
         }
-        if front.len == 0 {
+        if first.len == 0 {
             Err(AtoiSimdError::Empty)
-        } else if front.len < 16 {
-            Ok((front.number, front.len as usize))
+        } else if first.len < 16 {
+            Ok((first.number, first.len as usize))
         } else {
             let back = window_after_16(s, steps);
-            let number = append_digits(front.number, back.len, back.number);
+            let number = append_digits(first.number, back.len, back.number);
             answer_64(bound, limit, 0, 16 + back.len, number, s)
         }
     }
@@ -130,19 +130,19 @@ fn skip_leading_zeros<'a>(
         s.now steps.old steps.new }
 {
     let mut at = zeroes as usize;
-    let front = loop {
+    let first = loop {
         let window = Words::window(&s[at..], steps);
         if window.zeroes == 0 {
             break window;
         }
         at = window.after_zeros(at);
     };
-    if front.len < 16 {
-        return Ok((front.number, at + front.len as usize));
+    if first.len < 16 {
+        return Ok((first.number, at + first.len as usize));
     }
     let rest = &s[at..];
     let back = window_after_16(rest, steps);
-    let number = append_digits(front.number, back.len, back.number);
+    let number = append_digits(first.number, back.len, back.number);
     answer_64(bound, limit, at, 16 + back.len, number, s)
 }
 

@@ -126,12 +126,12 @@ above_zero-digit : (x : ℕ) → is_digit decimal_table x ≡ true → (above_ze
 above_zero-digit x h = (grind (arith, nat_tests), grind (arith, nat_tests))
 
 -- For each digit, f returns its digit value.
-abbrev pub MakesWorths : (ℕ → ℕ) → Type 0
-MakesWorths f = (x : ℕ) → is_digit decimal_table x ≡ true → (f x ≡ digit_value decimal_table x) × (f x < 10)
+abbrev pub GivesDigitValues : (ℕ → ℕ) → Type 0
+GivesDigitValues f = (x : ℕ) → is_digit decimal_table x ≡ true → (f x ≡ digit_value decimal_table x) × (f x < 10)
 
 -- If f returns digit values, the numbers that it returns for leading digits spell their value, and
 -- each is below ten.
-pub digits_value : (f : ℕ → ℕ) → MakesWorths f → (n : ℕ) (v : List ℕ) → n ≤ run_len decimal_table v
+pub digits_value : (f : ℕ → ℕ) → GivesDigitValues f → (n : ℕ) (v : List ℕ) → n ≤ run_len decimal_table v
     → (value itself (take n (map f v)) ≡ value decimal_table (take n v)) × Each1 (λ x. x < 10) (take n (map f v))
 digits_value f makes zero v h = (refl, tt)
 digits_value f makes (suc n) [] h = (refl, tt)
@@ -183,19 +183,19 @@ number-digits p (suc n) x some lt =
 
 -- If a step on a field of two digits joins them to one, applying it to all fields joins all
 -- neighbours. The first digit of a field is the lower one.
-joined : (p t : ℕ) (step : ℕ → ℕ) → t ≤ p → ((x y : ℕ) → x < t → y < t → step (y * p + x) ≡ x * t + y)
+join_lanes : (p t : ℕ) (step : ℕ → ℕ) → t ≤ p → ((x y : ℕ) → x < t → y < t → step (y * p + x) ≡ x * t + y)
     → (m : ℕ) (xs : List ℕ) → length xs ≡ m + m → Each1 (λ x. x < t) xs → map step (digits_l (p * p) m (number_l p xs)) ≡ paired t xs
-joined p t step le joins zero [] long h = refl
-joined p t step le joins zero (x ∷ xs) long h = absurd (omega arith)
-joined p t step le joins (suc m) [] long h = absurd (omega arith)
-joined p t step le joins (suc m) (x ∷ []) long h = absurd (omega arith)
-joined p t step le joins (suc m) (x ∷ y ∷ rest) long h =
+join_lanes p t step le joins zero [] long h = refl
+join_lanes p t step le joins zero (x ∷ xs) long h = absurd (omega arith)
+join_lanes p t step le joins (suc m) [] long h = absurd (omega arith)
+join_lanes p t step le joins (suc m) (x ∷ []) long h = absurd (omega arith)
+join_lanes p t step le joins (suc m) (x ∷ y ∷ rest) long h =
     let n = number_l p rest in
     let field : y * p + x < p * p = digits_lt {q = y} {m = p} (omega (arith, h.1.0)) (omega (arith, h.0)) in
     let all : x + p * (y + p * n) ≡ n * (p * p) + (y * p + x) = omega arith in
     ap₂ (λ d ds. d ∷ ds) (ap step (ap (λ k. k % (p * p)) all ∙ mod-mul-add n (p * p) (y * p + x) field) ∙ joins x y h.0 h.1.0)
     (ap (λ k. map step (digits_l (p * p) m k)) (ap (λ k. k / (p * p)) all ∙ div-mul-add n (p * p) (y * p + x) field)
-    ∙ joined p t step le joins m rest (omega arith) h.1.1)
+    ∙ join_lanes p t step le joins m rest (omega arith) h.1.1)
 
 -- Splitting a number into bytes and reading these gives the same number, if the digits fill whole
 -- bytes.
@@ -229,7 +229,7 @@ level : (h t n m : ℕ) → t * t ≤ 2 ^ h → (2 ^ h) ^ (m + m) ≡ 256 ^ n �
 level h t n m room bytes xs long below =
     let le : t ≤ 2 ^ h = omega (arith, square t) in
     ap (λ k. map (step h t) (digits_l (2 ^ h * 2 ^ h) m k)) (recast (2 ^ h) n xs (ap (λ k. (2 ^ h) ^ k) long ∙ bytes) (Each1-weaker (λ x. x < t) (λ x. x < 2 ^ h) (λ x lt. omega arith) xs below))
-    ∙ joined (2 ^ h) t (step h t) le (step-joins h t room) m xs long below
+    ∙ join_lanes (2 ^ h) t (step h t) le (step-joins h t room) m xs long below
 
 -- The weights for bytes of lanes that hold a pair of digits in the upper byte: two neighbouring
 -- pairs have the weights 100 and 1, and the lower bytes have the weight 0. `four_each` is the
@@ -260,9 +260,9 @@ weighed (suc m) (x ∷ y ∷ rest) long h =
     let high : y < 65536 = h.1.0.fits in
     let first : all / 256 % 256 ≡ x / 256 = omega (arith, low) in
     let second : all / 256 / 256 / 256 % 256 ≡ y / 256 = omega (arith, low, high) in
-    let behind : all / 256 / 256 / 256 / 256 ≡ n = omega (arith, low, high) in
+    let following : all / 256 / 256 / 256 / 256 ≡ n = omega (arith, low, high) in
     ap₂ (λ d ds. d ∷ ds) (omega (arith, first, second))
-    (ap (λ k. dots (digits_l 256 (four_each m) k) (hundreds m)) behind ∙ weighed m rest (omega arith) h.1.1)
+    (ap (λ k. dots (digits_l 256 (four_each m) k) (hundreds m)) following ∙ weighed m rest (omega arith) h.1.1)
 
 -- A product that wraps fits in its lane.
 wrapped : (factor : ℕ) (xs : List ℕ) → Each1 (Fits w16) (map (λ field. field * factor % 65536) xs)
@@ -277,7 +277,7 @@ pub all_levels : (digits : List ℕ) → length digits ≡ 16 → Each1 (λ x. x
     ≡ paired 10000 (paired 100 (paired 10 digits))
 all_levels digits long below =
     let lanes = map (λ field. field * 2561 % 65536) (digits_l 65536 8 (number_l 256 digits)) in
-    let pairs : map upper lanes ≡ paired 10 digits = joined 256 10 (λ field. field * 2561 % 65536 / 256) (omega arith) (λ x y a b. omega arith) 8 digits long below in
+    let pairs : map upper lanes ≡ paired 10 digits = join_lanes 256 10 (λ field. field * 2561 % 65536 / 256) (omega arith) (λ x y a b. omega arith) 8 digits long below in
     let fours = weighed 4 lanes refl (wrapped 2561 (digits_l 65536 8 (number_l 256 digits))) ∙ ap (paired 100) pairs in
     let small = paired-below 100 (paired 10 digits) (paired-below 10 digits below) in
     let four = length-paired 100 4 (paired 10 digits) (length-paired 10 8 digits long) in
@@ -298,14 +298,14 @@ bytes-skip_leading_zeros zero s h = h
 bytes-skip_leading_zeros (suc n) s h = (omega arith, bytes-skip_leading_zeros n s h)
 
 -- The first half has eight lanes.
-length-front : (s : List ℕ) → length s ≤ 8 → length (replicate (8 - length s) 0 ++ s) ≡ 8
-length-front s few = length-append (replicate (8 - length s) 0) s ∙ omega (arith, length-replicate {A = ℕ} (8 - length s) 0)
+length-filled : (s : List ℕ) → length s ≤ 8 → length (replicate (8 - length s) 0 ++ s) ≡ 8
+length-filled s few = length-append (replicate (8 - length s) 0) s ∙ omega (arith, length-replicate {A = ℕ} (8 - length s) 0)
 
 -- The word that `load_high` returns has these lanes.
 half_of_word : (s : List ℕ) → Each1 (λ x. x < 256) s → length s ≤ 8
     → digits_l 256 16 (number_l 256 (replicate (8 - length s) 0 ++ s)) ≡ in_half s
 half_of_word s h few =
-    let long = length-front s few in
+    let long = length-filled s few in
     digits-number 256 16 8 (replicate (8 - length s) 0 ++ s) (bytes-skip_leading_zeros (8 - length s) s h) (omega (arith, long))
     ∙ take_all 16 (in_half s) (omega (arith, long, length-append (replicate (8 - length s) 0 ++ s) (replicate 8 0)))
 
@@ -399,7 +399,7 @@ digits_first s v mask few is ones =
     let digit = is_digit decimal_table in
     let zeros = 8 - length s in
     let rest : drop zeros v ≡ s ++ replicate 8 0 =
-    ap (drop zeros) is ∙ drop-append-le zeros (replicate zeros 0 ++ s) (replicate 8 0) (omega (arith, length-front s few)) ∙ ap (λ l. l ++ replicate 8 0) (drop-zeros zeros s) in
+    ap (drop zeros) is ∙ drop-append-le zeros (replicate zeros 0 ++ s) (replicate 8 0) (omega (arith, length-filled s few)) ∙ ap (λ l. l ++ replicate 8 0) (drop-zeros zeros s) in
     ones-of_mask digit (s ++ replicate 8 0) (omega (arith, length-append s (replicate 8 0))) _
     (ap (λ m. m / 2 ^ zeros) ones ∙ mask-drop zeros (map digit v) ∙ ap mask_l (drop-map digit zeros v ∙ ap (map digit) rest))
     ∙ prefix_len-before_zeros digit refl 8 s
@@ -409,7 +409,7 @@ abbrev low_half : ℕ → ℕ
 low_half x = bit_and x 15
 
 -- For a digit this is its digit value.
-low_half-digit : MakesWorths low_half
+low_half-digit : GivesDigitValues low_half
 low_half-digit x h =
     let half : bit_and x 15 ≡ x % 16 = and_mask x 4 in
     (half ∙ grind (arith, nat_tests), rw half (grind (arith, nat_tests)))
@@ -432,7 +432,7 @@ half_values : (s : List ℕ) → length s ≤ 8 → run_len decimal_table s ≡ 
     × Each1 (λ x. x < 10) (zip2 bit_and v (replicate 16 15))
 half_values s few digits v is =
     let zeros = 8 - length s in
-    let long : length v ≡ 16 = ap length is ∙ length-append (replicate zeros 0 ++ s) (replicate 8 0) ∙ omega (arith, length-front s few) in
+    let long : length v ≡ 16 = ap length is ∙ length-append (replicate zeros 0 ++ s) (replicate 8 0) ∙ omega (arith, length-filled s few) in
     let digit_values = map low_half s in
     let lanes : zip2 bit_and v (replicate 16 15) ≡ (replicate zeros 0 ++ digit_values) ++ replicate 8 0 =
     zip2_splat bit_and v 16 15 long

@@ -30,35 +30,35 @@ prefix_len-padded p h (suc n) (suc m) [] = ap (λ b. cond b (1 + prefix_len p (t
 prefix_len-padded p h (suc n) m (x ∷ xs) = ap (λ k. cond (p x) (1 + k) 0) (prefix_len-padded p h n m xs)
 
 -- What is put after the elements does not change a prefix that ends within them.
-pub front-padded : (p : ℕ → Bool) (n : ℕ) (s zs : List ℕ) → take (prefix_len p (take n s)) (take n (s ++ zs)) ≡ take (prefix_len p (take n s)) (take n s)
-front-padded p zero s zs = refl
-front-padded p (suc n) [] zs = refl
-front-padded p (suc n) (x ∷ xs) zs =
+pub prefix-padded : (p : ℕ → Bool) (n : ℕ) (s zs : List ℕ) → take (prefix_len p (take n s)) (take n (s ++ zs)) ≡ take (prefix_len p (take n s)) (take n s)
+prefix-padded p zero s zs = refl
+prefix-padded p (suc n) [] zs = refl
+prefix-padded p (suc n) (x ∷ xs) zs =
     elim (p x) as (λ b. take (cond b (1 + prefix_len p (take n xs)) 0) (x ∷ take n (xs ++ zs)) ≡ take (cond b (1 + prefix_len p (take n xs)) 0) (x ∷ take n xs)) [
       | true ↦
           let more : 1 + prefix_len p (take n xs) ≡ suc (prefix_len p (take n xs)) = omega arith in
-          rw more (ap (λ r. x ∷ r) (front-padded p n xs zs))
+          rw more (ap (λ r. x ∷ r) (prefix-padded p n xs zs))
       | false ↦ refl
     ]
 
 -- A window read from lanes is the one read from the bytes in them.
-lanes_tell : (size : ℕ) (s : List ℕ) → lane_window size (padded_start 16 s) ≡ lane_window size (take 16 s)
-lanes_tell size s =
+lanes_show : (size : ℕ) (s : List ℕ) → lane_window size (padded_start 16 s) ≡ lane_window size (take 16 s)
+lanes_show size s =
     let len = prefix_len-padded (is_digit decimal_table) refl 16 16 s in
     let leading = prefix_len-padded (is_zero decimal_table) refl 16 16 s in
     let front : run decimal_table (padded_start 16 s) ≡ run decimal_table (take 16 s) =
-    ap (λ n. take n (padded_start 16 s)) len ∙ front-padded (is_digit decimal_table) 16 s (replicate 16 0) in
+    ap (λ n. take n (padded_start 16 s)) len ∙ prefix-padded (is_digit decimal_table) 16 s (replicate 16 0) in
     let window : (ℕ → ℕ → List ℕ → Window) = λ n z r. record { len = n; zeroes = if n == size then z else 0; number = value decimal_table r } in
     ap₂ (λ n z. window n z (run decimal_table (padded_start 16 s))) len leading
     ∙ ap (window (run_len decimal_table (take 16 s)) (zeros decimal_table (take 16 s))) front
 
 -- 16 lanes that hold the first 16 bytes give the window of 16 bytes.
 pub window-of_lanes : (s : List ℕ) → lane_window 16 (padded_start 16 s) ≡ window_of decimal_table 16 s
-window-of_lanes s = lanes_tell 16 s
+window-of_lanes s = lanes_show 16 s
 
 -- 16 lanes that hold the first 8 bytes give the window of 8 bytes.
 pub window-of_half_the_lanes : (s : List ℕ) → lane_window 8 (padded_start 16 (take 8 s)) ≡ window_of decimal_table 8 s
-window-of_half_the_lanes s = lanes_tell 8 (take 8 s) ∙ ap (lane_window 8) (take_all 16 (take 8 s) (omega (arith, length-take 8 s)))
+window-of_half_the_lanes s = lanes_show 8 (take 8 s) ∙ ap (lane_window 8) (take_all 16 (take 8 s) (omega (arith, length-take 8 s)))
 
 -- The window of a slice with fewer than 16 bytes is also a reading of 32 bytes.
 pub reading-of_few : (s : List ℕ) (w : Window) → length s < 16 → w ≡ window_of decimal_table 16 s
@@ -83,7 +83,7 @@ reading-of_lanes s lanes len number loaded digits writes =
       digits_are = same;
       leading_are = ap (zeros decimal_table) loaded ∙ prefix_len-padded (is_zero decimal_table) refl 16 16 s;
       number_is = writes ∙ ap₂ (λ n l. value decimal_table (take n l)) same loaded
-          ∙ ap (value decimal_table) (front-padded (is_digit decimal_table) 16 s (replicate 16 0));
+          ∙ ap (value decimal_table) (prefix-padded (is_digit decimal_table) 16 s (replicate 16 0));
     }
 
 -- If the slice has at least 32 bytes, its second 16 fill a vector.
@@ -92,21 +92,21 @@ after_all s enough = sym (take-append-le 16 (drop 16 s) (replicate 16 0) (omega 
 
 -- If it has fewer, they are the last lanes of the vector of its last 16 bytes, and zeros follow
 -- them.
-pub behind_some : (s : List ℕ) → 16 ≤ length s → length s < 32
+pub after_some : (s : List ℕ) → 16 ≤ length s → length s < 32
     → drop (32 - length s) (take 16 (drop (length s - 16) s)) ++ replicate (32 - length s) 0 ≡ padded_start 16 (drop 16 s)
-behind_some s enough short =
+after_some s enough short =
     let end : ℕ = length s in
     let last : List ℕ = take 16 (drop (end - 16) s) in
-    let behind : List ℕ = drop 16 s in
-    let count : length behind ≡ length s - 16 = length-drop 16 s in
+    let following : List ℕ = drop 16 s in
+    let count : length following ≡ length s - 16 = length-drop 16 s in
     let all : last ≡ drop (end - 16) s = take_all 16 (drop (end - 16) s) (omega (arith, length-drop (end - 16) s)) in
     let place : end - 16 + (32 - end) ≡ 16 = omega arith in
-    let fill : length behind + (32 - end) ≡ 16 = omega arith in
+    let fill : length following + (32 - end) ≡ 16 = omega arith in
     ap (λ l. drop (32 - end) l ++ replicate (32 - end) 0) all
     ∙ ap (λ l. l ++ replicate (32 - end) 0) (drop-drop (32 - end) (end - 16) s ∙ ap (λ k. drop k s) place)
-    ∙ ap (λ l. behind ++ l) (sym (take-replicate (32 - end) 16 0 (omega arith)))
-    ∙ sym (take-append-add behind (replicate 16 0) (32 - end))
-    ∙ ap (λ n. take n (behind ++ replicate 16 0)) fill
+    ∙ ap (λ l. following ++ l) (sym (take-replicate (32 - end) 16 0 (omega arith)))
+    ∙ sym (take-append-add following (replicate 16 0) (32 - end))
+    ∙ ap (λ n. take n (following ++ replicate 16 0)) fill
 
 -- ---- The loop that skips zeros
 -- It drops the zeros of one window of 32 bytes in each turn. These lemmas say how far it gets and
@@ -134,10 +134,10 @@ Skipping-none skip s n = record {
 -- If the window begins with zeros, the loop goes on after them.
 pub Skipping-more : (skip : Bool) (s : List ℕ) (at before now next leading : ℕ) → Skipping skip s at before now
     → leading ≡ min 32 (zeros decimal_table s - at) → next ≡ now + 1 → skip ≡ true → 0 < leading → Skipping skip s (at + leading) before next
-Skipping-more skip s at before now next leading so told one on some =
-    let zeros_only : at ≤ zeros decimal_table s = so.skipped.zeros_only in
+Skipping-more skip s at before now next leading after_skip reported one on some =
+    let zeros_only : at ≤ zeros decimal_table s = after_skip.skipped.zeros_only in
     let zeros_within : zeros decimal_table s ≤ length s = prefix_len-le-length (is_zero decimal_table) s in
-    let exact : 32 * now ≡ 32 * before + at = elim so.place [ inl h ↦ h | inr h ↦ absurd (omega arith) ] in
+    let exact : 32 * now ≡ 32 * before + at = elim after_skip.place [ inl h ↦ h | inr h ↦ absurd (omega arith) ] in
     record {
       skipped = record { zeros_only = omega arith; asked = λ h. absurd (false≢true (sym h ∙ on)) };
       within = omega arith;
@@ -150,7 +150,7 @@ Skipping-more skip s at before now next leading so told one on some =
 -- zeros of the slice.
 pub Skipping-loads : (skip : Bool) (s : List ℕ) (at before now leading : ℕ) → Skipping skip s at before now
     → leading ≡ min 32 (zeros decimal_table s - at) → leading < 32 → before + zeros decimal_table s / 32 ≤ now
-Skipping-loads skip s at before now leading so told few = omega (arith, so.least)
+Skipping-loads skip s at before now leading after_skip reported few = omega (arith, after_skip.least)
 
 -- The loop is not entered if zeros are not skipped, or if the first window begins with none or is
 -- not full. So a full first window begins with no zero that is skipped.
@@ -179,9 +179,9 @@ reads-first law skip s len leading number reading ends =
 pub few-zeros : ReadingDecides → (skip : Bool) (s : List ℕ) (len leading number : ℕ) → Reading decimal_table 32 s len leading number
     → (skip ≡ true → 32 ≤ len → leading ≡ 0) → skip ≡ true → zeros decimal_table s < 32
 few-zeros law skip s len leading number reading ends on =
-    let told : leading ≡ min 32 (zeros decimal_table s - 0) = reading.leading_are ∙ law.zeros_left decimal_table 32 s 0 (omega arith) in
+    let reported : leading ≡ min 32 (zeros decimal_table s - 0) = reading.leading_are ∙ law.zeros_left decimal_table 32 s 0 (omega arith) in
     let most = law.within decimal_table 32 s len leading number reading in
-    elim (cases_lt len 32) [ inl less ↦ omega (arith, most.0, told) | inr more ↦ omega (arith, ends on more, told) ]
+    elim (cases_lt len 32) [ inl less ↦ omega (arith, most.0, reported) | inr more ↦ omega (arith, ends on more, reported) ]
 
 -- ---- Windows of 32 bytes decide the answers
 
@@ -190,10 +190,10 @@ pub below_ten : IsBelowTen decimal_table
 below_ten byte = grind (arith, nat_tests)
 
 -- All digits of a window are significant except its zeros that are skipped.
-counted : (skip : Bool) (len told leading : ℕ) → told ≤ len → ((skip ≡ true) × (leading ≡ told)) ⊎ ((skip ≡ false) × (leading ≡ 0))
-    → (counting_digits skip len told ≡ len - leading) × (len - counting_digits skip len told ≡ leading)
-counted true len told leading most is = elim is [ inl h ↦ (omega (arith, h), omega (arith, h)) | inr h ↦ absurd (false≢true (sym h.0)) ]
-counted false len told leading most is = elim is [ inl h ↦ absurd (false≢true h.0) | inr h ↦ (omega (arith, h), omega (arith, h)) ]
+significant_are : (skip : Bool) (len reported leading : ℕ) → reported ≤ len → ((skip ≡ true) × (leading ≡ reported)) ⊎ ((skip ≡ false) × (leading ≡ 0))
+    → (counting_digits skip len reported ≡ len - leading) × (len - counting_digits skip len reported ≡ leading)
+significant_are true len reported leading most is = elim is [ inl h ↦ (omega (arith, h), omega (arith, h)) | inr h ↦ absurd (false≢true (sym h.0)) ]
+significant_are false len reported leading most is = elim is [ inl h ↦ absurd (false≢true h.0) | inr h ↦ (omega (arith, h), omega (arith, h)) ]
 
 -- For 64 bits, the last window decides the answer.
 pub decided_64 : ReadingDecides → (bound limit : ℕ) (skip : Bool) (s : List ℕ) (at leading : ℕ) (w : Window32) → limit ≤ 20
@@ -201,7 +201,7 @@ pub decided_64 : ReadingDecides → (bound limit : ℕ) (skip : Bool) (s : List 
     → answer_by_digits wide64 bound limit (at + leading) (w.len - leading) w.number s ≡ prefix_magnitude decimal_table wide64 bound limit skip s
 decided_64 law bound limit skip s at leading w few front is =
     let within = law.within decimal_table 32 (drop at s) w.len w.zeroes w.number front.reading in
-    let count = counted skip w.len w.zeroes leading within.0 is in
+    let count = significant_are skip w.len w.zeroes leading within.0 is in
     let enough : (w.len < 32) ⊎ (24 ≤ counting_digits skip w.len w.zeroes) =
     elim (cases_lt w.len 32) [
       | inl h ↦ inl h
@@ -216,23 +216,23 @@ pub decided_full : ReadingDecides → (bound : ℕ) (skip : Bool) (s : List ℕ)
     → ReadsAfterZeros skip s at w.len w.zeroes w.number → 32 ≤ w.len
     → back ≡ window_of decimal_table 8 (drop 32 (take (length s - at) (drop at s)))
     → (back.len ≤ 8) × (w.number * 10 ^ back.len + back.number < 10 ^ (32 + back.len)) × (at + (32 + back.len) ≤ length s) × (answer_by_digits wide128 bound 39 at (32 + back.len) (w.number * 10 ^ back.len + back.number) s ≡ prefix_magnitude decimal_table wide128 bound 39 skip s)
-decided_full law bound skip s at w back so full told =
+decided_full law bound skip s at w back after_skip full reported =
     let t = decimal_table in
-    let e : back ≡ window_of t 8 (drop 32 (drop at s)) = told ∙ ap (λ (r : List ℕ). window_of t 8 (drop 32 r)) (take_rest s at) in
+    let e : back ≡ window_of t 8 (drop 32 (drop at s)) = reported ∙ ap (λ (r : List ℕ). window_of t 8 (drop 32 r)) (take_rest s at) in
     let body : List ℕ = drop at s in
     let others : ℕ = zeros t (take 8 (drop 32 body)) in
     let number : ℕ = w.number * 10 ^ back.len + back.number in
-    let within = law.within t 32 body w.len w.zeroes w.number so.reading in
+    let within = law.within t 32 body w.len w.zeroes w.number after_skip.reading in
     let len : w.len ≡ 32 = omega (arith, within.1) in
-    let front : Reading t 32 body 32 w.zeroes w.number = let P : ℕ → Type 0 = λ n. Reading t 32 body n w.zeroes w.number in subst P len so.reading in
-    let behind : Reading t 8 (drop 32 body) back.len others back.number =
+    let front : Reading t 32 body 32 w.zeroes w.number = let P : ℕ → Type 0 = λ n. Reading t 32 body n w.zeroes w.number in subst P len after_skip.reading in
+    let following : Reading t 8 (drop 32 body) back.len others back.number =
     record { digits_are = ap (λ v. v.len) e; leading_are = refl; number_is = ap (λ v. v.number) e } in
-    let few : back.len ≤ 8 = omega (arith, (law.within t 8 (drop 32 body) back.len others back.number behind).1) in
+    let few : back.len ≤ 8 = omega (arith, (law.within t 8 (drop 32 body) back.len others back.number following).1) in
     let leading : ℕ = cond (eqb w.zeroes 32) (32 + others) w.zeroes in
-    let both : Reading t 40 body (32 + back.len) leading number = law.joined t 32 8 body w.zeroes w.number back.len others back.number front behind in
-    let none : skip ≡ true → leading ≡ 0 = λ on. let first : w.zeroes ≡ 0 = so.ends on full in rw first refl in (
+    let both : Reading t 40 body (32 + back.len) leading number = law.join_readings t 32 8 body w.zeroes w.number back.len others back.number front following in
+    let none : skip ≡ true → leading ≡ 0 = λ on. let first : w.zeroes ≡ 0 = after_skip.ends on full in rw first refl in (
       few,
       law.below t below_ten 40 body (32 + back.len) leading number both,
-      omega (arith, so.within, law.within t 40 body (32 + back.len) leading number both, length-drop at s),
-      sym (law.full t wide128 bound 39 (lit< tt) skip s at (32 + back.len) leading number so.skipped both none),
+      omega (arith, after_skip.within, law.within t 40 body (32 + back.len) leading number both, length-drop at s),
+      sym (law.full t wide128 bound 39 (lit< tt) skip s at (32 + back.len) leading number after_skip.skipped both none),
     )

@@ -6,8 +6,8 @@ ghost use Rattle.atoi_core.specs.Answer.{typed_answer, typed_prefix_answer, whol
 ghost use Rattle.atoi_core.specs.Digit.{decimal_table};
 ghost use Rattle.atoi_core.specs.Text.{IsText, DigitsWrite, TextWrites, PrefixWrites};
 
-use crate::parse_trait::Parse;
 use crate::parse_neg_trait::ParseNeg;
+use crate::parse_trait::Parse;
 use atoi_core::AtoiSimdError;
 use atoi_core::laws::{accepted_texts, prefix_results, whole_results};
 
@@ -139,7 +139,7 @@ pub fn parse_prefix<T: Parse, const SKIP_ZEROES: bool, const SKIP_PLUS: bool>(
     ensures answer { typed_prefix_answer T.number result
         ≡ parse_prefix_answer T.int_type SKIP_ZEROES SKIP_PLUS s.now }
     ensures within { IfOk result (λ found. found.1 ≤ length s.now) }
-    ensures front { IfOk result (λ found.
+    ensures prefix { IfOk result (λ found.
         PrefixWrites (TextWrites T.int_type SKIP_PLUS) s.now (T.number found.0) found.1) }
     ensures refused { IsTrue SKIP_ZEROES → OnErr result ((number : ℤ) (count : ℕ)
         → ¬ PrefixWrites (TextWrites T.int_type SKIP_PLUS) s.now number count) }
@@ -168,7 +168,7 @@ pub fn parse_prefix_pos<T: Parse, const SKIP_ZEROES: bool>(
     ensures answer { typed_prefix_answer T.number result
         ≡ prefix_answer decimal_table T.int_type false SKIP_ZEROES s.now }
     ensures within { IfOk result (λ found. found.1 ≤ length s.now) }
-    ensures front { IfOk result (λ found.
+    ensures prefix { IfOk result (λ found.
         PrefixWrites (DigitsWrite T.int_type false) s.now (T.number found.0) found.1) }
     ensures refused { IsTrue SKIP_ZEROES → OnErr result ((number : ℤ) (count : ℕ)
         → ¬ PrefixWrites (DigitsWrite T.int_type false) s.now number count) }
@@ -199,7 +199,7 @@ pub fn parse_prefix_neg<T: ParseNeg, const SKIP_ZEROES: bool>(
     ensures answer { typed_prefix_answer T.number result
         ≡ prefix_answer decimal_table T.int_type true SKIP_ZEROES s.now }
     ensures within { IfOk result (λ found. found.1 ≤ length s.now) }
-    ensures front { IfOk result (λ found.
+    ensures prefix { IfOk result (λ found.
         PrefixWrites (DigitsWrite T.int_type true) s.now (T.number found.0) found.1) }
     ensures refused { IsTrue SKIP_ZEROES → OnErr result ((number : ℤ) (count : ℕ)
         → ¬ PrefixWrites (DigitsWrite T.int_type true) s.now number count) }
@@ -240,7 +240,7 @@ pub fn parse_any<T: Parse>(s: &[u8]) -> Result<(T, usize), AtoiSimdError<'_>>
     ensures answer { typed_prefix_answer T.number result
         ≡ parse_prefix_answer T.int_type false false s.now }
     ensures within { IfOk result (λ found. found.1 ≤ length s.now) }
-    ensures front { IfOk result (λ found.
+    ensures prefix { IfOk result (λ found.
         PrefixWrites (TextWrites T.int_type false) s.now (T.number found.0) found.1) }
 {
     parse_prefix::<T, false, false>(s)
@@ -259,7 +259,7 @@ pub fn parse_any_pos<T: Parse>(s: &[u8]) -> Result<(T, usize), AtoiSimdError<'_>
     ensures answer { typed_prefix_answer T.number result
         ≡ prefix_answer decimal_table T.int_type false false s.now }
     ensures within { IfOk result (λ found. found.1 ≤ length s.now) }
-    ensures front { IfOk result (λ found.
+    ensures prefix { IfOk result (λ found.
         PrefixWrites (DigitsWrite T.int_type false) s.now (T.number found.0) found.1) }
 {
     parse_prefix_pos::<T, false>(s)
@@ -278,7 +278,7 @@ pub fn parse_any_neg<T: ParseNeg>(s: &[u8]) -> Result<(T, usize), AtoiSimdError<
     ensures answer { typed_prefix_answer T.number result
         ≡ prefix_answer decimal_table T.int_type true false s.now }
     ensures within { IfOk result (λ found. found.1 ≤ length s.now) }
-    ensures front { IfOk result (λ found.
+    ensures prefix { IfOk result (λ found.
         PrefixWrites (DigitsWrite T.int_type true) s.now (T.number found.0) found.1) }
 {
     parse_prefix_neg::<T, false>(s)

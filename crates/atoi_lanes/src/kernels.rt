@@ -181,7 +181,7 @@ mod tests {
     }
 
     #[test]
-    fn lanes_behind_the_run_are_not_added(rt: HostRuntime) {
+    fn lanes_after_the_run_are_not_added(rt: HostRuntime) {
         let lanes = u8x16::from_array(*b"12\xFF9999999999999");
         assert_eq!(rt; len_lanes(lanes), 2);
         assert_eq!(rt; sum_lanes(lanes, 2), 12);

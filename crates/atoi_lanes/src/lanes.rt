@@ -109,12 +109,12 @@ mod tests {
     fn the_neighbours_of_the_digits_are_no_digits(rt: HostRuntime) {
         assert_eq!(rt; first_16(b"/0").len, 0);
         assert_eq!(rt; first_16(b":0").len, 0);
-        let front = first_16(b"9\xFF9");
-        assert_eq!(rt; (front.len, front.number), (1, 9));
+        let found = first_16(b"9\xFF9");
+        assert_eq!(rt; (found.len, found.number), (1, 9));
     }
 
     #[test]
-    fn a_full_window_tells_its_zeros(rt: HostRuntime) {
+    fn a_full_window_has_its_zeros(rt: HostRuntime) {
         let nines = first_16(b"9999999999999999");
         assert_eq!(rt;
             (nines.len, nines.zeroes, nines.number),
@@ -125,7 +125,7 @@ mod tests {
     }
 
     #[test]
-    fn a_window_that_is_not_full_tells_no_zeros(rt: HostRuntime) {
+    fn a_window_that_is_not_full_has_no_zeros(rt: HostRuntime) {
         let cut = first_16(b"000000000000123\0");
         assert_eq!(rt; (cut.len, cut.zeroes, cut.number), (15, 0, 123));
         let short = first_16(b"123\0\0\0\0\0\0\0\0\0\0\0\0\0");

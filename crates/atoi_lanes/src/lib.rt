@@ -1,6 +1,5 @@
-//! The engine of `atoi_core` on vector lanes, which compares sixteen bytes at once, and multiplies
-//! and adds four or eight, and the ten functions of `atoi_simd` on it, under the same names, with
-//! the same signatures and results.
+//! The ten functions of `atoi_simd` on the vectors of `std::simd`, which hold sixteen bytes each. They
+//! have the same names, signatures and results as those of `atoi_simd`.
 //!
 //! Callers find this crate as the module `lanes` of `atoi_simd`, for instance in the call
 //! `atoi_simd::lanes::parse::<u64, false, false>(b"8080")`. The page of `atoi_simd` says what the
@@ -12,22 +11,22 @@
 //! crate uses `atoi_core`.
 #![tactic(auto)]
 
-mod parse_trait;
+mod default_engine;
 mod functions;
 pub mod kernels;
 mod lanes;
 mod parse_neg_trait;
 mod parse_pos_trait;
-mod default_engine;
+mod parse_trait;
 mod wide_lanes;
 mod window_32;
 
-pub use crate::parse_trait::Parse;
 pub use crate::functions::{
     parse, parse_any, parse_any_neg, parse_any_pos, parse_neg, parse_pos, parse_prefix,
     parse_prefix_neg, parse_prefix_pos, parse_skipped,
 };
 pub use crate::lanes::Lanes;
 pub use crate::parse_neg_trait::ParseNeg;
+pub use crate::parse_trait::Parse;
 pub use crate::wide_lanes::{prefix_64_lanes, prefix_128_lanes};
 pub use atoi_core::AtoiSimdError;

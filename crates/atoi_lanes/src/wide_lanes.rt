@@ -60,11 +60,11 @@ pub fn prefix_64_lanes<'a>(
     if skip && first.zeroes > 0 && first.len == 32 {
         return prefix_64_cold(bound, limit, first.zeroes, s, steps);
     }
-    let front = Front {
+    let reached = WindowAt {
         at: 0,
         window: first,
     };
-    answer_from_window_64(bound, limit, skip, front, s)
+    answer_from_window_64(bound, limit, skip, reached, s)
 }
 
 /// Parses the digits at the start of `s` for an integer type of 128 bits, and returns their value
@@ -99,17 +99,17 @@ pub fn prefix_128_lanes<'a>(
     if skip && first.zeroes > 0 && first.len == 32 {
         return prefix_128_cold(bound, first.zeroes, s, steps);
     }
-    let front = Front {
+    let reached = WindowAt {
         at: 0,
         window: first,
     };
-    finish_128(bound, skip, front, s, steps)
+    finish_128(bound, skip, reached, s, steps)
 }
 
 // An offset in the slice, with nothing but skipped zeros before it, and the window that was read
 // there.
 #[derive(Clone, Copy)]
-struct Front {
+struct WindowAt {
     at: usize,
     window: Window32,
 }
@@ -197,17 +197,17 @@ fn prefix_128_after_zeros<'a>(
     ensures most { steps.new ≤ steps.old + zeros decimal_table s.now / 32 + 2 }
     ensures least { steps.old + zeros decimal_table s.now / 32 ≤ steps.new }
 {
-    let front = skip_leading_zeros(zeroes, s, steps);
-    finish_128(bound, true, front, s, steps)
+    let reached = skip_leading_zeros(zeroes, s, steps);
+    finish_128(bound, true, reached, s, steps)
 }
 
 // Skips the `zeroes` zeros of the first window, and those of each later window that is full of
 // digits and begins with a zero. Returns the first later window for which this does not hold, with
 // its offset.
-fn skip_leading_zeros(zeroes: u32, s: &[u8], steps: &mut Steps) -> Front
+fn skip_leading_zeros(zeroes: u32, s: &[u8], steps: &mut Steps) -> WindowAt
     requires some { 0 < zeroes }
     requires first_window { zeroes ≡ zeros decimal_table (take 32 s.now) }
-    ensures front { ReadsAfterZeros true s.now result.at result.window.len result.window.zeroes
+    ensures reached { ReadsAfterZeros true s.now result.at result.window.len result.window.zeroes
         result.window.number }
     ensures most { steps.new ≤ steps.old + zeros decimal_table s.now / 32 + 1 }
     ensures least { steps.old + zeros decimal_table s.now / 32 ≤ steps.new }
@@ -215,18 +215,18 @@ fn skip_leading_zeros(zeroes: u32, s: &[u8], steps: &mut Steps) -> Front
     // By this law the zeros left after an offset are the leading zeros of the slice, minus those
     // before that offset. The call does nothing.
     reading_decides();
-    let mut front = next_window(0, zeroes, s, steps);
+    let mut reached = next_window(0, zeroes, s, steps);
     loop {
-        if front.window.zeroes == 0 || front.window.len < 32 {
-            return front;
+        if reached.window.zeroes == 0 || reached.window.len < 32 {
+            return reached;
         }
-        front = next_window(front.at, front.window.zeroes, s, steps);
+        reached = next_window(reached.at, reached.window.zeroes, s, steps);
     }
 }
 
 // One turn of the loop: skips the zeros that the window at the offset `place` begins with, and
 // reads the window that follows them.
-fn next_window(place: usize, zeroes: u32, s: &[u8], steps: &mut Steps) -> Front
+fn next_window(place: usize, zeroes: u32, s: &[u8], steps: &mut Steps) -> WindowAt
     requires first_window { zeroes ≡ zeros decimal_table (take 32 (drop place s.now)) }
     requires within { place + zeroes ≤ length s.now }
     ensures dropped { result.at ≡ place + zeros decimal_table (take 32 (drop place s.now)) }
@@ -235,7 +235,7 @@ fn next_window(place: usize, zeroes: u32, s: &[u8], steps: &mut Steps) -> Front
     ensures one_step { steps.new ≡ steps.old + 1 }
 {
     let at = place + zeroes as usize;
-    Front {
+    WindowAt {
         at,
         window: window_32(&s[at..], steps),
     }
@@ -247,26 +247,26 @@ fn next_window(place: usize, zeroes: u32, s: &[u8], steps: &mut Steps) -> Front
 fn finish_128<'a>(
     bound: u128,
     skip: bool,
-    front: Front,
+    reached: WindowAt,
     s: &'a [u8],
     steps: &mut Steps,
 ) -> Result<(u128, usize), AtoiSimdError<'a>>
     requires digits { HasDigits 39 bound }
-    requires front { ReadsAfterZeros skip s.now front.at front.window.len front.window.zeroes
-        front.window.number }
+    requires reached { ReadsAfterZeros skip s.now reached.at reached.window.len reached.window.zeroes
+        reached.window.number }
     ensures answer { answer_of result ≡ prefix_magnitude decimal_table wide128 bound 39 skip s.now }
     ensures most { steps.new ≤ steps.old + 1 }
     ensures least { steps.old ≤ steps.new }
 {
-    if front.window.len < 32 {
-        return answer_short_128(bound, skip, front, s);
+    if reached.window.len < 32 {
+        return answer_short_128(bound, skip, reached, s);
     }
     reading_decides();
-    let back = window_after_32(&s[front.at..], steps);
+    let back = window_after_32(&s[reached.at..], steps);
     answer_128(
         bound,
-        front.at,
-        front.window.number,
+        reached.at,
+        reached.window.number,
         back.len,
         back.number,
         s,
@@ -303,7 +303,7 @@ fn answer_short_64<'a>(
 ) -> Result<(u64, usize), AtoiSimdError<'a>>
     requires limit_high { limit ≤ 20 }
     requires digits { HasDigits limit bound }
-    requires front { ReadsAfterZeros skip s.now 0 len (zeros decimal_table (take 32 s.now)) number }
+    requires reached { ReadsAfterZeros skip s.now 0 len (zeros decimal_table (take 32 s.now)) number }
     requires short { len < limit }
     ensures { answer_of result ≡ prefix_magnitude decimal_table wide64 bound limit skip s.now }
 {
@@ -322,19 +322,19 @@ fn answer_from_window_64<'a>(
     bound: u64,
     limit: u32,
     skip: bool,
-    front: Front,
+    reached: WindowAt,
     s: &'a [u8],
 ) -> Result<(u64, usize), AtoiSimdError<'a>>
     requires limit_high { limit ≤ 20 }
-    requires front { ReadsAfterZeros skip s.now front.at front.window.len front.window.zeroes
-        front.window.number }
+    requires reached { ReadsAfterZeros skip s.now reached.at reached.window.len reached.window.zeroes
+        reached.window.number }
     ensures { answer_of result ≡ prefix_magnitude decimal_table wide64 bound limit skip s.now }
 {
     reading_decides();
-    let leading = if skip { front.window.zeroes } else { 0 };
-    let skipped = front.at + leading as usize;
-    let counting = front.window.len - leading;
-    answer_64(bound, limit, skipped, counting, front.window.number, s)
+    let leading = if skip { reached.window.zeroes } else { 0 };
+    let skipped = reached.at + leading as usize;
+    let counting = reached.window.len - leading;
+    answer_64(bound, limit, skipped, counting, reached.window.number, s)
 }
 
 // Returns the answer of 128 bits for a last window that is not full of digits. The value of fewer
@@ -342,20 +342,20 @@ fn answer_from_window_64<'a>(
 fn answer_short_128<'a>(
     bound: u128,
     skip: bool,
-    front: Front,
+    reached: WindowAt,
     s: &'a [u8],
 ) -> Result<(u128, usize), AtoiSimdError<'a>>
     requires digits { HasDigits 39 bound }
-    requires front { ReadsAfterZeros skip s.now front.at front.window.len front.window.zeroes
-        front.window.number }
-    requires short { front.window.len < 32 }
+    requires reached { ReadsAfterZeros skip s.now reached.at reached.window.len reached.window.zeroes
+        reached.window.number }
+    requires short { reached.window.len < 32 }
     ensures { answer_of result ≡ prefix_magnitude decimal_table wide128 bound 39 skip s.now }
 {
     reading_decides();
-    let len = front.at + front.window.len as usize;
+    let len = reached.at + reached.window.len as usize;
     if len == 0 {
         Err(AtoiSimdError::Empty)
     } else {
-        Ok((front.window.number, len))
+        Ok((reached.window.number, len))
     }
 }

@@ -1,5 +1,5 @@
-//! Decimal digits at the front of a byte slice, as integers of twelve types: exact, without
-//! allocation.
+//! Parsers of decimal integers from byte slices, for the twelve integer types of Rust. Their results
+//! are exact, and they allocate nothing.
 //!
 //! The functions have the names, flags, results and errors of the Rust crate `atoi_simd` 0.18.1 in
 //! its portable configuration, except for the differences listed in `docs/DIFFERENCES.md`.
@@ -25,17 +25,17 @@
 //! facts that the proofs of a caller can use. The crate uses `atoi_core` and `atoi_lanes`.
 #![tactic(auto)]
 
-mod parse_trait;
+mod default_engine;
 mod functions;
 mod parse_neg_trait;
 mod parse_pos_trait;
-mod default_engine;
+mod parse_trait;
 
-pub use crate::parse_trait::Parse;
 pub use crate::functions::{
     parse, parse_any, parse_any_neg, parse_any_pos, parse_neg, parse_pos, parse_prefix,
     parse_prefix_neg, parse_prefix_pos, parse_skipped,
 };
 pub use crate::parse_neg_trait::ParseNeg;
+pub use crate::parse_trait::Parse;
 pub use atoi_core::{AtoiSimdError, Number, Signed, laws};
 pub use atoi_lanes as lanes;

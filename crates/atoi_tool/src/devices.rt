@@ -109,7 +109,7 @@ impl Write for LimitedWriter {
 /// what comes before. It counts its calls from 1.
 #[derive(Drop)]
 pub(crate) struct Errors {
-    pub(crate) told: RefCell<Vec<u8>>,
+    pub(crate) reported: RefCell<Vec<u8>>,
     pub(crate) calls: Cell<usize>,
     pub(crate) first: usize,
 }
@@ -118,7 +118,7 @@ impl Errors {
     /// A standard error that was told nothing yet.
     pub(crate) fn new(alloc: Global, first: usize) -> Errors {
         Errors {
-            told: RefCell::new(Vec::new(alloc)),
+            reported: RefCell::new(Vec::new(alloc)),
             calls: Cell::new(0),
             first,
         }
@@ -131,8 +131,8 @@ impl Eprint for Errors {
         if self.calls.get() < self.first {
             return Err(io::Error::from(ErrorKind::BrokenPipe));
         }
-        match self.told.try_borrow_mut() {
-            Ok(mut told) => write!(told, "{value}"),
+        match self.reported.try_borrow_mut() {
+            Ok(mut reported) => write!(reported, "{value}"),
             Err(_) => Err(io::Error::from(ErrorKind::WouldBlock)),
         }
     }

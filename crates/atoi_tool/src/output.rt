@@ -89,7 +89,7 @@ pub fn answer_lines<S: Sink>(input: &[u8], output: &mut S) -> Result<bool, ToolE
     ensures output { OnOk result
         (Appends (S.held output.old) (S.held output.new) (output_of input.now)) }
     ensures good { IfOk result (λ good. good ≡ is_good_input input.now) }
-    ensures front { OnErr result
+    ensures prefix { OnErr result
         (AppendsPrefix (S.held output.old) (S.held output.new) (output_of input.now)) }
     ensures write { IfErr result (λ error. error ≡ ToolError.Write) }
     ensures failures { S.failures output.new ≡ S.failures output.old + failures_of result }
@@ -97,12 +97,12 @@ pub fn answer_lines<S: Sink>(input: &[u8], output: &mut S) -> Result<bool, ToolE
     let mut all_good = true;
     let mut rest = input;
     while !rest.is_empty() {
-        let (line, behind) = first_line(rest);
+        let (line, following) = first_line(rest);
         match put_answer(line, output) {
             Ok(is_good) => all_good &= is_good,
             Err(Refused) => return Err(ToolError::Write),
         }
-        rest = behind;
+        rest = following;
     }
     Ok(all_good)
 }

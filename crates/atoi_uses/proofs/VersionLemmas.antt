@@ -8,12 +8,12 @@ use Rattle.atoi_uses.specs.Versions.{IsPart, IsVersion, dot}
 use Rattle.atoi_uses.specs.declared.versions.Version.{Version}
 
 -- A part is a prefix that writes its number.
-pub front_of : PrefixesAndRests u32_type → (text : List ℕ) (number : ℕ) (rest : List ℕ) (h : IsPart text number rest)
+pub prefix_of : PrefixesAndRests u32_type → (text : List ℕ) (number : ℕ) (rest : List ℕ) (h : IsPart text number rest)
     → PrefixWrites (DigitsWrite u32_type false) text (pos number) (length h.digits)
-front_of law text number rest h =
+prefix_of law text number rest h =
     let written : DigitsWrite u32_type false h.digits (pos number) =
     record { numeral = h.numeral; in_range = omega (arith, h.value_is, h.in_range); value_is = ap pos h.value_is } in
-    law.joined positive text h.digits rest (pos number) h.parts written h.ends
+    law.of_parts positive text h.digits rest (pos number) h.parts written h.ends
 
 -- The text begins with only one part: this number, followed by this rest.
 abbrev pub IsOnlyPart : List ℕ → ℕ → List ℕ → Type 0

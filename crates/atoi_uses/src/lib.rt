@@ -1,5 +1,5 @@
-//! Callers of `atoi_simd` and `atoi_column`, proved by their public clauses and laws.
-//! They use these two, and the definitions, laws, traits and core calls of `atoi_core`.
+//! Example callers of `atoi_simd` and `atoi_column`, which are proved with the public clauses and
+//! laws of these crates and of `atoi_core`, and nothing else.
 #![tactic(auto)]
 
 mod addresses;

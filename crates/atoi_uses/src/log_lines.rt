@@ -119,7 +119,7 @@ mod tests {
 
     // In the lines with a date and a space, the fields begin at the offset 20.
     #[test]
-    fn the_first_bad_field_is_told_by_its_place(rt: HostRuntime) {
+    fn the_first_bad_field_is_reported_by_its_offset(rt: HostRuntime) {
         assert_eq!(rt;
             columns_total(b"2026-11-22T10:00:00 200,-,1x"),
             refused_at(1, 24)

@@ -78,7 +78,7 @@ mod tests {
     }
 
     #[test]
-    fn zeros_in_front_do_not_count(rt: HostRuntime) {
+    fn leading_zeros_do_not_count(rt: HostRuntime) {
         let zeros = [0xF0; 40];
         assert_eq!(rt; amount(&zeros), Ok((Cents(0), 40)));
         let field =

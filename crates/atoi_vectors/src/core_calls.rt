@@ -44,15 +44,15 @@ fn check_digit_loop(rt: &impl Abort, text: &[u8]) {
 // Checks the windows of an engine for decimal digits, and the parses over it.
 fn check_decimal<E: Engine>(rt: &impl Abort, text: &[u8]) {
     let mut steps = Steps::new();
-    let window = told(E::window(text, &mut steps));
+    let window = parts_of(E::window(text, &mut steps));
     gives(rt, window, plain_rules::window(16, text));
-    let window = told(E::window_8(text, &mut steps));
+    let window = parts_of(E::window_8(text, &mut steps));
     gives(rt, window, plain_rules::window(8, text));
     check_engine::<E>(rt, Body::of(text));
 }
 
 // Returns what a window holds: how many digits, how many zeros, and the value of the digits.
-fn told(window: Window) -> (usize, usize, Option<u128>) {
+fn parts_of(window: Window) -> (usize, usize, Option<u128>) {
     (
         window.len as usize,
         window.zeroes as usize,

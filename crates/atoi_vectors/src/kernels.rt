@@ -15,14 +15,14 @@ use std::simd::prelude::*;
 fn check_lanes(rt: &impl Abort, bytes: [u8; 16]) {
     let lanes = u8x16::from_array(bytes);
     let (len, _, number) = plain_rules::window(16, &bytes);
-    let told = len_lanes(lanes);
-    gives(rt, told as usize, len);
+    let reported = len_lanes(lanes);
+    gives(rt, reported as usize, len);
     gives(
         rt,
         zeroes_lanes(lanes) as usize,
         plain_rules::count_zeros(&bytes),
     );
-    gives(rt, Some(u128::from(sum_lanes(lanes, told))), number);
+    gives(rt, Some(u128::from(sum_lanes(lanes, reported))), number);
     gives(rt, sum_lanes(lanes, 0), 0);
 }
 
@@ -50,15 +50,15 @@ fn every_byte_in_every_lane(rt: HostRuntime) {
 fn check_word(rt: &impl Abort, bytes: [u8; 8]) {
     let word = u64::from_le_bytes(bytes);
     let (len, _, number) = plain_rules::window(8, &bytes);
-    let told = check_len_8(word);
-    gives(rt, told as usize, len);
+    let reported = check_len_8(word);
+    gives(rt, reported as usize, len);
     gives(
         rt,
         len_zeroes(word) as usize,
         plain_rules::count_zeros(&bytes),
     );
-    if told > 0 {
-        gives(rt, Some(u128::from(process_8(word, told))), number);
+    if reported > 0 {
+        gives(rt, Some(u128::from(process_8(word, reported))), number);
     }
 }
 
@@ -93,10 +93,10 @@ fn check_long_word(rt: &impl Abort, bytes: [u8; 16]) {
     );
     // A kernel on lanes counts the digits here, because no kernel on words counts those of 16
     // bytes.
-    let told = len_lanes(u8x16::from_array(bytes));
-    gives(rt, told as usize, len);
-    if told > 0 {
-        gives(rt, Some(u128::from(process_16(word, told))), number);
+    let reported = len_lanes(u8x16::from_array(bytes));
+    gives(rt, reported as usize, len);
+    if reported > 0 {
+        gives(rt, Some(u128::from(process_16(word, reported))), number);
     }
 }
 
@@ -132,9 +132,9 @@ fn padded<const N: usize>(text: &[u8]) -> [u8; N] {
 fn loads_of_every_kind_of_length(rt: HostRuntime) {
     let text = *b"1\xB23456789\xFF12345678901\x8034567890123";
     for len in [0, 1, 3, 4, 7, 8, 9, 15, 16, 17, 31, 32, 33] {
-        let front = &text[..len];
-        gives(&rt, load_lanes(front).to_array(), padded::<16>(front));
-        gives(&rt, load_8(front), u64::from_le_bytes(padded::<8>(front)));
+        let prefix = &text[..len];
+        gives(&rt, load_lanes(prefix).to_array(), padded::<16>(prefix));
+        gives(&rt, load_8(prefix), u64::from_le_bytes(padded::<8>(prefix)));
     }
 }
 

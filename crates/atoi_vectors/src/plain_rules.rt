@@ -21,7 +21,7 @@ pub(crate) fn count_zeros(s: &[u8]) -> usize
 }
 
 // Returns the value of the digits, or `None` if it is above `u128::MAX`.
-fn with_sign(digits: &[u8]) -> Option<u128> {
+fn value_of(digits: &[u8]) -> Option<u128> {
     let mut number = 0u128;
     for digit in digits {
         number = number
@@ -34,10 +34,10 @@ fn with_sign(digits: &[u8]) -> Option<u128> {
 /// Returns what the window of the first `size` bytes holds: how many digits they begin with; how
 /// many zeros, or 0 if not all `size` bytes are digits; and the value of the digits.
 pub(crate) fn window(size: usize, s: &[u8]) -> (usize, usize, Option<u128>) {
-    let front = &s[..size.min(s.len())];
-    let len = count_digits(front);
-    let zeros = if len == size { count_zeros(front) } else { 0 };
-    (len, zeros, with_sign(&front[..len]))
+    let prefix = &s[..size.min(s.len())];
+    let len = count_digits(prefix);
+    let zeros = if len == size { count_zeros(prefix) } else { 0 };
+    (len, zeros, value_of(&prefix[..len]))
 }
 
 /// The size of a type, on which its rules depend: up to 32 bits; 64 bits, with the limit of
@@ -69,7 +69,7 @@ impl<'a> Body<'a> {
             bytes,
             zeros: count_zeros(bytes),
             digits,
-            number: with_sign(&bytes[..digits]),
+            number: value_of(&bytes[..digits]),
         }
     }
 

@@ -8,21 +8,21 @@ use std::process::Abort;
 // A slice, and what its window holds: how many digits, how many zeros, and the value of the digits.
 type Row = (&'static [u8], (u32, u32, u64));
 
-fn told(window: Window) -> (u32, u32, u64) {
+fn parts_of(window: Window) -> (u32, u32, u64) {
     (window.len, window.zeroes, window.number)
 }
 
 fn check_windows<E: Engine>(rt: &impl Abort, rows: &[Row]) {
     for (text, expected) in rows {
         let window = E::window(text, &mut Steps::new());
-        assert_eq!(rt; told(window), *expected, "of {text:?}");
+        assert_eq!(rt; parts_of(window), *expected, "of {text:?}");
     }
 }
 
 fn check_windows_8<E: Engine>(rt: &impl Abort, rows: &[Row]) {
     for (text, expected) in rows {
         let window = E::window_8(text, &mut Steps::new());
-        assert_eq!(rt; told(window), *expected, "of {text:?}");
+        assert_eq!(rt; parts_of(window), *expected, "of {text:?}");
     }
 }
 
@@ -67,7 +67,7 @@ fn windows_of_eight_bytes(rt: HostRuntime) {
 #[test]
 fn a_window_of_a_size(rt: HostRuntime) {
     let window = front_of::<Plain>(8, b"00000012x");
-    assert_eq!(rt; told(window), (8, 6, 12));
+    assert_eq!(rt; parts_of(window), (8, 6, 12));
 }
 
 #[test]

@@ -50,7 +50,7 @@ fn shows(rt: &impl Abort, refusal: Option<AtoiSimdError<'_>>, text: &[u8]) {
 }
 
 #[test]
-fn a_refusal_tells_its_reason(rt: HostRuntime) {
+fn an_error_holds_its_reason(rt: HostRuntime) {
     let text =
         b"atoi_simd invalid at index: 2 it must contain only digits, starting with: 12  input: [31, 32, 61]";
     shows(&rt, parse::<u8, false, false>(b"12a").err(), text);
@@ -109,7 +109,7 @@ fn zeros_before_64_bits(rt: HostRuntime) {
 }
 
 #[test]
-fn a_byte_that_is_no_digit_behind_zeros(rt: HostRuntime) {
+fn a_byte_that_is_no_digit_after_zeros(rt: HostRuntime) {
     let short = b"007x";
     let long = b"0000000000000000000000007x";
     on_both!(rt;
@@ -187,7 +187,7 @@ fn runs_of_forty_digits(rt: HostRuntime) {
 }
 
 #[test]
-fn a_sign_that_was_taken_is_counted(rt: HostRuntime) {
+fn a_consumed_sign_is_counted(rt: HostRuntime) {
     on_both!(rt;
         parse_prefix::<i32, false, true>(b"+12a") => Ok((12, 3));
         parse_prefix::<i32, false, false>(b"-12a") => Ok((-12, 3));
@@ -199,7 +199,7 @@ fn a_sign_that_was_taken_is_counted(rt: HostRuntime) {
 }
 
 #[test]
-fn no_digit_behind_the_sign(rt: HostRuntime) {
+fn no_digit_after_the_sign(rt: HostRuntime) {
     on_both!(rt;
         parse::<i8, false, true>(b"") => Err(Empty);
         parse::<i8, false, true>(b"+") => Err(Empty);

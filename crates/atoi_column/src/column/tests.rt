@@ -57,7 +57,7 @@ fn an_empty_field_is_refused_and_ends_the_column(rt: HostRuntime) {
 }
 
 #[test]
-fn a_byte_behind_a_number_is_told_by_its_place(rt: HostRuntime) {
+fn a_byte_after_a_number_is_reported_by_its_offset(rt: HostRuntime) {
     let mut column = Column::<u8>::new(b"12a\n", b'\n');
     let trailing = ColumnError::Trailing { index: 0, place: 2 };
     assert_eq!(rt; column.next(), Some(Err(trailing)));

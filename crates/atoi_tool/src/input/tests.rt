@@ -45,7 +45,7 @@ fn read_failing(alloc: Global, failing: usize, error: ErrorKind) -> Result<usize
 }
 
 #[test]
-fn tells_a_refused_read(rt: HostRuntime) {
+fn reports_a_refused_read(rt: HostRuntime) {
     for failing in 1..=3 {
         let other = read_failing(rt.alloc(), failing, ErrorKind::Other);
         assert_eq!(rt; other, Err(ToolError::Read));
@@ -64,7 +64,7 @@ fn parts_of(input: &[u8]) -> FromReader<FailingReader<'_>> {
 // Five parts take four requests for memory: for 1, 2, 4 and 8 parts, each while the one before it
 // is still held. A heap of that size refuses one of them, and none comes after it.
 #[test]
-fn tells_each_refused_request_for_memory(rt: HostRuntime) -> Result<(), Fail> {
+fn reports_each_refused_request_for_memory(rt: HostRuntime) -> Result<(), Fail> {
     let input = vec![in rt.alloc(); b'7'; 5 * PART]?;
     for (size, left) in [
         (4080, 16384),
@@ -87,7 +87,7 @@ fn tells_each_refused_request_for_memory(rt: HostRuntime) -> Result<(), Fail> {
 }
 
 #[test]
-fn reads_all_where_no_request_is_refused(rt: HostRuntime) -> Result<(), Fail> {
+fn reads_all_if_no_request_is_refused(rt: HostRuntime) -> Result<(), Fail> {
     let input = vec![in rt.alloc(); b'7'; 5 * PART]?;
     let heap = LocalHeap::new(rt.alloc(), 61440)?;
     let mut source = parts_of(&input);

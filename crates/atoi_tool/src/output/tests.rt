@@ -304,7 +304,7 @@ fn check_refused_write(rt: &impl Abort, alloc: Global, written: &[u8], full: Ful
 }
 
 #[test]
-fn tells_a_refused_write(rt: HostRuntime) {
+fn reports_a_refused_write(rt: HostRuntime) {
     for room in 0..ANSWERS.len() {
         let written = &ANSWERS[..room];
         check_refused_write(&rt, rt.alloc(), written, Full::Fails);

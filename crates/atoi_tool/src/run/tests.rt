@@ -26,12 +26,12 @@ fn check_end<I, O>(rt: &impl Abort, alloc: Global, ended: Ended<I, O>, number: u
     let status = ended.report(&errors);
     assert_eq!(rt; status, ExitCode::from(number));
     assert_eq!(rt; errors.calls.get(), if line.is_empty() { 0 } else { 1 });
-    assert_eq!(rt; errors.told.into_inner().as_slice(), line);
+    assert_eq!(rt; errors.reported.into_inner().as_slice(), line);
 }
 
 // A fault is told by one call, also where that call is refused.
 #[test]
-fn a_fault_is_told_once(rt: HostRuntime) {
+fn a_fault_is_printed_once(rt: HostRuntime) {
     let outcome = Err(ToolError::Write);
     let errors = Errors::new(rt.alloc(), 2);
     let status = ended(outcome).report(&errors);
@@ -40,7 +40,7 @@ fn a_fault_is_told_once(rt: HostRuntime) {
 }
 
 #[test]
-fn a_fault_is_told_on_one_line(rt: HostRuntime) {
+fn a_fault_is_printed_on_one_line(rt: HostRuntime) {
     let ends: [(Result<bool, ToolError>, u8, &[u8]); 5] = [
         (Ok(true), 0, b""),
         (Ok(false), 2, b""),
@@ -144,7 +144,7 @@ fn reader<'a>(failing: usize, error: ErrorKind) -> FailingReader<'a> {
 }
 
 #[test]
-fn a_bad_row_is_told(rt: HostRuntime) {
+fn a_bad_row_is_reported(rt: HostRuntime) {
     let writer = LimitedWriter::new(rt.alloc(), ANSWERS.len(), Full::Fails);
     let reader = reader(0, ErrorKind::Other);
     check_run(&rt, rt.alloc(), reader, writer, (2, b"", ANSWERS));
@@ -162,7 +162,7 @@ fn nothing_is_written_after_a_refused_read(rt: HostRuntime) {
 }
 
 #[test]
-fn nothing_is_written_behind_a_refused_write(rt: HostRuntime) {
+fn nothing_is_written_after_a_refused_write(rt: HostRuntime) {
     for room in 0..ANSWERS.len() {
         let writer = LimitedWriter {
             room_then: 1000,

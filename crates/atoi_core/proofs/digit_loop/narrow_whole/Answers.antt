@@ -51,14 +51,14 @@ loop-at-init c =
 
 -- What the table gives for byte i after the first byte is what it gives for byte i + 1 of the
 -- slice.
-byte_behind : (s : List ℕ) (i : ℕ) (read found : Option ℕ) → read ≡ decimal_table (get_or (take (length s - 1) (drop 1 s)) i 0) → read ≡ found
+byte_after : (s : List ℕ) (i : ℕ) (read found : Option ℕ) → read ≡ decimal_table (get_or (take (length s - 1) (drop 1 s)) i 0) → read ≡ found
     → decimal_table (get_or s (i + 1) 0) ≡ found
-byte_behind s i read found is told = ap decimal_table (sym (rest_byte s i)) ∙ sym is ∙ told
+byte_after s i read found is reported = ap decimal_table (sym (rest_byte s i)) ∙ sym is ∙ reported
 
 pub loop-at-preserved : goal.loop-at-preserved
 loop-at-preserved c =
     let s = c.args.s.now in
-    let digit = byte_behind s c.loop-at.at _ (Some c.in-Some-digit.digit_value) c.digit-in-loop-at.ensures c.in-Some-digit.is in
+    let digit = byte_after s c.loop-at.at _ (Some c.in-Some-digit.digit_value) c.digit-in-loop-at.ensures c.in-Some-digit.is in
     let i = c.loop-at.at + 1 in
     let here : i < length s = omega (arith, c.loop-at-test.true, rest_length s) in
     record {
@@ -72,7 +72,7 @@ returns-in_default-digit-2 c =
     let s = c.args.s.now in
     let i = c.loop-at.at + 1 in
     let here : i < length s = omega (arith, c.loop-at-test.true, rest_length s) in
-    let none : decimal_table (get_or s i 0) ≡ None = byte_behind s c.loop-at.at _ None c.digit-in-loop-at.ensures c.in_default-digit-2.is in
+    let none : decimal_table (get_or s i 0) ≡ None = byte_after s c.loop-at.at _ None c.digit-in-loop-at.ensures c.in_default-digit-2.is in
     record {
       answer = ap (λ b. Err (if b then empty else invalid64 c.loop-at.number i s)) (sym (ne_eqb i 0 (omega arith)))
           ∙ sym (narrow_whole_rest decimal_table c.args.bound 0 false s i c.loop-at.number here none
@@ -82,7 +82,7 @@ returns-in_default-digit-2 c =
 pub returns-then-next-bound : goal.returns-then-next-bound
 returns-then-next-bound c =
     let s = c.args.s.now in
-    let digit = byte_behind s c.loop-at.at _ (Some c.in-Some-digit.digit_value) c.digit-in-loop-at.ensures c.in-Some-digit.is in
+    let digit = byte_after s c.loop-at.at _ (Some c.in-Some-digit.digit_value) c.digit-in-loop-at.ensures c.in-Some-digit.is in
     let i = c.loop-at.at + 1 in
     let here : i < length s = omega (arith, c.loop-at-test.true, rest_length s) in
     let over : c.args.bound < value decimal_table (take i s) * 10 + c.in-Some-digit.digit_value = rw (← c.loop-at.invariant.number) c.if-next-bound.true in

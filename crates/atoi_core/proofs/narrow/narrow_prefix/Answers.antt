@@ -1,15 +1,15 @@
 -- If no zeros are skipped, the first window is the last one, and it decides the answer.
 use Rattle.std.proofs.Common.{◌≡◌, ◌≤◌, ℕ, Bool, false, not, ◌&&◌, nat_lt, inl, inr, sym, ◌∙◌, ltb-false, arith}
 use Rattle.atoi_core.proofs.Windows.{Skipped, Skipped-at_once, Skipped-first, Skipped-one}
-use Rattle.atoi_core.proofs.LoopAnswers.{narrow_told, answers_empty}
+use Rattle.atoi_core.proofs.LoopAnswers.{narrow_after_skip, answers_empty}
 use Rattle.atoi_core.proofs.narrow.narrow_prefix.Goals as goal
 use Rattle.atoi_core.proofs.narrow.narrow_prefix.Goals.{After-answer_at}
 
 pub returns-then-window-eq0-clause-answer : goal.returns-then-window-eq0-clause-answer
 returns-then-window-eq0-clause-answer g c =
-    let so = Skipped-first g.E.Engine.table g.met.E.Engine.below_ten c.args.skip c.args.s.now _ _ c.window-window.result
+    let after_skip = Skipped-first g.E.Engine.table g.met.E.Engine.below_ten c.args.skip c.args.s.now _ _ c.window-window.result
     c.window-window.ensures.window c.window-window.ensures.one_step (omega arith) in
-    answers_empty _ _ _ _ _ _ _ _ _ _ so (omega arith)
+    answers_empty _ _ _ _ _ _ _ _ _ _ after_skip (omega arith)
 
 -- If zeros are not skipped and the body is not too long, it begins with at most 16 digits.
 few : (skip : Bool) (digits : ℕ) → false ≡ (not skip && nat_lt 16 digits) → skip ≡ false → digits ≤ 16
@@ -25,7 +25,7 @@ last g c =
 
 pub returns-else-is_too_long-clause-answer : goal.returns-else-is_too_long-clause-answer
 returns-else-is_too_long-clause-answer g c =
-    c.answer_at.ensures ∙ narrow_told _ _ _ _ _ _ _ _ _ (last g c) c.requires.high (few _ _ c.if-is_too_long.ensures.answer) (omega arith)
+    c.answer_at.ensures ∙ narrow_after_skip _ _ _ _ _ _ _ _ _ (last g c) c.requires.high (few _ _ c.if-is_too_long.ensures.answer) (omega arith)
 
 pub returns-else-is_too_long-clause-loads : goal.returns-else-is_too_long-clause-loads
 returns-else-is_too_long-clause-loads g c = Skipped-one _ _ _ _ _ _ _ (last g c) c.window-window.ensures.one_step c.is_too_long.ensures.loads

@@ -22,12 +22,12 @@ returns-then-first-eq0-clause-answer g c =
 
 pub returns-then-first-lt16-clause-loads : goal.returns-then-first-lt16-clause-loads
 returns-then-first-lt16-clause-loads g c =
-    let so = Skipped-first g.E.Engine.table g.met.E.Engine.below_ten true c.args.s.now _ _ c.window-first.result
+    let after_skip = Skipped-first g.E.Engine.table g.met.E.Engine.below_ten true c.args.s.now _ _ c.window-first.result
     c.window-first.ensures.window c.window-first.ensures.one_step c.if-first-lt16.true in
-    Skipped-loads so 0 (omega arith) (omega arith) (omega arith)
+    Skipped-loads after_skip 0 (omega arith) (omega arith) (omega arith)
 
 pub returns-else-first-gt0-clause-answer : goal.returns-else-first-gt0-clause-answer
 returns-else-first-gt0-clause-answer g c =
-    let so = Skipped-at_once g.E.Engine.table g.met.E.Engine.below_ten true c.args.s.now _ _ c.window-first.result
+    let after_skip = Skipped-at_once g.E.Engine.table g.met.E.Engine.below_ten true c.args.s.now _ _ c.window-first.result
     c.window-first.ensures.window c.window-first.ensures.one_step (inr (refl, omega arith)) in
-    narrow_whole_of g.E.Engine.table c.args.bound 0 c.args.s.now _ _ (narrow_full _ _ 0 _ _ _ _ so c.requires.high c.if-first-lt16.false)
+    narrow_whole_of g.E.Engine.table c.args.bound 0 c.args.s.now _ _ (narrow_full _ _ 0 _ _ _ _ after_skip c.requires.high c.if-first-lt16.false)

@@ -1,15 +1,15 @@
 -- The loop begins after the zeros of the first window. The answer and the number of loads follow
 -- from where it ends.
 use Rattle.std.proofs.Common.{◌+◌, true, inr, refl, ◌∙◌, arith}
-use Rattle.atoi_core.proofs.Windows.{Skipping-told, Skipping-more, Skipped, Skipped-end}
-use Rattle.atoi_core.proofs.LoopAnswers.{narrow_told}
+use Rattle.atoi_core.proofs.Windows.{Skipping-first_window, Skipping-more, Skipped, Skipped-end}
+use Rattle.atoi_core.proofs.LoopAnswers.{narrow_after_skip}
 use Rattle.atoi_core.proofs.narrow.skip_leading_zeros.Goals as goal
 use Rattle.atoi_core.proofs.narrow.skip_leading_zeros.Goals.{After-answer_at}
 
 pub loop-window-init : goal.loop-window-init
 loop-window-init g c =
     record {
-      skipping = Skipping-told g.E.Engine.table g.met.E.Engine.below_ten c.args.s.now c.args.steps.now c.args.zeroes c.requires.first_window c.requires.some;
+      skipping = Skipping-first_window g.E.Engine.table g.met.E.Engine.below_ten c.args.s.now c.args.steps.now c.args.zeroes c.requires.first_window c.requires.some;
       some = c.requires.some;
     }
 
@@ -31,7 +31,7 @@ ended g c =
 pub returns-clause-answer : goal.returns-clause-answer
 returns-clause-answer g c =
     c.answer_at.ensures
-    ∙ narrow_told _ _ _ _ _ _ _ _ _ (ended g c) c.requires.high (λ no. absurd (cc no)) (omega (arith, c.loop-window.invariant.some))
+    ∙ narrow_after_skip _ _ _ _ _ _ _ _ _ (ended g c) c.requires.high (λ no. absurd (cc no)) (omega (arith, c.loop-window.invariant.some))
 
 pub returns-clause-loads : goal.returns-clause-loads
 returns-clause-loads g c =

@@ -17,6 +17,6 @@ returns-then-first-lt16-clause-answer g c bound digits =
 
 pub returns-then-first-lt16-clause-loads : goal.returns-then-first-lt16-clause-loads
 returns-then-first-lt16-clause-loads g c =
-    let so = Skipped-first g.E.Engine.table g.met.E.Engine.below_ten c.args.skip c.args.s.now _ _ c.window-first.result
+    let after_skip = Skipped-first g.E.Engine.table g.met.E.Engine.below_ten c.args.skip c.args.s.now _ _ c.window-first.result
     c.window-first.ensures.window c.window-first.ensures.one_step (omega arith) in
-    Skipped-loads so 0 (omega arith) (omega arith) (omega arith)
+    Skipped-loads after_skip 0 (omega arith) (omega arith) (omega arith)

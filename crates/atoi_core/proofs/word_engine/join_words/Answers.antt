@@ -4,7 +4,7 @@ use Rattle.atoi_core.specs.Digit.{decimal_table}
 use Rattle.atoi_core.specs.Run.{run_len, zeros}
 use Rattle.atoi_core.specs.Words.{low_bytes, low_value}
 use Rattle.atoi_core.specs.declared.window.Window.{Window}
-use Rattle.atoi_core.proofs.LoadedWords.{enough_bytes, fits_behind, loaded_bytes, loaded_run, loaded_sum, window_joined, told_full, told_none}
+use Rattle.atoi_core.proofs.LoadedWords.{enough_bytes, fits_after, loaded_bytes, loaded_run, loaded_sum, window_joined, reported_full, reported_none}
 use Rattle.atoi_core.proofs.word_engine.join_words.Goals as goal
 
 pub load_from-next-requires-clause-enough : goal.load_from-next-requires-clause-enough
@@ -25,9 +25,9 @@ returns-then-more-eq8 c =
     let next = c.load_from-next.result in
     let more = c.digits_of-more.result in
     let fits : (i : ℕ) → get_or s i 0 < 256 = λ i. (c.type_inv.s i).fits in
-    let behind : (i : ℕ) → get_or rest i 0 < 256 = fits_behind s fits in
+    let following : (i : ℕ) → get_or rest i 0 < 256 = fits_after s fits in
     let full : run_len decimal_table (take 8 s) ≡ 8 = sym (loaded_run s fits first c.requires.loaded) ∙ c.requires.full in
-    let more_is : more ≡ run_len decimal_table (take 8 rest) = c.digits_of-more.ensures.len ∙ loaded_run rest behind next c.load_from-next.ensures in
+    let more_is : more ≡ run_len decimal_table (take 8 rest) = c.digits_of-more.ensures.len ∙ loaded_run rest following next c.load_from-next.ensures in
     let all_zeros = zeros decimal_table (take 8 s ++ take 8 rest) in
     let eight : 8 ≡ more = sym c.if-more-eq8.true in
     let len : 16 ≡ 8 + more = omega arith in
@@ -35,13 +35,13 @@ returns-then-more-eq8 c =
     let whole : zeros decimal_table (low_bytes 8 first ++ low_bytes 8 next) ≡ all_zeros =
     ap₂ (λ xs ys. zeros decimal_table (xs ++ ys))
     (loaded_bytes s fits first c.requires.loaded (enough_bytes s full))
-    (loaded_bytes rest behind next c.load_from-next.ensures (enough_bytes rest (sym more_is ∙ sym eight))) in
+    (loaded_bytes rest following next c.load_from-next.ensures (enough_bytes rest (sym more_is ∙ sym eight))) in
     ap₂ (λ (n p : ℕ). let w : Window = record { len = n; zeroes = c.zeroes_of_two.result; number = c.value_of.result * p + c.value_of-then-more-eq8.result } in w) len power
     ∙ window_joined s more c.zeroes_of_two.result c.value_of.result c.value_of-then-more-eq8.result full more_is
-    (c.zeroes_of_two.ensures ∙ whole ∙ sym (told_full more 8 all_zeros (sym eight)))
+    (c.zeroes_of_two.ensures ∙ whole ∙ sym (reported_full more 8 all_zeros (sym eight)))
     (c.value_of.ensures.sum ∙ loaded_sum s fits first 8 c.requires.loaded (sym c.requires.full))
     (c.value_of-then-more-eq8.ensures.sum ∙ ap (λ (n : ℕ). low_value (low_bytes n next)) eight
-    ∙ loaded_sum rest behind next more c.load_from-next.ensures c.digits_of-more.ensures.len)
+    ∙ loaded_sum rest following next more c.load_from-next.ensures c.digits_of-more.ensures.len)
 
 pub returns-else-more-eq8 : goal.returns-else-more-eq8
 returns-else-more-eq8 c =
@@ -51,13 +51,13 @@ returns-else-more-eq8 c =
     let next = c.load_from-next.result in
     let more = c.digits_of-more.result in
     let fits : (i : ℕ) → get_or s i 0 < 256 = λ i. (c.type_inv.s i).fits in
-    let behind : (i : ℕ) → get_or rest i 0 < 256 = fits_behind s fits in
+    let following : (i : ℕ) → get_or rest i 0 < 256 = fits_after s fits in
     let full : run_len decimal_table (take 8 s) ≡ 8 = sym (loaded_run s fits first c.requires.loaded) ∙ c.requires.full in
-    let more_is : more ≡ run_len decimal_table (take 8 rest) = c.digits_of-more.ensures.len ∙ loaded_run rest behind next c.load_from-next.ensures in
+    let more_is : more ≡ run_len decimal_table (take 8 rest) = c.digits_of-more.ensures.len ∙ loaded_run rest following next c.load_from-next.ensures in
     let all_zeros = zeros decimal_table (take 8 s ++ take 8 rest) in
     c.not_full.ensures
     ∙ ap (λ (p : ℕ). let w : Window = record { len = 8 + more; zeroes = 0; number = c.value_of-else-more-eq8.result * p + c.number_in_word.result } in w) c.power_of_ten-else-more-eq8.ensures.power
     ∙ window_joined s more 0 c.value_of-else-more-eq8.result c.number_in_word.result full more_is
-    (sym (told_none more 8 all_zeros c.if-more-eq8.false))
+    (sym (reported_none more 8 all_zeros c.if-more-eq8.false))
     (c.value_of-else-more-eq8.ensures.sum ∙ loaded_sum s fits first 8 c.requires.loaded (sym c.requires.full))
-    (c.number_in_word.ensures.sum ∙ loaded_sum rest behind next more c.load_from-next.ensures c.digits_of-more.ensures.len)
+    (c.number_in_word.ensures.sum ∙ loaded_sum rest following next more c.load_from-next.ensures c.digits_of-more.ensures.len)

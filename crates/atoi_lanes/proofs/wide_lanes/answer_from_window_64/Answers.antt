@@ -7,16 +7,16 @@ use Rattle.atoi_lanes.proofs.wide_lanes.answer_from_window_64.Goals.{then-skip, 
 
 pub overflow_sub-counting : goal.overflow_sub-counting
 overflow_sub-counting c =
-    let w = c.args.front.window in
-    let most = c.reading_decides.ensures.within decimal_table 32 _ w.len w.zeroes w.number c.requires.front.reading in
+    let w = c.args.reached.window in
+    let most = c.reading_decides.ensures.within decimal_table 32 _ w.len w.zeroes w.number c.requires.reached.reading in
     elim c.if-skip.branch [ then-skip k ↦ omega (arith, most.0, k.leading-is) | else-skip k ↦ omega (arith, k.leading-is) ]
 
 pub answer_64-requires : goal.answer_64-requires
-answer_64-requires c = omega (arith, overflow_sub-counting c, c.requires.front.within)
+answer_64-requires c = omega (arith, overflow_sub-counting c, c.requires.reached.within)
 
 pub returns : goal.returns
 returns c =
-    let is : ((c.args.skip ≡ true) × (c.if-skip.leading ≡ c.args.front.window.zeroes)) ⊎ ((c.args.skip ≡ false) × (c.if-skip.leading ≡ 0)) =
+    let is : ((c.args.skip ≡ true) × (c.if-skip.leading ≡ c.args.reached.window.zeroes)) ⊎ ((c.args.skip ≡ false) × (c.if-skip.leading ≡ 0)) =
     elim c.if-skip.branch [ then-skip k ↦ inl (k.if-skip.true, k.leading-is) | else-skip k ↦ inr (k.if-skip.false, k.leading-is) ] in
     c.answer_64.ensures
-    ∙ decided_64 c.reading_decides.ensures _ _ _ _ _ c.if-skip.leading c.args.front.window c.requires.limit_high c.requires.front is
+    ∙ decided_64 c.reading_decides.ensures _ _ _ _ _ c.if-skip.leading c.args.reached.window c.requires.limit_high c.requires.reached is

@@ -9,9 +9,9 @@ use Rattle.atoi_lanes.proofs.wide_lanes.answer_short_128.Goals as goal
 pub returns-then-len-eq0 : goal.returns-then-len-eq0
 returns-then-len-eq0 c =
     let r = c.requires in
-    grind (arith, nat_tests) ∙ sym (c.reading_decides.ensures.short decimal_table below_ten wide128 c.args.bound 39 (lit< tt) r.digits _ _ _ 32 _ _ _ r.front.skipped r.front.reading r.short (omega (arith, r.short))).1
+    grind (arith, nat_tests) ∙ sym (c.reading_decides.ensures.short decimal_table below_ten wide128 c.args.bound 39 (lit< tt) r.digits _ _ _ 32 _ _ _ r.reached.skipped r.reached.reading r.short (omega (arith, r.short))).1
 
 pub returns-else-len-eq0 : goal.returns-else-len-eq0
 returns-else-len-eq0 c =
     let r = c.requires in
-    grind (arith, nat_tests) ∙ sym (c.reading_decides.ensures.short decimal_table below_ten wide128 c.args.bound 39 (lit< tt) r.digits _ _ _ 32 _ _ _ r.front.skipped r.front.reading r.short (omega (arith, r.short))).1
+    grind (arith, nat_tests) ∙ sym (c.reading_decides.ensures.short decimal_table below_ten wide128 c.args.bound 39 (lit< tt) r.digits _ _ _ 32 _ _ _ r.reached.skipped r.reached.reading r.short (omega (arith, r.short))).1

@@ -9,15 +9,15 @@ use Rattle.atoi_lanes.proofs.wide_lanes.answer_short_64.Goals as goal
 pub returns-then-len-eq0 : goal.returns-then-len-eq0
 returns-then-len-eq0 c =
     let r = c.requires in
-    grind (arith, nat_tests) ∙ sym (c.reading_decides.ensures.short decimal_table below_ten wide64 c.args.bound _ (omega arith) r.digits _ _ 0 32 _ _ _ r.front.skipped r.front.reading (omega arith) r.short).1
+    grind (arith, nat_tests) ∙ sym (c.reading_decides.ensures.short decimal_table below_ten wide64 c.args.bound _ (omega arith) r.digits _ _ 0 32 _ _ _ r.reached.skipped r.reached.reading (omega arith) r.short).1
 
 pub returns-else-len-eq0 : goal.returns-else-len-eq0
 returns-else-len-eq0 c =
     let r = c.requires in
-    grind (arith, nat_tests) ∙ sym (c.reading_decides.ensures.short decimal_table below_ten wide64 c.args.bound _ (omega arith) r.digits _ _ 0 32 _ _ _ r.front.skipped r.front.reading (omega arith) r.short).1
+    grind (arith, nat_tests) ∙ sym (c.reading_decides.ensures.short decimal_table below_ten wide64 c.args.bound _ (omega arith) r.digits _ _ 0 32 _ _ _ r.reached.skipped r.reached.reading (omega arith) r.short).1
 
 pub overflow_cast-result : goal.overflow_cast-result
 overflow_cast-result c =
     let r = c.requires in
-    let told = c.reading_decides.ensures.short decimal_table below_ten wide64 c.args.bound _ (omega arith) r.digits _ _ 0 32 _ _ _ r.front.skipped r.front.reading (omega arith) r.short in
-    record { fits = omega (arith, told.0, c.ranges.bound.fits) }
+    let reported = c.reading_decides.ensures.short decimal_table below_ten wide64 c.args.bound _ (omega arith) r.digits _ _ 0 32 _ _ _ r.reached.skipped r.reached.reading (omega arith) r.short in
+    record { fits = omega (arith, reported.0, c.ranges.bound.fits) }

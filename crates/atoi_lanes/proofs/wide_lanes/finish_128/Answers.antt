@@ -5,10 +5,10 @@ use Rattle.atoi_lanes.proofs.wide_lanes.finish_128.Goals as goal
 
 pub answer_128-requires : goal.answer_128-requires
 answer_128-requires c =
-    let both = decided_full c.reading_decides.ensures c.args.bound _ _ _ _ _ c.requires.front c.if-front-lt32.false c.window_after_32-back.ensures.window in
+    let both = decided_full c.reading_decides.ensures c.args.bound _ _ _ _ _ c.requires.reached c.if-reached-lt32.false c.window_after_32-back.ensures.window in
     record { digits = c.requires.digits; few = both.0; below = both.1; inside = both.2 }
 
 pub returns-clause-answer : goal.returns-clause-answer
 returns-clause-answer c =
     c.answer_128.ensures
-    ∙ (decided_full c.reading_decides.ensures c.args.bound _ _ _ _ _ c.requires.front c.if-front-lt32.false c.window_after_32-back.ensures.window).3
+    ∙ (decided_full c.reading_decides.ensures c.args.bound _ _ _ _ _ c.requires.reached c.if-reached-lt32.false c.window_after_32-back.ensures.window).3

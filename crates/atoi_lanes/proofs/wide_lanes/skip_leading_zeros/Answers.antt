@@ -12,62 +12,62 @@ use Rattle.atoi_lanes.proofs.wide_lanes.skip_leading_zeros.Goals as goal
 dropped : ReadingDecides → (s : List ℕ) (place before now next leading at : ℕ) → Skipping true s place before now
     → leading ≡ zeros decimal_table (take 32 (drop place s)) → 0 < leading → at ≡ place + zeros decimal_table (take 32 (drop place s))
     → next ≡ now + 1 → Skipping true s at before next
-dropped law s place before now next leading at so told some is one =
-    let left = told ∙ law.zeros_left decimal_table 32 s place so.skipped.zeros_only in
-    subst (λ n. Skipping true s n before next) (ap (λ n. place + n) told ∙ sym is) (Skipping-more _ _ _ _ _ next _ so left one refl some)
+dropped law s place before now next leading at after_skip reported some is one =
+    let left = reported ∙ law.zeros_left decimal_table 32 s place after_skip.skipped.zeros_only in
+    subst (λ n. Skipping true s n before next) (ap (λ n. place + n) reported ∙ sym is) (Skipping-more _ _ _ _ _ next _ after_skip left one refl some)
 
-pub next_window-front-requires-clause-within : goal.next_window-front-requires-clause-within
-next_window-front-requires-clause-within c =
+pub next_window-reached-requires-clause-within : goal.next_window-reached-requires-clause-within
+next_window-reached-requires-clause-within c =
     let s = c.args.s.now in
     omega (arith, c.requires.first_window, prefix_len-le-length (is_zero decimal_table) (take 32 s), length-take 32 s)
 
-pub loop-front-init : goal.loop-front-init
-loop-front-init c =
+pub loop-reached-init : goal.loop-reached-init
+loop-reached-init c =
     let s = c.args.s.now in
-    let done = c.next_window-front.ensures in
+    let done = c.next_window-reached.ensures in
     let none = Skipping-none true s c.args.steps.now in
     (dropped c.reading_decides.ensures s 0 _ _ _ c.args.zeroes _ none c.requires.first_window c.requires.some done.dropped done.one_step, done.reading)
 
-pub next_window-front-requires-in-loop-front-clause-within : goal.next_window-front-requires-in-loop-front-clause-within
-next_window-front-requires-in-loop-front-clause-within c =
+pub next_window-reached-requires-in-loop-reached-clause-within : goal.next_window-reached-requires-in-loop-reached-clause-within
+next_window-reached-requires-in-loop-reached-clause-within c =
     let s = c.args.s.now in
-    let w = c.loop-front.front.window in
-    let most = c.reading_decides.ensures.within decimal_table 32 _ w.len w.zeroes w.number c.loop-front.invariant.1 in
-    omega (arith, c.loop-front.invariant.0.within, most, length-drop c.loop-front.front.at s)
+    let w = c.loop-reached.reached.window in
+    let most = c.reading_decides.ensures.within decimal_table 32 _ w.len w.zeroes w.number c.loop-reached.invariant.1 in
+    omega (arith, c.loop-reached.invariant.0.within, most, length-drop c.loop-reached.reached.at s)
 
-pub loop-front-preserved : goal.loop-front-preserved
-loop-front-preserved c =
+pub loop-reached-preserved : goal.loop-reached-preserved
+loop-reached-preserved c =
     let s = c.args.s.now in
-    let w = c.loop-front.front.window in
-    let done = c.next_window-front-in-loop-front.ensures in
-    let some : 0 < w.zeroes = omega (arith, c.if-front-eq0.false) in (
-      dropped c.reading_decides.ensures s c.loop-front.front.at _ _ _ w.zeroes _ c.loop-front.invariant.0 c.loop-front.invariant.1.leading_are some done.dropped done.one_step,
+    let w = c.loop-reached.reached.window in
+    let done = c.next_window-reached-in-loop-reached.ensures in
+    let some : 0 < w.zeroes = omega (arith, c.if-reached-eq0.false) in (
+      dropped c.reading_decides.ensures s c.loop-reached.reached.at _ _ _ w.zeroes _ c.loop-reached.invariant.0 c.loop-reached.invariant.1.leading_are some done.dropped done.one_step,
       done.reading,
     )
 
-pub returns-then-front-eq0-clause-front : goal.returns-then-front-eq0-clause-front
-returns-then-front-eq0-clause-front c =
+pub returns-then-reached-eq0-clause-reached : goal.returns-then-reached-eq0-clause-reached
+returns-then-reached-eq0-clause-reached c =
     let s = c.args.s.now in
-    let at = c.loop-front.front.at in
-    let w = c.loop-front.front.window in
-    let reading = c.loop-front.invariant.1 in
+    let at = c.loop-reached.reached.at in
+    let w = c.loop-reached.reached.window in
+    let reading = c.loop-reached.invariant.1 in
     let most = c.reading_decides.ensures.within decimal_table 32 (drop at s) w.len w.zeroes w.number reading in
     record {
-      skipped = c.loop-front.invariant.0.skipped;
+      skipped = c.loop-reached.invariant.0.skipped;
       reading = reading;
-      within = omega (arith, c.loop-front.invariant.0.within, most, length-drop at s);
-      ends = λ _ full. elim c.then-front-eq0.either [ inl none ↦ none | inr short ↦ absurd (omega arith) ];
+      within = omega (arith, c.loop-reached.invariant.0.within, most, length-drop at s);
+      ends = λ _ full. elim c.then-reached-eq0.either [ inl none ↦ none | inr short ↦ absurd (omega arith) ];
     }
 
-pub returns-then-front-eq0-clause-least : goal.returns-then-front-eq0-clause-least
-returns-then-front-eq0-clause-least c =
+pub returns-then-reached-eq0-clause-least : goal.returns-then-reached-eq0-clause-least
+returns-then-reached-eq0-clause-least c =
     let s = c.args.s.now in
-    let at = c.loop-front.front.at in
-    let w = c.loop-front.front.window in
-    let so = c.loop-front.invariant.0 in
-    let reading = c.loop-front.invariant.1 in
-    let told = reading.leading_are ∙ c.reading_decides.ensures.zeros_left decimal_table 32 s at so.skipped.zeros_only in
+    let at = c.loop-reached.reached.at in
+    let w = c.loop-reached.reached.window in
+    let after_skip = c.loop-reached.invariant.0 in
+    let reading = c.loop-reached.invariant.1 in
+    let reported = reading.leading_are ∙ c.reading_decides.ensures.zeros_left decimal_table 32 s at after_skip.skipped.zeros_only in
     let most = c.reading_decides.ensures.within decimal_table 32 _ w.len w.zeroes w.number reading in
     let few : w.zeroes < 32 =
-    elim c.then-front-eq0.either [ inl none ↦ omega (arith, none) | inr short ↦ omega (arith, most.0, short) ] in
-    Skipping-loads _ _ _ _ _ _ so told few
+    elim c.then-reached-eq0.either [ inl none ↦ omega (arith, none) | inr short ↦ omega (arith, most.0, short) ] in
+    Skipping-loads _ _ _ _ _ _ after_skip reported few

@@ -5,10 +5,10 @@ use Rattle.atoi_core.specs.Reading.{Reading}
 use Rattle.atoi_lanes.proofs.LaneWindows.{Skipping}
 use Rattle.atoi_lanes.proofs.wide_lanes.skip_leading_zeros.Given as goal
 
-abbrev pub invariant-loop-front : goal.invariant-loop-front
-invariant-loop-front l =
-    Skipping true l.s l.front.at l.fn.steps l.steps
-    × Reading decimal_table 32 (drop l.front.at l.s) l.front.window.len l.front.window.zeroes l.front.window.number
+abbrev pub invariant-loop-reached : goal.invariant-loop-reached
+invariant-loop-reached l =
+    Skipping true l.s l.reached.at l.fn.steps l.steps
+    × Reading decimal_table 32 (drop l.reached.at l.s) l.reached.window.len l.reached.window.zeroes l.reached.window.number
 
-abbrev pub decreases-loop-front : goal.decreases-loop-front
-decreases-loop-front l = length l.s - l.front.at
+abbrev pub decreases-loop-reached : goal.decreases-loop-reached
+decreases-loop-reached l = length l.s - l.reached.at

@@ -1,10 +1,10 @@
 -- The bytes after the first 16 fill a vector, or are shuffled from the last 16.
 use Rattle.std.proofs.Common.{◌∙◌}
-use Rattle.atoi_lanes.proofs.LaneWindows.{after_all, behind_some}
+use Rattle.atoi_lanes.proofs.LaneWindows.{after_all, after_some}
 use Rattle.atoi_lanes.proofs.window_32.load_after_16.Goals as goal
 
 pub returns : goal.returns
-returns c = c.moved_to_start.ensures ∙ behind_some c.args.s.now c.if-s-lt16.false c.if-s-ge32.false
+returns c = c.moved_to_start.ensures ∙ after_some c.args.s.now c.if-s-lt16.false c.if-s-ge32.false
 
 pub returns-then-s-ge32 : goal.returns-then-s-ge32
 returns-then-s-ge32 c = after_all c.args.s.now c.if-s-ge32.true

@@ -7,8 +7,8 @@ use Rattle.atoi_tool.specs.Output.{line_output, output_of, is_good_input}
 use Rattle.atoi_tool.proofs.Appended.{IsPutUpTo-more, IsPutUpTo-refused}
 use Rattle.atoi_tool.proofs.output.answer_lines.Goals as goal
 
-pub returns-in-Err-clause-front : goal.returns-in-Err-clause-front
-returns-in-Err-clause-front g c =
+pub returns-in-Err-clause-prefix : goal.returns-in-Err-clause-prefix
+returns-in-Err-clause-prefix g c =
     let first : output_of c.loop-rest.rest.now ≡ line_output c.first_line.result.0.now ++ output_of c.first_line.result.1.now =
     ap (flat_map line_output) c.first_line.ensures.lines in
     IsPutUpTo-refused _ (g.S.Sink.held c.loop-rest.output) _ (output_of c.args.input.now)

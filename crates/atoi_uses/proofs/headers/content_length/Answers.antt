@@ -14,7 +14,7 @@ returns-in_default-clause-none c = λ any h.
     let decimals = c.decimal_texts.ensures in
     let value = c.args.value.now in
     c.in_default.ensures.refused refl (pos any) (length h.digits)
-    (c.prefixes_and_rests.ensures.joined positive c.without_blanks-field.result.now h.digits h.after (pos any) (c.without_blanks-field.ensures ∙ field_is decimals value any h) h.written (no_digit_after decimals value any h))
+    (c.prefixes_and_rests.ensures.of_parts positive c.without_blanks-field.result.now h.digits h.after (pos any) (c.without_blanks-field.ensures ∙ field_is decimals value any h) h.written (no_digit_after decimals value any h))
 
 pub returns-then-is_empty-clause-some : goal.returns-then-is_empty-clause-some
 returns-then-is_empty-clause-some c =
@@ -31,7 +31,7 @@ returns-then-is_empty-clause-some c =
       parts = before.1.1 ∙ ap (λ s. before.0 ++ s) (sym c.without_blanks-field.ensures ∙ sym (take-append-drop count field));
       blank_before = before.1.0;
       blank_after = subst (AllPass is_blank) (sym (after.1.1 ∙ ap (λ s. after.0 ++ s) (nil_from_length _ none) ∙ append-nil after.0)) after.1.0;
-      written = c.in-Ok.ensures.front.front;
+      written = c.in-Ok.ensures.prefix.written;
     }
 
 pub returns-else-is_empty-clause-none : goal.returns-else-is_empty-clause-none
@@ -39,7 +39,7 @@ returns-else-is_empty-clause-none c = λ any h.
     let field : List ℕ = c.without_blanks-field.result.now in
     let decimals = c.decimal_texts.ensures in
     let value = c.args.value.now in
-    let cut = c.prefixes_and_rests.ensures.cut positive field h.digits h.after (pos any) (pos c.in-Ok.length) c.in-Ok.count (c.without_blanks-field.ensures ∙ field_is decimals value any h) h.written (no_digit_after decimals value any h) c.in-Ok.ensures.front in
+    let cut = c.prefixes_and_rests.ensures.cut positive field h.digits h.after (pos any) (pos c.in-Ok.length) c.in-Ok.count (c.without_blanks-field.ensures ∙ field_is decimals value any h) h.written (no_digit_after decimals value any h) c.in-Ok.ensures.prefix in
     let none : c.without_blanks.result.now ≡ [] =
     c.without_blanks.ensures ∙ ap without_blanks (take_rest field c.in-Ok.count ∙ cut.1.1) ∙ none_after decimals value any h in
     both_ways (length c.without_blanks.result.now == 0) (sym c.is_empty.ensures ∙ c.if-is_empty.false) (ap (λ (s : List ℕ). length s == 0) none)

@@ -25,20 +25,20 @@ text_of false digits number h =
     record { sign = no_sign; digits = digits; parts = refl; signed = λ e. refl; plus_taken = λ e. e; written = h }
 
 -- If a text begins with a JSON integer, this integer is a prefix that writes its number.
-front_of : PrefixesAndRests i64_type → (text : List ℕ) (number : ℤ) (rest : List ℕ) (h : IsJsonInteger text number rest)
+prefix_of : PrefixesAndRests i64_type → (text : List ℕ) (number : ℤ) (rest : List ℕ) (h : IsJsonInteger text number rest)
     → PrefixWrites (TextWrites i64_type false) text number (length (minus_of h.is_negative ++ h.digits))
-front_of law text number rest h =
-    law.joined (looked_for false) text _ rest number h.parts (text_of h.is_negative h.digits number h.written) h.ends
+prefix_of law text number rest h =
+    law.of_parts (looked_for false) text _ rest number h.parts (text_of h.is_negative h.digits number h.written) h.ends
 
 pub returns-in_default-clause-none : goal.returns-in_default-clause-none
 returns-in_default-clause-none c = λ number rest h.
-    c.in_default.ensures.refused refl number _ (front_of c.prefixes_and_rests.ensures c.args.text.now number rest h)
+    c.in_default.ensures.refused refl number _ (prefix_of c.prefixes_and_rests.ensures c.args.text.now number rest h)
 
 pub returns-then-has_leading_zero-clause-none : goal.returns-then-has_leading_zero-clause-none
 returns-then-has_leading_zero-clause-none c = λ number rest h.
     let integer = minus_of h.is_negative ++ h.digits in
     let law = c.prefixes_and_rests.ensures in
-    let same = law.only (looked_for false) c.args.text.now _ _ _ _ c.in-Ok.ensures.front (front_of law _ number rest h) in
+    let same = law.only (looked_for false) c.args.text.now _ _ _ _ c.in-Ok.ensures.prefix (prefix_of law _ number rest h) in
     let cut : take c.in-Ok.count c.args.text.now ≡ integer =
     ap (λ n. take n c.args.text.now) same.1 ∙ ap (take (length integer)) h.parts ∙ take-append_seam integer rest in
     both_ways (leads_with_zero integer) h.no_leading_zero
@@ -47,15 +47,15 @@ returns-then-has_leading_zero-clause-none c = λ number rest h.
 pub returns-else-has_leading_zero-clause-some : goal.returns-else-has_leading_zero-clause-some
 returns-else-has_leading_zero-clause-some c =
     let count = c.in-Ok.count in
-    let front = c.in-Ok.ensures.front in
-    let integer : take count c.args.text.now ≡ minus_of (is_minus front.front.sign) ++ front.front.digits =
-    front.front.parts ∙ ap (λ sign. sign ++ front.front.digits) (same_sign front.front.sign front.front.plus_taken) in
+    let found = c.in-Ok.ensures.prefix in
+    let integer : take count c.args.text.now ≡ minus_of (is_minus found.written.sign) ++ found.written.digits =
+    found.written.parts ∙ ap (λ sign. sign ++ found.written.digits) (same_sign found.written.sign found.written.plus_taken) in
     rw (to_z-of_z w64 c.in-Ok.number (search rules), take_rest c.args.text.now count)
     (record {
-      is_negative = is_minus front.front.sign;
-      digits = front.front.digits;
+      is_negative = is_minus found.written.sign;
+      digits = found.written.digits;
       parts = sym (take-append-drop count c.args.text.now) ∙ ap (λ s. s ++ drop count c.args.text.now) integer;
-      written = front.front.written;
+      written = found.written.written;
       no_leading_zero = ap leads_with_zero (sym integer) ∙ sym c.has_leading_zero.ensures ∙ c.if-has_leading_zero.false;
-      ends = front.ends;
+      ends = found.ends;
     })

@@ -35,8 +35,8 @@ returns-then-byte-self-clause-steps g c =
     let some : 0 < length rest = grind (arith, nat_tests) in
     let law = c.fields_are_prefixes.ensures inside.separator c.self.invariant.separates rest in
     sym c.self.view_is
-    ∙ items_left-ended k inside.separator inside.index inside.place rest some law (g.T.Number.number c.in-Ok.found.0) c.in-Ok.found.1 c.in-Some.behind.now (sym c.in-Ok.ensures.answer)
-    ((rw (take_rest rest c.in-Ok.found.1) at c.in-Some.ensures.cases.0) ∙ ap (λ byte. byte ∷ c.in-Some.behind.now) c.if-byte-self.true)
+    ∙ items_left-ended k inside.separator inside.index inside.place rest some law (g.T.Number.number c.in-Ok.found.0) c.in-Ok.found.1 c.in-Some.following.now (sym c.in-Ok.ensures.answer)
+    ((rw (take_rest rest c.in-Ok.found.1) at c.in-Some.ensures.cases.0) ∙ ap (λ byte. byte ∷ c.in-Some.following.now) c.if-byte-self.true)
 
 pub returns-else-byte-self-clause-steps : goal.returns-else-byte-self-clause-steps
 returns-else-byte-self-clause-steps g c =
@@ -46,7 +46,7 @@ returns-else-byte-self-clause-steps g c =
     let some : 0 < length rest = grind (arith, nat_tests) in
     let law = c.fields_are_prefixes.ensures inside.separator c.self.invariant.separates rest in
     sym c.self.view_is
-    ∙ items_left-trailing k inside.separator inside.index inside.place rest some law (g.T.Number.number c.in-Ok.found.0) c.in-Ok.found.1 c.in-Some.byte.now c.in-Some.behind.now (sym c.in-Ok.ensures.answer)
+    ∙ items_left-trailing k inside.separator inside.index inside.place rest some law (g.T.Number.number c.in-Ok.found.0) c.in-Ok.found.1 c.in-Some.byte.now c.in-Some.following.now (sym c.in-Ok.ensures.answer)
     (rw (take_rest rest c.in-Ok.found.1) at c.in-Some.ensures.cases.0) c.if-byte-self.false
     ∙ ap (λ left. Err (trailing inside.index (inside.place + c.in-Ok.found.1)) ∷ left) (sym (items_left-after_all k inside.separator inside.index inside.place rest))
 

@@ -4,7 +4,7 @@ use Rattle.std.proofs.lemmas.List.{take_rest}
 use Rattle.std.proofs.lemmas.List.Sums.{prefix_len-le-length}
 use Rattle.atoi_core.specs.Digit.{is_digit}
 use Rattle.atoi_core.proofs.Runs.{prefix_len-drop}
-use Rattle.atoi_core.proofs.Windows.{Shows, Skipping-none, Skipping-more, Skipped, Skipped-end, Skipped-loads, shows_behind}
+use Rattle.atoi_core.proofs.Windows.{Shows, Skipping-none, Skipping-more, Skipped, Skipped-end, Skipped-loads, shows_following}
 use Rattle.atoi_core.proofs.LoopAnswers.{answers_empty, answers_short, answers_two, answers_128}
 use Rattle.atoi_core.proofs.engine.Engine.prefix_128.Goals as goal
 use Rattle.atoi_core.proofs.engine.Engine.prefix_128.Goals.{After-window-second, After-window_8-third}
@@ -23,21 +23,21 @@ loop-next-preserved g c =
 
 pub returns-then-len-eq0-clause-answer : goal.returns-then-len-eq0-clause-answer
 returns-then-len-eq0-clause-answer g c =
-    let so = Skipped-end _ g.met.Self.Engine.below_ten _ _ _ _ _ _ c.window-next.result
+    let after_skip = Skipped-end _ g.met.Self.Engine.below_ten _ _ _ _ _ _ c.window-next.result
     c.loop-next.invariant c.window-next.ensures.window c.window-next.ensures.one_step c.then-not-skip.either in
-    answers_empty _ _ _ _ _ _ _ _ _ _ so c.if-len-eq0.true
+    answers_empty _ _ _ _ _ _ _ _ _ _ after_skip c.if-len-eq0.true
 
 pub returns-else-len-eq0-clause-answer : goal.returns-else-len-eq0-clause-answer
 returns-else-len-eq0-clause-answer g c =
-    let so = Skipped-end _ g.met.Self.Engine.below_ten _ _ _ _ _ _ c.window-next.result
+    let after_skip = Skipped-end _ g.met.Self.Engine.below_ten _ _ _ _ _ _ c.window-next.result
     c.loop-next.invariant c.window-next.ensures.window c.window-next.ensures.one_step c.then-not-skip.either in
-    answers_short _ _ _ _ _ _ _ _ _ _ _ _ (lit< tt) so c.if-first-lt16.true (omega arith) (lit< tt) c.requires.digits c.from.ensures refl
+    answers_short _ _ _ _ _ _ _ _ _ _ _ _ (lit< tt) after_skip c.if-first-lt16.true (omega arith) (lit< tt) c.requires.digits c.from.ensures refl
 
 pub returns-else-len-eq0-clause-loads : goal.returns-else-len-eq0-clause-loads
 returns-else-len-eq0-clause-loads g c =
-    let so = Skipped-end _ g.met.Self.Engine.below_ten _ _ _ _ _ _ c.window-next.result
+    let after_skip = Skipped-end _ g.met.Self.Engine.below_ten _ _ _ _ _ _ c.window-next.result
     c.loop-next.invariant c.window-next.ensures.window c.window-next.ensures.one_step c.then-not-skip.either in
-    Skipped-loads so 0 (omega arith) (omega arith) (omega arith)
+    Skipped-loads after_skip 0 (omega arith) (omega arith) (omega arith)
 
 -- What holds when the loop has ended at a full window.
 ended : (g : _) (c : After-window-second g)
@@ -49,12 +49,12 @@ ended g c =
 -- The window after that one.
 middle : (g : _) (c : After-window-second g) → Shows g.Self.Engine.table 16 (drop 16 (drop c.loop-next.at c.args.s.now)) c.window-second.result
 middle g c =
-    shows_behind g.Self.Engine.table g.met.Self.Engine.below_ten 16 16 c.args.s.now c.loop-next.at c.window-second.result c.window-second.ensures.window
+    shows_following g.Self.Engine.table g.met.Self.Engine.below_ten 16 16 c.args.s.now c.loop-next.at c.window-second.result c.window-second.ensures.window
 
 -- The window of 8 bytes after both.
 third : (g : _) (c : After-window_8-third g) → Shows g.Self.Engine.table 8 (drop 32 (drop c.loop-next.at c.args.s.now)) c.window_8-third.result
 third g c =
-    shows_behind g.Self.Engine.table g.met.Self.Engine.below_ten 8 32 c.args.s.now c.loop-next.at c.window_8-third.result c.window_8-third.ensures.window
+    shows_following g.Self.Engine.table g.met.Self.Engine.below_ten 8 32 c.args.s.now c.loop-next.at c.window_8-third.result c.window_8-third.ensures.window
 
 pub returns-then-second-lt16-clause-answer : goal.returns-then-second-lt16-clause-answer
 returns-then-second-lt16-clause-answer g c =

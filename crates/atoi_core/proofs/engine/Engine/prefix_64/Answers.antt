@@ -2,7 +2,7 @@
 use Rattle.std.proofs.Common.{◌≡◌, ◌+◌, ◌*◌, ◌^◌, ◌≤◌, ◌∙◌, refl, arith, length, drop}
 use Rattle.atoi_core.specs.Magnitude.{wide64, prefix_magnitude}
 use Rattle.atoi_core.specs.Reading.{answer_by_digits}
-use Rattle.atoi_core.proofs.Windows.{Shows, Skipping-none, Skipping-more, Skipped, Skipped-end, Skipped-loads, shows_behind}
+use Rattle.atoi_core.proofs.Windows.{Shows, Skipping-none, Skipping-more, Skipped, Skipped-end, Skipped-loads, shows_following}
 use Rattle.atoi_core.proofs.LoopAnswers.{answers_empty, answers_short, answers_64}
 use Rattle.atoi_core.proofs.engine.Engine.prefix_64.Goals as goal
 use Rattle.atoi_core.proofs.engine.Engine.prefix_64.Goals.{After-window_8-back}
@@ -21,21 +21,21 @@ loop-window-preserved g c =
 
 pub returns-then-len-eq0-clause-answer : goal.returns-then-len-eq0-clause-answer
 returns-then-len-eq0-clause-answer g c =
-    let so = Skipped-end _ g.met.Self.Engine.below_ten _ _ _ _ _ _ c.window-window.result
+    let after_skip = Skipped-end _ g.met.Self.Engine.below_ten _ _ _ _ _ _ c.window-window.result
     c.loop-window.invariant c.window-window.ensures.window c.window-window.ensures.one_step c.then-not-skip.either in
-    answers_empty _ _ _ _ _ _ _ _ _ _ so c.if-len-eq0.true
+    answers_empty _ _ _ _ _ _ _ _ _ _ after_skip c.if-len-eq0.true
 
 pub returns-else-len-eq0-clause-answer : goal.returns-else-len-eq0-clause-answer
 returns-else-len-eq0-clause-answer g c =
-    let so = Skipped-end _ g.met.Self.Engine.below_ten _ _ _ _ _ _ c.window-window.result
+    let after_skip = Skipped-end _ g.met.Self.Engine.below_ten _ _ _ _ _ _ c.window-window.result
     c.loop-window.invariant c.window-window.ensures.window c.window-window.ensures.one_step c.then-not-skip.either in
-    answers_short _ _ _ _ _ _ _ _ _ _ _ _ (omega arith) so c.if-front-lt16.true (omega arith) (omega arith) c.requires.digits refl refl
+    answers_short _ _ _ _ _ _ _ _ _ _ _ _ (omega arith) after_skip c.if-first-lt16.true (omega arith) (omega arith) c.requires.digits refl refl
 
 pub returns-else-len-eq0-clause-loads : goal.returns-else-len-eq0-clause-loads
 returns-else-len-eq0-clause-loads g c =
-    let so = Skipped-end _ g.met.Self.Engine.below_ten _ _ _ _ _ _ c.window-window.result
+    let after_skip = Skipped-end _ g.met.Self.Engine.below_ten _ _ _ _ _ _ c.window-window.result
     c.loop-window.invariant c.window-window.ensures.window c.window-window.ensures.one_step c.then-not-skip.either in
-    Skipped-loads so 0 (omega arith) (omega arith) (omega arith)
+    Skipped-loads after_skip 0 (omega arith) (omega arith) (omega arith)
 
 -- What holds when the loop has ended at a full window.
 ended : (g : _) (c : After-window_8-back g)
@@ -45,22 +45,22 @@ ended g c =
     c.loop-window.invariant c.window-window.ensures.window c.window-window.ensures.one_step c.then-not-skip.either
 
 -- The window of 8 bytes after that one.
-behind : (g : _) (c : After-window_8-back g) → Shows g.Self.Engine.table 8 (drop 16 (drop c.loop-window.at c.args.s.now)) c.window_8-back.result
-behind g c =
-    shows_behind g.Self.Engine.table g.met.Self.Engine.below_ten 8 16 c.args.s.now c.loop-window.at c.window_8-back.result c.window_8-back.ensures.window
+following : (g : _) (c : After-window_8-back g) → Shows g.Self.Engine.table 8 (drop 16 (drop c.loop-window.at c.args.s.now)) c.window_8-back.result
+following g c =
+    shows_following g.Self.Engine.table g.met.Self.Engine.below_ten 8 16 c.args.s.now c.loop-window.at c.window_8-back.result c.window_8-back.ensures.window
 
 -- Both windows decide the answer.
 decided : (g : _) (c : After-window_8-back g) →
     (c.loop-window.at + (16 + c.window_8-back.result.len) ≤ length c.args.s.now)
     × (answer_by_digits wide64 c.args.bound c.args.limit c.loop-window.at (16 + c.window_8-back.result.len) (c.window-window.result.number * 10 ^ c.window_8-back.result.len + c.window_8-back.result.number) c.args.s.now
     ≡ prefix_magnitude g.Self.Engine.table wide64 c.args.bound c.args.limit c.args.skip c.args.s.now)
-decided g c = answers_64 _ c.args.bound c.args.limit _ _ _ _ _ _ _ (omega arith) (ended g c) c.if-front-lt16.false (behind g c)
+decided g c = answers_64 _ c.args.bound c.args.limit _ _ _ _ _ _ _ (omega arith) (ended g c) c.if-first-lt16.false (following g c)
 
 pub append_digits-number-requires : goal.append_digits-number-requires
-append_digits-number-requires g c = omega (arith, (behind g (goal.at.append_digits-number-requires g c).After-window_8-back).len_is)
+append_digits-number-requires g c = omega (arith, (following g (goal.at.append_digits-number-requires g c).After-window_8-back).len_is)
 
 pub overflow_add-back : goal.overflow_add-back
-overflow_add-back g c = omega (arith, (behind g (goal.at.overflow_add-back g c).After-window_8-back).len_is)
+overflow_add-back g c = omega (arith, (following g (goal.at.overflow_add-back g c).After-window_8-back).len_is)
 
 pub answer_64-requires : goal.answer_64-requires
 answer_64-requires g c = record { inside = (decided g (goal.at.answer_64-requires g c).After-window_8-back).0 }

@@ -12,10 +12,10 @@ returns-in-Overflow-clause-ascii c = rw c.in-Overflow.is (IsAscii-overflow_text 
 
 pub returns-in-Invalid64-clause-ascii : goal.returns-in-Invalid64-clause-ascii
 returns-in-Invalid64-clause-ascii c =
-    let told = c.put_invalid-end.ensures in
-    rw c.in-Invalid64.is (IsAscii-invalid64_text _ _ _ told.ascii_number told.ascii_index c.put_input-in-Invalid64.ensures.ascii)
+    let reported = c.put_invalid-end.ensures in
+    rw c.in-Invalid64.is (IsAscii-invalid64_text _ _ _ reported.ascii_number reported.ascii_index c.put_input-in-Invalid64.ensures.ascii)
 
 pub returns-in-Invalid128-clause-ascii : goal.returns-in-Invalid128-clause-ascii
 returns-in-Invalid128-clause-ascii c =
-    let told = c.put_invalid-end-in-Invalid128.ensures in
-    rw c.in-Invalid128.is (IsAscii-invalid128_text _ _ _ told.ascii_number told.ascii_index c.put_input-in-Invalid128.ensures.ascii)
+    let reported = c.put_invalid-end-in-Invalid128.ensures in
+    rw c.in-Invalid128.is (IsAscii-invalid128_text _ _ _ reported.ascii_number reported.ascii_index c.put_input-in-Invalid128.ensures.ascii)

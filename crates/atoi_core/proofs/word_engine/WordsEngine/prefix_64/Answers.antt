@@ -6,56 +6,56 @@ use Rattle.atoi_core.proofs.Runs.{decimal_below_ten}
 use Rattle.atoi_core.proofs.Windows.{Skipped, Skipped-at_once, Skipped-loads, Shows, shows}
 use Rattle.atoi_core.proofs.LoopAnswers.{answers_empty, answers_short, answers_64}
 use Rattle.atoi_core.proofs.word_engine.WordsEngine.prefix_64.Goals as goal
-use Rattle.atoi_core.proofs.word_engine.WordsEngine.prefix_64.Goals.{After-window-front, After-window_after_16-back}
+use Rattle.atoi_core.proofs.word_engine.WordsEngine.prefix_64.Goals.{After-window-first, After-window_after_16-back}
 
 -- What holds if no zeros are skipped, or the first window reports none.
-last : (c : After-window-front) → (c.args.skip ≡ true × c.window-front.result.zeroes ≤ 0) ⊎ (c.args.skip ≡ false)
-    → Skipped decimal_table c.args.skip c.args.s.now 0 c.args.steps.now c.window-front.new.steps c.window-front.result
+last : (c : After-window-first) → (c.args.skip ≡ true × c.window-first.result.zeroes ≤ 0) ⊎ (c.args.skip ≡ false)
+    → Skipped decimal_table c.args.skip c.args.s.now 0 c.args.steps.now c.window-first.new.steps c.window-first.result
 last c stops =
-    Skipped-at_once decimal_table decimal_below_ten c.args.skip c.args.s.now _ _ c.window-front.result c.window-front.ensures.window c.window-front.ensures.one_step
+    Skipped-at_once decimal_table decimal_below_ten c.args.skip c.args.s.now _ _ c.window-first.result c.window-first.ensures.window c.window-first.ensures.one_step
     (elim stops [ inl h ↦ inr (h.0, omega (arith, h.1)) | inr h ↦ inl h ])
 
-pub returns-then-front-eq0-clause-answer : goal.returns-then-front-eq0-clause-answer
-returns-then-front-eq0-clause-answer c =
-    let so = last (goal.at.returns-then-front-eq0-clause-answer c).After-window-front c.else-skip.either in
-    answers_empty _ _ _ _ _ _ _ _ _ _ so (omega arith)
+pub returns-then-first-eq0-clause-answer : goal.returns-then-first-eq0-clause-answer
+returns-then-first-eq0-clause-answer c =
+    let after_skip = last (goal.at.returns-then-first-eq0-clause-answer c).After-window-first c.else-skip.either in
+    answers_empty _ _ _ _ _ _ _ _ _ _ after_skip (omega arith)
 
-pub returns-then-front-lt16-clause-answer : goal.returns-then-front-lt16-clause-answer
-returns-then-front-lt16-clause-answer c =
-    let so = last (goal.at.returns-then-front-lt16-clause-answer c).After-window-front c.else-skip.either in
-    answers_short _ _ c.args.bound c.args.limit _ _ 0 _ _ _ _ _ (omega arith) so c.if-front-lt16.true (omega arith) (omega arith) c.requires.digits refl (omega arith)
+pub returns-then-first-lt16-clause-answer : goal.returns-then-first-lt16-clause-answer
+returns-then-first-lt16-clause-answer c =
+    let after_skip = last (goal.at.returns-then-first-lt16-clause-answer c).After-window-first c.else-skip.either in
+    answers_short _ _ c.args.bound c.args.limit _ _ 0 _ _ _ _ _ (omega arith) after_skip c.if-first-lt16.true (omega arith) (omega arith) c.requires.digits refl (omega arith)
 
-pub returns-then-front-lt16-clause-loads : goal.returns-then-front-lt16-clause-loads
-returns-then-front-lt16-clause-loads c =
-    let so = last (goal.at.returns-then-front-lt16-clause-loads c).After-window-front c.else-skip.either in
-    Skipped-loads so 0 (omega arith) (omega arith) (omega arith)
+pub returns-then-first-lt16-clause-loads : goal.returns-then-first-lt16-clause-loads
+returns-then-first-lt16-clause-loads c =
+    let after_skip = last (goal.at.returns-then-first-lt16-clause-loads c).After-window-first c.else-skip.either in
+    Skipped-loads after_skip 0 (omega arith) (omega arith) (omega arith)
 
 pub window_after_16-back-requires : goal.window_after_16-back-requires
 window_after_16-back-requires c =
-    let so = last (goal.at.window_after_16-back-requires c).After-window-front c.else-skip.either in
-    omega (arith, c.if-front-lt16.false, so.shown.len_is, prefix_len-le-length (is_digit decimal_table) c.args.s.now)
+    let after_skip = last (goal.at.window_after_16-back-requires c).After-window-first c.else-skip.either in
+    omega (arith, c.if-first-lt16.false, after_skip.shown.len_is, prefix_len-le-length (is_digit decimal_table) c.args.s.now)
 
 -- The window of 8 bytes after the first one.
-behind : (c : After-window_after_16-back) → Shows decimal_table 8 (drop 16 c.args.s.now) c.window_after_16-back.result
-behind c = shows decimal_table decimal_below_ten 8 (drop 16 c.args.s.now) c.window_after_16-back.result c.window_after_16-back.ensures.window
+following : (c : After-window_after_16-back) → Shows decimal_table 8 (drop 16 c.args.s.now) c.window_after_16-back.result
+following c = shows decimal_table decimal_below_ten 8 (drop 16 c.args.s.now) c.window_after_16-back.result c.window_after_16-back.ensures.window
 
 pub append_digits-number-requires : goal.append_digits-number-requires
-append_digits-number-requires c = omega (arith, (behind (goal.at.append_digits-number-requires c).After-window_after_16-back).len_is)
+append_digits-number-requires c = omega (arith, (following (goal.at.append_digits-number-requires c).After-window_after_16-back).len_is)
 
 pub answer_64-requires : goal.answer_64-requires
 answer_64-requires c =
-    let back = behind (goal.at.answer_64-requires c).After-window_after_16-back in
-    let so = last (goal.at.answer_64-requires c).After-window-front c.else-skip.either in
-    record { inside = (answers_64 decimal_table c.args.bound c.args.limit c.args.skip c.args.s.now 0 _ _ _ _ (omega arith) so c.if-front-lt16.false back).0 }
+    let back = following (goal.at.answer_64-requires c).After-window_after_16-back in
+    let after_skip = last (goal.at.answer_64-requires c).After-window-first c.else-skip.either in
+    record { inside = (answers_64 decimal_table c.args.bound c.args.limit c.args.skip c.args.s.now 0 _ _ _ _ (omega arith) after_skip c.if-first-lt16.false back).0 }
 
-pub returns-else-front-lt16-clause-answer : goal.returns-else-front-lt16-clause-answer
-returns-else-front-lt16-clause-answer c =
-    let back = behind (goal.at.returns-else-front-lt16-clause-answer c).After-window_after_16-back in
-    let so = last (goal.at.returns-else-front-lt16-clause-answer c).After-window-front c.else-skip.either in
+pub returns-else-first-lt16-clause-answer : goal.returns-else-first-lt16-clause-answer
+returns-else-first-lt16-clause-answer c =
+    let back = following (goal.at.returns-else-first-lt16-clause-answer c).After-window_after_16-back in
+    let after_skip = last (goal.at.returns-else-first-lt16-clause-answer c).After-window-first c.else-skip.either in
     rw c.append_digits-number.ensures at c.answer_64.ensures
-    ∙ (answers_64 decimal_table c.args.bound c.args.limit c.args.skip c.args.s.now 0 _ _ _ _ (omega arith) so c.if-front-lt16.false back).1
+    ∙ (answers_64 decimal_table c.args.bound c.args.limit c.args.skip c.args.s.now 0 _ _ _ _ (omega arith) after_skip c.if-first-lt16.false back).1
 
-pub returns-else-front-lt16-clause-loads : goal.returns-else-front-lt16-clause-loads
-returns-else-front-lt16-clause-loads c =
-    let so = last (goal.at.returns-else-front-lt16-clause-loads c).After-window-front c.else-skip.either in
-    Skipped-loads so 1 (omega (arith, c.window_after_16-back.ensures.one_step)) (omega arith) (omega arith)
+pub returns-else-first-lt16-clause-loads : goal.returns-else-first-lt16-clause-loads
+returns-else-first-lt16-clause-loads c =
+    let after_skip = last (goal.at.returns-else-first-lt16-clause-loads c).After-window-first c.else-skip.either in
+    Skipped-loads after_skip 1 (omega (arith, c.window_after_16-back.ensures.one_step)) (omega arith) (omega arith)
