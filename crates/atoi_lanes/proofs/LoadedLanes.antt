@@ -136,8 +136,8 @@ shift_ok n le =
     (Each1-chunk _ 0 16 entries (Each1-chunk _ n (32 - n) shifts each))
 
 -- The table `FROM`: the lanes in order, and then 16 entries that select no lane.
-abbrev shift_entries : List ℕ
-shift_entries = range_with_len 0 16 ++ replicate 16 128
+abbrev from_entries : List ℕ
+from_entries = range_with_len 0 16 ++ replicate 16 128
 
 -- Consecutive indices without the first k are consecutive indices.
 drop-range : (k n a b m : ℕ) → m ≡ k + n → b ≡ a + k → drop k (range_with_len a m) ≡ range_with_len b n
@@ -146,13 +146,13 @@ drop-range (suc k) n a b zero all first = absurd (omega arith)
 drop-range (suc k) n a b (suc m) all first = drop-range k n (a + 1) b m (omega arith) (omega arith)
 
 -- The 16 entries from entry k on select the lanes from k on, and then no lane.
-entries_after : (k : ℕ) → k ≤ 16 → take 16 (take (32 - k) (drop k shift_entries)) ≡ range_with_len k (16 - k) ++ replicate k 128
+entries_after : (k : ℕ) → k ≤ 16 → take 16 (take (32 - k) (drop k from_entries)) ≡ range_with_len k (16 - k) ++ replicate k 128
 entries_after k le =
     let rest : drop k (range_with_len 0 16) ≡ range_with_len k (16 - k) = drop-range k (16 - k) 0 k 16 (omega arith) (omega arith) in
-    let following : drop k shift_entries ≡ range_with_len k (16 - k) ++ replicate 16 128 =
+    let following : drop k from_entries ≡ range_with_len k (16 - k) ++ replicate 16 128 =
     drop-append-le k (range_with_len 0 16) (replicate 16 128) le ∙ ap (λ l. l ++ replicate 16 128) rest in
     let count : 16 ≡ length (range_with_len k (16 - k)) + k = omega (arith, length-range_with_len k (16 - k)) in
-    take-take 16 (32 - k) (drop k shift_entries) (omega arith)
+    take-take 16 (32 - k) (drop k from_entries) (omega arith)
     ∙ ap₂ take count following
     ∙ take-append-add (range_with_len k (16 - k)) (replicate 16 128) k
     ∙ ap (λ l. range_with_len k (16 - k) ++ l) (take-replicate k 16 128 le)
@@ -165,7 +165,7 @@ swz-append xs i (l ∷ is) js =
 
 -- The shuffle with the entries from k on moves the lanes from k on to the start, with zeros after
 -- them.
-pub moved_from : (k : ℕ) (v : List ℕ) → k ≤ 16 → length v ≡ 16 → swz_l w8 16 v 0 (take 16 (take (32 - k) (drop k shift_entries))) ≡ drop k v ++ replicate k 0
+pub moved_from : (k : ℕ) (v : List ℕ) → k ≤ 16 → length v ≡ 16 → swz_l w8 16 v 0 (take 16 (take (32 - k) (drop k from_entries))) ≡ drop k v ++ replicate k 0
 moved_from k v le long =
     let count : length (range_with_len k (16 - k)) ≡ 16 - k = length-range_with_len k (16 - k) in
     let lanes : swz_l w8 16 v 0 (range_with_len k (16 - k)) ≡ drop k v =
@@ -176,12 +176,12 @@ moved_from k v le long =
     ap (swz_l w8 16 v 0) (entries_after k le) ∙ swz-append v 0 (range_with_len k (16 - k)) (replicate k 128) ∙ ap₂ (λ a b. a ++ b) lanes none
 
 -- All entries of that table are valid in a shuffle.
-pub shift_ok : (k : ℕ) → k ≤ 16 → SwzOk w8 16 16 0 (take 16 (take (32 - k) (drop k shift_entries)))
-shift_ok k le =
-    let entries = take (32 - k) (drop k shift_entries) in
-    let each : Each1 (λ j. T (zeroes 16 w8 j || ltb j 16)) shift_entries = search rules in
+pub from_ok : (k : ℕ) → k ≤ 16 → SwzOk w8 16 16 0 (take 16 (take (32 - k) (drop k from_entries)))
+from_ok k le =
+    let entries = take (32 - k) (drop k from_entries) in
+    let each : Each1 (λ j. T (zeroes 16 w8 j || ltb j 16)) from_entries = search rules in
     SwzOk-from_Each1 w8 16 1 16 0 (take 16 entries) refl (omega (arith, length-take 16 entries))
-    (Each1-chunk _ 0 16 entries (Each1-chunk _ k (32 - k) shift_entries each))
+    (Each1-chunk _ 0 16 entries (Each1-chunk _ k (32 - k) from_entries each))
 
 -- ---- Bytes as a number
 -- The bytes of a short slice are the digits of a number in base 256, the lowest first.
