@@ -1,6 +1,6 @@
 //! Tests of the answers to whole inputs, and of writers that fail.
 //! The expected answers come from the crate `atoi_simd` 0.18.1 of Rust and from its documentation,
-//! but for the counted plus and for narrow prefixes of more than 16 digits.
+//! except for a plus that a prefix counts and for narrow prefixes of more than 16 digits.
 
 use super::answer_lines;
 use crate::devices::{Full, LimitedWriter};
@@ -11,14 +11,14 @@ use std::alloc::{AllocError, Global};
 use std::process::Abort;
 use std::test::Fail;
 
-// What is written for an input, and whether the input is good.
+// Returns what is written for an input, and whether every line of it is good.
 fn answered(alloc: Global, input: &[u8]) -> Result<(Vec<u8>, bool), Fail> {
     let mut sink = ToWriter::new(Vec::new(alloc));
     let good = answer_lines(input, &mut sink)?;
     Ok((sink.into_inner(), good))
 }
 
-// The rows with engine `l` in the place of `w`.
+// Returns the rows with engine `l` instead of `w`.
 fn on_lanes(alloc: Global, rows: &[u8]) -> Result<Vec<u8>, AllocError> {
     let mut lanes = Vec::new(alloc);
     let mut starts_row = true;
@@ -33,8 +33,8 @@ fn on_lanes(alloc: Global, rows: &[u8]) -> Result<Vec<u8>, AllocError> {
     Ok(lanes)
 }
 
-// Good rows, and their answers. Behind the fourth space any byte but a newline is one like others,
-// a space too.
+// Good rows, and then their answers. After the fourth space any byte except a newline belongs to
+// the text, also a space.
 const GOOD_ROWS: &[u8] = b"\
 w neg i8 -- 0
 w pos i8 -- 128
@@ -91,7 +91,7 @@ err atoi_simd string is empty
 err atoi_simd wrong size: 17 input: [30, 30, 30, 30, 30, 30, 30, 30, 30, 30, 30, 30, 30, 30, 30, 30, 37]
 ";
 
-// The rows have these answers, on words and on lanes.
+// Asserts that the rows have these answers, with both engines.
 fn assert_answers(rt: &impl Abort, alloc: Global, rows: &[u8], answers: &[u8]) -> Result<(), Fail> {
     let (output, good) = answered(alloc, rows)?;
     assert!(rt; good);
@@ -129,7 +129,7 @@ fn answers_otherwise_than_the_original(rt: HostRuntime) -> Result<(), Fail> {
     )
 }
 
-// `start`, a million zeros and `end`.
+// Returns `start`, a million zeros and `end`.
 fn long_row(alloc: Global, start: &[u8], end: &[u8]) -> Result<Vec<u8>, AllocError> {
     let mut row = start.to_vec(alloc)?;
     row.extend_from_slice(&vec![in alloc; b'0'; 1_000_000]?)?;
@@ -137,7 +137,8 @@ fn long_row(alloc: Global, start: &[u8], end: &[u8]) -> Result<Vec<u8>, AllocErr
     Ok(row)
 }
 
-// `start`, the rest of 48 zeros as an error shows them, and the end of the line.
+// Returns `start`, which ends with the first zero that an error shows, the 47 further zeros that it
+// shows, and the end of the line.
 fn zeros_shown(alloc: Global, start: &[u8]) -> Result<Vec<u8>, AllocError> {
     let mut shown = start.to_vec(alloc)?;
     for _ in 1..48 {
@@ -164,7 +165,7 @@ fn answers_long_rows(rt: HostRuntime) -> Result<(), Fail> {
     Ok(())
 }
 
-// No answer is longer, but for more digits of the index.
+// An answer to a row about one number is longer only if its index has more digits.
 #[test]
 fn answers_the_longest_line(rt: HostRuntime) -> Result<(), Fail> {
     let greatest = b"340282366920938463463374607431768211455x";
@@ -182,7 +183,7 @@ fn answers_the_longest_line(rt: HostRuntime) -> Result<(), Fail> {
     Ok(())
 }
 
-// That each of the lines is a bad row.
+// Asserts that each of the lines is a bad row.
 fn assert_bad_rows(rt: &impl Abort, alloc: Global, rows: &[&[u8]]) -> Result<(), Fail> {
     for row in rows {
         let mut line = row.to_vec(alloc)?;
@@ -265,13 +266,13 @@ fn answers_an_input_that_is_cut(rt: HostRuntime) -> Result<(), Fail> {
     Ok(())
 }
 
-// Four lines, one of which is bad, and the answers.
+// Four lines, one of which is bad, and then their answers.
 const LINES: &[u8] = b"w pos u8 -- 255\nw pos u8 -- 256x\n\nw neg i8 -- 128";
 
 const ANSWERS: &[u8] =
     b"ok 255\nerr atoi_simd overflow, input: [32, 35, 36, 78]\nbad row\nok -128\n";
 
-// The answers have 7, 48, 8 and 8 bytes, and one write holds bytes of one of them alone.
+// The answers have 7, 48, 8 and 8 bytes, and no write has bytes of two answers.
 #[test]
 fn writes_in_parts_of_any_size(rt: HostRuntime) -> Result<(), Fail> {
     for (part, writes) in [(1, 71), (2, 36), (7, 12), (1000, 4)] {
@@ -288,8 +289,8 @@ fn writes_in_parts_of_any_size(rt: HostRuntime) -> Result<(), Fail> {
     Ok(())
 }
 
-// That a writer with room for the bytes of `written` gets these and no more, also where it would
-// take more then, and that its refusal is told.
+// Asserts that a writer with room for the bytes of `written` gets these and no more, even if it has
+// room again after it was full, and that the error is `Write`.
 fn check_refused_write(rt: &impl Abort, alloc: Global, written: &[u8], full: Full) {
     for room_then in [0, 1000] {
         let mut sink = ToWriter::new(LimitedWriter {
