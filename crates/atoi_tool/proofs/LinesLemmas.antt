@@ -1,4 +1,4 @@
--- The first line of an input.
+-- Lemmas about the first line of an input.
 use Rattle.std.proofs.Common.{◌≡◌, ℕ, ◌+◌, ◌<◌, ◌≤◌, ◌==◌, List, [], ◌∷◌, length, take, drop, Some, None, Bool, refl, subst, ◌∙◌, arith}
 use Rattle.std.specs.List.{position, position_or_len}
 use Rattle.std.proofs.lemmas.List.{take_all, drop_all}
@@ -9,21 +9,22 @@ use Rattle.atoi_tool.specs.Output.{newline, lines_of}
 abbrev is_newline : ℕ → Bool
 is_newline byte = byte == newline
 
--- the place that was found is within the list, and the first
+-- An index that `position` finds is within the list, and `position_or_len` is that index.
 found_at : (p : ℕ → Bool) (xs : List ℕ) (n : ℕ) → position p xs ≡ Some n → (position_or_len p xs ≡ n) × (n < length xs)
 found_at p xs n found = grind (arith, nat_tests)
 
--- where none was found no element passes
+-- If `position` finds nothing, then `position_or_len` is at least the length of the list.
 none_found : (p : ℕ → Bool) (xs : List ℕ) → position p xs ≡ None → length xs ≤ position_or_len p xs
 none_found p xs absent = grind (arith, nat_tests)
 
--- an input with a newline: the first line stands before the first one
+-- If an input has a newline, its first line is what is before the first newline, and the other lines are
+-- those of what is after it.
 pub lines_of-newline : FirstField → (xs : List ℕ) (n : ℕ) → position is_newline xs ≡ Some n → lines_of xs ≡ take n xs ∷ lines_of (drop (n + 1) xs)
 lines_of-newline law xs n found =
     let at = found_at is_newline xs n found in
     subst (λ k. lines_of xs ≡ take k xs ∷ lines_of (drop (k + 1) xs)) at.0 (law newline xs (omega arith))
 
--- an input with no newline is one line
+-- An input without a newline, but with some byte, is one line.
 pub lines_of-last : FirstField → (xs : List ℕ) → 0 < length xs → position is_newline xs ≡ None → lines_of xs ≡ xs ∷ []
 lines_of-last law xs some absent =
     let end = none_found is_newline xs absent in

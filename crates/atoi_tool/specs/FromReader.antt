@@ -1,11 +1,11 @@
--- What a clause reads of a `FromReader`.
+-- What contracts can say of a `FromReader`.
 use Rattle.std.specs.Prelude.{ℕ}
 use Rattle.atoi_tool.specs.declared.source.FromReader.{FromReader}
 
--- `source.into_inner()`
+-- The reader that `source.into_inner()` returns.
 abbrev pub from_reader_inner : {R : Type 0} → FromReader R → R
 from_reader_inner source = source.inner
 
--- how many takes were refused so far
+-- How many calls of `take` were refused so far.
 abbrev pub from_reader_failures : {R : Type 0} → FromReader R → ℕ
 from_reader_failures source = source.failures

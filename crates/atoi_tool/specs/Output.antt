@@ -1,30 +1,30 @@
--- The output to an input.
+-- The output of the tool for an input.
 use Rattle.std.specs.Prelude.{Bool, ℕ, List, [], ◌∷◌, ◌++◌}
 use Rattle.std.specs.List.{flat_map, list_all}
 use Rattle.atoi_column.specs.Fields.{fields_of}
 use Rattle.atoi_tool.specs.declared.request.Query.{Query}
 use Rattle.atoi_tool.specs.Answer.{query_text, is_good_line, line_answer}
 
--- the byte that ends a line
+-- The byte that ends a line.
 abbrev pub newline : ℕ
 newline = 10
 
--- the lines of an input: its fields, ended by newlines
+-- The lines of an input are its fields when a newline is the separator.
 abbrev pub lines_of : List ℕ → List (List ℕ)
 lines_of input = fields_of newline input
 
--- the answer to a row, ended by a newline
+-- The answer to a row, with a newline after it.
 abbrev pub row_output : Query → List ℕ → List ℕ
 row_output query text = query_text query text ++ newline ∷ []
 
--- the answer to a line, ended by a newline
+-- The answer to a line, with a newline after it.
 abbrev pub line_output : List ℕ → List ℕ
 line_output line = line_answer line ++ newline ∷ []
 
--- the answers to the lines in order
+-- The answers to all lines, in order.
 abbrev pub output_of : List ℕ → List ℕ
 output_of input = flat_map line_output (lines_of input)
 
--- no line is bad
+-- Every line is good.
 abbrev pub is_good_input : List ℕ → Bool
 is_good_input input = list_all is_good_line (lines_of input)

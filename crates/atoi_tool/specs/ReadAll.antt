@@ -1,9 +1,9 @@
--- When reading all of the input fails.
+-- Which error `read_all` returns.
 use Rattle.std.specs.Prelude.{◌≡◌, ℕ, ◌+◌, Result, Ok, Err}
 use Rattle.atoi_tool.specs.declared.status.ToolError.{ToolError}
 use Rattle.atoi_tool.specs.declared.status.ToolError.TheVariants.{Memory, Read, Write}
 
--- the error is `Read` exactly where a take was refused, and then one was; it is never `Write`
+-- If the error is `Read`, exactly one call of `take` was refused; else none was. It is never `Write`.
 abbrev pub ReadAllCounts : {A : Type 0} → ℕ → ℕ → Result A ToolError → Type 0
 ReadAllCounts old new (Ok bytes) = new ≡ old
 ReadAllCounts old new (Err Memory) = new ≡ old

@@ -1,4 +1,4 @@
--- What the words of a row name, and which rows there are.
+-- What the words of a row name, and which rows have an answer.
 use Rattle.std.specs.Prelude.{Option, Some, None, Bool, true, false, List, ℕ, codes, ◌&&◌, if◌then◌else◌}
 use Rattle.std.specs.Str.{bytes_eq}
 use Rattle.atoi_core.specs.IntType.{IntType}
@@ -12,13 +12,13 @@ use Rattle.atoi_tool.specs.declared.request.Integer.TheVariants.{U8, I8, U16, I1
 use Rattle.atoi_tool.specs.declared.request.Flags.{Flags}
 use Rattle.atoi_tool.specs.declared.request.Request.{Request}
 
--- the engine of a word
+-- The engine that a word names, `None` if it names none.
 abbrev pub engine_of : List ℕ → Option Engine
 engine_of word =
     if bytes_eq word (codes "w") then Some Words else (if bytes_eq word (codes "l") then Some Lanes
     else None)
 
--- the call of a word
+-- The call that a word names, `None` if it names none.
 abbrev pub call_of : List ℕ → Option Call
 call_of word =
     if bytes_eq word (codes "parse") then Some Parse else (if bytes_eq word (codes "pos") then Some Pos
@@ -26,7 +26,7 @@ call_of word =
     else (if bytes_eq word (codes "prefix_pos") then Some PrefixPos
     else (if bytes_eq word (codes "prefix_neg") then Some PrefixNeg else None)))))
 
--- the integer type of a word
+-- The integer type that a word names, `None` if it names none.
 abbrev pub integer_of : List ℕ → Option Integer
 integer_of word =
     if bytes_eq word (codes "u8") then Some U8 else (if bytes_eq word (codes "i8") then Some I8
@@ -40,7 +40,8 @@ integer_of word =
 abbrev flags : Bool → Bool → Flags
 flags zeroes plus = record { zeroes = zeroes; plus = plus }
 
--- the flags of a word: `z` for zeros and `p` for a plus, each a `-` where it is off
+-- The flags that a word names: `z` for zeros, then `p` for a plus, and a `-` for each of the two that
+-- is off. Any other word names none.
 abbrev pub flags_of : List ℕ → Option Flags
 flags_of word =
     if bytes_eq word (codes "--") then Some (flags false false)
@@ -48,7 +49,7 @@ flags_of word =
     else (if bytes_eq word (codes "-p") then Some (flags false true)
     else (if bytes_eq word (codes "zp") then Some (flags true true) else None)))
 
--- what a parse has to know of a type
+-- What the definition of an answer reads of a type: its bits, whether it is signed, its largest value.
 abbrev pub int_type_of : Integer → IntType
 int_type_of U8 = u8_type
 int_type_of I8 = i8_type
@@ -63,20 +64,20 @@ int_type_of I128 = i128_type
 int_type_of Usize = usize_type
 int_type_of Isize = isize_type
 
--- the call takes a sign at the front of its text
+-- The call accepts a sign at the start of its text.
 abbrev pub takes_sign : Call → Bool
 takes_sign Parse = true
 takes_sign Prefix = true
 takes_sign call = false
 
--- the call reads a negative number, without its sign
+-- The call reads the magnitude (the value without its sign) of a number that is negative or zero.
 abbrev pub is_negative : Call → Bool
 is_negative Neg = true
 is_negative PrefixNeg = true
 is_negative call = false
 
--- there is an answer to such a row: a plus is looked for only by a call that takes a sign, and only a signed type has
--- negative numbers
+-- Such a row has an answer: the flag for a plus is on only in a call that accepts a sign, and a call
+-- that reads the magnitude of a negative number has a signed type.
 abbrev pub is_known : Request → Bool
 is_known request =
     (if request.flags.plus then takes_sign request.call else true)

@@ -1,4 +1,4 @@
--- A line as a row: four words and a text, with one space behind each word.
+-- A line as a row: four words, with one space after each, and a text.
 use Rattle.std.specs.Prelude.{◌≡◌, Option, Some, None, ℕ, ◌+◌, ◌-◌, ◌*◌, ◌==◌, ◌&&◌, nat_le, true, List, [], ◌∷◌, take, drop, position, codes, option_and_then, if◌then◌else◌}
 use Rattle.std.specs.Option.{option_map}
 use Rattle.std.specs.Str.{bytes_eq}
@@ -11,36 +11,37 @@ use Rattle.atoi_tool.specs.Request.{engine_of, call_of, integer_of, flags_of, is
 abbrev pub space : ℕ
 space = 32
 
--- what stands before the first space, and what stands behind it; none where there is no space
+-- What is before the first space, and what is after it; `None` if there is no space.
 abbrev pub cut : List ℕ → Option (List ℕ × List ℕ)
 cut line = option_map (λ place. (take place line, drop (place + 1) line)) (position (λ byte. byte == space) line)
 
--- what four words ask for, where each of them names something
+-- What four words ask for; `None` if one of them names nothing.
 abbrev pub named_request : (engine_word call_word integer_word flags_word : List ℕ) → Option Request
 named_request engine_word call_word integer_word flags_word =
     option_and_then (λ engine. option_and_then (λ call. option_and_then (λ integer. option_map
     (λ flags. record { engine = engine; call = call; integer = integer; flags = flags })
     (flags_of flags_word)) (integer_of integer_word)) (call_of call_word)) (engine_of engine_word)
 
--- the same, where there is an answer to such a row
+-- What four words ask for; `None` if one of them names nothing, or if such a row has no answer.
 abbrev pub request_of : (engine_word call_word integer_word flags_word : List ℕ) → Option Request
 request_of engine_word call_word integer_word flags_word =
     option_and_then (λ request. if is_known request then Some request else None)
     (named_request engine_word call_word integer_word flags_word)
 
--- a hexadecimal digit in capitals
+-- The digit value of a hexadecimal digit, whose letters must be capitals.
 abbrev pub hex_digit : ℕ → Option ℕ
 hex_digit byte =
     if nat_le 48 byte && nat_le byte 57 then Some (byte - 48)
     else (if nat_le 65 byte && nat_le byte 70 then Some (byte - 65 + 10) else None)
 
--- the byte that two hexadecimal digits in capitals write
+-- The byte that two hexadecimal digits spell.
 abbrev pub byte_of : List ℕ → Option ℕ
 byte_of (high ∷ low ∷ []) =
     option_and_then (λ sixteens. option_map (λ ones. 16 * sixteens + ones) (hex_digit low)) (hex_digit high)
 byte_of word = None
 
--- a column, where the separator may stand between fields; the engine is the one on words
+-- The column that three words ask for; `None` if the engine is not `w`, if another word names nothing, or
+-- if the separator may not separate fields.
 abbrev pub column_of : (engine_word integer_word separator_word : List ℕ) → Option Query
 column_of engine_word integer_word separator_word =
     if bytes_eq engine_word (codes "w") then option_and_then (λ integer. option_and_then
@@ -48,19 +49,19 @@ column_of engine_word integer_word separator_word =
     (byte_of separator_word)) (integer_of integer_word)
     else None
 
--- what four words ask for: the call `column` has a separator where the others have flags
+-- What four words ask for. The last word is a separator if the call is `column`, and flags in other calls.
 abbrev pub query_of : (engine_word call_word integer_word last_word : List ℕ) → Option Query
 query_of engine_word call_word integer_word last_word =
     if bytes_eq call_word (codes "column") then column_of engine_word integer_word last_word
     else option_map (λ request. Number request) (request_of engine_word call_word integer_word last_word)
 
--- there is an answer to such a row
+-- Such a row has an answer.
 abbrev pub IsAnswered : Query → Type 0
 IsAnswered (Number request) = is_known request ≡ true
 IsAnswered (Column integer separator) = is_separator separator ≡ true
 
--- what a line asks for, and the text behind its fourth space, which may hold more of them; none where the
--- line is a bad row
+-- What a line asks for, and the text after its fourth space, which may have more spaces; `None` if the line
+-- is a bad row.
 abbrev pub row_of : List ℕ → Option (Query × List ℕ)
 row_of line =
     option_and_then (λ engine. option_and_then (λ call. option_and_then (λ integer. option_and_then

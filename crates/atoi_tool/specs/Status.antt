@@ -1,9 +1,9 @@
--- The status that the program ends with, and what it says of a fault.
+-- The exit status of the program, and what it prints for an error.
 use Rattle.std.specs.Prelude.{ℕ, List, codes, Bool, true, false, Result, Ok, Err}
 use Rattle.atoi_tool.specs.declared.status.ToolError.{ToolError}
 use Rattle.atoi_tool.specs.declared.status.ToolError.TheVariants.{Memory, Read, Write}
 
--- 0 where every row was good, 2 where a row was bad, and a number for each fault
+-- The exit status is 0 if every row was good, 2 if a row was bad, and a number of its own for each error.
 abbrev pub status_of : Result Bool ToolError → ℕ
 status_of (Ok true) = 0
 status_of (Ok false) = 2
@@ -11,7 +11,7 @@ status_of (Err Memory) = 3
 status_of (Err Read) = 4
 status_of (Err Write) = 5
 
--- what the program says of a fault
+-- What the program prints for an error.
 abbrev pub tool_error_text : ToolError → List ℕ
 tool_error_text Memory = codes "out of memory"
 tool_error_text Read = codes "cannot read input"

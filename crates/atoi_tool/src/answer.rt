@@ -1,4 +1,4 @@
-//! The answer to a row about one number. It uses `request`, `calls`, `printed` and `line`.
+//! Writes the answer to a row about one number. It uses `request`, `calls`, `printed` and `line`.
 ghost use Rattle.std.specs.Prelude.{◌≡◌, ◌≤◌, [], true, false, length};
 ghost use Rattle.atoi_tool.specs.Request.{is_known, is_negative};
 ghost use Rattle.atoi_tool.specs.Answer.{call_text, row_text};
@@ -9,7 +9,8 @@ use crate::printed::{LONGEST, push_prefix, push_whole};
 use crate::request::{Call, Integer, Request};
 use atoi_simd::lanes;
 
-// Writes the answer to a row of any type, whose call reads no negative number.
+// Writes the answer to a row of type `T`, signed or not. The call must not be `neg` or
+// `prefix_neg`, which only signed types have.
 fn answer_any<T: atoi_simd::Parse + lanes::Parse>(request: &Request, text: &[u8], out: &mut Line)
     requires call { is_negative request.now.call ≡ false }
     requires empty { out.old ≡ [] }
@@ -27,7 +28,7 @@ fn answer_any<T: atoi_simd::Parse + lanes::Parse>(request: &Request, text: &[u8]
     }
 }
 
-// Writes the answer to a row of a type with negative numbers, whatever its call.
+// Writes the answer to a row of a signed type `T`, whatever its call.
 fn answer_signed<T: atoi_simd::Parse + lanes::Parse + atoi_simd::ParseNeg + lanes::ParseNeg>(
     request: &Request,
     text: &[u8],
@@ -46,7 +47,8 @@ fn answer_signed<T: atoi_simd::Parse + lanes::Parse + atoi_simd::ParseNeg + lane
     }
 }
 
-/// Writes the answer to a row about one number, which has to be one that there is an answer to.
+/// Writes the answer to a row about one number to `out`. The row must be one that has an answer
+/// (`Request::is_known`), and `out` must be empty.
 pub fn answer_row(request: &Request, text: &[u8], out: &mut Line)
     requires known { is_known request.now ≡ true }
     requires empty { out.old ≡ [] }

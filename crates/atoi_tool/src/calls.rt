@@ -1,6 +1,6 @@
-//! The calls of both libraries, with the engine and the flags as values. Both answer alike, so no
-//! clause tells which was called. It uses `request`, six functions of `atoi_simd`, and those of its
-//! module `lanes`.
+//! The calls of both libraries, with the engine and the flags as values. Both libraries return the
+//! same, so no clause names the engine. It uses `request`, six functions of `atoi_simd`, and those
+//! of its module `lanes`.
 ghost use Rattle.std.specs.Prelude.{◌≡◌, true, false};
 ghost use Rattle.atoi_core.specs.Answer.{typed_answer, typed_prefix_answer, whole_answer, prefix_answer, parse_answer, parse_prefix_answer};
 ghost use Rattle.atoi_core.specs.Digit.{decimal_table};
@@ -8,7 +8,7 @@ ghost use Rattle.atoi_core.specs.Digit.{decimal_table};
 use crate::request::{Engine, Flags};
 use atoi_simd::{AtoiSimdError, lanes};
 
-/// At most one sign and a whole text.
+/// Parses all of `text`, which may start with a sign.
 pub fn parse<T: atoi_simd::Parse + lanes::Parse>(
     engine: Engine,
     flags: Flags,
@@ -29,7 +29,7 @@ pub fn parse<T: atoi_simd::Parse + lanes::Parse>(
     }
 }
 
-/// A whole text with no sign. The flag for a plus is not looked at.
+/// Parses all of `text`, without a sign. The flag for a plus has no effect.
 pub fn parse_pos<T: atoi_simd::Parse + lanes::Parse>(
     engine: Engine,
     flags: Flags,
@@ -46,8 +46,8 @@ pub fn parse_pos<T: atoi_simd::Parse + lanes::Parse>(
     }
 }
 
-/// A whole text with no sign, read as the magnitude of a number that is not positive. The flag for
-/// a plus is not looked at.
+/// Parses all of `text`, without a sign, as the magnitude of a number that is negative or zero. The
+/// flag for a plus has no effect.
 pub fn parse_neg<T: atoi_simd::ParseNeg + lanes::ParseNeg>(
     engine: Engine,
     flags: Flags,
@@ -64,7 +64,8 @@ pub fn parse_neg<T: atoi_simd::ParseNeg + lanes::ParseNeg>(
     }
 }
 
-/// At most one sign and the number at the front of a text, and how many bytes these are.
+/// Parses the number at the start of `text`, which may start with a sign, and returns it with the
+/// number of its bytes, the sign included.
 pub fn parse_prefix<T: atoi_simd::Parse + lanes::Parse>(
     engine: Engine,
     flags: Flags,
@@ -85,8 +86,8 @@ pub fn parse_prefix<T: atoi_simd::Parse + lanes::Parse>(
     }
 }
 
-/// The number at the front of a text, with no sign, and how many bytes it is. The flag for a plus
-/// is not looked at.
+/// Parses the number at the start of `text`, without a sign, and returns it with the number of its
+/// bytes. The flag for a plus has no effect.
 pub fn parse_prefix_pos<T: atoi_simd::Parse + lanes::Parse>(
     engine: Engine,
     flags: Flags,
@@ -104,8 +105,8 @@ pub fn parse_prefix_pos<T: atoi_simd::Parse + lanes::Parse>(
     }
 }
 
-/// The magnitude at the front of a text, with no sign, of a number that is not positive, and how
-/// many bytes it is. The flag for a plus is not looked at.
+/// Parses the digits at the start of `text` as the magnitude of a number that is negative or zero,
+/// and returns it with the number of its bytes. The flag for a plus has no effect.
 pub fn parse_prefix_neg<T: atoi_simd::ParseNeg + lanes::ParseNeg>(
     engine: Engine,
     flags: Flags,

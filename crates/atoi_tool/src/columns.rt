@@ -1,5 +1,5 @@
-//! The answer to a row about a column, written item by item, since it has no bound. It uses
-//! `atoi_column`, and `request`, `printed`, `line`, `put` and `refused`.
+//! Writes the answer to a row about a column, item by item, since its length has no bound. It uses
+//! `atoi_column`, the trait `Sink`, and `request`, `printed`, `line`, `put` and `refused`.
 ghost use Rattle.std.specs.Prelude.{◌≡◌, ◌+◌, ◌++◌, true, codes, OnOk, OnErr};
 ghost use Rattle.std.specs.List.{flat_map};
 ghost use Rattle.std.specs.Io.KnownBytes.{Appends};
@@ -17,7 +17,7 @@ use crate::sink::Sink;
 use atoi_column::Column;
 use atoi_simd::Parse;
 
-// Puts the items that a column has still to give.
+// Writes the items that are left in `column` to `output`.
 fn put_items<T: Parse, S: Sink>(column: Column<'_, T>, output: &mut S) -> Result<(), Refused>
     ensures ok { OnOk result
         (Appends (S.held output.old) (S.held output.new) (flat_map item_text column.entry)) }
@@ -33,7 +33,7 @@ fn put_items<T: Parse, S: Sink>(column: Column<'_, T>, output: &mut S) -> Result
     Ok(())
 }
 
-// Puts the answer to a column of a type.
+// Writes the answer to a row about a column of type `T` to `output`.
 fn put_items_of<T: Parse, S: Sink>(
     separator: u8,
     text: &[u8],
@@ -50,11 +50,11 @@ fn put_items_of<T: Parse, S: Sink>(
     put_items(Column::<T>::new(text, separator), output)
 }
 
-/// Puts the answer to a row about a column.
+/// Writes the answer to a row about a column to `output`, without a newline.
 ///
 /// # Errors
 ///
-/// `Refused` where a put was refused, and then a beginning of the answer was put.
+/// `Refused` if a call of `put` is refused; a proper prefix of the answer was written then.
 pub fn put_column<S: Sink>(
     integer: Integer,
     separator: u8,

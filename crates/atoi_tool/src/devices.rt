@@ -1,5 +1,5 @@
-//! Readers, writers and a standard error of the tests' own, which fail where a test says so. They
-//! use std alone.
+//! Readers, writers and a standard error for the tests, which fail when a test wants them to. They
+//! use only std.
 
 use std::alloc::Global;
 use std::cell::{Cell, RefCell};
@@ -7,8 +7,8 @@ use std::fmt::Display;
 use std::io;
 use std::io::{ErrorKind, Read, Write};
 
-/// A reader of `rest`, `part` bytes a call, whose call of the number `failing` fails with `error`.
-/// None fails where the number is 0. It counts its calls.
+/// A reader of `rest` that returns at most `part` bytes a call. Call number `failing`, counted from
+/// 1, fails with `error`; if `failing` is 0, no call fails. The reader counts its calls.
 #[derive(Drop)]
 pub(crate) struct FailingReader<'a> {
     pub(crate) rest: &'a [u8],
@@ -19,7 +19,7 @@ pub(crate) struct FailingReader<'a> {
 }
 
 impl<'a> FailingReader<'a> {
-    /// A reader of `rest`, `part` bytes a call, of which no call fails.
+    /// Returns a reader of `rest` that returns at most `part` bytes a call and never fails.
     pub(crate) fn new(rest: &'a [u8], part: usize) -> FailingReader<'a> {
         FailingReader {
             rest,
@@ -46,7 +46,7 @@ impl Read for FailingReader<'_> {
     }
 }
 
-/// What a writer does that has no room.
+/// What a writer does when it has no room.
 #[derive(Clone, Copy)]
 pub(crate) enum Full {
     Fails,
@@ -54,8 +54,8 @@ pub(crate) enum Full {
     TakesNone,
 }
 
-/// A writer that takes `part` bytes a call at most, and `room` bytes until it is full. It is full
-/// for one call, and then has room for `room_then` bytes more. It counts its calls.
+/// A writer that accepts at most `part` bytes a call, and `room` bytes until it is full. It is full
+/// for one call, and then has room for `room_then` more bytes. It counts its calls.
 #[derive(Drop)]
 pub(crate) struct LimitedWriter {
     pub(crate) held: Vec<u8>,
@@ -68,7 +68,7 @@ pub(crate) struct LimitedWriter {
 }
 
 impl LimitedWriter {
-    /// A writer that holds nothing yet, takes five bytes a call at most, and stays full.
+    /// Returns an empty writer that accepts at most five bytes a call and, once full, stays full.
     pub(crate) fn new(alloc: Global, room: usize, full: Full) -> LimitedWriter {
         LimitedWriter {
             held: Vec::new(alloc),
@@ -105,8 +105,8 @@ impl Write for LimitedWriter {
     }
 }
 
-/// A standard error that keeps what it is told, from the call of the number `first` on, and refuses
-/// what comes before. It counts its calls from 1.
+/// A standard error that keeps what is printed to it from call number `first` on. The calls before
+/// that one fail. It counts its calls from 1.
 #[derive(Drop)]
 pub(crate) struct Errors {
     pub(crate) reported: RefCell<Vec<u8>>,
@@ -115,7 +115,7 @@ pub(crate) struct Errors {
 }
 
 impl Errors {
-    /// A standard error that was told nothing yet.
+    /// Returns a standard error to which nothing was printed yet.
     pub(crate) fn new(alloc: Global, first: usize) -> Errors {
         Errors {
             reported: RefCell::new(Vec::new(alloc)),

@@ -1,4 +1,4 @@
-//! The input as a whole. It uses the trait `Source`, and `status` for what stops it.
+//! Reads the whole input into memory. It uses the trait `Source`, and `status` for the errors.
 ghost use Rattle.std.specs.Prelude.{◌≡◌, ◌≢◌, IfOk, IfErr, OnOk};
 ghost use Rattle.std.specs.Io.KnownBytes.{Consumes, IsAtEnd};
 ghost use Rattle.atoi_tool.specs.ReadAll.{ReadAllCounts};
@@ -7,16 +7,16 @@ use crate::source::Source;
 use crate::status::ToolError;
 use std::alloc::{Allocator, Global};
 
-// How many bytes are asked for at once.
+// The largest number of bytes that one call of `take` can return.
 const PART: usize = 4096;
 
-/// All bytes of `input` up to its end.
+/// Returns all bytes of `input` up to its end.
 ///
 /// # Errors
 ///
-/// `Read` where a `take` was refused, and `Memory` where the vector could not grow: for a source
-/// that never ends, at the latest where it cannot be longer. Nothing is handed back then, and what
-/// was taken from the source stays taken.
+/// `Read` if a call of `take` is refused, and `Memory` if the vector cannot grow. A source that
+/// never ends leads to `Memory`, at the latest once the vector has the largest possible length.
+/// The bytes that were taken before an error are lost.
 pub fn read_all<S: Source>(alloc: Global, input: &mut S) -> Result<Vec<u8>, ToolError>
     ensures all { IfOk result
         (λ bytes. Consumes (S.rest input.old) (S.rest input.new) bytes.items) }
@@ -26,7 +26,7 @@ pub fn read_all<S: Source>(alloc: Global, input: &mut S) -> Result<Vec<u8>, Tool
     read_all_in(alloc, input)
 }
 
-// The same with any allocator.
+// Does what `read_all` does, with any allocator: the tests use heaps of fixed sizes.
 fn read_all_in<S: Source, A: Allocator>(alloc: A, input: &mut S) -> Result<Vec<u8, A>, ToolError>
     ensures all { IfOk result
         (λ bytes. Consumes (S.rest input.old) (S.rest input.new) bytes.items) }

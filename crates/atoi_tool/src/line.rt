@@ -1,13 +1,13 @@
-//! A line of output while it is made. It uses no other module.
+//! A buffer in which a line of output is put together. It uses no other module.
 ghost use Rattle.std.specs.Prelude.{◌≡◌, ◌+◌, ◌≤◌, ℕ, List, [], ◌++◌, length, take};
 
 use std::marker::Model;
 
-/// How many bytes a line can hold: more than any answer about one number has, and than any item of
-/// a column.
+/// How many bytes a line can hold. The answer to a row about one number is shorter, and so is an
+/// item of a column.
 pub const ROOM: usize = 440;
 
-/// The bytes of a line so far, at most `ROOM`.
+/// The bytes of a line so far, at most `ROOM` of them.
 #[derive(Drop)]
 pub struct Line {
     bytes: [u8; ROOM],
@@ -23,7 +23,7 @@ impl Model for Line {
 }
 
 impl Line {
-    /// A line with no byte.
+    /// Returns an empty line.
     pub fn new() -> Line
         ensures { result ≡ [] }
     {
@@ -33,14 +33,14 @@ impl Line {
         }
     }
 
-    /// The bytes so far.
+    /// Returns the bytes so far.
     pub fn as_bytes(&self) -> &[u8]
         ensures { result.now ≡ self.now }
     {
         &self.bytes[..self.len]
     }
 
-    /// Appends `bytes`, for which there has to be room.
+    /// Appends `bytes`. There must be room for all of them.
     pub fn push(&mut self, bytes: &[u8])
         requires { length self.old + length bytes.now ≤ ROOM }
         ensures { self.new ≡ self.old ++ bytes.now }

@@ -1,6 +1,5 @@
-//! The answers to all lines of an input, written to a sink. It uses the trait `Sink`, `row`,
-//! `answer` and `columns`, `line`, `place`, `put`, `refused` and `status`, and a law of
-//! `atoi_column`.
+//! Writes the answers to all lines of an input to a sink. It uses the trait `Sink`, `row`, `answer`
+//! and `columns`, `line`, `place`, `put`, `refused` and `status`, and a law of `atoi_column`.
 ghost use Rattle.std.specs.Prelude.{◌≡◌, ◌+◌, ◌<◌, [], ◌∷◌, length, IfOk, IfErr, OnOk, OnErr};
 ghost use Rattle.std.specs.Io.KnownBytes.{Appends};
 ghost use Rattle.atoi_tool.specs.Failures.{failures_of, AppendsPrefix};
@@ -20,13 +19,14 @@ use crate::sink::Sink;
 use crate::status::ToolError;
 use atoi_column::laws::first_field;
 
-// The first line of an input that has one, and what stands behind it.
+// Returns the first line of an input, without its newline, and what follows that line. The input
+// has at least one byte.
 fn first_line(input: &[u8]) -> (&[u8], &[u8])
     requires { 0 < length input.now }
     ensures lines { lines_of input.now ≡ result.0.now ∷ lines_of result.1.now }
     ensures shorter { length result.1.now < length input.now }
 {
-    // The law of the first line. The call does nothing.
+    // Makes the law about the first field known to the proof. The call does nothing when it runs.
     first_field();
     match place_of(b'\n', input) {
         Some(end) => (&input[..end], &input[end + 1..]),
@@ -34,7 +34,7 @@ fn first_line(input: &[u8]) -> (&[u8], &[u8])
     }
 }
 
-// Writes the answer to a row, and a newline behind it.
+// Writes the answer to a row, and a newline after it.
 fn put_row<S: Sink>(query: Query, text: &[u8], output: &mut S) -> Result<(), Refused>
     requires { IsAnswered query }
     ensures ok { OnOk result
@@ -57,7 +57,7 @@ fn put_row<S: Sink>(query: Query, text: &[u8], output: &mut S) -> Result<(), Ref
     }
 }
 
-// Writes the answer to one line, and answers whether the line is good.
+// Writes the answer to one line, and returns whether the line is a good row.
 fn put_answer<S: Sink>(line: &[u8], output: &mut S) -> Result<bool, Refused>
     ensures ok { OnOk result
         (Appends (S.held output.old) (S.held output.new) (line_output line.now)) }
@@ -79,12 +79,12 @@ fn put_answer<S: Sink>(line: &[u8], output: &mut S) -> Result<bool, Refused>
     }
 }
 
-/// Writes the answer to each line of `input` to `output`, and answers whether no line was bad.
+/// Writes the answer to each line of `input` to `output`, and returns whether every line was good.
 ///
 /// # Errors
 ///
-/// `Write` where a put was refused, and then a beginning of the whole output was written. It takes
-/// no memory of its own and reads nothing, so it answers no other error.
+/// `Write` if a call of `put` is refused; a proper prefix of the whole output was written then. The
+/// function allocates nothing and reads nothing, so it returns no other error.
 pub fn answer_lines<S: Sink>(input: &[u8], output: &mut S) -> Result<bool, ToolError>
     ensures output { OnOk result
         (Appends (S.held output.old) (S.held output.new) (output_of input.now)) }

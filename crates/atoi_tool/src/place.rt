@@ -1,7 +1,7 @@
-//! The place of a byte in a slice. It uses no other module.
+//! Finds a byte in a slice. It uses no other module.
 ghost use Rattle.std.specs.Prelude.{◌≡◌, ◌<◌, ◌==◌, IfSome, length, position};
 
-/// The place of the first `sought` among `bytes`, if there is one.
+/// Returns the index of the first `sought` in `bytes`, or `None` if there is none.
 pub fn place_of(sought: u8, bytes: &[u8]) -> Option<usize>
     ensures first { result ≡ position (λ byte. byte == sought) bytes.now }
     ensures within { IfSome result (λ place. place < length bytes.now) }

@@ -1,5 +1,5 @@
-//! The text of an answer, for a value of any integer type. It uses `line`, and the texts of
-//! `atoi_core`.
+//! The text of an answer, for a value of any integer type. It uses `line`, the texts of
+//! `atoi_core`, and the errors of `atoi_column`.
 ghost use Rattle.std.specs.Prelude.{◌≡◌, ◌+◌, ◌≤◌, [], ◌++◌, length, decimal, codes};
 ghost use Rattle.std.specs.Fmt.{signed_decimal};
 ghost use Rattle.atoi_core.specs.Refusal.{refusal_of};
@@ -13,18 +13,20 @@ use crate::line::{Line, ROOM};
 use atoi_column::ColumnError;
 use atoi_core::{AtoiSimdError, Number, decimal};
 
-/// How many bytes an answer has at most: that to a byte that is no digit, of a type of 128 bits.
+/// The largest number of bytes in the answer to a row about one number: `err ` and the longest
+/// error.
 pub const LONGEST: usize = 336;
 
-// How many digits a number has at most.
+// The largest number of digits that a value has.
 const DIGITS: usize = 39;
 
-// How many bytes the text of an error has at most, and the room that it is written in.
+// The largest number of bytes in the text of an error, and the size of the array that the text is
+// written to. The longest text is that of `Invalid128`.
 const LONGEST_ERROR: usize = 332;
 
 const ERROR_ROOM: usize = 400;
 
-// Appends a number in decimal.
+// Appends `value` in decimal.
 fn push_decimal(value: u128, out: &mut Line)
     requires { length out.old + DIGITS ≤ ROOM }
     ensures text { out.new ≡ out.old ++ decimal value }
@@ -35,7 +37,7 @@ fn push_decimal(value: u128, out: &mut Line)
     out.push(&digits[..count]);
 }
 
-// Appends a number in decimal, with a `-` before a negative one.
+// Appends the number of this magnitude in decimal, with a `-` before it if it is negative.
 fn push_number(minus: bool, magnitude: u128, out: &mut Line)
     requires { length out.old + 1 + DIGITS ≤ ROOM }
     ensures text { out.new ≡ out.old ++ signed_decimal (with_sign minus magnitude) }
@@ -58,7 +60,7 @@ fn push_error(error: &AtoiSimdError<'_>, out: &mut Line)
     out.push(&text[..count]);
 }
 
-// Appends why there is no value.
+// Appends `err ` and the text of an error.
 fn push_refusal(error: &AtoiSimdError<'_>, out: &mut Line)
     requires { out.old ≡ [] }
     ensures text { out.new ≡ refusal_text (refusal_of error.now) }
@@ -68,7 +70,7 @@ fn push_refusal(error: &AtoiSimdError<'_>, out: &mut Line)
     push_error(error, out);
 }
 
-/// Appends a value, or why there is none.
+/// Appends the answer to a parse of a whole text: its value, or its error.
 pub fn push_whole<T: Number>(outcome: Result<T, AtoiSimdError<'_>>, out: &mut Line)
     requires { out.old ≡ [] }
     ensures text { out.new ≡ whole_text (typed_answer T.number outcome.entry) }
@@ -84,7 +86,7 @@ pub fn push_whole<T: Number>(outcome: Result<T, AtoiSimdError<'_>>, out: &mut Li
     }
 }
 
-/// Appends a value and how many bytes it is, or why there is none.
+/// Appends the answer to a parse of a prefix: its value and the number of its bytes, or its error.
 pub fn push_prefix<T: Number>(outcome: Result<(T, usize), AtoiSimdError<'_>>, out: &mut Line)
     requires { out.old ≡ [] }
     ensures text { out.new ≡ prefix_text (typed_prefix_answer T.number outcome.entry) }
@@ -102,7 +104,7 @@ pub fn push_prefix<T: Number>(outcome: Result<(T, usize), AtoiSimdError<'_>>, ou
     }
 }
 
-// Appends the number of a field, and a place.
+// Appends the index of a field and an offset in the input of a column, with a space between them.
 fn push_index_and_place(index: usize, place: usize, out: &mut Line)
     requires { length out.old + DIGITS + 1 + DIGITS ≤ ROOM }
     ensures text { out.new ≡ out.old ++ (decimal index ++ codes " " ++ decimal place) }
@@ -113,7 +115,8 @@ fn push_index_and_place(index: usize, place: usize, out: &mut Line)
     push_decimal(place as u128, out);
 }
 
-// Appends why a field has no value, and where.
+// Appends ` err ` and why a field has no value: the index of the field, the offset of its first
+// byte and the error of its parse, or the index and the offset of the byte after the number.
 fn push_flaw(error: &ColumnError<'_>, out: &mut Line)
     requires { out.old ≡ [] }
     ensures { out.new ≡ codes " err " ++ flaw_text (flaw_of error.now) }
@@ -137,7 +140,7 @@ fn push_flaw(error: &ColumnError<'_>, out: &mut Line)
     }
 }
 
-/// Appends an item of a column behind a space: a value, or why there is none.
+/// Appends an item of a column, with a space before it: its value, or its error.
 pub fn push_item<T: Number>(item: Result<T, ColumnError<'_>>, out: &mut Line)
     requires { out.old ≡ [] }
     ensures { out.new ≡ item_text (item_of T.number item.entry) }

@@ -1,4 +1,4 @@
-//! All of some bytes, put to a sink. It uses the trait `Sink`, and `refused`.
+//! Writes all of a slice to a sink. It uses the trait `Sink`, and `refused`.
 ghost use Rattle.std.specs.Prelude.{◌≡◌, ◌+◌, OnOk, OnErr};
 ghost use Rattle.std.specs.Io.KnownBytes.{Appends};
 ghost use Rattle.atoi_tool.specs.Failures.{failures_of, AppendsPrefix};
@@ -6,11 +6,11 @@ ghost use Rattle.atoi_tool.specs.Failures.{failures_of, AppendsPrefix};
 use crate::refused::Refused;
 use crate::sink::Sink;
 
-/// Puts all of `bytes`, by as many puts as it takes.
+/// Writes all of `bytes` to `output`, with as many calls of `put` as this needs.
 ///
 /// # Errors
 ///
-/// `Refused` where a put was refused, and then a beginning of `bytes` was put.
+/// `Refused` if a call of `put` is refused; a proper prefix of `bytes` was written then.
 pub fn put_all<S: Sink>(bytes: &[u8], output: &mut S) -> Result<(), Refused>
     ensures ok { OnOk result (Appends (S.held output.old) (S.held output.new) bytes.now) }
     ensures err { OnErr result (AppendsPrefix (S.held output.old) (S.held output.new) bytes.now) }

@@ -1,5 +1,5 @@
-//! The refusal of a read or a write. It uses no other module.
+//! The error of a read or a write. It uses no other module.
 
-/// A read or a write was refused, for whatever reason the device had.
+/// A call of `Source::take` or `Sink::put` was refused. The reason is not kept.
 #[derive(Drop)]
 pub struct Refused;

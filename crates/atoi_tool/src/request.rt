@@ -1,4 +1,5 @@
-//! What a row asks for, but for its text, and the words that say it. It uses a law of `atoi_core`.
+//! What a row asks for, except for its text, and the words that name it. It uses a law of
+//! `atoi_core`.
 ghost use Rattle.std.specs.Prelude.{◌≡◌};
 ghost use Rattle.atoi_tool.specs.Request.{engine_of, call_of, integer_of, flags_of, int_type_of, takes_sign, is_negative, is_known};
 
@@ -7,39 +8,40 @@ use atoi_core::derived::clones_are_the_same;
 /// Which library parses.
 #[derive(Clone, Copy)]
 pub enum Engine {
-    /// `w`: on words.
+    /// `w`: `atoi_simd`, which reads eight bytes at a time as a word.
     Words,
-    /// `l`: on lanes.
+    /// `l`: `atoi_simd::lanes`, which reads 16 or 32 bytes at a time as a vector.
     Lanes,
 }
 
 /// Which function parses.
 #[derive(Clone, Copy)]
 pub enum Call {
-    /// `parse`: at most one sign and a whole text.
+    /// `parse`: the whole text, which may start with a sign.
     Parse,
-    /// `pos`: a whole text with no sign.
+    /// `pos`: the whole text, without a sign.
     Pos,
-    /// `neg`: a whole text with no sign, the magnitude of a number that is not positive.
+    /// `neg`: the whole text, as the magnitude (the value without its sign) of a number that is
+    /// negative or zero.
     Neg,
-    /// `prefix`: at most one sign and the number at the front.
+    /// `prefix`: the number at the start of the text, which may start with a sign.
     Prefix,
-    /// `prefix_pos`: the number at the front, with no sign.
+    /// `prefix_pos`: the number at the start of the text, without a sign.
     PrefixPos,
-    /// `prefix_neg`: the number at the front, with no sign, the magnitude of one that is not
-    /// positive.
+    /// `prefix_neg`: the digits at the start of the text, as the magnitude of a number that is
+    /// negative or zero.
     PrefixNeg,
 }
 
 impl Call {
-    /// Whether the call takes a sign at the front of its text.
+    /// Says whether the call accepts a sign at the start of its text.
     pub fn takes_sign(self) -> bool
         ensures { result ≡ takes_sign self }
     {
         matches!(self, Call::Parse | Call::Prefix)
     }
 
-    /// Whether the call reads a negative number, without its sign.
+    /// Says whether the call reads the magnitude of a negative number.
     pub fn is_negative(self) -> bool
         ensures { result ≡ is_negative self }
     {
@@ -47,7 +49,7 @@ impl Call {
     }
 }
 
-/// Into which type.
+/// Which type the call returns.
 #[derive(Clone, Copy)]
 pub enum Integer {
     /// `u8`.
@@ -77,7 +79,7 @@ pub enum Integer {
 }
 
 impl Integer {
-    /// Whether the type has negative numbers.
+    /// Says whether the type is signed.
     pub fn is_signed(self) -> bool
         ensures { result ≡ (int_type_of self).signed }
     {
@@ -93,16 +95,16 @@ impl Integer {
     }
 }
 
-/// What is skipped at the front of a text.
+/// What a call skips at the start of its text: its flags SKIP_ZEROES and SKIP_PLUS.
 #[derive(Clone, Copy)]
 pub struct Flags {
-    /// Leading zeros do not count as digits of the number.
+    /// Leading zeros are skipped.
     pub zeroes: bool,
-    /// A plus is taken.
+    /// A plus sign is accepted.
     pub plus: bool,
 }
 
-/// The engine that a word names.
+/// Returns the engine that a word names, or `None` if it names none.
 pub fn engine_of(word: &[u8]) -> Option<Engine>
     ensures { result ≡ engine_of word.now }
 {
@@ -113,7 +115,7 @@ pub fn engine_of(word: &[u8]) -> Option<Engine>
     }
 }
 
-/// The call that a word names.
+/// Returns the call that a word names, or `None` if it names none.
 pub fn call_of(word: &[u8]) -> Option<Call>
     ensures { result ≡ call_of word.now }
 {
@@ -128,7 +130,7 @@ pub fn call_of(word: &[u8]) -> Option<Call>
     }
 }
 
-/// The integer type that a word names.
+/// Returns the integer type that a word names, or `None` if it names none.
 pub fn integer_of(word: &[u8]) -> Option<Integer>
     ensures { result ≡ integer_of word.now }
 {
@@ -149,7 +151,8 @@ pub fn integer_of(word: &[u8]) -> Option<Integer>
     }
 }
 
-/// The flags that a word names: `z` for zeros and `p` for a plus, each a `-` where it is off.
+/// Returns the flags that a word names: `z` for zeros, then `p` for a plus, and a `-` for each of
+/// the two that is off. Returns `None` for any other word.
 pub fn flags_of(word: &[u8]) -> Option<Flags>
     ensures { result ≡ flags_of word.now }
 {
@@ -163,22 +166,22 @@ pub fn flags_of(word: &[u8]) -> Option<Flags>
     Some(Flags { zeroes, plus })
 }
 
-/// What a row asks for, but for its text.
+/// What a row about one number asks for, except for its text.
 #[derive(Clone, Copy)]
 pub struct Request {
     /// Which library parses.
     pub engine: Engine,
     /// Which function parses.
     pub call: Call,
-    /// Into which type.
+    /// Which type the call returns.
     pub integer: Integer,
-    /// What is skipped at the front of the text.
+    /// What the call skips at the start of the text.
     pub flags: Flags,
 }
 
 impl Request {
-    /// Whether there is an answer to such a row: a plus is looked for only by a call that takes a
-    /// sign, and only a signed type has negative numbers.
+    /// Says whether such a row has an answer: the flag for a plus is on only in a call that accepts
+    /// a sign, and a call that reads the magnitude of a negative number has a signed type.
     pub fn is_known(&self) -> bool
         ensures { result ≡ is_known self.now }
     {
@@ -187,21 +190,22 @@ impl Request {
     }
 }
 
-/// What a row asks for, but for its text.
+/// What a row asks for, except for its text.
 #[derive(Clone, Copy)]
 pub enum Query {
     /// One number.
     Number(Request),
-    /// All numbers of a column, which has an answer where the separator may stand between fields.
+    /// All numbers of a column. Such a row has an answer if the separator may separate fields: any
+    /// byte except a digit, `+` and `-`.
     Column {
-        /// Into which type.
+        /// The type of the numbers.
         integer: Integer,
         /// The byte that ends a field.
         separator: u8,
     },
 }
 
-// The law of `clone`, for what a row asks for.
+// Proves of each type of this module that `clone` returns the value itself and never fails.
 fn clones() {
     clones_are_the_same::<Engine>();
     clones_are_the_same::<Call>();

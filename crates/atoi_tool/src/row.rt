@@ -1,5 +1,5 @@
-//! A line as a row: four words and a text. It uses `request` and `place`, and the separators of
-//! `atoi_column`.
+//! Reads a line as a row: four words and a text. It uses `request` and `place`, and the separators
+//! of `atoi_column`.
 ghost use Rattle.std.specs.Prelude.{◌≡◌, ◌<◌, true, IfSome};
 ghost use Rattle.std.specs.Option.{option_map};
 ghost use Rattle.atoi_tool.specs.Request.{is_known};
@@ -9,7 +9,8 @@ use crate::place::place_of;
 use crate::request::{Query, Request, call_of, engine_of, flags_of, integer_of};
 use atoi_column::is_separator;
 
-// What stands before the first space of `line`, and what stands behind it.
+// Returns what is before the first space of `line`, and what is after it; `None` if there is no
+// space.
 fn cut(line: &[u8]) -> Option<(&[u8], &[u8])>
     ensures { option_map (λ parts. (parts.0.now, parts.1.now)) result ≡ cut line.now }
 {
@@ -17,8 +18,7 @@ fn cut(line: &[u8]) -> Option<(&[u8], &[u8])>
     Some((&line[..space], &line[space + 1..]))
 }
 
-// What four words ask for; none where a word names nothing, or where there is no answer to such a
-// row.
+// Returns what four words ask for; `None` if a word names nothing, or if such a row has no answer.
 fn request_of(engine: &[u8], call: &[u8], integer: &[u8], flags: &[u8]) -> Option<Request>
     ensures request { result ≡ request_of engine.now call.now integer.now flags.now }
     ensures known { IfSome result (λ request. is_known request ≡ true) }
@@ -36,7 +36,7 @@ fn request_of(engine: &[u8], call: &[u8], integer: &[u8], flags: &[u8]) -> Optio
     }
 }
 
-// The worth of a hexadecimal digit in capitals.
+// Returns the digit value of a hexadecimal digit, whose letters must be capitals.
 fn hex_digit(byte: u8) -> Option<u8>
     ensures digit { result ≡ hex_digit byte }
     ensures below { IfSome result (λ digit. digit < 16) }
@@ -48,7 +48,7 @@ fn hex_digit(byte: u8) -> Option<u8>
     }
 }
 
-// The byte that two hexadecimal digits in capitals write.
+// Returns the byte that two hexadecimal digits spell.
 fn byte_of(word: &[u8]) -> Option<u8>
     ensures { result ≡ byte_of word.now }
 {
@@ -60,8 +60,8 @@ fn byte_of(word: &[u8]) -> Option<u8>
     Some(16 * sixteens + ones)
 }
 
-// The column that three words ask for; none where a word names nothing, or where the byte that the
-// last one writes may not stand between fields.
+// Returns the column that three words ask for; `None` if the engine is not the one on words, if
+// another word names nothing, or if the byte that the last one spells may not separate fields.
 fn column_of(engine: &[u8], integer: &[u8], separator: &[u8]) -> Option<Query>
     ensures query { result ≡ column_of engine.now integer.now separator.now }
     ensures answered { IfSome result IsAnswered }
@@ -78,7 +78,7 @@ fn column_of(engine: &[u8], integer: &[u8], separator: &[u8]) -> Option<Query>
     }
 }
 
-// What four words ask for, of one number or of a column.
+// Returns what four words ask for, about a column if the call is `column`, else about one number.
 fn query_of(engine: &[u8], call: &[u8], integer: &[u8], last: &[u8]) -> Option<Query>
     ensures query { result ≡ query_of engine.now call.now integer.now last.now }
     ensures answered { IfSome result IsAnswered }
@@ -92,7 +92,8 @@ fn query_of(engine: &[u8], call: &[u8], integer: &[u8], last: &[u8]) -> Option<Q
     }
 }
 
-/// What a line asks for, and the text behind its fourth space; none where the line is a bad row.
+/// Returns what a line asks for, and the text after its fourth space; `None` if the line is a bad
+/// row.
 pub fn row_of(line: &[u8]) -> Option<(Query, &[u8])>
     ensures row { option_map (λ row. (row.0, row.1.now)) result ≡ row_of line.now }
     ensures answered { IfSome result (λ row. IsAnswered row.0) }

@@ -1,4 +1,4 @@
-//! The tool between its input and its output, and how it ends. It uses `input`, `output` and
+//! A run of the tool from its input to its output, and how it ends. It uses `input`, `output` and
 //! `status`, and the traits `Source` and `Sink`.
 ghost use Rattle.std.specs.Prelude.{◌≡◌, ◌+◌, IfOk, IfErr};
 ghost use Rattle.std.specs.Process.{exit_status};
@@ -14,17 +14,19 @@ use std::alloc::Global;
 use std::marker::PhantomData;
 use std::process::{ExitCode, Termination};
 
-/// How a run from an `I` to an `O` ended: whether no line was bad, or what stopped it.
+/// How a run that reads an `I` and writes an `O` ended: whether every line was good, or the error
+/// that stopped the run.
 ///
-/// Only `run` makes one, and it cannot be let go of: a `main` that returns one ends as a run did,
-/// and its result type says between which streams.
+/// Only `run` makes a value of this type, and such a value cannot be dropped. So a `main` that
+/// returns one ends with the status of a run, and its result type names the streams of that run.
 pub struct Ended<I, O> {
     outcome: Result<bool, ToolError>,
     streams: PhantomData<(I, O)>,
 }
 
 impl<I, O> Termination for Ended<I, O> {
-    /// Says on standard error what stopped the run, if something did, and answers its status.
+    /// Prints the error that stopped the run, if there is one, to standard error. Returns the exit
+    /// status of the run.
     fn report<R: Eprint>(self, rt: &R) -> ExitCode
         ensures { exit_status result ≡ status_of (outcome_of self) }
     {
@@ -33,21 +35,20 @@ impl<I, O> Termination for Ended<I, O> {
             streams: _,
         } = self;
         if let Err(error) = &outcome {
-            // The status tells the error where this line cannot be written.
+            // If this line cannot be written, the status still says which error it was.
             let _ = eprintln!(rt; "atoi_tool: {error}");
         }
         ExitCode::from(status(&outcome))
     }
 }
 
-/// Reads `input` to its end, writes the answer to each of its lines to `output`, and tells whether
-/// no line was bad.
+/// Reads `input` to its end and writes the answer to each of its lines to `output`. The outcome
+/// says whether every line was good.
 ///
 /// # Errors
 ///
-/// The outcome is `Memory` or `Read` where the input could not be read, and then nothing was
-/// written. It is `Write` where a put was refused, and then a beginning of the whole output was
-/// written.
+/// The outcome is `Memory` or `Read` if the input could not be read; nothing was written then. It
+/// is `Write` if a call of `put` was refused; a proper prefix of the whole output was written then.
 pub fn run<I: Source, O: Sink>(alloc: Global, input: &mut I, output: &mut O) -> Ended<I, O>
     ensures answered { IfOk (outcome_of result)
         (IsAnswered (I.rest input.old) (I.rest input.new) (O.held output.old) (O.held output.new)) }

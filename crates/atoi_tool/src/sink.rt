@@ -1,5 +1,5 @@
-//! Where the answers go, and std's writers as such a place. It uses `refused`, std's `Write`, and
-//! the count of steps of `atoi_core`.
+//! What the answers are written to: the trait `Sink`, and its implementation for std's writers. It
+//! uses `refused`, std's `Write`, and `Steps` of `atoi_core`, a count that only contracts see.
 ghost use Rattle.std.specs.Prelude.{◌≡◌, ◌+◌, ◌<◌, ◌≤◌, ℕ, List, Option, None, length, IfOk};
 ghost use Rattle.std.specs.Io.KnownBytes.{WriteAppends};
 ghost use Rattle.atoi_tool.specs.Failures.{failures_of};
@@ -8,18 +8,18 @@ use crate::refused::Refused;
 use atoi_core::Steps;
 use std::io::Write;
 
-/// What takes bytes, one part after another.
+/// A sink for bytes, which are appended to it one part after another.
 pub trait Sink {
-    /// The bytes that were appended so far, where the sink tells them.
+    /// The bytes that were appended so far, if contracts can name them, as for a writer in memory.
     ghost held: { Self → Option (List ℕ) } = { λ _. None };
 
-    /// How many puts were refused so far.
+    /// How many calls of `put` were refused so far.
     ghost failures: { Self → ℕ };
 
-    /// Appends a front of `bytes` and answers its length, at least one byte.
+    /// Appends a prefix of `bytes`, at least one byte, and returns its length.
     ///
-    /// A refused put appends nothing and adds one to the count of failures, which changes only
-    /// then.
+    /// A call that is refused appends nothing and adds one to `failures`, which no other call
+    /// changes.
     fn put(&mut self, bytes: &[u8]) -> Result<usize, Refused>
         requires { 0 < length bytes.now }
         ensures some { IfOk result (λ k. 0 < k) }
@@ -28,7 +28,7 @@ pub trait Sink {
         ensures failures { failures self.new ≡ failures self.old + failures_of result };
 }
 
-/// A writer of std as a sink. It keeps no bytes of its own.
+/// A writer of std as a sink, without a buffer.
 #[derive(Drop)]
 pub struct ToWriter<W> {
     inner: W,
@@ -38,7 +38,7 @@ pub struct ToWriter<W> {
 impl<W: Write> ToWriter<W> {
     ghost use Rattle.atoi_tool.specs.ToWriter.{to_writer_inner, to_writer_failures};
 
-    /// A sink over `inner`, with no failure so far.
+    /// Returns a sink that writes to `inner`. No call was refused so far.
     pub fn new(inner: W) -> ToWriter<W>
         ensures inner { to_writer_inner result ≡ inner }
         ensures failures { to_writer_failures result ≡ 0 }
@@ -49,7 +49,7 @@ impl<W: Write> ToWriter<W> {
         }
     }
 
-    /// Gives the writer back.
+    /// Returns the writer.
     pub fn into_inner(self) -> W
         ensures { result ≡ to_writer_inner self }
     {
@@ -64,8 +64,8 @@ impl<W: Write> Sink for ToWriter<W> {
 
     ghost failures = { to_writer_failures };
 
-    /// Calls `write` once. An error of it, an interruption too, and a write that takes no byte are
-    /// refusals.
+    /// Calls `write` once. Any error of `write` becomes `Refused`, an interruption too, and so does
+    /// a call of `write` that accepts no byte.
     fn put(&mut self, bytes: &[u8]) -> Result<usize, Refused> {
         match self.inner.write(bytes) {
             Ok(0) | Err(_) => {

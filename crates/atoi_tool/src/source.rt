@@ -1,5 +1,5 @@
-//! Where the input comes from, and std's readers as such a place. It uses `refused`, std's `Read`,
-//! and the count of steps of `atoi_core`.
+//! What the input is read from: the trait `Source`, and its implementation for std's readers. It
+//! uses `refused`, std's `Read`, and `Steps` of `atoi_core`, a count that only contracts see.
 ghost use Rattle.std.specs.Prelude.{◌≡◌, ◌+◌, ◌<◌, ◌≤◌, ℕ, List, Option, None, length, IfOk};
 ghost use Rattle.std.specs.Io.KnownBytes.{ReadConsumes};
 ghost use Rattle.atoi_tool.specs.Failures.{failures_of};
@@ -8,18 +8,19 @@ use crate::refused::Refused;
 use atoi_core::Steps;
 use std::io::Read;
 
-/// What gives bytes, one part after another, up to an end.
+/// A source of bytes, which are taken from it one part after another, up to its end.
 pub trait Source {
-    /// The bytes that are still to come, where the source tells them.
+    /// The bytes that are still to come, if contracts can name them, as for a reader in memory.
     ghost rest: { Self → Option (List ℕ) } = { λ _. None };
 
-    /// How many takes were refused so far.
+    /// How many calls of `take` were refused so far.
     ghost failures: { Self → ℕ };
 
-    /// Puts the next bytes at the front of `space` and answers how many: 0 only at the end.
+    /// Writes the next bytes to the start of `space` and returns how many there are: 0 only at the
+    /// end.
     ///
-    /// What else stands in `space` is left open. A refused take gives no byte and adds one to the
-    /// count of failures, which changes only then.
+    /// The rest of `space` is unspecified. A call that is refused takes no byte from the source and
+    /// adds one to `failures`, which no other call changes.
     fn take(&mut self, space: &mut [u8]) -> Result<usize, Refused>
         requires { 0 < length space.old }
         ensures within { IfOk result (λ k. k ≤ length space.new) }
@@ -27,7 +28,7 @@ pub trait Source {
         ensures failures { failures self.new ≡ failures self.old + failures_of result };
 }
 
-/// A reader of std as a source. It keeps no bytes of its own.
+/// A reader of std as a source, without a buffer.
 #[derive(Drop)]
 pub struct FromReader<R> {
     inner: R,
@@ -37,7 +38,7 @@ pub struct FromReader<R> {
 impl<R: Read> FromReader<R> {
     ghost use Rattle.atoi_tool.specs.FromReader.{from_reader_inner, from_reader_failures};
 
-    /// A source over `inner`, with no failure so far.
+    /// Returns a source that reads from `inner`. No call was refused so far.
     pub fn new(inner: R) -> FromReader<R>
         ensures inner { from_reader_inner result ≡ inner }
         ensures failures { from_reader_failures result ≡ 0 }
@@ -48,7 +49,7 @@ impl<R: Read> FromReader<R> {
         }
     }
 
-    /// Gives the reader back.
+    /// Returns the reader.
     pub fn into_inner(self) -> R
         ensures { result ≡ from_reader_inner self }
     {
@@ -63,7 +64,7 @@ impl<R: Read> Source for FromReader<R> {
 
     ghost failures = { from_reader_failures };
 
-    /// Calls `read` once. An error of it, an interruption too, is a refusal.
+    /// Calls `read` once. Any error of `read` becomes `Refused`, an interruption too.
     fn take(&mut self, space: &mut [u8]) -> Result<usize, Refused> {
         match self.inner.read(space) {
             Ok(count) => Ok(count),

@@ -1,14 +1,14 @@
-//! What stopped the program, and the status that it ends with. It uses a law of `atoi_core`.
+//! The errors that stop the program, and the exit status. It uses a law of `atoi_core`.
 ghost use Rattle.std.specs.Prelude.{◌≡◌, Some};
 ghost use Rattle.atoi_tool.specs.Status.{status_of, tool_error_text};
 
 use atoi_core::derived::equal_ones_are_the_same;
 use std::fmt;
 
-/// What stopped the program.
+/// An error that stops the program.
 #[derive(Debug, Drop, PartialEq)]
 pub enum ToolError {
-    /// No memory for the input.
+    /// The input does not fit in memory.
     Memory,
     /// A read was refused.
     Read,
@@ -28,8 +28,8 @@ impl fmt::Display for ToolError {
     }
 }
 
-/// The status that the program ends with: 0 where every row was good, 2 where a row was bad, 3 for
-/// want of memory, 4 after a refused read and 5 after a refused write.
+/// Returns the exit status of the program: 0 if every row was good, 2 if a row was bad, 3 if there
+/// was not enough memory, 4 after a refused read and 5 after a refused write.
 pub fn status(outcome: &Result<bool, ToolError>) -> u8
     ensures { result ≡ status_of outcome.now }
 {
@@ -42,7 +42,7 @@ pub fn status(outcome: &Result<bool, ToolError>) -> u8
     }
 }
 
-// The law of `==`, for what stopped the program.
+// Proves that two of these errors are `==` exactly if they are the same.
 fn equal_errors() {
     equal_ones_are_the_same::<ToolError>();
 }

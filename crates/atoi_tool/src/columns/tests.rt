@@ -1,11 +1,11 @@
-//! Tests of rows about columns. The expected answers are counted by hand.
+//! Tests of rows about columns. The expected answers were worked out by hand.
 
 use crate::output::answer_lines;
 use crate::sink::ToWriter;
 use std::alloc::Global;
 use std::test::Fail;
 
-// What is written for an input, and whether the input is good.
+// Returns what is written for an input, and whether every line of it is good.
 fn answered(alloc: Global, input: &[u8]) -> Result<(Vec<u8>, bool), Fail> {
     let mut sink = ToWriter::new(Vec::new(alloc));
     let good = answer_lines(input, &mut sink)?;
@@ -74,7 +74,7 @@ fn refuses_bad_columns(rt: HostRuntime) -> Result<(), Fail> {
     Ok(())
 }
 
-// The answer to a row of `start` and a million bytes `byte`.
+// Returns the answer to a row that has `start` and then a million times `byte`.
 fn answered_long(alloc: Global, start: &[u8], byte: u8) -> Result<Vec<u8>, Fail> {
     let mut row = start.to_vec(alloc)?;
     row.extend_from_slice(&vec![in alloc; byte; 1_000_000]?)?;

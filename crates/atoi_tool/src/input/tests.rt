@@ -1,5 +1,5 @@
-//! Tests of reading all of an input, of readers that fail, and of want of memory. They use the
-//! tests' own `devices`, and the heaps of `linked_list_allocator`.
+//! Tests of reading a whole input, with readers that fail and with too little memory. They use the
+//! module `devices`, which only tests have, and the heaps of `linked_list_allocator`.
 
 use super::{PART, read_all, read_all_in};
 use crate::devices::FailingReader;
@@ -10,7 +10,7 @@ use std::alloc::{AllocError, Global};
 use std::io::ErrorKind;
 use std::test::Fail;
 
-// Each read is of one part of at most 4096 bytes, and one is at the end.
+// Each read returns at most 4096 bytes, and the last one returns none.
 #[test]
 fn reads_to_the_end(rt: HostRuntime) -> Result<(), Fail> {
     for (len, part, reads) in [
@@ -34,7 +34,7 @@ fn reads_to_the_end(rt: HostRuntime) -> Result<(), Fail> {
     Ok(())
 }
 
-// How many bytes are read where the call of the number `failing` fails with `error`.
+// Returns how many bytes are read if call number `failing` of the reader fails with `error`.
 fn read_failing(alloc: Global, failing: usize, error: ErrorKind) -> Result<usize, ToolError> {
     let mut source = FromReader::new(FailingReader {
         failing,
@@ -56,13 +56,14 @@ fn reports_a_refused_read(rt: HostRuntime) {
     assert_eq!(rt; status(&Err(ToolError::Read)), 4);
 }
 
-// A source of `input`, which gives one whole part a call.
+// Returns a source of `input` that gives `PART` bytes a call.
 fn parts_of(input: &[u8]) -> FromReader<FailingReader<'_>> {
     FromReader::new(FailingReader::new(input, PART))
 }
 
-// Five parts take four requests for memory: for 1, 2, 4 and 8 parts, each while the one before it
-// is still held. A heap of that size refuses one of them, and none comes after it.
+// Five parts need four requests for memory: for 1, 2, 4 and 8 parts, each while the memory of the
+// one before is still held. A heap of each of these sizes refuses one of the four requests, and no
+// request follows it.
 #[test]
 fn reports_each_refused_request_for_memory(rt: HostRuntime) -> Result<(), Fail> {
     let input = vec![in rt.alloc(); b'7'; 5 * PART]?;

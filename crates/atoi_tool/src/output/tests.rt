@@ -1,24 +1,23 @@
 //! Tests of the answers to whole inputs, and of writers that fail.
 //! The expected answers come from the crate `atoi_simd` 0.18.1 of Rust and from its documentation,
-//! but for the counted plus and for narrow prefixes of more than 16 digits.
+//! except for a plus that a prefix counts and for narrow prefixes of more than 16 digits.
 
 use super::answer_lines;
 use crate::devices::{Full, LimitedWriter};
 use crate::sink::ToWriter;
 use crate::status::{ToolError, status};
-use atoi_vectors::{differences, original};
 use std::alloc::{AllocError, Global};
 use std::process::Abort;
 use std::test::Fail;
 
-// What is written for an input, and whether the input is good.
+// Returns what is written for an input, and whether every line of it is good.
 fn answered(alloc: Global, input: &[u8]) -> Result<(Vec<u8>, bool), Fail> {
     let mut sink = ToWriter::new(Vec::new(alloc));
     let good = answer_lines(input, &mut sink)?;
     Ok((sink.into_inner(), good))
 }
 
-// The rows with engine `l` in the place of `w`.
+// Returns the rows with engine `l` instead of `w`.
 fn on_lanes(alloc: Global, rows: &[u8]) -> Result<Vec<u8>, AllocError> {
     let mut lanes = Vec::new(alloc);
     let mut starts_row = true;
@@ -33,8 +32,8 @@ fn on_lanes(alloc: Global, rows: &[u8]) -> Result<Vec<u8>, AllocError> {
     Ok(lanes)
 }
 
-// Good rows, and their answers. Behind the fourth space any byte but a newline is one like others,
-// a space too.
+// Good rows, and then their answers. After the fourth space any byte except a newline belongs to
+// the text, also a space.
 const GOOD_ROWS: &[u8] = b"\
 w neg i8 -- 0
 w pos i8 -- 128
@@ -91,7 +90,153 @@ err atoi_simd string is empty
 err atoi_simd wrong size: 17 input: [30, 30, 30, 30, 30, 30, 30, 30, 30, 30, 30, 30, 30, 30, 30, 30, 37]
 ";
 
-// The rows have these answers, on words and on lanes.
+// A sample of the rows to which the original, the Rust crate `atoi_simd` 0.18.1, and this port have
+// the same answers, and then these answers. With the two samples below it has each call with each of
+// its types, flags and errors. The crate `atoi_vectors` has all 720 rows, and runs them without the
+// tool.
+const ORIGINAL_ROWS: &[u8] = b"\
+w pos u8 z- 25:
+w prefix_pos i64 -- 9223372036854775808,
+w parse u32 zp +5
+w prefix_neg i32 z- 2147483649e
+w prefix_neg i16 -- 32768e
+w parse u16 -p +
+w prefix_pos i32 --\x20
+w neg i8 -- 00000000000000000000128x
+w prefix_pos u16 z- 00000000000000255999
+w prefix u32 -- +12a
+w pos i128 -- /170141183460469231731687303715884105727
+w prefix_neg i128 -- 170141183460469231731687303715884105729e
+w prefix_neg isize -- 00000000000000001\x20
+w parse i128 z- -0
+w parse isize z- +
+w prefix isize z- -0x
+w pos usize -- 000000000000000000000000000000000
+w pos i32 z- 000000000000000000000000000000000
+w prefix i64 -- +000000000000000008!
+w parse usize zp +5
+w pos isize -- 9223372036854775808
+w parse i16 zp -5
+w prefix_pos usize z- 18446744073709551616,
+w prefix_pos u128 -- 00000000000000007
+w pos u32 z- 00042949672959x
+w pos u128 -- 34028236692093846346337460743176821145:
+w pos u64 -- 18446744073709551616
+w prefix usize -p -0x
+w parse u128 -- +5
+w parse u8 zp +
+w prefix_neg i64 z- 00000000000000001\x20
+w pos i16 -- 0000000000000000032767
+w pos i8 z- /127
+w prefix_pos u64 z-\x20
+w pos u16 -- 6553:
+w prefix_pos i128 -- 0000000000000000000000000000000000000000x
+w neg i32 -- 2147483648
+w parse i64 -p +5
+w prefix_pos isize z- 1111111111111111111111111;
+w prefix i128 -p -12a
+w pos i64 z- 00092233720368547758079x
+w parse i32 -- -5
+w neg i64 z- 000000000000000000009223372036854775808x
+w prefix_pos i8 z- 00000000000000007
+w neg isize -- 000000000000000000009223372036854775808x
+w neg i128 z- 00000000000000000000170141183460469231731687303715884105728x
+w prefix_pos u32 z- 7\xFF9
+w parse i8 -p +000000000000000000001234
+w prefix i16 z- +12a
+w prefix u128 zp -0x
+w parse u64 -p +000000000000000000001234
+w neg i16 -- 32769
+";
+
+const ORIGINAL_ANSWERS: &[u8] = b"\
+err atoi_simd invalid at index: 2 it must contain only digits, starting with: 25  input: [32, 35, 3A]
+err atoi_simd overflow, input: [39, 32, 32, 33, 33, 37, 32, 30, 33, 36, 38, 35, 34, 37, 37, 35, 38, 30, 38, 2C]
+ok 5
+err atoi_simd overflow, input: [32, 31, 34, 37, 34, 38, 33, 36, 34, 39, 65]
+ok -32768 5
+err atoi_simd string is empty
+err atoi_simd string is empty
+err atoi_simd invalid at index: 23 it must contain only digits, starting with: 128  input: [30, 30, 30, 30, 30, 30, 30, 30, 30, 30, 30, 30, 30, 30, 30, 30, 30, 30, 30, 30, 31, 32, 38, 78]
+err atoi_simd overflow, input: [32, 35, 35, 39, 39, 39]
+err atoi_simd string is empty
+err atoi_simd string is empty
+err atoi_simd overflow, input: [31, 37, 30, 31, 34, 31, 31, 38, 33, 34, 36, 30, 34, 36, 39, 32, 33, 31, 37, 33, 31, 36, 38, 37, 33, 30, 33, 37, 31, 35, 38, 38, 34, 31, 30, 35, 37, 32, 39, 65]
+ok -1 17
+ok 0
+err atoi_simd string is empty
+ok 0 2
+err atoi_simd wrong size: 24 input: [30, 30, 30, 30, 30, 30, 30, 30, 30, 30, 30, 30, 30, 30, 30, 30, 30, 30, 30, 30, 30, 30, 30, 30, 30, 30, 30, 30, 30, 30, 30, 30, 30]
+ok 0
+err atoi_simd string is empty
+ok 5
+err atoi_simd overflow, input: [39, 32, 32, 33, 33, 37, 32, 30, 33, 36, 38, 35, 34, 37, 37, 35, 38, 30, 38]
+ok -5
+err atoi_simd overflow, input: [31, 38, 34, 34, 36, 37, 34, 34, 30, 37, 33, 37, 30, 39, 35, 35, 31, 36, 31, 36, 2C]
+ok 7 17
+err atoi_simd overflow, input: [30, 30, 30, 34, 32, 39, 34, 39, 36, 37, 32, 39, 35, 39, 78]
+err atoi_simd invalid at index: 38 it must contain only digits, starting with: 34028236692093846346337460743176821145 input: [33, 34, 30, 32, 38, 32, 33, 36, 36, 39, 32, 30, 39, 33, 38, 34, 36, 33, 34, 36, 33, 33, 37, 34, 36, 30, 37, 34, 33, 31, 37, 36, 38, 32, 31, 31, 34, 35, 3A]
+err atoi_simd overflow, input: [31, 38, 34, 34, 36, 37, 34, 34, 30, 37, 33, 37, 30, 39, 35, 35, 31, 36, 31, 36]
+err atoi_simd string is empty
+err atoi_simd string is empty
+err atoi_simd string is empty
+ok -1 17
+ok 32767
+err atoi_simd string is empty
+err atoi_simd string is empty
+err atoi_simd invalid at index: 4 it must contain only digits, starting with: 6553  input: [36, 35, 35, 33, 3A]
+err atoi_simd wrong size: 40 input: [30, 30, 30, 30, 30, 30, 30, 30, 30, 30, 30, 30, 30, 30, 30, 30, 30, 30, 30, 30, 30, 30, 30, 30, 30, 30, 30, 30, 30, 30, 30, 30, 30, 30, 30, 30, 30, 30, 30, 30, 78]
+ok -2147483648
+ok 5
+err atoi_simd wrong size: 24 input: [31, 31, 31, 31, 31, 31, 31, 31, 31, 31, 31, 31, 31, 31, 31, 31, 31, 31, 31, 31, 31, 31, 31, 31, 31, 3B]
+ok -12 3
+err atoi_simd wrong size: 23 input: [39, 32, 32, 33, 33, 37, 32, 30, 33, 36, 38, 35, 34, 37, 37, 35, 38, 30, 37, 39, 78]
+ok -5
+err atoi_simd invalid at index: 39 it must contain only digits, starting with: 9223372036854775808  input: [30, 30, 30, 30, 30, 30, 30, 30, 30, 30, 30, 30, 30, 30, 30, 30, 30, 30, 30, 30, 39, 32, 32, 33, 33, 37, 32, 30, 33, 36, 38, 35, 34, 37, 37, 35, 38, 30, 38, 78]
+ok 7 17
+err atoi_simd wrong size: 24 input: [30, 30, 30, 30, 30, 30, 30, 30, 30, 30, 30, 30, 30, 30, 30, 30, 30, 30, 30, 30, 39, 32, 32, 33, 33, 37, 32, 30, 33, 36, 38, 35, 34, 37, 37, 35, 38, 30, 38, 78]
+err atoi_simd invalid at index: 59 it must contain only digits, starting with: 170141183460469231731687303715884105728 input: [30, 30, 30, 30, 30, 30, 30, 30, 30, 30, 30, 30, 30, 30, 30, 30, 30, 30, 30, 30, 31, 37, 30, 31, 34, 31, 31, 38, 33, 34, 36, 30, 34, 36, 39, 32, 33, 31, 37, 33, 31, 36, 38, 37, 33, 30, 33, 37]
+ok 7 1
+err atoi_simd overflow, input: [30, 30, 30, 30, 30, 30, 30, 30, 30, 30, 30, 30, 30, 30, 30, 30, 30, 30, 30, 30, 31, 32, 33, 34]
+err atoi_simd string is empty
+err atoi_simd string is empty
+err atoi_simd wrong size: 24 input: [30, 30, 30, 30, 30, 30, 30, 30, 30, 30, 30, 30, 30, 30, 30, 30, 30, 30, 30, 30, 31, 32, 33, 34]
+err atoi_simd overflow, input: [33, 32, 37, 36, 39]
+";
+
+// A sample of the rows in which a prefix counts a plus, and then our answers. The original does not
+// count the plus.
+const PLUS_ROWS: &[u8] = b"\
+w prefix u16 -p +12a
+w prefix u64 -p +12a
+w prefix u8 -p +12a
+w prefix i8 zp +12a
+";
+
+const PLUS_ANSWERS: &[u8] = b"\
+ok 12 3
+ok 12 3
+ok 12 3
+ok 12 3
+";
+
+// A sample of the prefixes of more than 16 digits, of types of up to 32 bits, without skipping of
+// zeros, and then our answers. The original parses the first 16 digits.
+const LONG_ROWS: &[u8] = b"\
+w prefix_pos i16 -- 00000000000000007
+w prefix_neg i8 -- 00000000000000001\x20
+w prefix_pos u8 -- 00000000000000007
+w prefix i32 -p +000000000000000008!
+";
+
+const LONG_ANSWERS: &[u8] = b"\
+err atoi_simd wrong size: 17 input: [30, 30, 30, 30, 30, 30, 30, 30, 30, 30, 30, 30, 30, 30, 30, 30, 37]
+err atoi_simd wrong size: 17 input: [30, 30, 30, 30, 30, 30, 30, 30, 30, 30, 30, 30, 30, 30, 30, 30, 31, 20]
+err atoi_simd wrong size: 17 input: [30, 30, 30, 30, 30, 30, 30, 30, 30, 30, 30, 30, 30, 30, 30, 30, 37]
+err atoi_simd wrong size: 17 input: [30, 30, 30, 30, 30, 30, 30, 30, 30, 30, 30, 30, 30, 30, 30, 30, 30, 38, 21]
+";
+
+// Asserts that the rows have these answers, with both engines.
 fn assert_answers(rt: &impl Abort, alloc: Global, rows: &[u8], answers: &[u8]) -> Result<(), Fail> {
     let (output, good) = answered(alloc, rows)?;
     assert!(rt; good);
@@ -109,27 +254,16 @@ fn answers_good_rows(rt: HostRuntime) -> Result<(), Fail> {
 
 #[test]
 fn answers_as_the_original(rt: HostRuntime) -> Result<(), Fail> {
-    assert_answers(&rt, rt.alloc(), original::ROWS, original::ANSWERS)
+    assert_answers(&rt, rt.alloc(), ORIGINAL_ROWS, ORIGINAL_ANSWERS)
 }
 
 #[test]
 fn answers_otherwise_than_the_original(rt: HostRuntime) -> Result<(), Fail> {
-    let alloc = rt.alloc();
-    assert_answers(
-        &rt,
-        alloc,
-        differences::PLUS_ROWS,
-        differences::PLUS_ANSWERS,
-    )?;
-    assert_answers(
-        &rt,
-        alloc,
-        differences::LONG_ROWS,
-        differences::LONG_ANSWERS,
-    )
+    assert_answers(&rt, rt.alloc(), PLUS_ROWS, PLUS_ANSWERS)?;
+    assert_answers(&rt, rt.alloc(), LONG_ROWS, LONG_ANSWERS)
 }
 
-// `start`, a million zeros and `end`.
+// Returns `start`, a million zeros and `end`.
 fn long_row(alloc: Global, start: &[u8], end: &[u8]) -> Result<Vec<u8>, AllocError> {
     let mut row = start.to_vec(alloc)?;
     row.extend_from_slice(&vec![in alloc; b'0'; 1_000_000]?)?;
@@ -137,7 +271,8 @@ fn long_row(alloc: Global, start: &[u8], end: &[u8]) -> Result<Vec<u8>, AllocErr
     Ok(row)
 }
 
-// `start`, the rest of 48 zeros as an error shows them, and the end of the line.
+// Returns `start`, which ends with the first zero that an error shows, the 47 further zeros that it
+// shows, and the end of the line.
 fn zeros_shown(alloc: Global, start: &[u8]) -> Result<Vec<u8>, AllocError> {
     let mut shown = start.to_vec(alloc)?;
     for _ in 1..48 {
@@ -164,7 +299,7 @@ fn answers_long_rows(rt: HostRuntime) -> Result<(), Fail> {
     Ok(())
 }
 
-// No answer is longer, but for more digits of the index.
+// An answer to a row about one number is longer only if its index has more digits.
 #[test]
 fn answers_the_longest_line(rt: HostRuntime) -> Result<(), Fail> {
     let greatest = b"340282366920938463463374607431768211455x";
@@ -182,7 +317,7 @@ fn answers_the_longest_line(rt: HostRuntime) -> Result<(), Fail> {
     Ok(())
 }
 
-// That each of the lines is a bad row.
+// Asserts that each of the lines is a bad row.
 fn assert_bad_rows(rt: &impl Abort, alloc: Global, rows: &[&[u8]]) -> Result<(), Fail> {
     for row in rows {
         let mut line = row.to_vec(alloc)?;
@@ -265,13 +400,13 @@ fn answers_an_input_that_is_cut(rt: HostRuntime) -> Result<(), Fail> {
     Ok(())
 }
 
-// Four lines, one of which is bad, and the answers.
+// Four lines, one of which is bad, and then their answers.
 const LINES: &[u8] = b"w pos u8 -- 255\nw pos u8 -- 256x\n\nw neg i8 -- 128";
 
 const ANSWERS: &[u8] =
     b"ok 255\nerr atoi_simd overflow, input: [32, 35, 36, 78]\nbad row\nok -128\n";
 
-// The answers have 7, 48, 8 and 8 bytes, and one write holds bytes of one of them alone.
+// The answers have 7, 48, 8 and 8 bytes, and no write has bytes of two answers.
 #[test]
 fn writes_in_parts_of_any_size(rt: HostRuntime) -> Result<(), Fail> {
     for (part, writes) in [(1, 71), (2, 36), (7, 12), (1000, 4)] {
@@ -288,8 +423,8 @@ fn writes_in_parts_of_any_size(rt: HostRuntime) -> Result<(), Fail> {
     Ok(())
 }
 
-// That a writer with room for the bytes of `written` gets these and no more, also where it would
-// take more then, and that its refusal is told.
+// Asserts that a writer with room for the bytes of `written` gets these and no more, even if it has
+// room again after it was full, and that the error is `Write`.
 fn check_refused_write(rt: &impl Abort, alloc: Global, written: &[u8], full: Full) {
     for room_then in [0, 1000] {
         let mut sink = ToWriter::new(LimitedWriter {

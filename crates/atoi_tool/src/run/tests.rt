@@ -1,5 +1,5 @@
 //! Tests of whole runs: what reaches the output and the standard error, and the status. They use
-//! the tests' own `devices`.
+//! the module `devices`, which only tests have.
 
 use super::{Ended, run};
 use crate::devices::{Errors, FailingReader, Full, LimitedWriter};
@@ -12,7 +12,7 @@ use std::marker::PhantomData;
 use std::process::{Abort, ExitCode, Termination};
 use std::test::Fail;
 
-// The end of a run, between no streams.
+// Returns the end of a run with this outcome. Its streams are of type `()`.
 fn ended(outcome: Result<bool, ToolError>) -> Ended<(), ()> {
     Ended {
         outcome,
@@ -20,7 +20,8 @@ fn ended(outcome: Result<bool, ToolError>) -> Ended<(), ()> {
     }
 }
 
-// That the program ends with a status and a line on the standard error.
+// Asserts that the program ends with the status `number`, and that one call prints `line` to
+// standard error, or none if `line` is empty.
 fn check_end<I, O>(rt: &impl Abort, alloc: Global, ended: Ended<I, O>, number: u8, line: &[u8]) {
     let errors = Errors::new(alloc, 1);
     let status = ended.report(&errors);
@@ -29,7 +30,7 @@ fn check_end<I, O>(rt: &impl Abort, alloc: Global, ended: Ended<I, O>, number: u
     assert_eq!(rt; errors.reported.into_inner().as_slice(), line);
 }
 
-// A fault is told by one call, also where that call is refused.
+// One call prints the error, even if that call fails.
 #[test]
 fn a_fault_is_printed_once(rt: HostRuntime) {
     let outcome = Err(ToolError::Write);
@@ -57,7 +58,7 @@ fn a_fault_is_printed_on_one_line(rt: HostRuntime) {
     }
 }
 
-// `count` rows of sixteen bytes, of which the last has a newline or not.
+// Returns `count` rows of sixteen bytes. The last one has a newline if `has_last_newline`.
 fn rows(alloc: Global, count: usize, has_last_newline: bool) -> Result<Vec<u8>, AllocError> {
     let mut rows = Vec::new(alloc);
     for _ in 1..count {
@@ -71,8 +72,8 @@ fn rows(alloc: Global, count: usize, has_last_newline: bool) -> Result<Vec<u8>, 
     Ok(rows)
 }
 
-// That all of `count` rows is answered, `part` bytes a call, by so many reads and writes, and that
-// nothing is flushed.
+// Asserts that all of `count` rows are answered with this number of reads and writes, each of at
+// most `part` bytes, and that nothing is flushed.
 fn check_rows(
     rt: &impl Abort,
     alloc: Global,
@@ -98,8 +99,8 @@ fn check_rows(
     Ok(())
 }
 
-// One full read, two and three, and a hundred kilobytes, and one read at the end of each. An answer
-// is one write. By one byte a call, a row is sixteen reads, and its answer is seven writes.
+// Inputs of one, two, three and 25 full reads, and one more read at the end of each. An answer is
+// one write. With one byte a call, a row needs sixteen reads and its answer seven writes.
 #[test]
 fn answers_inputs_of_whole_reads(rt: HostRuntime) -> Result<(), Fail> {
     for (count, reads) in [(256usize, 2), (512, 3), (768, 4), (6400, 26)] {
@@ -119,7 +120,8 @@ const LINES: &[u8] = b"w pos u8 -- 255\nx\nw neg i8 -- 128\n";
 
 const ANSWERS: &[u8] = b"ok 255\nbad row\nok -128\n";
 
-// That a run over these two ends with a status and a line, has written `written` and not flushed.
+// Asserts that a run with this reader and this writer ends with a status and a line on standard
+// error, has written `written` and has not flushed.
 fn check_run(
     rt: &impl Abort,
     alloc: Global,

@@ -1,4 +1,5 @@
-//! Tests of a writer as a sink, at sizes that no answer has. They use the tests' own `devices`.
+//! Tests of `ToWriter` with more bytes than `Line` holds. They use the module `devices`, which only
+//! tests have.
 
 use super::ToWriter;
 use crate::devices::{Full, LimitedWriter};

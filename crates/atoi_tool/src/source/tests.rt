@@ -1,4 +1,5 @@
-//! Tests of a reader as a source, into space of any size. They use the tests' own `devices`.
+//! Tests of `FromReader` with space for one to many bytes. They use the module `devices`, which
+//! only tests have.
 
 use super::{FromReader, Source};
 use crate::devices::FailingReader;
