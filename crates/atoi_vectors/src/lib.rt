@@ -9,7 +9,8 @@ mod answers;
 mod core_calls;
 #[cfg(test)]
 mod decimal_texts;
-pub mod differences;
+#[cfg(test)]
+mod differences;
 #[cfg(test)]
 mod error_texts;
 #[cfg(test)]
@@ -24,7 +25,8 @@ mod letters;
 mod loops;
 #[cfg(test)]
 mod numbers;
-pub mod original;
+#[cfg(test)]
+mod original;
 #[cfg(test)]
 mod plain_rules;
 #[cfg(test)]
