@@ -16,7 +16,11 @@ pub(crate) fn digit(byte: u8) -> Option<u64>
     ensures { result ≡ decimal_table byte }
 {
     let digit_value = u64::from(byte).wrapping_sub(ZERO);
-    if digit_value <= 9 { Some(digit_value) } else { None }
+    if digit_value <= 9 {
+        Some(digit_value)
+    } else {
+        None
+    }
 }
 
 /// Parses all of `s` as decimal digits, without a sign, and returns their value.

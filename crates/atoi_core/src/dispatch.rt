@@ -11,9 +11,9 @@ ghost use Rattle.atoi_core.specs.Refusal.{answer_of};
 
 use crate::engine::Engine;
 use crate::error::AtoiSimdError;
-use crate::prefix_128::prefix_128_inline;
 use crate::narrow::{narrow_prefix, narrow_whole_windows};
 use crate::number::{Number, Signed};
+use crate::prefix_128::prefix_128_inline;
 use crate::steps::Steps;
 use crate::wide::{whole_64, whole_128};
 

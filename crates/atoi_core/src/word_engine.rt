@@ -175,7 +175,10 @@ fn short_window(s: &[u8]) -> Window
     if digits == 8 {
         not_full(s.len() as u32, value_of(filled, 8))
     } else {
-        not_full(digits - (8 - s.len() as u32), number_in_word(filled, digits))
+        not_full(
+            digits - (8 - s.len() as u32),
+            number_in_word(filled, digits),
+        )
     }
 }
 

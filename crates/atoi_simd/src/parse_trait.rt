@@ -4,8 +4,8 @@
 ghost use Rattle.std.specs.Prelude.{◌≡◌, ◌≤◌, IfOk, length};
 ghost use Rattle.atoi_core.specs.Answer.{typed_answer, typed_prefix_answer, parse_answer, parse_prefix_answer};
 
-use crate::parse_pos_trait::ParsePos;
 use crate::default_engine::DefaultEngine;
+use crate::parse_pos_trait::ParsePos;
 use atoi_core::{
     AtoiSimdError, Steps, parse_prefix_signed, parse_prefix_unsigned, parse_signed, parse_unsigned,
 };

@@ -3,9 +3,9 @@
 
 use crate::answers::gives;
 use atoi_core::laws::{
-    accepted_prefixes, accepted_numbers, accepted_texts, decimal_digits, decimal_texts,
-    errors_in_order, prefixes_and_rests, order_and_suffix, prefix_is_whole, prefix_of_cut,
-    prefix_results, prefix_stops_at_rest, rest_changes_nothing, skipping_agrees, text_of_value,
+    accepted_numbers, accepted_prefixes, accepted_texts, decimal_digits, decimal_texts,
+    errors_in_order, order_and_suffix, prefix_is_whole, prefix_of_cut, prefix_results,
+    prefix_stops_at_rest, prefixes_and_rests, rest_changes_nothing, skipping_agrees, text_of_value,
     whole_results, zeros_change_nothing,
 };
 use atoi_core::{AtoiSimdError, Plain, Steps, prefix_pos, whole_neg, whole_pos};
