@@ -53,7 +53,7 @@ impl<'a, T: Parse> Model for Column<'a, T> {
 }
 
 impl<'a, T: Parse> Column<'a, T> {
-    /// Makes a column of the fields of `input`, each of which `separator` ends.
+    /// Makes a column of the fields of `input`, which are separated by `separator`.
     ///
     /// `separator` has to be a byte for which `is_separator` returns `true`.
     ///

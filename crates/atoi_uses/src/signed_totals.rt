@@ -18,7 +18,7 @@ pub enum SignedTotalError<'a> {
     OutOfRange(i128),
 }
 
-/// Adds up the numbers of `input`, whose fields `separator` ends.
+/// Adds up the numbers of `input`, whose fields are separated by `separator`.
 ///
 /// The sum of the first few numbers may be out of the range of `i64`; only the sum of all matters.
 ///

@@ -32,7 +32,7 @@ pub fn total(lines: &[u8]) -> Result<u128, ColumnError<'_>>
     column_total(lines, NEWLINE)
 }
 
-/// Adds up the numbers of `input`, whose fields `separator` ends.
+/// Adds up the numbers of `input`, whose fields are separated by `separator`.
 ///
 /// # Errors
 ///
