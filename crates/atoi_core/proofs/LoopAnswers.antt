@@ -145,7 +145,7 @@ module _ (t : Table) (class : Class) (bound limit : ℕ) (skip : Bool) (s : List
 -- The answers of the narrow class for a front, from the last window behind the zeros that are skipped.
 
 -- how many zeros the slice of an overflow leaves out
-dropped_is : (t : Table) (skip : Bool) (limit : ℕ) (s : List ℕ) (at before now : ℕ) (w : Window) →
+pub dropped_is : (t : Table) (skip : Bool) (limit : ℕ) (s : List ℕ) (at before now : ℕ) (w : Window) →
     Skipped t skip s at before now w → (rule_of narrow prefix skip limit (run_len t s) (skipped_zeros t skip s)).dropped ≡ at
 dropped_is t false limit s at before now w so = sym (so.off refl)
 dropped_is t true limit s at before now w so =

@@ -7,7 +7,7 @@ ghost use Rattle.atoi_core.specs.Refusal.{answer_of, refusal_of, rank, empty, ov
 ghost use Rattle.atoi_core.specs.Run.{run_len};
 ghost use Rattle.atoi_core.specs.Window.{window_of};
 
-use crate::engine::Engine;
+use crate::engine::{Engine, window_after_zeros};
 use crate::error::AtoiSimdError;
 use crate::steps::Steps;
 use crate::window::Window;
@@ -187,14 +187,7 @@ fn skip_leading_zeros<'a, E: Engine>(
     ensures loads { LoadsWithin (most_loads E.table narrow s.now - 1) 2 E.table true s.now
         steps.old steps.new }
 {
-    let mut at = zeroes as usize;
-    let window = loop {
-        let window = E::window(&s[at..], steps);
-        if window.zeroes == 0 {
-            break window;
-        }
-        at = window.after_zeros(at);
-    };
+    let (at, window) = window_after_zeros::<E>(zeroes, s, steps);
     answer_at(bound, at, window, s)
 }
 

@@ -11,7 +11,7 @@ ghost use Rattle.atoi_core.specs.Words.{low_bytes, low_value, word_of};
 ghost use Rattle.std.proofs.Common.{arith};
 ghost use Rattle.std.proofs.lemmas.Bool.Decides.{nat_tests};
 
-use crate::engine::Engine;
+use crate::engine::{Engine, window_after_zeros};
 use crate::error::AtoiSimdError;
 use crate::steps::Steps;
 use crate::wide_answer::{answer_64, append_digits, power_of_ten};
@@ -81,6 +81,26 @@ impl Engine for Words {
     ghost below_ten = { λ byte. Prim.grind (arith, nat_tests) };
 }
 
+// The engine that reads the windows of `Words`, with the provided parses. `Words::prefix_64` calls
+// `window_after_zeros`, so at `Words` itself that loop would call, as far as a check can see, its own
+// caller.
+struct WordWindows;
+
+impl Engine for WordWindows {
+    ghost table = { decimal_table };
+
+    #[inline(always)]
+    fn window(s: &[u8], steps: &mut Steps) -> Window {
+        Words::window(s, steps)
+    }
+
+    fn window_8(s: &[u8], steps: &mut Steps) -> Window {
+        Words::window_8(s, steps)
+    }
+
+    ghost below_ten = { λ byte. Prim.grind (arith, nat_tests) };
+}
+
 // The call of `skip_leading_zeros`, in a function of its own: the place of its result is then cleared only
 // where the call is made.
 #[inline(always)]
@@ -127,14 +147,7 @@ fn skip_leading_zeros<'a>(
     ensures loads { LoadsWithin (most_loads decimal_table wide64 s.now - 2) 1 decimal_table true
         s.now steps.old steps.new }
 {
-    let mut at = zeroes as usize;
-    let front = loop {
-        let window = Words::window(&s[at..], steps);
-        if window.zeroes == 0 {
-            break window;
-        }
-        at = window.after_zeros(at);
-    };
+    let (at, front) = window_after_zeros::<WordWindows>(zeroes, s, steps);
     if front.len < 16 {
         return Ok((front.number, at + front.len as usize));
     }

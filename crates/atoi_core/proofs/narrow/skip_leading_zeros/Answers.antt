@@ -1,42 +1,12 @@
--- The loop goes on behind the zeros of the first window; the answer and the loads follow from where it ends.
-use Rattle.std.proofs.Common.{◌+◌, true, inr, refl, ◌∙◌, arith}
-use Rattle.atoi_core.proofs.Windows.{Skipping-told, Skipping-more, Skipped, Skipped-end}
+-- The answer follows from where the loop ends.
+use Rattle.std.proofs.Common.{◌∙◌, arith}
+use Rattle.atoi_core.proofs.Windows.{Skipped-after_zeros}
 use Rattle.atoi_core.proofs.LoopAnswers.{narrow_told}
 use Rattle.atoi_core.proofs.narrow.skip_leading_zeros.Goals as goal
-use Rattle.atoi_core.proofs.narrow.skip_leading_zeros.Goals.{After-answer_at}
-
-pub loop-window-init : goal.loop-window-init
-loop-window-init g c =
-    record {
-      skipping = Skipping-told g.E.Engine.table g.met.E.Engine.below_ten c.args.s.now c.args.steps.now c.args.zeroes c.requires.first_window c.requires.some;
-      some = c.requires.some;
-    }
-
-pub loop-window-preserved : goal.loop-window-preserved
-loop-window-preserved g c =
-    record {
-      skipping = Skipping-more g.E.Engine.table g.met.E.Engine.below_ten true c.args.s.now _ _ _ _ (c.window-window.new.steps + 1) c.window-window.result
-          c.loop-window.invariant.skipping c.window-window.ensures.window (omega arith) refl (omega arith) c.after_zeros-at.ensures.dropped;
-      some = omega (arith, c.loop-window.invariant.some);
-    }
-
--- where the loop ends
-ended : (g : _) (c : After-answer_at g)
-    → Skipped g.E.Engine.table true c.args.s.now c.loop-window.at c.args.steps.now (c.window-window.new.steps + 1) c.window-window.result
-ended g c =
-    Skipped-end g.E.Engine.table g.met.E.Engine.below_ten true c.args.s.now _ _ _ (c.window-window.new.steps + 1) c.window-window.result
-    c.loop-window.invariant.skipping c.window-window.ensures.window (omega arith) (inr (refl, c.if-window-eq0.true))
 
 pub returns-clause-answer : goal.returns-clause-answer
 returns-clause-answer g c =
+    let e = c.window_after_zeros-at.ensures in
     c.answer_at.ensures
-    ∙ narrow_told _ _ _ _ _ _ _ _ _ (ended g c) c.requires.high (λ no. absurd (cc no)) (omega (arith, c.loop-window.invariant.some))
-
-pub returns-clause-loads : goal.returns-clause-loads
-returns-clause-loads g c =
-    record {
-      at_most = omega (arith, (ended g c).most);
-      at_most_unskipped = λ off. absurd (cc off);
-      at_least = λ _. omega (arith, (ended g c).more);
-      at_least_skipping = λ _. omega (arith, (ended g c).least refl);
-    }
+    ∙ narrow_told _ _ _ _ _ _ _ _ _ (Skipped-after_zeros _ g.met.E.Engine.below_ten c.args.s.now _ c.args.steps.now _ _ e.offset e.window e.no_zeros e.loads)
+    c.requires.high (λ no. absurd (cc no)) (omega (arith, e.some))
