@@ -153,7 +153,7 @@ module _ (t : Table) (class : Class) (bound limit : ℕ) (skip : Bool) (s : List
 -- bits.
 
 -- The slice of an overflow leaves out exactly the zeros before the last window.
-dropped_is : (t : Table) (skip : Bool) (limit : ℕ) (s : List ℕ) (at before now : ℕ) (w : Window) →
+pub dropped_is : (t : Table) (skip : Bool) (limit : ℕ) (s : List ℕ) (at before now : ℕ) (w : Window) →
     Skipped t skip s at before now w → (rule_of narrow prefix skip limit (run_len t s) (skipped_zeros t skip s)).dropped ≡ at
 dropped_is t false limit s at before now w after_skip = sym (after_skip.off refl)
 dropped_is t true limit s at before now w after_skip =

@@ -429,6 +429,22 @@ Skipped-end t below skip s at before now next w after_skip e one stops =
       ];
     }
 
+-- What `window_after_zeros` promises about its results makes a `Skipped`.
+pub Skipped-after_zeros : (t : Table) → IsBelowTen t → (s : List ℕ) (at before now : ℕ) (w : Window) →
+    at ≡ (if nat_lt (zeros t s / 16) (run_len t s / 16) then zeros t s else 16 * (zeros t s / 16)) →
+    w ≡ window_of t 16 (drop at s) → w.zeroes ≡ 0 → now ≡ before + (at + 15) / 16 → Skipped t true s at before (now + 1) w
+Skipped-after_zeros t below s at before now w offset e none loads =
+    let skipping : Skipping t true s at before now =
+    record {
+      bounded = grind (arith, nat_tests);
+      within = grind (arith, nat_tests, zeros-le t s, prefix_len-le-length (is_digit t) s);
+      off = λ h. absurd (cc h);
+      most = omega arith;
+      least = omega arith;
+      place = grind (arith, nat_tests);
+    } in
+    Skipped-end t below true s at before now (now + 1) w skipping (e ∙ ap (window_of t 16) (sym (take_rest s at))) refl (inr (refl, none))
+
 -- If `more` windows are loaded after the loop, the number of loads is within the given bounds.
 pub Skipped-loads : {t : Table} {skip : Bool} {s : List ℕ} {at before now last most unskipped : ℕ} {w : Window} →
     Skipped t skip s at before now w → (more : ℕ) → last ≡ now + more → zeros t s / 16 + 2 + more ≤ most → 1 + more ≤ unskipped →

@@ -1,11 +1,12 @@
-//! The trait of an engine, an implementation of the reads that parses make, and the parses of
-//! integers of 64 and of 128 bits over any engine. It uses `window`, `wide_answer`, `steps` and
-//! `error`, and no particular engine.
-ghost use Rattle.std.specs.Prelude.{◌≡◌, ◌+◌, ◌-◌, ◌≤◌, ℕ};
+//! The trait of an engine, an implementation of the reads that parses make. Over any engine there are
+//! also the parses of integers of 64 and of 128 bits, and the loop that skips leading zeros. It uses
+//! `window`, `wide_answer`, `steps` and `error`, and no particular engine.
+ghost use Rattle.std.specs.Prelude.{◌≡◌, ◌+◌, ◌-◌, ◌*◌, ◌/◌, ◌<◌, ◌≤◌, ℕ, nat_lt, if◌then◌else◌, length, drop};
 ghost use Rattle.atoi_core.specs.Digit.{Table, IsBelowTen};
 ghost use Rattle.atoi_core.specs.Loads.{LoadsWithin, most_loads};
 ghost use Rattle.atoi_core.specs.Magnitude.{HasDigits, wide64, wide128, prefix_magnitude};
 ghost use Rattle.atoi_core.specs.Refusal.{answer_of};
+ghost use Rattle.atoi_core.specs.Run.{run_len, zeros};
 ghost use Rattle.atoi_core.specs.Window.{window_of};
 
 use crate::error::AtoiSimdError;
@@ -143,4 +144,39 @@ pub trait Engine {
 
     /// Each digit value is below ten.
     ghost below_ten: { IsBelowTen table };
+}
+
+/// Skips leading zeros window by window, and returns the offset of the window that ends this, and
+/// that window.
+///
+/// The caller has loaded the first window of `s`, which reported `zeroes`. The first window after it
+/// that reports no zeros is the last: it is at the end of all zeros or, if fewer than 16 digits are
+/// left, at the end of those that fill whole windows. Adds one step for each 16 bytes that are
+/// skipped, rounded up.
+#[inline(always)]
+#[tactic(auto, using(std::proofs::lemmas::List::take_rest))]
+pub(crate) fn window_after_zeros<E: Engine>(
+    zeroes: u32,
+    s: &[u8],
+    steps: &mut Steps,
+) -> (usize, Window)
+    requires some { 0 < zeroes }
+    requires first_window { zeroes ≡ (window_of E.table 16 s.now).zeroes }
+    ensures some { 0 < result.0 }
+    ensures inside { result.0 ≤ length s.now }
+    ensures offset { result.0
+        ≡ (if nat_lt (zeros E.table s.now / 16) (run_len E.table s.now / 16)
+        then zeros E.table s.now else 16 * (zeros E.table s.now / 16)) }
+    ensures window { result.1 ≡ window_of E.table 16 (drop result.0 s.now) }
+    ensures no_zeros { result.1.zeroes ≡ 0 }
+    ensures loads { steps.new ≡ steps.old + (result.0 + 15) / 16 }
+{
+    let mut at = zeroes as usize;
+    loop {
+        let window = E::window(&s[at..], steps);
+        if window.zeroes == 0 {
+            return (at, window);
+        }
+        at = window.after_zeros(at);
+    }
 }

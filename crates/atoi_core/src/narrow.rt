@@ -7,7 +7,7 @@ ghost use Rattle.atoi_core.specs.Refusal.{answer_of, refusal_of, rank, empty, ov
 ghost use Rattle.atoi_core.specs.Run.{run_len};
 ghost use Rattle.atoi_core.specs.Window.{window_of};
 
-use crate::engine::Engine;
+use crate::engine::{Engine, window_after_zeros};
 use crate::error::AtoiSimdError;
 use crate::steps::Steps;
 use crate::window::Window;
@@ -49,7 +49,7 @@ pub fn narrow_prefix<'a, E: Engine>(
     if window.len == 0 {
         Err(AtoiSimdError::Empty)
     } else if skip && window.zeroes > 0 {
-        skip_leading_zeros_cold::<E>(bound, window.zeroes, s, steps)
+        narrow_prefix_cold::<E>(bound, window.zeroes, s, steps)
     } else if is_too_long::<E>(skip, window, s, steps) {
         Err(AtoiSimdError::Size(17, s))
     } else {
@@ -105,7 +105,7 @@ pub fn narrow_whole_windows<'a, E: Engine>(
     } else if first.len < 16 {
         whole_from_prefix::<E>(bound, answer_at(bound, 0, first, s), s)
     } else if first.zeroes > 0 {
-        let front = skip_leading_zeros_cold::<E>(bound, first.zeroes, s, steps);
+        let front = narrow_prefix_cold::<E>(bound, first.zeroes, s, steps);
         whole_from_prefix::<E>(bound, front, s)
     } else {
         Err(AtoiSimdError::Overflow(s))
@@ -148,9 +148,9 @@ fn error_of_whole<'a>(error: AtoiSimdError<'_>, s: &'a [u8]) -> AtoiSimdError<'a
 }
 
 // Kept separate, with the result matched right after the call, so that the stack slot of that
-// result is cleared only on the path that calls `skip_leading_zeros`.
+// result is cleared only on the path that calls `narrow_prefix_after_zeros`.
 #[inline(always)]
-fn skip_leading_zeros_cold<'a, E: Engine>(
+fn narrow_prefix_cold<'a, E: Engine>(
     bound: u64,
     zeroes: u32,
     s: &'a [u8],
@@ -164,7 +164,7 @@ fn skip_leading_zeros_cold<'a, E: Engine>(
     ensures loads { LoadsWithin (most_loads E.table narrow s.now - 1) 2 E.table true s.now
         steps.old steps.new }
 {
-    match skip_leading_zeros::<E>(bound, zeroes, s, steps) {
+    match narrow_prefix_after_zeros::<E>(bound, zeroes, s, steps) {
         Ok(found) => Ok(found),
         Err(error) => Err(error),
     }
@@ -173,7 +173,7 @@ fn skip_leading_zeros_cold<'a, E: Engine>(
 // Returns what `narrow_prefix` with `skip` returns, if the first window reported `zeroes` leading
 // zeros and there is at least one: these zeros and those after them are skipped.
 #[inline(never)]
-fn skip_leading_zeros<'a, E: Engine>(
+fn narrow_prefix_after_zeros<'a, E: Engine>(
     bound: u64,
     zeroes: u32,
     s: &'a [u8],
@@ -187,14 +187,7 @@ fn skip_leading_zeros<'a, E: Engine>(
     ensures loads { LoadsWithin (most_loads E.table narrow s.now - 1) 2 E.table true s.now
         steps.old steps.new }
 {
-    let mut at = zeroes as usize;
-    let window = loop {
-        let window = E::window(&s[at..], steps);
-        if window.zeroes == 0 {
-            break window;
-        }
-        at = window.after_zeros(at);
-    };
+    let (at, window) = window_after_zeros::<E>(zeroes, s, steps);
     answer_at(bound, at, window, s)
 }
 

@@ -11,7 +11,7 @@ ghost use Rattle.atoi_core.specs.Words.{low_bytes, low_value, word_of};
 ghost use Rattle.std.proofs.Common.{arith};
 ghost use Rattle.std.proofs.lemmas.Bool.Decides.{nat_tests};
 
-use crate::engine::Engine;
+use crate::engine::{Engine, window_after_zeros};
 use crate::error::AtoiSimdError;
 use crate::steps::Steps;
 use crate::wide_answer::{answer_64, append_digits, power_of_ten};
@@ -67,7 +67,7 @@ impl Engine for Words {
     ) -> Result<(u64, usize), AtoiSimdError<'a>> {
         let first = Words::window(s, steps);
         if skip && first.zeroes > 0 {
-            return skip_leading_zeros_cold(bound, limit, first.zeroes, s, steps);
+            return prefix_64_cold(bound, limit, first.zeroes, s, steps);
         }
         if first.len == 0 {
             Err(AtoiSimdError::Empty)
@@ -83,10 +83,30 @@ impl Engine for Words {
     ghost below_ten = { λ byte. Prim.grind (arith, nat_tests) };
 }
 
+// An engine that reads the windows of `Words`, and has the provided parses. `Words::prefix_64` calls
+// `window_after_zeros`. If that loop ran over `Words`, the two would form a cycle of calls, as far as
+// the checker can see, because the loop may call any method of its engine.
+struct WordWindows;
+
+impl Engine for WordWindows {
+    ghost table = { decimal_table };
+
+    #[inline(always)]
+    fn window(s: &[u8], steps: &mut Steps) -> Window {
+        Words::window(s, steps)
+    }
+
+    fn window_8(s: &[u8], steps: &mut Steps) -> Window {
+        Words::window_8(s, steps)
+    }
+
+    ghost below_ten = { λ byte. Prim.grind (arith, nat_tests) };
+}
+
 // Kept separate, with the result matched right after the call, so that the stack slot of that
-// result is cleared only on the path that calls `skip_leading_zeros`.
+// result is cleared only on the path that calls `prefix_64_after_zeros`.
 #[inline(always)]
-fn skip_leading_zeros_cold<'a>(
+fn prefix_64_cold<'a>(
     bound: u64,
     limit: u32,
     zeroes: u32,
@@ -103,7 +123,7 @@ fn skip_leading_zeros_cold<'a>(
     ensures loads { LoadsWithin (most_loads decimal_table wide64 s.now - 2) 1 decimal_table true
         s.now steps.old steps.new }
 {
-    match skip_leading_zeros(bound, limit, zeroes, s, steps) {
+    match prefix_64_after_zeros(bound, limit, zeroes, s, steps) {
         Ok(found) => Ok(found),
         Err(error) => Err(error),
     }
@@ -112,7 +132,7 @@ fn skip_leading_zeros_cold<'a>(
 // Returns what `prefix_64` with `skip` returns, if the first window reported `zeroes` leading zeros
 // and there is at least one: these zeros and those after them are skipped.
 #[inline(never)]
-fn skip_leading_zeros<'a>(
+fn prefix_64_after_zeros<'a>(
     bound: u64,
     limit: u32,
     zeroes: u32,
@@ -129,14 +149,7 @@ fn skip_leading_zeros<'a>(
     ensures loads { LoadsWithin (most_loads decimal_table wide64 s.now - 2) 1 decimal_table true
         s.now steps.old steps.new }
 {
-    let mut at = zeroes as usize;
-    let first = loop {
-        let window = Words::window(&s[at..], steps);
-        if window.zeroes == 0 {
-            break window;
-        }
-        at = window.after_zeros(at);
-    };
+    let (at, first) = window_after_zeros::<WordWindows>(zeroes, s, steps);
     if first.len < 16 {
         return Ok((first.number, at + first.len as usize));
     }

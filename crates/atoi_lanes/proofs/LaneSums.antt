@@ -113,9 +113,9 @@ by_first_eight digits long eights made =
     ∙ number-paired 10000 1 _ pair ∙ number-paired 100 2 _ four ∙ number-paired 10 4 (take 8 digits) eight ∙ in_ten (take 8 digits)
 
 -- Zeros before digits add nothing to their value.
-pub value-skip_leading_zeros : (n : ℕ) (xs : List ℕ) → value itself (replicate n 0 ++ xs) ≡ value itself xs
-value-skip_leading_zeros zero xs = refl
-value-skip_leading_zeros (suc n) xs = omega (arith, value-skip_leading_zeros n xs)
+pub value-after_zeros : (n : ℕ) (xs : List ℕ) → value itself (replicate n 0 ++ xs) ≡ value itself xs
+value-after_zeros zero xs = refl
+value-after_zeros (suc n) xs = omega (arith, value-after_zeros n xs)
 
 -- The digit value of a byte, computed by a subtraction that wraps.
 abbrev pub above_zero : ℕ → ℕ
@@ -155,16 +155,16 @@ values_sum n v long digits =
     ap (λ digit_values. value itself (take n digit_values)) (zip2_splat (λ x y. (x + (2 ^ 8 - y)) % 2 ^ 8) v 16 48 long) ∙ (digits_value above_zero above_zero-digit n v digits).0
 
 -- Zeros before numbers below ten are below ten too.
-pub skip_leading_zeros : (n : ℕ) (xs : List ℕ) → Each1 (λ x. x < 10) xs → Each1 (λ x. x < 10) (replicate n 0 ++ xs)
-skip_leading_zeros zero xs h = h
-skip_leading_zeros (suc n) xs h = (omega arith, skip_leading_zeros n xs h)
+pub below_after_zeros : (n : ℕ) (xs : List ℕ) → Each1 (λ x. x < 10) xs → Each1 (λ x. x < 10) (replicate n 0 ++ xs)
+below_after_zeros zero xs h = h
+below_after_zeros (suc n) xs h = (omega arith, below_after_zeros n xs h)
 
 -- Zeros followed by the digit values of digits are all below ten.
 pub values_below : (zeros n : ℕ) (v : List ℕ) → length v ≡ 16 → n ≤ run_len decimal_table v
     → Each1 (λ x. x < 10) (replicate zeros 0 ++ take n (zip2 (λ x y. (x + (2 ^ 8 - y)) % 2 ^ 8) v (replicate 16 48)))
 values_below zeros n v long digits =
     let digit_values = zip2_splat (λ x y. (x + (2 ^ 8 - y)) % 2 ^ 8) v 16 48 long in
-    skip_leading_zeros zeros _ (subst (λ l. Each1 (λ x. x < 10) (take n l)) (sym digit_values) (digits_value above_zero above_zero-digit n v digits).1)
+    below_after_zeros zeros _ (subst (λ l. Each1 (λ x. x < 10) (take n l)) (sym digit_values) (digits_value above_zero above_zero-digit n v digits).1)
 
 -- ---- Joining the two halves of each field
 -- A step on a field of double width joins its two halves to one number.
@@ -293,9 +293,9 @@ abbrev in_half : List ℕ → List ℕ
 in_half s = (replicate (8 - length s) 0 ++ s) ++ replicate 8 0
 
 -- Bytes of 0 and then other bytes are all bytes.
-bytes-skip_leading_zeros : (n : ℕ) (s : List ℕ) → Each1 (λ x. x < 256) s → Each1 (λ x. x < 256) (replicate n 0 ++ s)
-bytes-skip_leading_zeros zero s h = h
-bytes-skip_leading_zeros (suc n) s h = (omega arith, bytes-skip_leading_zeros n s h)
+bytes-after_zeros : (n : ℕ) (s : List ℕ) → Each1 (λ x. x < 256) s → Each1 (λ x. x < 256) (replicate n 0 ++ s)
+bytes-after_zeros zero s h = h
+bytes-after_zeros (suc n) s h = (omega arith, bytes-after_zeros n s h)
 
 -- The first half has eight lanes.
 length-filled : (s : List ℕ) → length s ≤ 8 → length (replicate (8 - length s) 0 ++ s) ≡ 8
@@ -306,15 +306,15 @@ half_of_word : (s : List ℕ) → Each1 (λ x. x < 256) s → length s ≤ 8
     → digits_l 256 16 (number_l 256 (replicate (8 - length s) 0 ++ s)) ≡ in_half s
 half_of_word s h few =
     let long = length-filled s few in
-    digits-number 256 16 8 (replicate (8 - length s) 0 ++ s) (bytes-skip_leading_zeros (8 - length s) s h) (omega (arith, long))
+    digits-number 256 16 8 (replicate (8 - length s) 0 ++ s) (bytes-after_zeros (8 - length s) s h) (omega (arith, long))
     ∙ take_all 16 (in_half s) (omega (arith, long, length-append (replicate (8 - length s) 0 ++ s) (replicate 8 0)))
 
 -- In the number that digits of base p spell, lowest first, n digits of 0 before the others multiply
 -- it by p^n.
-number-skip_leading_zeros : (p n : ℕ) (xs : List ℕ) → number_l p (replicate n 0 ++ xs) ≡ p ^ n * number_l p xs
-number-skip_leading_zeros p zero xs = omega (arith, ap (λ q. q * number_l p xs) (pow-zero p))
-number-skip_leading_zeros p (suc n) xs =
-    let rest = ap (λ m. p * m) (number-skip_leading_zeros p n xs) in
+number-after_zeros : (p n : ℕ) (xs : List ℕ) → number_l p (replicate n 0 ++ xs) ≡ p ^ n * number_l p xs
+number-after_zeros p zero xs = omega (arith, ap (λ q. q * number_l p xs) (pow-zero p))
+number-after_zeros p (suc n) xs =
+    let rest = ap (λ m. p * m) (number-after_zeros p n xs) in
     let power = ap (λ q. q * number_l p xs) (pow-suc p n) in
     omega (arith, rest, power)
 
@@ -330,13 +330,13 @@ shifted_word len s h le few =
     let long : length (replicate (8 - len) 0 ++ front) ≡ 8 =
     length-append (replicate (8 - len) 0) front ∙ omega (arith, length-replicate {A = ℕ} (8 - len) 0, length-take-le len s le) in
     let below : kept < 2 ^ 64 =
-    omega (arith, number-lt 256 (replicate (8 - len) 0 ++ front) (bytes-skip_leading_zeros (8 - len) front (Each1-chunk _ 0 len s h)), ap (λ k. 256 ^ k) long) in
+    omega (arith, number-lt 256 (replicate (8 - len) 0 ++ front) (bytes-after_zeros (8 - len) front (Each1-chunk _ 0 len s h)), ap (λ k. 256 ^ k) long) in
     let moved : 256 ^ (8 - n) * 256 ^ (n - len) ≡ 256 ^ (8 - len) = sym (pow-add 256 (8 - n) (n - len)) ∙ ap (λ k. 256 ^ k) (omega arith) in
     let eight : 8 - len + len ≡ 8 = omega arith in
     let whole : 256 ^ (8 - len) * 256 ^ len ≡ 2 ^ 64 = sym (pow-add 256 (8 - len) len) ∙ ap (λ k. 256 ^ k) eight in
     let parts : number_l 256 (replicate (8 - n) 0 ++ s) * 2 ^ (8 * (n - len)) ≡ rest * 2 ^ 64 + kept =
-    ap₂ (λ a b. a * b) (number-skip_leading_zeros 256 (8 - n) s) (sym (byte_shift (n - len)))
-    ∙ omega (arith, ap (λ q. number_l 256 s * q) moved, ap (λ m. 256 ^ (8 - len) * m) (first-and_rest len s le), ap (λ q. rest * q) whole, number-skip_leading_zeros 256 (8 - len) front) in
+    ap₂ (λ a b. a * b) (number-after_zeros 256 (8 - n) s) (sym (byte_shift (n - len)))
+    ∙ omega (arith, ap (λ q. number_l 256 s * q) moved, ap (λ m. 256 ^ (8 - len) * m) (first-and_rest len s le), ap (λ q. rest * q) whole, number-after_zeros 256 (8 - len) front) in
     ap (λ m. m % 2 ^ 64) parts ∙ mod-mul-add rest (2 ^ 64) kept below
 
 -- So its lanes hold the first `len` bytes only.
@@ -445,9 +445,9 @@ half_values s few digits v is =
     let whole : take (length s) digit_values ≡ digit_values = take_all (length s) digit_values (omega (arith, count)) in (
       ap (λ l. value itself (take 8 l)) lanes
           ∙ ap (value itself) (take-append-le 8 (replicate zeros 0 ++ digit_values) (replicate 8 0) (omega (arith, eight)) ∙ take_all 8 (replicate zeros 0 ++ digit_values) (omega (arith, eight)))
-          ∙ value-skip_leading_zeros zeros digit_values
+          ∙ value-after_zeros zeros digit_values
           ∙ sym (ap (value itself) whole) ∙ known.0 ∙ ap (value decimal_table) (take_all (length s) s (omega arith)),
-      subst (Each1 (λ x. x < 10)) (sym lanes) (before_zeros 8 _ (skip_leading_zeros zeros digit_values (subst (Each1 (λ x. x < 10)) whole known.1))),
+      subst (Each1 (λ x. x < 10)) (sym lanes) (before_zeros 8 _ (below_after_zeros zeros digit_values (subst (Each1 (λ x. x < 10)) whole known.1))),
     )
 
 -- The run of a run is the whole run.

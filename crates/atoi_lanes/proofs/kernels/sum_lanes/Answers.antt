@@ -2,7 +2,7 @@
 use Rattle.std.proofs.Common.{◌-◌, ap, ◌∙◌}
 use Rattle.atoi_core.specs.Run.{value}
 use Rattle.atoi_lanes.specs.Itself.{itself}
-use Rattle.atoi_lanes.proofs.LaneSums.{values_below, value-skip_leading_zeros, values_sum}
+use Rattle.atoi_lanes.proofs.LaneSums.{values_below, value-after_zeros, values_sum}
 use Rattle.atoi_lanes.proofs.kernels.sum_lanes.Goals as goal
 
 pub number_in_lanes-requires : goal.number_in_lanes-requires
@@ -10,5 +10,5 @@ number_in_lanes-requires c = rw c.moved_to_end.ensures (values_below (16 - c.arg
 
 pub returns : goal.returns
 returns c =
-    c.number_in_lanes.ensures ∙ ap (value itself) c.moved_to_end.ensures ∙ value-skip_leading_zeros (16 - c.args.len) _
+    c.number_in_lanes.ensures ∙ ap (value itself) c.moved_to_end.ensures ∙ value-after_zeros (16 - c.args.len) _
     ∙ values_sum c.args.len c.args.v c.fits-v.0 c.requires.digits

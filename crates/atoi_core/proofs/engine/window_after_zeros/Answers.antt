@@ -1,0 +1,22 @@
+-- The loop goes on after the zeros of the first window; all clauses follow from where it ends.
+use Rattle.std.proofs.Common.{◌+◌, true, inr, refl, sym, arith}
+use Rattle.atoi_core.proofs.Windows.{Skipping-first_window, Skipping-more, Skipped-end}
+use Rattle.atoi_core.proofs.LoopAnswers.{dropped_is}
+use Rattle.atoi_core.proofs.engine.window_after_zeros.Goals as goal
+
+pub loop-window-init : goal.loop-window-init
+loop-window-init g c =
+    (Skipping-first_window _ g.met.E.Engine.below_ten c.args.s.now _ _ c.requires.first_window c.requires.some, c.requires.some)
+
+pub loop-window-preserved : goal.loop-window-preserved
+loop-window-preserved g c = (
+  Skipping-more _ g.met.E.Engine.below_ten true c.args.s.now _ _ _ _ (c.window-window.new.steps + 1) c.window-window.result
+      c.loop-window.invariant.0 c.window-window.ensures.window (omega arith) refl (omega arith) c.after_zeros-at.ensures.dropped,
+  omega (arith, c.loop-window.invariant.1),
+)
+
+pub returns-then-window-eq0-clause-offset : goal.returns-then-window-eq0-clause-offset
+returns-then-window-eq0-clause-offset g c =
+    let after_skip = Skipped-end _ g.met.E.Engine.below_ten true c.args.s.now _ _ _ (c.window-window.new.steps + 1) c.window-window.result
+    c.loop-window.invariant.0 c.window-window.ensures.window (omega arith) (inr (refl, c.if-window-eq0.true)) in
+    sym (dropped_is _ true 0 _ _ _ _ _ after_skip)

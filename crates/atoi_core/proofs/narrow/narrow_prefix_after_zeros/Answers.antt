@@ -1,0 +1,12 @@
+-- The answer follows from where the loop ends.
+use Rattle.std.proofs.Common.{◌∙◌, arith}
+use Rattle.atoi_core.proofs.Windows.{Skipped-after_zeros}
+use Rattle.atoi_core.proofs.LoopAnswers.{narrow_after_skip}
+use Rattle.atoi_core.proofs.narrow.narrow_prefix_after_zeros.Goals as goal
+
+pub returns-clause-answer : goal.returns-clause-answer
+returns-clause-answer g c =
+    let e = c.window_after_zeros-at.ensures in
+    c.answer_at.ensures
+    ∙ narrow_after_skip _ _ _ _ _ _ _ _ _ (Skipped-after_zeros _ g.met.E.Engine.below_ten c.args.s.now _ c.args.steps.now _ _ e.offset e.window e.no_zeros e.loads)
+    c.requires.high (λ no. absurd (cc no)) (omega (arith, e.some))

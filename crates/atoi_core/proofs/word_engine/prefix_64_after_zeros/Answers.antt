@@ -1,0 +1,55 @@
+-- The answers follow from where the loop ends.
+use Rattle.std.proofs.Common.{◌+◌, ℕ, List, true, refl, ap, ◌∙◌, arith, drop}
+use Rattle.std.proofs.lemmas.List.{length-drop, take_rest}
+use Rattle.std.proofs.lemmas.List.Sums.{prefix_len-le-length}
+use Rattle.atoi_core.specs.Digit.{decimal_table, is_digit}
+use Rattle.atoi_core.specs.Window.{window_of}
+use Rattle.atoi_core.proofs.Runs.{decimal_below_ten}
+use Rattle.atoi_core.proofs.Windows.{Skipped, Skipped-after_zeros, Shows, shows}
+use Rattle.atoi_core.proofs.LoopAnswers.{answers_short, answers_64}
+use Rattle.atoi_core.proofs.word_engine.prefix_64_after_zeros.Goals as goal
+use Rattle.atoi_core.proofs.word_engine.prefix_64_after_zeros.Goals.{After-window_after_zeros-at, After-window_after_16-back}
+
+-- where the loop ends
+ended : (c : After-window_after_zeros-at)
+    → Skipped decimal_table true c.args.s.now c.window_after_zeros-at.result.0 c.args.steps.now (c.window_after_zeros-at.new.steps + 1) c.window_after_zeros-at.result.1
+ended c =
+    let e = c.window_after_zeros-at.ensures in
+    Skipped-after_zeros decimal_table decimal_below_ten c.args.s.now _ _ _ _ e.offset e.window e.no_zeros e.loads
+
+pub returns-then-first-lt16-clause-answer : goal.returns-then-first-lt16-clause-answer
+returns-then-first-lt16-clause-answer c =
+    let after_skip = ended (goal.at.returns-then-first-lt16-clause-answer c).After-window_after_zeros-at in
+    answers_short _ _ _ _ _ _ _ _ _ _ _ _ (omega arith) after_skip c.if-first-lt16.true (omega (arith, c.window_after_zeros-at.ensures.some)) (omega arith) c.requires.digits refl refl
+
+pub window_after_16-back-requires : goal.window_after_16-back-requires
+window_after_16-back-requires c =
+    let after_skip = ended (goal.at.window_after_16-back-requires c).After-window_after_zeros-at in
+    let at : ℕ = c.window_after_zeros-at.result.0 in
+    rw (take_rest c.args.s.now at, length-drop at c.args.s.now)
+    (omega (arith, after_skip.shown.len_is, prefix_len-le-length (is_digit decimal_table) (drop at c.args.s.now), length-drop at c.args.s.now))
+
+-- the eight bytes after it
+following : (c : After-window_after_16-back) → Shows decimal_table 8 (drop 16 (drop c.window_after_zeros-at.result.0 c.args.s.now)) c.window_after_16-back.result
+following c =
+    shows decimal_table decimal_below_ten 8 (drop 16 (drop c.window_after_zeros-at.result.0 c.args.s.now)) c.window_after_16-back.result
+    (c.window_after_16-back.ensures.window ∙ ap (λ (r : List ℕ). window_of decimal_table 8 (drop 16 r)) (take_rest c.args.s.now c.window_after_zeros-at.result.0))
+
+pub append_digits-number-requires : goal.append_digits-number-requires
+append_digits-number-requires c = omega (arith, (following (goal.at.append_digits-number-requires c).After-window_after_16-back).len_is)
+
+pub overflow_add-back : goal.overflow_add-back
+overflow_add-back c = omega (arith, (following (goal.at.overflow_add-back c).After-window_after_16-back).len_is)
+
+pub answer_64-requires : goal.answer_64-requires
+answer_64-requires c =
+    let back = following (goal.at.answer_64-requires c).After-window_after_16-back in
+    let after_skip = ended (goal.at.answer_64-requires c).After-window_after_zeros-at in
+    record { inside = (answers_64 decimal_table c.args.bound c.args.limit true c.args.s.now _ _ _ _ _ (omega arith) after_skip c.if-first-lt16.false back).0 }
+
+pub returns-clause-answer : goal.returns-clause-answer
+returns-clause-answer c =
+    let back = following (goal.at.returns-clause-answer c).After-window_after_16-back in
+    let after_skip = ended (goal.at.returns-clause-answer c).After-window_after_zeros-at in
+    rw c.append_digits-number.ensures at c.answer_64.ensures
+    ∙ (answers_64 decimal_table c.args.bound c.args.limit true c.args.s.now _ _ _ _ _ (omega arith) after_skip c.if-first-lt16.false back).1
