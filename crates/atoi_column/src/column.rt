@@ -1,5 +1,5 @@
-//! `Column`, an iterator over the numbers of a byte slice that has a separator between them.
-//! It uses `parse_prefix` of `atoi_simd`, `error`, the law of `fields` and one of `atoi_core`.
+//! `Column`, an iterator over the numbers of a byte slice, which are separated by one byte. It uses
+//! `parse_prefix` of `atoi_simd`, `error`, the law of `fields` and one of `atoi_core`.
 ghost use Rattle.std.specs.Prelude.{◌≡◌, ◌<◌, ◌≤◌, true, length, All, IfErr};
 ghost use Rattle.std.specs.Iterator.{YieldsFirstBy, item_count};
 ghost use Rattle.atoi_column.specs.Fields.{is_separator};
@@ -12,7 +12,7 @@ use atoi_simd::{Parse, parse_prefix};
 use std::iter::FusedIterator;
 use std::marker::{Model, PhantomData};
 
-/// An iterator over the numbers of a byte slice that has a separator between them.
+/// An iterator over the numbers of a byte slice, which are separated by one byte.
 ///
 /// The separator ends each field; after the last field it may be missing. So the empty slice has no
 /// field, and two separators in a row have an empty field between them. Each field must be a text

@@ -1,5 +1,6 @@
-//! The laws of columns. The contract of each function states one; calling it does nothing.
-//! They use the laws of `atoi_core` about accepted texts and the numbers that they write, no parse.
+//! The laws of columns. The contract of each function states one; calling it does nothing. They use
+//! the laws of `atoi_core` about accepted texts and the numbers that these write. They call no
+//! parser.
 ghost use Rattle.atoi_column.specs.Laws.{TextsAndItems, ItemsDecide, ItemsInTurn, FirstField};
 
 use atoi_core::Number;

@@ -9,7 +9,7 @@ use Rattle.atoi_core.specs.Magnitude.{Class, narrow, wide64, wide128, whole, pre
 use Rattle.atoi_core.specs.IntType.{IntType, IsSized, greatest_of, class_of, bound_of, limit_of}
 use Rattle.atoi_core.specs.Laws.{HasLimitOfWhole}
 use Rattle.atoi_core.proofs.Runs.{value-ge, prefix_len-drop, zeros-le, value-below, value-drop_zeros}
-use Rattle.atoi_core.proofs.Calls.{limit_at, counting_digits, first_of, refusal-is, is_empty, is_long, is_followed, too_long, over, followed, accepted, refusal-none, refused_overflow, refusal-cases, counted_number, map_unless_ok, map_unless_err, whole_is_run}
+use Rattle.atoi_core.proofs.Calls.{limit_at, significant_digits, first_of, refusal-is, is_empty, is_long, is_followed, too_long, over, followed, accepted, refusal-none, refused_overflow, refusal-cases, counted_number, map_unless_ok, map_unless_err, whole_is_run}
 use Rattle.std.proofs.Math.IntN.{ℤ}
 use Rattle.atoi_core.specs.Refusal.{Refusal, empty, overflow, number_in, index_in}
 use Rattle.atoi_core.specs.Sign.{with_sign}
@@ -120,7 +120,7 @@ places-le table s limit h =
 -- If zeros are skipped and the value is in range, there are not too many digits.
 pub in_range_short : (table : Table) (k : IntType) → IsSized k → (minus : Bool) (s : List ℕ)
     → value table (run table s) ≤ bound_of k minus
-    → is_above (limit_at (class_of k) whole true (limit_of k)) (counting_digits table true s) ≡ false
+    → is_above (limit_at (class_of k) whole true (limit_of k)) (significant_digits table true s) ≡ false
 in_range_short table k sized minus s le =
     elim (bound-limit k sized minus) [
       | inl e ↦ rw e refl

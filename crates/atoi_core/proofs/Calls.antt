@@ -66,13 +66,13 @@ limit-is wide64 extent skip limit digits skipped = refl
 limit-is wide128 extent skip limit digits skipped = refl
 
 -- How many digits of a body are significant: those of its run after the skipped zeros.
-abbrev pub counting_digits : Table → Bool → List ℕ → ℕ
-counting_digits table skip body = run_len table body - skipped_zeros table skip body
+abbrev pub significant_digits : Table → Bool → List ℕ → ℕ
+significant_digits table skip body = run_len table body - skipped_zeros table skip body
 
 -- The body is accepted: no test refuses it.
 pub record IsAccepted (table : Table) (class : Class) (bound limit : ℕ) (extent : Extent) (skip : Bool) (body : List ℕ) : Type 0 where
   pub some : 0 < run_len table body
-  pub short : is_above (limit_at class extent skip limit) (counting_digits table skip body) ≡ false
+  pub short : is_above (limit_at class extent skip limit) (significant_digits table skip body) ≡ false
   pub in_range : value table (run table body) ≤ bound
   pub ends : leaves_rest extent (run_len table body) (length body) ≡ false
 
@@ -95,7 +95,7 @@ module _ (table : Table) (class : Class) (bound limit : ℕ) (extent : Extent) (
 
   -- The second test: there are more significant digits than the limit.
   abbrev pub is_long : Bool
-  is_long = is_above (limit_at class extent skip limit) (counting_digits table skip body)
+  is_long = is_above (limit_at class extent skip limit) (significant_digits table skip body)
 
   -- The third test: the value is larger than the bound.
   abbrev pub is_over : Bool
@@ -111,7 +111,7 @@ module _ (table : Table) (class : Class) (bound limit : ℕ) (extent : Extent) (
 
   -- The error for too many digits, with the number of digits that it reports.
   abbrev pub too_long : Refusal
-  too_long = size (skipped_zeros table skip body + min (counting_digits table skip body) rule.cap) (drop (skipped_zeros table skip body) body)
+  too_long = size (skipped_zeros table skip body + min (significant_digits table skip body) rule.cap) (drop (skipped_zeros table skip body) body)
 
   -- The error for a value above the bound.
   abbrev pub over : Refusal
@@ -126,7 +126,7 @@ module _ (table : Table) (class : Class) (bound limit : ℕ) (extent : Extent) (
       ≡ first_of is_empty is_long is_over is_followed empty too_long over followed
   unfolding refusal
   refusal-is =
-      ap (λ most. first_of is_empty (is_above most (counting_digits table skip body)) is_over is_followed empty too_long over followed)
+      ap (λ most. first_of is_empty (is_above most (significant_digits table skip body)) is_over is_followed empty too_long over followed)
       (limit-is class extent skip limit (run_len table body) (skipped_zeros table skip body))
 
   -- If the body does not begin with a digit, the error is `Empty`.
@@ -276,7 +276,7 @@ pub with_more-zero : (r : Result (ℤ × ℕ) Refusal) → with_more 0 r ≡ r
 with_more-zero (Ok found) = rw add-zero refl
 with_more-zero (Err reason) = refl
 
--- A whole parse answers as its body does, with the sign before it.
+-- The answer of a whole parse is that for its body and its sign.
 pub whole_call-is : (k : IntType) (form : SignForm) (skip : Bool) (s : List ℕ)
     → whole_call k form skip s ≡ whole_answer decimal_table k (sign_in k form s).minus skip (sign_in k form s).body
 whole_call-is k (looked_for plus) skip s = refl
@@ -363,7 +363,7 @@ module _ (k : IntType) (minus skip : Bool) (body : List ℕ) where
   -- A body is accepted as a whole if it has digits only, at least one and not too many, and a value
   -- within the bound.
   pub is_whole : 0 < run_len decimal_table body
-      → is_above (limit_at (class_of k) whole skip (limit_of k)) (counting_digits decimal_table skip body) ≡ false
+      → is_above (limit_at (class_of k) whole skip (limit_of k)) (significant_digits decimal_table skip body) ≡ false
       → value decimal_table (run decimal_table body) ≤ bound_of k minus
       → run_len decimal_table body ≡ length body
       → IsWhole
@@ -386,7 +386,7 @@ found_prefix k form skip s v count h =
     let found = from_prefix k g.minus skip g.body v count_is.0 count_is.1 in
     record { is_prefix = found.0; number = found.1; count_is = rw (← found.2) count_is.2 }
 
--- If value and count are of this form, the prefix call is `Ok` of them.
+-- If a value and a count are found in the body (`IsFound`), then the prefix call returns them.
 pub ok_prefix : (k : IntType) (form : SignForm) (skip : Bool) (s : List ℕ) (v : ℤ) (count : ℕ)
     → IsFound k (sign_in k form s) skip v count → prefix_call k form skip s ≡ Ok (v, count)
 ok_prefix k form skip s v count h =

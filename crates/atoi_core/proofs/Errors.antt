@@ -15,7 +15,7 @@ use Rattle.atoi_core.specs.IntType.{IntType, class_of, bound_of, limit_of}
 use Rattle.atoi_core.specs.Sign.{with_sign}
 use Rattle.atoi_core.specs.Answer.{prefix_answer, with_more}
 use Rattle.atoi_core.specs.Laws.{SignForm, sign_in, whole_call, prefix_call, IsSuffix, OrderAndSuffix, IsAbove, HasSomeDigits, IsFollowed, Explains, ErrorsInOrder}
-use Rattle.atoi_core.proofs.Calls.{refusal-input, limit_at, counting_digits, refusal-cases, drop-taken, counted_number, map_unless_err, whole_call-is, prefix_call-is}
+use Rattle.atoi_core.proofs.Calls.{refusal-input, limit_at, significant_digits, refusal-cases, drop-taken, counted_number, map_unless_err, whole_call-is, prefix_call-is}
 use Rattle.std.proofs.lemmas.Bool.{eqb-false, not-true, cases_lt}
 use Rattle.std.proofs.lemmas.List.Sums.{prefix_len-le-length}
 use Rattle.atoi_core.specs.Run.{run_len, run, value}
@@ -146,11 +146,11 @@ module _ (k : IntType) (extent : Extent) (is_negative skip : Bool) (body : List 
 
   -- If the first two tests do not hold, the body begins with digits, and not with too many.
   begins : eqb (run_len decimal_table body) 0 ≡ false
-      → is_above (limit_at (class_of k) extent skip (limit_of k)) (counting_digits decimal_table skip body) ≡ false
+      → is_above (limit_at (class_of k) extent skip (limit_of k)) (significant_digits decimal_table skip body) ≡ false
       → HasSomeDigits k extent skip body
   begins some short = record {
     some = omega (arith, eqb-false (run_len decimal_table body) 0 some);
-    short = not_above (limit_at (class_of k) extent skip (limit_of k)) (counting_digits decimal_table skip body) short;
+    short = not_above (limit_at (class_of k) extent skip (limit_of k)) (significant_digits decimal_table skip body) short;
   }
 
   -- If a body is refused, what `Explains` says about its error holds.
@@ -162,7 +162,7 @@ module _ (k : IntType) (extent : Extent) (is_negative skip : Bool) (body : List 
       refusal-cases decimal_table (class_of k) (bound_of k is_negative) (limit_of k) extent skip body
       (Explains k extent is_negative skip body)
       (λ e. eqb-true digits 0 e)
-      (λ e l. (omega (arith, eqb-false digits 0 e), above (limit_at (class_of k) extent skip (limit_of k)) (counting_digits decimal_table skip body) l))
+      (λ e l. (omega (arith, eqb-false digits 0 e), above (limit_at (class_of k) extent skip (limit_of k)) (significant_digits decimal_table skip body) l))
       (λ e l o. (begins e l, ltb-true (bound_of k is_negative) number o))
       (λ e l o f. invalid_explained (class_of k) number digits (record {
         begins = begins e l;

@@ -10,7 +10,7 @@ use Rattle.atoi_core.specs.Digit.{Table, IsBelowTen, is_digit, is_zero}
 use Rattle.atoi_core.specs.Run.{run_len, run, zeros, value}
 use Rattle.atoi_core.specs.Refusal.{Refusal, empty, size, overflow}
 use Rattle.atoi_core.specs.Magnitude.{Class, narrow, wide64, wide128, HasDigits, skipped_zeros, refusal, unless_refused, prefix_magnitude}
-use Rattle.atoi_core.specs.Reading.{Reading, IsSkipped, counting_digits, cap, answer_by_digits, ReadingDecides}
+use Rattle.atoi_core.specs.Reading.{Reading, IsSkipped, significant_digits, cap, answer_by_digits, ReadingDecides}
 use Rattle.atoi_core.proofs.Runs.{prefix_len-take, prefix_len-drop, zeros-le, value-below, value-take-add, value-drop_zeros}
 use Rattle.atoi_core.specs.Window.{window_of}
 use Rattle.atoi_core.specs.declared.window.Window.{Window}
@@ -22,11 +22,11 @@ use Rattle.atoi_core.specs.Loads.{LoadsWithin, most_loads}
 -- leading zeros, and the value of the digits. These lemmas are the fields of the law
 -- `ReadingDecides`.
 
--- If `place` leading zeros are dropped, the next bytes begin with the zeros that are left.
-pub zeros_left : (t : Table) (count : ℕ) (s : List ℕ) (place : ℕ) → place ≤ zeros t s
-    → zeros t (take count (drop place s)) ≡ min count (zeros t s - place)
-zeros_left t count s place within =
-    omega (arith, prefix_len-take (is_zero t) count (drop place s), prefix_len-drop (is_zero t) place s within)
+-- If `offset` leading zeros are dropped, the next bytes begin with the zeros that are left.
+pub zeros_left : (t : Table) (count : ℕ) (s : List ℕ) (offset : ℕ) → offset ≤ zeros t s
+    → zeros t (take count (drop offset s)) ≡ min count (zeros t s - offset)
+zeros_left t count s offset within =
+    omega (arith, prefix_len-take (is_zero t) count (drop offset s), prefix_len-drop (is_zero t) offset s within)
 
 -- In two readings in a row, the leading zeros of the second matter only if the first has zeros
 -- only.
@@ -106,76 +106,76 @@ first_refusal false true c p q r v = refl
 first_refusal false false true p q r v = refl
 first_refusal false false false p q r v = refl
 
--- The answer for a wide type can be written with all digits of the slice, of which `skipped` are
--- skipped zeros.
-by_all_digits : (t : Table) (class : Class) (bound limit : ℕ) (skip : Bool) (s : List ℕ) (skipped counting : ℕ) → limit < cap class
-    → skipped_zeros t skip s ≡ skipped → run_len t s ≡ skipped + counting
-    → prefix_magnitude t class bound limit skip s ≡ answer_by_digits class bound limit skipped counting (value t (run t s)) s
+-- The answer for a wide type is `answer_by_digits` of all digits of the slice. Of these, `skipped`
+-- are skipped zeros, and `significant` are the others.
+by_all_digits : (t : Table) (class : Class) (bound limit : ℕ) (skip : Bool) (s : List ℕ) (skipped significant : ℕ) → limit < cap class
+    → skipped_zeros t skip s ≡ skipped → run_len t s ≡ skipped + significant
+    → prefix_magnitude t class bound limit skip s ≡ answer_by_digits class bound limit skipped significant (value t (run t s)) s
 unfolding refusal
-by_all_digits t narrow bound limit skip s skipped counting less zeros_are total = absurd (omega arith)
-by_all_digits t wide64 bound limit skip s skipped counting less zeros_are total =
-    let others : skipped + counting - skipped ≡ counting = omega arith in
-    rw (zeros_are, total, others) (first_refusal (eqb (skipped + counting) 0) (ltb limit counting) _ empty (size (skipped + min counting 24) (drop skipped s)) (overflow (drop skipped s)) _)
-by_all_digits t wide128 bound limit skip s skipped counting less zeros_are total =
-    let others : skipped + counting - skipped ≡ counting = omega arith in
-    rw (zeros_are, total, others) (first_refusal (eqb (skipped + counting) 0) (ltb limit counting) _ empty (size (skipped + min counting 40) (drop skipped s)) (overflow (drop skipped s)) _)
+by_all_digits t narrow bound limit skip s skipped significant less zeros_are total = absurd (omega arith)
+by_all_digits t wide64 bound limit skip s skipped significant less zeros_are total =
+    let others : skipped + significant - skipped ≡ significant = omega arith in
+    rw (zeros_are, total, others) (first_refusal (eqb (skipped + significant) 0) (ltb limit significant) _ empty (size (skipped + min significant 24) (drop skipped s)) (overflow (drop skipped s)) _)
+by_all_digits t wide128 bound limit skip s skipped significant less zeros_are total =
+    let others : skipped + significant - skipped ≡ significant = omega arith in
+    rw (zeros_are, total, others) (first_refusal (eqb (skipped + significant) 0) (ltb limit significant) _ empty (size (skipped + min significant 40) (drop skipped s)) (overflow (drop skipped s)) _)
 
--- As many significant digits as the error `Size` can report are always too many, whatever their
--- value.
-by_many_digits : (class : Class) (bound limit skipped counting number : ℕ) (s : List ℕ) → limit < cap class → cap class ≤ counting
-    → answer_by_digits class bound limit skipped counting number s ≡ Err (size (skipped + cap class) (drop skipped s))
-by_many_digits class bound limit skipped counting number s less many =
-    let some : eqb (skipped + counting) 0 ≡ false = ne_eqb (skipped + counting) 0 (omega arith) in
-    let long : ltb limit counting ≡ true = lt-ltb limit counting (omega arith) in
-    let most : min counting (cap class) ≡ cap class = omega arith in
+-- If there are `cap class` significant digits or more, then the answer is the error `size`,
+-- whatever their value is.
+by_many_digits : (class : Class) (bound limit skipped significant number : ℕ) (s : List ℕ) → limit < cap class → cap class ≤ significant
+    → answer_by_digits class bound limit skipped significant number s ≡ Err (size (skipped + cap class) (drop skipped s))
+by_many_digits class bound limit skipped significant number s less many =
+    let some : eqb (skipped + significant) 0 ≡ false = ne_eqb (skipped + significant) 0 (omega arith) in
+    let long : ltb limit significant ≡ true = lt-ltb limit significant (omega arith) in
+    let most : min significant (cap class) ≡ cap class = omega arith in
     rw (some, long, most) refl
 
--- The skipped zeros are those before `place` and the leading ones of the reading.
-skipped_is : (skip : Bool) (z place digits leading : ℕ) → leading ≤ digits → (skip ≡ false → place ≡ 0) → (skip ≡ true → z ≡ place + leading)
-    → cond skip z 0 ≡ place + (digits - counting_digits skip digits leading)
-skipped_is true z place digits leading most asked zeros_are = omega (arith, zeros_are refl)
-skipped_is false z place digits leading most asked zeros_are = omega (arith, asked refl)
+-- The skipped zeros are those before `offset` and the leading ones of the reading.
+skipped_is : (skip : Bool) (z offset digits leading : ℕ) → leading ≤ digits → (skip ≡ false → offset ≡ 0) → (skip ≡ true → z ≡ offset + leading)
+    → cond skip z 0 ≡ offset + (digits - significant_digits skip digits leading)
+skipped_is true z offset digits leading most asked zeros_are = omega (arith, zeros_are refl)
+skipped_is false z offset digits leading most asked zeros_are = omega (arith, asked refl)
 
 -- At most as many digits are significant as were read.
-counting_most : (skip : Bool) (digits leading : ℕ) → counting_digits skip digits leading ≤ digits
+counting_most : (skip : Bool) (digits leading : ℕ) → significant_digits skip digits leading ≤ digits
 counting_most true digits leading = omega arith
 counting_most false digits leading = omega arith
 
 -- A reading after skipped zeros decides the answer if it is not full of digits, or if as many of
 -- its digits are significant as the error `Size` can report.
 pub decided : (t : Table) (class : Class) (bound limit : ℕ) → limit < cap class
-    → (skip : Bool) (s : List ℕ) (place count digits leading number : ℕ) → IsSkipped t skip s place
-    → Reading t count (drop place s) digits leading number
-    → (digits < count) ⊎ (cap class ≤ counting_digits skip digits leading)
+    → (skip : Bool) (s : List ℕ) (offset count digits leading number : ℕ) → IsSkipped t skip s offset
+    → Reading t count (drop offset s) digits leading number
+    → (digits < count) ⊎ (cap class ≤ significant_digits skip digits leading)
     → prefix_magnitude t class bound limit skip s
-    ≡ answer_by_digits class bound limit (place + (digits - counting_digits skip digits leading)) (counting_digits skip digits leading) number s
-decided t class bound limit less skip s place count digits leading number skipped reading enough =
-    let body : List ℕ = drop place s in
-    let run_is : run_len t s ≡ place + run_len t body = prefix_len-drop (is_digit t) place s (omega (arith, skipped.zeros_only, zeros-le t s)) in
-    let zeros_are : zeros t s ≡ place + zeros t body = prefix_len-drop (is_zero t) place s skipped.zeros_only in
+    ≡ answer_by_digits class bound limit (offset + (digits - significant_digits skip digits leading)) (significant_digits skip digits leading) number s
+decided t class bound limit less skip s offset count digits leading number skipped reading enough =
+    let body : List ℕ = drop offset s in
+    let run_is : run_len t s ≡ offset + run_len t body = prefix_len-drop (is_digit t) offset s (omega (arith, skipped.zeros_only, zeros-le t s)) in
+    let zeros_are : zeros t s ≡ offset + zeros t body = prefix_len-drop (is_zero t) offset s skipped.zeros_only in
     let zeros_most : zeros t body ≤ run_len t body = zeros-le t body in
     let digits_are : digits ≡ min count (run_len t body) = reading.digits_are ∙ prefix_len-take (is_digit t) count body in
     let leading_are : leading ≡ min count (zeros t body) = reading.leading_are ∙ prefix_len-take (is_zero t) count body in
-    let counting : ℕ = counting_digits skip digits leading in
-    let most : counting ≤ digits = counting_most skip digits leading in
-    let all_zeros : skip ≡ true → zeros t s ≡ place + leading =
-    λ on. elim enough [ inl ends ↦ omega arith | inr many ↦ omega (arith, many, ap (λ b. counting_digits b digits leading) on) ] in
-    let front : ℕ = place + (digits - counting) in
-    let skipped_are : skipped_zeros t skip s ≡ front = skipped_is skip (zeros t s) place digits leading (omega arith) skipped.asked all_zeros in
+    let significant : ℕ = significant_digits skip digits leading in
+    let most : significant ≤ digits = counting_most skip digits leading in
+    let all_zeros : skip ≡ true → zeros t s ≡ offset + leading =
+    λ on. elim enough [ inl ends ↦ omega arith | inr many ↦ omega (arith, many, ap (λ b. significant_digits b digits leading) on) ] in
+    let front : ℕ = offset + (digits - significant) in
+    let skipped_are : skipped_zeros t skip s ≡ front = skipped_is skip (zeros t s) offset digits leading (omega arith) skipped.asked all_zeros in
     elim enough [
       | inl ends ↦
           let all : run_len t body ≡ digits = omega arith in
           let number_is : value t (run t s) ≡ number =
-          value-drop_zeros t place s skipped.zeros_only ∙ ap (λ (n : ℕ). value t (take n body)) all
+          value-drop_zeros t offset s skipped.zeros_only ∙ ap (λ (n : ℕ). value t (take n body)) all
           ∙ ap (value t) (sym (take-take digits count body (omega arith)))
           ∙ ap (λ (n : ℕ). value t (take n (take count body))) reading.digits_are ∙ sym reading.number_is in
-          by_all_digits t class bound limit skip s front counting less skipped_are (omega arith)
-          ∙ ap (λ (n : ℕ). answer_by_digits class bound limit front counting n s) number_is
+          by_all_digits t class bound limit skip s front significant less skipped_are (omega arith)
+          ∙ ap (λ (n : ℕ). answer_by_digits class bound limit front significant n s) number_is
       | inr many ↦
           let rest : ℕ = run_len t s - front in
           by_all_digits t class bound limit skip s front rest less skipped_are (omega arith)
           ∙ by_many_digits class bound limit front rest (value t (run t s)) s less (omega arith)
-          ∙ sym (by_many_digits class bound limit front counting number s less many)
+          ∙ sym (by_many_digits class bound limit front significant number s less many)
     ]
 
 -- A number with fewer digits than the bound is smaller than the bound.
@@ -187,47 +187,47 @@ below_bound limit bound digits number bounds few small =
 -- If a reading is not full of digits and has fewer of them than the limit, its value is within the
 -- bound, and the answer is `Ok`, or `Empty` without a digit.
 pub short_below : (t : Table) (class : Class) (bound limit : ℕ) → limit < cap class → HasDigits limit bound
-    → (skip : Bool) (s : List ℕ) (place count digits leading number : ℕ) → IsSkipped t skip s place
-    → Reading t count (drop place s) digits leading number → digits < count → digits < limit → number < 10 ^ digits
-    → (number ≤ bound) × (prefix_magnitude t class bound limit skip s ≡ cond (eqb (place + digits) 0) (Err empty) (Ok (number, place + digits)))
-short_below t class bound limit less bounds skip s place count digits leading number skipped reading ends few small =
-    let counting : ℕ = counting_digits skip digits leading in
-    let most : counting ≤ digits = counting_most skip digits leading in
+    → (skip : Bool) (s : List ℕ) (offset count digits leading number : ℕ) → IsSkipped t skip s offset
+    → Reading t count (drop offset s) digits leading number → digits < count → digits < limit → number < 10 ^ digits
+    → (number ≤ bound) × (prefix_magnitude t class bound limit skip s ≡ cond (eqb (offset + digits) 0) (Err empty) (Ok (number, offset + digits)))
+short_below t class bound limit less bounds skip s offset count digits leading number skipped reading ends few small =
+    let significant : ℕ = significant_digits skip digits leading in
+    let most : significant ≤ digits = counting_most skip digits leading in
     let within : number < bound = below_bound limit bound digits number bounds few small in
-    let total : place + (digits - counting) + counting ≡ place + digits = omega arith in (
+    let total : offset + (digits - significant) + significant ≡ offset + digits = omega arith in (
       omega arith,
-      decided t class bound limit less skip s place count digits leading number skipped reading (inl ends)
-          ∙ rw (le-ltb limit counting (omega arith), le-ltb bound number (omega arith), total) refl,
+      decided t class bound limit less skip s offset count digits leading number skipped reading (inl ends)
+          ∙ rw (le-ltb limit significant (omega arith), le-ltb bound number (omega arith), total) refl,
     )
 
 -- As above, for any table whose digit values are below ten.
 pub short : (t : Table) → IsBelowTen t → (class : Class) (bound limit : ℕ) → limit < cap class → HasDigits limit bound
-    → (skip : Bool) (s : List ℕ) (place count digits leading number : ℕ) → IsSkipped t skip s place
-    → Reading t count (drop place s) digits leading number → digits < count → digits < limit
-    → (number ≤ bound) × (prefix_magnitude t class bound limit skip s ≡ cond (eqb (place + digits) 0) (Err empty) (Ok (number, place + digits)))
-short t ten class bound limit less bounds skip s place count digits leading number skipped reading ends few =
-    short_below t class bound limit less bounds skip s place count digits leading number skipped reading ends few
-    (below t ten count (drop place s) digits leading number reading)
+    → (skip : Bool) (s : List ℕ) (offset count digits leading number : ℕ) → IsSkipped t skip s offset
+    → Reading t count (drop offset s) digits leading number → digits < count → digits < limit
+    → (number ≤ bound) × (prefix_magnitude t class bound limit skip s ≡ cond (eqb (offset + digits) 0) (Err empty) (Ok (number, offset + digits)))
+short t ten class bound limit less bounds skip s offset count digits leading number skipped reading ends few =
+    short_below t class bound limit less bounds skip s offset count digits leading number skipped reading ends few
+    (below t ten count (drop offset s) digits leading number reading)
 
 -- If the reading begins with no zero that is skipped, all its digits are significant.
-all_count : (skip : Bool) (digits leading : ℕ) → (skip ≡ true → leading ≡ 0) → counting_digits skip digits leading ≡ digits
+all_count : (skip : Bool) (digits leading : ℕ) → (skip ≡ true → leading ≡ 0) → significant_digits skip digits leading ≡ digits
 all_count true digits leading none = omega (arith, none refl)
 all_count false digits leading none = refl
 
 -- A reading of as many bytes as the error `Size` can report, which begins with no zero that is
 -- skipped, decides the answer with all its digits.
 pub all_decide : (t : Table) (class : Class) (bound limit : ℕ) → limit < cap class
-    → (skip : Bool) (s : List ℕ) (place digits leading number : ℕ) → IsSkipped t skip s place
-    → Reading t (cap class) (drop place s) digits leading number → (skip ≡ true → leading ≡ 0)
-    → prefix_magnitude t class bound limit skip s ≡ answer_by_digits class bound limit place digits number s
-all_decide t class bound limit less skip s place digits leading number skipped reading none =
-    let counting : counting_digits skip digits leading ≡ digits = all_count skip digits leading none in
-    let enough : (digits < cap class) ⊎ (cap class ≤ counting_digits skip digits leading) =
-    elim (cases_lt digits (cap class)) [ inl h ↦ inl h | inr h ↦ inr (omega (arith, counting)) ] in
-    let at : place + (digits - counting_digits skip digits leading) ≡ place = omega (arith, counting) in
-    decided t class bound limit less skip s place (cap class) digits leading number skipped reading enough
-    ∙ ap (λ (n : ℕ). answer_by_digits class bound limit n (counting_digits skip digits leading) number s) at
-    ∙ ap (λ (n : ℕ). answer_by_digits class bound limit place n number s) counting
+    → (skip : Bool) (s : List ℕ) (offset digits leading number : ℕ) → IsSkipped t skip s offset
+    → Reading t (cap class) (drop offset s) digits leading number → (skip ≡ true → leading ≡ 0)
+    → prefix_magnitude t class bound limit skip s ≡ answer_by_digits class bound limit offset digits number s
+all_decide t class bound limit less skip s offset digits leading number skipped reading none =
+    let significant : significant_digits skip digits leading ≡ digits = all_count skip digits leading none in
+    let enough : (digits < cap class) ⊎ (cap class ≤ significant_digits skip digits leading) =
+    elim (cases_lt digits (cap class)) [ inl h ↦ inl h | inr h ↦ inr (omega (arith, significant)) ] in
+    let at : offset + (digits - significant_digits skip digits leading) ≡ offset = omega (arith, significant) in
+    decided t class bound limit less skip s offset (cap class) digits leading number skipped reading enough
+    ∙ ap (λ (n : ℕ). answer_by_digits class bound limit n (significant_digits skip digits leading) number s) at
+    ∙ ap (λ (n : ℕ). answer_by_digits class bound limit offset n number s) significant
 
 -- The law `ReadingDecides`, put together from its fields.
 pub reading_decides : ReadingDecides
@@ -273,7 +273,7 @@ shows_of t ten c s =
       zeroes_of = seen.2;
     }
 
--- So does any window that is equal to it.
+-- A window that is equal to `window_of` describes its slice.
 pub shows : (t : Table) → IsBelowTen t → (c : ℕ) (s : List ℕ) (w : Window) → w ≡ window_of t c s → Shows t c s w
 shows t ten c s w e = let P : Window → Type 0 = λ v. Shows t c s v in subst P (sym e) (shows_of t ten c s)
 
@@ -305,15 +305,15 @@ Shows-join_two t s first_window middle back first full second more third =
 -- These lemmas say how far it gets, and how many windows it loads.
 
 -- The state of the loop before it loads a window at offset `at`. Only skipped zeros come before
--- `at`. So far one window was loaded for each 16 of them, and one more if the last window began
--- with fewer than 16.
+-- `at`. So far one window was loaded for each 16 of these zeros, and one more if the last window
+-- began with fewer than 16 zeros.
 pub record Skipping (t : Table) (skip : Bool) (s : List ℕ) (at before now : ℕ) : Type 0 where
   pub bounded : at ≤ zeros t s
   pub within : at ≤ length s
   pub off : skip ≡ false → at ≡ 0
   pub most : 16 * now ≤ 16 * before + at + 15
   pub least : at + 16 * before ≤ 16 * now
-  pub place : (16 * now ≡ 16 * before + at) ⊎ ((at ≡ zeros t s) × (zeros t s / 16 < run_len t s / 16))
+  pub offset_is : (16 * now ≡ 16 * before + at) ⊎ ((at ≡ zeros t s) × (zeros t s / 16 < run_len t s / 16))
 
 -- A window that is loaded from offset `at` describes the slice from there on.
 pub shows_rest : (t : Table) → IsBelowTen t → (c : ℕ) (s : List ℕ) (at : ℕ) (w : Window) →
@@ -342,7 +342,7 @@ Skipping-none t skip s n = record {
   off = λ _. refl;
   most = omega arith;
   least = omega arith;
-  place = inl (omega arith);
+  offset_is = inl (omega arith);
 }
 
 -- If zeros are skipped and the window reports some, the loop goes on after these zeros.
@@ -359,14 +359,14 @@ Skipping-more t below skip s at after before now next w after_skip e one on some
     let full : w.len ≡ 16 = seen.full some in
     let run_more : w.len ≤ run_len t (drop at s) = omega (arith, seen.len_is) in
     let exact : 16 * now ≡ 16 * before + at =
-    elim after_skip.place [ inl h ↦ h | inr h ↦ absurd (omega (arith, h.0)) ] in
+    elim after_skip.offset_is [ inl h ↦ h | inr h ↦ absurd (omega (arith, h.0)) ] in
     record {
       bounded = omega arith;
       within = omega arith;
       off = λ h. absurd (false≢true (sym h ∙ on));
       most = omega arith;
       least = omega arith;
-      place = elim (cases_lt w.zeroes 16) [
+      offset_is = elim (cases_lt w.zeroes 16) [
         | inl h ↦ inr (omega arith, omega arith)
         | inr h ↦ inl (omega arith)
       ];
@@ -389,7 +389,7 @@ pub record Skipped (t : Table) (skip : Bool) (s : List ℕ) (at before now : ℕ
   pub most : 16 * now ≤ 16 * before + zeros t s + 31
   pub unskipped : skip ≡ false → now ≤ before + 1
   pub least : skip ≡ true → zeros t s + 16 * before ≤ 16 * now
-  pub place : skip ≡ true → (at ≡ 16 * (zeros t s / 16)) ⊎ ((at ≡ zeros t s) × (zeros t s / 16 < run_len t s / 16))
+  pub offset_is : skip ≡ true → (at ≡ 16 * (zeros t s / 16)) ⊎ ((at ≡ zeros t s) × (zeros t s / 16 < run_len t s / 16))
 
 -- The loop ends if zeros are not skipped, or if the window reports no zeros.
 pub Skipped-end : (t : Table) → IsBelowTen t → (skip : Bool) (s : List ℕ) (at before now next : ℕ) (w : Window) →
@@ -420,7 +420,7 @@ Skipped-end t below skip s at before now next w after_skip e one stops =
         | inl k ↦ omega (arith, short k, after_skip.least)
         | inr k ↦ omega (arith, full h (omega (arith, seen.len_is)), after_skip.least)
       ];
-      place = λ h. elim after_skip.place [
+      offset_is = λ h. elim after_skip.offset_is [
         | inr k ↦ inr k
         | inl k ↦ (elim (cases_lt w.len 16) [
           | inl m ↦ inl (omega (arith, short m))
@@ -441,7 +441,7 @@ Skipped-after_zeros t below s at before now w offset e none loads =
       off = λ h. absurd (cc h);
       most = omega arith;
       least = omega arith;
-      place = grind (arith, nat_tests);
+      offset_is = grind (arith, nat_tests);
     } in
     Skipped-end t below true s at before now (now + 1) w skipping (e ∙ ap (window_of t 16) (sym (take_rest s at))) refl (inr (refl, none))
 

@@ -12,8 +12,8 @@ loads_a_turn narrow = 1
 loads_a_turn wide64 = 2
 loads_a_turn wide128 = 3
 
--- The most loads that a call makes over a slice: those of a turn for each 16 leading zeros, and of
--- two more turns.
+-- The most loads that a call makes over a slice: those of one turn for each 16 leading zeros, and
+-- of two turns more.
 abbrev pub most_loads : Table → Class → List ℕ → ℕ
 most_loads table class s = loads_a_turn class * (zeros table s / 16 + 2)
 

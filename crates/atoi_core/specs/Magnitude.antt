@@ -25,8 +25,8 @@ abbrev pub skipped_zeros : Table → Bool → List ℕ → ℕ
 skipped_zeros table skip body = if skip then zeros table body else 0
 
 -- `limit` is how many *significant* digits are accepted, which are the digits after the skipped
--- zeros, or `None` if there is no limit. `cap` is how many of more significant digits `size` counts
--- at most, and `dropped` is how many zeros the slice of `overflow` leaves out.
+-- zeros, or `None` if there is no limit. If there are more, then the error `size` counts at most
+-- `cap` of them. `dropped` is how many zeros the slice of `overflow` leaves out.
 pub record Rule : Type 0 where
   pub limit : Option ℕ
   pub cap : ℕ
@@ -45,8 +45,8 @@ rule_of wide128 extent skip limit digits skipped = record { limit = Some limit; 
 
 -- There is a limit, and more digits are significant than it allows.
 abbrev pub is_above : Option ℕ → ℕ → Bool
-is_above None counting = false
-is_above (Some limit) counting = nat_lt limit counting
+is_above None significant = false
+is_above (Some limit) significant = nat_lt limit significant
 
 -- The body is parsed as a whole, and another byte follows its digits.
 abbrev pub leaves_rest : Extent → ℕ → ℕ → Bool
@@ -66,11 +66,11 @@ unfoldable pub refusal : Table → Class → (bound limit : ℕ) → Extent → 
 refusal table class bound limit extent skip body =
     let digits = run_len table body in
     let skipped = skipped_zeros table skip body in
-    let counting = digits - skipped in
+    let significant = digits - skipped in
     let number = value table (run table body) in
     let rule = rule_of class extent skip limit digits skipped in
     if digits == 0 then Some empty
-    else (if is_above rule.limit counting then Some (size (skipped + min counting rule.cap) (drop skipped body))
+    else (if is_above rule.limit significant then Some (size (skipped + min significant rule.cap) (drop skipped body))
     else (if nat_lt bound number then Some (overflow (drop rule.dropped body))
     else (if leaves_rest extent digits (length body) then Some (invalid class number digits body)
     else None)))

@@ -13,37 +13,37 @@ pub record Reading (table : Table) (count : ℕ) (s : List ℕ) (digits leading 
   pub leading_are : leading ≡ zeros table (take count s)
   pub number_is : number ≡ value table (run table (take count s))
 
--- All bytes before index `place` are zeros that are skipped; so if zeros are not skipped, there are
+-- All bytes before index `offset` are zeros that are skipped; so if zeros are not skipped, there are
 -- none.
-pub record IsSkipped (table : Table) (skip : Bool) (s : List ℕ) (place : ℕ) : Type 0 where
-  pub zeros_only : place ≤ zeros table s
-  pub asked : skip ≡ false → place ≡ 0
+pub record IsSkipped (table : Table) (skip : Bool) (s : List ℕ) (offset : ℕ) : Type 0 where
+  pub zeros_only : offset ≤ zeros table s
+  pub asked : skip ≡ false → offset ≡ 0
 
 -- How many of the digits that were read are significant: all, except for the leading zeros if these
 -- are skipped.
-abbrev pub counting_digits : Bool → (digits leading : ℕ) → ℕ
-counting_digits true digits leading = digits - leading
-counting_digits false digits leading = digits
+abbrev pub significant_digits : Bool → (digits leading : ℕ) → ℕ
+significant_digits true digits leading = digits - leading
+significant_digits false digits leading = digits
 
 -- How many significant digits the error `size` of a wide class counts at most. The wide classes are
 -- those of 64 and of 128 bits.
 abbrev pub cap : Class → ℕ
 cap class = (rule_of class prefix true 0 0 0).cap
 
--- The answer of a wide class after `skipped` zeros that are skipped and `counting` significant
+-- The answer of a wide class after `skipped` zeros that are skipped and `significant` more
 -- digits that spell `number`.
-abbrev pub answer_by_digits : Class → (bound limit skipped counting number : ℕ) → List ℕ → Result (ℕ × ℕ) Refusal
-answer_by_digits class bound limit skipped counting number s =
-    if skipped + counting == 0 then Err empty
-    else (if nat_lt limit counting then Err (size (skipped + min counting (cap class)) (drop skipped s))
+abbrev pub answer_by_digits : Class → (bound limit skipped significant number : ℕ) → List ℕ → Result (ℕ × ℕ) Refusal
+answer_by_digits class bound limit skipped significant number s =
+    if skipped + significant == 0 then Err empty
+    else (if nat_lt limit significant then Err (size (skipped + min significant (cap class)) (drop skipped s))
     else (if nat_lt bound number then Err (overflow (drop skipped s))
-    else Ok (number, skipped + counting)))
+    else Ok (number, skipped + significant)))
 
 -- The law that what has been read decides the answer.
 pub record ReadingDecides : Type 0 where
-  -- After `place` zeros, a reading has the zeros that are left, as far as it goes.
-  pub zeros_left : (table : Table) (count : ℕ) (s : List ℕ) (place : ℕ) → place ≤ zeros table s
-      → zeros table (take count (drop place s)) ≡ min count (zeros table s - place)
+  -- After `offset` zeros, a reading has the zeros that are left, as far as it goes.
+  pub zeros_left : (table : Table) (count : ℕ) (s : List ℕ) (offset : ℕ) → offset ≤ zeros table s
+      → zeros table (take count (drop offset s)) ≡ min count (zeros table s - offset)
   -- If a reading is full of digits, it and the reading after it together form one.
   pub join_readings : (table : Table) (count more : ℕ) (s : List ℕ) (leading high digits others low : ℕ)
       → Reading table count s count leading high → Reading table more (drop count s) digits others low
@@ -61,22 +61,22 @@ pub record ReadingDecides : Type 0 where
   -- After skipped zeros, a reading decides the answer of a wide class if its digits end within it,
   -- or if it has as many significant digits as `size` counts at most.
   pub decided : (table : Table) (class : Class) (bound limit : ℕ) → limit < cap class
-      → (skip : Bool) (s : List ℕ) (place count digits leading number : ℕ) → IsSkipped table skip s place
-      → Reading table count (drop place s) digits leading number
-      → (digits < count) ⊎ (cap class ≤ counting_digits skip digits leading)
+      → (skip : Bool) (s : List ℕ) (offset count digits leading number : ℕ) → IsSkipped table skip s offset
+      → Reading table count (drop offset s) digits leading number
+      → (digits < count) ⊎ (cap class ≤ significant_digits skip digits leading)
       → prefix_magnitude table class bound limit skip s
-      ≡ (let counting = counting_digits skip digits leading in
-      answer_by_digits class bound limit (place + (digits - counting)) counting number s)
+      ≡ (let significant = significant_digits skip digits leading in
+      answer_by_digits class bound limit (offset + (digits - significant)) significant number s)
   -- After skipped zeros, a reading whose digits end within it and are fewer than the limit has a
   -- number within the bound, which is the answer. If there are no digits at all, the answer is
   -- `empty`.
   pub short : (table : Table) → IsBelowTen table → (class : Class) (bound limit : ℕ) → limit < cap class → HasDigits limit bound
-      → (skip : Bool) (s : List ℕ) (place count digits leading number : ℕ) → IsSkipped table skip s place
-      → Reading table count (drop place s) digits leading number → digits < count → digits < limit
-      → (number ≤ bound) × (prefix_magnitude table class bound limit skip s ≡ (if place + digits == 0 then Err empty else Ok (number, place + digits)))
+      → (skip : Bool) (s : List ℕ) (offset count digits leading number : ℕ) → IsSkipped table skip s offset
+      → Reading table count (drop offset s) digits leading number → digits < count → digits < limit
+      → (number ≤ bound) × (prefix_magnitude table class bound limit skip s ≡ (if offset + digits == 0 then Err empty else Ok (number, offset + digits)))
   -- After skipped zeros, a reading of as many bytes as `size` counts digits at most, which does not
   -- start with a zero to be skipped, decides the answer by all its digits.
   pub full : (table : Table) (class : Class) (bound limit : ℕ) → limit < cap class
-      → (skip : Bool) (s : List ℕ) (place digits leading number : ℕ) → IsSkipped table skip s place
-      → Reading table (cap class) (drop place s) digits leading number → (skip ≡ true → leading ≡ 0)
-      → prefix_magnitude table class bound limit skip s ≡ answer_by_digits class bound limit place digits number s
+      → (skip : Bool) (s : List ℕ) (offset digits leading number : ℕ) → IsSkipped table skip s offset
+      → Reading table (cap class) (drop offset s) digits leading number → (skip ≡ true → leading ≡ 0)
+      → prefix_magnitude table class bound limit skip s ≡ answer_by_digits class bound limit offset digits number s

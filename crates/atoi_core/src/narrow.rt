@@ -81,12 +81,12 @@ fn starts_with_digit<E: Engine>(rest: &[u8], steps: &mut Steps) -> bool
 /// Parses all of `s`, which has no sign, as an integer of at most 32 bits, and returns its value.
 ///
 /// `bound` is the largest value that is accepted, from 9 to 4294967295, which is `u32::MAX`. Any
-/// number of leading zeros is accepted; each load skips at most 16 of them. It returns what
-/// `narrow_whole` returns, but in the digits of the engine. `steps` counts the loads.
+/// number of leading zeros is accepted; each load skips at most 16 of them. Its digits are those of
+/// the engine, and `steps` counts the loads; otherwise it is like `narrow_whole`.
 ///
 /// # Errors
 ///
-/// Those of `narrow_whole`.
+/// Those of `narrow_whole`: `Empty`, `Overflow(s)` and `Invalid64(value, index, s)`.
 #[inline(always)]
 pub fn narrow_whole_windows<'a, E: Engine>(
     bound: u64,

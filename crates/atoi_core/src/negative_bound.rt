@@ -1,8 +1,9 @@
-//! Both signs from one parse. A signed body is always parsed with the negative bound, the magnitude
-//! of `T::MIN`; a *magnitude* is a value without its sign. The functions here derive the answer for
-//! the actual sign from that. Of all magnitudes that the negative bound admits, only that of
-//! `T::MIN` is out of range without a minus. The slice in its `Overflow` then follows from the
-//! number of its digits. It uses `error`, `engine` and `number`.
+//! Both signs from one parse. A *magnitude* is a value without its sign. For a signed type, the body is
+//! always parsed as the digits of a negative number, so the largest magnitude is that of `T::MIN`. The
+//! functions here derive the answer for the actual sign from that. Only the magnitude of `T::MIN` is
+//! then out of range without a minus. It has a known number of digits, and all digits before them are
+//! zeros, so the number of all digits says where the slice of the error `Overflow` begins. The file
+//! uses `error`, `engine` and `number`.
 ghost use Rattle.std.specs.Prelude.{List, ◌≡◌, ◌<◌, ◌≤◌, ℕ, true, not, nat_lt, if◌then◌else◌, Some, None, length, drop};
 ghost use Rattle.std.specs.Option.{option_map};
 ghost use Rattle.atoi_core.specs.Answer.{typed_answer, typed_prefix_answer, whole_answer, prefix_answer};
@@ -31,11 +32,11 @@ pub(crate) fn whole_with_sign<'a, E: Engine, T: Signed>(
         ≡ whole_answer E.table T.int_type minus skip s.now }
 {
     match negative {
-        Ok(number) => match in_range(minus, number) {
+        Ok(number) => match checked_with_sign(minus, number) {
             Some(number) => Ok(number),
             None => Err(AtoiSimdError::Overflow(whole_overflow::<E, T>(skip, s.len(), s))),
         },
-        Err(error) => match digits_above::<T>(minus, error) {
+        Err(error) => match digits_if_above::<T>(minus, error) {
             Some(count) => Err(AtoiSimdError::Overflow(whole_overflow::<E, T>(skip, count, s))),
             None => Err(error),
         },
@@ -56,7 +57,7 @@ pub(crate) fn prefix_with_sign<'a, E: Engine, T: Signed>(
         ≡ prefix_answer E.table T.int_type minus skip s.now }
 {
     match negative {
-        Ok(found) => match in_range(minus, found.0) {
+        Ok(found) => match checked_with_sign(minus, found.0) {
             Some(number) => Ok((number, found.1)),
             None => Err(AtoiSimdError::Overflow(prefix_overflow::<E, T>(skip, found.1, s))),
         },
@@ -64,9 +65,9 @@ pub(crate) fn prefix_with_sign<'a, E: Engine, T: Signed>(
     }
 }
 
-// Returns the number whose magnitude is that of `negative`, negated if `minus` is set, or `None` if
-// it is out of range. The sign is data here: it selects one of two numbers.
-fn in_range<T: Signed>(minus: bool, negative: T) -> Option<T>
+// Returns `negative` itself if `minus` is set, otherwise its magnitude as a number, or `None` if
+// that is out of range. The sign is data here: it selects one of two numbers.
+fn checked_with_sign<T: Signed>(minus: bool, negative: T) -> Option<T>
     ensures { (magnitude : ℕ) → T.number negative ≡ with_sign true magnitude
         → option_map T.number result ≡ (if nat_lt (bound_of T.int_type minus) magnitude then None
         else Some (with_sign minus magnitude)) }
@@ -100,7 +101,7 @@ fn has_no_minus_cold(minus: bool) -> bool
 
 // Returns how many digits an error counts, if their value is above the bound for the sign `minus`.
 // Only `Invalid64` and `Invalid128` hold such a value.
-fn digits_above<T: Signed>(minus: bool, error: AtoiSimdError<'_>) -> Option<usize>
+fn digits_if_above<T: Signed>(minus: bool, error: AtoiSimdError<'_>) -> Option<usize>
     ensures { let reason = refusal_of error.entry in
         result ≡ (if nat_lt (bound_of T.int_type minus) (number_in reason) then Some (index_in reason)
         else None) }
@@ -129,8 +130,9 @@ fn whole_overflow<'a, E: Engine, T: Signed>(skip: bool, count: usize, s: &'a [u8
     }
 }
 
-// As `whole_overflow`, for the number at the start of `s`. Types of at most 32 bits drop the zeros
-// that fill whole windows of 16 bytes, and all zeros if more windows than these are full of digits.
+// As `whole_overflow`, for the number at the start of `s`. For types of at most 32 bits the slice
+// leaves out the zeros that fill whole windows of 16 bytes, and all leading zeros if the window in
+// which they end is full of digits.
 #[tactic(auto, using(crate::proofs::Bounds::dropped_prefix, crate::proofs::Bounds::run_within))]
 fn prefix_overflow<'a, E: Engine, T: Signed>(skip: bool, count: usize, s: &'a [u8]) -> &'a [u8]
     requires digits { count ≡ run_len E.table s.now }

@@ -49,31 +49,31 @@ pub fn append_digits(high: u64, digits: u32, low: u64) -> u128
 }
 
 /// Returns the answer of a 64-bit parse for digits that have been read: after `skipped` zeros,
-/// which are not significant, `counting` significant digits that spell `number`. The answer is this
+/// which are not significant, and `significant` more digits that spell `number`. The answer is this
 /// value, and the number of all these digits. `s` has at least as many bytes.
 ///
 /// # Errors
 ///
-/// Those of `Engine::prefix_64`: `Empty` if `skipped` and `counting` are 0, `Size` if `counting` is
-/// above `limit`, and `Overflow` if `number` is above `bound`.
+/// Those of `Engine::prefix_64`: `Empty` if `skipped` and `significant` are 0, `Size` if
+/// `significant` is above `limit`, and `Overflow` if `number` is above `bound`.
 #[inline(always)]
 pub fn answer_64<'a>(
     bound: u64,
     limit: u32,
     skipped: usize,
-    counting: u32,
+    significant: u32,
     number: u128,
     s: &'a [u8],
 ) -> Result<(u64, usize), AtoiSimdError<'a>>
-    requires inside { skipped + counting ≤ length s.now }
-    ensures { answer_of result ≡ answer_by_digits wide64 bound limit skipped counting number s.now }
+    requires inside { skipped + significant ≤ length s.now }
+    ensures { answer_of result ≡ answer_by_digits wide64 bound limit skipped significant number s.now }
 {
-    let len = skipped + counting as usize;
+    let len = skipped + significant as usize;
     let body = &s[skipped..];
     if len == 0 {
         Err(AtoiSimdError::Empty)
-    } else if counting > limit {
-        Err(AtoiSimdError::Size(skipped + counting.min(24) as usize, body))
+    } else if significant > limit {
+        Err(AtoiSimdError::Size(skipped + significant.min(24) as usize, body))
     } else if number > u128::from(bound) {
         Err(AtoiSimdError::Overflow(body))
     } else {

@@ -159,8 +159,8 @@ fn prefix_64_after_zeros<'a>(
     answer_64(bound, limit, at, 16 + back.len, number, s)
 }
 
-// Returns the window of the 8 bytes after the first 16, or of those of them that are there. Adds
-// one step.
+// Returns the window of the 8 bytes after the first 16, or of fewer if `s` ends before. Adds one
+// step.
 #[inline(always)]
 fn window_after_16(s: &[u8], steps: &mut Steps) -> Window
     requires { 16 ≤ length s.now }
@@ -171,7 +171,7 @@ fn window_after_16(s: &[u8], steps: &mut Steps) -> Window
     window_of_word(load_from(s, 16))
 }
 
-// Returns the window of a slice of at most 8 bytes. A slice of fewer is read as if zeros preceded
+// Returns the window of a slice of at most 8 bytes. A shorter slice is read as if zeros preceded
 // it, which the result leaves out. So there are always eight bytes, and unless `s` is empty, no
 // branch depends on its length. For fewer than 8 bytes the windows of 8 and of 16 bytes are the
 // same.
@@ -195,8 +195,7 @@ fn short_window(s: &[u8]) -> Window
     }
 }
 
-// Returns the word whose lowest bytes are zeros, the byte 48, as many as `len` bytes leave of
-// eight; the bytes above them are 0.
+// Returns the word with the byte 48, a zero, in its lowest `8 - len` bytes, and 0 in the bytes above.
 fn fill_of_zeros(len: usize) -> u64
     requires some { 0 < len }
     requires few { len ≤ 8 }
@@ -238,8 +237,8 @@ fn not_full(len: u32, number: u64) -> Window
 }
 
 // Returns the word of the bytes from index `at` on, at most 8. If `s` ends among them, they are
-// taken from its last 8 bytes by a shift. If no byte is left, that is a shift by 64 bits, which is
-// too far for a single shift of a word; so there are two.
+// taken from its last 8 bytes by a shift. If no byte is left, the word has to be shifted by 64
+// bits. One shift is of at most 63 bits, so there are two.
 #[inline(always)]
 fn load_from(s: &[u8], at: usize) -> u64
     requires enough { 8 ≤ length s.now }
@@ -314,7 +313,8 @@ fn value_of(word: u64, len: u32) -> u64
 
 // Returns what `check_len_8` returns, with fewer operations. The top bit of a byte marks that it is
 // no digit. Adding 70 to such a byte, or subtracting 48 from it, sets that bit; for a digit neither
-// does.
+// does. A carry or a borrow changes only bytes above the first that is no digit, and these are not
+// counted.
 fn digits_of(word: u64) -> u32
     ensures len { result ≡ run_len decimal_table (low_bytes 8 word) }
     ensures most { result ≤ 8 }

@@ -2,9 +2,8 @@
 //! digits or zeros that a word starts with, and the number that its bytes spell.
 //!
 //! A parse calls only the loads of this module: `Words` and `Lanes` call `load_high`, and `Lanes`
-//! calls `load_8`. `Words` has shorter counts and sums of its own, of which the sums need bytes
-//! that are digits. The other five functions are for callers that have words. It uses no other
-//! module.
+//! calls `load_8`. `Words` has shorter counts and sums of its own; its sums require that the bytes
+//! are digits. The other five functions are for callers that have words. It uses no other module.
 ghost use Rattle.std.specs.Prelude.{◌≡◌, ℕ, ◌-◌, ◌<◌, ◌≤◌, ◌++◌, length, take, drop, replicate};
 ghost use Rattle.atoi_core.specs.Digit.{decimal_table};
 ghost use Rattle.atoi_core.specs.Run.{run_len, zeros};
@@ -84,9 +83,8 @@ fn last_four(s: &[u8]) -> u64
     u64::from(u32::from_le_bytes(*bytes))
 }
 
-/// Returns how many of the lowest bytes of `val` are digits, which are the bytes 48 to 57, before
-/// the first that is none: 0 to 8. This holds for every `val`, whatever its bytes above that first
-/// one are.
+/// Returns how many bytes of `val`, from the lowest on, are digits, which are the bytes 48 to 57: 0
+/// to 8. It stops at the first byte that is no digit, and the bytes above that byte do not matter.
 pub fn check_len_8(val: u64) -> u32
     ensures len { result ≡ run_len decimal_table (low_bytes 8 val) }
     ensures most { result ≤ 8 }

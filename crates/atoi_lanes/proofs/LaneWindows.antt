@@ -5,7 +5,7 @@ use Rattle.std.proofs.Common.{◌≡◌, ℕ, zero, suc, ◌+◌, ◌<◌, ◌==
 use Rattle.std.specs.List.{prefix_len}
 use Rattle.std.proofs.lemmas.List.{take_all, length-take, take-append-le, drop-drop, length-drop, take-replicate, take_rest}
 use Rattle.atoi_core.specs.Digit.{decimal_table, is_digit, is_zero, IsBelowTen}
-use Rattle.atoi_core.specs.Reading.{Reading, IsSkipped, ReadingDecides, counting_digits, answer_by_digits}
+use Rattle.atoi_core.specs.Reading.{Reading, IsSkipped, ReadingDecides, significant_digits, answer_by_digits}
 use Rattle.atoi_core.specs.Run.{run_len, run, zeros, value}
 use Rattle.atoi_core.specs.Window.{window_of}
 use Rattle.atoi_core.specs.declared.window.Window.{Window}
@@ -100,10 +100,10 @@ after_some s enough short =
     let following : List ℕ = drop 16 s in
     let count : length following ≡ length s - 16 = length-drop 16 s in
     let all : last ≡ drop (end - 16) s = take_all 16 (drop (end - 16) s) (omega (arith, length-drop (end - 16) s)) in
-    let place : end - 16 + (32 - end) ≡ 16 = omega arith in
+    let offset : end - 16 + (32 - end) ≡ 16 = omega arith in
     let fill : length following + (32 - end) ≡ 16 = omega arith in
     ap (λ l. drop (32 - end) l ++ replicate (32 - end) 0) all
-    ∙ ap (λ l. l ++ replicate (32 - end) 0) (drop-drop (32 - end) (end - 16) s ∙ ap (λ k. drop k s) place)
+    ∙ ap (λ l. l ++ replicate (32 - end) 0) (drop-drop (32 - end) (end - 16) s ∙ ap (λ k. drop k s) offset)
     ∙ ap (λ l. following ++ l) (sym (take-replicate (32 - end) 16 0 (omega arith)))
     ∙ sym (take-append-add following (replicate 16 0) (32 - end))
     ∙ ap (λ n. take n (following ++ replicate 16 0)) fill
@@ -119,7 +119,7 @@ pub record Skipping (skip : Bool) (s : List ℕ) (at before now : ℕ) : Type 0 
   pub within : at ≤ length s
   pub most : 32 * now ≤ 32 * before + at + 31
   pub least : at + 32 * before ≤ 32 * now
-  pub place : (32 * now ≡ 32 * before + at) ⊎ (at ≡ zeros decimal_table s)
+  pub offset : (32 * now ≡ 32 * before + at) ⊎ (at ≡ zeros decimal_table s)
 
 -- Before the first window, nothing is skipped and nothing is loaded.
 pub Skipping-none : (skip : Bool) (s : List ℕ) (n : ℕ) → Skipping skip s 0 n n
@@ -128,7 +128,7 @@ Skipping-none skip s n = record {
   within = omega arith;
   most = omega arith;
   least = omega arith;
-  place = inl (omega arith);
+  offset = inl (omega arith);
 }
 
 -- If the window begins with zeros, the loop goes on after them.
@@ -137,13 +137,13 @@ pub Skipping-more : (skip : Bool) (s : List ℕ) (at before now next leading : �
 Skipping-more skip s at before now next leading after_skip reported one on some =
     let zeros_only : at ≤ zeros decimal_table s = after_skip.skipped.zeros_only in
     let zeros_within : zeros decimal_table s ≤ length s = prefix_len-le-length (is_zero decimal_table) s in
-    let exact : 32 * now ≡ 32 * before + at = elim after_skip.place [ inl h ↦ h | inr h ↦ absurd (omega arith) ] in
+    let exact : 32 * now ≡ 32 * before + at = elim after_skip.offset [ inl h ↦ h | inr h ↦ absurd (omega arith) ] in
     record {
       skipped = record { zeros_only = omega arith; asked = λ h. absurd (false≢true (sym h ∙ on)) };
       within = omega arith;
       most = omega arith;
       least = omega arith;
-      place = elim (cases_lt leading 32) [ inl h ↦ inr (omega arith) | inr h ↦ inl (omega arith) ];
+      offset = elim (cases_lt leading 32) [ inl h ↦ inr (omega arith) | inr h ↦ inl (omega arith) ];
     }
 
 -- If the last window begins with fewer than 32 zeros, at least one window was loaded for each 32
@@ -191,7 +191,7 @@ below_ten byte = grind (arith, nat_tests)
 
 -- All digits of a window are significant except its zeros that are skipped.
 significant_are : (skip : Bool) (len reported leading : ℕ) → reported ≤ len → ((skip ≡ true) × (leading ≡ reported)) ⊎ ((skip ≡ false) × (leading ≡ 0))
-    → (counting_digits skip len reported ≡ len - leading) × (len - counting_digits skip len reported ≡ leading)
+    → (significant_digits skip len reported ≡ len - leading) × (len - significant_digits skip len reported ≡ leading)
 significant_are true len reported leading most is = elim is [ inl h ↦ (omega (arith, h), omega (arith, h)) | inr h ↦ absurd (false≢true (sym h.0)) ]
 significant_are false len reported leading most is = elim is [ inl h ↦ absurd (false≢true h.0) | inr h ↦ (omega (arith, h), omega (arith, h)) ]
 
@@ -202,13 +202,13 @@ pub decided_64 : ReadingDecides → (bound limit : ℕ) (skip : Bool) (s : List 
 decided_64 law bound limit skip s at leading w few front is =
     let within = law.within decimal_table 32 (drop at s) w.len w.zeroes w.number front.reading in
     let count = significant_are skip w.len w.zeroes leading within.0 is in
-    let enough : (w.len < 32) ⊎ (24 ≤ counting_digits skip w.len w.zeroes) =
+    let enough : (w.len < 32) ⊎ (24 ≤ significant_digits skip w.len w.zeroes) =
     elim (cases_lt w.len 32) [
       | inl h ↦ inl h
       | inr h ↦ inr (elim is [ inl k ↦ omega (arith, k, front.ends k.0 h, count.0) | inr k ↦ omega (arith, k, count.0) ])
     ] in
     sym (law.decided decimal_table wide64 bound limit (omega arith) skip s at 32 w.len w.zeroes w.number front.skipped front.reading enough
-    ∙ ap (λ (n : ℕ). answer_by_digits wide64 bound limit (at + n) (counting_digits skip w.len w.zeroes) w.number s) count.1
+    ∙ ap (λ (n : ℕ). answer_by_digits wide64 bound limit (at + n) (significant_digits skip w.len w.zeroes) w.number s) count.1
     ∙ ap (λ (n : ℕ). answer_by_digits wide64 bound limit (at + leading) n w.number s) count.0)
 
 -- For 128 bits, a full window and the 8 bytes after it decide the answer.

@@ -144,7 +144,7 @@ pub fn parse_prefix<T: Parse, const SKIP_ZEROES: bool, const SKIP_PLUS: bool>(
     ensures refused { IsTrue SKIP_ZEROES → OnErr result ((number : ℤ) (count : ℕ)
         → ¬ PrefixWrites (TextWrites T.int_type SKIP_PLUS) s.now number count) }
 {
-    // The clauses `front` and `refused` follow from this law. The call does nothing.
+    // The clauses `prefix` and `refused` follow from this law. The call does nothing.
     prefix_results::<T, SKIP_ZEROES>();
     T::atoi_simd_parse_prefix(s, SKIP_ZEROES, SKIP_PLUS)
 }
@@ -173,7 +173,7 @@ pub fn parse_prefix_pos<T: Parse, const SKIP_ZEROES: bool>(
     ensures refused { IsTrue SKIP_ZEROES → OnErr result ((number : ℤ) (count : ℕ)
         → ¬ PrefixWrites (DigitsWrite T.int_type false) s.now number count) }
 {
-    // The clauses `front` and `refused` follow from this law. The call does nothing.
+    // The clauses `prefix` and `refused` follow from this law. The call does nothing.
     prefix_results::<T, SKIP_ZEROES>();
     T::atoi_simd_parse_prefix_pos(s, SKIP_ZEROES)
 }
@@ -204,7 +204,7 @@ pub fn parse_prefix_neg<T: ParseNeg, const SKIP_ZEROES: bool>(
     ensures refused { IsTrue SKIP_ZEROES → OnErr result ((number : ℤ) (count : ℕ)
         → ¬ PrefixWrites (DigitsWrite T.int_type true) s.now number count) }
 {
-    // The clauses `front` and `refused` follow from this law. The call does nothing.
+    // The clauses `prefix` and `refused` follow from this law. The call does nothing.
     prefix_results::<T, SKIP_ZEROES>();
     T::atoi_simd_parse_prefix_neg(s, SKIP_ZEROES)
 }

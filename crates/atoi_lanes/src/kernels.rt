@@ -24,8 +24,8 @@ const SHIFTS: [u8; 32] = [
     5, 6, 7, 8, 9, 10, 11, 12, 13, 14, 15,
 ];
 
-// The weights of the bytes of two neighbouring pairs of digits, in the sum that joins them to four
-// digits. The value of a pair is in the upper byte of its 16 bits, so the lower byte has weight 0.
+// The weights with which `dot4` makes 100 times a pair of digits plus the next pair. The value of a
+// pair is in the upper byte of its 16 bits, so the lower byte has weight 0.
 const HUNDREDS: [u8; 16] = [0, 100, 0, 1, 0, 100, 0, 1, 0, 100, 0, 1, 0, 100, 0, 1];
 
 /// Returns the first 16 bytes of `s`, or all if there are fewer, as lanes: the first byte is in the

@@ -25,8 +25,8 @@ use atoi_core::{AtoiSimdError, Engine, Steps, Window};
 /// largest accepted value, and has exactly `limit` digits, 17 to 20. With `skip`, any number of
 /// leading zeros is accepted, and they do not count towards `limit`.
 ///
-/// Each turn of the loop is one *load*: it reads a window of 32 bytes and adds one step. A turn
-/// that skips zeros skips at most 32. A slice of fewer than 16 bytes is read as a window of 16.
+/// Each *load* reads a window of 32 bytes and adds one step, and skips at most 32 leading zeros. A
+/// slice of fewer than 16 bytes is read as a window of 16.
 ///
 /// # Errors
 ///
@@ -74,9 +74,8 @@ pub fn prefix_64_lanes<'a>(
 /// largest accepted value, and has exactly 39 digits. With `skip`, any number of leading zeros is
 /// accepted, and they do not count towards these 39.
 ///
-/// Each turn of the loop is one *load*: it reads a window of 32 bytes and adds one step. A turn
-/// that skips zeros skips at most 32. If the last of these windows is full of digits, the 8 bytes
-/// after it are loaded too.
+/// Each *load* reads a window of 32 bytes and adds one step, and skips at most 32 leading zeros. If
+/// the last of these windows is full of digits, the 8 bytes after it are loaded too.
 ///
 /// # Errors
 ///
@@ -224,25 +223,25 @@ fn skip_leading_zeros(zeroes: u32, s: &[u8], steps: &mut Steps) -> WindowAt
     }
 }
 
-// One turn of the loop: skips the zeros that the window at the offset `place` begins with, and
+// One turn of the loop: skips the zeros that the window at the offset `offset` begins with, and
 // reads the window that follows them.
-fn next_window(place: usize, zeroes: u32, s: &[u8], steps: &mut Steps) -> WindowAt
-    requires first_window { zeroes ≡ zeros decimal_table (take 32 (drop place s.now)) }
-    requires within { place + zeroes ≤ length s.now }
-    ensures dropped { result.at ≡ place + zeros decimal_table (take 32 (drop place s.now)) }
+fn next_window(offset: usize, zeroes: u32, s: &[u8], steps: &mut Steps) -> WindowAt
+    requires first_window { zeroes ≡ zeros decimal_table (take 32 (drop offset s.now)) }
+    requires within { offset + zeroes ≤ length s.now }
+    ensures dropped { result.at ≡ offset + zeros decimal_table (take 32 (drop offset s.now)) }
     ensures reading { Reading decimal_table 32 (drop result.at s.now) result.window.len
         result.window.zeroes result.window.number }
     ensures one_step { steps.new ≡ steps.old + 1 }
 {
-    let at = place + zeroes as usize;
+    let at = offset + zeroes as usize;
     WindowAt {
         at,
         window: window_32(&s[at..], steps),
     }
 }
 
-// Returns the answer of 128 bits, which the last window of 32 bytes decides. If that window is full
-// of digits, the eight bytes after it are read too.
+// Returns the answer of 128 bits. It follows from the last window of 32 bytes and, if that is full
+// of digits, from the eight bytes after it.
 #[inline(always)]
 fn finish_128<'a>(
     bound: u128,
@@ -333,8 +332,8 @@ fn answer_from_window_64<'a>(
     reading_decides();
     let leading = if skip { reached.window.zeroes } else { 0 };
     let skipped = reached.at + leading as usize;
-    let counting = reached.window.len - leading;
-    answer_64(bound, limit, skipped, counting, reached.window.number, s)
+    let significant = reached.window.len - leading;
+    answer_64(bound, limit, skipped, significant, reached.window.number, s)
 }
 
 // Returns the answer of 128 bits for a last window that is not full of digits. The value of fewer

@@ -47,15 +47,15 @@ row_text request text = call_text request.call (int_type_of request.integer) req
 
 -- Why a field has no value: the index of the field, an offset in the input, and the error if no number can
 -- be read there.
-abbrev pub flaw_text : Flaw → List ℕ
-flaw_text (field index place reason) =
+abbrev pub refused_field_text : Flaw → List ℕ
+refused_field_text (field index place reason) =
     codes "field " ++ decimal index ++ codes " " ++ decimal place ++ codes ": " ++ error_text reason
-flaw_text (trailing index place) = codes "trailing " ++ decimal index ++ codes " " ++ decimal place
+refused_field_text (trailing index place) = codes "trailing " ++ decimal index ++ codes " " ++ decimal place
 
 -- An item of a column with a space before it: its value, or its error.
 abbrev pub item_text : Result ℤ Flaw → List ℕ
 item_text (Ok value) = codes " " ++ signed_decimal value
-item_text (Err flaw) = codes " err " ++ flaw_text flaw
+item_text (Err flaw) = codes " err " ++ refused_field_text flaw
 
 -- The word `col` and then all items of a column, in order.
 abbrev pub column_text : IntType → (separator : ℕ) → List ℕ → List ℕ

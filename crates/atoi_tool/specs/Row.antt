@@ -56,9 +56,9 @@ query_of engine_word call_word integer_word last_word =
     else option_map (λ request. Number request) (request_of engine_word call_word integer_word last_word)
 
 -- Such a row has an answer.
-abbrev pub IsAnswered : Query → Type 0
-IsAnswered (Number request) = is_known request ≡ true
-IsAnswered (Column integer separator) = is_separator separator ≡ true
+abbrev pub HasAnswer : Query → Type 0
+HasAnswer (Number request) = is_known request ≡ true
+HasAnswer (Column integer separator) = is_separator separator ≡ true
 
 -- What a line asks for, and the text after its fourth space, which may have more spaces; `None` if the line
 -- is a bad row.

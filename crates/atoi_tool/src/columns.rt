@@ -1,5 +1,5 @@
-//! Writes the answer to a row about a column, item by item, since its length has no bound. It uses
-//! `atoi_column`, the trait `Sink`, and `request`, `printed`, `line`, `put` and `refused`.
+//! Writes the answer to a row about a column, item by item, since the answer can have any length.
+//! It uses `atoi_column`, the trait `Sink`, and `request`, `printed`, `line`, `put` and `refused`.
 ghost use Rattle.std.specs.Prelude.{◌≡◌, ◌+◌, ◌++◌, true, codes, OnOk, OnErr};
 ghost use Rattle.std.specs.List.{flat_map};
 ghost use Rattle.std.specs.Io.KnownBytes.{Appends};

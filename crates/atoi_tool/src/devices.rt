@@ -54,8 +54,9 @@ pub(crate) enum Full {
     TakesNone,
 }
 
-/// A writer that accepts at most `part` bytes a call, and `room` bytes until it is full. It is full
-/// for one call, and then has room for `room_then` more bytes. It counts its calls.
+/// A writer that accepts at most `part` bytes a call, and `room` bytes until it is full. A call
+/// that finds it full accepts nothing, and then it has room for `room_then` more bytes. It counts
+/// its calls.
 #[derive(Drop)]
 pub(crate) struct LimitedWriter {
     pub(crate) held: Vec<u8>,

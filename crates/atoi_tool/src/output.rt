@@ -3,7 +3,7 @@
 ghost use Rattle.std.specs.Prelude.{◌≡◌, ◌+◌, ◌<◌, [], ◌∷◌, length, IfOk, IfErr, OnOk, OnErr};
 ghost use Rattle.std.specs.Io.KnownBytes.{Appends};
 ghost use Rattle.atoi_tool.specs.Failures.{failures_of, AppendsPrefix};
-ghost use Rattle.atoi_tool.specs.Row.{IsAnswered};
+ghost use Rattle.atoi_tool.specs.Row.{HasAnswer};
 ghost use Rattle.atoi_tool.specs.Answer.{is_good_line};
 ghost use Rattle.atoi_tool.specs.Output.{lines_of, row_output, line_output, output_of, is_good_input};
 
@@ -36,7 +36,7 @@ fn first_line(input: &[u8]) -> (&[u8], &[u8])
 
 // Writes the answer to a row, and a newline after it.
 fn put_row<S: Sink>(query: Query, text: &[u8], output: &mut S) -> Result<(), Refused>
-    requires { IsAnswered query }
+    requires { HasAnswer query }
     ensures ok { OnOk result
         (Appends (S.held output.old) (S.held output.new) (row_output query text.now)) }
     ensures err { OnErr result

@@ -7,7 +7,7 @@ ghost use Rattle.atoi_core.specs.Sign.{with_sign};
 ghost use Rattle.atoi_core.specs.Answer.{typed_answer, typed_prefix_answer};
 ghost use Rattle.atoi_core.specs.ErrorText.{error_text};
 ghost use Rattle.atoi_column.specs.Items.{flaw_of, item_of};
-ghost use Rattle.atoi_tool.specs.Answer.{whole_text, prefix_text, refusal_text, flaw_text, item_text};
+ghost use Rattle.atoi_tool.specs.Answer.{whole_text, prefix_text, refusal_text, refused_field_text, item_text};
 
 use crate::line::{Line, ROOM};
 use atoi_column::ColumnError;
@@ -119,7 +119,7 @@ fn push_index_and_place(index: usize, place: usize, out: &mut Line)
 // byte and the error of its parse, or the index and the offset of the byte after the number.
 fn push_flaw(error: &ColumnError<'_>, out: &mut Line)
     requires { out.old ≡ [] }
-    ensures { out.new ≡ codes " err " ++ flaw_text (flaw_of error.now) }
+    ensures { out.new ≡ codes " err " ++ refused_field_text (flaw_of error.now) }
 {
     out.push(b" err ");
     match *error {

@@ -3,7 +3,7 @@
 ghost use Rattle.std.specs.Prelude.{◌≡◌, ◌<◌, true, IfSome};
 ghost use Rattle.std.specs.Option.{option_map};
 ghost use Rattle.atoi_tool.specs.Request.{is_known};
-ghost use Rattle.atoi_tool.specs.Row.{cut, request_of, hex_digit, byte_of, column_of, query_of, row_of, IsAnswered};
+ghost use Rattle.atoi_tool.specs.Row.{cut, request_of, hex_digit, byte_of, column_of, query_of, row_of, HasAnswer};
 
 use crate::place::place_of;
 use crate::request::{Query, Request, call_of, engine_of, flags_of, integer_of};
@@ -64,7 +64,7 @@ fn byte_of(word: &[u8]) -> Option<u8>
 // another word names nothing, or if the byte that the last one spells may not separate fields.
 fn column_of(engine: &[u8], integer: &[u8], separator: &[u8]) -> Option<Query>
     ensures query { result ≡ column_of engine.now integer.now separator.now }
-    ensures answered { IfSome result IsAnswered }
+    ensures answered { IfSome result HasAnswer }
 {
     let b"w" = engine else {
         return None;
@@ -81,7 +81,7 @@ fn column_of(engine: &[u8], integer: &[u8], separator: &[u8]) -> Option<Query>
 // Returns what four words ask for, about a column if the call is `column`, else about one number.
 fn query_of(engine: &[u8], call: &[u8], integer: &[u8], last: &[u8]) -> Option<Query>
     ensures query { result ≡ query_of engine.now call.now integer.now last.now }
-    ensures answered { IfSome result IsAnswered }
+    ensures answered { IfSome result HasAnswer }
 {
     match call {
         b"column" => column_of(engine, integer, last),
@@ -96,7 +96,7 @@ fn query_of(engine: &[u8], call: &[u8], integer: &[u8], last: &[u8]) -> Option<Q
 /// row.
 pub fn row_of(line: &[u8]) -> Option<(Query, &[u8])>
     ensures row { option_map (λ row. (row.0, row.1.now)) result ≡ row_of line.now }
-    ensures answered { IfSome result (λ row. IsAnswered row.0) }
+    ensures answered { IfSome result (λ row. HasAnswer row.0) }
 {
     let (engine, rest) = cut(line)?;
     let (call, rest) = cut(rest)?;

@@ -14,8 +14,8 @@ use std::alloc::Global;
 use std::marker::PhantomData;
 use std::process::{ExitCode, Termination};
 
-/// How a run that reads an `I` and writes an `O` ended: whether every line was good, or the error
-/// that stopped the run.
+/// How a run that reads from an `I` and writes to an `O` ended: whether every line was good, or the
+/// error that stopped the run.
 ///
 /// Only `run` makes a value of this type, and such a value cannot be dropped. So a `main` that
 /// returns one ends with the status of a run, and its result type names the streams of that run.

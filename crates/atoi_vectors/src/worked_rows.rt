@@ -195,6 +195,8 @@ fn a_consumed_sign_is_counted(rt: HostRuntime) {
         parse::<i16, false, true>(b"+32768") => Err(Overflow(b"32768"));
         parse_skipped::<isize>(b"+007") => Ok(7);
         parse_any::<usize>(b"7 ") => Ok((7, 1));
+        parse_any_pos::<u16>(b"7 ") => Ok((7, 1));
+        parse_prefix_neg::<i64, true>(b"007,") => Ok((-7, 3));
     );
 }
 

@@ -131,10 +131,10 @@ fn ask(question: &Question, signed: &[u8], counts: &mut Counts) {
         #[cfg(feature = "original")]
         {
             let kind = original::beside(question, text, &ours, &original);
-            let differs = matches!(kind, original::IntType::Unnamed)
+            let differs = matches!(kind, original::Kind::Unnamed)
                 .then(|| beside("the Rust crate", Some(original)));
             counts.count(|counts| &mut counts.original, differs);
-            if let original::IntType::Named(name) = kind {
+            if let original::Kind::Named(name) = kind {
                 counts.name(name);
             }
         }

@@ -62,8 +62,8 @@ fn parts_of(input: &[u8]) -> FromReader<FailingReader<'_>> {
 }
 
 // Five parts need four requests for memory: for 1, 2, 4 and 8 parts, each while the memory of the
-// one before is still held. A heap of each of these sizes refuses one of the four requests, and no
-// request follows it.
+// one before is still held. Each heap in the list below refuses one of the four requests, and no
+// request follows that one.
 #[test]
 fn reports_each_refused_request_for_memory(rt: HostRuntime) -> Result<(), Fail> {
     let input = vec![in rt.alloc(); b'7'; 5 * PART]?;

@@ -15,17 +15,17 @@ whole_overflow-requires-clause-least g c =
     (ap (typed_answer g.T.Number.number) (sym c.in-Ok.is) ∙ c.requires.negative) c.in-None.ensures in
     omega (arith, found.0.least, g.met.T.Signed.least, g.met.T.Number.type_is.greatest_is)
 
-pub whole_overflow-requires-in-Some-digits_above-clause-digits :
-    goal.whole_overflow-requires-in-Some-digits_above-clause-digits
-whole_overflow-requires-in-Some-digits_above-clause-digits g c =
+pub whole_overflow-requires-in-Some-digits_if_above-clause-digits :
+    goal.whole_overflow-requires-in-Some-digits_if_above-clause-digits
+whole_overflow-requires-in-Some-digits_if_above-clause-digits g c =
     (whole_error_least g.E.Engine.table g.T.Number.int_type c.args.minus c.args.skip c.args.s.now _ _
-    (ap (typed_answer g.T.Number.number) (sym c.in-Err.is) ∙ c.requires.negative) c.in-Some-digits_above.ensures).1
+    (ap (typed_answer g.T.Number.number) (sym c.in-Err.is) ∙ c.requires.negative) c.in-Some-digits_if_above.ensures).1
 
-pub whole_overflow-requires-in-Some-digits_above-clause-least :
-    goal.whole_overflow-requires-in-Some-digits_above-clause-least
-whole_overflow-requires-in-Some-digits_above-clause-least g c =
+pub whole_overflow-requires-in-Some-digits_if_above-clause-least :
+    goal.whole_overflow-requires-in-Some-digits_if_above-clause-least
+whole_overflow-requires-in-Some-digits_if_above-clause-least g c =
     let found = whole_error_least g.E.Engine.table g.T.Number.int_type c.args.minus c.args.skip c.args.s.now _ _
-    (ap (typed_answer g.T.Number.number) (sym c.in-Err.is) ∙ c.requires.negative) c.in-Some-digits_above.ensures in
+    (ap (typed_answer g.T.Number.number) (sym c.in-Err.is) ∙ c.requires.negative) c.in-Some-digits_if_above.ensures in
     omega (arith, found.0.least, g.met.T.Signed.least, g.met.T.Number.type_is.greatest_is)
 
 pub returns-in-Some : goal.returns-in-Some
@@ -46,20 +46,20 @@ returns-in-None g c =
           (length c.args.s.now) _ found.0 found.1 c.whole_overflow.ensures;
     }
 
-pub returns-in-Some-digits_above : goal.returns-in-Some-digits_above
-returns-in-Some-digits_above g c =
+pub returns-in-Some-digits_if_above : goal.returns-in-Some-digits_if_above
+returns-in-Some-digits_if_above g c =
     let found = whole_error_least g.E.Engine.table g.T.Number.int_type c.args.minus c.args.skip c.args.s.now _ _
-    (ap (typed_answer g.T.Number.number) (sym c.in-Err.is) ∙ c.requires.negative) c.in-Some-digits_above.ensures in
+    (ap (typed_answer g.T.Number.number) (sym c.in-Err.is) ∙ c.requires.negative) c.in-Some-digits_if_above.ensures in
     record {
       answer =
           whole_overflows g.E.Engine.table g.T.Number.int_type c.args.minus c.args.skip c.args.s.now
-          _ _ found.0 found.1 c.whole_overflow-in-Some-digits_above.ensures;
+          _ _ found.0 found.1 c.whole_overflow-in-Some-digits_if_above.ensures;
     }
 
-pub returns-in-None-digits_above : goal.returns-in-None-digits_above
-returns-in-None-digits_above g c =
+pub returns-in-None-digits_if_above : goal.returns-in-None-digits_if_above
+returns-in-None-digits_if_above g c =
     record {
       answer =
           whole_error g.E.Engine.table g.T.Number.int_type c.args.minus c.args.skip c.args.s.now _
-          (ap (typed_answer g.T.Number.number) (sym c.in-Err.is) ∙ c.requires.negative) c.in-None-digits_above.ensures;
+          (ap (typed_answer g.T.Number.number) (sym c.in-Err.is) ∙ c.requires.negative) c.in-None-digits_if_above.ensures;
     }

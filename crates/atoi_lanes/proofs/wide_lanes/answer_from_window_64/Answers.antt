@@ -5,14 +5,14 @@ use Rattle.atoi_lanes.proofs.LaneWindows.{decided_64}
 use Rattle.atoi_lanes.proofs.wide_lanes.answer_from_window_64.Goals as goal
 use Rattle.atoi_lanes.proofs.wide_lanes.answer_from_window_64.Goals.{then-skip, else-skip}
 
-pub overflow_sub-counting : goal.overflow_sub-counting
-overflow_sub-counting c =
+pub overflow_sub-significant : goal.overflow_sub-significant
+overflow_sub-significant c =
     let w = c.args.reached.window in
     let most = c.reading_decides.ensures.within decimal_table 32 _ w.len w.zeroes w.number c.requires.reached.reading in
     elim c.if-skip.branch [ then-skip k ↦ omega (arith, most.0, k.leading-is) | else-skip k ↦ omega (arith, k.leading-is) ]
 
 pub answer_64-requires : goal.answer_64-requires
-answer_64-requires c = omega (arith, overflow_sub-counting c, c.requires.reached.within)
+answer_64-requires c = omega (arith, overflow_sub-significant c, c.requires.reached.within)
 
 pub returns : goal.returns
 returns c =

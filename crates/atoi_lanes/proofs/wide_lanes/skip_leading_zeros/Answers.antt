@@ -9,12 +9,12 @@ use Rattle.atoi_lanes.proofs.LaneWindows.{Skipping, Skipping-none, Skipping-more
 use Rattle.atoi_lanes.proofs.wide_lanes.skip_leading_zeros.Goals as goal
 
 -- A turn drops the leading zeros of its window.
-dropped : ReadingDecides → (s : List ℕ) (place before now next leading at : ℕ) → Skipping true s place before now
-    → leading ≡ zeros decimal_table (take 32 (drop place s)) → 0 < leading → at ≡ place + zeros decimal_table (take 32 (drop place s))
+dropped : ReadingDecides → (s : List ℕ) (offset before now next leading at : ℕ) → Skipping true s offset before now
+    → leading ≡ zeros decimal_table (take 32 (drop offset s)) → 0 < leading → at ≡ offset + zeros decimal_table (take 32 (drop offset s))
     → next ≡ now + 1 → Skipping true s at before next
-dropped law s place before now next leading at after_skip reported some is one =
-    let left = reported ∙ law.zeros_left decimal_table 32 s place after_skip.skipped.zeros_only in
-    subst (λ n. Skipping true s n before next) (ap (λ n. place + n) reported ∙ sym is) (Skipping-more _ _ _ _ _ next _ after_skip left one refl some)
+dropped law s offset before now next leading at after_skip reported some is one =
+    let left = reported ∙ law.zeros_left decimal_table 32 s offset after_skip.skipped.zeros_only in
+    subst (λ n. Skipping true s n before next) (ap (λ n. offset + n) reported ∙ sym is) (Skipping-more _ _ _ _ _ next _ after_skip left one refl some)
 
 pub next_window-reached-requires-clause-within : goal.next_window-reached-requires-clause-within
 next_window-reached-requires-clause-within c =
