@@ -17,8 +17,8 @@ use Rattle.atoi_core.specs.Words.{low_bytes}
 use Rattle.atoi_core.proofs.Calls.{digit_in_range}
 use Rattle.atoi_core.proofs.WordFields.{trailing_bytes, repeated, or_bytes, and_repeated, xor_repeated, upper_halves, digits_cut}
 
--- The passing prefix of a mapped list is as long as that of the list itself under the composed
--- test.
+-- `prefix_len p xs` is the length of the longest prefix whose elements pass the test `p`. To map
+-- with `f` first is the same as to test with `p` after `f`.
 prefix_len-map : (p : ℕ → Bool) (f : ℕ → ℕ) (xs : List ℕ) → prefix_len p (map f xs) ≡ prefix_len (λ x. p (f x)) xs
 prefix_len-map p f [] = refl
 prefix_len-map p f (x ∷ xs) = ap (λ n. cond (p (f x)) (1 + n) 0) (prefix_len-map p f xs)
@@ -47,7 +47,7 @@ zeros_counted k word =
 
 -- ---- Counting digits
 
--- Two lengths after the same test need to agree only if the test passes.
+-- Two lengths that are 0 unless the same test passes are equal, if they are equal when it passes.
 run_goes_on : (t : Bool) (m n : ℕ) → (t ≡ true → m ≡ n) → cond t (1 + m) 0 ≡ cond t (1 + n) 0
 run_goes_on true m n e = ap (λ x. 1 + x) (e refl)
 run_goes_on false m n e = refl

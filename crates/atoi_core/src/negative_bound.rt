@@ -99,8 +99,8 @@ fn has_no_minus_cold(minus: bool) -> bool
     !minus
 }
 
-// Returns how many digits an error counts, if their value is above the bound for the sign `minus`.
-// Only `Invalid64` and `Invalid128` hold such a value.
+// Returns the index in an error `Invalid64` or `Invalid128`, which is the number of digits before
+// it, if their value is above the bound for the sign `minus`.
 fn digits_if_above<T: Signed>(minus: bool, error: AtoiSimdError<'_>) -> Option<usize>
     ensures { let reason = refusal_of error.entry in
         result ≡ (if nat_lt (bound_of T.int_type minus) (number_in reason) then Some (index_in reason)

@@ -8,14 +8,14 @@
 //!    that are skipped. `zeros_left` gives the number of the zeros after it, which the bound on
 //!    loads needs.
 //! 3. Let each window ensure `Reading`: its number of digits, its leading zeros and its value.
-//! 4. Combine two readings with `joined`.
+//! 4. Combine two readings with `join_readings`.
 //! 5. Turn the last one into the answer, `answer_by_digits`, with `decided`.
 ghost use Rattle.atoi_core.specs.Reading.{ReadingDecides};
 
 /// The law that what has been read of a slice decides the answer of `Engine::prefix_64` and
 /// `Engine::prefix_128`. It applies to a reading after skipped zeros, in two cases: the digits end
-/// within the bytes that were read, or at least as many significant digits were read as the error
-/// `Size` counts at most. Calling this function does nothing.
+/// within the bytes that were read, or `cap` significant digits were read, which is the most that
+/// the error `Size` counts. Calling this function does nothing.
 #[tactic(auto, using(crate::proofs::Windows::reading_decides))]
 pub fn reading_decides()
     ensures { ReadingDecides }

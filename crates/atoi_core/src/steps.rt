@@ -7,8 +7,9 @@ use std::marker::{Model, PhantomData};
 
 /// A count of steps, which contracts see as a natural number. It has no bytes at run time.
 ///
-/// Each step is one load, which is one read of a window. The functions that load are passed a
-/// `&mut Steps`, and their contracts say how many steps they add at least and at most.
+/// In the parsers each step is one load, which is one read of a window; the tool also counts
+/// refused reads and writes. The functions that load are passed a `&mut Steps`, and their contracts
+/// say how many steps they add at least and at most.
 #[derive(Drop)]
 pub struct Steps {
     marker: PhantomData<u8>,

@@ -24,8 +24,8 @@ const SHIFTS: [u8; 32] = [
     5, 6, 7, 8, 9, 10, 11, 12, 13, 14, 15,
 ];
 
-// The weights with which `dot4` makes 100 times a pair of digits plus the next pair. The value of a
-// pair is in the upper byte of its 16 bits, so the lower byte has weight 0.
+// With these weights `dot4` returns `100 * pair + next_pair`, for two pairs of digits. The value of
+// a pair is in the upper byte of its 16 bits, so the lower byte has weight 0.
 const HUNDREDS: [u8; 16] = [0, 100, 0, 1, 0, 100, 0, 1, 0, 100, 0, 1, 0, 100, 0, 1];
 
 /// Returns the first 16 bytes of `s`, or all if there are fewer, as lanes: the first byte is in the
@@ -113,9 +113,9 @@ pub fn read_short(s: &[u8]) -> (u32, u64)
     let word = load_high(s);
     let lanes = half(word);
     let mask = digit_mask(lanes);
-    // The lower four bits of a digit are its value. A lane whose byte is missing stays 0.
     if mask.count_ones() as usize == s.len() {
-        // All bytes are digits, so the number can be computed without waiting for their count.
+        // All bytes are digits, so the number can be computed without waiting for their count. The
+        // lower four bits of a digit are its value, and a lane whose byte is missing stays 0.
         return (s.len() as u32, number_in_half(lanes & u8x16::splat(0x0F)));
     }
     let len = (mask >> (8 - s.len())).trailing_ones();
