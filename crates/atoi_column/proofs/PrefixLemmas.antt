@@ -15,7 +15,8 @@ use Rattle.atoi_core.specs.Laws.{looked_for, prefix_call, HaveSameRun, HaveSameO
 use Rattle.atoi_column.specs.Fields.{is_separator}
 use Rattle.atoi_column.specs.Laws.{FieldsArePrefixes}
 
--- If an element does not pass a test, nothing after it changes the passing prefix.
+-- If `b` does not pass the test, then what follows `b` does not change the length of the longest
+-- prefix that passes it.
 prefix_len-stops : (p : ℕ → Bool) (b : ℕ) (ys : List ℕ) → p b ≡ false → (xs : List ℕ) → prefix_len p (xs ++ b ∷ ys) ≡ prefix_len p xs
 prefix_len-stops p b ys fails [] = rw fails refl
 prefix_len-stops p b ys fails (x ∷ xs) = ap (λ n. cond (p x) (1 + n) 0) (prefix_len-stops p b ys fails xs)

@@ -282,7 +282,7 @@ pub whole_call-is : (k : IntType) (form : SignForm) (skip : Bool) (s : List ℕ)
 whole_call-is k (looked_for plus) skip s = refl
 whole_call-is k (given is_negative) skip s = refl
 
--- A prefix parse does too, and its count includes the byte of the sign.
+-- So is that of a prefix parse, but its count also includes the byte of the sign.
 pub prefix_call-is : (k : IntType) (form : SignForm) (skip : Bool) (s : List ℕ)
     → prefix_call k form skip s
     ≡ with_more (sign_in k form s).taken (prefix_answer decimal_table k (sign_in k form s).minus skip (sign_in k form s).body)

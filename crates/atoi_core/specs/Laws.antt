@@ -25,7 +25,7 @@ pub data SignForm : Type 0 where
 abbrev pub positive : SignForm
 positive = given false
 
--- The sign that such a call uses, and the body that it reads.
+-- The sign that a call of the form uses, and the body that it reads.
 abbrev pub sign_in : IntType → SignForm → List ℕ → Sign
 sign_in k (looked_for plus) s = sign_of k.signed plus s
 sign_in k (given is_negative) s = record { minus = is_negative; taken = 0; body = s }
@@ -102,8 +102,8 @@ pub record AcceptedNumbers (k : IntType) : Type 0 where
   pub accepted : (form : SignForm) (s : List ℕ) (number : ℤ)
       → Writes k form s number → whole_call k form true s ≡ Ok number
 
--- The same for the results of a type: `number` says which integer each value means. If zeros are
--- skipped, an error means that the slice writes no number.
+-- The same for a Rust `Result` with a value of a type; `number` gives the integer that such a value
+-- means. If zeros are skipped, an error means that the slice writes no number.
 pub record WholeResults {T : Type 0} (k : IntType) (number : T → ℤ) (skip : Bool) : Type 0 where
   pub text : (plus : Bool) (s : List ℕ) (result : Result T AtoiSimdError)
       → typed_answer number result ≡ parse_answer k skip plus s
@@ -127,8 +127,8 @@ pub record AcceptedPrefixes (k : IntType) : Type 0 where
   pub accepted : (form : SignForm) (s : List ℕ) (number : ℤ) (count : ℕ)
       → PrefixWrites (Writes k form) s number count → prefix_call k form true s ≡ Ok (number, count)
 
--- The same for the results of a type. If zeros are skipped, an error means that the slice has no
--- such prefix.
+-- The same for a Rust `Result` with a value of a type. If zeros are skipped, an error means that
+-- the slice has no such prefix.
 pub record PrefixResults {T : Type 0} (k : IntType) (number : T → ℤ) (skip : Bool) : Type 0 where
   pub text : (plus : Bool) (s : List ℕ) (result : Result (T × ℕ) AtoiSimdError)
       → typed_prefix_answer number result ≡ parse_prefix_answer k skip plus s
@@ -143,9 +143,9 @@ pub record PrefixResults {T : Type 0} (k : IntType) (number : T → ℤ) (skip :
       → typed_prefix_answer number result ≡ prefix_answer decimal_table k is_negative skip s
       → IsTrue skip → OnErr result ((any : ℤ) (count : ℕ) → ¬ PrefixWrites (DigitsWrite k is_negative) s any count)
 
--- If a slice is bytes that write a number, and a rest that does not start with a digit, then the
--- bytes are such a prefix. A slice has at most one such prefix; so a prefix that was found splits
--- the slice into these bytes and that rest.
+-- If a slice consists of bytes that write a number and of a rest that does not start with a digit,
+-- then `PrefixWrites` holds for these bytes, and for no other prefix. So a prefix that was found
+-- splits the slice into these bytes and that rest.
 pub record PrefixesAndRests (k : IntType) : Type 0 where
   pub of_parts : (form : SignForm) (s prefix_bytes rest : List ℕ) (number : ℤ)
       → s ≡ prefix_bytes ++ rest → Writes k form prefix_bytes number → ¬ BeginsWithDigit rest

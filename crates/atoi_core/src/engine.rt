@@ -149,10 +149,10 @@ pub trait Engine {
 /// Skips leading zeros window by window, and returns the offset of the window that ends this, and
 /// that window.
 ///
-/// The caller has loaded the first window of `s`, which reported `zeroes`. The first window after it
-/// that reports no zeros is the last: it is at the end of all zeros or, if fewer than 16 digits are
-/// left, at the end of those that fill whole windows. Adds one step for each 16 bytes that are
-/// skipped, rounded up.
+/// The caller has loaded the first window of `s`, which reported `zeroes`. The first window after
+/// it that reports no zeros is the last: it starts after all zeros or, if fewer than 16 digits are
+/// left after the zeros that fill whole windows, after those zeros. Adds one step for each 16 bytes
+/// that are skipped, rounded up.
 #[inline(always)]
 #[tactic(auto, using(std::proofs::lemmas::List::take_rest))]
 pub(crate) fn window_after_zeros<E: Engine>(

@@ -7,8 +7,8 @@
 //! - *digit value*: the number, 0 to 9, that a byte has as a digit. The engine says which bytes are
 //!   digits.
 //! - *run*: the longest prefix of a slice that consists of digits.
-//! - *window*: the run of the first 8 or 16 bytes of a slice, with its length, its value and the
-//!   number of its leading zeros.
+//! - *window*: what one read of the first 8 or 16 bytes of a slice returns: the length and the value
+//!   of their run and, if it has all 8 or 16 bytes, the number of its leading zeros.
 //! - *load*: one read of a window, counted on `Steps`.
 //! - *engine*: an implementation of these reads, such as `Plain` and `Words`.
 //! - *body*: a slice after its sign.

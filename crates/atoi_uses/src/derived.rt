@@ -3,24 +3,31 @@
 ghost use Rattle.std.specs.Prelude.{◌≡◌, ◌↔◌, IsTrue};
 ghost use Rattle.atoi_uses.specs.Commands.{cause_of};
 
+use crate::addresses::Address;
+use crate::bad_lines::BadLine;
 use crate::cents::Cents;
 use crate::commands::{Command, CommandError, Word};
 use crate::dates::Date;
 use crate::log_lines::LogError;
+use crate::signed_totals::SignedTotalError;
 use crate::versions::Version;
 use atoi_core::derived::{clones_are_the_same, equal_ones_are_the_same};
 
 fn clones() {
+    clones_are_the_same::<Address>();
+    clones_are_the_same::<BadLine<'_>>();
     clones_are_the_same::<Cents>();
     clones_are_the_same::<Command>();
     clones_are_the_same::<CommandError<'_>>();
     clones_are_the_same::<Date>();
     clones_are_the_same::<LogError>();
+    clones_are_the_same::<SignedTotalError<'_>>();
     clones_are_the_same::<Version>();
     clones_are_the_same::<Word>();
 }
 
 fn equal_ones() {
+    equal_ones_are_the_same::<Address>();
     equal_ones_are_the_same::<Cents>();
     equal_ones_are_the_same::<Command>();
     equal_ones_are_the_same::<Date>();
