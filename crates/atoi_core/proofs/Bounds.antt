@@ -25,7 +25,7 @@ short_enough narrow skip limit count h = refl
 short_enough wide64 skip limit count h = le-ltb limit count h
 short_enough wide128 skip limit count h = le-ltb limit count h
 
--- If a number of digits is not too large, no smaller number is.
+-- If `count` digits are within the limit, so are fewer digits.
 pub shorter : (limit : Option ℕ) (count less : ℕ) → less ≤ count → is_above limit count ≡ false → is_above limit less ≡ false
 shorter None count less h e = refl
 shorter (Some limit) count less h e = le-ltb limit less (omega (arith, ltb-false limit count e))
@@ -36,7 +36,7 @@ limit_of_whole narrow skip limit = refl
 limit_of_whole wide64 skip limit = refl
 limit_of_whole wide128 skip limit = refl
 
--- If a number of digits is not too large for a prefix, it is not too large for a whole slice.
+-- If `count` digits are within the limit of a prefix, they are within that of a whole slice.
 pub long_as_whole : (class : Class) (skip : Bool) (limit count : ℕ) → is_above (limit_at class prefix skip limit) count ≡ false
     → is_above (limit_at class whole skip limit) count ≡ false
 long_as_whole narrow skip limit count h = refl
@@ -61,8 +61,8 @@ limit_of_prefix k skip limit h =
     wide true = refl
     wide false = refl
 
--- The bound of a type is at most one more than its largest value, so it is below a power of ten
--- that is larger than that.
+-- The bound of a type is at most one more than its largest value, so any power of ten above the
+-- largest value plus one is above the bound.
 magnitude_below : (limit bits : ℕ) (signed minus : Bool) → greatest_of bits true + 1 < 10 ^ limit → greatest_of bits false + 1 < 10 ^ limit
     → cond minus (greatest_of bits signed + 1) (greatest_of bits signed) < 10 ^ limit
 magnitude_below limit bits true true p q = p
@@ -131,7 +131,8 @@ in_range_short table k sized minus s le =
 -- A signed body is parsed under the negative bound. The answer without a minus is the same, except
 -- for the magnitude of `T::MIN`, which overflows.
 
--- If digits spell a number of `digits` decimal digits, all digits before these are zeros.
+-- If a run spells a number that has `digits` decimal digits, all bytes of the run before the last
+-- `digits` are zeros.
 pub leading_zeros : (t : Table) → IsBelowTen t → (digits number : ℕ) → HasDigits digits number
     → (s : List ℕ) → value t (run t s) ≡ number → zeros t s ≡ run_len t s - digits
 leading_zeros t below digits number has s is =

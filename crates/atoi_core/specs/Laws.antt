@@ -45,8 +45,7 @@ abbrev pub Writes : IntType → SignForm → List ℕ → ℤ → Type 0
 Writes k (looked_for plus) = TextWrites k plus
 Writes k (given is_negative) = DigitsWrite k is_negative
 
--- The smallest value of a type. It is 0, or for a signed type one further below 0 than the largest
--- value is above it.
+-- The smallest value of a type. It is 0, or for a signed type `-(greatest + 1)`.
 abbrev pub least_of : IntType → ℤ
 least_of k = if k.signed then neg_ℤ (pos (k.greatest + 1)) else pos 0
 

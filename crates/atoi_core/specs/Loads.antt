@@ -5,8 +5,7 @@ use Rattle.atoi_core.specs.Run.{zeros}
 use Rattle.atoi_core.specs.Magnitude.{Class, Extent, narrow, wide64, wide128, whole, prefix}
 use Rattle.atoi_core.specs.IntType.{IntType, class_of}
 
--- A turn is what a call does for 16 leading zeros. This is how many loads it makes at most in a
--- turn.
+-- The most loads that a call makes in one turn. A turn is what it does for 16 leading zeros.
 abbrev pub loads_a_turn : Class → ℕ
 loads_a_turn narrow = 1
 loads_a_turn wide64 = 2

@@ -146,13 +146,13 @@ pub trait Engine {
     ghost below_ten: { IsBelowTen table };
 }
 
-/// Skips leading zeros window by window, and returns the offset of the window that ends this, and
-/// that window.
+/// Skips leading zeros window by window, and returns the last window that it loads, with its
+/// offset.
 ///
-/// The caller has loaded the first window of `s`, which reported `zeroes`. The first window after
-/// it that reports no zeros is the last: it starts after all zeros or, if fewer than 16 digits are
-/// left after the zeros that fill whole windows, after those zeros. Adds one step for each 16 bytes
-/// that are skipped, rounded up.
+/// The caller has loaded the first window of `s`, which reported `zeroes`. This function loads
+/// windows until one reports no zeros. If at least 16 digits follow the zeros that fill whole
+/// windows, then that window starts after all zeros; otherwise it starts right after the zeros that
+/// fill whole windows. Adds one step for each 16 bytes that are skipped, rounded up.
 #[inline(always)]
 #[tactic(auto, using(std::proofs::lemmas::List::take_rest))]
 pub(crate) fn window_after_zeros<E: Engine>(

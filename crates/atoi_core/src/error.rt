@@ -18,8 +18,8 @@ use std::str::from_utf8;
 /// to right, then by their slices. Mirrors `atoi_simd::AtoiSimdError`.
 #[derive(Debug, Clone, Copy, PartialOrd, Ord, PartialEq, Eq)]
 pub enum AtoiSimdError<'a> {
-    /// The body does not start with a digit: the slice is empty, is only a sign, or continues with
-    /// another byte.
+    /// The body does not start with a digit: the slice is empty, is only a sign, or has another
+    /// byte at the start of the digits.
     Empty,
     /// There are too many *significant* digits. These are the digits after the skipped leading
     /// zeros, or all digits if zeros are not skipped. At most 20 are accepted for `u64` and

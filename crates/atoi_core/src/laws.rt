@@ -107,8 +107,8 @@ pub fn order_and_suffix<T: Number>()
 
 /// Each error explains why the body, the slice after its sign, is refused. The first that applies
 /// is returned: the body does not start with a digit; it has too many significant digits; they
-/// spell a number out of range; another byte follows them, at the index and after the number that
-/// the error holds. A prefix parse never returns the last.
+/// spell a number out of range; another byte follows them. The error then holds the index of that
+/// byte and the number before it. A prefix parse never returns the last.
 #[tactic(auto, using(crate::proofs::Errors::errors_in_order))]
 pub fn errors_in_order<T: Number>()
     ensures { ErrorsInOrder T.int_type }

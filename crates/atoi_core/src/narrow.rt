@@ -15,7 +15,7 @@ use crate::window::Window;
 /// Parses the integer of at most 32 bits at the start of `s`, which has no sign, and returns its
 /// value and the number of its bytes, including those of the leading zeros.
 ///
-/// `bound`, the largest value that is accepted, is itself from 9 to `u32::MAX`. All
+/// `bound` is the largest accepted value, and must be between 9 and `u32::MAX`. All
 /// digits at the start of `s` belong to the integer, and the first other byte ends it. Without
 /// `skip` it has at most 16 digits, leading zeros included; one window is loaded, and a second if
 /// the first is full of digits. With `skip` any number of leading zeros is accepted; each load
@@ -80,9 +80,9 @@ fn starts_with_digit<E: Engine>(rest: &[u8], steps: &mut Steps) -> bool
 
 /// Parses all of `s`, which has no sign, as an integer of at most 32 bits, and returns its value.
 ///
-/// `bound`, the largest value that is accepted, is itself from 9 to `u32::MAX`. Any
-/// number of leading zeros is accepted; each load skips at most 16 of them. Its digits are those of
-/// the engine, and `steps` counts the loads; otherwise it is like `narrow_whole`.
+/// `bound` is the largest accepted value, and must be between 9 and `u32::MAX`. Any number of
+/// leading zeros is accepted; each load skips at most 16 of them. The function is like
+/// `narrow_whole`, but with the digits of the engine `E`, and `steps` counts the loads.
 ///
 /// # Errors
 ///

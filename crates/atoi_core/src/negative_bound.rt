@@ -1,9 +1,9 @@
-//! Both signs from one parse. A *magnitude* is a value without its sign. For a signed type, the body is
-//! always parsed as the digits of a negative number, so the largest magnitude is that of `T::MIN`. The
-//! functions here derive the answer for the actual sign from that. Only the magnitude of `T::MIN` is
-//! then out of range without a minus. It has a known number of digits, and all digits before them are
-//! zeros, so the number of all digits says where the slice of the error `Overflow` begins. The file
-//! uses `error`, `engine` and `number`.
+//! Both signs from one parse. A *magnitude* is a value without its sign. For a signed type, the
+//! body is always parsed as the digits of a negative number, so the largest magnitude is that of
+//! `T::MIN`. The functions here derive the answer for the actual sign from that. Of the magnitudes
+//! that this parse accepts, only that of `T::MIN` is out of range without a minus. It has a known
+//! number of digits, and all digits before them are zeros, so the number of all digits says where
+//! the slice of the error `Overflow` begins. The file uses `error`, `engine` and `number`.
 ghost use Rattle.std.specs.Prelude.{List, ◌≡◌, ◌<◌, ◌≤◌, ℕ, true, not, nat_lt, if◌then◌else◌, Some, None, length, drop};
 ghost use Rattle.std.specs.Option.{option_map};
 ghost use Rattle.atoi_core.specs.Answer.{typed_answer, typed_prefix_answer, whole_answer, prefix_answer};
@@ -99,8 +99,8 @@ fn has_no_minus_cold(minus: bool) -> bool
     !minus
 }
 
-// Returns the index in an error `Invalid64` or `Invalid128`, which is the number of digits before
-// it, if their value is above the bound for the sign `minus`.
+// For `Invalid64` and `Invalid128`, returns the number of digits, which is the index in the error,
+// if their value is above the bound for the sign `minus`. Otherwise returns `None`.
 fn digits_if_above<T: Signed>(minus: bool, error: AtoiSimdError<'_>) -> Option<usize>
     ensures { let reason = refusal_of error.entry in
         result ≡ (if nat_lt (bound_of T.int_type minus) (number_in reason) then Some (index_in reason)
@@ -130,9 +130,9 @@ fn whole_overflow<'a, E: Engine, T: Signed>(skip: bool, count: usize, s: &'a [u8
     }
 }
 
-// As `whole_overflow`, for the number at the start of `s`. For types of at most 32 bits the slice
-// leaves out the zeros that fill whole windows of 16 bytes, and all leading zeros if the window in
-// which they end is full of digits.
+// As `whole_overflow`, for the number at the start of `s`. With `skip`, for types of at most 32
+// bits, the slice leaves out the zeros that fill whole windows of 16 bytes, and all leading zeros
+// if the window in which they end is full of digits.
 #[tactic(auto, using(crate::proofs::Bounds::dropped_prefix, crate::proofs::Bounds::run_within))]
 fn prefix_overflow<'a, E: Engine, T: Signed>(skip: bool, count: usize, s: &'a [u8]) -> &'a [u8]
     requires digits { count ≡ run_len E.table s.now }

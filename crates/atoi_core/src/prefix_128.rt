@@ -1,6 +1,6 @@
-//! The parse of an integer of 128 bits at the start of a slice. A run that ends in the first
-//! window, and mostly one that ends in the second, is answered by inlined code; all others are
-//! answered by the engine. It uses `engine`, `window`, `wide_answer`, `steps` and `error`.
+//! The parse of an integer of 128 bits at the start of a slice. Inlined code answers every run that
+//! ends in the first window, and most runs that end in the second. The engine answers the others.
+//! It uses `engine`, `window`, `wide_answer`, `steps` and `error`.
 ghost use Rattle.std.specs.Prelude.{◌≡◌, ◌+◌, ◌-◌, ◌<◌, ◌≤◌, ℕ, false, IsTrue, None, IfSome, Ok};
 ghost use Rattle.atoi_core.specs.Loads.{LoadsWithin, most_loads};
 ghost use Rattle.atoi_core.specs.Magnitude.{HasDigits, wide128, prefix_magnitude};

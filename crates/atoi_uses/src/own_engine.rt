@@ -1,7 +1,7 @@
 //! An engine of our own, for numbers in EBCDIC, as mainframes write them. An engine implements the
 //! reads of digits that the parses of `atoi_core` are made of.
-//! It uses the traits `Alphabet` and `Engine` of `atoi_core`, and its `prefix_pos` with the type
-//! `Cents`.
+//! The file uses the traits `Alphabet` and `Engine` and the function `prefix_pos` of `atoi_core`, with
+//! the type `Cents`.
 ghost use Rattle.std.specs.Prelude.{◌≡◌, ◌≤◌, true, false, IfOk, length};
 ghost use Rattle.std.proofs.Common.{arith};
 ghost use Rattle.std.proofs.lemmas.Bool.Decides.{nat_tests};
