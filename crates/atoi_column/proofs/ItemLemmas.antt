@@ -188,9 +188,9 @@ module _ (k : IntType) (separator index place : ℕ) where
         flaw_alone (λ v ok. absurd (cc (h, ok))) ∙ ap (λ r. Err (flaw_at index place r) ∷ []) h
 
 -- A call that gives the first of the items leaves one item less.
-pub starts_with_digit : {A B : Type 0} (can : List B → Type 0) → ((left : List B) → can left) → (before after : List B) (item : B) (given : A)
+pub one_item_less : {A B : Type 0} (can : List B → Type 0) → ((left : List B) → can left) → (before after : List B) (item : B) (given : A)
     → before ≡ item ∷ after → MakesProgress can (item_count (λ left. left)) before (Some given) after
-starts_with_digit can always before after item given first = record {
+one_item_less can always before after item given first = record {
   on = λ _. (always after, tt, subst (λ left. length after < length left) (sym first) (omega arith));
   keeps = always after;
   rests = λ _. tt;

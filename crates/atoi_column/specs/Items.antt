@@ -24,7 +24,7 @@ abbrev pub place_of : Flaw → ℕ
 place_of (field index place reason) = place
 place_of (trailing index place) = place
 
--- A `ColumnError` as a flaw, which has the slice in its cause as a list of bytes.
+-- The flaw that a `ColumnError` means. The slice in the error's cause becomes a list of bytes.
 abbrev pub flaw_of : ColumnError → Flaw
 flaw_of (Field index place cause) = field index place (refusal_of cause)
 flaw_of (Trailing index place) = trailing index place
@@ -34,8 +34,9 @@ abbrev pub item_of : {T : Type 0} → (T → ℤ) → Result T ColumnError → R
 item_of number (Ok value) = Ok (number value)
 item_of number (Err error) = Err (flaw_of error)
 
--- The flaw of a refused field. It depends on what can be read from the field's first byte to the
--- end of the input: nothing, for that reason, or a number that ends before the field does.
+-- The flaw of a refused field. It depends on the answer of `parse_prefix` to the input from the
+-- field's first byte on: an error, whose reason the flaw holds, or a number that ends before the
+-- field does.
 abbrev pub flaw_at : (index place : ℕ) → Result (ℤ × ℕ) Refusal → Flaw
 flaw_at index place (Ok found) = trailing index (place + found.1)
 flaw_at index place (Err reason) = field index place reason

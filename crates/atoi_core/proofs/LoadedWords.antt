@@ -365,7 +365,7 @@ window_joined s more leading first next full more_is leading_is first_is next_is
     let few : run_len decimal_table (take 8 s) ≡ min 8 (run_len decimal_table s) = prefix_len-take (is_digit decimal_table) 8 s in
     let following : run_len decimal_table (take 8 (drop 8 s)) ≡ min 8 (run_len decimal_table (drop 8 s)) = prefix_len-take (is_digit decimal_table) 8 (drop 8 s) in
     let all : run_len decimal_table (take 16 s) ≡ min 16 (run_len decimal_table s) = prefix_len-take (is_digit decimal_table) 16 s in
-    let starts_with_digit : run_len decimal_table s ≡ 8 + run_len decimal_table (drop 8 s) = prefix_len-drop (is_digit decimal_table) 8 s (omega arith) in
+    let run_after_eight : run_len decimal_table s ≡ 8 + run_len decimal_table (drop 8 s) = prefix_len-drop (is_digit decimal_table) 8 s (omega arith) in
     let within : run_len decimal_table s ≤ length s = prefix_len-le-length (is_digit decimal_table) s in
     let sixteen : take 8 s ++ take 8 (drop 8 s) ≡ take 16 s = sym (take-add 8 8 s) in
     let same_test : (more == 8) ≡ (8 + more == 16) = grind (arith, nat_tests) in

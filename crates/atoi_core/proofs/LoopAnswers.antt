@@ -99,13 +99,14 @@ answers_128 t ten bound skip s at before now first_window middle back after_skip
 -- ---- From prefix to whole slice
 -- The answer to a whole slice of a wide type follows from the answer to its prefix.
 
--- An error of the prefix is an error of the whole slice. A number that ends before the slice makes
--- the slice invalid.
+-- An error of the prefix is an error of the whole slice. If the number ends before the end of the
+-- slice, the slice is invalid.
 abbrev whole_from_prefix : (ℕ → ℕ → List ℕ → Refusal) → List ℕ → Result (ℕ × ℕ) Refusal → Result ℕ Refusal
 whole_from_prefix invalid s (Err reason) = Err reason
 whole_from_prefix invalid s (Ok found) = if found.1 == length s then Ok found.0 else Err (invalid found.0 found.1 s)
 
--- A fourth test after three others can be applied to their result.
+-- Making a fourth test after three others is the same as making it on the outcome of the first
+-- three.
 last_reason : (invalid : ℕ → ℕ → List ℕ → Refusal) (s : List ℕ) (a b c : Bool) (none long above : Refusal) (v n : ℕ) →
     unless_refused (if a then Some none else (if b then Some long else (if c then Some above
     else (if not (n == length s) then Some (invalid v n s) else None)))) v
@@ -132,21 +133,21 @@ whole_is t wide128 bound limit skip s wide =
 module _ (t : Table) (class : Class) (bound limit : ℕ) (skip : Bool) (s : List ℕ) (wide : IsWide class) where
   -- If the prefix is refused, the whole slice is refused with the same error.
   pub whole_err : (reason : Refusal) → Err reason ≡ prefix_magnitude t class bound limit skip s → Err reason ≡ whole_magnitude t class bound limit skip s
-  whole_err reason first_window = ap (whole_from_prefix (invalid class) s) first_window ∙ sym (whole_is t class bound limit skip s wide)
+  whole_err reason of_prefix = ap (whole_from_prefix (invalid class) s) of_prefix ∙ sym (whole_is t class bound limit skip s wide)
 
   -- If the number reaches to the end of the slice, the whole slice is answered with it.
   pub whole_ok : (number len : ℕ) → Ok (number, len) ≡ prefix_magnitude t class bound limit skip s → len ≡ length s
       → Ok number ≡ whole_magnitude t class bound limit skip s
-  whole_ok number len first_window all =
+  whole_ok number len of_prefix all =
       ap (λ b. if b then Ok number else Err (invalid class number len s)) (sym (eq-eqb len (length s) all))
-      ∙ ap (whole_from_prefix (invalid class) s) first_window ∙ sym (whole_is t class bound limit skip s wide)
+      ∙ ap (whole_from_prefix (invalid class) s) of_prefix ∙ sym (whole_is t class bound limit skip s wide)
 
-  -- If the number ends before the slice, the whole slice is invalid.
+  -- If the number ends before the end of the slice, the whole slice is invalid.
   pub whole_invalid : (number len : ℕ) → Ok (number, len) ≡ prefix_magnitude t class bound limit skip s → len ≢ length s
       → Err (invalid class number len s) ≡ whole_magnitude t class bound limit skip s
-  whole_invalid number len first_window rest =
+  whole_invalid number len of_prefix rest =
       ap (λ b. if b then Ok number else Err (invalid class number len s)) (sym (ne_eqb len (length s) rest))
-      ∙ ap (whole_from_prefix (invalid class) s) first_window ∙ sym (whole_is t class bound limit skip s wide)
+      ∙ ap (whole_from_prefix (invalid class) s) of_prefix ∙ sym (whole_is t class bound limit skip s wide)
 
 -- ---- Narrow types
 -- The last window after the skipped zeros decides the answer to a prefix of a type of up to 32
@@ -262,13 +263,13 @@ digit_after_16 t s full =
     rw (take_rest s 16) (grind (arith, nat_tests))
 
 -- How the answer to a narrow whole slice follows from the answer to its prefix with zeros skipped:
--- the slice of an overflow is the whole slice, and a number that ends before the slice makes it
--- invalid.
+-- the slice of an overflow is the whole slice, and if the number ends before the end of the slice,
+-- the slice is invalid.
 abbrev pub whole_of_prefix_answer : List ℕ → Result (ℕ × ℕ) Refusal → Result ℕ Refusal
 whole_of_prefix_answer s (Ok found) = if found.1 == length s then Ok found.0 else Err (invalid64 found.0 found.1 s)
 whole_of_prefix_answer s (Err reason) = Err (if rank reason == 0 then empty else overflow s)
 
--- A third test after two others can be applied to their result.
+-- Making a third test after two others is the same as making it on the outcome of the first two.
 last_of_three : (s rest : List ℕ) (a b : Bool) (v n : ℕ)
     → unless_refused (if a then Some empty else (if b then Some (overflow s) else (if not (n == length s) then Some (invalid64 v n s) else None))) v
     ≡ whole_of_prefix_answer s (unless_refused (if a then Some empty else (if b then Some (overflow rest) else None)) (v, n))
@@ -289,10 +290,10 @@ narrow_prefix_is t bound limit s = refl
 
 -- The answer to a narrow whole slice is the one derived from its prefix, whether zeros are skipped
 -- or not.
-pub narrow_whole_of : (t : Table) (bound limit : ℕ) (s : List ℕ) (skip : Bool) (first_window : Result (ℕ × ℕ) Refusal)
-    → first_window ≡ prefix_magnitude t narrow bound limit true s
-    → whole_of_prefix_answer s first_window ≡ whole_magnitude t narrow bound limit skip s
-narrow_whole_of t bound limit s skip first_window e =
+pub narrow_whole_of : (t : Table) (bound limit : ℕ) (s : List ℕ) (skip : Bool) (of_prefix : Result (ℕ × ℕ) Refusal)
+    → of_prefix ≡ prefix_magnitude t narrow bound limit true s
+    → whole_of_prefix_answer s of_prefix ≡ whole_magnitude t narrow bound limit skip s
+narrow_whole_of t bound limit s skip of_prefix e =
     ap (whole_of_prefix_answer s) (e ∙ narrow_prefix_is t bound limit s)
     ∙ sym (last_of_three s _ (run_len t s == 0) (nat_lt bound (value t (run t s))) (value t (run t s)) (run_len t s))
     ∙ sym (narrow_whole_is t bound limit skip s (run_len t s) (value t (run t s)) refl refl)
@@ -305,7 +306,7 @@ narrow_whole_of t bound limit s skip first_window e =
 abbrev pub HasRoom : Class → (bound limit : ℕ) → Type 0
 HasRoom class bound limit = (class ≡ narrow) ⊎ ((16 ≤ limit) × (10 ^ 15 ≤ bound))
 
--- A wide class whose bound has as many digits as its limit, and at least 17, is such a class.
+-- This holds for a wide class if its bound has exactly `limit` digits and `limit` is at least 17.
 pub wide_room : (class : Class) (bound limit : ℕ) → 17 ≤ limit → HasDigits limit bound → HasRoom class bound limit
 wide_room class bound limit long digits =
     let least : 10 ^ 15 ≤ 10 ^ (limit - 1) = pow-le-pow_right {n = 10} (lit< tt) {i = 15} {j = limit - 1} (omega arith) in
@@ -359,7 +360,8 @@ short_run t class bound limit extent skip s room few below =
     ∙ ap (λ (x : Option Refusal). cond (eqb digits 0) (Some empty) x)
     (whole_slice class extent skip bound limit digits (skipped_zeros t skip s) number s some_left room few within below)
 
--- Two tests that choose between errors and a value can be written as a refusal or none.
+-- A result that two tests choose, one of two errors or a value, is `unless_refused` of the refusal
+-- that the same tests choose, or of `None`.
 picked : {A : Type 0} (a b : Bool) (p q : Refusal) (v : A) → cond a (Err p) (cond b (Err q) (Ok v)) ≡ unless_refused (cond a (Some p) (cond b (Some q) None)) v
 picked true b p q v = refl
 picked false true p q v = refl

@@ -1,5 +1,6 @@
--- The answer to a body, which is a slice after its sign: its magnitude, which is the value without
--- the sign, or the first reason to refuse it.
+-- The answer to a body. The *body* is what follows the sign in a slice. The answer is the magnitude
+-- that the body spells, which is its value without the sign, or the first reason to refuse the
+-- body.
 use Rattle.std.specs.Prelude.{ℕ, ◌+◌, ◌-◌, ◌*◌, ◌/◌, ◌^◌, ◌<◌, ◌≤◌, min, Bool, true, false, not, ◌==◌, nat_lt, if◌then◌else◌, List, length, drop, Option, Some, None, Result, Ok, Err}
 use Rattle.atoi_core.specs.Digit.{Table}
 use Rattle.atoi_core.specs.Run.{run_len, run, zeros, value}
@@ -24,17 +25,18 @@ HasDigits limit number = (10 ^ (limit - 1) ≤ number) × (number < 10 ^ limit)
 abbrev pub skipped_zeros : Table → Bool → List ℕ → ℕ
 skipped_zeros table skip body = if skip then zeros table body else 0
 
--- `limit` is how many *significant* digits are accepted, which are the digits after the skipped
--- zeros, or `None` if there is no limit. If there are more, then the error `size` counts at most
--- `cap` of them. `dropped` is how many zeros the slice of `overflow` leaves out.
+-- *Significant* digits are those after the skipped zeros. `limit` is how many of them are accepted;
+-- it is `None` if there is no limit. If there are more, then the error `size` counts at most `cap`
+-- of them. `dropped` is how many zeros the slice of `overflow` leaves out.
 pub record Rule : Type 0 where
   pub limit : Option ℕ
   pub cap : ℕ
   pub dropped : ℕ
 
--- The rule for each class, extent and flag. The limit for 64 and 128 bits is an argument. A narrow
--- prefix that skips zeros leaves out all of them if the digits fill more blocks of 16 bytes than
--- the zeros do, and otherwise those that fill whole blocks.
+-- The rule for each class, extent and flag. The limit for 64 and 128 bits is an argument. For a
+-- narrow prefix that skips zeros, the slice of `overflow` leaves out all leading zeros if the
+-- digits, zeros included, fill more blocks of 16 bytes than the zeros alone do. Otherwise it leaves
+-- out only the zeros that fill whole blocks.
 abbrev pub rule_of : Class → Extent → Bool → (limit digits skipped : ℕ) → Rule
 rule_of narrow whole skip limit digits skipped = record { limit = None; cap = 0; dropped = 0 }
 rule_of narrow prefix false limit digits skipped = record { limit = Some 16; cap = 17; dropped = 0 }

@@ -96,9 +96,9 @@ pub trait Engine {
     /// Parses the integer of 128 bits at the start of `s`. It is like `prefix_64`, but `bound` has
     /// exactly 39 digits, which is the limit of significant digits.
     ///
-    /// The provided body loads as that of `prefix_64` while it skips zeros. If the last of these
-    /// loads is full of significant digits, it loads the 16 bytes after them, and if these are full
-    /// as well, the next 8 bytes.
+    /// While it skips zeros, the provided body makes the same loads as the provided body of
+    /// `prefix_64`. If the last of these loads is full of significant digits, it loads the 16 bytes
+    /// after them, and if these are full as well, the next 8 bytes.
     ///
     /// # Errors
     ///
@@ -150,9 +150,10 @@ pub trait Engine {
 /// offset.
 ///
 /// The caller has loaded the first window of `s`, which reported `zeroes`. This function loads
-/// windows until one reports no zeros. If at least 16 digits follow the zeros that fill whole
-/// windows, then that window starts after all zeros; otherwise it starts right after the zeros that
-/// fill whole windows. Adds one step for each 16 bytes that are skipped, rounded up.
+/// windows until one reports no zeros. A window reports zeros only if it is full of digits. Let `n`
+/// be the number of leading zeros, rounded down to a multiple of 16. If at least 16 digits, zeros
+/// included, begin at offset `n`, then the returned window starts after all leading zeros.
+/// Otherwise it starts at `n`. Adds one step for each 16 bytes that are skipped, rounded up.
 #[inline(always)]
 #[tactic(auto, using(std::proofs::lemmas::List::take_rest))]
 pub(crate) fn window_after_zeros<E: Engine>(

@@ -29,7 +29,7 @@ prefix_len-padded p h (suc n) zero [] = refl
 prefix_len-padded p h (suc n) (suc m) [] = ap (λ b. cond b (1 + prefix_len p (take n (replicate m 0))) 0) h
 prefix_len-padded p h (suc n) m (x ∷ xs) = ap (λ k. cond (p x) (1 + k) 0) (prefix_len-padded p h n m xs)
 
--- What is put after the elements does not change a prefix that ends within them.
+-- Appending to a list does not change a prefix that ends within the list.
 pub prefix-padded : (p : ℕ → Bool) (n : ℕ) (s zs : List ℕ) → take (prefix_len p (take n s)) (take n (s ++ zs)) ≡ take (prefix_len p (take n s)) (take n s)
 prefix-padded p zero s zs = refl
 prefix-padded p (suc n) [] zs = refl
@@ -90,8 +90,9 @@ reading-of_lanes s lanes len number loaded digits writes =
 pub after_all : (s : List ℕ) → 32 ≤ length s → take 16 (drop 16 s) ≡ padded_start 16 (drop 16 s)
 after_all s enough = sym (take-append-le 16 (drop 16 s) (replicate 16 0) (omega (arith, length-drop 16 s)))
 
--- If it has fewer, they are the last lanes of the vector of its last 16 bytes, and zeros follow
--- them.
+-- If the slice has 16 to 31 bytes, those after the first 16 are the last lanes of the vector of its
+-- last 16 bytes. Dropping the other lanes and appending zeros gives the padded vector of these
+-- bytes.
 pub after_some : (s : List ℕ) → 16 ≤ length s → length s < 32
     → drop (32 - length s) (take 16 (drop (length s - 16) s)) ++ replicate (32 - length s) 0 ≡ padded_start 16 (drop 16 s)
 after_some s enough short =
@@ -113,7 +114,8 @@ after_some s enough short =
 -- how many windows it loads.
 
 -- The state before a window is loaded at offset `at`: only skipped zeros come before it. So far one
--- window was loaded for each 32 of them, and one more if the last window began with fewer than 32.
+-- window was loaded for each 32 of these zeros, and one more if the last loaded window began with
+-- fewer than 32 zeros.
 pub record Skipping (skip : Bool) (s : List ℕ) (at before now : ℕ) : Type 0 where
   pub skipped : IsSkipped decimal_table skip s at
   pub within : at ≤ length s
@@ -153,7 +155,8 @@ pub Skipping-loads : (skip : Bool) (s : List ℕ) (at before now leading : ℕ) 
 Skipping-loads skip s at before now leading after_skip reported few = omega (arith, after_skip.least)
 
 -- The loop is not entered if zeros are not skipped, or if the first window begins with none or is
--- not full. So a full first window begins with no zero that is skipped.
+-- not full. So if the loop is not entered and the first window is full, that window begins with no
+-- zero that is skipped.
 pub first-ends : (skip : Bool) (len leading : ℕ) → len ≤ 32
     → ((skip ≡ true) × (0 < leading) × (len ≡ 32 → ⊥)) ⊎ (((skip ≡ true) × (leading ≤ 0)) ⊎ (skip ≡ false))
     → skip ≡ true → 32 ≤ len → leading ≡ 0
@@ -163,7 +166,8 @@ first-ends skip len leading most ends on full =
       | inr rest ↦ (elim rest [ inl none ↦ omega (arith, none.1) | inr off ↦ absurd (false≢true (sym off ∙ on)) ])
     ]
 
--- Then `ReadsAfterZeros` holds for the first window, with nothing skipped before it.
+-- If a full first window begins with no zero that is skipped, `ReadsAfterZeros` holds for the first
+-- window, with nothing skipped before it.
 pub reads-first : ReadingDecides → (skip : Bool) (s : List ℕ) (len leading number : ℕ) → Reading decimal_table 32 s len leading number
     → (skip ≡ true → 32 ≤ len → leading ≡ 0) → ReadsAfterZeros skip s 0 len leading number
 reads-first law skip s len leading number reading ends =
@@ -175,7 +179,7 @@ reads-first law skip s len leading number reading ends =
       ends = ends;
     }
 
--- Then the slice begins with fewer than 32 zeros, if these are skipped.
+-- Under the same condition, and if zeros are skipped, the slice begins with fewer than 32 zeros.
 pub few-zeros : ReadingDecides → (skip : Bool) (s : List ℕ) (len leading number : ℕ) → Reading decimal_table 32 s len leading number
     → (skip ≡ true → 32 ≤ len → leading ≡ 0) → skip ≡ true → zeros decimal_table s < 32
 few-zeros law skip s len leading number reading ends on =

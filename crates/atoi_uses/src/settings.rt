@@ -27,7 +27,8 @@ pub fn number_and_rest(text: &[u8]) -> Result<(i64, &[u8]), AtoiSimdError<'_>>
 /// Reads the setting that `line` begins with: a key, which is any one byte, then `=` and a number.
 /// Returns the key, the number and what follows it: for `w=+12px` these are `w`, 12 and `px`.
 //
-// With a key of one byte, no proof by hand is needed. A body that called `strip_prefix` needed one.
+// Because the key is one byte, no proof by hand is needed. A body that calls `strip_prefix` would
+// need such a proof.
 pub fn setting(line: &[u8]) -> Option<(u8, i64, &[u8])>
     ensures some { IfSome result (λ found. (count : ℕ)
         × (take 2 line.now ≡ found.0 ∷ codes "=")

@@ -5,7 +5,7 @@ use Rattle.std.proofs.lemmas.Bool.Decides.{nat_tests}
 use Rattle.atoi_core.specs.IntType.{IntType}
 use Rattle.atoi_core.specs.Refusal.{refusal_of}
 use Rattle.atoi_column.specs.Items.{field, trailing}
-use Rattle.atoi_column.proofs.ItemLemmas.{items_left-empty, items_left-after_all, items_left-ended, items_left-last, items_left-trailing, items_left-refused, starts_with_digit}
+use Rattle.atoi_column.proofs.ItemLemmas.{items_left-empty, items_left-after_all, items_left-ended, items_left-last, items_left-trailing, items_left-refused, one_item_less}
 use Rattle.atoi_column.proofs.column.ColumnIterator.next.Goals as goal
 
 pub returns-then-is_empty-clause-steps : goal.returns-then-is_empty-clause-steps
@@ -62,13 +62,13 @@ returns-in-Err-clause-steps g c =
     ∙ ap (λ left. Err (field inside.index inside.place (refusal_of c.in-Err.cause)) ∷ left) (sym (items_left-after_all k inside.separator inside.index inside.place rest))
 
 pub returns-in-None-clause-goes : goal.returns-in-None-clause-goes
-returns-in-None-clause-goes g c = starts_with_digit _ (λ _. tt) _ _ _ _ (returns-in-None-clause-steps g c)
+returns-in-None-clause-goes g c = one_item_less _ (λ _. tt) _ _ _ _ (returns-in-None-clause-steps g c)
 
 pub returns-then-byte-self-clause-goes : goal.returns-then-byte-self-clause-goes
-returns-then-byte-self-clause-goes g c = starts_with_digit _ (λ _. tt) _ _ _ _ (returns-then-byte-self-clause-steps g c)
+returns-then-byte-self-clause-goes g c = one_item_less _ (λ _. tt) _ _ _ _ (returns-then-byte-self-clause-steps g c)
 
 pub returns-else-byte-self-clause-goes : goal.returns-else-byte-self-clause-goes
-returns-else-byte-self-clause-goes g c = starts_with_digit _ (λ _. tt) _ _ _ _ (returns-else-byte-self-clause-steps g c)
+returns-else-byte-self-clause-goes g c = one_item_less _ (λ _. tt) _ _ _ _ (returns-else-byte-self-clause-steps g c)
 
 pub returns-in-Err-clause-goes : goal.returns-in-Err-clause-goes
-returns-in-Err-clause-goes g c = starts_with_digit _ (λ _. tt) _ _ _ _ (returns-in-Err-clause-steps g c)
+returns-in-Err-clause-goes g c = one_item_less _ (λ _. tt) _ _ _ _ (returns-in-Err-clause-steps g c)
