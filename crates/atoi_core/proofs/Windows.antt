@@ -67,7 +67,7 @@ join_readings t count more s leading high digits others low first_window back =
       number_is = sym (cut ∙ sum);
     }
 
--- A reading that is not full of digits is also a reading of more bytes.
+-- A reading that is not full of digits is also a reading of any larger number of bytes.
 pub widened : (t : Table) (count more : ℕ) (s : List ℕ) (digits leading number : ℕ) → Reading t count s digits leading number
     → digits < count → count ≤ more → Reading t more s digits leading number
 widened t count more s digits leading number reading ends longer =
@@ -247,7 +247,9 @@ pub record Shows (t : Table) (c : ℕ) (s : List ℕ) (w : Window) : Type 0 wher
   pub full : 0 < w.zeroes → w.len ≡ c
   pub zeroes_of : w.len ≡ c → w.zeroes ≡ min c (zeros t s)
 
--- If zeros are reported only when all c bytes of the window are digits, these three facts follow.
+-- Zeros are reported only when all c bytes of the window are digits. So at most as many are
+-- reported as there are. If some are reported, the window is full. If the window is full, their
+-- number is exact, but at most c.
 zeroes_cases : (n c z k : ℕ) → z ≡ min c k → (cond (n == c) z 0 ≤ k) × (0 < cond (n == c) z 0 → n ≡ c) × (n ≡ c → cond (n == c) z 0 ≡ min c k)
 zeroes_cases n c z k e =
     (elim (n == c) as (λ b. (n == c) ≡ b → (cond b z 0 ≤ k) × (0 < cond b z 0 → n ≡ c) × (n ≡ c → cond b z 0 ≡ min c k)) [
@@ -372,10 +374,10 @@ Skipping-more t below skip s at after before now next w after_skip e one on some
       ];
     }
 
--- The state after the loop, whose last window `w` was loaded at offset `at`. The rest of the run,
--- of the zeros and of the value are those of the slice from `at` on. If zeros are skipped and the
--- window is full, it begins at the first significant digit. The number of windows loaded is bounded
--- from both sides.
+-- The state after the loop, whose last window `w` was loaded at offset `at`. The run of the slice
+-- and its leading zeros are `at` longer than those of the bytes from `at` on, and both runs have
+-- the same value. If zeros are skipped and the window is full, it begins at the first significant
+-- digit. The number of windows loaded is bounded from both sides.
 pub record Skipped (t : Table) (skip : Bool) (s : List ℕ) (at before now : ℕ) (w : Window) : Type 0 where
   pub shown : Shows t 16 (drop at s) w
   pub within : at ≤ length s

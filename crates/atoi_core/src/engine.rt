@@ -1,6 +1,6 @@
-//! The trait of an engine, an implementation of the reads that parses make. Over any engine there are
-//! also the parses of integers of 64 and of 128 bits, and the loop that skips leading zeros. It uses
-//! `window`, `wide_answer`, `steps` and `error`, and no particular engine.
+//! The trait `Engine`, with the parsers of integers of 64 and of 128 bits over any engine, and the
+//! loop that skips leading zeros. An *engine* is an implementation of the reads that the parsers
+//! make. This module uses `window`, `wide_answer`, `steps` and `error`, and no particular engine.
 ghost use Rattle.std.specs.Prelude.{◌≡◌, ◌+◌, ◌-◌, ◌*◌, ◌/◌, ◌<◌, ◌≤◌, ℕ, nat_lt, if◌then◌else◌, length, drop};
 ghost use Rattle.atoi_core.specs.Digit.{Table, IsBelowTen};
 ghost use Rattle.atoi_core.specs.Loads.{LoadsWithin, most_loads};
@@ -14,13 +14,13 @@ use crate::steps::Steps;
 use crate::wide_answer::{answer_64, answer_128, append_digits};
 use crate::window::Window;
 
-/// An implementation of the reads that parses make.
+/// An implementation of the reads that the parsers make.
 ///
 /// An engine has a table of digit values, one for each byte that is a digit. Its functions `window`
-/// and `window_8` read a *window*: the run of the first 16 or 8 bytes of a slice, which is their
-/// longest prefix of digits. Each call of them is one *load*, and adds one to `steps`. The other
-/// two functions parse integers of 64 and of 128 bits with these reads. An engine may override
-/// them, with bodies that meet the same clauses.
+/// and `window_8` return a *window*: they describe the run of the first 16 or 8 bytes of a slice.
+/// The *run* of some bytes is their longest prefix of digits. Each call of these functions is one
+/// *load*, and adds one to `steps`. The other two functions parse integers of 64 and of 128 bits
+/// with these reads. An engine may override them, with bodies that meet the same clauses.
 pub trait Engine {
     /// The digit value of each byte, if it is a digit. Only contracts can refer to it.
     ghost table: { Table };

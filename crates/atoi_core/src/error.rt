@@ -19,7 +19,7 @@ use std::str::from_utf8;
 #[derive(Debug, Clone, Copy, PartialOrd, Ord, PartialEq, Eq)]
 pub enum AtoiSimdError<'a> {
     /// The body does not start with a digit: the slice is empty, is only a sign, or has another
-    /// byte at the start of the digits.
+    /// byte where the digits should start.
     Empty,
     /// There are too many *significant* digits. These are the digits after the skipped leading
     /// zeros, or all digits if zeros are not skipped. At most 20 are accepted for `u64` and

@@ -112,9 +112,9 @@ pub fn narrow_whole_windows<'a, E: Engine>(
     }
 }
 
-// Returns the answer for a whole slice, given `front`, the answer for the number at its start with
-// skipped zeros. `Overflow` then holds all of the slice, and if the digits end before the slice
-// does, the answer is `Invalid64`.
+// Returns the answer for a whole slice. `front` is the answer for the number at its start, parsed
+// with zeros skipped. An `Overflow` is returned with all of the slice. If the digits end before the
+// slice does, the answer is `Invalid64`.
 fn whole_from_prefix<'a, E: Engine>(
     bound: u64,
     front: Result<(u64, usize), AtoiSimdError<'_>>,
@@ -135,8 +135,8 @@ fn whole_from_prefix<'a, E: Engine>(
     }
 }
 
-// Returns the error for a whole slice, given that for the number at its start: `Overflow` holds all
-// of the slice.
+// `error` is the error for the number at the start of the slice. Returns the error for the whole
+// slice: `Empty` stays, and `Overflow` gets all of the slice.
 fn error_of_whole<'a>(error: AtoiSimdError<'_>, s: &'a [u8]) -> AtoiSimdError<'a>
     ensures { refusal_of result
         ≡ (if rank (refusal_of error.entry) == 0 then empty else overflow s.now) }

@@ -1,5 +1,5 @@
-//! What one load reports about the start of a slice. A *load* is one read of a *window*, the run of
-//! the first 8 or 16 bytes. It uses no other module.
+//! What one load reports about the start of a slice. A *load* reads the first 8 or 16 bytes once,
+//! and what it reports is a *window*. This module uses no other one.
 ghost use Rattle.std.specs.Prelude.{◌≡◌, ◌+◌, ◌^◌, ◌<◌};
 
 /// What is known of the first 8 or 16 bytes of a slice, or of all its bytes if there are fewer: the

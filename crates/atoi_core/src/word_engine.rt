@@ -236,9 +236,9 @@ fn not_full(len: u32, number: u64) -> Window
     }
 }
 
-// Returns the word of the bytes from index `at` on, at most 8. If `s` ends among them, they are
-// taken from its last 8 bytes by a shift. If no byte is left, the word has to be shifted by 64
-// bits. One shift is of at most 63 bits, so there are two.
+// Returns the word of the bytes from index `at` on, at most 8. If fewer than 8 bytes are left from
+// there on, they are taken from the last 8 bytes of `s` by a shift. If no byte is left, the word
+// has to be shifted by 64 bits. One shift is of at most 63 bits, so there are two.
 #[inline(always)]
 fn load_from(s: &[u8], at: usize) -> u64
     requires enough { 8 ≤ length s.now }

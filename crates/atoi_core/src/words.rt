@@ -106,8 +106,8 @@ pub fn process_8(val: u64, len: u32) -> u64
     ensures sum { result ≡ low_value (low_bytes len val) }
     ensures most { result ≤ 166666665 }
 {
-    // Each product adds to each field of the word ten, a hundred or ten thousand times the field
-    // below.
+    // To each field of the word, each product adds the field below it times ten, a hundred or ten
+    // thousand.
     let ones = (val << (64 - 8 * len)) & 0x0F0F_0F0F_0F0F_0F0F;
     let tens = (ones.wrapping_mul(0xA01) >> 8) & 0x00FF_00FF_00FF_00FF;
     let hundreds = (tens.wrapping_mul(0x64_0001) >> 16) & 0x0000_FFFF_0000_FFFF;
@@ -131,8 +131,8 @@ pub fn process_16(val: u128, len: u32) -> u64
     (ten_thousands.wrapping_mul(0x5F5_E100_0000_0000_0000_0001) >> 64) as u64
 }
 
-/// Returns how many of the lowest bytes of `val` are zeros, which is the byte 48, before the first
-/// that is none: 0 to 8.
+/// Returns how many bytes of `val`, from the lowest on, are the digit zero, which is the byte 48.
+/// It stops at the first other byte: 0 to 8.
 pub fn len_zeroes(val: u64) -> u32
     ensures zeroes { result ≡ zeros decimal_table (low_bytes 8 val) }
     ensures most { result ≤ 8 }
@@ -140,8 +140,8 @@ pub fn len_zeroes(val: u64) -> u32
     (val ^ 0x3030_3030_3030_3030).trailing_zeros() / 8
 }
 
-/// Returns how many of the lowest bytes of `val` are zeros, which is the byte 48, before the first
-/// that is none: 0 to 16.
+/// Returns how many bytes of `val`, from the lowest on, are the digit zero, which is the byte 48.
+/// It stops at the first other byte: 0 to 16.
 pub fn len_zeroes_128(val: u128) -> u32
     ensures zeroes { result ≡ zeros decimal_table (low_bytes 16 val) }
     ensures most { result ≤ 16 }

@@ -62,7 +62,8 @@ pub fn len_lanes(v: u8x16) -> u32
     digit_mask(v).trailing_ones()
 }
 
-// Returns a mask with one bit for each lane, the lowest for the first, which is 1 for a digit.
+// Returns a mask with one bit for each lane, the lowest bit for the first lane. A bit is 1 if its
+// lane is a digit.
 fn digit_mask(v: u8x16) -> u64
     ensures { result ≡ mask_l (map (is_digit decimal_table) v) }
 {

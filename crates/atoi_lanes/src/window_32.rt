@@ -20,13 +20,13 @@ const FROM: [u8; 32] = [
     128, 128, 128, 128, 128, 128, 128, 128,
 ];
 
-/// What one read says of the first 32 bytes of a slice, or of all if there are fewer. These bytes
-/// are the *window*.
+/// The *window* of the first 32 bytes of a slice, or of all if there are fewer: what one read says
+/// of these bytes.
 #[derive(Clone, Copy)]
 pub(crate) struct Window32 {
-    /// How many digits the window begins with.
+    /// How many digits the bytes begin with.
     pub(crate) len: u32,
-    /// How many zeros it begins with.
+    /// How many zeros they begin with.
     pub(crate) zeroes: u32,
     /// The number that these digits spell.
     pub(crate) number: u128,

@@ -1,5 +1,5 @@
-//! Readers, writers and a standard error for the tests, which fail when a test wants them to. They
-//! use only std.
+//! Readers, writers and a standard error that fail when a test wants them to. Only tests use them,
+//! and they use only std.
 
 use std::alloc::Global;
 use std::cell::{Cell, RefCell};
