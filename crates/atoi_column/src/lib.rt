@@ -5,6 +5,8 @@
 //! `atoi_core`. It allocates no memory and copies nothing.
 #![tactic(auto)]
 
+#[cfg(test)]
+mod answers;
 mod column;
 mod error;
 mod fields;

@@ -8,6 +8,8 @@ use crate::source::FromReader;
 use std::io::{Stdin, Stdout};
 
 mod answer;
+#[cfg(test)]
+mod answers;
 mod calls;
 mod columns;
 #[cfg(test)]

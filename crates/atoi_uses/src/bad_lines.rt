@@ -61,6 +61,7 @@ impl Error for BadLine<'_> {}
 #[cfg(test)]
 mod tests {
     use super::*;
+    use crate::answers::gives;
     use crate::texts::printed;
     use std::test::Fail;
 
@@ -70,20 +71,21 @@ mod tests {
 
     #[test]
     fn lines_are_counted_from_1(rt: HostRuntime) {
-        assert_eq!(rt; line_of(b"x"), Some(1));
-        assert_eq!(rt; line_of(b"7\n8x\n9"), Some(2));
-        assert_eq!(rt; line_of(b"7\n8\n-9\n"), Some(3));
-        assert_eq!(rt; total_or_bad_line(b"7\n8\n9\n"), Ok(24));
+        gives(&rt, line_of(b"x"), Some(1));
+        gives(&rt, line_of(b"7\n8x\n9"), Some(2));
+        gives(&rt, line_of(b"7\n8\n-9\n"), Some(3));
+        gives(&rt, total_or_bad_line(b"7\n8\n9\n"), Ok(24));
     }
 
     #[test]
     fn the_text_has_the_line_and_the_cause(rt: HostRuntime) -> Result<(), Fail> {
         let error = ColumnError::Trailing { index: 1, place: 3 };
         let bad = BadLine { line: 2, error };
-        assert_eq!(rt; total_or_bad_line(b"7\n8x\n9"), Err(bad));
-        assert_eq!(rt;
+        gives(&rt, total_or_bad_line(b"7\n8x\n9"), Err(bad));
+        gives(
+            &rt,
             printed(rt.alloc(), &bad)?.as_str(),
-            "line 2: field 1 goes on after its number, at byte 3"
+            "line 2: field 1 goes on after its number, at byte 3",
         );
         Ok(())
     }

@@ -91,6 +91,7 @@ fn word_and_text(line: &[u8]) -> Option<(Word, &[u8])>
 #[cfg(test)]
 mod tests {
     use super::*;
+    use crate::answers::gives;
     use crate::texts::printed;
     use std::test::Fail;
 
@@ -106,37 +107,39 @@ mod tests {
 
     #[test]
     fn words_and_numbers(rt: HostRuntime) {
-        assert_eq!(rt; read_command(b"SET 42"), set(42));
-        assert_eq!(rt; read_command(b"SET 0"), set(0));
-        assert_eq!(rt; read_command(b"SET +007"), set(7));
-        assert_eq!(rt; read_command(b"INCRBY -7"), incr_by(-7));
-        assert_eq!(rt;
+        gives(&rt, read_command(b"SET 42"), set(42));
+        gives(&rt, read_command(b"SET 0"), set(0));
+        gives(&rt, read_command(b"SET +007"), set(7));
+        gives(&rt, read_command(b"INCRBY -7"), incr_by(-7));
+        gives(
+            &rt,
             read_command(b"INCRBY -9223372036854775808"),
-            incr_by(-9223372036854775808)
+            incr_by(-9223372036854775808),
         );
     }
 
     #[test]
     fn other_words_are_refused(rt: HostRuntime) {
         let unknown = Err(CommandError::UnknownWord);
-        assert_eq!(rt; read_command(b""), unknown);
-        assert_eq!(rt; read_command(b"GET 42"), unknown);
-        assert_eq!(rt; read_command(b"set 42"), unknown);
-        assert_eq!(rt; read_command(b"SET"), unknown);
-        assert_eq!(rt; read_command(b"SETX 42"), unknown);
-        assert_eq!(rt; read_command(b" SET 42"), unknown);
-        assert_eq!(rt; read_command(b"INCR 42"), unknown);
-        assert_eq!(rt; read_command(b"INCRBY\t42"), unknown);
+        gives(&rt, read_command(b""), unknown);
+        gives(&rt, read_command(b"GET 42"), unknown);
+        gives(&rt, read_command(b"set 42"), unknown);
+        gives(&rt, read_command(b"SET"), unknown);
+        gives(&rt, read_command(b"SETX 42"), unknown);
+        gives(&rt, read_command(b" SET 42"), unknown);
+        gives(&rt, read_command(b"INCR 42"), unknown);
+        gives(&rt, read_command(b"INCRBY\t42"), unknown);
     }
 
     #[test]
     fn errors_print(rt: HostRuntime) -> Result<(), Fail> {
         let unknown = printed(rt.alloc(), &CommandError::UnknownWord)?;
-        assert_eq!(rt; unknown.as_str(), "unknown word");
+        gives(&rt, unknown.as_str(), "unknown word");
         let bad = printed(rt.alloc(), &CommandError::BadNumber(AtoiSimdError::Empty))?;
-        assert_eq!(rt;
+        gives(
+            &rt,
             bad.as_str(),
-            "no number after the word: atoi_simd string is empty"
+            "no number after the word: atoi_simd string is empty",
         );
         Ok(())
     }
@@ -144,18 +147,20 @@ mod tests {
     #[test]
     fn other_numbers_are_refused(rt: HostRuntime) {
         let empty = Err(CommandError::BadNumber(AtoiSimdError::Empty));
-        assert_eq!(rt; read_command(b"SET "), empty);
-        assert_eq!(rt; read_command(b"SET  42"), empty);
-        assert_eq!(rt; read_command(b"SET -"), empty);
+        gives(&rt, read_command(b"SET "), empty);
+        gives(&rt, read_command(b"SET  42"), empty);
+        gives(&rt, read_command(b"SET -"), empty);
         let number = AtoiSimdError::Invalid64(42, 2, b"42\r\n");
-        assert_eq!(rt;
+        gives(
+            &rt,
             read_command(b"SET 42\r\n"),
-            Err(CommandError::BadNumber(number))
+            Err(CommandError::BadNumber(number)),
         );
         let number = AtoiSimdError::Overflow(b"9223372036854775808");
-        assert_eq!(rt;
+        gives(
+            &rt,
             read_command(b"INCRBY 9223372036854775808"),
-            Err(CommandError::BadNumber(number))
+            Err(CommandError::BadNumber(number)),
         );
     }
 }

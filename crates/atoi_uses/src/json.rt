@@ -39,6 +39,7 @@ fn has_leading_zero(integer: &[u8]) -> bool
 #[cfg(test)]
 mod tests {
     use super::*;
+    use crate::answers::gives;
 
     fn read(text: &[u8]) -> Option<(i64, &[u8])> {
         json_integer(text)
@@ -47,35 +48,37 @@ mod tests {
     #[test]
     fn integers_of_a_document(rt: HostRuntime) {
         let document = br#"{"id":40712,"delta":-8,"zero":0}"#;
-        assert_eq!(rt; read(&document[6..]), Some((40712, &document[11..])));
-        assert_eq!(rt; read(&document[20..]), Some((-8, &document[22..])));
-        assert_eq!(rt; read(&document[30..]), Some((0, b"}".as_slice())));
+        gives(&rt, read(&document[6..]), Some((40712, &document[11..])));
+        gives(&rt, read(&document[20..]), Some((-8, &document[22..])));
+        gives(&rt, read(&document[30..]), Some((0, b"}".as_slice())));
     }
 
     #[test]
     fn what_the_grammar_refuses(rt: HostRuntime) {
-        assert_eq!(rt; read(b"007"), None);
-        assert_eq!(rt; read(b"-01"), None);
-        assert_eq!(rt; read(b"+1"), None);
-        assert_eq!(rt; read(b"-"), None);
-        assert_eq!(rt; read(b"--1"), None);
-        assert_eq!(rt; read(b" 1"), None);
-        assert_eq!(rt; read(b""), None);
-        assert_eq!(rt; read(b"-0.5"), Some((0, b".5".as_slice())));
+        gives(&rt, read(b"007"), None);
+        gives(&rt, read(b"-01"), None);
+        gives(&rt, read(b"+1"), None);
+        gives(&rt, read(b"-"), None);
+        gives(&rt, read(b"--1"), None);
+        gives(&rt, read(b" 1"), None);
+        gives(&rt, read(b""), None);
+        gives(&rt, read(b"-0.5"), Some((0, b".5".as_slice())));
     }
 
     #[test]
     fn the_range_of_an_i64(rt: HostRuntime) {
-        assert_eq!(rt;
+        gives(
+            &rt,
             read(b"9223372036854775807]"),
-            Some((i64::MAX, b"]".as_slice()))
+            Some((i64::MAX, b"]".as_slice())),
         );
-        assert_eq!(rt;
+        gives(
+            &rt,
             read(b"-9223372036854775808"),
-            Some((i64::MIN, b"".as_slice()))
+            Some((i64::MIN, b"".as_slice())),
         );
-        assert_eq!(rt; read(b"9223372036854775808"), None);
-        assert_eq!(rt; read(b"-9223372036854775809"), None);
-        assert_eq!(rt; read(b"100000000000000000000000000"), None);
+        gives(&rt, read(b"9223372036854775808"), None);
+        gives(&rt, read(b"-9223372036854775809"), None);
+        gives(&rt, read(b"100000000000000000000000000"), None);
     }
 }

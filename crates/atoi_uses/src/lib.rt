@@ -3,6 +3,8 @@
 #![tactic(auto)]
 
 mod addresses;
+#[cfg(test)]
+mod answers;
 mod bad_lines;
 mod cents;
 mod commands;

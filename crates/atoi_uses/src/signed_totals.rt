@@ -69,27 +69,31 @@ impl Error for SignedTotalError<'_> {}
 #[cfg(test)]
 mod tests {
     use super::*;
+    use crate::answers::gives;
     use crate::texts::printed;
     use std::test::Fail;
 
     #[test]
     fn partial_sums_may_leave_the_range(rt: HostRuntime) {
-        assert_eq!(rt;
+        gives(
+            &rt,
             signed_total(b"9223372036854775807,1,-2", b','),
-            Ok(9223372036854775806)
+            Ok(9223372036854775806),
         );
-        assert_eq!(rt;
+        gives(
+            &rt,
             signed_total(b"-9223372036854775808,-1,+1", b','),
-            Ok(i64::MIN)
+            Ok(i64::MIN),
         );
-        assert_eq!(rt; signed_total(b"", b','), Ok(0));
+        gives(&rt, signed_total(b"", b','), Ok(0));
     }
 
     #[test]
     fn a_total_out_of_range(rt: HostRuntime) {
-        assert_eq!(rt;
+        gives(
+            &rt,
             signed_total(b"9223372036854775807\n1\n", b'\n'),
-            Err(SignedTotalError::OutOfRange(9223372036854775808))
+            Err(SignedTotalError::OutOfRange(9223372036854775808)),
         );
     }
 
@@ -97,18 +101,20 @@ mod tests {
     fn errors_print(rt: HostRuntime) -> Result<(), Fail> {
         let trailing = ColumnError::Trailing { index: 1, place: 3 };
         let bad = SignedTotalError::BadField(trailing);
-        assert_eq!(rt; signed_total(b"-7;x", b';').err().is_some(), true);
-        assert_eq!(rt;
+        gives(&rt, signed_total(b"-7;x", b';').err().is_some(), true);
+        gives(
+            &rt,
             printed(rt.alloc(), &bad)?.as_str(),
-            "field 1 goes on after its number, at byte 3"
+            "field 1 goes on after its number, at byte 3",
         );
-        assert_eq!(rt;
+        gives(
+            &rt,
             printed(
                 rt.alloc(),
-                &SignedTotalError::OutOfRange(-9223372036854775809)
+                &SignedTotalError::OutOfRange(-9223372036854775809),
             )?
             .as_str(),
-            "the total -9223372036854775809 is out of range"
+            "the total -9223372036854775809 is out of range",
         );
         Ok(())
     }

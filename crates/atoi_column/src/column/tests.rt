@@ -2,6 +2,7 @@
 //! The expected items are counted by hand.
 
 use super::Column;
+use crate::answers::gives;
 use crate::error::ColumnError;
 use crate::laws::{items_decide, items_in_turn, texts_and_items};
 use crate::separator::is_separator;
@@ -37,36 +38,36 @@ fn the_bytes_beside_them_do(rt: HostRuntime) {
 #[test]
 fn a_last_field_may_lack_its_separator(rt: HostRuntime) {
     let mut column = Column::<u8>::new(b"1\n2\n", b'\n');
-    assert_eq!(rt; column.next(), Some(Ok(1)));
-    assert_eq!(rt; column.next(), Some(Ok(2)));
-    assert_eq!(rt; column.next(), None);
-    assert_eq!(rt; column.next(), None);
+    gives(&rt, column.next(), Some(Ok(1)));
+    gives(&rt, column.next(), Some(Ok(2)));
+    gives(&rt, column.next(), None);
+    gives(&rt, column.next(), None);
     let mut column = Column::<u8>::new(b"1\n2", b'\n');
-    assert_eq!(rt; column.next(), Some(Ok(1)));
-    assert_eq!(rt; column.next(), Some(Ok(2)));
-    assert_eq!(rt; column.next(), None);
+    gives(&rt, column.next(), Some(Ok(1)));
+    gives(&rt, column.next(), Some(Ok(2)));
+    gives(&rt, column.next(), None);
 }
 
 #[test]
 fn an_empty_field_is_refused_and_ends_the_column(rt: HostRuntime) {
     let mut column = Column::<u8>::new(b"1\n\n2", b'\n');
-    assert_eq!(rt; column.next(), Some(Ok(1)));
-    assert_eq!(rt; column.next(), Some(empty(1, 2)));
-    assert_eq!(rt; column.next(), None);
-    assert_eq!(rt; column.next(), None);
+    gives(&rt, column.next(), Some(Ok(1)));
+    gives(&rt, column.next(), Some(empty(1, 2)));
+    gives(&rt, column.next(), None);
+    gives(&rt, column.next(), None);
 }
 
 #[test]
 fn a_byte_after_a_number_is_reported_by_its_offset(rt: HostRuntime) {
     let mut column = Column::<u8>::new(b"12a\n", b'\n');
     let trailing = ColumnError::Trailing { index: 0, place: 2 };
-    assert_eq!(rt; column.next(), Some(Err(trailing)));
-    assert_eq!(rt; column.next(), None);
+    gives(&rt, column.next(), Some(Err(trailing)));
+    gives(&rt, column.next(), None);
     let mut column = Column::<i8>::new(b"-128,12a", b',');
     let trailing = ColumnError::Trailing { index: 1, place: 7 };
-    assert_eq!(rt; column.next(), Some(Ok(-128)));
-    assert_eq!(rt; column.next(), Some(Err(trailing)));
-    assert_eq!(rt; column.next(), None);
+    gives(&rt, column.next(), Some(Ok(-128)));
+    gives(&rt, column.next(), Some(Err(trailing)));
+    gives(&rt, column.next(), None);
 }
 
 #[test]
@@ -74,18 +75,23 @@ fn an_error_has_the_number_and_the_place_of_its_field(rt: HostRuntime) {
     items_decide::<i8>();
     items_in_turn();
     let trailing = ColumnError::Trailing { index: 1, place: 7 };
-    assert_eq!(rt;
+    gives(
+        &rt,
         Column::<i8>::new(b"-128,12a", b',').nth(1),
-        Some(Err(trailing))
+        Some(Err(trailing)),
     );
-    assert_eq!(rt; (trailing.index(), trailing.place()), (1, 7));
+    gives(&rt, (trailing.index(), trailing.place()), (1, 7));
     let field = ColumnError::Field {
         index: 2,
         place: 5,
         cause: AtoiSimdError::Empty,
     };
-    assert_eq!(rt; Column::<i8>::new(b"1,22,x", b',').nth(2), Some(Err(field)));
-    assert_eq!(rt; (field.index(), field.place()), (2, 5));
+    gives(
+        &rt,
+        Column::<i8>::new(b"1,22,x", b',').nth(2),
+        Some(Err(field)),
+    );
+    gives(&rt, (field.index(), field.place()), (2, 5));
 }
 
 // Returns the text that `error` prints. Nothing is known of its type except the trait `Error`.
@@ -96,18 +102,20 @@ fn printed<E: Error>(alloc: Global, error: &E) -> Result<String, AllocError> {
 #[test]
 fn an_error_prints_its_index_place_and_cause(rt: HostRuntime) -> Result<(), Fail> {
     let trailing = ColumnError::Trailing { index: 1, place: 7 };
-    assert_eq!(rt;
+    gives(
+        &rt,
         printed(rt.alloc(), &trailing)?.as_str(),
-        "field 1 goes on after its number, at byte 7"
+        "field 1 goes on after its number, at byte 7",
     );
     let field = ColumnError::Field {
         index: 2,
         place: 5,
         cause: AtoiSimdError::Overflow(b"256"),
     };
-    assert_eq!(rt;
+    gives(
+        &rt,
         printed(rt.alloc(), &field)?.as_str(),
-        "field 2 at byte 5 is no number: atoi_simd overflow, input: [32, 35, 36]"
+        "field 2 at byte 5 is no number: atoi_simd overflow, input: [32, 35, 36]",
     );
     Ok(())
 }
@@ -119,16 +127,17 @@ fn the_longest_error_prints_all_of_its_text(rt: HostRuntime) -> Result<(), Fail>
         place: usize::MAX,
         cause: AtoiSimdError::Invalid128(u128::MAX, usize::MAX, &[255; 48]),
     };
-    assert_eq!(rt;
+    gives(
+        &rt,
         printed(rt.alloc(), &field)?.as_str(),
-        "field 18446744073709551615 at byte 18446744073709551615 is no number: atoi_simd invalid at index: 18446744073709551615 it must contain only digits, starting with: 340282366920938463463374607431768211455 input: [FF, FF, FF, FF, FF, FF, FF, FF, FF, FF, FF, FF, FF, FF, FF, FF, FF, FF, FF, FF, FF, FF, FF, FF, FF, FF, FF, FF, FF, FF, FF, FF, FF, FF, FF, FF, FF, FF, FF, FF, FF, FF, FF, FF, FF, FF, FF, FF]"
+        "field 18446744073709551615 at byte 18446744073709551615 is no number: atoi_simd invalid at index: 18446744073709551615 it must contain only digits, starting with: 340282366920938463463374607431768211455 input: [FF, FF, FF, FF, FF, FF, FF, FF, FF, FF, FF, FF, FF, FF, FF, FF, FF, FF, FF, FF, FF, FF, FF, FF, FF, FF, FF, FF, FF, FF, FF, FF, FF, FF, FF, FF, FF, FF, FF, FF, FF, FF, FF, FF, FF, FF, FF, FF]",
     );
     Ok(())
 }
 
 #[test]
 fn an_empty_input_has_no_field(rt: HostRuntime) {
-    assert_eq!(rt; Column::<u8>::new(b"", b'\n').next(), None);
+    gives(&rt, Column::<u8>::new(b"", b'\n').next(), None);
 }
 
 #[test]
@@ -142,8 +151,8 @@ fn the_slice_of_a_cause_reaches_to_the_end(rt: HostRuntime) {
         place: 0,
         cause,
     };
-    assert_eq!(rt; column.next(), Some(Err(refused)));
-    assert_eq!(rt; column.next(), None);
+    gives(&rt, column.next(), Some(Err(refused)));
+    gives(&rt, column.next(), None);
 }
 
 // Adds up the values in a `for` loop.
@@ -160,13 +169,13 @@ fn sum(column: Column<'_, u8>) -> u64 {
 #[test]
 fn a_column_is_an_iterator_as_any(rt: HostRuntime) -> Result<(), Fail> {
     let column = || Column::<u8>::new(b"+1;002;3;", b';');
-    assert_eq!(rt; sum(column()), 6);
-    assert_eq!(rt; column().count(), 3);
-    assert_eq!(rt; column().filter(|item| *item == Ok(2)).count(), 1);
+    gives(&rt, sum(column()), 6);
+    gives(&rt, column().count(), 3);
+    gives(&rt, column().filter(|item| *item == Ok(2)).count(), 1);
     let doubled: Vec<u16> = column()
         .map(|item| u16::from(item.unwrap_or(0)) * 2)
         .collect(rt.alloc())?;
-    assert_eq!(rt; doubled.as_slice(), [2, 4, 6].as_slice());
+    gives(&rt, doubled.as_slice(), [2, 4, 6].as_slice());
     Ok(())
 }
 
@@ -184,9 +193,9 @@ fn sevens(alloc: Global) -> Result<Vec<u8>, AllocError> {
 fn a_million_fields_and_a_bad_last_one(rt: HostRuntime) -> Result<(), Fail> {
     let input = sevens(rt.alloc())?;
     let mut column = Column::<u8>::new(&input, b',');
-    assert_eq!(rt; column.nth(999_999), Some(Ok(7)));
-    assert_eq!(rt; column.next(), Some(empty(1_000_000, 2_000_000)));
-    assert_eq!(rt; column.next(), None);
+    gives(&rt, column.nth(999_999), Some(Ok(7)));
+    gives(&rt, column.next(), Some(empty(1_000_000, 2_000_000)));
+    gives(&rt, column.next(), None);
     Ok(())
 }
 
@@ -194,8 +203,8 @@ fn a_million_fields_and_a_bad_last_one(rt: HostRuntime) -> Result<(), Fail> {
 fn a_million_separators_alone(rt: HostRuntime) -> Result<(), Fail> {
     let input = vec![in rt.alloc(); b','; 1_000_000]?;
     let mut column = Column::<u8>::new(&input, b',');
-    assert_eq!(rt; column.next(), Some(empty(0, 0)));
-    assert_eq!(rt; column.next(), None);
+    gives(&rt, column.next(), Some(empty(0, 0)));
+    gives(&rt, column.next(), None);
     Ok(())
 }
 
@@ -203,7 +212,7 @@ fn a_million_separators_alone(rt: HostRuntime) -> Result<(), Fail> {
 fn a_field_of_a_million_zeros(rt: HostRuntime) -> Result<(), Fail> {
     let input = vec![in rt.alloc(); b'0'; 1_000_000]?;
     let mut column = Column::<u8>::new(&input, b',');
-    assert_eq!(rt; column.next(), Some(Ok(0)));
-    assert_eq!(rt; column.next(), None);
+    gives(&rt, column.next(), Some(Ok(0)));
+    gives(&rt, column.next(), None);
     Ok(())
 }

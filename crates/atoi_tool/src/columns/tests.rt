@@ -1,5 +1,6 @@
 //! Tests of rows about columns. The expected answers were worked out by hand.
 
+use crate::answers::gives;
 use crate::output::answer_lines;
 use crate::sink::ToWriter;
 use std::alloc::Global;
@@ -46,7 +47,7 @@ col -170141183460469231731687303715884105728 0
 fn answers_columns(rt: HostRuntime) -> Result<(), Fail> {
     let (output, good) = answered(rt.alloc(), ROWS)?;
     assert!(rt; good);
-    assert_eq!(rt; output.as_slice(), ANSWERS);
+    gives(&rt, output.as_slice(), ANSWERS);
     Ok(())
 }
 
@@ -68,7 +69,7 @@ fn refuses_bad_columns(rt: HostRuntime) -> Result<(), Fail> {
     ];
     for row in rows {
         let (output, good) = answered(rt.alloc(), row)?;
-        assert_eq!(rt; output.as_slice(), b"bad row\n".as_slice());
+        gives(&rt, output.as_slice(), b"bad row\n".as_slice());
         assert!(rt; !good);
     }
     Ok(())
@@ -85,9 +86,9 @@ fn answered_long(alloc: Global, start: &[u8], byte: u8) -> Result<Vec<u8>, Fail>
 #[test]
 fn answers_long_columns(rt: HostRuntime) -> Result<(), Fail> {
     let zeros = answered_long(rt.alloc(), b"w column u8 2C ", b'0')?;
-    assert_eq!(rt; zeros.as_slice(), b"col 0\n".as_slice());
+    gives(&rt, zeros.as_slice(), b"col 0\n".as_slice());
     let separators = answered_long(rt.alloc(), b"w column u8 2C ", b',')?;
     let refused: &[u8] = b"col err field 0 0: atoi_simd string is empty\n";
-    assert_eq!(rt; separators.as_slice(), refused);
+    gives(&rt, separators.as_slice(), refused);
     Ok(())
 }

@@ -2,6 +2,7 @@
 //! module `devices`, which only tests have, and the heaps of `linked_list_allocator`.
 
 use super::{PART, read_all, read_all_in};
+use crate::answers::gives;
 use crate::devices::FailingReader;
 use crate::source::FromReader;
 use crate::status::{ToolError, status};
@@ -29,7 +30,7 @@ fn reads_to_the_end(rt: HostRuntime) -> Result<(), Fail> {
             "{len} bytes, {part} a read"
         );
         assert!(rt; reader.rest.is_empty());
-        assert_eq!(rt; reader.reads, reads);
+        gives(&rt, reader.reads, reads);
     }
     Ok(())
 }
@@ -48,12 +49,12 @@ fn read_failing(alloc: Global, failing: usize, error: ErrorKind) -> Result<usize
 fn reports_a_refused_read(rt: HostRuntime) {
     for failing in 1..=3 {
         let other = read_failing(rt.alloc(), failing, ErrorKind::Other);
-        assert_eq!(rt; other, Err(ToolError::Read));
+        gives(&rt, other, Err(ToolError::Read));
         let interrupted = read_failing(rt.alloc(), failing, ErrorKind::Interrupted);
-        assert_eq!(rt; interrupted, Err(ToolError::Read));
+        gives(&rt, interrupted, Err(ToolError::Read));
     }
-    assert_eq!(rt; read_failing(rt.alloc(), 4, ErrorKind::Other), Ok(2));
-    assert_eq!(rt; status(&Err(ToolError::Read)), 4);
+    gives(&rt, read_failing(rt.alloc(), 4, ErrorKind::Other), Ok(2));
+    gives(&rt, status(&Err(ToolError::Read)), 4);
 }
 
 // Returns a source of `input` that gives `PART` bytes a call.
@@ -81,9 +82,9 @@ fn reports_each_refused_request_for_memory(rt: HostRuntime) -> Result<(), Fail> 
         let bytes = read_all_in(&heap, &mut source);
         assert_eq!(rt; bytes.err(), Some(ToolError::Memory), "a heap of {size}");
         assert_eq!(rt; source.into_inner().rest.len(), left, "a heap of {size}");
-        assert_eq!(rt; heap.used(), 0);
+        gives(&rt, heap.used(), 0);
     }
-    assert_eq!(rt; status(&Err(ToolError::Memory)), 3);
+    gives(&rt, status(&Err(ToolError::Memory)), 3);
     Ok(())
 }
 
@@ -93,8 +94,8 @@ fn reads_all_if_no_request_is_refused(rt: HostRuntime) -> Result<(), Fail> {
     let heap = LocalHeap::new(rt.alloc(), 61440)?;
     let mut source = parts_of(&input);
     let bytes = read_all_in(&heap, &mut source)?;
-    assert_eq!(rt; bytes.as_slice(), input.as_slice());
-    assert_eq!(rt; heap.used(), 32768);
+    gives(&rt, bytes.as_slice(), input.as_slice());
+    gives(&rt, heap.used(), 32768);
     assert!(rt; source.into_inner().rest.is_empty());
     Ok(())
 }

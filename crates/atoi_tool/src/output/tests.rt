@@ -3,6 +3,7 @@
 //! except for a plus that a prefix counts and for narrow prefixes of more than 16 digits.
 
 use super::answer_lines;
+use crate::answers::gives;
 use crate::devices::{Full, LimitedWriter};
 use crate::sink::ToWriter;
 use crate::status::{ToolError, status};
@@ -240,10 +241,10 @@ err atoi_simd wrong size: 17 input: [30, 30, 30, 30, 30, 30, 30, 30, 30, 30, 30,
 fn assert_answers(rt: &impl Abort, alloc: Global, rows: &[u8], answers: &[u8]) -> Result<(), Fail> {
     let (output, good) = answered(alloc, rows)?;
     assert!(rt; good);
-    assert_eq!(rt; output.as_slice(), answers);
+    gives(rt, output.as_slice(), answers);
     let (output, good) = answered(alloc, &on_lanes(alloc, rows)?)?;
     assert!(rt; good);
-    assert_eq!(rt; output.as_slice(), answers);
+    gives(rt, output.as_slice(), answers);
     Ok(())
 }
 
@@ -286,16 +287,16 @@ fn zeros_shown(alloc: Global, start: &[u8]) -> Result<Vec<u8>, AllocError> {
 fn answers_long_rows(rt: HostRuntime) -> Result<(), Fail> {
     let row = long_row(rt.alloc(), b"w parse u8 z- ", b"7")?;
     let (output, _) = answered(rt.alloc(), &row)?;
-    assert_eq!(rt; output.as_slice(), b"ok 7\n".as_slice());
+    gives(&rt, output.as_slice(), b"ok 7\n".as_slice());
 
     let row = long_row(rt.alloc(), b"l prefix u64 z- ", b"7x")?;
     let (output, _) = answered(rt.alloc(), &row)?;
-    assert_eq!(rt; output.as_slice(), b"ok 7 1000001\n".as_slice());
+    gives(&rt, output.as_slice(), b"ok 7 1000001\n".as_slice());
 
     let shown = zeros_shown(rt.alloc(), b"err atoi_simd wrong size: 24 input: [30")?;
     let row = long_row(rt.alloc(), b"w prefix u64 -- ", b"")?;
     let (output, _) = answered(rt.alloc(), &row)?;
-    assert_eq!(rt; output.as_slice(), shown.as_slice());
+    gives(&rt, output.as_slice(), shown.as_slice());
     Ok(())
 }
 
@@ -307,13 +308,13 @@ fn answers_the_longest_line(rt: HostRuntime) -> Result<(), Fail> {
         rt.alloc(),
         b"err atoi_simd invalid at index: 1000039 it must contain only digits, starting with: 340282366920938463463374607431768211455 input: [30",
     )?;
-    assert_eq!(rt; shown.len(), 324);
+    gives(&rt, shown.len(), 324);
     let row = long_row(rt.alloc(), b"w parse u128 z- ", greatest)?;
     let (output, _) = answered(rt.alloc(), &row)?;
-    assert_eq!(rt; output.as_slice(), shown.as_slice());
+    gives(&rt, output.as_slice(), shown.as_slice());
     let row = long_row(rt.alloc(), b"l pos u128 z- ", greatest)?;
     let (output, _) = answered(rt.alloc(), &row)?;
-    assert_eq!(rt; output.as_slice(), shown.as_slice());
+    gives(&rt, output.as_slice(), shown.as_slice());
     Ok(())
 }
 
@@ -393,9 +394,9 @@ fn answers_an_input_that_is_cut(rt: HostRuntime) -> Result<(), Fail> {
             15 => (b"ok 255\n", true),
             _ => (b"bad row\n", false),
         };
-        assert_eq!(rt; output.as_slice(), answer);
-        assert_eq!(rt; good, is_good);
-        assert_eq!(rt; status(&Ok(good)), if is_good { 0 } else { 2 });
+        gives(&rt, output.as_slice(), answer);
+        gives(&rt, good, is_good);
+        gives(&rt, status(&Ok(good)), if is_good { 0 } else { 2 });
     }
     Ok(())
 }
@@ -415,10 +416,10 @@ fn writes_in_parts_of_any_size(rt: HostRuntime) -> Result<(), Fail> {
             ..LimitedWriter::new(rt.alloc(), ANSWERS.len(), Full::Fails)
         });
         let outcome = answer_lines(LINES, &mut sink);
-        assert_eq!(rt; outcome, Ok(false));
+        gives(&rt, outcome, Ok(false));
         let writer = sink.into_inner();
-        assert_eq!(rt; writer.held.as_slice(), ANSWERS);
-        assert_eq!(rt; writer.writes, writes);
+        gives(&rt, writer.held.as_slice(), ANSWERS);
+        gives(&rt, writer.writes, writes);
     }
     Ok(())
 }
@@ -432,9 +433,9 @@ fn check_refused_write(rt: &impl Abort, alloc: Global, written: &[u8], full: Ful
             ..LimitedWriter::new(alloc, written.len(), full)
         });
         let outcome = answer_lines(LINES, &mut sink);
-        assert_eq!(rt; outcome, Err(ToolError::Write));
-        assert_eq!(rt; status(&outcome), 5);
-        assert_eq!(rt; sink.into_inner().held.as_slice(), written);
+        gives(rt, status(&outcome), 5);
+        gives(rt, outcome, Err(ToolError::Write));
+        gives(rt, sink.into_inner().held.as_slice(), written);
     }
 }
 

@@ -2,6 +2,7 @@
 //! the module `devices`, which only tests have.
 
 use super::{Ended, run};
+use crate::answers::gives;
 use crate::devices::{Errors, FailingReader, Full, LimitedWriter};
 use crate::sink::ToWriter;
 use crate::source::FromReader;
@@ -25,9 +26,9 @@ fn ended(outcome: Result<bool, ToolError>) -> Ended<(), ()> {
 fn check_end<I, O>(rt: &impl Abort, alloc: Global, ended: Ended<I, O>, number: u8, line: &[u8]) {
     let errors = Errors::new(alloc, 1);
     let status = ended.report(&errors);
-    assert_eq!(rt; status, ExitCode::from(number));
-    assert_eq!(rt; errors.calls.get(), if line.is_empty() { 0 } else { 1 });
-    assert_eq!(rt; errors.reported.into_inner().as_slice(), line);
+    gives(rt, status, ExitCode::from(number));
+    gives(rt, errors.calls.get(), if line.is_empty() { 0 } else { 1 });
+    gives(rt, errors.reported.into_inner().as_slice(), line);
 }
 
 // One call prints the error, even if that call fails.
@@ -36,8 +37,8 @@ fn a_fault_is_printed_once(rt: HostRuntime) {
     let outcome = Err(ToolError::Write);
     let errors = Errors::new(rt.alloc(), 2);
     let status = ended(outcome).report(&errors);
-    assert_eq!(rt; status, ExitCode::from(5));
-    assert_eq!(rt; errors.calls.get(), 1);
+    gives(&rt, status, ExitCode::from(5));
+    gives(&rt, errors.calls.get(), 1);
 }
 
 #[test]
@@ -83,7 +84,7 @@ fn check_rows(
 ) -> Result<(), Fail> {
     let rows = rows(alloc, count, has_last_newline)?;
     let answers = b"ok 255\n".repeat(alloc, count)?;
-    assert_eq!(rt; rows.len(), count.saturating_mul(16));
+    gives(rt, rows.len(), count.saturating_mul(16));
     let mut input = FromReader::new(FailingReader::new(&rows, part));
     let mut output = ToWriter::new(LimitedWriter {
         part,
@@ -91,10 +92,10 @@ fn check_rows(
     });
     let ended = run(alloc, &mut input, &mut output);
     let writer = output.into_inner();
-    assert_eq!(rt; writer.held.as_slice(), answers.as_slice());
-    assert_eq!(rt; input.into_inner().reads, reads);
-    assert_eq!(rt; writer.writes, writes);
-    assert_eq!(rt; writer.flushes, 0);
+    gives(rt, writer.held.as_slice(), answers.as_slice());
+    gives(rt, input.into_inner().reads, reads);
+    gives(rt, writer.writes, writes);
+    gives(rt, writer.flushes, 0);
     check_end(rt, alloc, ended, 0, b"");
     Ok(())
 }
@@ -132,8 +133,8 @@ fn check_run(
     let mut output = ToWriter::new(writer);
     let ended = run(alloc, &mut FromReader::new(reader), &mut output);
     let writer = output.into_inner();
-    assert_eq!(rt; writer.held.as_slice(), written);
-    assert_eq!(rt; writer.flushes, 0);
+    gives(rt, writer.held.as_slice(), written);
+    gives(rt, writer.flushes, 0);
     check_end(rt, alloc, ended, number, line);
 }
 

@@ -2,6 +2,7 @@
 //! only tests have.
 
 use super::{FromReader, Source};
+use crate::answers::gives;
 use crate::devices::FailingReader;
 
 #[test]
@@ -11,8 +12,8 @@ fn takes_into_space_of_any_size(rt: HostRuntime) {
         let input = [b'7'; 9000];
         let mut source = FromReader::new(FailingReader::new(&input, 9000));
         let count = source.take(&mut space[..room]);
-        assert_eq!(rt; count.ok(), Some(room));
+        gives(&rt, count.ok(), Some(room));
         assert!(rt; space[..room] == input[..room]);
-        assert_eq!(rt; source.into_inner().reads, 1);
+        gives(&rt, source.into_inner().reads, 1);
     }
 }
