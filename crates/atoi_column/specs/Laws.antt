@@ -25,13 +25,15 @@ FieldsArePrefixes k =
     (separator : ℕ) → is_separator separator ≡ true → (rest : List ℕ)
     → FieldIsPrefix (parse_answer k true true) (parse_prefix_answer k true true) separator rest
 
--- The offset that follows these fields at the start of an input, each with its separator.
+-- The offset right after the fields `texts`, if an input begins with them and a separator follows
+-- each.
 abbrev pub place_after : List (List ℕ) → ℕ
 place_after texts = sum_by (λ text. length text + 1) texts
 
--- How the items end. If no field is left, no item is left. Otherwise the first field that is left
--- is not a text of the type, and the one item left is its flaw, which depends on what `prefix`
--- answers to the input from the field's first byte on.
+-- What follows the first fields of an input, which are texts of the type, and the items of these
+-- fields. If no other field follows them, no other item does. Otherwise the next field is not a
+-- text of the type, and the one item that follows is its flaw, which depends on what `prefix`
+-- answers to the input from that field's first byte on.
 abbrev pub EndsItems : IntType → (prefix : List ℕ → Result (ℤ × ℕ) Refusal) → (index place : ℕ) → (rest : List ℕ) → List (List ℕ) → List (Result ℤ Flaw) → Type 0
 EndsItems k prefix index place rest [] last = last ≡ []
 EndsItems k prefix index place rest (text ∷ texts) last =

@@ -200,8 +200,9 @@ index_in-invalid narrow number index s = refl
 index_in-invalid wide64 number index s = refl
 index_in-invalid wide128 number index s = refl
 
--- Replacing the third test by one that holds whenever the old one did leaves the chosen error the
--- same, unless that is the fourth error and the new test holds.
+-- `first_of` chooses the error of the first of its tests that holds. If the third test is replaced
+-- by one that also holds whenever the old one did, then the chosen error stays the same, unless it
+-- was the fourth error and the new third test holds.
 other_third : (a b c e d : Bool) (p q r i reason : Refusal) → (c ≡ true → e ≡ true) → (i ≡ reason → e ≡ false)
     → first_of a b c d p q r i ≡ Some reason → first_of a b e d p q r i ≡ Some reason
 other_third true b c e d p q r i reason more none h = h
@@ -210,7 +211,8 @@ other_third false false true e d p q r i reason more none h = rw (more refl) h
 other_third false false false e true p q r i reason more none h = rw (none (cc h)) h
 other_third false false false e false p q r i reason more none h = absurd (cc h)
 
--- An error that holds a number is the fourth one, for a byte that follows the digits.
+-- Only the fourth error, for a byte that follows the digits, holds the value of the digits
+-- (`number_in`).
 only_fourth : (a b c d : Bool) (p q r i reason : Refusal) (least : ℕ) → number_in p ≡ 0 → number_in q ≡ 0 → number_in r ≡ 0 → least < number_in reason
     → first_of a b c d p q r i ≡ Some reason → (a ≡ false) × (b ≡ false) × (c ≡ false) × (i ≡ reason)
 only_fourth true b c d p q r i reason least hp hq hr more h = let e : p ≡ reason = cc h in absurd (omega (arith, ap number_in e))
@@ -305,7 +307,7 @@ not_chosen : (above : Bool) (z : ℤ) → None ≡ cond above None (Some z) → 
 not_chosen true z h = refl
 not_chosen false z h = absurd (cc h)
 
--- If there is a count, the value is above the bound and the count is the index.
+-- If there is `Some count`, the value is above the bound, and the count is that index.
 counted_digits : (above : Bool) (count index : ℕ) → Some count ≡ cond above (Some index) None → (above ≡ true) × (count ≡ index)
 counted_digits true count index h = (refl, cc)
 counted_digits false count index h = absurd (cc h)
@@ -373,7 +375,7 @@ module _ (t : Table) (k : IntType) (minus skip : Bool) (s : List ℕ) where
       let above = not_chosen _ _ (fact (value t (run t s)) (ap (λ (pair : ℤ × ℕ). pair.0) both.1)) in
       (accepted_least t k minus prefix skip s both.0 (ltb-true _ _ above), ap (λ (pair : ℤ × ℕ). pair.1) both.1)
 
-  -- Prefix: an error never holds a number, so it stays the same.
+  -- Prefix: an error never holds the value of the digits, so it stays the same.
   pub prefix_error : (reason : Refusal) → Err reason ≡ prefix_answer t k true skip s → Err reason ≡ prefix_answer t k minus skip s
   prefix_error reason h =
       let refused_is = map_unless_err (counted_number true) _ _ reason (sym h) in

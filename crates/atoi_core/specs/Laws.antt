@@ -49,8 +49,8 @@ Writes k (given is_negative) = DigitsWrite k is_negative
 abbrev pub least_of : IntType → ℤ
 least_of k = if k.signed then neg_ℤ (pos (k.greatest + 1)) else pos 0
 
--- A prefix may have as many digits as a whole slice: zeros are skipped, or the type has more than
--- 32 bits.
+-- The condition under which a prefix may have as many digits as a whole slice: either zeros are
+-- skipped, or the type has more than 32 bits.
 abbrev pub HasLimitOfWhole : IntType → Bool → Type 0
 HasLimitOfWhole k skip = (skip ≡ true) ⊎ (32 < k.bits)
 
@@ -93,8 +93,8 @@ pub record AcceptedTexts (k : IntType) : Type 0 where
   pub accepted : (s : List ℕ) → IsOk (parse_answer k true true s) ↔ IsText k s
   pub number : (s : List ℕ) (number : ℤ) → TextWrites k true s number → parse_answer k true true s ≡ Ok number
 
--- A whole parse returns a number only if its slice writes that number. If zeros are skipped, it
--- returns each number that its slice writes.
+-- A whole parse returns a number only if its slice writes that number. If zeros are skipped, the
+-- converse holds too: a number that the slice writes is returned.
 pub record AcceptedNumbers (k : IntType) : Type 0 where
   pub written : (form : SignForm) (skip : Bool) (s : List ℕ) (number : ℤ)
       → whole_call k form skip s ≡ Ok number → Writes k form s number
@@ -117,9 +117,9 @@ pub record WholeResults {T : Type 0} (k : IntType) (number : T → ℤ) (skip : 
       → typed_answer number result ≡ whole_answer decimal_table k is_negative skip s
       → IsTrue skip → OnErr result ((any : ℤ) → ¬ DigitsWrite k is_negative s any)
 
--- A prefix parse returns a number and a count only if the first so many bytes of its slice write
--- that number, and no digit follows them. If zeros are skipped, it returns the number and length of
--- each such prefix.
+-- A prefix parse returns a number and a count only if the first `count` bytes of its slice write
+-- that number, and no digit follows them. If zeros are skipped, the converse holds too: if a prefix
+-- is of this kind, its number and its length are returned.
 pub record AcceptedPrefixes (k : IntType) : Type 0 where
   pub written : (form : SignForm) (skip : Bool) (s : List ℕ) (number : ℤ) (count : ℕ)
       → prefix_call k form skip s ≡ Ok (number, count) → PrefixWrites (Writes k form) s number count
@@ -213,8 +213,8 @@ pub record ZerosChangeNothing (k : IntType) : Type 0 where
       → 0 < run_len decimal_table (sign_in k form s).body
       → HaveSameOutcome (with_more count (prefix_call k form true s)) (prefix_call k form true (with_zeros k form count s))
 
--- The decimal digits are those of std, and so is their value, which is below ten to the power of
--- their number.
+-- A byte is a decimal digit exactly if it is one for std, and digits have the value that std gives
+-- them. The value of `n` digits is below ten to the power of `n`.
 pub record DecimalDigits : Type 0 where
   pub byte : (byte : ℕ) → IsTrue (is_digit decimal_table byte) ↔ IsAsciiDigit byte
   pub to_std : (s : List ℕ) → All (λ byte. IsTrue (is_digit decimal_table byte)) s → AllDigits 10 s
@@ -269,7 +269,7 @@ pub record ErrorsInOrder (k : IntType) : Type 0 where
 
 -- Bytes that write a number without a sign start with a digit. The decimal text of a number in
 -- range writes it and has no needless zero, and no other digits do both. The same holds of texts
--- with a sign, if the number 0 has no minus.
+-- with a sign, if they have no `+`, and no minus before 0.
 pub record DecimalTexts (k : IntType) : Type 0 where
   pub begins : (is_negative : Bool) (digits : List ℕ) (number : ℤ)
       → DigitsWrite k is_negative digits number → BeginsWithDigit digits

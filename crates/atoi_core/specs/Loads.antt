@@ -5,7 +5,9 @@ use Rattle.atoi_core.specs.Run.{zeros}
 use Rattle.atoi_core.specs.Magnitude.{Class, Extent, narrow, wide64, wide128, whole, prefix}
 use Rattle.atoi_core.specs.IntType.{IntType, class_of}
 
--- The most loads that a call makes in one turn. A turn is what it does for 16 leading zeros.
+-- How many loads the upper bound allows in each *turn*, which is what a call does for 16 leading
+-- zeros. A loop makes one load in a turn; the larger numbers leave room for loads after the last
+-- zero.
 abbrev pub loads_a_turn : Class → ℕ
 loads_a_turn narrow = 1
 loads_a_turn wide64 = 2

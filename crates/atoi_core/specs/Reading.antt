@@ -13,8 +13,8 @@ pub record Reading (table : Table) (count : ℕ) (s : List ℕ) (digits leading 
   pub leading_are : leading ≡ zeros table (take count s)
   pub number_is : number ≡ value table (run table (take count s))
 
--- All bytes before index `offset` are zeros that are skipped; so if zeros are not skipped, there are
--- none.
+-- All bytes before index `offset` are zeros that are skipped. If zeros are not skipped, `offset` is
+-- 0.
 pub record IsSkipped (table : Table) (skip : Bool) (s : List ℕ) (offset : ℕ) : Type 0 where
   pub zeros_only : offset ≤ zeros table s
   pub asked : skip ≡ false → offset ≡ 0
@@ -55,7 +55,7 @@ pub record ReadingDecides : Type 0 where
   -- A reading has no more zeros than digits, and no more digits than bytes.
   pub within : (table : Table) (count : ℕ) (s : List ℕ) (digits leading number : ℕ)
       → Reading table count s digits leading number → (leading ≤ digits) × (digits ≤ min count (length s))
-  -- The number of a reading is below ten to the power of its number of digits.
+  -- If a reading has `digits` digits, its number is below ten to the power of `digits`.
   pub below : (table : Table) → IsBelowTen table → (count : ℕ) (s : List ℕ) (digits leading number : ℕ)
       → Reading table count s digits leading number → number < 10 ^ digits
   -- After skipped zeros, a reading decides the answer of a wide class if its digits end within it,
@@ -74,8 +74,8 @@ pub record ReadingDecides : Type 0 where
       → (skip : Bool) (s : List ℕ) (offset count digits leading number : ℕ) → IsSkipped table skip s offset
       → Reading table count (drop offset s) digits leading number → digits < count → digits < limit
       → (number ≤ bound) × (prefix_magnitude table class bound limit skip s ≡ (if offset + digits == 0 then Err empty else Ok (number, offset + digits)))
-  -- After skipped zeros, a reading of as many bytes as `size` counts digits at most, which does not
-  -- start with a zero to be skipped, decides the answer by all its digits.
+  -- After skipped zeros, a reading of `cap class` bytes decides the answer if it does not start
+  -- with a zero that is to be skipped. All its digits are then significant.
   pub full : (table : Table) (class : Class) (bound limit : ℕ) → limit < cap class
       → (skip : Bool) (s : List ℕ) (offset digits leading number : ℕ) → IsSkipped table skip s offset
       → Reading table (cap class) (drop offset s) digits leading number → (skip ≡ true → leading ≡ 0)

@@ -1,6 +1,6 @@
-//! Laws of derived methods. A derived method cannot have a clause of its own, so its law is a
-//! condition of a function here: a caller of that function for a type proves the law for that type.
-//! They use `error` and `window`.
+//! Laws of derived methods. A derived method cannot have a clause of its own. So its law is a
+//! `requires` of a function here that does nothing: this function can be called for a type only if
+//! the law is proved for that type. They use `error` and `window`.
 ghost use Rattle.std.specs.Prelude.{◌≡◌, ◌↔◌, IsTrue};
 
 use crate::error::AtoiSimdError;

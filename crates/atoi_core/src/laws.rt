@@ -40,16 +40,16 @@ pub fn accepted_prefixes<T: Number>()
     ensures { AcceptedPrefixes T.int_type }
 {}
 
-/// If a result of the type is what a whole parse returns, its `Ok` is a number that the slice
-/// writes; if zeros are skipped, its error means that the slice writes no number.
+/// Speaks of a `Result` with a `T` that is what a whole parse returns. If it is `Ok`, the slice
+/// writes that number. If it is an error and zeros are skipped, the slice writes no number.
 #[tactic(auto, using(crate::proofs::Prefixes::whole_results))]
 pub fn whole_results<T: Number, const SKIP_ZEROES: bool>()
     ensures { WholeResults T.int_type T.number SKIP_ZEROES }
 {}
 
-/// If a result of the type is what a prefix parse returns, its `Ok` is a number that the first so
-/// many bytes write, and no digit follows them; if zeros are skipped, its error means that the
-/// slice has no such prefix.
+/// Speaks of a `Result` with a `T` and a count that is what a prefix parse returns. If it is `Ok`,
+/// the first `count` bytes of the slice write that number, and no digit follows them. If it is an
+/// error and zeros are skipped, the slice has no such prefix.
 #[tactic(auto, using(crate::proofs::Prefixes::prefix_results))]
 pub fn prefix_results<T: Number, const SKIP_ZEROES: bool>()
     ensures { PrefixResults T.int_type T.number SKIP_ZEROES }
@@ -71,7 +71,7 @@ pub fn prefix_is_whole<T: Number>()
 {}
 
 /// If a prefix parse succeeds, its count is at least one and at most the length of the slice, and
-/// the same call on only so many bytes returns the same.
+/// the same call on only the first `count` bytes returns the same.
 #[tactic(auto, using(crate::proofs::Prefixes::prefix_of_cut))]
 pub fn prefix_of_cut<T: Number>()
     ensures { PrefixOfCut T.int_type }
@@ -123,7 +123,8 @@ pub fn decimal_digits()
 
 /// Bytes that write a number without a sign start with a digit. `decimal n`, the text that `{}`
 /// prints, writes every `n` in the range of the type, and no other digits without a needless zero
-/// write it. The same holds of `signed_decimal` for numbers with a sign, if 0 has no minus.
+/// write it. The same holds of `signed_decimal` for texts with a sign, if they have no `+`, and no
+/// minus before 0.
 #[tactic(auto, using(crate::proofs::Texts::decimal_texts))]
 pub fn decimal_texts<T: Number>()
     ensures { DecimalTexts T.int_type }

@@ -1,9 +1,10 @@
-//! Both signs from one parse. A *magnitude* is a value without its sign. For a signed type, the
-//! body is always parsed as the digits of a negative number, so the largest magnitude is that of
-//! `T::MIN`. The functions here derive the answer for the actual sign from that. Of the magnitudes
-//! that this parse accepts, only that of `T::MIN` is out of range without a minus. It has a known
-//! number of digits, and all digits before them are zeros, so the number of all digits says where
-//! the slice of the error `Overflow` begins. The file uses `error`, `engine` and `number`.
+//! Both signs from one parse. A *magnitude* is a value without its sign. `parse_signed` and
+//! `parse_prefix_signed` always parse the body as the digits of a negative number, so the largest
+//! magnitude is that of `T::MIN`. The functions here derive the answer for the actual sign from
+//! that. Of the magnitudes that this parse accepts, only that of `T::MIN` is out of range without a
+//! minus. It has a known number of digits, and all digits before them are zeros, so the number of
+//! all digits says where the slice of the error `Overflow` begins. The file uses `error`, `engine`
+//! and `number`.
 ghost use Rattle.std.specs.Prelude.{List, ◌≡◌, ◌<◌, ◌≤◌, ℕ, true, not, nat_lt, if◌then◌else◌, Some, None, length, drop};
 ghost use Rattle.std.specs.Option.{option_map};
 ghost use Rattle.atoi_core.specs.Answer.{typed_answer, typed_prefix_answer, whole_answer, prefix_answer};

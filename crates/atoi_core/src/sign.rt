@@ -64,7 +64,7 @@ pub fn parse_signed<'a, E: Engine, T: Signed>(
 }
 
 /// Parses all of `s` as an integer of the unsigned type `T`: a `+` if `skip_plus` is on and there
-/// is one, then digits only. Otherwise it is like `parse_signed`.
+/// is one, then digits only. In all other respects it is like `parse_signed`.
 ///
 /// # Errors
 ///
@@ -115,7 +115,7 @@ pub fn parse_prefix_signed<'a, E: Engine, T: Signed>(
 }
 
 /// Parses the integer of the unsigned type `T` at the start of `s`, and returns it with the number
-/// of its bytes, including that of a `+` that was consumed. Otherwise it is like
+/// of its bytes, including that of a `+` that was consumed. In all other respects it is like
 /// `parse_prefix_signed`.
 ///
 /// # Errors

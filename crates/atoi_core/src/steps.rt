@@ -13,8 +13,8 @@ use std::marker::{Model, PhantomData};
 #[derive(Drop)]
 pub struct Steps {
     marker: PhantomData<u8>,
-    // No byte holds this number, so a proof written by hand could set it to any number. Only the
-    // two functions below are proved by hand.
+    // No byte holds this number, so a file `Proof.antt`, which proves a whole function by hand,
+    // could set it to any number. Only the two functions below have such a file.
     ghost number: { ℕ },
 }
 

@@ -34,7 +34,7 @@ fn load_part(s: &[u8]) -> u64
 
 /// Returns the word whose highest bytes are those of `s`, the last the highest; the bytes below
 /// them are 0. `s` has 1 to 8 bytes. The word is put together from overlapping parts of `s`,
-/// without a branch on their number.
+/// without a branch on its length.
 #[inline(always)]
 pub fn load_high(s: &[u8]) -> u64
     requires some { 0 < length s.now }
@@ -106,17 +106,17 @@ pub fn process_8(val: u64, len: u32) -> u64
     ensures sum { result ≡ low_value (low_bytes len val) }
     ensures most { result ≤ 166666665 }
 {
-    // To each field of the word, each product adds the field below it times ten, a hundred or ten
-    // thousand.
+    // Each product adds to a field of the word the field below it, times 10 for fields of 8 bits,
+    // times 100 for 16 bits, and times 10,000 for 32 bits.
     let ones = (val << (64 - 8 * len)) & 0x0F0F_0F0F_0F0F_0F0F;
     let tens = (ones.wrapping_mul(0xA01) >> 8) & 0x00FF_00FF_00FF_00FF;
     let hundreds = (tens.wrapping_mul(0x64_0001) >> 16) & 0x0000_FFFF_0000_FFFF;
     hundreds.wrapping_mul(0x2710_0000_0001) >> 32
 }
 
-/// Returns the sum of `process_8` for the lowest `len` bytes of a word of sixteen. `len` is 1 to
-/// 16; the bytes above these do not matter. The largest result is 16666666666666665, when every bit
-/// is set.
+/// Returns what `process_8` returns, but for the lowest `len` bytes of a word of sixteen bytes.
+/// `len` is 1 to 16; the bytes above these do not matter. The largest result is 16666666666666665,
+/// when every bit is set.
 pub fn process_16(val: u128, len: u32) -> u64
     requires low { 1 ≤ len }
     requires high { len ≤ 16 }

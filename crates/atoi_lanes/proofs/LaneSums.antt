@@ -91,7 +91,7 @@ take-paired t (suc m) (x ∷ y ∷ rest) =
     let two : suc m + suc m ≡ suc (suc (m + m)) = omega arith in
     rw two (ap (λ l. (x * t + y) ∷ l) (take-paired t m rest))
 
--- The first of two digits is the number that it spells.
+-- The first of two digits is the number that the list of this digit alone spells.
 first_of-one : (t : ℕ) (xs : List ℕ) → length xs ≡ 2 → get_or xs 0 0 ≡ number_in t (take 1 xs)
 first_of-one t [] long = absurd (omega arith)
 first_of-one t (x ∷ rest) long = omega (arith, ap (λ p. x * p) (pow-zero t))
@@ -232,8 +232,8 @@ level h t n m room bytes xs long below =
     ∙ join_lanes (2 ^ h) t (step h t) le (step-joins h t room) m xs long below
 
 -- The weights for bytes of lanes that hold a pair of digits in the upper byte: two neighbouring
--- pairs have the weights 100 and 1, and the lower bytes have the weight 0. `four_each` is the
--- number of these bytes.
+-- pairs have the weights 100 and 1, and the lower bytes have the weight 0. `four_each m` is the
+-- number of all bytes of `m` times two pairs.
 abbrev hundreds : ℕ → List ℕ
 hundreds zero = []
 hundreds (suc m) = 0 ∷ 100 ∷ 0 ∷ 1 ∷ hundreds m
@@ -391,8 +391,8 @@ drop-zeros : (n : ℕ) (s : List ℕ) → drop n (replicate n 0 ++ s) ≡ s
 drop-zeros zero s = refl
 drop-zeros (suc n) s = drop-zeros n s
 
--- Without its bits for the zeros before the slice, the mask begins with as many ones as the slice
--- with digits.
+-- If the mask's bits for the zeros before the slice are dropped, the mask begins with as many ones
+-- as the slice begins with digits.
 digits_first : (s v : List ℕ) (mask : ℕ) → length s ≤ 8 → v ≡ in_half s → mask ≡ mask_l (map (is_digit decimal_table) v)
     → trailing_ones w64 (mask / 2 ^ (8 - length s)) ≡ run_len decimal_table s
 digits_first s v mask few is ones =

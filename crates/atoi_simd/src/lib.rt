@@ -20,9 +20,10 @@
 //! signed type. The documentation of `parse` lists the errors.
 //!
 //! These functions read eight bytes at a time. The module `lanes` has the same functions with the
-//! same results, which read 16 or 32 bytes at a time with `std::simd`: it is for 64- and 128-bit
-//! numbers with many digits. The functions in `laws` do nothing when called; their contracts are
-//! facts that the proofs of a caller can use. The crate uses `atoi_core` and `atoi_lanes`.
+//! same results, which read 16 or 32 bytes at a time with `std::simd`: they are faster for nearly
+//! all calls with 64- and 128-bit types. The functions in `laws` do nothing when called; their
+//! contracts are facts that the proofs of a caller can use. The crate uses `atoi_core` and
+//! `atoi_lanes`.
 #![tactic(auto)]
 
 mod default_engine;

@@ -1,5 +1,6 @@
-//! Reads rows of an engine, a call, an integer type, flags and a text, and answers each by a parse.
-//! It joins a run to the standard input, output and error; every other module is used by it.
+//! Reads rows and answers each of them. A row names a call and has a text for it to parse, or it
+//! has a column of numbers to add up. This module joins a run to the standard input, output and
+//! error. It uses `run`, `source` and `sink`.
 #![tactic(auto)]
 
 use crate::run::{Ended, run};
