@@ -283,36 +283,3 @@ pub fn parse_any_neg<T: ParseNeg>(s: &[u8]) -> Result<(T, usize), AtoiSimdError<
 {
     parse_prefix_neg::<T, false>(s)
 }
-
-#[cfg(test)]
-mod tests {
-    use super::*;
-
-    #[test]
-    fn each_function_answers_its_worked_call(rt: HostRuntime) {
-        assert_eq!(rt; parse::<i64, false, false>(b"-2345"), Ok(-2345));
-        assert_eq!(rt; parse_pos::<u128, true>(b"0012"), Ok(12));
-        assert_eq!(rt; parse_neg::<i8, false>(b"128"), Ok(-128));
-        assert_eq!(rt;
-            parse_prefix::<u64, false, false>(b"123something_else"),
-            Ok((123, 3))
-        );
-        assert_eq!(rt; parse_prefix_pos::<u16, false>(b"80/tcp"), Ok((80, 2)));
-        assert_eq!(rt; parse_prefix_neg::<i32, false>(b"12a"), Ok((-12, 2)));
-        assert_eq!(rt; parse_skipped::<isize>(b"+007"), Ok(7));
-        assert_eq!(rt; parse_any::<usize>(b"7 "), Ok((7, 1)));
-        assert_eq!(rt; parse_any_pos::<u8>(b"255."), Ok((255, 3)));
-        assert_eq!(rt; parse_any_neg::<i16>(b"1-"), Ok((-1, 1)));
-    }
-
-    #[test]
-    fn the_first_calls_of_the_readme(rt: HostRuntime) {
-        assert_eq!(rt; parse::<u16, false, false>(b"8080"), Ok(8080));
-        assert_eq!(rt; parse_prefix::<i32, true, true>(b"+0042,7"), Ok((42, 5)));
-        assert_eq!(rt; parse::<i8, false, false>(b"-128"), Ok(-128));
-        assert_eq!(rt;
-            parse::<u8, false, false>(b"256x"),
-            Err(AtoiSimdError::Overflow(b"256x"))
-        );
-    }
-}

@@ -141,17 +141,3 @@ impl ParseNeg for i128 {
         prefix_neg::<DefaultEngine, i128>(skip_zeroes, s, &mut Steps::new())
     }
 }
-
-#[cfg(test)]
-mod tests {
-    use super::*;
-
-    #[test]
-    fn each_method_answers_its_worked_call(rt: HostRuntime) {
-        assert_eq!(rt; i8::atoi_simd_parse_neg(b"128", false), Ok(-128));
-        assert_eq!(rt;
-            i32::atoi_simd_parse_prefix_neg(b"12a", false),
-            Ok((-12, 2))
-        );
-    }
-}

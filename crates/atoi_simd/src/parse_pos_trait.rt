@@ -228,17 +228,3 @@ impl ParsePos for i128 {
         prefix_pos::<DefaultEngine, i128>(skip_zeroes, s, &mut Steps::new())
     }
 }
-
-#[cfg(test)]
-mod tests {
-    use super::*;
-
-    #[test]
-    fn each_method_answers_its_worked_call(rt: HostRuntime) {
-        assert_eq!(rt; u8::atoi_simd_parse_pos(b"255", false), Ok(255));
-        assert_eq!(rt;
-            u16::atoi_simd_parse_prefix_pos(b"80/tcp", false),
-            Ok((80, 2))
-        );
-    }
-}

@@ -296,17 +296,3 @@ impl Parse for i128 {
         parse_prefix_signed::<DefaultEngine, i128>(skip_zeroes, skip_plus, s, &mut Steps::new())
     }
 }
-
-#[cfg(test)]
-mod tests {
-    use super::*;
-
-    #[test]
-    fn each_method_answers_its_worked_call(rt: HostRuntime) {
-        assert_eq!(rt; i64::atoi_simd_parse(b"-2345", false, false), Ok(-2345));
-        assert_eq!(rt;
-            i32::atoi_simd_parse_prefix(b"+12a", false, true),
-            Ok((12, 3))
-        );
-    }
-}

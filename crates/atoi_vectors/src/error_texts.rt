@@ -1,10 +1,14 @@
-//! Compares what `Display` writes for an error with texts written by hand. No clause says that
-//! `Display` returns `Ok`, so the tests print each variant, with the shortest and the longest
-//! slices and numbers. It uses `parse` and the error of `atoi_simd`.
+//! Compares what `Display` writes for an error with texts written by hand, and errors with each
+//! other. No clause says that `Display` returns `Ok`, so the tests print each variant, with the
+//! shortest and the longest slices and numbers. It uses `answers`, and `parse` and the error of
+//! `atoi_simd`.
 
+use crate::answers::gives;
 use atoi_simd::AtoiSimdError::{self, Empty, Invalid64, Invalid128, Overflow, Size};
 use atoi_simd::parse;
 use std::alloc::{AllocError, Global};
+use std::cmp::Ordering;
+use std::error::Error;
 use std::process::Abort;
 
 fn displays(
@@ -27,6 +31,10 @@ fn short_texts(rt: HostRuntime) -> Result<(), AllocError> {
         (
             Invalid64(12, 2, b"12a"),
             "atoi_simd invalid at index: 2 it must contain only digits, starting with: 12  input: [31, 32, 61]",
+        ),
+        (
+            Invalid64(255, 3, b"255\r"),
+            "atoi_simd invalid at index: 3 it must contain only digits, starting with: 255  input: [32, 35, 35, D]",
         ),
         (
             Invalid128(12, 2, b"12a"),
@@ -121,4 +129,51 @@ fn errors_of_long_texts(rt: HostRuntime) -> Result<(), AllocError> {
         displays(&rt, rt.alloc(), error.unwrap_or(Empty), text)?;
     }
     Ok(())
+}
+
+// Returns what an error prints of which only the trait `Error` is known.
+fn printed<E: Error>(alloc: Global, error: &E) -> Result<String, AllocError> {
+    format!(in alloc; "{error}")
+}
+
+#[test]
+fn the_text_of_an_error_of_std(rt: HostRuntime) -> Result<(), AllocError> {
+    let text = printed(rt.alloc(), &Size(27, b"11"))?;
+    gives(
+        &rt,
+        text.as_str(),
+        "atoi_simd wrong size: 27 input: [31, 31]",
+    );
+    Ok(())
+}
+
+#[test]
+fn the_same_text_in_every_format(rt: HostRuntime) -> Result<(), AllocError> {
+    let error = Overflow(b"129");
+    let text = "atoi_simd overflow, input: [31, 32, 39]";
+    gives(&rt, format!(in rt.alloc(); "{error:>80}")?.as_str(), text);
+    gives(&rt, format!(in rt.alloc(); "{error:*^80}")?.as_str(), text);
+    gives(
+        &rt,
+        format!(in rt.alloc(); "{error:<080.3}")?.as_str(),
+        text,
+    );
+    Ok(())
+}
+
+#[test]
+fn errors_are_ordered_by_variant_then_numbers_then_slice(rt: HostRuntime) {
+    gives(&rt, Size(9, b"b") < Overflow(b"a"), true);
+    gives(&rt, Overflow(b"1") < Overflow(b"11"), true);
+    gives(&rt, Invalid64(1, 2, b"a") < Invalid64(2, 1, b"a"), true);
+}
+
+#[test]
+fn the_methods_compare_as_the_operators(rt: HostRuntime) {
+    let size = Size(9, b"b");
+    let overflow = Overflow(b"a");
+    gives(&rt, size.order(&overflow), Ordering::Less);
+    gives(&rt, overflow.partial_order(&size), Some(Ordering::Greater));
+    gives(&rt, size.is_same_as(&Size(9, b"b")), true);
+    gives(&rt, size.is_same_as(&overflow), false);
 }

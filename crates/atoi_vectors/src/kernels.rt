@@ -139,6 +139,19 @@ fn loads_of_every_kind_of_length(rt: HostRuntime) {
 }
 
 #[test]
+fn numbers_of_lanes(rt: HostRuntime) {
+    let lanes = u8x16::from_array(*b"1234567890123456");
+    gives(&rt, sum_lanes(lanes, 4), 1_234);
+    gives(&rt, sum_lanes(lanes, 5), 12_345);
+    gives(&rt, sum_lanes(lanes, 8), 12_345_678);
+    gives(&rt, sum_lanes(lanes, 9), 123_456_789);
+    gives(&rt, sum_lanes(lanes, 16), 1_234_567_890_123_456);
+    let cut = u8x16::from_array(*b"12\xFF9999999999999");
+    gives(&rt, len_lanes(cut), 2);
+    gives(&rt, sum_lanes(cut, 2), 12);
+}
+
+#[test]
 fn loaded_words(rt: HostRuntime) {
     gives(&rt, load_8(b""), 0);
     gives(&rt, load_8(b"123"), 0x33_3231);

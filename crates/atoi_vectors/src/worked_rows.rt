@@ -4,7 +4,7 @@
 use crate::answers::{both_give, gives};
 use atoi_core::take_sign;
 use atoi_simd::AtoiSimdError::{self, Empty, Invalid64, Overflow, Size};
-use atoi_simd::{lanes, parse};
+use atoi_simd::{Parse, ParseNeg, lanes, parse};
 use std::process::Abort;
 
 // Each row is a call and the answer that both the root and `lanes` must return.
@@ -27,6 +27,48 @@ fn the_examples_of_the_crate(rt: HostRuntime) {
         parse_neg::<i64, false>(b"2345") => Ok(-2345);
         parse_prefix::<u64, false, false>(b"123something_else") => Ok((123, 3));
     );
+}
+
+#[test]
+fn each_of_the_ten_functions(rt: HostRuntime) {
+    on_both!(rt;
+        parse::<i64, false, false>(b"-2345") => Ok(-2345);
+        parse_pos::<u128, true>(b"0012") => Ok(12);
+        parse_neg::<i8, false>(b"128") => Ok(-128);
+        parse_prefix::<u64, false, false>(b"123something_else") => Ok((123, 3));
+        parse_prefix_pos::<u16, false>(b"80/tcp") => Ok((80, 2));
+        parse_prefix_neg::<i32, false>(b"12a") => Ok((-12, 2));
+        parse_skipped::<isize>(b"+007") => Ok(7);
+        parse_any::<usize>(b"7 ") => Ok((7, 1));
+        parse_any_pos::<u8>(b"255.") => Ok((255, 3));
+        parse_any_neg::<i16>(b"1-") => Ok((-1, 1));
+    );
+}
+
+#[test]
+fn the_first_calls_of_the_readme(rt: HostRuntime) {
+    on_both!(rt;
+        parse::<u16, false, false>(b"8080") => Ok(8080);
+        parse_prefix::<i32, true, true>(b"+0042,7") => Ok((42, 5));
+        parse::<i8, false, false>(b"-128") => Ok(-128);
+        parse::<u8, false, false>(b"256x") => Err(Overflow(b"256x"));
+    );
+}
+
+#[test]
+fn each_method_of_the_public_traits(rt: HostRuntime) {
+    let root = <i64 as Parse>::atoi_simd_parse(b"-2345", false, false);
+    let on_lanes = <i64 as lanes::Parse>::atoi_simd_parse(b"-2345", false, false);
+    both_give(&rt, root, on_lanes, Ok(-2345));
+    let root = <i32 as Parse>::atoi_simd_parse_prefix(b"+12a", false, true);
+    let on_lanes = <i32 as lanes::Parse>::atoi_simd_parse_prefix(b"+12a", false, true);
+    both_give(&rt, root, on_lanes, Ok((12, 3)));
+    let root = <i8 as ParseNeg>::atoi_simd_parse_neg(b"128", false);
+    let on_lanes = <i8 as lanes::ParseNeg>::atoi_simd_parse_neg(b"128", false);
+    both_give(&rt, root, on_lanes, Ok(-128));
+    let root = <i32 as ParseNeg>::atoi_simd_parse_prefix_neg(b"12a", false);
+    let on_lanes = <i32 as lanes::ParseNeg>::atoi_simd_parse_prefix_neg(b"12a", false);
+    both_give(&rt, root, on_lanes, Ok((-12, 2)));
 }
 
 #[test]
