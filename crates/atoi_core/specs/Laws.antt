@@ -58,7 +58,7 @@ HasLimitOfWhole k skip = (skip ≡ true) ⊎ (32 < k.bits)
 abbrev pub IsSuffix : List ℕ → List ℕ → Type 0
 IsSuffix t s = (prefix_bytes : List ℕ) × (s ≡ prefix_bytes ++ t)
 
--- Two answers are equal values, or reasons of the same variant.
+-- Two answers are equal values, or errors of the same variant.
 abbrev pub HaveSameOutcome : {A : Type 0} → Result A Refusal → Result A Refusal → Type 0
 HaveSameOutcome (Ok x) (Ok y) = x ≡ y
 HaveSameOutcome (Err reason) (Err other) = rank reason ≡ rank other

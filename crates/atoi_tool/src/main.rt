@@ -1,6 +1,6 @@
 //! Reads rows and answers each of them. A row names a call and has a text for it to parse, or it
-//! has a column of numbers to add up. This module joins a run to the standard input, output and
-//! error. It uses `run`, `source` and `sink`.
+//! has a column whose numbers are to be read. This module joins a run to the standard input, output
+//! and error. It uses `run`, `source` and `sink`.
 #![tactic(auto)]
 
 use crate::run::{Ended, run};

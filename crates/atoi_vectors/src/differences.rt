@@ -2,8 +2,9 @@
 //! different answers, with both answers: one list for each of the two rules that differ. It uses no
 //! other module. The README.md of this crate says how the answers of the original were made.
 
-/// The first rule: `parse_prefix` counts a plus that it consumes. These are the rows with SKIP_PLUS
-/// and a text that begins with a plus and digits, which are accepted, one on each line.
+/// The first rule: `parse_prefix` counts a plus that it consumes. These are the rows, one on each
+/// line, that have SKIP_PLUS and a text that begins with a plus and digits, and whose call returns
+/// `Ok`.
 pub const PLUS_ROWS: &[u8] = b"\
 w prefix u128 -p +000000000000000008!
 w prefix u128 zp +000000000000000008!
@@ -137,8 +138,8 @@ w prefix_pos u16 -- 0000000000000000000000000000000000000000x
 w prefix i16 -p +000000000000000008!
 ";
 
-/// What the original answers to these rows: it reads only the first 16 digits, so that its count
-/// ends between two digits.
+/// What the original answers to these rows: it reads only the first 16 digits. If it returns `Ok`,
+/// its count ends between two digits; for four rows the 16 digits are out of range.
 pub const LONG_ORIGINAL: &[u8] = b"\
 ok 0 16
 ok 0 16
