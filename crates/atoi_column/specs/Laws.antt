@@ -8,9 +8,10 @@ use Rattle.atoi_core.specs.Text.{IsText, TextWrites}
 use Rattle.atoi_column.specs.Fields.{is_separator, fields_of}
 use Rattle.atoi_column.specs.Items.{Flaw, flaw_at, index_of, place_of, items_of}
 
--- How the first field of a rest is related to the number at the start of the rest: `whole` accepts
--- the field exactly if the number that `prefix` finds ends where the field does. Both then have the
--- same value. No number that `prefix` finds extends past the field.
+-- How the first field of `rest`, the part of the input that is still unread, is related to the
+-- number at its start: `whole` accepts the field exactly if the number that `prefix` finds ends
+-- where the field does. Both then have the same value. No number that `prefix` finds extends past
+-- the field.
 pub record FieldIsPrefix (whole : List ℕ → Result ℤ Refusal) (prefix : List ℕ → Result (ℤ × ℕ) Refusal) (separator : ℕ) (rest : List ℕ) : Type 0 where
   pub to_prefix : (value : ℤ) → whole (before_first (λ byte. byte == separator) rest) ≡ Ok value
       → prefix rest ≡ Ok (value, position_or_len (λ byte. byte == separator) rest)

@@ -247,9 +247,9 @@ pub record Shows (t : Table) (c : ℕ) (s : List ℕ) (w : Window) : Type 0 wher
   pub full : 0 < w.zeroes → w.len ≡ c
   pub zeroes_of : w.len ≡ c → w.zeroes ≡ min c (zeros t s)
 
--- Zeros are reported only when all c bytes of the window are digits. So at most as many are
--- reported as there are. If some are reported, the window is full. If the window is full, their
--- number is exact, but at most c.
+-- A window reports zeros only if all its c bytes are digits. So it never reports more zeros than
+-- the slice begins with, and if it reports any, it is full. A full window reports the smaller of c
+-- and the number of zeros that the slice begins with.
 zeroes_cases : (n c z k : ℕ) → z ≡ min c k → (cond (n == c) z 0 ≤ k) × (0 < cond (n == c) z 0 → n ≡ c) × (n ≡ c → cond (n == c) z 0 ≡ min c k)
 zeroes_cases n c z k e =
     (elim (n == c) as (λ b. (n == c) ≡ b → (cond b z 0 ≤ k) × (0 < cond b z 0 → n ≡ c) × (n ≡ c → cond b z 0 ≡ min c k)) [

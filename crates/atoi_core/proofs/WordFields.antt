@@ -28,8 +28,7 @@ abbrev pub masks : ℕ → ℕ → ℕ
 masks h zero = 0
 masks h (suc k) = masks h k * 2 ^ (h + h) + (2 ^ h - 1)
 
--- Twice m. This definition takes two steps for each of m, as `pairs` takes two digits for each
--- pair.
+-- Twice m. It adds 2 each time that m grows by 1, just as `pairs` takes two digits for each pair.
 abbrev pub twice : ℕ → ℕ
 twice zero = zero
 twice (suc m) = suc (suc (twice m))

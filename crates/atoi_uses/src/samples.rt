@@ -1,9 +1,36 @@
-//! Calls and their results, which the pages CALLING.md show. It has only tests.
+//! Calls and their results, which README.md and the pages CALLING.md show. It has only tests.
 
 #[cfg(test)]
 mod tests {
     use atoi_column::{Column, ColumnError};
-    use atoi_simd::{AtoiSimdError, parse, parse_prefix};
+    use atoi_simd::{
+        AtoiSimdError, parse, parse_neg, parse_pos, parse_prefix, parse_prefix_neg,
+        parse_prefix_pos,
+    };
+
+    #[test]
+    fn first_calls(rt: HostRuntime) {
+        assert_eq!(rt; parse::<u16, false, false>(b"8080"), Ok(8080));
+        assert_eq!(rt; parse_prefix::<i32, true, true>(b"+0042,7"), Ok((42, 5)));
+        assert_eq!(rt; parse::<i8, false, false>(b"-128"), Ok(-128));
+        assert_eq!(rt;
+            parse::<u8, false, false>(b"256x"),
+            Err(AtoiSimdError::Overflow(b"256x"))
+        );
+    }
+
+    #[test]
+    fn the_six_functions(rt: HostRuntime) {
+        assert_eq!(rt; parse::<i64, false, false>(b"-2345"), Ok(-2345));
+        assert_eq!(rt; parse_pos::<u128, true>(b"0012"), Ok(12));
+        assert_eq!(rt; parse_neg::<i8, false>(b"128"), Ok(-128));
+        assert_eq!(rt;
+            parse_prefix::<u64, false, false>(b"123something_else"),
+            Ok((123, 3))
+        );
+        assert_eq!(rt; parse_prefix_pos::<u16, false>(b"80/tcp"), Ok((80, 2)));
+        assert_eq!(rt; parse_prefix_neg::<i32, false>(b"12a"), Ok((-12, 2)));
+    }
 
     #[test]
     fn errors_of_a_parse(rt: HostRuntime) {

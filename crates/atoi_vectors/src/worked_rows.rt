@@ -46,16 +46,6 @@ fn each_of_the_ten_functions(rt: HostRuntime) {
 }
 
 #[test]
-fn the_first_calls_of_the_readme(rt: HostRuntime) {
-    on_both!(rt;
-        parse::<u16, false, false>(b"8080") => Ok(8080);
-        parse_prefix::<i32, true, true>(b"+0042,7") => Ok((42, 5));
-        parse::<i8, false, false>(b"-128") => Ok(-128);
-        parse::<u8, false, false>(b"256x") => Err(Overflow(b"256x"));
-    );
-}
-
-#[test]
 fn each_method_of_the_public_traits(rt: HostRuntime) {
     let root = <i64 as Parse>::atoi_simd_parse(b"-2345", false, false);
     let on_lanes = <i64 as lanes::Parse>::atoi_simd_parse(b"-2345", false, false);
