@@ -94,9 +94,9 @@ mod tests {
         gives(&rt, amount(b"123"), Err(AtoiSimdError::Empty));
         gives(&rt, amount(b"\xEF\xF1"), Err(AtoiSimdError::Empty));
         gives(&rt, amount(b"\xFA\xF1"), Err(AtoiSimdError::Empty));
-        let ones = [0xF1; 20];
-        gives(&rt, amount(&ones), Err(AtoiSimdError::Size(20, &ones)));
-        let nines = [0xF9; 19];
-        gives(&rt, amount(&nines), Err(AtoiSimdError::Overflow(&nines)));
+        let ones: &[u8] = &[0xF1; 20];
+        gives(&rt, amount(ones), Err(AtoiSimdError::Size(20, ones)));
+        let nines: &[u8] = &[0xF9; 19];
+        gives(&rt, amount(nines), Err(AtoiSimdError::Overflow(nines)));
     }
 }
