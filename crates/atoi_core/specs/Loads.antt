@@ -6,8 +6,8 @@ use Rattle.atoi_core.specs.Magnitude.{Class, Extent, narrow, wide64, wide128, wh
 use Rattle.atoi_core.specs.IntType.{IntType, class_of}
 
 -- How many loads the upper bound allows in each *turn*, which is what a call does for 16 leading
--- zeros. A loop makes one load in a turn; the larger numbers leave room for loads after the last
--- zero.
+-- zeros. A loop makes one load in a turn; for the wide types, the 2 and the 3 leave room for the
+-- loads after the last zero.
 abbrev pub loads_a_turn : Class → ℕ
 loads_a_turn narrow = 1
 loads_a_turn wide64 = 2

@@ -95,8 +95,9 @@ fn first_two_windows<'a, E: Engine>(
     }
 }
 
-// Returns the value and the length of a run that ends in the second window, when the first is full.
-// Returns `None` if the run goes on after the second, or starts with zeros that are to be skipped.
+// Returns the value and the length of a run of 16 to 31 digits, when the first window is full.
+// Returns `None` if there are 32 digits or more, or if the run starts with zeros that are to be
+// skipped.
 #[inline(always)]
 fn second_window<E: Engine>(
     skip: bool,

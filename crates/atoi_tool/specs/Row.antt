@@ -22,7 +22,8 @@ named_request engine_word call_word integer_word flags_word =
     (λ flags. record { engine = engine; call = call; integer = integer; flags = flags })
     (flags_of flags_word)) (integer_of integer_word)) (call_of call_word)) (engine_of engine_word)
 
--- What four words ask for; `None` if one of them names nothing, or if such a row has no answer.
+-- What four words ask for; `None` if one of them names nothing, or if no call can answer them
+-- (`is_known`).
 abbrev pub request_of : (engine_word call_word integer_word flags_word : List ℕ) → Option Request
 request_of engine_word call_word integer_word flags_word =
     option_and_then (λ request. if is_known request then Some request else None)
@@ -55,7 +56,7 @@ query_of engine_word call_word integer_word last_word =
     if bytes_eq call_word (codes "column") then column_of engine_word integer_word last_word
     else option_map (λ request. Number request) (request_of engine_word call_word integer_word last_word)
 
--- Such a row has an answer.
+-- A row with this query has an answer.
 abbrev pub HasAnswer : Query → Type 0
 HasAnswer (Number request) = is_known request ≡ true
 HasAnswer (Column integer separator) = is_separator separator ≡ true

@@ -1,5 +1,5 @@
-//! Worked examples of the loops that the ten functions call, over each of the three engines. It
-//! uses `answers`, `atoi_core` and `Lanes`.
+//! Worked examples of `narrow_whole`, and, over each of the three engines, of the loops that the ten
+//! functions call. It uses `answers`, `atoi_core` and `Lanes`.
 
 use crate::answers::{each_gives, gives};
 use atoi_core::AtoiSimdError::{self, Empty, Invalid64, Invalid128, Overflow, Size};
