@@ -136,13 +136,13 @@ skipped_is : (skip : Bool) (z offset digits leading : ℕ) → leading ≤ digit
 skipped_is true z offset digits leading most asked zeros_are = omega (arith, zeros_are refl)
 skipped_is false z offset digits leading most asked zeros_are = omega (arith, asked refl)
 
--- At most as many digits are significant as were read.
+-- No more digits are significant than were read.
 counting_most : (skip : Bool) (digits leading : ℕ) → significant_digits skip digits leading ≤ digits
 counting_most true digits leading = omega arith
 counting_most false digits leading = omega arith
 
--- A reading after skipped zeros decides the answer if it is not full of digits, or if as many of
--- its digits are significant as the error `Size` can report.
+-- A reading after skipped zeros decides the answer if it is not full of digits, or if it has at
+-- least `cap class` significant digits.
 pub decided : (t : Table) (class : Class) (bound limit : ℕ) → limit < cap class
     → (skip : Bool) (s : List ℕ) (offset count digits leading number : ℕ) → IsSkipped t skip s offset
     → Reading t count (drop offset s) digits leading number
@@ -214,8 +214,8 @@ all_count : (skip : Bool) (digits leading : ℕ) → (skip ≡ true → leading 
 all_count true digits leading none = omega (arith, none refl)
 all_count false digits leading none = refl
 
--- A reading of as many bytes as the error `Size` can report, which begins with no zero that is
--- skipped, decides the answer with all its digits.
+-- A reading of `cap class` bytes that begins with no zero that is skipped decides the answer, and
+-- all its digits are significant.
 pub all_decide : (t : Table) (class : Class) (bound limit : ℕ) → limit < cap class
     → (skip : Bool) (s : List ℕ) (offset digits leading number : ℕ) → IsSkipped t skip s offset
     → Reading t (cap class) (drop offset s) digits leading number → (skip ≡ true → leading ≡ 0)
@@ -374,10 +374,10 @@ Skipping-more t below skip s at after before now next w after_skip e one on some
       ];
     }
 
--- The state after the loop, whose last window `w` was loaded at offset `at`. The run of the slice
--- and its leading zeros are `at` longer than those of the bytes from `at` on, and both runs have
--- the same value. If zeros are skipped and the window is full, it begins at the first significant
--- digit. The number of windows loaded is bounded from both sides.
+-- The state after the loop, whose last window `w` was loaded at offset `at`. All bytes before that
+-- offset are zeros. So the bytes after it have a shorter run with fewer leading zeros, both by
+-- `at`, and the value of that run is the same. If zeros are skipped and the window is full, it
+-- begins at the first significant digit. The number of windows loaded is bounded from both sides.
 pub record Skipped (t : Table) (skip : Bool) (s : List ℕ) (at before now : ℕ) (w : Window) : Type 0 where
   pub shown : Shows t 16 (drop at s) w
   pub within : at ≤ length s

@@ -165,8 +165,8 @@ pub record PrefixIsWhole (k : IntType) : Type 0 where
   pub back : (form : SignForm) (skip : Bool) (s : List ℕ) (v : ℤ) → HasLimitOfWhole k skip
       → whole_call k form skip s ≡ Ok v → prefix_call k form skip s ≡ Ok (v, length s)
 
--- The prefix that a prefix parse finds has at least one byte and ends within the slice, and the
--- call returns the same if the slice ends with it.
+-- The prefix that a prefix parse finds has at least one byte and ends within the slice, and a call
+-- for a slice that is only this prefix returns the same.
 pub record PrefixOfCut (k : IntType) : Type 0 where
   pub cut : (form : SignForm) (skip : Bool) (s : List ℕ) (v : ℤ) (count : ℕ)
       → prefix_call k form skip s ≡ Ok (v, count)

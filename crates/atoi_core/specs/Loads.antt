@@ -6,8 +6,8 @@ use Rattle.atoi_core.specs.Magnitude.{Class, Extent, narrow, wide64, wide128, wh
 use Rattle.atoi_core.specs.IntType.{IntType, class_of}
 
 -- How many loads the upper bound allows in each *turn*, which is what a call does for 16 leading
--- zeros. A loop makes one load in a turn; for the wide types, the 2 and the 3 leave room for the
--- loads after the last zero.
+-- zeros. A loop makes one load in a turn. The wide types have the larger factors 2 and 3: times the
+-- two turns that `most_loads` adds, they cover the loads after the last zero too.
 abbrev pub loads_a_turn : Class → ℕ
 loads_a_turn narrow = 1
 loads_a_turn wide64 = 2

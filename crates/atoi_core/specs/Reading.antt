@@ -59,7 +59,7 @@ pub record ReadingDecides : Type 0 where
   pub below : (table : Table) → IsBelowTen table → (count : ℕ) (s : List ℕ) (digits leading number : ℕ)
       → Reading table count s digits leading number → number < 10 ^ digits
   -- After skipped zeros, a reading decides the answer of a wide class if its digits end within it,
-  -- or if it has as many significant digits as `size` counts at most.
+  -- or if it has at least `cap class` significant digits.
   pub decided : (table : Table) (class : Class) (bound limit : ℕ) → limit < cap class
       → (skip : Bool) (s : List ℕ) (offset count digits leading number : ℕ) → IsSkipped table skip s offset
       → Reading table count (drop offset s) digits leading number

@@ -40,8 +40,8 @@ pub fn accepted_prefixes<T: Number>()
     ensures { AcceptedPrefixes T.int_type }
 {}
 
-/// Speaks of a `Result` with a `T` that is what a whole parse returns. If it is `Ok`, the slice
-/// writes that number. If it is an error and zeros are skipped, the slice writes no number.
+/// Speaks of a `Result` that a whole parse of a `T` returns. If it is `Ok`, the slice writes the
+/// number in it. If it is an error and zeros are skipped, the slice writes no number.
 #[tactic(auto, using(crate::proofs::Prefixes::whole_results))]
 pub fn whole_results<T: Number, const SKIP_ZEROES: bool>()
     ensures { WholeResults T.int_type T.number SKIP_ZEROES }

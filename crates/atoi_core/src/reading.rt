@@ -1,5 +1,5 @@
-//! The law for an engine that reads wide integers, those of 64 and 128 bits, with a loop of its
-//! own: when the digits that it has read decide the answer. It uses only the definitions.
+//! A law for engines that read wide integers, those of 64 and 128 bits, with a loop of their own. It
+//! says when the digits read so far decide the answer. The file uses only the definitions.
 //!
 //! Such a loop is proved in five steps, as in `wide_lanes` of `atoi_lanes`:
 //!
@@ -12,10 +12,10 @@
 //! 5. Turn the last one into the answer, `answer_by_digits`, with `decided`.
 ghost use Rattle.atoi_core.specs.Reading.{ReadingDecides};
 
-/// The law that what has been read of a slice decides the answer of `Engine::prefix_64` and
-/// `Engine::prefix_128`. It applies to a reading after skipped zeros, in two cases: the digits end
-/// within the bytes that were read, or `cap` significant digits were read, which is the most that
-/// the error `Size` counts. Calling this function does nothing.
+/// The law says when the bytes that have been read of a slice decide the answer of
+/// `Engine::prefix_64` and `Engine::prefix_128`. It applies to a reading after skipped zeros, in
+/// two cases: the digits end within the bytes that were read, or `cap` significant digits were
+/// read, which is the most that the error `Size` counts. Calling this function does nothing.
 #[tactic(auto, using(crate::proofs::Windows::reading_decides))]
 pub fn reading_decides()
     ensures { ReadingDecides }

@@ -171,10 +171,10 @@ fn window_after_16(s: &[u8], steps: &mut Steps) -> Window
     window_of_word(load_from(s, 16))
 }
 
-// Returns the window of a slice of at most 8 bytes. A shorter slice is read as if zeros preceded
-// it, which the result leaves out. So there are always eight bytes, and unless `s` is empty, no
-// branch depends on its length. For fewer than 8 bytes the windows of 8 and of 16 bytes are the
-// same.
+// Returns the window of a slice of at most 8 bytes. A slice of fewer than 8 bytes is read as if
+// zeros preceded it, and the result leaves these zeros out. So there are always eight bytes, and
+// unless `s` is empty, no branch depends on its length. For fewer than 8 bytes the windows of 8 and
+// of 16 bytes are the same.
 fn short_window(s: &[u8]) -> Window
     requires { length s.now ≤ 8 }
     ensures of_16 { result ≡ window_of decimal_table 16 s.now }
@@ -312,9 +312,9 @@ fn value_of(word: u64, len: u32) -> u64
 }
 
 // Returns what `check_len_8` returns, with fewer operations. The top bit of a byte marks that it is
-// no digit. Adding 70 to such a byte, or subtracting 48 from it, sets that bit; for a digit neither
-// does. A carry or a borrow changes only bytes above the first that is no digit, and these are not
-// counted.
+// no digit. For such a byte at least one of two operations sets that bit, adding 70 or subtracting
+// 48; for a digit neither does. A carry or a borrow changes only bytes above the first that is no
+// digit, and these are not counted.
 fn digits_of(word: u64) -> u32
     ensures len { result ≡ run_len decimal_table (low_bytes 8 word) }
     ensures most { result ≤ 8 }

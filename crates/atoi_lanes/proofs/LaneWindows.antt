@@ -166,8 +166,8 @@ first-ends skip len leading most ends on full =
       | inr rest ↦ (elim rest [ inl none ↦ omega (arith, none.1) | inr off ↦ absurd (false≢true (sym off ∙ on)) ])
     ]
 
--- If a full first window begins with no zero that is skipped, `ReadsAfterZeros` holds for the first
--- window, with nothing skipped before it.
+-- If the first window is not full, or begins with no zero that is skipped, `ReadsAfterZeros` holds
+-- for it, with nothing skipped before it.
 pub reads-first : ReadingDecides → (skip : Bool) (s : List ℕ) (len leading number : ℕ) → Reading decimal_table 32 s len leading number
     → (skip ≡ true → 32 ≤ len → leading ≡ 0) → ReadsAfterZeros skip s 0 len leading number
 reads-first law skip s len leading number reading ends =

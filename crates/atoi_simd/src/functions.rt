@@ -1,6 +1,6 @@
-//! The ten public functions. Each passes its const flags as arguments to a method of the traits
-//! that its type `T` implements. The file uses these three traits, and the laws of `atoi_core` on
-//! accepted texts and on results.
+//! The ten public functions. Six pass their const flags as arguments to a method of the traits that
+//! their type `T` implements, and the four old names call one of these six. The file uses these
+//! three traits, and the laws of `atoi_core` on accepted texts and on results.
 ghost use Rattle.std.specs.Prelude.{◌≡◌, ◌≤◌, ◌↔◌, ℕ, ℤ, true, false, IsTrue, IsOk, IfOk, OnErr, length};
 ghost use Rattle.atoi_core.specs.Answer.{typed_answer, typed_prefix_answer, whole_answer, prefix_answer, parse_answer, parse_prefix_answer};
 ghost use Rattle.atoi_core.specs.Digit.{decimal_table};

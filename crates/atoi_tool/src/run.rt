@@ -17,8 +17,9 @@ use std::process::{ExitCode, Termination};
 /// How a run that reads from an `I` and writes to an `O` ended: whether every line was good, or the
 /// error that stopped the run.
 ///
-/// Only `run` makes a value of this type, and such a value cannot be dropped. So a `main` that
-/// returns one ends with the status of a run, and its result type names the streams of that run.
+/// Outside tests only `run` makes a value of this type, and such a value cannot be dropped. So a
+/// `main` that returns one ends with the status of a run, and its result type names the streams of
+/// that run.
 pub struct Ended<I, O> {
     outcome: Result<bool, ToolError>,
     streams: PhantomData<(I, O)>,

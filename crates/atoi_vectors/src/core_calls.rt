@@ -1,6 +1,6 @@
 //! Checks that each call over an engine returns what `plain_rules` says. An engine implements the
-//! reads of digits that the parses are made of. It uses `plain_rules`, `answers` and the calls of
-//! `atoi_core`.
+//! reads of digits that the parses are made of. The file uses `plain_rules`, `answers` and the calls
+//! of `atoi_core`.
 ghost use Rattle.std.specs.Prelude.{◌<◌};
 
 use crate::answers::gives;

@@ -33,7 +33,7 @@ pub fn chart(times: &[Times]) -> String {
         y = end + FOOT;
     }
     let title =
-        text(12.0, 24.0, "Time a call where lengths vary: std takes 1.0, shorter is faster");
+        text(12.0, 24.0, "Time a call on 30 lists of numbers: std takes 1.0, shorter is faster");
     format!(
         "<svg xmlns=\"http://www.w3.org/2000/svg\" viewBox=\"0 0 {WIDTH} {y}\" \
          font-family=\"sans-serif\" font-size=\"12\" fill=\"#222\">\n\

@@ -25,7 +25,7 @@ pub struct Counts {
     pub rules: Count,
     pub standard: Count,
     pub original: Count,
-    /// How often the Rust crate differed as docs/DIFFERENCES.md says, by its name there.
+    /// How often the Rust crate differed in a way that docs/DIFFERENCES.md lists, each with a name.
     pub named: Vec<(&'static str, u64)>,
     pub time: Duration,
 }
@@ -110,7 +110,7 @@ pub fn compare(seed: u64, texts: u64) -> Counts {
     counts
 }
 
-// Compares both libraries' answers to one question. `signed` is the text after a minus.
+// Compares both libraries' answers to one question. `signed` is a minus and then the text.
 fn ask(question: &Question, signed: &[u8], counts: &mut Counts) {
     let text = &signed[1..];
     let expected = rules::answer(question, text);

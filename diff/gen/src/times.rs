@@ -1,4 +1,5 @@
-//! Times on mixes of lengths: the length changes from one call to the next, as it does for users.
+//! Times on mixes of lengths: in most of them the length changes from one call to the next, as it does
+//! for users.
 
 use crate::numbers::push_number;
 #[cfg(feature = "original")]
