@@ -1,5 +1,6 @@
-//! Builds the static libraries of exports, proved as `rt lib` proves them: the calls that are
-//! compared from `diff/exports`, those that are timed from `diff/mixes.txt` and `diff/columns.txt`.
+//! Builds the static libraries of exports with `rt lib`, which also proves them. The exports that
+//! are compared come from `diff/exports`; those that are timed come from `diff/mixes.txt` and
+//! `diff/columns.txt`.
 
 #[path = "build/columns.rs"]
 mod columns;

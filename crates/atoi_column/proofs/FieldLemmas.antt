@@ -9,8 +9,8 @@ use Rattle.std.proofs.lemmas.Bool.Decides.{leb_tells}
 use Rattle.std.proofs.lemmas.Bool.{ne_eqb}
 use Rattle.atoi_column.specs.Fields.{without_empty_last, fields_of}
 
--- If a byte is put before the pieces, there is at least one piece, so the piece before it is not
--- the last one.
+-- `onto_first x pieces` has at least one piece, so a piece before it is not the last one and is
+-- kept.
 onto_first-last : (piece : List ℕ) (x : ℕ) (pieces : List (List ℕ)) → without_empty_last (piece ∷ onto_first x pieces) ≡ piece ∷ without_empty_last (onto_first x pieces)
 onto_first-last piece x [] = refl
 onto_first-last piece x (next ∷ pieces) = refl
@@ -66,6 +66,6 @@ pieces-fit p (x ∷ xs) =
       | false ↦ omega (arith, pieces-fit p xs, onto_first-length x (slice_split p xs))
     ]
 
--- There are at most as many fields as bytes.
+-- The number of fields is at most the number of bytes.
 pub length-fields_of : (separator : ℕ) (rest : List ℕ) → length (fields_of separator rest) ≤ length rest
 length-fields_of separator rest = pieces-fit (λ byte. byte == separator) rest

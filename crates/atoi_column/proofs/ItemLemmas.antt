@@ -66,8 +66,8 @@ module _ (whole : List ℕ → Result ℤ Refusal) (prefix : List ℕ → Result
     first_field : items_from whole prefix index place rest (fields_of separator rest) ≡ items_from whole prefix index place rest (text ∷ fields_of separator following)
     first_field = ap (items_from whole prefix index place rest) (fields_of_first separator rest some)
 
-    -- If the number at the start ends where the field ends, its value is the first item. The others
-    -- are those of what comes after the separator.
+    -- If the number at the start ends where the field ends, its value is the first item. The other
+    -- items are those of what comes after the separator.
     item-value : (v : ℤ) → prefix rest ≡ Ok (v, field_end)
         → items_from whole prefix index place rest (fields_of separator rest)
         ≡ Ok v ∷ items_from whole prefix (index + 1) (place + field_end + 1) following (fields_of separator following)
@@ -101,7 +101,8 @@ module _ (whole : List ℕ → Result ℤ Refusal) (prefix : List ℕ → Result
         let found : field_end < length rest = omega arith in
         other (ap (λ n. get_or rest n 0) same ∙ eqb-true _ _ (passes_at_first (λ byte. byte == separator) rest 0 found))
 
--- If dropping n elements leaves b and others, b is element n.
+-- If dropping `n` elements leaves `b` and then `ys`, then `b` is the element at index `n`, and
+-- dropping one more element leaves `ys`.
 drop_first : (n : ℕ) (xs : List ℕ) (b : ℕ) (ys : List ℕ) → drop n xs ≡ b ∷ ys
     → (n < length xs) × (get_or xs n 0 ≡ b) × (drop (n + 1) xs ≡ ys)
 drop_first n xs b ys h =
@@ -128,7 +129,7 @@ items_left-after_all k separator index place rest =
     ∙ items_left-nil k separator index place
 
 module _ (k : IntType) (separator index place : ℕ) where
-  -- There are at most as many items left as bytes.
+  -- The number of items left is at most the number of bytes left.
   pub length-items_left : (rest : List ℕ) → length (items_left k separator index place rest) ≤ length rest
   unfolding items_left
   length-items_left rest =

@@ -1,4 +1,5 @@
--- The places and indices in the errors of a column: each is within the input.
+-- The places and indices in the errors of a column. A place is at most the length of the input, and
+-- an index is less than that length.
 use Rattle.std.proofs.Common.{◌≡◌, ℕ, ◌+◌, ◌-◌, ◌<◌, ◌≤◌, ◌==◌, true, false, if◌then◌else◌, Bool, List, [], ◌∷◌, length, drop, ℤ, Result, Ok, Err, refl, arith, length-drop}
 use Rattle.std.specs.Prelude.{IfErr}
 use Rattle.std.specs.List.{All, slice_split, onto_first}
@@ -50,7 +51,7 @@ fields_of-place : (separator : ℕ) (rest : List ℕ) → place_after (fields_of
 fields_of-place separator rest =
     omega (arith, without_last-place (slice_split (λ byte. byte == separator) rest), split-place (λ byte. byte == separator) rest)
 
--- If the item is an error, its place is at most `bytes`, and its index is less than that.
+-- If the item is an error, its place is at most `bytes`, and its index is less than `bytes`.
 abbrev IsInside : ℕ → Result ℤ Flaw → Type 0
 IsInside bytes item = IfErr item (λ flaw. (place_of flaw ≤ bytes) × (index_of flaw < bytes))
 

@@ -15,13 +15,13 @@ use Rattle.atoi_core.specs.Laws.{looked_for, prefix_call, HaveSameRun, HaveSameO
 use Rattle.atoi_column.specs.Fields.{is_separator}
 use Rattle.atoi_column.specs.Laws.{FieldsArePrefixes}
 
--- If `b` does not pass the test, then what follows `b` does not change the length of the longest
--- prefix that passes it.
+-- If `b` does not pass the test `p`, then `b` and what follows it do not change the length of the
+-- longest prefix of `xs` whose bytes all pass.
 prefix_len-stops : (p : ℕ → Bool) (b : ℕ) (ys : List ℕ) → p b ≡ false → (xs : List ℕ) → prefix_len p (xs ++ b ∷ ys) ≡ prefix_len p xs
 prefix_len-stops p b ys fails [] = rw fails refl
 prefix_len-stops p b ys fails (x ∷ xs) = ap (λ n. cond (p x) (1 + n) 0) (prefix_len-stops p b ys fails xs)
 
--- The passing prefix itself does not change either.
+-- That prefix itself does not change either.
 prefix-stops : (p : ℕ → Bool) (b : ℕ) (ys : List ℕ) → p b ≡ false → (xs : List ℕ)
     → take (prefix_len p xs) xs ≡ take (prefix_len p (xs ++ b ∷ ys)) (xs ++ b ∷ ys)
 prefix-stops p b ys fails xs =
@@ -30,8 +30,8 @@ prefix-stops p b ys fails xs =
 pub length-before_first : (p : ℕ → Bool) (xs : List ℕ) → length (before_first p xs) ≡ position_or_len p xs
 length-before_first p xs = length-take-le (position_or_len p xs) xs (prefix_len-le-length (λ x. not (p x)) xs)
 
--- The sign that is consumed from a slice with the first byte `x`, if it is known whether this is a
--- plus or a minus.
+-- The sign that is consumed from a slice with the first byte `x`. `is_plus` says whether this byte
+-- is a plus that is accepted, and `is_minus` says whether it is a minus that is accepted.
 abbrev sign_by : (is_plus is_minus : Bool) → ℕ → List ℕ → Sign
 sign_by is_plus is_minus x xs =
     if is_plus then record { minus = false; taken = 1; body = xs }
@@ -75,8 +75,8 @@ and_false true b h = h
 and_false false b h = refl
 
 module _ (k : IntType) where
-  -- If such a byte and others are put after a field, a call consumes the same sign and reads the
-  -- same digits.
+  -- If a byte that is no digit, no plus and no minus follows a field, then this byte and all bytes
+  -- after it change neither the sign that a call consumes nor the digits that it reads.
   same_run_before : (b : ℕ) (ys : List ℕ) → IsApart b → (xs : List ℕ) → HaveSameRun k (looked_for true) xs (xs ++ b ∷ ys)
   same_run_before b ys is [] =
       let none : sign_of k.signed true (b ∷ ys) ≡ record { minus = false; taken = 0; body = b ∷ ys } =

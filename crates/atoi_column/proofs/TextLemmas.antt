@@ -32,8 +32,8 @@ module _ (k : IntType) (whole : List ℕ → Result ℤ Refusal) (prefix : List 
     items : items_from whole prefix index place rest fields ≡ map Ok numbers ++ last
     end : EndsItems k prefix (index + length texts) (place + place_after texts) (drop (place_after texts) rest) others last
 
-  -- If the items of the other fields end as described, so do the items with one more field before
-  -- them.
+  -- If the items of some fields end as `EndsItems` says, then the items with one more field before
+  -- these fields end in this way too.
   ends_after : (index place : ℕ) (rest text : List ℕ) (texts others : List (List ℕ)) (last : List (Result ℤ Flaw))
       → EndsItems k prefix (index + 1 + length texts) (place + length text + 1 + place_after texts) (drop (place_after texts) (drop (length text + 1) rest)) others last
       → EndsItems k prefix (index + length (text ∷ texts)) (place + place_after (text ∷ texts)) (drop (place_after (text ∷ texts)) rest) others last
@@ -73,7 +73,7 @@ module _ (k : IntType) (whole : List ℕ → Result ℤ Refusal) (prefix : List 
 ok_or_err : (r : Result ℤ Refusal) (v : ℤ) (reason : Refusal) → r ≡ Ok v → r ≡ Err reason → ⊥
 ok_or_err r v reason h other = absurd (cc)
 
--- A text of the type is accepted with its number, and no other field is.
+-- A field that is a text of the type is accepted with its number, and no other field is accepted.
 module _ (k : IntType) (texts : AcceptedTexts k) (numbers : AcceptedNumbers k) (text : List ℕ) where
   read_as : (r : Result ℤ Refusal) → parse_answer k true true text ≡ r → IsRead k (parse_answer k true true) text
   read_as (Ok v) h = accepted v h (numbers.written (looked_for true) true text v h)

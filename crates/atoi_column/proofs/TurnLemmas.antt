@@ -9,7 +9,9 @@ use Rattle.atoi_column.specs.Fields.{fields_of}
 use Rattle.atoi_column.specs.Items.{Flaw, flaw_at, items_from, items_left, items_of}
 use Rattle.atoi_column.specs.Laws.{HaveRead, ItemsInTurn}
 
--- If the items begin with a value, it is the first of the numbers.
+-- A list of items consists of values, then an error, then other items. If its first item is a
+-- value, then the items after the first also consist of values, then the same error, then the same
+-- other items.
 after_value : (value : ℤ) (items : List (Result ℤ Flaw)) (numbers : List ℤ) (flaw : Flaw) (after : List (Result ℤ Flaw))
     → Ok value ∷ items ≡ map Ok numbers ++ Err flaw ∷ after → (others : List ℤ) × (items ≡ map Ok others ++ Err flaw ∷ after)
 after_value value items [] flaw after same = absurd (cc)

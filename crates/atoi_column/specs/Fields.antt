@@ -8,13 +8,13 @@ use Rattle.atoi_core.specs.Sign.{plus_sign, minus_sign}
 abbrev pub is_separator : ℕ → Bool
 is_separator byte = not (is_digit decimal_table byte || (byte == plus_sign || byte == minus_sign))
 
--- All pieces, except a last one that is empty.
+-- All pieces, without the last one if it is empty.
 abbrev pub without_empty_last : List (List ℕ) → List (List ℕ)
 without_empty_last [] = []
 without_empty_last (piece ∷ []) = if length piece == 0 then [] else piece ∷ []
 without_empty_last (piece ∷ next ∷ pieces) = piece ∷ without_empty_last (next ∷ pieces)
 
--- The fields of an input are the pieces before and after each separator. What follows the last
--- separator is a field only if it is not empty.
+-- The input is cut at each separator, and its fields are the pieces. If the last piece is empty, it
+-- is no field.
 abbrev pub fields_of : (separator : ℕ) → List ℕ → List (List ℕ)
 fields_of separator input = without_empty_last (slice_split (λ byte. byte == separator) input)

@@ -8,8 +8,9 @@ use Rattle.atoi_column.specs.declared.error.ColumnError.TheVariants.{Field, Trai
 use Rattle.atoi_column.specs.Fields.{fields_of}
 
 -- What an error says about a refused field. Both variants hold the index of the field, from 0, and
--- an offset in the input. `field`: no number can be read at the field's first byte, which has that
--- offset; the third part is the reason. `trailing`: the byte at that offset follows the number.
+-- an offset in the input. In `field`, the offset is that of the field's first byte. No number can
+-- be read there, and the third part says why. In `trailing`, the offset is that of the byte after
+-- the number that the field begins with.
 pub data Flaw : Type 0 where
   field : ℕ → ℕ → Refusal → Flaw
   trailing : ℕ → ℕ → Flaw
@@ -35,15 +36,15 @@ item_of number (Ok value) = Ok (number value)
 item_of number (Err error) = Err (flaw_of error)
 
 -- The flaw of a refused field. It depends on the answer of `parse_prefix` to the input from the
--- field's first byte on: an error, whose reason the flaw holds, or a number that ends before the
--- field does.
+-- field's first byte on. If this answer is an error, the flaw holds its reason. If it is a number,
+-- the flaw holds the offset of the byte after the number.
 abbrev pub flaw_at : (index place : ℕ) → Result (ℤ × ℕ) Refusal → Flaw
 flaw_at index place (Ok found) = trailing index (place + found.1)
 flaw_at index place (Err reason) = field index place reason
 
--- The items of a list of fields. The first field has the index `index`; it begins at the offset
--- `place`, and so does `rest`. `whole` is the answer to one field, and `prefix` is the answer to
--- the input from the field's first byte on.
+-- The items of a list of fields. The first field has the index `index` and begins at the offset
+-- `place`, and `rest` is the input from that offset on. `whole` gives the answer to one field, and
+-- `prefix` gives the answer to the input from the field's first byte on.
 abbrev pub items_from : (whole : List ℕ → Result ℤ Refusal) (prefix : List ℕ → Result (ℤ × ℕ) Refusal)
     → (index place : ℕ) → (rest : List ℕ) → List (List ℕ) → List (Result ℤ Flaw)
 items_from whole prefix index place rest [] = []
@@ -53,8 +54,8 @@ items_from whole prefix index place rest (text ∷ texts) =
       | Err reason ↦ Err (flaw_at index place (prefix rest)) ∷ []
     ]
 
--- The items that are left, if `rest` is still to be read: it begins with the field of index
--- `index`, at the offset `place`.
+-- The items that are left if `rest` is still to be read. The first field of `rest` has the index
+-- `index`, and begins at the offset `place` of the input.
 unfoldable pub items_left : IntType → (separator index place : ℕ) → List ℕ → List (Result ℤ Flaw)
 items_left k separator index place rest =
     items_from (parse_answer k true true) (parse_prefix_answer k true true) index place rest (fields_of separator rest)

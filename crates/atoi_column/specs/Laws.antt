@@ -8,10 +8,9 @@ use Rattle.atoi_core.specs.Text.{IsText, TextWrites}
 use Rattle.atoi_column.specs.Fields.{is_separator, fields_of}
 use Rattle.atoi_column.specs.Items.{Flaw, flaw_at, index_of, place_of, items_of}
 
--- How the first field of `rest`, the part of the input that is still unread, is related to the
--- number at its start: `whole` accepts the field exactly if the number that `prefix` finds ends
--- where the field does. Both then have the same value. No number that `prefix` finds extends past
--- the field.
+-- `rest` is the part of the input that is still unread. `whole` accepts its first field exactly if
+-- the number that `prefix` finds at the start of `rest` ends where the field ends. Both then give
+-- the same value. No number that `prefix` finds extends past the field.
 pub record FieldIsPrefix (whole : List ℕ → Result ℤ Refusal) (prefix : List ℕ → Result (ℤ × ℕ) Refusal) (separator : ℕ) (rest : List ℕ) : Type 0 where
   pub to_prefix : (value : ℤ) → whole (before_first (λ byte. byte == separator) rest) ≡ Ok value
       → prefix rest ≡ Ok (value, position_or_len (λ byte. byte == separator) rest)
@@ -20,28 +19,30 @@ pub record FieldIsPrefix (whole : List ℕ → Result ℤ Refusal) (prefix : Lis
   pub within : (value : ℤ) (count : ℕ) → prefix rest ≡ Ok (value, count)
       → count ≤ position_or_len (λ byte. byte == separator) rest
 
--- This holds for the parses that skip zeros and accept a plus, with every separator and rest.
+-- `FieldIsPrefix` holds for the parses that skip zeros and accept a plus, with every separator and
+-- every `rest`.
 abbrev pub FieldsArePrefixes : IntType → Type 0
 FieldsArePrefixes k =
     (separator : ℕ) → is_separator separator ≡ true → (rest : List ℕ)
     → FieldIsPrefix (parse_answer k true true) (parse_prefix_answer k true true) separator rest
 
--- The offset right after the fields `texts`, if an input begins with them and a separator follows
--- each.
+-- The offset after the fields `texts` and their separators, if an input begins with these fields
+-- and a separator follows each of them.
 abbrev pub place_after : List (List ℕ) → ℕ
 place_after texts = sum_by (λ text. length text + 1) texts
 
--- What follows the first fields of an input, which are texts of the type, and the items of these
--- fields. If no other field follows them, no other item does. Otherwise the next field is not a
--- text of the type, and the one item that follows is its flaw, which depends on what `prefix`
--- answers to the input from that field's first byte on.
+-- How the items of an input end after those of its first fields, which are texts of the type. If no
+-- other field follows, then no other item follows. Otherwise the next field is not a text of the
+-- type, and exactly one more item follows: the flaw of that field. The flaw depends on what
+-- `prefix` answers to `rest`, the input from that field's first byte on.
 abbrev pub EndsItems : IntType → (prefix : List ℕ → Result (ℤ × ℕ) Refusal) → (index place : ℕ) → (rest : List ℕ) → List (List ℕ) → List (Result ℤ Flaw) → Type 0
 EndsItems k prefix index place rest [] last = last ≡ []
 EndsItems k prefix index place rest (text ∷ texts) last =
     ¬ IsText k text × (last ≡ Err (flaw_at index place (prefix rest)) ∷ [])
 
--- The items of an input, described by the texts of its fields: the fields before the first that is
--- not a text of the type, the numbers that they write, and how the items end.
+-- The items of an input, described by its fields. `texts` are the fields before the first one that
+-- is not a text of the type, or all fields if there is none. `others` are the remaining fields. The
+-- items are `numbers`, which `texts` write, and then `last`.
 pub record HasItems (k : IntType) (separator : ℕ) (input : List ℕ) : Type 0 where
   pub texts : List (List ℕ)
   pub others : List (List ℕ)
@@ -52,7 +53,7 @@ pub record HasItems (k : IntType) (separator : ℕ) (input : List ℕ) : Type 0 
   pub items : items_of k separator input ≡ map Ok numbers ++ last
   pub end : EndsItems k (parse_prefix_answer k true true) (length texts) (place_after texts) (drop (place_after texts) input) others last
 
--- This holds for every input, with any byte as the separator.
+-- `HasItems` holds for every input, with any byte as the separator.
 abbrev pub TextsAndItems : IntType → Type 0
 TextsAndItems k = (separator : ℕ) (input : List ℕ) → HasItems k separator input
 
@@ -77,7 +78,8 @@ pub record IsFirstBad (k : IntType) (separator : ℕ) (input : List ℕ) (index 
       ≡ place_after before + number_len (parse_prefix_answer k true true (drop (place_after before) input))
 
 -- The items of an input decide what its fields are. If all items are values, every field is a text
--- that writes its value. If an error follows some values, it is about the first bad field.
+-- of the type, and the fields write these values in the same order. If the last item is an error,
+-- it is about the first field that is not such a text.
 pub record ItemsDecide (k : IntType) : Type 0 where
   pub whole : (separator : ℕ) (input : List ℕ) (numbers : List ℤ) → items_of k separator input ≡ map Ok numbers
       → AllZip (TextWrites k true) (fields_of separator input) numbers
@@ -86,22 +88,23 @@ pub record ItemsDecide (k : IntType) : Type 0 where
       → IsFirstBad k separator input (index_of flaw) (place_of flaw)
 
 -- If an input is not empty, its first field ends before the first separator, and its other fields
--- are the fields of what follows that separator.
+-- are the fields of what follows that separator. If there is no separator, the whole input is the
+-- only field.
 abbrev pub FirstField : Type 0
 FirstField =
     (separator : ℕ) (input : List ℕ) → 0 < length input
     → fields_of separator input
     ≡ before_first (λ byte. byte == separator) input ∷ fields_of separator (after_first (λ byte. byte == separator) input)
 
--- Some of the items have been read, and all of them were values: `numbers`, in that order. The
+-- All items that have been read were values, and these values are `numbers`, in that order. The
 -- other items are `left`. A loop over a column keeps this invariant.
 pub record HaveRead (items : List (Result ℤ Flaw)) (numbers : List ℤ) (left : List (Result ℤ Flaw)) : Type 0 where
   pub parts : items ≡ map Ok numbers ++ left
   pub count : length items ≡ length numbers + length left
 
--- How the invariant is kept when items are read one after another. It holds before the first item,
--- and each value adds one number. If no item is left, all items are numbers. Nothing follows an
--- error, so at an error the items are these numbers and then the error.
+-- How the invariant `HaveRead` is kept when items are read one after another. It holds before the
+-- first item, and each value adds one number. If no item is left, all items are numbers. Nothing
+-- follows an error, so at an error the items are the numbers read so far and then the error.
 pub record ItemsInTurn : Type 0 where
   pub start : (items : List (Result ℤ Flaw)) → HaveRead items [] items
   pub more : (items left after : List (Result ℤ Flaw)) (numbers : List ℤ) (number : ℤ) → HaveRead items numbers left

@@ -1,5 +1,5 @@
-//! A function that checks what a call returned. The tests share it: a test with `assert_eq!` in its
-//! own body takes longer to prove. It uses only std.
+//! A function that checks what a call returned. The tests share it, because a test with
+//! `assert_eq!` in its own body takes longer to prove. This module uses only std.
 
 use std::fmt::Debug;
 use std::process::Abort;

@@ -57,8 +57,9 @@ impl<'a, T: Parse> Column<'a, T> {
     ///
     /// `separator` has to be a byte for which `is_separator` returns `true`.
     ///
-    /// There are at most as many items as bytes of `input`. In an error, `place` is at most the
-    /// length of `input`, and `index` is less than that length, so `index + 1` cannot overflow.
+    /// The number of items is at most the number of bytes of `input`. In an error, `place` is at
+    /// most the length of `input`, and `index` is less than that length, so `index + 1` cannot
+    /// overflow.
     #[inline]
     pub fn new(input: &'a [u8], separator: u8) -> Column<'a, T>
         requires { is_separator separator ≡ true }
@@ -91,14 +92,15 @@ impl<'a, T: Parse> Iterator for Column<'a, T> {
     /// at the end, and after an error.
     #[inline]
     fn next(&mut self) -> Option<Result<T, ColumnError<'a>>> {
-        // The items follow from this law. The call does nothing.
+        // The clause `next_gives` follows from this law. The call does nothing.
         fields_are_prefixes::<T>();
         let rest = self.rest;
         let (index, place) = (self.index, self.place);
         if rest.is_empty() {
             return None;
         }
-        // The column ends here unless a separator follows this field: then `rest` is set below.
+        // The column ends here unless a separator follows this field. If one does, `self.rest` is
+        // set again below.
         self.rest = &rest[rest.len()..];
         match parse_prefix::<T, true, true>(rest) {
             Ok(found) => {

@@ -19,8 +19,8 @@ pub enum ColumnError<'a> {
         index: usize,
         /// The offset of the field's first byte.
         place: usize,
-        /// The error that `parse_prefix` returned for the input from that byte on. Its slice
-        /// extends to the end of the input.
+        /// The error that `parse_prefix` returned for the input from that byte on. Its slice, if it
+        /// holds one, extends to the end of the input.
         cause: AtoiSimdError<'a>,
     },
     /// The field begins with a number, but a byte that is not the separator follows it.
@@ -57,7 +57,8 @@ impl ColumnError<'_> {
     }
 
     /// Says whether both errors are of the same variant and hold equal numbers and equal causes.
-    /// This is what `==` returns; a contract can use it through this function.
+    /// This is what `==` returns. A caller that needs this result in a proof calls this function,
+    /// which has a contract.
     pub fn is_same_as(&self, other: &ColumnError<'_>) -> bool
         ensures { IsTrue result ↔ (flaw_of self.now ≡ flaw_of other.now) }
     {

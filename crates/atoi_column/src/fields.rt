@@ -5,9 +5,9 @@ ghost use Rattle.atoi_column.specs.Laws.{FieldsArePrefixes};
 use atoi_core::Number;
 use atoi_core::laws::{prefix_is_whole, prefix_of_cut, rest_changes_nothing};
 
-/// `parse` accepts a field exactly if the number that `parse_prefix` reads from the field's first
-/// byte on ends where the field ends, and both return the same value. Both have their two flags on.
-/// So a column need not look for the end of a field first. Calling this function does nothing.
+/// With both flags on, `parse` accepts a field exactly if the number that `parse_prefix` reads from
+/// the field's first byte on ends where the field ends. Both then return the same value. So a
+/// column need not look for the end of a field first. Calling this function does nothing.
 #[tactic(auto, using(crate::proofs::PrefixLemmas::fields_are_prefixes))]
 pub fn fields_are_prefixes<T: Number>()
     ensures { FieldsArePrefixes T.int_type }

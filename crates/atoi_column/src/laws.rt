@@ -1,6 +1,6 @@
-//! The laws of columns. The contract of each function states one; calling it does nothing. They use
-//! the laws of `atoi_core` about accepted texts and the numbers that these write. They call no
-//! parser.
+//! The laws of columns. The contract of each function states one law, and calling the function does
+//! nothing. This module uses the laws of `atoi_core` about accepted texts and the numbers that
+//! these write. It calls no parser.
 ghost use Rattle.atoi_column.specs.Laws.{TextsAndItems, ItemsDecide, ItemsInTurn, FirstField};
 
 use atoi_core::Number;
@@ -10,9 +10,9 @@ use atoi_core::laws::{accepted_numbers, accepted_texts};
 /// of the type. A text of the type is what `atoi_simd::parse` with both flags accepts: an optional
 /// sign (`-` for signed types only), one or more digits, nothing else, and a value in range.
 ///
-/// If some field is not such a text, one error follows the numbers, and it is the last item. It
-/// depends on what `parse_prefix` with both flags returns for the input from that field's first
-/// byte on.
+/// If some field is not such a text, one error follows the numbers, and it is the last item. The
+/// error depends on what `parse_prefix` with both flags returns for the input from that field's
+/// first byte on.
 #[tactic(auto, using(crate::proofs::TextLemmas::texts_and_items))]
 pub fn texts_and_items<T: Number>()
     ensures { TextsAndItems T.int_type }
@@ -22,10 +22,11 @@ pub fn texts_and_items<T: Number>()
 }
 
 /// What the items of a column say about its fields. If all items are values, every field is a text
-/// of the type that writes its value. If an error follows some values, it is about the first field
-/// that is not such a text. Its `index` is the index of the field, and is less than the length of
-/// the input. Its `place` is the offset of the byte after the number that the field begins with, or
-/// the offset of the field's first byte if no number can be read there.
+/// of the type, and the fields write these values in the same order. If the last item is an error,
+/// it is about the first field that is not such a text. Its `index` is the index of the field, and
+/// is less than the length of the input. Its `place` is the offset of the byte after the number
+/// that the field begins with, or the offset of the field's first byte if no number can be read
+/// there.
 #[tactic(auto, using(crate::proofs::DecideLemmas::items_decide))]
 pub fn items_decide<T: Number>()
     ensures { ItemsDecide T.int_type }
@@ -34,16 +35,18 @@ pub fn items_decide<T: Number>()
 }
 
 /// An invariant for a loop over a column: `HaveRead items numbers left` says that the items read so
-/// far are `numbers`, and that `left` are still to come. It holds before the first item, and each
-/// value that is read adds one number to it. If no item is left, all items are `numbers`. Nothing
-/// follows an error, so an error comes right after `numbers` and is the last item.
+/// far are `numbers`, and that `left` are still to come. The invariant holds before the first item,
+/// and each value that is read adds one number to `numbers`. If no item is left, all items are
+/// `numbers`. Nothing follows an error, so an error comes right after `numbers` and is the last
+/// item.
 #[tactic(auto, using(crate::proofs::TurnLemmas::items_in_turn))]
 pub fn items_in_turn()
     ensures { ItemsInTurn }
 {}
 
 /// If an input is not empty, its first field ends before the first separator, and its other fields
-/// are the fields of what follows that separator.
+/// are the fields of what follows that separator. If there is no separator, the whole input is the
+/// only field.
 #[tactic(auto, using(crate::proofs::FieldLemmas::fields_of_first))]
 pub fn first_field()
     ensures { FirstField }

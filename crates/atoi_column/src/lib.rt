@@ -1,7 +1,7 @@
-//! Columns of decimal integers: the fields of a byte slice between separators, as an iterator of
-//! their values up to the first field that is refused.
+//! Columns of decimal integers. An iterator reads the fields of a byte slice, which are separated
+//! by one byte. It returns their values up to the first field that is refused, and then an error.
 //!
-//! It uses `atoi_simd::parse_prefix` with both flags on, and the definitions and laws of
+//! This crate uses `atoi_simd::parse_prefix` with both flags on, and the definitions and laws of
 //! `atoi_core`. It allocates no memory and copies nothing.
 #![tactic(auto)]
 

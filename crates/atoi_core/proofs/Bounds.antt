@@ -19,13 +19,15 @@ use Rattle.std.proofs.lemmas.List.Sums.{prefix_len-le-length}
 
 -- ---- A number in range never has too many significant digits
 
--- A whole slice with at most as many digits as the limit is not too long, whatever the class.
+-- If at most `limit` digits of a whole slice are significant, these are not too many, whatever the
+-- class.
 pub short_enough : (class : Class) (skip : Bool) (limit count : ℕ) → count ≤ limit → is_above (limit_at class whole skip limit) count ≡ false
 short_enough narrow skip limit count h = refl
 short_enough wide64 skip limit count h = le-ltb limit count h
 short_enough wide128 skip limit count h = le-ltb limit count h
 
--- If `count` digits are within the limit, so are fewer digits.
+-- If `count` digits are within the limit, and `less` is not larger than `count`, then `less` digits
+-- are within the limit too.
 pub shorter : (limit : Option ℕ) (count less : ℕ) → less ≤ count → is_above limit count ≡ false → is_above limit less ≡ false
 shorter None count less h e = refl
 shorter (Some limit) count less h e = le-ltb limit less (omega (arith, ltb-false limit count e))
@@ -61,8 +63,9 @@ limit_of_prefix k skip limit h =
     wide true = refl
     wide false = refl
 
--- The bound of a type is at most one more than its largest value, so any power of ten above the
--- largest value plus one is above the bound.
+-- If 10^limit is above `T::MAX + 1` for the signed and for the unsigned type with `bits` bits, then
+-- it is above the bound of each of these types, with a minus and without. The reason is that a
+-- bound is at most `T::MAX + 1`.
 magnitude_below : (limit bits : ℕ) (signed minus : Bool) → greatest_of bits true + 1 < 10 ^ limit → greatest_of bits false + 1 < 10 ^ limit
     → cond minus (greatest_of bits signed + 1) (greatest_of bits signed) < 10 ^ limit
 magnitude_below limit bits true true p q = p
@@ -70,14 +73,16 @@ magnitude_below limit bits true false p q = omega arith
 magnitude_below limit bits false true p q = q
 magnitude_below limit bits false false p q = omega arith
 
--- The bounds of 64-bit types have at most 19 digits if signed, and 20 if unsigned.
+-- The bounds of a 64-bit type have at most 19 digits if the type is signed, and at most 20 if it is
+-- unsigned.
 bound-64 : (signed minus : Bool) → cond minus (greatest_of 64 signed + 1) (greatest_of 64 signed) < 10 ^ cond signed 19 20
 bound-64 true true = omega arith
 bound-64 true false = omega arith
 bound-64 false true = omega arith
 bound-64 false false = omega arith
 
--- The bound of a wide type has at most as many digits as its limit says.
+-- If a type has more than 32 bits, its bound has at most `limit_of k` digits, with a minus and
+-- without.
 pub bound-limit : (k : IntType) → IsSized k → (minus : Bool)
     → (class_of k ≡ narrow) ⊎ (bound_of k minus < 10 ^ limit_of k)
 bound-limit k sized minus =
@@ -89,7 +94,7 @@ bound-limit k sized minus =
       | inr (inr (inr (inr e))) ↦ inr (rw (sized.greatest, e) (magnitude_below 39 128 k.signed minus (omega arith) (omega arith)))
     ]
 
--- The bound of each type is below 10^64.
+-- For each of the five sizes, the bounds of the signed and of the unsigned type are below 10^64.
 below-64 : (bits : ℕ) (signed minus : Bool) → ((bits ≡ 8) ⊎ ((bits ≡ 16) ⊎ ((bits ≡ 32) ⊎ ((bits ≡ 64) ⊎ (bits ≡ 128)))))
     → cond minus (greatest_of bits signed + 1) (greatest_of bits signed) < 10 ^ 64
 below-64 bits signed minus h =
@@ -101,11 +106,12 @@ below-64 bits signed minus h =
       | inr (inr (inr (inr e))) ↦ rw e (magnitude_below 64 128 signed minus (omega arith) (omega arith))
     ]
 
--- As above, for an integer type.
+-- So the bounds of every integer type are below 10^64.
 pub bound_below-64 : (k : IntType) → IsSized k → (minus : Bool) → bound_of k minus < 10 ^ 64
 bound_below-64 k sized minus = rw sized.greatest (below-64 k.bits k.signed minus sized.bits)
 
--- A number below 10^limit has at most `limit` significant digits, those after its leading zeros.
+-- If the value of a run is below 10^limit, the run has at most `limit` digits after its leading
+-- zeros.
 pub places-le : (table : Table) (s : List ℕ) (limit : ℕ) → value table (run table s) < 10 ^ limit → run_len table s - zeros table s ≤ limit
 places-le table s limit h =
     elim (cases_lt limit (run_len table s - zeros table s)) [
@@ -117,7 +123,8 @@ places-le table s limit h =
       | inr le ↦ le
     ]
 
--- If zeros are skipped and the value is in range, there are not too many digits.
+-- If zeros are skipped and the value is in range, a whole slice does not have too many significant
+-- digits.
 pub in_range_short : (table : Table) (k : IntType) → IsSized k → (minus : Bool) (s : List ℕ)
     → value table (run table s) ≤ bound_of k minus
     → is_above (limit_at (class_of k) whole true (limit_of k)) (significant_digits table true s) ≡ false
@@ -128,11 +135,12 @@ in_range_short table k sized minus s le =
     ]
 
 -- ---- Both signs from one parse
--- A signed body is parsed under the negative bound. The answer without a minus is the same, except
--- for the magnitude of `T::MIN`, which overflows.
+-- For a signed type, each body is parsed under the negative bound. Without a minus, the answer has
+-- the same magnitude or the same error, except that the magnitude of `T::MIN` is then out of range
+-- and overflows. In the lemmas below, `minus` says whether there is a minus.
 
--- If a run spells a number that has `digits` decimal digits, all bytes of the run before the last
--- `digits` are zeros.
+-- If a run spells a number that has exactly `digits` decimal digits, then exactly `digits` digits
+-- of the run follow its leading zeros.
 pub leading_zeros : (t : Table) → IsBelowTen t → (digits number : ℕ) → HasDigits digits number
     → (s : List ℕ) → value t (run t s) ≡ number → zeros t s ≡ run_len t s - digits
 leading_zeros t below digits number has s is =
@@ -151,8 +159,8 @@ leading_zeros t below digits number has s is =
     ]
 
 module _ (k : IntType) (skip : Bool) (limit digits skipped : ℕ) where
-  -- For a whole slice, an overflow leaves out the skipped zeros if the type has more than 32 bits,
-  -- and otherwise none.
+  -- For the parse of a whole slice, the slice in `Overflow` leaves out the skipped zeros if the
+  -- type has more than 32 bits. Otherwise it leaves out no zeros.
   pub dropped_whole : (rule_of (class_of k) whole skip limit digits skipped).dropped ≡ cond (leb k.bits 32) 0 skipped
   dropped_whole = wide (leb k.bits 32) (eqb k.bits 64)
     where
@@ -161,9 +169,10 @@ module _ (k : IntType) (skip : Bool) (limit digits skipped : ℕ) where
       wide false true = refl
       wide false false = refl
 
-  -- For a prefix, an overflow leaves out the skipped zeros too. But if the type has at most 32 bits
-  -- and the digits fill no more windows of 16 bytes than the zeros do, it leaves out only the zeros
-  -- that fill whole windows.
+  -- For the parse of a prefix, the slice in `Overflow` leaves out the skipped zeros, with one
+  -- exception. If the type has at most 32 bits, and all digits together fill no more blocks of 16
+  -- bytes than the skipped zeros do, then the slice leaves out only the zeros that fill whole
+  -- blocks.
   pub dropped_prefix : (skip ≡ false → skipped ≡ 0)
       → (rule_of (class_of k) prefix skip limit digits skipped).dropped
       ≡ cond (leb k.bits 32 && not (ltb (skipped / 16) (digits / 16))) (16 * (skipped / 16)) skipped
@@ -189,7 +198,7 @@ module _ (k : IntType) (skip : Bool) (limit digits skipped : ℕ) where
 pub run_within : (t : Table) (s : List ℕ) → run_len t s ≤ length s
 run_within t s = prefix_len-le-length (is_digit t) s
 
--- The error `invalid` holds its number first and its index second.
+-- `number_in` and `index_in` return the number and the index that an `invalid` error holds.
 number_in-invalid : (class : Class) (number index : ℕ) (s : List ℕ) → number_in (invalid class number index s) ≡ number
 number_in-invalid narrow number index s = refl
 number_in-invalid wide64 number index s = refl
@@ -211,8 +220,8 @@ other_third false false true e d p q r i reason more none h = rw (more refl) h
 other_third false false false e true p q r i reason more none h = rw (none (cc h)) h
 other_third false false false e false p q r i reason more none h = absurd (cc h)
 
--- Only the fourth error, for a byte that follows the digits, holds the value of the digits
--- (`number_in`).
+-- Let `number_in` be 0 for the first three errors. If `number_in` is above `least` for the chosen
+-- error, then none of the first three tests holds, and the chosen error is the fourth.
 only_fourth : (a b c d : Bool) (p q r i reason : Refusal) (least : ℕ) → number_in p ≡ 0 → number_in q ≡ 0 → number_in r ≡ 0 → least < number_in reason
     → first_of a b c d p q r i ≡ Some reason → (a ≡ false) × (b ≡ false) × (c ≡ false) × (i ≡ reason)
 only_fourth true b c d p q r i reason least hp hq hr more h = let e : p ≡ reason = cc h in absurd (omega (arith, ap number_in e))
@@ -221,7 +230,8 @@ only_fourth false false true d p q r i reason least hp hq hr more h = let e : r 
 only_fourth false false false true p q r i reason least hp hq hr more h = (refl, refl, refl, cc h)
 only_fourth false false false false p q r i reason least hp hq hr more h = absurd (cc h)
 
--- The negative bound admits only one magnitude that is above another bound: that of `T::MIN`.
+-- If a magnitude is within the negative bound, but above the bound for `minus`, then it is the
+-- magnitude of `T::MIN`.
 only_least : (k : IntType) (minus : Bool) (v : ℕ) → v ≤ bound_of k true → bound_of k minus < v → v ≡ k.greatest + 1
 only_least k true v most above = absurd (omega arith)
 only_least k false v most above = omega arith
@@ -235,20 +245,21 @@ module _ (t : Table) (k : IntType) (minus : Bool) (extent : Extent) (skip : Bool
   abbrev pub overflows : Refusal
   overflows = overflow (drop (rule_of (class_of k) extent skip (limit_of k) (run_len t s) (skipped_zeros t skip s)).dropped s)
 
-  -- The digits spell the magnitude of `T::MIN`, and are refused as an overflow under the bound of
-  -- the sign.
+  -- The digits spell the magnitude of `T::MIN`, and under the bound for `minus` the refusal is
+  -- `Overflow`.
   pub record IsLeast : Type 0 where
     pub least : value t (run t s) ≡ k.greatest + 1
     pub refused_is : refused minus ≡ Some overflows
 
-  -- A body that is accepted under the negative bound is accepted under a bound that its value does
-  -- not exceed.
+  -- If a body is accepted under the negative bound, and its value is within the bound for `minus`,
+  -- then it is accepted under that bound too.
   accepted_too : refused true ≡ None → value t (run t s) ≤ bound_of k minus → refused minus ≡ None
   accepted_too h within =
       let fact = accepted t (class_of k) (bound_of k true) (limit_of k) extent skip s h in
       refusal-none t (class_of k) (bound_of k minus) (limit_of k) extent skip s (record { some = fact.some; short = fact.short; in_range = within; ends = fact.ends })
 
-  -- If its value is above the other bound, it is the magnitude of `T::MIN`.
+  -- If a body is accepted under the negative bound, and its value is above the bound for `minus`,
+  -- then this value is the magnitude of `T::MIN` and overflows (`IsLeast`).
   accepted_least : refused true ≡ None → bound_of k minus < value t (run t s) → IsLeast
   accepted_least h above =
       let fact = accepted t (class_of k) (bound_of k true) (limit_of k) extent skip s h in
@@ -257,8 +268,8 @@ module _ (t : Table) (k : IntType) (minus : Bool) (extent : Extent) (skip : Bool
         refused_is = refused_overflow t (class_of k) (bound_of k minus) (limit_of k) extent skip s fact.some fact.short above;
       }
 
-  -- A body that is refused under the negative bound is refused with the same error under another
-  -- bound, unless the error holds a number above that bound.
+  -- A body that is refused under the negative bound is refused with the same error under the bound
+  -- for `minus`, unless the value in the error (`number_in`) is above that bound.
   refused_too : (reason : Refusal) → refused true ≡ Some reason → number_in reason ≤ bound_of k minus → refused minus ≡ Some reason
   refused_too reason h within =
       let number = value t (run t s) in
@@ -277,8 +288,9 @@ module _ (t : Table) (k : IntType) (minus : Bool) (extent : Extent) (skip : Bool
       bound-true k true = omega arith
       bound-true k false = omega arith
 
-  -- If it holds such a number, the digits spell the magnitude of `T::MIN`, and the index in the
-  -- error is their number.
+  -- If a body is refused under the negative bound, and the value in the error is above the bound
+  -- for `minus`, then the digits spell the magnitude of `T::MIN` and overflow (`IsLeast`). The
+  -- index in the error is the number of these digits.
   refused_least : (reason : Refusal) → refused true ≡ Some reason → bound_of k minus < number_in reason → IsLeast × (index_in reason ≡ run_len t s)
   refused_least reason h above =
       let number = value t (run t s) in
@@ -297,17 +309,20 @@ module _ (t : Table) (k : IntType) (minus : Bool) (extent : Extent) (skip : Bool
         sym index_is,
       )
 
--- If a number is in range, it is the number that was chosen.
+-- If the test `above` chooses between `None` and `Some z`, and the choice is `Some y`, then the
+-- test does not hold, and `y` is `z`.
 chosen : (above : Bool) (y z : ℤ) → Some y ≡ cond above None (Some z) → (above ≡ false) × (y ≡ z)
 chosen true y z h = absurd (cc h)
 chosen false y z h = (refl, cc)
 
--- If there is no number in range, the value is above the bound.
+-- If the test `above` chooses between `None` and `Some z`, and the choice is `None`, then the test
+-- holds.
 not_chosen : (above : Bool) (z : ℤ) → None ≡ cond above None (Some z) → above ≡ true
 not_chosen true z h = refl
 not_chosen false z h = absurd (cc h)
 
--- If there is `Some count`, the value is above the bound, and the count is that index.
+-- If the test `above` chooses between `Some index` and `None`, and the choice is `Some count`, then
+-- the test holds, and `count` is `index`.
 counted_digits : (above : Bool) (count index : ℕ) → Some count ≡ cond above (Some index) None → (above ≡ true) × (count ≡ index)
 counted_digits true count index h = (refl, cc)
 counted_digits false count index h = absurd (cc h)
@@ -316,22 +331,25 @@ not_counted : (above : Bool) (index : ℕ) → None ≡ cond above (Some index) 
 not_counted true index h = absurd (cc h)
 not_counted false index h = refl
 
--- `either` is the number whose magnitude is that of `negative` and which has the sign `minus`, or
--- `None` if that is out of range.
+-- Let `negative` be a number that is not positive. Then `either` is the number with the same
+-- magnitude, negated exactly if `minus` is set, or it is `None` if that number is out of range.
 abbrev pub IsInRange : IntType → Bool → (negative : ℤ) → Option ℤ → Type 0
 IsInRange k minus negative either =
     (magnitude : ℕ) → negative ≡ with_sign true magnitude
     → either ≡ cond (ltb (bound_of k minus) magnitude) None (Some (with_sign minus magnitude))
 
 module _ (t : Table) (k : IntType) (minus skip : Bool) (s : List ℕ) where
-  -- Whole slice: the number is in range.
+  -- If `x` is the answer for a whole slice under the negative bound, and the number `y` with the
+  -- same magnitude and the sign that `minus` says is in range, then `y` is the answer.
   pub whole_number : (x y : ℤ) → Ok x ≡ whole_answer t k true skip s → IsInRange k minus x (Some y) → Ok y ≡ whole_answer t k minus skip s
   whole_number x y h fact =
       let both = map_unless_ok (with_sign true) _ _ x (sym h) in
       let number = chosen _ y _ (fact (value t (run t s)) both.1) in
       rw (accepted_too t k minus whole skip s both.0 (ltb-false _ _ number.0)) (ap Ok number.1)
 
-  -- Whole slice: the number is out of range, so it is the magnitude of `T::MIN`.
+  -- If a whole slice is accepted under the negative bound, but the number with the sign that
+  -- `minus` says is out of range, then the digits spell the magnitude of `T::MIN` and overflow
+  -- (`IsLeast`). The slice consists of these digits.
   pub whole_least : (x : ℤ) → Ok x ≡ whole_answer t k true skip s → IsInRange k minus x None → IsLeast t k minus whole skip s × (length s ≡ run_len t s)
   whole_least x h fact =
       let both = map_unless_ok (with_sign true) _ _ x (sym h) in
@@ -339,14 +357,16 @@ module _ (t : Table) (k : IntType) (minus skip : Bool) (s : List ℕ) where
       let was = accepted t (class_of k) (bound_of k true) (limit_of k) whole skip s both.0 in
       (accepted_least t k minus whole skip s both.0 (ltb-true _ _ above), sym (whole_is_run (run_len t s) (length s) was.ends))
 
-  -- Whole slice: the error holds no number above the bound, so it stays the same.
+  -- If a whole slice is refused under the negative bound, and the value in the error is not above
+  -- the bound for `minus`, then the error stays the same.
   pub whole_error : (reason : Refusal) → Err reason ≡ whole_answer t k true skip s
       → None ≡ cond (ltb (bound_of k minus) (number_in reason)) (Some (index_in reason)) None → Err reason ≡ whole_answer t k minus skip s
   whole_error reason h none =
       rw (refused_too t k minus whole skip s reason (map_unless_err (with_sign true) _ _ reason (sym h)) (ltb-false _ _ (not_counted _ _ none))) refl
 
-  -- Whole slice: the error holds a number above the bound, so the digits spell the magnitude of
-  -- `T::MIN`.
+  -- If a whole slice is refused under the negative bound, and the value in the error is above the
+  -- bound for `minus`, then the digits spell the magnitude of `T::MIN` and overflow (`IsLeast`).
+  -- The index in the error, `count`, is the number of these digits.
   pub whole_error_least : (reason : Refusal) (count : ℕ) → Err reason ≡ whole_answer t k true skip s
       → Some count ≡ cond (ltb (bound_of k minus) (number_in reason)) (Some (index_in reason)) None → IsLeast t k minus whole skip s × (count ≡ run_len t s)
   whole_error_least reason count h some =
@@ -354,13 +374,16 @@ module _ (t : Table) (k : IntType) (minus skip : Bool) (s : List ℕ) where
       let least = refused_least t k minus whole skip s reason (map_unless_err (with_sign true) _ _ reason (sym h)) (ltb-true _ _ above.0) in
       (least.0, above.1 ∙ least.1)
 
-  -- Whole slice: the magnitude of `T::MIN` overflows.
+  -- If the digits of a whole slice spell the magnitude of `T::MIN` and overflow (`IsLeast`), the
+  -- answer is `Overflow` with the slice `rest`, which leaves out the zeros that the rule names.
   pub whole_overflows : (count : ℕ) (rest : List ℕ) → IsLeast t k minus whole skip s → count ≡ run_len t s
       → rest ≡ drop (rule_of (class_of k) whole skip (limit_of k) count (skipped_zeros t skip s)).dropped s
       → Err (overflow rest) ≡ whole_answer t k minus skip s
   whole_overflows count rest least count_is rest_is = rw (rest_is, count_is, least.refused_is) refl
 
-  -- Prefix: the number is in range.
+  -- If `x` is the answer for a prefix under the negative bound, and the number `y` with the same
+  -- magnitude and the sign that `minus` says is in range, then `y` is the answer, with the same
+  -- count.
   pub prefix_number : (x y : ℤ) (len : ℕ) → Ok (x, len) ≡ prefix_answer t k true skip s → IsInRange k minus x (Some y) → Ok (y, len) ≡ prefix_answer t k minus skip s
   prefix_number x y len h fact =
       let both = map_unless_ok (counted_number true) _ _ (x, len) (sym h) in
@@ -368,7 +391,9 @@ module _ (t : Table) (k : IntType) (minus skip : Bool) (s : List ℕ) where
       let count : len ≡ run_len t s = ap (λ (pair : ℤ × ℕ). pair.1) both.1 in
       rw (accepted_too t k minus prefix skip s both.0 (ltb-false _ _ number.0)) (ap₂ (λ (n : ℤ) (m : ℕ). Ok (n, m)) number.1 count)
 
-  -- Prefix: the number is out of range, so it is the magnitude of `T::MIN`.
+  -- If a prefix is accepted under the negative bound, but the number with the sign that `minus`
+  -- says is out of range, then the digits spell the magnitude of `T::MIN` and overflow (`IsLeast`).
+  -- The count is the number of these digits.
   pub prefix_least : (x : ℤ) (len : ℕ) → Ok (x, len) ≡ prefix_answer t k true skip s → IsInRange k minus x None → IsLeast t k minus prefix skip s × (len ≡ run_len t s)
   prefix_least x len h fact =
       let both = map_unless_ok (counted_number true) _ _ (x, len) (sym h) in
@@ -383,7 +408,8 @@ module _ (t : Table) (k : IntType) (minus skip : Bool) (s : List ℕ) where
       refusal-cases t (class_of k) (bound_of k true) (limit_of k) prefix skip s (λ r. number_in r ≡ 0) (λ _. refl) (λ _ _. refl) (λ _ _ _. refl) (λ _ _ _ e. absurd (cc e)) reason refused_is in
       rw (refused_too t k minus prefix skip s reason refused_is (omega arith)) refl
 
-  -- Prefix: the magnitude of `T::MIN` overflows.
+  -- If the digits of a prefix spell the magnitude of `T::MIN` and overflow (`IsLeast`), the answer
+  -- is `Overflow` with the slice `rest`, which leaves out the zeros that the rule names.
   pub prefix_overflows : (count : ℕ) (rest : List ℕ) → IsLeast t k minus prefix skip s → count ≡ run_len t s
       → rest ≡ drop (rule_of (class_of k) prefix skip (limit_of k) count (skipped_zeros t skip s)).dropped s
       → Err (overflow rest) ≡ prefix_answer t k minus skip s

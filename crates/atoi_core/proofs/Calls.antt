@@ -19,7 +19,7 @@ use Rattle.std.proofs.lemmas.List.Sums.{prefix_len-le-length}
 -- The definition `refusal` tests four conditions in a row. These lemmas state each case as a fact
 -- of its own.
 
--- The first of four results whose test holds.
+-- The first of four results whose test holds, or `None` if no test holds.
 abbrev pub first_of : {A : Type 0} → (a b c d : Bool) → (p q r s : A) → Option A
 first_of a b c d p q r s = cond a (Some p) (cond b (Some q) (cond c (Some r) (cond d (Some s) None)))
 
@@ -57,7 +57,7 @@ first_map false false false false p q r s = refl
 abbrev pub limit_at : Class → Extent → Bool → ℕ → Option ℕ
 limit_at class extent skip limit = (rule_of class extent skip limit 0 0).limit
 
--- Each rule has that limit.
+-- The limit in each rule is the one that `limit_at` gives.
 limit-is : (class : Class) (extent : Extent) (skip : Bool) (limit digits skipped : ℕ) → (rule_of class extent skip limit digits skipped).limit ≡ limit_at class extent skip limit
 limit-is narrow whole skip limit digits skipped = refl
 limit-is narrow prefix true limit digits skipped = refl
@@ -141,7 +141,8 @@ module _ (table : Table) (class : Class) (bound limit : ℕ) (extent : Extent) (
       let e : is_empty ≡ false = ne_eqb (run_len table body) 0 (omega arith) in
       refusal-is ∙ rw (e, long) refl
 
-  -- If the digits are few enough and the value is larger than the bound, the error is `Overflow`.
+  -- If there are not too many significant digits, and the value is larger than the bound, the error
+  -- is `Overflow`.
   pub refused_overflow : 0 < run_len table body → is_long ≡ false
       → bound < value table (run table body)
       → refusal table class bound limit extent skip body ≡ Some over
@@ -181,7 +182,7 @@ module _ (table : Table) (class : Class) (bound limit : ℕ) (extent : Extent) (
   refusal-cases P p q r s reason h =
       first_cases P is_empty is_long is_over is_followed empty too_long over followed p q r s reason (sym refusal-is ∙ h)
 
-  -- The slice in an error is the body without some bytes at its start.
+  -- The slice in an error is a suffix of the body.
   pub refusal-input : (reason : Refusal) → refusal table class bound limit extent skip body ≡ Some reason
       → (n : ℕ) × (input_of reason ≡ drop n body)
   refusal-input reason h =
@@ -199,7 +200,8 @@ module _ (table : Table) (class : Class) (bound limit : ℕ) (extent : Extent) (
 -- ---- The sign at the start of a slice
 -- These lemmas say what remains after it, and when the same sign is consumed again.
 
--- A property of three signs, chosen by two tests, holds for the sign that is chosen.
+-- Two tests choose one of three signs. If a property holds for the third sign, and for each of the
+-- other two if its test is the first to hold, then it holds for the sign that is chosen.
 one_of_three : (a b : Bool) (x y z : Sign) (P : Sign → Type 0)
     → (a ≡ true → P x) → (a ≡ false → b ≡ true → P y) → P z
     → P (cond a x (cond b y z))
@@ -207,7 +209,8 @@ one_of_three true b x y z P p q r = p refl
 one_of_three false true x y z P p q r = q refl refl
 one_of_three false false x y z P p q r = r
 
--- There are three cases: a plus is consumed, a minus is consumed, or no sign is.
+-- For a slice that is not empty there are three cases: a plus is consumed, a minus is consumed, or
+-- no sign is consumed. If a property holds in each case, it holds for the sign of the slice.
 pub sign_cases : (signed plus : Bool) (byte : ℕ) (bytes : List ℕ) (P : Sign → Type 0)
     → ((plus && eqb byte plus_sign) ≡ true → P (record { minus = false; taken = 1; body = bytes }))
     → ((plus && eqb byte plus_sign) ≡ false → (signed && eqb byte minus_sign) ≡ true → P (record { minus = true; taken = 1; body = bytes }))
@@ -226,7 +229,7 @@ drop-taken k (looked_for plus) (byte ∷ bytes) =
     sign_cases k.signed plus byte bytes (λ g. drop g.taken (byte ∷ bytes) ≡ g.body) (λ e. refl) (λ p e. refl) refl
 drop-taken k (given is_negative) s = refl
 
--- The bytes of the sign and of the body make up the slice.
+-- The slice is as long as its sign and its body together.
 pub length-taken : (k : IntType) (form : SignForm) (s : List ℕ) → (sign_in k form s).taken + length (sign_in k form s).body ≡ length s
 length-taken k (looked_for plus) [] = omega arith
 length-taken k (looked_for plus) (byte ∷ bytes) =
@@ -268,21 +271,22 @@ sign_again k (looked_for plus) (byte ∷ bytes) t h =
 sign_again k (given is_negative) s t h = refl
 
 -- ---- Calls and their results
--- These lemmas express the answer of a call with the sign that it uses, and say what follows from
--- an `Ok`.
+-- These lemmas say how the answer of a call follows from its sign and its body, and what follows
+-- from an `Ok`.
 
 -- Adding 0 to the count of an answer does not change it.
 pub with_more-zero : (r : Result (ℤ × ℕ) Refusal) → with_more 0 r ≡ r
 with_more-zero (Ok found) = rw add-zero refl
 with_more-zero (Err reason) = refl
 
--- The answer of a whole parse is that for its body and its sign.
+-- The answer of a whole parse is the answer for its body, with the sign that the call uses.
 pub whole_call-is : (k : IntType) (form : SignForm) (skip : Bool) (s : List ℕ)
     → whole_call k form skip s ≡ whole_answer decimal_table k (sign_in k form s).minus skip (sign_in k form s).body
 whole_call-is k (looked_for plus) skip s = refl
 whole_call-is k (given is_negative) skip s = refl
 
--- So is that of a prefix parse, but its count also includes the byte of the sign.
+-- The answer of a prefix parse is the answer for the prefix of its body, with the sign that the
+-- call uses. But the count also includes the byte of the sign, if a sign is consumed.
 pub prefix_call-is : (k : IntType) (form : SignForm) (skip : Bool) (s : List ℕ)
     → prefix_call k form skip s
     ≡ with_more (sign_in k form s).taken (prefix_answer decimal_table k (sign_in k form s).minus skip (sign_in k form s).body)
@@ -293,7 +297,7 @@ prefix_call-is k (given is_negative) skip s = sym (with_more-zero (prefix_answer
 abbrev pub counted_number : Bool → ℕ × ℕ → ℤ × ℕ
 counted_number minus found = (with_sign minus found.0, found.1)
 
--- If the answer is `Ok`, nothing was refused, and the value is the expected one.
+-- If the answer is `Ok`, there is no refusal, and the value is `f x`.
 pub map_unless_ok : {A B : Type 0} (f : A → B) (r : Option Refusal) (x : A) (y : B)
     → map_answer f (unless_refused r x) ≡ Ok y → (r ≡ None) × (y ≡ f x)
 map_unless_ok f None x y h = (refl, cc)
@@ -317,8 +321,8 @@ whole_is_run digits length h = eqb-true digits length (not-false (eqb digits len
 pub run_is_whole : (digits length : ℕ) → digits ≡ length → leaves_rest whole digits length ≡ false
 run_is_whole digits length h = rw (eq-eqb digits length h) refl
 
--- If adding to the count gives `Ok`, the answer before was `Ok` with the same value and the smaller
--- count.
+-- If an answer is `Ok` after `with_more` has added `more` to its count, it was `Ok` before, with
+-- the same value and a count that is smaller by `more`.
 with_more_ok : (more : ℕ) (r : Result (ℤ × ℕ) Refusal) (v : ℤ) (count : ℕ) → with_more more r ≡ Ok (v, count)
     → (read : ℕ) × (r ≡ Ok (v, read)) × (count ≡ read + more)
 with_more_ok more (Ok found) v count h =
@@ -342,26 +346,27 @@ module _ (k : IntType) (minus skip : Bool) (body : List ℕ) where
       let found = map_unless_ok (with_sign minus) _ _ v h in
       (accepted decimal_table (class_of k) (bound_of k minus) (limit_of k) whole skip body found.0, found.1)
 
-  -- An accepted whole body is answered with its value and the sign.
+  -- If a body is accepted as a whole slice, the answer is its value with the sign.
   pub to_whole : IsWhole → whole_answer decimal_table k minus skip body ≡ Ok (with_sign minus (value decimal_table (run decimal_table body)))
   to_whole h =
       map_unless_none (with_sign minus) _ _ (refusal-none decimal_table (class_of k) (bound_of k minus) (limit_of k) whole skip body h)
 
-  -- If a prefix is answered `Ok`, the body is accepted, and the answer is the value and the length
-  -- of its run.
+  -- If a prefix is answered `Ok`, the body is accepted, and the answer is the value of its run with
+  -- the sign, and the length of its run.
   pub from_prefix : (v : ℤ) (count : ℕ) → prefix_answer decimal_table k minus skip body ≡ Ok (v, count)
       → IsPrefix × (v ≡ with_sign minus (value decimal_table (run decimal_table body))) × (count ≡ run_len decimal_table body)
   from_prefix v count h =
       let found = map_unless_ok (counted_number minus) _ _ (v, count) h in
       (accepted decimal_table (class_of k) (bound_of k minus) (limit_of k) prefix skip body found.0, ap (λ (p : ℤ × ℕ). p.0) found.1, ap (λ (p : ℤ × ℕ). p.1) found.1)
 
-  -- An accepted prefix is answered with its value and its length.
+  -- If a body is accepted as a slice that begins with a number, the answer is the value of its run
+  -- with the sign, and the length of its run.
   pub to_prefix : IsPrefix → prefix_answer decimal_table k minus skip body ≡ Ok (with_sign minus (value decimal_table (run decimal_table body)), run_len decimal_table body)
   to_prefix h =
       map_unless_none (counted_number minus) _ _ (refusal-none decimal_table (class_of k) (bound_of k minus) (limit_of k) prefix skip body h)
 
-  -- A body is accepted as a whole if it has digits only, at least one and not too many, and a value
-  -- within the bound.
+  -- A body is accepted as a whole slice if it consists of one or more digits and nothing else, does
+  -- not have too many significant digits, and has a value within the bound.
   pub is_whole : 0 < run_len decimal_table body
       → is_above (limit_at (class_of k) whole skip (limit_of k)) (significant_digits decimal_table skip body) ≡ false
       → value decimal_table (run decimal_table body) ≤ bound_of k minus
@@ -370,14 +375,14 @@ module _ (k : IntType) (minus skip : Bool) (body : List ℕ) where
   is_whole some short in_range all =
       record { some = some; short = short; in_range = in_range; ends = run_is_whole (run_len decimal_table body) (length body) all }
 
--- What an `Ok` of a prefix parse means: the body is accepted, and value and count are those of its
--- run and sign.
+-- What an `Ok` of a prefix parse means: the body is accepted, `v` is the value of its run with the
+-- sign, and `count` is the number of bytes of the run and of the sign together.
 pub record IsFound (k : IntType) (g : Sign) (skip : Bool) (v : ℤ) (count : ℕ) : Type 0 where
   pub is_prefix : IsPrefix k g.minus skip g.body
   pub number : v ≡ with_sign g.minus (value decimal_table (run decimal_table g.body))
   pub count_is : count ≡ run_len decimal_table g.body + g.taken
 
--- If a prefix call is `Ok`, its value and count are of this form.
+-- If a prefix call returns `Ok`, then `IsFound` holds for its value and its count.
 pub found_prefix : (k : IntType) (form : SignForm) (skip : Bool) (s : List ℕ) (v : ℤ) (count : ℕ)
     → prefix_call k form skip s ≡ Ok (v, count) → IsFound k (sign_in k form s) skip v count
 found_prefix k form skip s v count h =
@@ -414,14 +419,15 @@ whole_in_bounds table class bound limit skip s number found =
     let P : ℕ → Type 0 = λ n. n ≤ bound in
     subst P (sym both.1) (accepted table class bound limit whole skip s both.0).in_range
 
--- The limit that is passed in does not matter for a narrow prefix, which has a limit of its own.
+-- A narrow prefix has a limit of 16 digits, or no limit if zeros are skipped. So the limit that is
+-- passed in does not matter.
 pub narrow_prefix_limit : (table : Table) (bound limit : ℕ) (skip : Bool) (s : List ℕ)
     → refusal table narrow bound limit prefix skip s ≡ refusal table narrow bound 0 prefix skip s
 unfolding refusal
 narrow_prefix_limit table bound limit true s = refl
 narrow_prefix_limit table bound limit false s = refl
 
--- For a narrow whole slice neither the limit matters nor whether zeros are skipped.
+-- For a narrow whole slice, neither the limit nor the flag that skips zeros matters.
 pub narrow_whole_limit : (table : Table) (bound limit : ℕ) (skip : Bool) (s : List ℕ)
     → refusal table narrow bound limit whole skip s ≡ refusal table narrow bound 0 whole false s
 unfolding refusal

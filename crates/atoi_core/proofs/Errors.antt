@@ -30,7 +30,7 @@ use Rattle.std.proofs.lemmas.Str.Ascii.{IsAscii-nil, IsAscii-cons}
 
 -- ---- The order of errors
 
--- If two comparisons one after the other give `Equal`, the first one does.
+-- If two comparisons in a row give `Equal` together, then each of the two gives `Equal`.
 then_first : (first rest : Ordering) → ordering_then first rest ≡ Equal → first ≡ Equal
 then_first Less rest equal = cc
 then_first Equal rest equal = refl
@@ -105,7 +105,8 @@ prefix_refused k form skip s reason h =
     map_unless_err (counted_number g.minus) _ _ reason
     (with_more_err g.taken (prefix_answer decimal_table k g.minus skip g.body) reason (sym (prefix_call-is k form skip s) ∙ h))
 
--- The law `OrderAndSuffix`: the order of errors, and that their slices are suffixes.
+-- The law `OrderAndSuffix`: two errors compare as equal exactly if they are the same, and the slice
+-- in an error is a suffix of the slice that was parsed.
 pub order_and_suffix : (k : IntType) → OrderAndSuffix k
 order_and_suffix k = record {
   order = refusal_cmp-Equal;
@@ -121,7 +122,7 @@ order_and_suffix k = record {
 
 -- ---- What an error says about the body
 
--- If the test of the limit holds, there is a limit, and the count is larger.
+-- If the test `is_above` holds, there is a limit, and `count` is larger than the limit.
 above : (limit : Option ℕ) (count : ℕ) → is_above limit count ≡ true → IsAbove limit count
 above None count h = absurd (cc h)
 above (Some limit) count h = ltb-true limit count h
@@ -137,14 +138,16 @@ rest_left whole digits length le h = omega (arith, eqb-false digits length (not-
 rest_left prefix digits length le h = absurd (cc h)
 
 module _ (k : IntType) (extent : Extent) (is_negative skip : Bool) (body : List ℕ) where
-  -- If a byte follows the digits, the `invalid` error of the type's width says so correctly.
+  -- If `IsFollowed` holds for a value and an index, then `Explains` holds for the `invalid` error
+  -- that holds these two, whatever the class.
   invalid_explained : (class : Class) (number index : ℕ) → IsFollowed k extent is_negative skip body number index
       → Explains k extent is_negative skip body (invalid class number index body)
   invalid_explained narrow number index h = h
   invalid_explained wide64 number index h = h
   invalid_explained wide128 number index h = h
 
-  -- If the first two tests do not hold, the body begins with digits, and not with too many.
+  -- If neither of the first two tests of `refusal` holds, the body begins with a digit and does not
+  -- have too many significant digits.
   begins : eqb (run_len decimal_table body) 0 ≡ false
       → is_above (limit_at (class_of k) extent skip (limit_of k)) (significant_digits decimal_table skip body) ≡ false
       → HasSomeDigits k extent skip body
@@ -153,7 +156,7 @@ module _ (k : IntType) (extent : Extent) (is_negative skip : Bool) (body : List 
     short = not_above (limit_at (class_of k) extent skip (limit_of k)) (significant_digits decimal_table skip body) short;
   }
 
-  -- If a body is refused, what `Explains` says about its error holds.
+  -- If a body is refused, `Explains` holds for its error.
   explained : (reason : Refusal) → refusal decimal_table (class_of k) (bound_of k is_negative) (limit_of k) extent skip body ≡ Some reason
       → Explains k extent is_negative skip body reason
   explained reason h =
@@ -200,7 +203,8 @@ errors_in_order k = record {
 pub decimal_more : (n : ℕ) → 10 ≤ n → n < 2 ^ 128 → decimal n ≡ decimal (n / 10) ++ (48 + n % 10) ∷ []
 decimal_more n low high = decimal_step_wide n low (omega arith)
 
--- It is one byte longer than the text without the last digit.
+-- The text of a number of two or more digits is one byte longer than the text of the number without
+-- its last digit.
 pub length_decimal_more : (n : ℕ) → 10 ≤ n → n < 2 ^ 128 → length (decimal n) ≡ length (decimal (n / 10)) + 1
 length_decimal_more n low high =
     omega (arith, ap length (decimal_more n low high), length-append (decimal (n / 10)) ((48 + n % 10) ∷ []))
@@ -223,7 +227,7 @@ hex_text_of_two_digits byte low small = hex_two_digits true byte low small
 
 -- ---- Error texts are ASCII
 
--- A literal text is ASCII if each of its bytes passes the test.
+-- A text is ASCII if each of its bytes passes the test `is_ascii`.
 pub IsAscii-literal : (bytes : List ℕ) → list_all is_ascii bytes ≡ true → IsAscii bytes
 IsAscii-literal [] passes = IsAscii-nil
 IsAscii-literal (byte ∷ bytes) passes =

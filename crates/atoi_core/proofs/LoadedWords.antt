@@ -1,7 +1,7 @@
--- Words that hold the bytes of a slice: how they are loaded, and how the digits, zeros and value
--- counted in a word are those of the slice. The word engine and the loads of `words` are proved
--- with these lemmas. The weighted sum of bytes (`low_value`) adds the lower half of each byte times
--- its power of ten.
+-- Words that hold the bytes of a slice: how a word is loaded, and why the digits and zeros that are
+-- counted in a word, and the value that is computed from it, are those of the slice. The word
+-- engine and the functions of `words` that load a word are proved with these lemmas. The weighted
+-- sum of bytes (`low_value`) adds the lower half of each byte times its power of ten.
 use Rattle.std.proofs.Common.{◌≡◌, ℕ, zero, suc, ◌+◌, ◌-◌, ◌*◌, ◌/◌, ◌%◌, ◌^◌, ◌<◌, ◌≤◌, List, [], ◌∷◌, ◌++◌, length, take, drop, replicate, get_or, take-take, refl, sym, ap, ap₂, ◌∙◌, arith, ◌≢◌, min, Bool, true, false, cond, ◌==◌, if◌then◌else◌}
 use Rattle.std.proofs.Math.Nat.{mod-lt, div-one, zero-div, suc-mul, div-div-eq-div-mul, zero-add, suc-add, pow-suc}
 use Rattle.std.proofs.lemmas.List.{take_all, length-drop, get_or-drop, drop-drop, length-take, length-take-le}
@@ -49,7 +49,8 @@ unfolding word_of
 word_of_none [] none = refl
 word_of_none (a ∷ s) none = absurd (omega arith)
 
--- As above for four bytes, and for two.
+-- A slice of at most four bytes, read as a little-endian number, is the word of these bytes. The
+-- lemma after this one says the same of a slice of at most two bytes.
 pub word_from_four : (s : List ℕ) → length s ≤ 4 → from_le_bytes w32 s ≡ word_of s
 unfolding word_of
 word_from_four [] few = omega arith
@@ -66,7 +67,7 @@ word_from_two (a ∷ []) few = omega arith
 word_from_two (a ∷ b ∷ []) few = omega arith
 word_from_two (a ∷ b ∷ c ∷ rest) few = absurd (omega arith)
 
--- A number with its own low bits added by `|` does not change.
+-- A number does not change if its own lowest `r` bits are joined to it by `|`.
 with_low_bits : (a r : ℕ) → bit_or (a % 2 ^ r) a ≡ a
 with_low_bits a r =
     let low = a % 2 ^ r in
@@ -77,8 +78,9 @@ with_low_bits a r =
     ∙ ap (λ x. a / 2 ^ r * 2 ^ r + x) (or_self low)
     ∙ shr_split a r
 
--- Low bits of a number, joined by `|` with high bits of it, give the number, if no bit between them
--- is missing.
+-- Let `low` be the lowest `r + k` bits of a number, and let `high` be the number with its lowest
+-- `k` bits set to 0. Then `low | high` is the number. The two parts may overlap: both have the `r`
+-- bits from bit `k` on.
 overlap : (whole low high r k : ℕ) → low ≡ whole % 2 ^ (r + k) → high ≡ whole / 2 ^ k * 2 ^ k → bit_or low high ≡ whole
 overlap whole low high r k low_is high_is =
     let q = whole / 2 ^ k in
@@ -88,7 +90,8 @@ overlap whole low high r k low_is high_is =
     ∙ ap₂ (λ x y. x * 2 ^ k + y) (with_low_bits q r) (or_zero_r rest)
     ∙ shr_split whole k
 
--- Shifting a word right by whole bytes leaves the word of the bytes above them.
+-- If the word of a slice is shifted right by `k` bytes, the result is the word of the slice without
+-- its first `k` bytes.
 bytes_above : (k : ℕ) (s : List ℕ) → ((i : ℕ) → get_or s i 0 < 256) → word_of s / 2 ^ (k * 8) ≡ word_of (drop k s)
 unfolding word_of
 bytes_above zero s fits = div-one (number_l 256 s)
@@ -100,8 +103,9 @@ bytes_above (suc k) (b ∷ bs) fits =
     ap (λ p. (b + 256 * word) / p) up ∙ sym (div-div-eq-div-mul (b + 256 * word) 256 (2 ^ (k * 8)))
     ∙ ap (λ w. w / 2 ^ (k * 8)) rest ∙ bytes_above k bs (λ i. fits (suc i))
 
--- If a slice of at least eight bytes ends less than eight bytes after offset `at`, the bytes from
--- there on are the highest ones in the word of its last eight bytes.
+-- Let a slice have at least eight bytes, but fewer than eight from offset `at` on. The bytes from
+-- `at` on are then the highest ones in the word of the last eight bytes. Two right shifts of this
+-- word, the second by one byte, leave the word of the bytes from `at` on.
 pub last_bytes : (s last : List ℕ) (at : ℕ) → 8 ≤ length s → at ≤ length s → length s < at + 8 → ((i : ℕ) → get_or s i 0 < 256) → last ≡ drop (length s - 8) s
     → from_le_bytes w64 last / 2 ^ (8 * (at + 7 - length s)) / 2 ^ 8 ≡ word_of (take 8 (drop at s))
 last_bytes s last at enough inside few fits is =
@@ -117,9 +121,10 @@ last_bytes s last at enough inside few fits is =
     ∙ bytes_above missing back (λ i. rw get_or-drop (fits (length s - 8 + i)))
     ∙ ap word_of (drop-drop missing (length s - 8) s ∙ ap (λ n. drop n s) above ∙ sym rest)
 
--- How `load_high` builds the word of one to eight bytes. It joins the first two, the first four,
--- the last four bytes and the last byte, each moved to where the word has them. With fewer than
--- four bytes, both parts of four bytes are 0.
+-- How `load_high` builds the word of one to eight bytes. It joins four parts: the first two bytes,
+-- the first four bytes, the last four bytes, and the last byte. Each part is shifted to its
+-- position in the word. If there are fewer than four bytes, both parts of four bytes are 0. If
+-- there is only one byte, the part of two bytes is 0 too.
 module _ (whole two first_four last_four last n r : ℕ) where
   of_four : two ≡ first_four % 2 ^ 16 → first_four * 2 ^ n % 2 ^ 64 ≡ whole % 2 ^ (r + 32) → last_four * 2 ^ 32 % 2 ^ 64 ≡ whole / 2 ^ 32 * 2 ^ 32
       → last * 2 ^ 56 % 2 ^ 64 ≡ whole / 2 ^ 56 * 2 ^ 56 → whole < 2 ^ 64
@@ -197,8 +202,9 @@ below_four (a ∷ b ∷ c ∷ d ∷ rest) two first_four last_four some few fits
 low_and_high : (b word : ℕ) → b < 256 → ((b + 256 * word) % 256 ≡ b) × ((b + 256 * word) / 256 ≡ word)
 low_and_high b word small = (omega arith, omega arith)
 
--- The bytes of a loaded word begin with as many bytes that pass a test as the slice, if the byte 0
--- does not pass.
+-- Let a word be loaded from the first `k` bytes of a slice, and let the byte 0 not pass a test.
+-- Then these bytes of the slice and the `k` bytes of the word begin with the same number of bytes
+-- that pass the test. A byte that the slice does not have is 0 in the word.
 loaded_start : (p : ℕ → Bool) → p 0 ≡ false → (k : ℕ) (s : List ℕ) → ((i : ℕ) → get_or s i 0 < 256)
     → prefix_len p (digits_l 256 k (number_l 256 (take k s))) ≡ prefix_len p (take k s)
 loaded_start p stops zero s fits = refl
@@ -209,7 +215,8 @@ loaded_start p stops (suc k) (b ∷ bs) fits =
     ap₂ (λ x y. cond (p x) (1 + prefix_len p (digits_l 256 k y)) 0) parts.0 parts.1
     ∙ ap (λ n. cond (p b) (1 + n) 0) (loaded_start p stops k bs (λ i. fits (suc i)))
 
--- If the slice has enough bytes, the bytes of the loaded word are its first bytes.
+-- If the slice has at least `k` bytes, the `k` bytes of the loaded word are the first `k` bytes of
+-- the slice.
 loaded_whole : (k : ℕ) (s : List ℕ) → k ≤ length s → ((i : ℕ) → get_or s i 0 < 256) → digits_l 256 k (number_l 256 (take k s)) ≡ take k s
 loaded_whole zero s enough fits = refl
 loaded_whole (suc k) [] enough fits = absurd (omega arith)
@@ -222,8 +229,8 @@ loaded_whole (suc k) (b ∷ bs) enough fits =
 half_is_value : (b : ℕ) → is_digit decimal_table b ≡ true → b % 16 ≡ digit_value decimal_table b
 half_is_value b digit = grind (arith, nat_tests)
 
--- If the passing prefix has at least n + 1 elements, the first one passes, and at least n passing
--- ones follow it.
+-- If a list begins with at least n + 1 elements that pass a test, then the first element passes it,
+-- and at least n passing elements follow the first.
 first_passes : (t : Bool) (n m : ℕ) → suc n ≤ cond t (1 + m) 0 → (t ≡ true) × (n ≤ m)
 first_passes true n m h = (refl, omega arith)
 first_passes false n m h = absurd (omega arith)
@@ -245,7 +252,8 @@ loaded_value (suc n) (suc k) (b ∷ bs) fits digits =
     ∙ ap (λ v. digit_value decimal_table b * 10 ^ length (take n (take k bs)) + v) (loaded_value n k bs (λ i. fits (suc i)) passes.1)
 
 -- ---- Stated for words of eight bytes
--- These lemmas use the definitions of the kernels' contracts.
+-- These lemmas are stated with `low_bytes`, `word_of` and `low_value`, as the contracts of the
+-- functions on words are.
 
 -- The loaded word begins with as many digits as the first eight bytes.
 pub loaded_run : (s : List ℕ) → ((i : ℕ) → get_or s i 0 < 256) → (word : ℕ) → word ≡ word_of (take 8 s)
@@ -283,8 +291,8 @@ pub sum_of_none : (word len : ℕ) → len ≡ 0 → 0 ≡ low_value (low_bytes 
 unfolding low_bytes
 sum_of_none word len e = ap (λ l. low_value (low_bytes l word)) (sym e)
 
--- The leading zeros of two words: those of the second are added only if the first consists of
--- zeros.
+-- The leading zeros of two words in a row are those of the first word. Those of the second word are
+-- added only if the first word consists of zeros.
 pub zeros_of_two : (first next : ℕ) → zeros decimal_table (low_bytes 8 first ++ low_bytes 8 next)
     ≡ (if zeros decimal_table (low_bytes 8 first) == 8 then 8 + zeros decimal_table (low_bytes 8 next) else zeros decimal_table (low_bytes 8 first))
 unfolding low_bytes
@@ -300,8 +308,8 @@ reported_full n c z e = ap (λ t. cond t z 0) (eq-eqb n c e)
 pub reported_none : (n c z : ℕ) → n ≢ c → (if n == c then z else 0) ≡ 0
 reported_none n c z ne = ap (λ t. cond t z 0) (ne_eqb n c ne)
 
--- Three numbers that are the run, the reported zeros and the value of the first bytes make up their
--- window.
+-- If three numbers are the length of the run of the first `c` bytes, the zeros that a window of
+-- these bytes reports, and the value of that run, then they make up this window.
 pub window_from : (c : ℕ) (s : List ℕ) (len leading number : ℕ)
     → len ≡ run_len decimal_table (take c s)
     → leading ≡ (if len == c then zeros decimal_table (take c s) else 0)
@@ -315,7 +323,8 @@ window_from c s len leading number len_is leading_is number_is =
     number_is ∙ ap (value decimal_table) (sym (take-take len c s (omega arith)) ∙ ap (λ n. take n (take c s)) len_is) in
     λ i. record { len = len_is i; zeroes = same_leading i; number = same_number i }
 
--- What is counted in a loaded word makes up the window of its bytes.
+-- The number of digits at the start of a loaded word, its reported zeros, and the weighted sum of
+-- these digits make up the window of the first eight bytes of the slice.
 pub loaded_window : (s : List ℕ) → ((i : ℕ) → get_or s i 0 < 256) → (word : ℕ) (w : Window) → word ≡ word_of (take 8 s)
     → w.len ≡ run_len decimal_table (low_bytes 8 word)
     → w.zeroes ≡ (if w.len == 8 then zeros decimal_table (low_bytes 8 word) else 0)
@@ -327,7 +336,8 @@ loaded_window s fits word w is len_is zeroes_are number_is =
     (zeroes_are ∙ ap (λ z. if w.len == 8 then z else 0) (loaded_zeros s fits word is))
     (number_is ∙ loaded_sum s fits word w.len is len_is)
 
--- If the first eight bytes are not all digits, the window of 16 bytes is determined by these eight.
+-- If a slice does not begin with eight digits, its first eight bytes determine the window of 16
+-- bytes.
 pub window_short : (s : List ℕ) (len number : ℕ) → len ≡ run_len decimal_table (take 8 s) → len ≢ 8
     → number ≡ value decimal_table (take len s)
     → ◌≡◌ {A = Window} (record { len = len; zeroes = 0; number = number }) (window_of decimal_table 16 s)
@@ -352,8 +362,9 @@ few_in_both s few =
 pub enough_bytes : (s : List ℕ) → run_len decimal_table (take 8 s) ≡ 8 → 8 ≤ length s
 enough_bytes s full = omega (arith, prefix_len-le-length (is_digit decimal_table) (take 8 s), length-take 8 s)
 
--- If the first eight bytes are digits, the window of 16 bytes is made of them and of the window of
--- the next eight.
+-- If a slice begins with eight digits, the window of 16 bytes follows from these eight digits and
+-- from the eight bytes after them. Its number is the value of the eight digits, multiplied by ten
+-- for each digit that follows them, plus the value of the digits that follow.
 pub window_joined : (s : List ℕ) (more leading first next : ℕ)
     → run_len decimal_table (take 8 s) ≡ 8
     → more ≡ run_len decimal_table (take 8 (drop 8 s))
@@ -376,7 +387,8 @@ window_joined s more leading first next full more_is leading_is first_is next_is
     window_from 16 s (8 + more) leading (first * 10 ^ more + next) (omega arith) same_leading same_number
 
 -- ---- Short slices in the highest bytes of a word
--- The bytes below them are 0, or are filled with zeros, the byte 48.
+-- A slice of at most eight bytes is in the highest bytes of a word. The bytes below it are 0, or
+-- they are filled with zeros, which are the byte 48.
 
 -- Putting m bytes of 0 before the others shifts the word left by m bytes.
 pub word_shifted : (m : ℕ) (s : List ℕ) → word_of (replicate m 0 ++ s) ≡ word_of s * 2 ^ (m * 8)
@@ -387,7 +399,8 @@ word_shifted (suc m) s =
     let up : 2 ^ (suc m * 8) ≡ 2 ^ (m * 8) * 256 = ap (λ e. 2 ^ e) (suc-mul m 8) ∙ pow-add 2 (m * 8) 8 in
     omega (arith, ap (λ p. number_l 256 s * p) up)
 
--- Shifting it right gives the word back.
+-- If a slice of at most eight bytes is in the highest bytes of a word, shifting that word right
+-- gives the word of the slice.
 pub shifted_back : (s : List ℕ) → length s ≤ 8 → word_of (replicate (8 - length s) 0 ++ s) / 2 ^ (64 - 8 * length s) ≡ word_of s
 shifted_back s few =
     let places : 64 - 8 * length s ≡ (8 - length s) * 8 = omega arith in
@@ -396,7 +409,7 @@ shifted_back s few =
     ∙ ap (λ x. x / up) (omega arith)
     ∙ div-mul-add (word_of s) up 0 (pow_pos ((8 - length s) * 8))
 
--- Adding the word of m zeros fills the bytes of 0 with them.
+-- If the lowest m bytes of a word are 0, adding the word of m zeros fills these bytes with zeros.
 pub word_filled : (m : ℕ) (s : List ℕ) → word_of (replicate m 0 ++ s) + word_of (replicate m 48) ≡ word_of (replicate m 48 ++ s)
 unfolding word_of
 word_filled zero s = omega arith
@@ -420,7 +433,7 @@ filled_length : (m : ℕ) (s : List ℕ) → length (replicate m 48 ++ s) ≡ m 
 filled_length zero s = omega arith
 filled_length (suc m) s = omega (arith, filled_length m s)
 
--- The run becomes longer by the zeros that are put before it.
+-- If m zeros are put before a slice, its run becomes longer by m.
 filled_run : (m : ℕ) (s : List ℕ) → run_len decimal_table (replicate m 48 ++ s) ≡ m + run_len decimal_table s
 filled_run zero s = omega arith
 filled_run (suc m) s = omega (arith, filled_run m s)
@@ -435,7 +448,8 @@ filled_fits s few fits =
     let power : 256 ^ length (replicate m 48 ++ s) ≡ 256 ^ 8 = ap (λ n. 256 ^ n) eight in
     omega (arith, word_filled m s)
 
--- The filled word begins with the zeros that fill it, and then has as many digits as the slice.
+-- The number of digits at the start of the filled word is the number of the zeros that fill it plus
+-- the length of the run of the slice.
 pub filled_digits : (s : List ℕ) → length s ≤ 8 → ((i : ℕ) → get_or s i 0 < 256) → (word filling digits : ℕ)
     → word ≡ word_of (replicate (8 - length s) 0 ++ s) → filling ≡ word_of (replicate (8 - length s) 48)
     → digits ≡ run_len decimal_table (low_bytes 8 (word + filling))
@@ -463,9 +477,9 @@ low_value_filled (suc z) k s =
     ∙ omega arith
     ∙ low_value_filled z k s
 
--- The window of a slice of at most eight bytes follows from the filled word: its length is the
--- number of leading digits without the zeros that fill the word, and its number is the weighted sum
--- of these digits.
+-- The window of a slice of at most eight bytes follows from the filled word. The `len` of the
+-- window is the number of leading digits of the word, without the zeros that fill it. The `number`
+-- of the window is the weighted sum of the leading digits of the word.
 pub filled_window : (s : List ℕ) → length s ≤ 8 → ((i : ℕ) → get_or s i 0 < 256) → (filled digits found number : ℕ)
     → filled ≡ word_of (replicate (8 - length s) 48 ++ s)
     → digits ≡ 8 - length s + run_len decimal_table s

@@ -38,7 +38,8 @@ wide_128 = record { rule = λ extent skip limit digits skipped. refl }
 is_skipped : {t : Table} {skip : Bool} {s : List ℕ} {at before now : ℕ} {w : Window} → Skipped t skip s at before now w → IsSkipped t skip s at
 is_skipped after_skip = record { zeros_only = omega (arith, after_skip.zeros_are); asked = after_skip.off }
 
--- If the last window is full and zeros are skipped, it begins with none.
+-- If zeros are skipped and the last window is full of digits, this window does not begin with a
+-- zero.
 none_left : (t : Table) (skip : Bool) (s : List ℕ) (at before now : ℕ) (w : Window) → Skipped t skip s at before now w → 16 ≤ w.len
     → skip ≡ true → zeros t (take 16 (drop at s)) ≡ 0
 none_left t skip s at before now w after_skip full on =
@@ -50,7 +51,9 @@ pub answers_empty : (t : Table) (class : Class) (bound limit : ℕ) (skip : Bool
 answers_empty t class bound limit skip s at before now w after_skip none =
     rw (refused_empty t class bound limit prefix skip s (omega (arith, after_skip.run_is, after_skip.shown.len_is))) refl
 
--- If the last window is not full, it holds the rest of the run, whose value is within the bound.
+-- Let the bound have exactly `limit` digits, which are more than 16. If there is a digit, and the
+-- last window is not full, then this window holds the rest of the run, whose value is within the
+-- bound. So the answer is `Ok`.
 pub answers_short : (t : Table) (class : Class) (bound limit : ℕ) (skip : Bool) (s : List ℕ) (at before now : ℕ) (w : Window) (number len : ℕ) →
     limit < cap class → Skipped t skip s at before now w → w.len < 16 → 0 < at + w.len → 16 < limit → HasDigits limit bound →
     number ≡ w.number → len ≡ at + w.len → Ok (number, len) ≡ prefix_magnitude t class bound limit skip s
@@ -59,7 +62,7 @@ answers_short t class bound limit skip s at before now w number len less after_s
     ap₂ (λ n l. Ok (n, l)) number_is len_is ∙ sym (decides.1 ∙ rw (ne_eqb (at + w.len) 0 (omega arith)) refl)
 
 -- If a full window is followed by one that is not full, the two hold the rest of the run, whose
--- value is within a bound of 39 digits.
+-- value is within a bound of 39 digits. So the answer for 128 bits is `Ok`.
 pub answers_two : (t : Table) → IsBelowTen t → (bound : ℕ) (skip : Bool) (s : List ℕ) (at before now : ℕ) (first second : Window) (number len : ℕ) →
     Skipped t skip s at before now first → 16 ≤ first.len → Shows t 16 (drop 16 (drop at s)) second → second.len < 16 → HasDigits 39 bound →
     number ≡ first.number * 10 ^ second.len + second.number → len ≡ at + (16 + second.len) →
@@ -99,8 +102,8 @@ answers_128 t ten bound skip s at before now first_window middle back after_skip
 -- ---- From prefix to whole slice
 -- The answer to a whole slice of a wide type follows from the answer to its prefix.
 
--- An error of the prefix is an error of the whole slice. If the number ends before the end of the
--- slice, the slice is invalid.
+-- An error of the prefix is also the error of the whole slice. If the number ends before the end of
+-- the slice, the answer is the error that `invalid` makes. Otherwise the answer is the number.
 abbrev whole_from_prefix : (ℕ → ℕ → List ℕ → Refusal) → List ℕ → Result (ℕ × ℕ) Refusal → Result ℕ Refusal
 whole_from_prefix invalid s (Err reason) = Err reason
 whole_from_prefix invalid s (Ok found) = if found.1 == length s then Ok found.0 else Err (invalid found.0 found.1 s)
@@ -135,14 +138,15 @@ module _ (t : Table) (class : Class) (bound limit : ℕ) (skip : Bool) (s : List
   pub whole_err : (reason : Refusal) → Err reason ≡ prefix_magnitude t class bound limit skip s → Err reason ≡ whole_magnitude t class bound limit skip s
   whole_err reason of_prefix = ap (whole_from_prefix (invalid class) s) of_prefix ∙ sym (whole_is t class bound limit skip s wide)
 
-  -- If the number reaches to the end of the slice, the whole slice is answered with it.
+  -- If the number ends at the end of the slice, it is the answer to the whole slice.
   pub whole_ok : (number len : ℕ) → Ok (number, len) ≡ prefix_magnitude t class bound limit skip s → len ≡ length s
       → Ok number ≡ whole_magnitude t class bound limit skip s
   whole_ok number len of_prefix all =
       ap (λ b. if b then Ok number else Err (invalid class number len s)) (sym (eq-eqb len (length s) all))
       ∙ ap (whole_from_prefix (invalid class) s) of_prefix ∙ sym (whole_is t class bound limit skip s wide)
 
-  -- If the number ends before the end of the slice, the whole slice is invalid.
+  -- If the number ends before the end of the slice, the answer to the whole slice is the error
+  -- `invalid`.
   pub whole_invalid : (number len : ℕ) → Ok (number, len) ≡ prefix_magnitude t class bound limit skip s → len ≢ length s
       → Err (invalid class number len s) ≡ whole_magnitude t class bound limit skip s
   whole_invalid number len of_prefix rest =
@@ -150,8 +154,8 @@ module _ (t : Table) (class : Class) (bound limit : ℕ) (skip : Bool) (s : List
       ∙ ap (whole_from_prefix (invalid class) s) of_prefix ∙ sym (whole_is t class bound limit skip s wide)
 
 -- ---- Narrow types
--- The last window after the skipped zeros decides the answer to a prefix of a type of up to 32
--- bits.
+-- For types of up to 32 bits, the last window after the skipped zeros decides the answer to a
+-- prefix. The answer to a whole slice follows from the answer to its prefix with zeros skipped.
 
 -- The slice of an overflow leaves out exactly the zeros before the last window.
 pub dropped_is : (t : Table) (skip : Bool) (limit : ℕ) (s : List ℕ) (at before now : ℕ) (w : Window) →
@@ -179,7 +183,7 @@ number_most : (t : Table) (skip : Bool) (s : List ℕ) (at before now : ℕ) (w 
 number_most t skip s at before now w after_skip =
     omega (arith, after_skip.value_is, after_skip.shown.number_is, value-take-le t (drop at s) w.len (run_len t (drop at s)) (omega (arith, after_skip.shown.len_is)))
 
--- The number of a full window that begins with no zero has 16 digits.
+-- If a full window does not begin with a zero, its number is at least 10^15.
 least : (t : Table) (s : List ℕ) (w : Window) → Shows t 16 s w → 16 ≤ w.len → w.zeroes ≡ 0 → 10 ^ 15 ≤ w.number
 least t s w seen full none =
     let len : w.len ≡ 16 = omega (arith, seen.len_is) in
@@ -192,7 +196,8 @@ not_too_long : (t : Table) (skip : Bool) (limit : ℕ) (s : List ℕ) → (skip 
 not_too_long t true limit s few = refl
 not_too_long t false limit s few = le-ltb 16 (significant_digits t false s) (omega (arith, few refl))
 
--- If the number of the last window fits in 32 bits, the window holds the rest of the run.
+-- If the number of the last window fits in 32 bits, and there are at most 16 digits unless zeros
+-- are skipped, then the window holds the rest of the run.
 ends : (t : Table) (skip : Bool) (s : List ℕ) (at before now : ℕ) (w : Window) →
     Skipped t skip s at before now w → (skip ≡ false → run_len t s ≤ 16) → w.number ≤ 4294967295 → run_len t (drop at s) ≡ w.len
 ends t false s at before now w after_skip few small = omega (arith, few refl, after_skip.off refl, after_skip.run_is, after_skip.shown.len_is)
@@ -203,7 +208,8 @@ ends t true s at before now w after_skip few small =
           absurd (omega (arith, least t (drop at s) w after_skip.shown h (after_skip.last refl)))
     ]
 
--- If the number of the last window is larger than the bound, the answer is `Overflow`.
+-- If there are at most 16 digits unless zeros are skipped, and the number of the last window is
+-- larger than the bound, the answer is `Overflow`.
 narrow_overflow : (t : Table) (bound limit : ℕ) (skip : Bool) (s : List ℕ) (at before now : ℕ) (w : Window) →
     Skipped t skip s at before now w → (skip ≡ false → run_len t s ≤ 16) → 0 < at + w.len → bound < w.number →
     Err (overflow (drop at s)) ≡ prefix_magnitude t narrow bound limit skip s
@@ -213,13 +219,15 @@ narrow_overflow t bound limit skip s at before now w after_skip few some over =
     rw (refused_overflow t narrow bound limit prefix skip s digits (not_too_long t skip limit s few) above)
     (rw (dropped_is t skip limit s at before now w after_skip) refl)
 
--- If the first window is full and begins with no zero, the answer is `Overflow`.
+-- If zeros are skipped, and the first window is full and does not begin with a zero, the answer is
+-- `Overflow`. The bound is at most `u32::MAX`, so it is below any number of 16 digits.
 pub narrow_full : (t : Table) (bound limit : ℕ) (s : List ℕ) (before now : ℕ) (w : Window) →
     Skipped t true s 0 before now w → bound ≤ 4294967295 → 16 ≤ w.len → Err (overflow s) ≡ prefix_magnitude t narrow bound limit true s
 narrow_full t bound limit s before now w after_skip high full =
     narrow_overflow t bound limit true s 0 before now w after_skip (λ no. absurd (cc no)) (omega arith) (omega (arith, least t s w after_skip.shown full (after_skip.last refl)))
 
--- If the number of the last window is within the bound, the answer is `Ok`.
+-- If there is a digit, and at most 16 digits unless zeros are skipped, and the number of the last
+-- window is within the bound, the answer is `Ok`.
 narrow_ok : (t : Table) (bound limit : ℕ) (skip : Bool) (s : List ℕ) (at before now : ℕ) (w : Window) →
     Skipped t skip s at before now w → bound ≤ 4294967295 → (skip ≡ false → run_len t s ≤ 16) → 0 < at + w.len → w.number ≤ bound →
     Ok (w.number, at + w.len) ≡ prefix_magnitude t narrow bound limit skip s
@@ -243,7 +251,8 @@ narrow_after_skip t bound limit skip s at before now w after_skip high few some 
       | inr fits ↦ rw (le-ltb bound w.number fits) (narrow_ok t bound limit skip s at before now w after_skip high few some fits)
     ]
 
--- If zeros are not skipped, more than 16 digits are too many, and the error reports 17.
+-- If zeros are not skipped and there are more than 16 digits, the answer is the error `Size`, which
+-- reports 17 digits.
 pub narrow_size : (t : Table) (bound limit : ℕ) (skip : Bool) (s : List ℕ) → true ≡ (not skip && nat_lt 16 (run_len t s)) →
     Err (size 17 s) ≡ prefix_magnitude t narrow bound limit skip s
 narrow_size t bound limit true s long = absurd (cc long)
@@ -262,9 +271,10 @@ digit_after_16 t s full =
     let run_is : run_len t s ≡ 16 + run_len t (drop 16 s) = prefix_len-drop (is_digit t) 16 s (omega arith) in
     rw (take_rest s 16) (grind (arith, nat_tests))
 
--- How the answer to a narrow whole slice follows from the answer to its prefix with zeros skipped:
--- the slice of an overflow is the whole slice, and if the number ends before the end of the slice,
--- the slice is invalid.
+-- How the answer to a narrow whole slice follows from the answer to its prefix with zeros skipped.
+-- The error `Empty` stays the same, and any other error becomes `Overflow` with the whole slice. If
+-- the number ends before the end of the slice, the answer is `Invalid64`; otherwise it is the
+-- number.
 abbrev pub whole_of_prefix_answer : List ℕ → Result (ℕ × ℕ) Refusal → Result ℕ Refusal
 whole_of_prefix_answer s (Ok found) = if found.1 == length s then Ok found.0 else Err (invalid64 found.0 found.1 s)
 whole_of_prefix_answer s (Err reason) = Err (if rank reason == 0 then empty else overflow s)
@@ -288,8 +298,8 @@ narrow_prefix_is : (t : Table) (bound limit : ℕ) (s : List ℕ)
 unfolding refusal
 narrow_prefix_is t bound limit s = refl
 
--- The answer to a narrow whole slice is the one derived from its prefix, whether zeros are skipped
--- or not.
+-- The answer to a narrow whole slice, whether zeros are skipped or not, is the one that
+-- `whole_of_prefix_answer` derives from the answer to its prefix with zeros skipped.
 pub narrow_whole_of : (t : Table) (bound limit : ℕ) (s : List ℕ) (skip : Bool) (of_prefix : Result (ℕ × ℕ) Refusal)
     → of_prefix ≡ prefix_magnitude t narrow bound limit true s
     → whole_of_prefix_answer s of_prefix ≡ whole_magnitude t narrow bound limit skip s
@@ -299,20 +309,22 @@ narrow_whole_of t bound limit s skip of_prefix e =
     ∙ sym (narrow_whole_is t bound limit skip s (run_len t s) (value t (run t s)) refl refl)
 
 -- ---- Fewer than 16 digits
--- A first window that is not full decides the answer. It is the same for each class, extent and
--- flag, except for the variant of `invalid`.
+-- A first window that is not full decides the answer. `short_run` says that the same tests decide
+-- the refusal for each class and flag. Only the variant of `invalid` depends on the class, and only
+-- a whole slice is refused for a byte after the digits.
 
--- The class is narrow, or its limit is at least 16 digits and its bound at least 10^15.
+-- The class is narrow, or the limit is at least 16 digits and the bound is at least 10^15.
 abbrev pub HasRoom : Class → (bound limit : ℕ) → Type 0
 HasRoom class bound limit = (class ≡ narrow) ⊎ ((16 ≤ limit) × (10 ^ 15 ≤ bound))
 
--- This holds for a wide class if its bound has exactly `limit` digits and `limit` is at least 17.
+-- `HasRoom` holds if the bound has exactly `limit` digits and `limit` is at least 17, as for a wide
+-- class.
 pub wide_room : (class : Class) (bound limit : ℕ) → 17 ≤ limit → HasDigits limit bound → HasRoom class bound limit
 wide_room class bound limit long digits =
     let least : 10 ^ 15 ≤ 10 ^ (limit - 1) = pow-le-pow_right {n = 10} (lit< tt) {i = 15} {j = limit - 1} (omega arith) in
     inr (omega arith, omega (arith, digits.0))
 
--- Fewer than 16 significant digits are never too many.
+-- If `HasRoom` holds, fewer than 16 significant digits are not too many.
 short_enough : (class : Class) (extent : Extent) (skip : Bool) (bound limit significant : ℕ) → HasRoom class bound limit → significant < 16
     → is_above (limit_at class extent skip limit) significant ≡ false
 short_enough narrow whole skip bound limit significant room few = refl
@@ -336,14 +348,15 @@ whole_slice wide64 extent skip bound limit digits skipped number s next room few
 whole_slice wide128 extent skip bound limit digits skipped number s next room few within below =
     elim room [ inl e ↦ absurd (cc e) | inr h ↦ rw (le-ltb bound number (omega (arith, h.1))) refl ]
 
--- At most as many zeros are skipped as there are digits.
+-- The number of skipped zeros is at most the number of digits.
 skipped_most : (t : Table) (skip : Bool) (s : List ℕ) → skipped_zeros t skip s ≤ run_len t s
 skipped_most t true s = zeros-le t s
 skipped_most t false s = omega arith
 
--- The answer to fewer than 16 digits: `Empty` if there is none, `Overflow` if the value is larger
--- than the bound, and `invalid` if the digits of a whole slice are followed by another byte, tested
--- in this order.
+-- With fewer than 16 digits, the refusal is the first of these errors that applies: `Empty` if
+-- there is no digit, `Overflow` with all of `s` if the value is larger than the bound, and
+-- `invalid` if the parse is of a whole slice and another byte follows the digits. If none applies,
+-- there is no refusal.
 pub short_run : (t : Table) (class : Class) (bound limit : ℕ) (extent : Extent) (skip : Bool) (s : List ℕ) → HasRoom class bound limit
     → run_len t s < 16 → value t (run t s) < 10 ^ 15
     → refusal t class bound limit extent skip s
@@ -360,8 +373,8 @@ short_run t class bound limit extent skip s room few below =
     ∙ ap (λ (x : Option Refusal). cond (eqb digits 0) (Some empty) x)
     (whole_slice class extent skip bound limit digits (skipped_zeros t skip s) number s some_left room few within below)
 
--- A result that two tests choose, one of two errors or a value, is `unless_refused` of the refusal
--- that the same tests choose, or of `None`.
+-- Two tests can choose between two errors and a value, or between two refusals and `None`. If
+-- `unless_refused` is then applied to the refusal or to `None`, the result is the same.
 picked : {A : Type 0} (a b : Bool) (p q : Refusal) (v : A) → cond a (Err p) (cond b (Err q) (Ok v)) ≡ unless_refused (cond a (Some p) (cond b (Some q) None)) v
 picked true b p q v = refl
 picked false true p q v = refl
@@ -369,11 +382,11 @@ picked false false p q v = refl
 
 module _ (t : Table) (ten : IsBelowTen t) (class : Class) (bound limit : ℕ) (skip : Bool) (s : List ℕ) (w : Window)
     (is : w ≡ window_of t 16 s) (short : w.len < 16) (room : HasRoom class bound limit) where
-  -- A window that is not full holds the whole run.
+  -- The window is a reading of the first 16 bytes of the slice (`Shows`).
   reported : Shows t 16 s w
   reported = shows t ten 16 s w is
 
-  -- Its number has at most 15 digits.
+  -- The number of a window that is not full has at most 15 digits.
   pub short_number : w.number < 10 ^ 15
   short_number =
       let most : 10 ^ w.len ≤ 10 ^ 15 = pow-le-pow_right {n = 10} (lit< tt) {i = w.len} {j = 15} (omega arith) in
@@ -397,12 +410,13 @@ module _ (t : Table) (ten : IsBelowTen t) (class : Class) (bound limit : ℕ) (s
   pub short_some : 0 < w.len → cond (ltb bound w.number) (Err (overflow s)) (Ok (w.number, w.len)) ≡ prefix_magnitude t class bound limit skip s
   short_some some = sym (ap (λ b. cond b (Err empty) (cond (ltb bound w.number) (Err (overflow s)) (Ok (w.number, w.len)))) (ne_eqb w.len 0 (omega arith))) ∙ short_prefix
 
-  -- If the number of that window is within the bound, the answer is `Ok`.
+  -- If the window has a digit, and its number is within the bound, the answer is `Ok`.
   pub short_ok : 0 < w.len → w.number ≤ bound → Ok (w.number, w.len) ≡ prefix_magnitude t class bound limit skip s
   short_ok some within = sym (ap (λ b. cond b (Err (overflow s)) (Ok (w.number, w.len))) (le-ltb bound w.number within)) ∙ short_some some
 
--- For a wide class the answer is always `Ok` if there is a digit, because the bound is larger than
--- any such number.
+-- Let the bound have exactly `limit` digits, at least 17, as for a wide class. If the window is not
+-- full and has a digit, the answer is `Ok`, because the number of the window is then within the
+-- bound.
 pub short_wide : (t : Table) → IsBelowTen t → (class : Class) (bound limit : ℕ) (skip : Bool) (s : List ℕ) (w : Window) →
     w ≡ window_of t 16 s → w.len < 16 → 17 ≤ limit → HasDigits limit bound → 0 < w.len → Ok (w.number, w.len) ≡ prefix_magnitude t class bound limit skip s
 short_wide t ten class bound limit skip s w is short long digits some =
@@ -410,7 +424,8 @@ short_wide t ten class bound limit skip s w is short long digits some =
     let least : 10 ^ 15 ≤ 10 ^ (limit - 1) = pow-le-pow_right {n = 10} (lit< tt) {i = 15} {j = limit - 1} (omega arith) in
     short_ok t ten class bound limit skip s w is short room some (omega (arith, short_number t ten class bound limit skip s w is short room, digits.0))
 
--- For a wide class the answer is `Empty` if there is no digit.
+-- If the bound has exactly `limit` digits, at least 17, and the window has no digit, the answer is
+-- `Empty`.
 pub short_empty : (t : Table) → IsBelowTen t → (class : Class) (bound limit : ℕ) (skip : Bool) (s : List ℕ) (w : Window) →
     w ≡ window_of t 16 s → 17 ≤ limit → HasDigits limit bound → w.len ≡ 0 → Err empty ≡ prefix_magnitude t class bound limit skip s
 short_empty t ten class bound limit skip s w is long digits none =

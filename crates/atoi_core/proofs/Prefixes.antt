@@ -1,6 +1,6 @@
 -- Prefixes of slices that write a number: where a prefix parse stops, how it is related to a whole
--- parse, and what the results for a type say about their slices. Most of the laws of this crate are
--- proved here.
+-- parse, and what the results for a type say about their slices. About half of the laws of this
+-- crate are proved here.
 use Rattle.std.proofs.Common.{◌≡◌, ℕ, ◌≤◌, Bool, List, ◌++◌, length, take, get_or, Ok, ℤ, refl, sym, ap, ◌∙◌, subst, arith, inl, inr, get_or-drop, take-add, add_comm, ◌+◌, ◌<◌, true, IsFalse, [], ◌∷◌, drop, IsOk, Result, Err, eq-eqb, length-drop, append_assoc, append-nil, length-append, IfOk, OnErr}
 use Rattle.std.proofs.lemmas.Bool.{cases_lt, cases_Bool}
 use Rattle.std.proofs.lemmas.List.Sums.{prefix_len-le-length, prefix_len_stops}
@@ -128,7 +128,8 @@ pub prefix_of_cut : (k : IntType) → PrefixOfCut k
 prefix_of_cut k = record { cut = found_in_cut k }
 
 -- ---- Slices and prefixes that write a number
--- They are exactly those that a parse accepts.
+-- A whole parse that skips zeros accepts exactly the slices that write a number. A prefix parse
+-- that skips zeros finds exactly the prefixes that write a number and are followed by no digit.
 
 -- If a rest does not begin with a digit, its run is empty.
 stops : (rest : List ℕ) → ¬ BeginsWithDigit rest → run_len decimal_table rest ≡ 0
@@ -136,7 +137,7 @@ stops [] ends = refl
 stops (byte ∷ bytes) ends =
     elim (cases_Bool (is_digit decimal_table byte)) [ inl e ↦ absurd (ends (digit_in_range byte e)) | inr e ↦ rw e refl ]
 
--- If the first byte of a rest is no digit, the rest does not begin with a digit.
+-- If a rest is empty, or its first byte is no digit, then `BeginsWithDigit` does not hold for it.
 no_digit : (rest : List ℕ) → (0 < length rest → IsFalse (is_digit decimal_table (get_or rest 0 0))) → ¬ BeginsWithDigit rest
 no_digit [] h = λ digit. digit
 no_digit (byte ∷ bytes) h = λ digit.
@@ -154,7 +155,8 @@ module _ (digits rest : List ℕ) (all : AllDigits 10 digits) (ends : ¬ BeginsW
   run_before : run decimal_table (digits ++ rest) ≡ digits
   run_before = ap (λ (n : ℕ). take n (digits ++ rest)) run_len_before ∙ take-append_seam digits rest
 
--- If digits write a number and no digit follows them, that number is found at the start of a body.
+-- If a body consists of digits that write a number and of a rest that does not begin with a digit,
+-- then a parse that skips zeros finds that number at the start of the body.
 prefix_found : (k : IntType) → IsSized k → (is_negative : Bool) (taken : ℕ) (digits rest : List ℕ) (number : ℤ)
     → DigitsWrite k is_negative digits number → ¬ BeginsWithDigit rest
     → IsFound k (record { minus = is_negative; taken = taken; body = digits ++ rest }) true number (length digits + taken)
@@ -174,7 +176,8 @@ prefix_found k sized is_negative taken digits rest number written ends =
       count_is = rw len refl;
     }
 
--- If a prefix consists of digits that write a number, that number is found.
+-- If a prefix consists of digits that write a number, and no digit follows it, then that number is
+-- found when zeros are skipped.
 found_digits : (k : IntType) → IsSized k → (is_negative : Bool) (s : List ℕ) (number : ℤ) (count : ℕ)
     → PrefixWrites (DigitsWrite k is_negative) s number count → IsFound k (record { minus = is_negative; taken = 0; body = s }) true number count
 found_digits k sized is_negative s number count h =
@@ -182,7 +185,8 @@ found_digits k sized is_negative s number count h =
     let len : length (take count s) + 0 ≡ count = omega (arith, length-take-le count s h.within) in
     rw (take-append-drop count s, len) at found
 
--- If a prefix consists of a sign and digits that write a number, that number is found.
+-- If a prefix consists of an optional sign and of digits that write a number, and no digit follows
+-- it, then that number is found when zeros are skipped.
 found_text : (k : IntType) → IsSized k → (takes_plus : Bool) (s : List ℕ) (number : ℤ) (count : ℕ)
     → PrefixWrites (TextWrites k takes_plus) s number count → IsFound k (sign_of k.signed takes_plus s) true number count
 found_text k sized takes_plus s number count h =
@@ -201,8 +205,8 @@ found_text k sized takes_plus s number count h =
     subst (λ (g : Sign). IsFound k g true number count) (sym sign_is)
     (rw len at (prefix_found k sized (is_minus text.sign) (length (sign_bytes text.sign)) text.digits rest number text.written h.ends))
 
--- The law `AcceptedPrefixes`: what a prefix parse finds is written there, and with zeros skipped,
--- what is written there is found.
+-- The law `AcceptedPrefixes`: if a prefix parse finds a number, the prefix writes that number, and
+-- no digit follows it. If zeros are skipped, the converse holds too.
 pub accepted_prefixes : (k : IntType) → IsSized k → AcceptedPrefixes k
 accepted_prefixes k sized = record { written = written; accepted = accepted }
   where
@@ -244,22 +248,22 @@ of_parts k form s prefix_bytes rest number parts written ends =
       ends = rw (front_rest s prefix_bytes rest parts) ends;
     }
 
--- If a call gives two answers, they have the same number and the same count.
+-- If the same answer is both `Ok (a, m)` and `Ok (b, n)`, then `a` is `b`, and `m` is `n`.
 same_answer : {E : Type 0} (a b : ℤ) (m n : ℕ) (answer : Result (ℤ × ℕ) E) → answer ≡ Ok (a, m) → answer ≡ Ok (b, n) → (a ≡ b) × (m ≡ n)
 same_answer a b m n answer h k =
     let both = sym h ∙ k in
     let pair : (a, m) ≡ (b, n) = cc in (ap (λ (p : ℤ × ℕ). p.0) pair, ap (λ (p : ℤ × ℕ). p.1) pair)
 
--- A slice has only one prefix that writes a number and is followed by no digit, because a prefix
--- parse that skips zeros answers each of them.
+-- A slice has at most one prefix that writes a number and is followed by no digit, because a prefix
+-- parse that skips zeros returns the number and the length of any such prefix.
 only : (k : IntType) → IsSized k → (form : SignForm) (s : List ℕ) (number other : ℤ) (count len : ℕ)
     → PrefixWrites (Writes k form) s number count → PrefixWrites (Writes k form) s other len → (number ≡ other) × (count ≡ len)
 only k sized form s number other count len h g =
     let found = (accepted_prefixes k sized).accepted in
     same_answer number other count len (prefix_call k form true s) (found form s number count h) (found form s other len g)
 
--- If a slice begins with bytes that write a number and are followed by no digit, the prefix that
--- was found ends where these bytes end.
+-- If a slice begins with bytes that write a number and are followed by no digit, then a prefix for
+-- which `PrefixWrites` holds consists of exactly these bytes, and writes the same number.
 cut : (k : IntType) → IsSized k → (form : SignForm) (s prefix_bytes rest : List ℕ) (number other : ℤ) (count : ℕ)
     → s ≡ prefix_bytes ++ rest → Writes k form prefix_bytes number → ¬ BeginsWithDigit rest → PrefixWrites (Writes k form) s other count
     → (number ≡ other) × ((take count s ≡ prefix_bytes) × (drop count s ≡ rest))
@@ -276,14 +280,15 @@ cut k sized form s prefix_bytes rest number other count parts written ends found
 pub prefixes_and_rests : (k : IntType) → IsSized k → PrefixesAndRests k
 prefixes_and_rests k sized = record { of_parts = of_parts k; only = only k sized; cut = cut k sized }
 
--- If a slice writes a number, it is its own prefix, so a whole parse that skips zeros accepts it.
+-- If a slice writes a number, it is a prefix of itself that writes this number. So a whole parse
+-- that skips zeros returns the number.
 whole_accepted : (k : IntType) → IsSized k → (form : SignForm) (s : List ℕ) (number : ℤ) → Writes k form s number → whole_call k form true s ≡ Ok number
 whole_accepted k sized form s number h =
     (prefix_is_whole k).whole form true s number
     ((accepted_prefixes k sized).accepted form s number (length s) (of_parts k form s s [] number (sym (append-nil s)) h (λ digit. digit)))
 
--- The law `AcceptedNumbers`: what a whole parse gives is written there, and with zeros skipped,
--- what is written there is given.
+-- The law `AcceptedNumbers`: a whole parse returns a number only if the slice writes that number.
+-- If zeros are skipped, the converse holds too.
 pub accepted_numbers : (k : IntType) → IsSized k → AcceptedNumbers k
 accepted_numbers k sized = record { written = whole_written k; accepted = whole_accepted k sized }
 
@@ -309,17 +314,19 @@ accepted_texts k sized = record {
 }
 
 -- ---- What the results of a type say about their slices
--- It follows from what the answers say.
+-- A result is a Rust `Result`, and it means an answer (`typed_answer`, `typed_prefix_answer`). So
+-- these lemmas follow from the laws about answers.
 
 module _ {T : Type 0} (number : T → ℤ) where
-  -- A property of each number that can be answered holds for the number of the result.
+  -- Let a result mean an answer. If a property holds for each number that this answer can be, then
+  -- it holds for the number of the result, if there is one.
   if_ok : (result : Result T AtoiSimdError) (answer : Result ℤ Refusal) (P : ℤ → Type 0) → typed_answer number result ≡ answer
       → ((any : ℤ) → answer ≡ Ok any → P any) → IfOk result (λ value. P (number value))
   if_ok (Ok value) answer P is h = h (number value) (sym is)
   if_ok (Err error) answer P is h = tt
 
-  -- If each number with a property would be answered, and the result is an error, no number has
-  -- that property.
+  -- Let a result mean an answer. If the answer is `Ok any` for each number `any` with a property,
+  -- and the result is an error, then no number has that property.
   on_err : (result : Result T AtoiSimdError) (answer : Result ℤ Refusal) (P : ℤ → Type 0) → typed_answer number result ≡ answer
       → ((any : ℤ) → P any → answer ≡ Ok any) → OnErr result ((any : ℤ) → ¬ P any)
   on_err (Ok value) answer P is h = tt

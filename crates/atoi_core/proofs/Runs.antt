@@ -1,6 +1,6 @@
 -- The run of a slice, which is its longest prefix of digits: how long it is, how it changes when
--- the slice is cut, and which value its digits spell. Nearly all other lemmas of this crate rest on
--- these.
+-- the slice is cut, and which value its digits spell. Most of the other files in this folder use
+-- these lemmas.
 use Rattle.std.proofs.Common.{◌≡◌, ℕ, zero, suc, ◌+◌, ◌≤◌, min, Bool, true, false, cond, List, [], ◌∷◌, take, drop, arith, ◌&&◌, ◌==◌, ◌*◌, ◌^◌, ◌<◌, ◌++◌, length, refl, ap, ◌∙◌, ◌-◌, replicate, All, IsTrue, subst, Option, lit<, lit≤, get_or, Some, None, is_some, unwrap_or, sym, Ok, Err, if◌then◌else◌, nat_lt, not}
 use Rattle.std.specs.List.{prefix_len}
 use Rattle.atoi_core.specs.Digit.{Table, is_digit, digit_value, IsBelowTen, is_zero, decimal_table}
@@ -19,7 +19,8 @@ use Rattle.atoi_core.specs.Magnitude.{narrow, refusal, unless_refused, whole_mag
 -- ---- Passing prefixes of a cut slice
 -- `prefix_len p s` is the length of the longest prefix of `s` whose elements all pass the test `p`.
 
--- If a slice is cut to its first n elements, the passing prefix is cut to n elements too.
+-- If a slice is cut to its first n elements, its passing prefix is cut to n elements too, if it was
+-- longer.
 pub prefix_len-take : (p : ℕ → Bool) (n : ℕ) (s : List ℕ) → prefix_len p (take n s) ≡ min n (prefix_len p s)
 prefix_len-take p zero s = omega arith
 prefix_len-take p (suc n) [] = omega arith
@@ -48,8 +49,8 @@ zeros-le t (b ∷ bs) =
 -- ---- Values of digits
 -- These lemmas say what the value is when digits are cut or begin with zeros.
 
--- To append `ys` to `xs`, the value of `xs` is multiplied by ten for each digit of `ys`, and the
--- value of `ys` is added.
+-- The value of `xs ++ ys` is the value of `xs`, multiplied by ten for each digit of `ys`, plus the
+-- value of `ys`.
 pub value-append : (t : Table) (xs ys : List ℕ) → value t (xs ++ ys) ≡ value t xs * 10 ^ length ys + value t ys
 value-append t [] ys = omega arith
 value-append t (x ∷ xs) ys =
@@ -66,7 +67,8 @@ value-below t below (x ∷ xs) =
     mul-le-mul_right (10 ^ length xs) (omega (arith, below x)) in
     rw pow-succ' (omega (arith, value-below t below xs))
 
--- The value of the first n + k bytes consists of that of the first n and that of the k after them.
+-- The value of the first n + k bytes is the value of the first n, multiplied by 10^k, plus the
+-- value of the k bytes after them.
 pub value-take-add : (t : Table) (n k : ℕ) (s : List ℕ) → n + k ≤ length s →
     value t (take (n + k) s) ≡ value t (take n s) * 10 ^ k + value t (take k (drop n s))
 value-take-add t n k s h =
@@ -116,8 +118,8 @@ value-least t n (b ∷ bs) =
       | false ↦ λ h z. absurd (omega arith)
     ]
 
--- ---- Runs, zeros and values of parts and sums of slices
--- These lemmas say what `take`, `++` and added leading zeros do to them.
+-- ---- Runs, zeros and values of slices that are cut or joined
+-- These lemmas say how `take`, `++` and zeros that are put before a slice change them.
 
 -- If n copies of a passing element are put before a list, its passing prefix becomes longer by n.
 pub prefix_len-replicate_append : {X : Type 0} (p : X → Bool) (x : X) → p x ≡ true → (n : ℕ) (xs : List X)
@@ -147,7 +149,7 @@ module _ (table : Table) where
   pub zeros-take : (n : ℕ) (s : List ℕ) → zeros table (take n s) ≡ min n (zeros table s)
   zeros-take n s = prefix_len-take (is_zero table) n s
 
-  -- The run of a run is the run itself.
+  -- The run of a run is as long as the run itself.
   pub run_len-run : (s : List ℕ) → run_len table (run table s) ≡ run_len table s
   run_len-run s = run_len-take (run_len table s) s (omega arith)
 
@@ -159,7 +161,8 @@ module _ (table : Table) where
   value_of_zero : (byte : ℕ) → is_zero table byte ≡ true → digit_value table byte ≡ 0
   value_of_zero byte h = grind (arith, eqb_tells)
 
-  -- If n digits of the run are significant, at least one, its value is at least 10^(n - 1).
+  -- If n digits of a run follow its leading zeros, and n is at least 1, then the value of the run
+  -- is at least 10^(n - 1).
   pub value-ge : (s : List ℕ) → zeros table s < run_len table s
       → 10 ^ (run_len table s - zeros table s - 1) ≤ value table (run table s)
   value-ge s h =
@@ -199,13 +202,15 @@ value-take-le t s i j le =
     rw (← take-append-drop i (take j s), take-take i j s le)
     (value-append-le t (take i s) (drop i (take j s)))
 
--- If i bytes of the run are read and the next byte is a digit, i + 1 bytes of the run are read.
+-- If the first i bytes of a slice belong to its run, and the next byte is a digit, then this byte
+-- belongs to the run too.
 pub run_more : (t : Table) (s : List ℕ) (i w : ℕ) → i < length s → t (get_or s i 0) ≡ Some w → i + run_len t (drop i s) ≡ run_len t s → i + 1 + run_len t (drop (i + 1) s) ≡ run_len t s
 run_more t s i w here digit so_far =
     let yes = prefix_len-drop_yes (is_digit t) s i 0 here (ap is_some digit) in
     omega (arith, yes, so_far)
 
--- If i bytes of the run are read and the next byte is no digit, the run has i digits.
+-- If the first i bytes of a slice belong to its run, and the next byte is no digit, then the run
+-- has i digits.
 pub run_ends : (t : Table) (s : List ℕ) (i : ℕ) → i < length s → t (get_or s i 0) ≡ None → i + run_len t (drop i s) ≡ run_len t s → run_len t s ≡ i
 run_ends t s i here none so_far =
     let no = prefix_len-drop_no (is_digit t) s i 0 here (ap is_some none) in
@@ -235,8 +240,8 @@ digit_value_of t small byte w digit =
 -- ---- Answers of narrow whole parses
 -- There is a lemma for each case that the loop over single bytes distinguishes.
 
--- The answer to a narrow whole slice depends on the length n of its run and on the run's value
--- only.
+-- The answer to a narrow whole slice follows from the slice, the bound, and the length n and the
+-- value of its run. Neither the limit nor the flag that skips zeros matters.
 pub narrow_whole_is : (t : Table) (bound limit : ℕ) (skip : Bool) (s : List ℕ) (n number : ℕ) → run_len t s ≡ n → value t (take n s) ≡ number
     → whole_magnitude t narrow bound limit skip s ≡ unless_refused (if n == 0 then Some empty
     else (if nat_lt bound number then Some (overflow s)
@@ -263,8 +268,8 @@ narrow_whole_over t bound limit skip s i w here digit so_far over =
     narrow_whole_is t bound limit skip s (run_len t s) (value t (take (run_len t s) s)) refl refl
     ∙ grind (arith, nat_tests)
 
--- If all bytes are digits and their value is within the bound, the answer is `Empty` for no byte,
--- and otherwise `Ok`.
+-- If all bytes are digits and their value is within the bound, the answer is `Ok`, or `Empty` if
+-- there are no bytes.
 pub narrow_whole_end : (t : Table) (bound limit : ℕ) (skip : Bool) (s : List ℕ) (i number : ℕ) → i ≤ length s → length s ≤ i
     → i + run_len t (drop i s) ≡ run_len t s → number ≡ value t (take i s) → number ≤ bound
     → whole_magnitude t narrow bound limit skip s ≡ (if length s == 0 then Err empty else Ok number)

@@ -1,7 +1,8 @@
--- When two answers have the same outcome: both are `Ok` with the same value, or both are errors of
--- the same variant. The lemmas prove two laws: bytes after the run (the digits that a body begins
--- with) do not change the outcome of a prefix parse (`RestChangesNothing`), and added leading zeros
--- do not change the outcome of a parse that skips zeros (`ZerosChangeNothing`).
+-- Two answers have the same outcome if both are `Ok` with the same value, or both are errors of the
+-- same variant. The lemmas prove two laws. Bytes after the run (the digits that a body begins with)
+-- do not change the outcome of a prefix parse (`RestChangesNothing`). If zeros are skipped and the
+-- body begins with a digit, added leading zeros do not change the outcome, except that the count of
+-- a prefix parse grows by their number (`ZerosChangeNothing`).
 use Rattle.std.proofs.Common.{◌≡◌, ℕ, ◌+◌, ◌-◌, ◌<◌, Bool, true, not, if◌then◌else◌, eqb, ltb, List, [], ◌++◌, length, take, replicate, Option, Some, None, Result, ℤ, option_map, refl, sym, ap, ◌∙◌, subst₂, arith, take_at, drop_at, length-append, ne_eqb}
 use Rattle.std.proofs.lemmas.List.{length-replicate}
 use Rattle.std.proofs.lemmas.Bool.Decides.{nat_tests}
@@ -17,8 +18,9 @@ use Rattle.atoi_core.specs.Laws.{SignForm, sign_in, with_zeros, zero_byte, HaveS
 use Rattle.atoi_core.proofs.Runs.{length-run, zeros-run, value-replicate, prefix_len-replicate_append}
 use Rattle.atoi_core.proofs.Calls.{refusal-rank, first_of, limit_at, significant_digits, sign_again, whole_call-is, prefix_call-is, counted_number, with_more-zero}
 
--- Two whole answers have the same outcome if their refusals have the same rank and their values are
--- equal.
+-- Two whole answers have the same outcome if their values are equal, and if both are refused for
+-- reasons of the same rank or neither is refused. The rank is the position of a reason among the
+-- five.
 same_outcome : (minus other_minus : Bool) (r q : Option Refusal) (x y : ℕ) → option_map rank r ≡ option_map rank q
     → with_sign minus x ≡ with_sign other_minus y
     → HaveSameOutcome (map_answer (with_sign minus) (unless_refused r x)) (map_answer (with_sign other_minus) (unless_refused q y))
@@ -27,8 +29,8 @@ same_outcome minus other_minus (Some reason) (Some other) x y h e = cc h
 same_outcome minus other_minus None (Some other) x y h e = absurd (cc h)
 same_outcome minus other_minus (Some reason) None x y h e = absurd (cc h)
 
--- Two prefix answers have the same outcome if, moreover, the count of the first is smaller by
--- `more`.
+-- The same holds of two prefix answers after `more` is added to the count of the first, if the two
+-- counts are then equal too.
 same_prefix_outcome : (more taken other_taken : ℕ) (minus other_minus : Bool) (r q : Option Refusal) (x y : ℕ × ℕ) → option_map rank r ≡ option_map rank q
     → with_sign minus x.0 ≡ with_sign other_minus y.0 → x.1 + taken + more ≡ y.1 + other_taken
     → HaveSameOutcome (with_more more (with_more taken (map_answer (counted_number minus) (unless_refused r x))))
@@ -38,7 +40,7 @@ same_prefix_outcome more taken other_taken minus other_minus (Some reason) (Some
 same_prefix_outcome more taken other_taken minus other_minus None (Some other) x y h e c = absurd (cc h)
 same_prefix_outcome more taken other_taken minus other_minus (Some reason) None x y h e c = absurd (cc h)
 
--- The refusal of the body after a sign, if there is one.
+-- The reason to refuse the body after the sign `g`, or `None` if there is no reason.
 abbrev reason_at : IntType → Bool → Extent → Sign → Option Refusal
 reason_at k skip extent g = refusal decimal_table (class_of k) (bound_of k g.minus) (limit_of k) extent skip g.body
 
@@ -67,11 +69,11 @@ same_reason k skip extent g h alike =
     ∙ (λ i. first_of (alike.is_empty i) (is_above (limit_at (class_of k) extent skip (limit_of k)) (alike.counts i)) (ltb (alike.bound i) (alike.number i)) (alike.followed i) 0 1 2 (rank (invalid (class_of k) 0 0 [])))
     ∙ sym (refusal-rank decimal_table (class_of k) (bound_of k h.minus) (limit_of k) extent skip h.body)
 
--- What a prefix call answers when it uses the sign `g`.
+-- What a prefix call returns when it uses the sign `g` and the body after that sign.
 abbrev prefix_at : IntType → Bool → Sign → Result (ℤ × ℕ) Refusal
 prefix_at k skip g = with_more g.taken (prefix_answer decimal_table k g.minus skip g.body)
 
--- What a whole call answers when it uses the sign `g`.
+-- What a whole call returns when it uses the sign `g` and the body after that sign.
 abbrev whole_at : IntType → Bool → Sign → Result ℤ Refusal
 whole_at k skip g = whole_answer decimal_table k g.minus skip g.body
 
@@ -101,7 +103,7 @@ same_run k skip g h minus taken runs =
     }))
     (λ i. with_sign (minus i) (number i)) (omega arith)
 
--- The law: bytes after the run change nothing.
+-- The law `RestChangesNothing`: bytes after the run do not change the outcome of a prefix parse.
 pub rest_changes_nothing : (k : IntType) → RestChangesNothing k
 rest_changes_nothing k form skip s t same =
     subst₂ (λ x y. HaveSameOutcome x y) (with_more-zero (prefix_at k skip (sign_in k form s)) ∙ sym (prefix_call-is k form skip s)) (sym (prefix_call-is k form skip t))
@@ -113,27 +115,27 @@ rest_changes_nothing k form skip s t same =
 abbrev padded : ℕ → List ℕ → List ℕ
 padded count body = replicate count zero_byte ++ body
 
--- Its run is longer by these zeros.
+-- The run of the padded body is longer by `count`.
 run_len-padded : (count : ℕ) (body : List ℕ) → run_len decimal_table (padded count body) ≡ count + run_len decimal_table body
 run_len-padded count body = prefix_len-replicate_append (is_digit decimal_table) zero_byte refl count body
 
--- It has as many more leading zeros.
+-- The padded body has `count` more leading zeros.
 zeros-padded : (count : ℕ) (body : List ℕ) → zeros decimal_table (padded count body) ≡ count + zeros decimal_table body
 zeros-padded count body = prefix_len-replicate_append (is_zero decimal_table) zero_byte refl count body
 
--- It is longer by these zeros.
+-- The padded body is longer by `count`.
 length-padded : (count : ℕ) (body : List ℕ) → length (padded count body) ≡ count + length body
 length-padded count body = simp (length-append, length-replicate)
 
--- A prefix of it that includes the added zeros is a prefix of the body with the zeros put before
--- it.
+-- A prefix of the padded body that includes all added zeros consists of these zeros and a prefix of
+-- the body.
 take-padded : (count n : ℕ) (body : List ℕ) → take (count + n) (padded count body) ≡ padded count (take n body)
 take-padded count n body =
     let len = length-replicate count zero_byte in
     take-add count n (padded count body)
     ∙ (λ i. take_at (replicate count zero_byte) body count len i ++ take n (drop_at (replicate count zero_byte) body count len i))
 
--- Its run has the same value.
+-- The run of the body and that of the padded body have the same value.
 value-padded : (count : ℕ) (body : List ℕ) → value decimal_table (run decimal_table body) ≡ value decimal_table (run decimal_table (padded count body))
 value-padded count body =
     let n = run_len decimal_table body in
@@ -145,7 +147,8 @@ value-padded count body =
 eqb-add : (more m n : ℕ) → eqb m n ≡ eqb (more + m) (more + n)
 eqb-add more m n = grind (arith, nat_tests)
 
--- Bytes follow the digits of the new body exactly if they follow those of the old one.
+-- The test whether another byte follows the digits gives the same result for the body and for the
+-- padded body.
 followed-padded : (extent : Extent) (count : ℕ) (body : List ℕ)
     → leaves_rest extent (run_len decimal_table body) (length body) ≡ leaves_rest extent (run_len decimal_table (padded count body)) (length (padded count body))
 followed-padded prefix count body = refl
@@ -168,7 +171,8 @@ padded_alike k extent count g some =
       followed = followed-padded extent count g.body;
     }
 
--- The same sign is consumed before the added zeros.
+-- If the body begins with a digit, a call uses the same sign after zeros are added, and its body is
+-- then the padded body.
 sign_of_padded : (k : IntType) (form : SignForm) (s : List ℕ) (count : ℕ) → 0 < run_len decimal_table (sign_in k form s).body
     → sign_in k form (with_zeros k form count s)
     ≡ record { minus = (sign_in k form s).minus; taken = (sign_in k form s).taken; body = padded count (sign_in k form s).body }
@@ -176,7 +180,8 @@ sign_of_padded k form s count some =
     let longer = run_len-padded count (sign_in k form s).body in
     sign_again k form s (padded count (sign_in k form s).body) (omega arith)
 
--- If zeros are skipped, adding zeros after the sign does not change the outcome of a whole parse.
+-- If zeros are skipped and the body begins with a digit, adding zeros after the sign does not
+-- change the outcome of a whole parse.
 whole_padded : (k : IntType) (g : Sign) (count : ℕ) → 0 < run_len decimal_table g.body
     → HaveSameOutcome (whole_at k true g) (whole_at k true (record g { body = padded count g.body }))
 whole_padded k g count some =
@@ -185,8 +190,8 @@ whole_padded k g count some =
     (same_reason k true whole g h (padded_alike k whole count g some))
     (ap (with_sign g.minus) (value-padded count g.body))
 
--- If zeros are skipped, adding zeros after the sign does not change the outcome of a prefix parse,
--- except that its count grows by them.
+-- If zeros are skipped and the body begins with a digit, adding zeros after the sign does not
+-- change the outcome of a prefix parse, except that its count grows by their number.
 prefix_padded : (k : IntType) (g : Sign) (count : ℕ) → 0 < run_len decimal_table g.body
     → HaveSameOutcome (with_more count (prefix_at k true g)) (prefix_at k true (record g { body = padded count g.body }))
 prefix_padded k g count some =
@@ -197,7 +202,9 @@ prefix_padded k g count some =
     (same_reason k true prefix g h (padded_alike k prefix count g some))
     (ap (with_sign g.minus) (value-padded count g.body)) (omega arith)
 
--- The law: added leading zeros change nothing.
+-- The law `ZerosChangeNothing`: if zeros are skipped and the body begins with a digit, added
+-- leading zeros do not change the outcome, except that the count of a prefix parse grows by their
+-- number.
 pub zeros_change_nothing : (k : IntType) → ZerosChangeNothing k
 zeros_change_nothing k = record {
   whole = λ form s count some.

@@ -1,5 +1,6 @@
 -- Texts of numbers: decimal digits as std defines them, the texts that a whole parse accepts, and
--- the text that `decimal` writes.
+-- the text that `decimal` writes. The lemmas about `decimal` require numbers below 10^64. All
+-- magnitudes in the range of a type are smaller.
 use Rattle.std.proofs.Common.{◌≡◌, ℕ, suc, ◌+◌, ◌-◌, ◌^◌, ◌<◌, ◌≤◌, Bool, true, false, cond, eqb, List, [], ◌∷◌, length, decimal, Ok, ℤ, pos, negsuc, neg_ℤ, ◌≤ℤ◌, refl, sym, ap, ◌∙◌, arith, inl, inr, add-one, leb→le, le-leb, lt_of_le_of_lt, Some, All, IsTrue, ◌++◌, eqb-true, ◌≢◌, zero, ◌*◌, ◌/◌, ◌%◌, get_or, append_assoc, append-nil, length-append}
 use Rattle.std.specs.Fmt.{signed_decimal}
 use Rattle.std.specs.Str.Parse.{AllDigits, IsNumeral, digits_value, digits_value_after}
@@ -24,7 +25,8 @@ use Rattle.std.proofs.lemmas.Str.{digit_value_digit}
 
 -- ---- The decimal text of a number is parsed to that number
 
--- What a whole parse accepts without skipping zeros, it accepts with skipping, with the same value.
+-- If a whole parse accepts a body without skipping zeros, it also accepts that body when it skips
+-- zeros, and returns the same value.
 whole_skipping : (k : IntType) (is_negative : Bool) (body : List ℕ) (v : ℤ)
     → whole_answer decimal_table k is_negative false body ≡ Ok v → whole_answer decimal_table k is_negative true body ≡ Ok v
 whole_skipping k is_negative body v h =
@@ -38,17 +40,17 @@ whole_skipping k is_negative body v h =
     (is_whole k is_negative true body old.some short old.in_range (whole_is_run n (length body) old.ends))
     ∙ ap Ok (sym found.1)
 
--- The law `SkippingAgrees`: if a parse succeeds without skipping zeros, it gives the same with
--- skipping.
+-- The law `SkippingAgrees`: if a whole parse succeeds without skipping zeros, it returns the same
+-- value when it skips zeros.
 pub skipping_agrees : (k : IntType) → SkippingAgrees k
 skipping_agrees k form s v h =
     whole_call-is k form true s ∙ whole_skipping k (sign_in k form s).minus (sign_in k form s).body v (sym (whole_call-is k form false s) ∙ h)
 
--- A byte from 48 to 57 is a decimal digit.
+-- A byte from 48 to 57 is a decimal digit, and the table gives `byte - 48` for it.
 pub digit_is : (byte : ℕ) → 48 ≤ byte → byte ≤ 57 → decimal_table byte ≡ Some (byte - 48)
 digit_is byte lo hi = rw (le-leb 48 byte lo, le-leb byte 57 hi) refl
 
--- Its digit value is its distance from the byte `0`.
+-- So the digit value of such a byte is `byte - 48`.
 digit_value_is : (byte : ℕ) → 48 ≤ byte → byte ≤ 57 → digit_value decimal_table byte ≡ byte - 48
 digit_value_is byte lo hi = rw (digit_is byte lo hi) refl
 
@@ -63,7 +65,8 @@ run_of_digits (d ∷ ds) h =
     let r = digit_from_value d h.0 in
     rw (digit_is d r.0 r.1) (omega (arith, run_of_digits ds h.1))
 
--- The bytes are a decimal text of n: they are all digits, at least one, and n is their value.
+-- The bytes are a decimal text of n: there is at least one, all of them are digits, and their value
+-- is n.
 record IsTextOf (n : ℕ) (ds : List ℕ) : Type 0 where
   all : run_len decimal_table ds ≡ length ds
   some : 0 < length ds
@@ -99,7 +102,8 @@ decimal_short k sized is_negative n le =
         cases true false = omega arith
         cases false b = omega arith
 
--- The decimal text of a magnitude in range is parsed to its number if zeros are not skipped.
+-- If zeros are not skipped, the decimal text of a magnitude in range is parsed to that magnitude
+-- with the given sign.
 counting_text : (k : IntType) → IsSized k → (is_negative : Bool) (n : ℕ) → n ≤ bound_of k is_negative
     → whole_answer decimal_table k is_negative false (decimal n) ≡ Ok (with_sign is_negative n)
 counting_text k sized is_negative n le =
@@ -115,8 +119,8 @@ counting_text k sized is_negative n le =
     ∙ ap (λ digits. Ok (with_sign is_negative (value decimal_table digits))) is_run
     ∙ ap (λ m. Ok (with_sign is_negative m)) text.is
 
--- The decimal text of a magnitude in range is parsed to its number, whether zeros are skipped or
--- not.
+-- The decimal text of a magnitude in range is parsed to that magnitude with the given sign, whether
+-- zeros are skipped or not.
 magnitude_text : (k : IntType) → IsSized k → (is_negative skip : Bool) (n : ℕ) → n ≤ bound_of k is_negative
     → whole_answer decimal_table k is_negative skip (decimal n) ≡ Ok (with_sign is_negative n)
 magnitude_text k sized is_negative true n le = whole_skipping k is_negative (decimal n) (with_sign is_negative n) (counting_text k sized is_negative n le)
@@ -128,8 +132,8 @@ sign_of_minus : (signed takes_plus : Bool) (digits : List ℕ) → signed ≡ tr
 sign_of_minus signed true digits h = rw h refl
 sign_of_minus signed false digits h = rw h refl
 
--- If a negative number is not below the smallest value of the type, the type is signed and the
--- magnitude in range.
+-- If a negative number is not below the smallest value of the type, then the type is signed, and
+-- the magnitude of the number is in range.
 pub negative_in_range : (signed : Bool) (greatest n : ℕ) → cond signed (neg_ℤ (pos (greatest + 1))) (pos 0) ≤ℤ negsuc n
     → (signed ≡ true) × (n ≤ greatest)
 negative_in_range false greatest n h = absurd h.le
@@ -151,13 +155,14 @@ text_of_value k sized = record { parsed = parsed }
 
 -- ---- Decimal digits and their values are those of std
 
--- If all bytes are decimal digits for this crate, they are for std.
+-- If all bytes are decimal digits for this crate, they are decimal digits for std too.
 pub to_std : (s : List ℕ) → All (λ byte. IsTrue (is_digit decimal_table byte)) s → AllDigits 10 s
 to_std [] h = tt
 to_std (byte ∷ bytes) h =
     tells_digits.more byte bytes (digit_in_range byte (h 0 0 (omega arith))) (to_std bytes (λ i d lt. h (suc i) d (omega arith)))
 
--- The law `DecimalDigits`: digits, values and their bounds are those of std.
+-- The law `DecimalDigits`: digits and their values are those of std, and the value of n bytes is
+-- below 10^n.
 pub decimal_digits : DecimalDigits
 decimal_digits = record {
   byte = λ byte. (digit_in_range byte, λ r. rw (digit_is byte r.0 r.1) refl);
@@ -169,7 +174,9 @@ decimal_digits = record {
 
 -- ---- What a whole parse accepts
 
--- A slice consists of the sign that is consumed from it and its body.
+-- The slice `s` consists of a sign, or none, and of the body of `g`. The sign is a minus exactly if
+-- `g.minus` is true. It is a minus only if the type is signed, and a plus only if `takes_plus` is
+-- true.
 record IsSplit (signed takes_plus : Bool) (s : List ℕ) (g : Sign) : Type 0 where
   mark : SignMark
   parts : s ≡ sign_bytes mark ++ g.body
@@ -177,7 +184,7 @@ record IsSplit (signed takes_plus : Bool) (s : List ℕ) (g : Sign) : Type 0 whe
   allowed : is_minus mark ≡ true → signed ≡ true
   plus_taken : is_plus mark ≡ true → takes_plus ≡ true
 
--- Each slice consists of these two parts.
+-- Each slice consists of these two parts, if `g` is what `sign_of` gives for it.
 split : (signed takes_plus : Bool) (s : List ℕ) → IsSplit signed takes_plus s (sign_of signed takes_plus s)
 split signed takes_plus [] = record { mark = no_sign; parts = refl; same = refl; allowed = λ e. absurd (cc e); plus_taken = λ e. absurd (cc e) }
 split signed takes_plus (byte ∷ bytes) =
@@ -188,7 +195,8 @@ split signed takes_plus (byte ∷ bytes) =
     record { mark = minus; parts = ap (λ b. b ∷ bytes) (eqb-true byte minus_sign both.1); same = refl; allowed = λ q. both.0; plus_taken = λ q. absurd (cc q) })
     (record { mark = no_sign; parts = refl; same = refl; allowed = λ q. absurd (cc q); plus_taken = λ q. absurd (cc q) })
 
--- The sign of a text is the one that is consumed from it.
+-- If an allowed sign is followed by a digit, `sign_of` consumes exactly that sign. From a slice
+-- that begins with a digit it consumes nothing.
 pub sign_of_text : (signed takes_plus : Bool) (mark : SignMark) (digits : List ℕ) → (is_minus mark ≡ true → signed ≡ true)
     → (is_plus mark ≡ true → takes_plus ≡ true) → 0 < run_len decimal_table digits
     → sign_of signed takes_plus (sign_bytes mark ++ digits) ≡ record { minus = is_minus mark; taken = length (sign_bytes mark); body = digits }
@@ -233,12 +241,13 @@ whole_written k (given is_negative) skip s number h = digits_written k is_negati
 -- ---- Texts with no needless zero
 -- The decimal text of a number is the only text of digits with no needless zero that writes it.
 
--- Bytes that write a number begin with a digit.
+-- Bytes that write a number without a sign begin with a digit.
 begins : (k : IntType) (is_negative : Bool) (digits : List ℕ) (number : ℤ) → DigitsWrite k is_negative digits number → BeginsWithDigit digits
 begins k is_negative [] number h = absurd (omega (arith, h.numeral.0))
 begins k is_negative (digit ∷ digits) number h = digit_from_value digit h.numeral.1.0
 
--- `decimal n` writes n.
+-- If n is a magnitude in range, `decimal n` writes the number that has this magnitude and the given
+-- sign.
 decimal_writes : (k : IntType) → IsSized k → (is_negative : Bool) (n : ℕ) → n ≤ bound_of k is_negative → DigitsWrite k is_negative (decimal n) (with_sign is_negative n)
 decimal_writes k sized is_negative n le =
     let numeral = decimal_is_IsNumeral_wide n (lt_of_le_of_lt le (bound_below-64 k sized is_negative)) in
@@ -266,8 +275,8 @@ value_after-least : (n : ℕ) (digits : List ℕ) → n ≤ digits_value_after 1
 value_after-least n [] = omega arith
 value_after-least n (digit ∷ digits) = omega (arith, value_after-least (n * 10 + std_digit_value digit) digits)
 
--- If digits are appended to a number above 0, the text of the new number is the old text with these
--- digits after it.
+-- If digits are appended to a number above 0, the decimal text of the new number is that of the old
+-- one, followed by these digits.
 decimal_after : (n : ℕ) (digits : List ℕ) → 0 < n → AllDigits 10 digits → digits_value_after 10 n digits < 10 ^ 64
     → decimal (digits_value_after 10 n digits) ≡ decimal n ++ digits
 decimal_after n [] some all small = sym (append-nil (decimal n))
@@ -301,14 +310,14 @@ with_sign-injective true (suc m) zero h = absurd (cc)
 with_sign-injective true (suc m) (suc n) h = cc
 with_sign-injective false m n h = cc
 
--- If digits with no needless zero write n, they are `decimal n`.
+-- If digits with no needless zero write a number of magnitude n, they are `decimal n`.
 decimal_only : (k : IntType) → IsSized k → (is_negative : Bool) (digits : List ℕ) (n : ℕ)
     → DigitsWrite k is_negative digits (with_sign is_negative n) → IsFalse (has_needless_zero digits) → digits ≡ decimal n
 decimal_only k sized is_negative digits n h shortest =
     decimal_of_digits digits h.numeral shortest (lt_of_le_of_lt h.in_range (bound_below-64 k sized is_negative))
     ∙ ap decimal (sym (with_sign-injective is_negative n (digits_value 10 digits) h.value_is))
 
--- `signed_decimal x` writes x.
+-- If x is in the range of the type, `signed_decimal x` writes x.
 signed_writes : (k : IntType) → IsSized k → (takes_plus : Bool) (x : ℤ) → least_of k ≤ℤ x → x ≤ℤ pos k.greatest → TextWrites k takes_plus (signed_decimal x) x
 signed_writes k sized takes_plus (pos n) low high = record {
   sign = no_sign;
@@ -329,13 +338,13 @@ signed_writes k sized takes_plus (negsuc n) low high =
       written = decimal_writes k sized true (suc n) (omega (arith, within.1));
     }
 
--- If x is not 0 and has a minus, its text is a minus followed by its decimal digits.
+-- If x is not 0 and is the negative of n, its text is a minus followed by `decimal n`.
 minus_text : (x : ℤ) (n : ℕ) → x ≢ pos 0 → x ≡ neg_ℤ (pos n) → 45 ∷ decimal n ≡ signed_decimal x
 minus_text x zero some is = absurd (some is)
 minus_text x (suc n) some is = rw is refl
 
--- If a text writes x with no needless zero, no plus and no minus before 0, it is `signed_decimal
--- x`.
+-- If a text without a plus writes x, has no needless zero, and has no minus if x is 0, then that
+-- text is `signed_decimal x`.
 signed_only : (k : IntType) → IsSized k → (s : List ℕ) (x : ℤ) (text : TextWrites k false s x)
     → IsFalse (has_needless_zero text.digits) → (is_minus text.sign ≡ true → x ≢ pos 0) → s ≡ signed_decimal x
 signed_only k sized s x text shortest some =

@@ -1,6 +1,7 @@
 -- Windows: what one load reports about its slice, how several loads are put together, and the loop
--- that skips leading zeros window by window. A window describes the first 8 or 16 bytes of a slice:
--- the length and the value of their run, and their leading zeros if all of them are digits.
+-- that skips leading zeros window by window. A window describes the first 8 or 16 bytes of a slice,
+-- or all bytes if there are fewer. It has the length and the value of their run. If all 8 or 16
+-- bytes are there and are digits, it also has the number of their leading zeros.
 use Rattle.std.proofs.Common.{◌≡◌, ◌⊎◌, ℕ, ◌+◌, ◌-◌, ◌*◌, ◌^◌, ◌<◌, ◌≤◌, min, Bool, true, false, cond, eqb, ltb, List, length, take, drop, Some, None, Ok, Err, refl, sym, ap, ◌∙◌, subst, inl, inr, arith, ne_eqb, le-ltb, lit<, ◌==◌, ◌/◌, ◌||◌, nat_lt, if◌then◌else◌}
 use Rattle.std.proofs.Math.Nat.{pow-le-pow_right}
 use Rattle.std.proofs.lemmas.Bool.{cases_lt, eqb-true, eqb-false, lt-ltb, false≢true}
@@ -19,17 +20,18 @@ use Rattle.atoi_core.specs.Loads.{LoadsWithin, most_loads}
 
 -- ---- Readings decide the answers of wide types
 -- A reading is what was read of the first bytes of a slice: the number of their leading digits and
--- leading zeros, and the value of the digits. These lemmas are the fields of the law
--- `ReadingDecides`.
+-- leading zeros, and the value of the digits. Wide types have 64 or 128 bits. The lemmas of this
+-- section prove the law `ReadingDecides`.
 
--- If `offset` leading zeros are dropped, the next bytes begin with the zeros that are left.
+-- After `offset` leading zeros are dropped, the next `count` bytes begin with the zeros that are
+-- left, or with `count` zeros if more are left.
 pub zeros_left : (t : Table) (count : ℕ) (s : List ℕ) (offset : ℕ) → offset ≤ zeros t s
     → zeros t (take count (drop offset s)) ≡ min count (zeros t s - offset)
 zeros_left t count s offset within =
     omega (arith, prefix_len-take (is_zero t) count (drop offset s), prefix_len-drop (is_zero t) offset s within)
 
--- In two readings in a row, the leading zeros of the second matter only if the first has zeros
--- only.
+-- The leading zeros of two readings in a row include those of the second reading only if the first
+-- consists of zeros.
 leading_both : (n m k z y : ℕ) → k ≡ min n z → (n ≤ z → z ≡ n + y) → min (n + m) z ≡ cond (eqb k n) (n + min m y) k
 leading_both n m k z y k_is more =
     (elim (eqb k n) as (λ b. eqb k n ≡ b → min (n + m) z ≡ cond b (n + min m y) k) [
@@ -82,14 +84,14 @@ widened t count more s digits leading number reading ends longer =
           ∙ ap (λ (n : ℕ). value t (take n (take more s))) len;
     }
 
--- A reading has at most as many zeros as digits, and at most as many digits as bytes were read.
+-- A reading has no more leading zeros than digits, and no more digits than bytes that were read.
 pub within : (t : Table) (count : ℕ) (s : List ℕ) (digits leading number : ℕ) → Reading t count s digits leading number
     → (leading ≤ digits) × (digits ≤ min count (length s))
 within t count s digits leading number reading =
     let most : run_len t (take count s) ≤ length (take count s) = prefix_len-le-length (is_digit t) (take count s) in
     (omega (arith, reading.leading_are, reading.digits_are, zeros-le t (take count s)), omega (arith, reading.digits_are, length-take count s))
 
--- The value of a reading with n digits is below 10^n.
+-- If all digit values are below ten, the value of a reading with n digits is below 10^n.
 pub below : (t : Table) → IsBelowTen t → (count : ℕ) (s : List ℕ) (digits leading number : ℕ) → Reading t count s digits leading number
     → number < 10 ^ digits
 below t ten count s digits leading number reading =
@@ -106,8 +108,9 @@ first_refusal false true c p q r v = refl
 first_refusal false false true p q r v = refl
 first_refusal false false false p q r v = refl
 
--- The answer for a wide type is `answer_by_digits` of all digits of the slice. Of these, `skipped`
--- are skipped zeros, and `significant` are the others.
+-- The answer for a wide type is `answer_by_digits` of all digits that the slice begins with.
+-- `skipped` is the number of skipped zeros among them, and `significant` is the number of the
+-- others.
 by_all_digits : (t : Table) (class : Class) (bound limit : ℕ) (skip : Bool) (s : List ℕ) (skipped significant : ℕ) → limit < cap class
     → skipped_zeros t skip s ≡ skipped → run_len t s ≡ skipped + significant
     → prefix_magnitude t class bound limit skip s ≡ answer_by_digits class bound limit skipped significant (value t (run t s)) s
@@ -130,13 +133,14 @@ by_many_digits class bound limit skipped significant number s less many =
     let most : min significant (cap class) ≡ cap class = omega arith in
     rw (some, long, most) refl
 
--- The skipped zeros are those before `offset` and the leading ones of the reading.
+-- The number of skipped zeros is `offset` plus the number of digits in the reading that are not
+-- significant.
 skipped_is : (skip : Bool) (z offset digits leading : ℕ) → leading ≤ digits → (skip ≡ false → offset ≡ 0) → (skip ≡ true → z ≡ offset + leading)
     → cond skip z 0 ≡ offset + (digits - significant_digits skip digits leading)
 skipped_is true z offset digits leading most asked zeros_are = omega (arith, zeros_are refl)
 skipped_is false z offset digits leading most asked zeros_are = omega (arith, asked refl)
 
--- No more digits are significant than were read.
+-- A reading has no more significant digits than digits.
 counting_most : (skip : Bool) (digits leading : ℕ) → significant_digits skip digits leading ≤ digits
 counting_most true digits leading = omega arith
 counting_most false digits leading = omega arith
@@ -184,8 +188,9 @@ below_bound limit bound digits number bounds few small =
     let most : 10 ^ digits ≤ 10 ^ (limit - 1) = pow-le-pow_right (lit< tt) (omega arith) in
     omega (arith, bounds.0)
 
--- If a reading is not full of digits and has fewer of them than the limit, its value is within the
--- bound, and the answer is `Ok`, or `Empty` without a digit.
+-- Let a reading after skipped zeros have n digits and a value below 10^n. If the reading is not
+-- full of digits, and n is smaller than the limit, then the value is within the bound. The answer
+-- is then `Empty` if there is no digit at all, and otherwise `Ok` with that value.
 pub short_below : (t : Table) (class : Class) (bound limit : ℕ) → limit < cap class → HasDigits limit bound
     → (skip : Bool) (s : List ℕ) (offset count digits leading number : ℕ) → IsSkipped t skip s offset
     → Reading t count (drop offset s) digits leading number → digits < count → digits < limit → number < 10 ^ digits
@@ -200,7 +205,8 @@ short_below t class bound limit less bounds skip s offset count digits leading n
           ∙ rw (le-ltb limit significant (omega arith), le-ltb bound number (omega arith), total) refl,
     )
 
--- As above, for any table whose digit values are below ten.
+-- As above, for a table whose digit values are below ten. Each reading with n digits then has a
+-- value below 10^n.
 pub short : (t : Table) → IsBelowTen t → (class : Class) (bound limit : ℕ) → limit < cap class → HasDigits limit bound
     → (skip : Bool) (s : List ℕ) (offset count digits leading number : ℕ) → IsSkipped t skip s offset
     → Reading t count (drop offset s) digits leading number → digits < count → digits < limit
@@ -214,8 +220,8 @@ all_count : (skip : Bool) (digits leading : ℕ) → (skip ≡ true → leading 
 all_count true digits leading none = omega (arith, none refl)
 all_count false digits leading none = refl
 
--- A reading of `cap class` bytes that begins with no zero that is skipped decides the answer, and
--- all its digits are significant.
+-- A reading of `cap class` bytes after skipped zeros decides the answer if it begins with no zero
+-- that is to be skipped. All its digits are then significant.
 pub all_decide : (t : Table) (class : Class) (bound limit : ℕ) → limit < cap class
     → (skip : Bool) (s : List ℕ) (offset digits leading number : ℕ) → IsSkipped t skip s offset
     → Reading t (cap class) (drop offset s) digits leading number → (skip ≡ true → leading ≡ 0)
@@ -279,11 +285,12 @@ shows_of t ten c s =
 pub shows : (t : Table) → IsBelowTen t → (c : ℕ) (s : List ℕ) (w : Window) → w ≡ window_of t c s → Shows t c s w
 shows t ten c s w e = let P : Window → Type 0 = λ v. Shows t c s v in subst P (sym e) (shows_of t ten c s)
 
--- The leading zeros of two readings in a row, the first of c bytes.
+-- The number of leading zeros of two readings in a row. The first one is of c bytes and begins with
+-- `leading` zeros, and the second one begins with `others` zeros.
 abbrev pub zeros_both : (c leading others : ℕ) → ℕ
 zeros_both c leading others = cond (eqb leading c) (c + others) leading
 
--- A window that is full of digits is a reading with as many digits as bytes.
+-- A window of c bytes that is full of digits is a reading with c digits.
 Shows-full : (t : Table) (c : ℕ) (s : List ℕ) (w : Window) → Shows t c s w → c ≤ w.len → Reading t c s c (zeros t (take c s)) w.number
 Shows-full t c s w seen more =
     let full : w.len ≡ c = omega (arith, seen.len_is) in
@@ -304,11 +311,12 @@ Shows-join_two t s first_window middle back first full second more third =
     join_readings t 32 8 s _ _ _ _ _ (join_readings t 16 16 s _ _ _ _ _ (Shows-full t 16 s first_window first full) (Shows-full t 16 (drop 16 s) middle second more)) third.reading
 
 -- ---- The loop that skips zeros
--- These lemmas say how far it gets, and how many windows it loads.
+-- These lemmas say how far the loop gets, and how many windows it loads.
 
 -- The state of the loop before it loads a window at offset `at`. Only skipped zeros come before
--- `at`. So far one window was loaded for each 16 of these zeros, and one more if the last window
--- began with fewer than 16 zeros.
+-- that offset. `before` is the number of loads before the loop, and `now` is the number of loads so
+-- far. The loop has loaded one window for each 16 of the skipped zeros, and one more if the last
+-- window began with fewer than 16 zeros.
 pub record Skipping (t : Table) (skip : Bool) (s : List ℕ) (at before now : ℕ) : Type 0 where
   pub bounded : at ≤ zeros t s
   pub within : at ≤ length s
@@ -375,9 +383,10 @@ Skipping-more t below skip s at after before now next w after_skip e one on some
     }
 
 -- The state after the loop, whose last window `w` was loaded at offset `at`. All bytes before that
--- offset are zeros. So the bytes after it have a shorter run with fewer leading zeros, both by
--- `at`, and the value of that run is the same. If zeros are skipped and the window is full, it
--- begins at the first significant digit. The number of windows loaded is bounded from both sides.
+-- offset are zeros. So the run of the bytes from there on is shorter by `at`, has `at` fewer
+-- leading zeros, and has the same value as the run of the slice. If zeros are skipped and the
+-- window is full, it begins at the first significant digit. The number of windows loaded is bounded
+-- from both sides.
 pub record Skipped (t : Table) (skip : Bool) (s : List ℕ) (at before now : ℕ) (w : Window) : Type 0 where
   pub shown : Shows t 16 (drop at s) w
   pub within : at ≤ length s
@@ -431,7 +440,8 @@ Skipped-end t below skip s at before now next w after_skip e one stops =
       ];
     }
 
--- What `window_after_zeros` promises about its results makes a `Skipped`.
+-- `Skipped` follows from what `window_after_zeros` promises about its results. One load is added,
+-- for the first window, which was loaded before that call.
 pub Skipped-after_zeros : (t : Table) → IsBelowTen t → (s : List ℕ) (at before now : ℕ) (w : Window) →
     at ≡ (if nat_lt (zeros t s / 16) (run_len t s / 16) then zeros t s else 16 * (zeros t s / 16)) →
     w ≡ window_of t 16 (drop at s) → w.zeroes ≡ 0 → now ≡ before + (at + 15) / 16 → Skipped t true s at before (now + 1) w
@@ -447,7 +457,8 @@ Skipped-after_zeros t below s at before now w offset e none loads =
     } in
     Skipped-end t below true s at before now (now + 1) w skipping (e ∙ ap (window_of t 16) (sym (take_rest s at))) refl (inr (refl, none))
 
--- If `more` windows are loaded after the loop, the number of loads is within the given bounds.
+-- If `more` windows are loaded after the loop, the number of all loads is within the bounds `most`
+-- and `unskipped`, provided that these leave room for `more` loads after those of the loop.
 pub Skipped-loads : {t : Table} {skip : Bool} {s : List ℕ} {at before now last most unskipped : ℕ} {w : Window} →
     Skipped t skip s at before now w → (more : ℕ) → last ≡ now + more → zeros t s / 16 + 2 + more ≤ most → 1 + more ≤ unskipped →
     LoadsWithin most unskipped t skip s before last
@@ -458,8 +469,9 @@ Skipped-loads after_skip more counted bounded few = record {
   at_least_skipping = λ on. omega (arith, after_skip.least on);
 }
 
--- If the loop loads one window, and one more is loaded only if zeros are not skipped and the first
--- 16 bytes are digits, the number of loads is within the bounds for a narrow type.
+-- If the loop loads one window, and one more window is loaded exactly if zeros are not skipped and
+-- the first 16 bytes are digits, then the number of loads is within the bounds for a type of at
+-- most 32 bits.
 pub Skipped-one : (t : Table) (skip : Bool) (s : List ℕ) (at before now last : ℕ) {w : Window} → Skipped t skip s at before now w →
     now ≡ before + 1 → last ≡ now + (if skip || nat_lt (run_len t s) 16 then 0 else 1) → LoadsWithin (most_loads t narrow s) 2 t skip s before last
 Skipped-one t true s at before now last after_skip one counted = record {
@@ -483,7 +495,7 @@ Skipping-first_window t below s n zeroes e some =
     Skipping-more t below true s 0 zeroes n n (n + 1) w (Skipping-none t true s n) (ap (window_of t 16) (sym (take_rest s 0))) refl refl
     (omega arith) (omega arith)
 
--- If no zeros are skipped, or the first window reports none, the first window is the last one of
+-- If zeros are not skipped, or the first window reports none, the first window is the last one of
 -- the loop.
 pub Skipped-at_once : (t : Table) → IsBelowTen t → (skip : Bool) (s : List ℕ) (before next : ℕ) (w : Window) →
     w ≡ window_of t 16 s → next ≡ before + 1 → (skip ≡ false) ⊎ ((skip ≡ true) × (w.zeroes ≡ 0)) → Skipped t skip s 0 before next w
@@ -491,8 +503,7 @@ Skipped-at_once t below skip s before next w e one stops =
     Skipped-end t below skip s 0 before before next w (Skipping-none t skip s before)
     (e ∙ ap (window_of t 16) (sym (take_rest s 0))) one stops
 
--- A first window that is not full reports no zeros and holds the whole run, so it is the last one
--- too.
+-- A first window that is not full reports no zeros, so it is also the last window of the loop.
 pub Skipped-first : (t : Table) → IsBelowTen t → (skip : Bool) (s : List ℕ) (before next : ℕ) (w : Window) →
     w ≡ window_of t 16 s → next ≡ before + 1 → w.len < 16 → Skipped t skip s 0 before next w
 Skipped-first t below skip s before next w e one short =

@@ -1,7 +1,7 @@
 -- Words seen as numbers: the fields that they consist of, how the kernels compute decimal values in
 -- them, and what bitwise operators do to each field. A field is a group of neighbouring bits, such
--- as a byte. The weighted sum of bytes (`low_value`) adds the lower half of each byte times its
--- power of ten. For digits this is their value.
+-- as a byte. The weighted sum of bytes (`low_value`) adds up their lower halves, each multiplied by
+-- ten for every byte after it. For digits this is their value.
 use Rattle.std.proofs.Common.{◌≡◌, ℕ, zero, suc, ◌+◌, ◌-◌, ◌*◌, ◌/◌, ◌%◌, ◌^◌, ◌<◌, ◌≤◌, List, [], ◌∷◌, length, refl, sym, ap, ap₂, ◌∙◌, arith, lit<, map, inl, inr, cond, ◌==◌, mod-lt}
 use Rattle.std.proofs.Math.Nat.{add-mul-div_right, div-div-eq-div-mul, mul_comm, zero-mod, suc-mul, mul-le-mul_right, mul_assoc, pow-zero, pow-suc, suc-add, zero-add, mul-one, mod-eq_of_lt, pow-le-pow_right, div-one, add_comm, eq-zero-or-pos}
 use Rattle.std.proofs.Math.Pow.{mod-mod-pow, ones_lt, pow_mono}
@@ -15,8 +15,9 @@ use Rattle.std.specs.List.{prefix_len}
 use Rattle.std.specs.Int.Count.{count_trailing_zeros, under}
 
 -- ---- One round of a weighted sum
--- A round joins neighbouring digits: it masks the lower half of each field, multiplies the word by
--- 1 + t * 2^(h + h), wraps it, and shifts it right by one field of h + h bits.
+-- A round joins neighbouring digits of base t in pairs. It keeps only the lower half of each field
+-- of h + h bits, multiplies the word by 1 + t * 2^(h + h), drops the bits that do not fit in the
+-- word, and shifts the word right by one field.
 
 -- The lower halves of the lowest k fields of h + h bits, the lowest field first.
 abbrev pub lows : ℕ → ℕ → ℕ → List ℕ
@@ -33,18 +34,19 @@ abbrev pub twice : ℕ → ℕ
 twice zero = zero
 twice (suc m) = suc (suc (twice m))
 
--- Neighbours joined in pairs to digits of base t * t. The first of a pair is its higher digit in
--- base t.
+-- Neighbouring digits of base t, joined in pairs to digits of base t * t. The first digit of a pair
+-- is the higher one.
 abbrev pub pairs : ℕ → List ℕ → List ℕ
 pairs t [] = []
 pairs t (x ∷ []) = x ∷ []
 pairs t (x ∷ y ∷ rest) = (y + x * t) ∷ pairs t rest
 
--- Half a field of set bits is a number that fits in a field.
+-- The number that consists of h set bits fits in a field of h + h bits.
 half_below : (h : ℕ) → 2 ^ h - 1 < 2 ^ (h + h)
 half_below h = let le : 2 ^ h ≤ 2 ^ (h + h) = pow_mono (omega arith) in omega (arith, ones_lt h)
 
--- A mask keeps the lower half of the lowest field, and masks the fields above it.
+-- The mask `masks h (suc k)` keeps the lower half of the lowest field, and acts on the fields above
+-- it in the same way.
 mask_step : (h k word : ℕ) → bit_and word (masks h (suc k)) ≡ bit_and (word / 2 ^ (h + h)) (masks h k) * 2 ^ (h + h) + word % 2 ^ h
 mask_step h k word =
     let b = 2 ^ (h + h) in
@@ -68,16 +70,17 @@ masked_low h (suc k) word =
 pub spread : ℕ → ℕ → ℕ → ℕ
 spread b t word = word / b + word * t
 
--- Multiplying by 1 + t * b and dividing by b gives that sum.
+-- Multiplying a word by 1 + t * b and dividing the product by b gives `spread b t word`.
 product_shifted : (b t word : ℕ) → 0 < b → word * (1 + t * b) / b ≡ spread b t word
 unfolding spread
 product_shifted b t word pos =
     let e : word * (1 + t * b) ≡ word + word * t * b = omega arith in
     ap (λ x. x / b) e ∙ add-mul-div_right word (word * t) pos
 
--- If the two lowest fields of a word are f and g, the lowest field of the spread word is the sum g
--- + f * t of this pair. The next field takes the lowest field of u, the word above them, and
--- nothing is carried into the fields above it.
+-- Let f and g be the two lowest fields of a word, and u the word above them. After the word is
+-- spread, the sum `g + f * t` of this pair is in its lowest field, and the lowest field of u plus
+-- `g * t` is in the next one, provided that both fit. Above these two fields is u, spread in the
+-- same way.
 spread_pair : (b t u f g : ℕ) → f < b → spread b t ((u * b + g) * b + f) ≡ spread b t u * (b * b) + ((u % b + g * t) * b + (g + f * t))
 unfolding spread
 spread_pair b t u f g below =
@@ -88,10 +91,11 @@ spread_pair b t u f g below =
     let e : ((u * b + g) * b + f) / b ≡ u * b + g = div-mul-add (u * b + g) b f below in
     ap (λ x. x + ((u * b + g) * b + f) * t) (e ∙ ap (λ x. x * b + g) (sym split)) ∙ omega arith
 
--- What a round does to all fields, if two digits in base t fit in a field: the lowest half is the
--- sum of the first pair, and the fields above the pair are spread in the same way.
+-- What a round does to all fields, if the sum of a pair always fits in a field. The fields of the
+-- result are twice as wide. The lower half of the lowest one is the sum of the first pair, and the
+-- lower halves above are the sums of the other pairs.
 module _ (h t : ℕ) (room : (2 ^ h - 1) * (1 + t) < 2 ^ (h + h)) where
-  -- Two digits in base t fit in a field.
+  -- The sum g + f * t of a pair fits in a field, if f and g fit in half a field.
   two_digits : (f g : ℕ) → f < 2 ^ h → g < 2 ^ h → g + f * t < 2 ^ (h + h)
   two_digits f g f_below g_below =
       let g_most : g ≤ 2 ^ h - 1 = omega arith in
@@ -161,12 +165,12 @@ abbrev pub number_in : ℕ → List ℕ → ℕ
 number_in t [] = 0
 number_in t (digit ∷ digits) = digit * t ^ length digits + number_in t digits
 
--- There are as many lower halves as fields.
+-- The list of the lower halves of k fields has k elements.
 pub length-lows : (h k word : ℕ) → length (lows h k word) ≡ k
 length-lows h zero word = refl
 length-lows h (suc k) word = ap suc (length-lows h k (word / 2 ^ (h + h)))
 
--- There are half as many pairs as digits.
+-- From 2 * m digits, `pairs` makes m pairs.
 length-pairs : (h t m word : ℕ) → length (pairs t (lows h (twice m) word)) ≡ m
 length-pairs h t zero word = refl
 length-pairs h t (suc m) word = ap suc (length-pairs h t m (word / 2 ^ (h + h) / 2 ^ (h + h)))
@@ -202,9 +206,9 @@ pub round_number : (h t : ℕ) → (2 ^ h - 1) * (1 + t) < 2 ^ (h + h) → (m wo
 round_number h t room m word = ap (number_in (t * t)) (round h t room m word) ∙ number_in_pairs h t m word
 
 -- ---- Fields of a word
--- They are the lowest digits of the word in a base that is a power of two.
+-- The fields of a word are its lowest digits in a base that is a power of two.
 
--- There are as many fields as we ask for.
+-- The list of the lowest k fields has k elements.
 pub length-digits : (base k word : ℕ) → length (digits_l base k word) ≡ k
 length-digits base zero word = refl
 length-digits base (suc k) word = ap suc (length-digits base k (word / base))
@@ -221,7 +225,8 @@ digits_cut g (suc k) word =
     (ap (λ x. x % b) cut ∙ mod-mul-add (word / b % 2 ^ (k * g)) b (word % b) small)
     (ap (λ x. digits_l b k (x / b)) cut ∙ ap (digits_l b k) (div-mul-add (word / b % 2 ^ (k * g)) b (word % b) small) ∙ digits_cut g k (word / b))
 
--- Bytes of 0 below the others add nothing to their weighted sum.
+-- If a word is shifted left by z bytes, the bytes of 0 below the others do not change the weighted
+-- sum.
 pub low_value_shifted : (z k word : ℕ) → low_value (digits_l 256 (z + k) (word * 2 ^ (z * 8))) ≡ low_value (digits_l 256 k word)
 low_value_shifted zero k word = ap₂ (λ c x. low_value (digits_l 256 c x)) (zero-add k) (mul-one word)
 low_value_shifted (suc z) k word =
@@ -258,11 +263,12 @@ shifted_sum k count len word e le =
 -- ---- Weighted sums of eight and of sixteen bytes
 -- Eight bytes take three rounds, sixteen take four.
 
--- If a word has one field left, its lower half is the number itself.
+-- If a word fits in the lower half of one field, that half is a single digit, which spells the word
+-- itself.
 one_field : (base half word : ℕ) → word < 2 ^ half → number_in base (lows half 1 word) ≡ word
 one_field base half word below = omega (arith, mod-eq_of_lt below, ap (λ p. word % 2 ^ half * p) (pow-zero base))
 
--- Three rounds compute the weighted sum of eight bytes.
+-- Three rounds compute the weighted sum of the lowest `len` bytes, if `len` is at most 8.
 pub sum_8 : (val len : ℕ) → len ≤ 8
     → let ones = val * 2 ^ (64 - 8 * len) % 2 ^ 64 in
     let tens = bit_and ones 0x0F0F_0F0F_0F0F_0F0F * 0xA01 % 2 ^ 64 / 2 ^ 8 in
@@ -278,7 +284,7 @@ sum_8 val len most =
     ∙ round_number 4 10 (lit< tt) 4 ones
     ∙ shifted_sum (64 - 8 * len) 8 len val (omega arith) most
 
--- Four rounds compute the weighted sum of sixteen bytes.
+-- Four rounds compute the weighted sum of the lowest `len` bytes, if `len` is at most 16.
 pub sum_16 : (val len : ℕ) → len ≤ 16
     → let ones = val * 2 ^ (128 - 8 * len) % 2 ^ 128 in
     let tens = bit_and ones 0x0F0F_0F0F_0F0F_0F0F_0F0F_0F0F_0F0F_0F0F * 0xA01 % 2 ^ 128 / 2 ^ 8 in
@@ -306,7 +312,8 @@ places_most (byte ∷ bytes) =
     let power : 10 ^ suc (length bytes) ≡ 10 ^ length bytes * 10 = pow-suc 10 (length bytes) in
     omega (arith, places_most bytes)
 
--- This bounds the weighted sum of the lowest bytes by how many there can be.
+-- So the weighted sum of the lowest `len` bytes is at most 15 times the number that `count` ones
+-- spell, if `len` is at most `count`.
 pub sum_most : (count len val : ℕ) → len ≤ count → 9 * low_value (low_bytes len val) + 15 ≤ 15 * 10 ^ count
 unfolding low_bytes
 sum_most count len val most =
@@ -318,7 +325,7 @@ sum_most count len val most =
 -- ---- Bitwise operators on fields
 -- Some of the lemmas are about a word that repeats one byte.
 
--- The word whose lowest k bytes are all b.
+-- The word whose lowest k bytes are all b, and whose other bytes are 0.
 abbrev pub repeated : ℕ → ℕ → ℕ
 repeated b zero = 0
 repeated b (suc k) = repeated b k * 256 + b
@@ -327,14 +334,15 @@ repeated b (suc k) = repeated b k * 256 + b
 module _ (op : ℕ → ℕ → ℕ)
     (high : (a b g : ℕ) → op a b / 2 ^ g ≡ op (a / 2 ^ g) (b / 2 ^ g))
     (low : (a b g : ℕ) → op a b % 2 ^ g ≡ op (a % 2 ^ g) (b % 2 ^ g)) where
-  -- The operator's result for two words has the results for their fields as its fields.
+  -- Each field of `op a b` is the result of the operator for the two fields of a and b in the same
+  -- position.
   op_fields : (g k a b : ℕ) → digits_l (2 ^ g) k (op a b) ≡ zip2 op (digits_l (2 ^ g) k a) (digits_l (2 ^ g) k b)
   op_fields g zero a b = refl
   op_fields g (suc k) a b =
       ap₂ (λ x xs. x ∷ xs) (low a b g) (ap (digits_l (2 ^ g) k) (high a b g) ∙ op_fields g k (a / 2 ^ g) (b / 2 ^ g))
 
-  -- The operator's result for a word and one that repeats the byte b has the results for its bytes
-  -- and b as its bytes.
+  -- If the second word repeats the byte b, each byte of the result is the result of the operator
+  -- for b and the byte of the first word in the same position.
   pub op_repeated : (b : ℕ) → b < 256 → (k a : ℕ) → digits_l 256 k (op a (repeated b k)) ≡ map (λ x. op x b) (digits_l 256 k a)
   op_repeated b fits zero a = refl
   op_repeated b fits (suc k) a =
@@ -343,15 +351,17 @@ module _ (op : ℕ → ℕ → ℕ)
       (ap (digits_l 256 k) (high a (repeated b (suc k)) 8 ∙ ap (op (a / 256)) (div-mul-add (repeated b k) 256 b fits))
       ∙ op_repeated b fits k (a / 256))
 
--- The bytes of `x | y` are those of x and of y, joined by `|`.
+-- Each byte of `bit_or a b` is the result of `bit_or` for the two bytes of a and b in the same
+-- position.
 pub or_bytes : (k a b : ℕ) → digits_l 256 k (bit_or a b) ≡ zip2 bit_or (digits_l 256 k a) (digits_l 256 k b)
 or_bytes = op_fields bit_or or_shr or_mod 8
 
--- A mask that is the same for each byte masks each byte.
+-- Masking a word with the word that repeats the byte b masks each of its bytes with b.
 pub and_repeated : (b : ℕ) → b < 256 → (k a : ℕ) → digits_l 256 k (bit_and a (repeated b k)) ≡ map (λ x. bit_and x b) (digits_l 256 k a)
 and_repeated = op_repeated bit_and and_shr and_mod
 
--- A word xor one that repeats the byte b is, byte by byte, xor b.
+-- If a word is xored with the word that repeats the byte b, each byte of the first word is xored
+-- with b.
 pub xor_repeated : (b : ℕ) → b < 256 → (k a : ℕ) → digits_l 256 k (bit_xor a (repeated b k)) ≡ map (λ x. bit_xor x b) (digits_l 256 k a)
 xor_repeated = op_repeated bit_xor xor_shr xor_mod
 
@@ -368,7 +378,7 @@ upper_halves k a = and_repeated 15 (omega arith) k (a / 16) ∙ halves k a
         (ap (λ x. map (λ y. bit_and y 15) (digits_l 256 k x)) next ∙ halves k (a / 256))
 
 -- ---- Trailing zero bits
--- They are counted in whole bytes of 0.
+-- The number of trailing zero bits, divided by eight, counts the lowest bytes that are 0.
 
 -- A field of a + 1 bits consists of its lowest bit and the a bits above it.
 lowest_bit : (a n : ℕ) → n % 2 ^ suc a ≡ (n / 2 % 2 ^ a) * 2 + n % 2

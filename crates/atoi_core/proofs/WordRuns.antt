@@ -29,14 +29,14 @@ prefix_len-map p f (x ∷ xs) = ap (λ n. cond (p (f x)) (1 + n) 0) (prefix_len-
 combined_is_zero : (b : ℕ) → b < 256 → (bit_xor b 48 == 0) ≡ is_zero decimal_table b
 combined_is_zero b h = agree_below_at (λ x. bit_xor x 48 == 0) (is_zero decimal_table) 256 b refl h
 
--- If two tests agree on each byte, they pass equally many leading bytes of a word.
+-- If two tests agree on each byte, the same number of leading bytes of a word passes each of them.
 prefix_len-agree : (p q : ℕ → Bool) → ((b : ℕ) → b < 256 → p b ≡ q b) → (k word : ℕ) → prefix_len p (digits_l 256 k word) ≡ prefix_len q (digits_l 256 k word)
 prefix_len-agree p q agree zero word = refl
 prefix_len-agree p q agree (suc k) word =
     ap₂ (λ b n. cond b (1 + n) 0) (agree (word % 256) (mod-lt word (zero-lt-suc 255))) (prefix_len-agree p q agree k (word / 256))
 
--- The word xor 48 in each byte: its trailing zero bits, divided by 8, are the number of leading
--- zeros.
+-- If each byte of a word is xored with 48, the number of trailing zero bits of the result, divided
+-- by 8, is the number of zeros that the word begins with.
 pub zeros_counted : (k word : ℕ) → count_trailing_zeros (k * 8) (bit_xor word (repeated 48 k)) / 8 ≡ zeros decimal_table (low_bytes k word)
 unfolding low_bytes
 zeros_counted k word =
@@ -47,7 +47,8 @@ zeros_counted k word =
 
 -- ---- Counting digits
 
--- Two lengths that are 0 unless the same test passes are equal, if they are equal when it passes.
+-- Let two lengths be 0 unless a test passes. They are equal if they are equal when that test
+-- passes.
 run_goes_on : (t : Bool) (m n : ℕ) → (t ≡ true → m ≡ n) → cond t (1 + m) 0 ≡ cond t (1 + n) 0
 run_goes_on true m n e = ap (λ x. 1 + x) (e refl)
 run_goes_on false m n e = refl
@@ -87,7 +88,8 @@ added c h =
       rest = λ k word e. let digit = digit_in_range (word % 256) e in omega arith;
     }
 
--- The constant that subtracts 48 from each byte when it is added to a wrapping word.
+-- The constant that subtracts 48 from each byte when it is added to a word of k bytes and the sum
+-- wraps.
 abbrev pub without_48 : ℕ → ℕ
 without_48 zero = 1
 without_48 (suc k) = 256 * without_48 k - 48
@@ -110,8 +112,8 @@ lowered =
     }
 
 -- Two changed words are combined to a mark for each byte. Up to the first byte that is no digit,
--- each mark is what the byte on its own gives. So if the mark is 0 exactly for digits, the leading
--- marks of 0 are as many as the leading digits.
+-- each mark is what the byte on its own gives. So if the mark is 0 exactly for digits, the number
+-- of leading marks of 0 is the number of leading digits.
 module _ (first second : Change) (mark : ℕ → ℕ → ℕ)
     (digit_byte : (b : ℕ) → b < 256 → (mark (first.of_byte b) (second.of_byte b) == 0) ≡ is_digit decimal_table b) where
   carried_run : (k word : ℕ)
@@ -191,7 +193,8 @@ lowered_zero b h = agree_below_at (λ x. (x + 208) % 256 == 0) (is_zero decimal_
 zero_is_digit : (b : ℕ) → b < 256 → is_zero decimal_table b ≡ true → is_digit decimal_table b ≡ true
 zero_is_digit b h e = grind (arith, nat_tests)
 
--- After the subtraction, the word begins with as many bytes of 0 as it began with zeros.
+-- The number of zeros that a word begins with is the number of bytes of 0 that it begins with after
+-- the subtraction.
 lowered_zeros : (k word : ℕ) → prefix_len (λ b. b == 0) (digits_l 256 k (word + without_48 k)) ≡ prefix_len (is_zero decimal_table) (digits_l 256 k word)
 lowered_zeros zero word = refl
 lowered_zeros (suc k) word =
@@ -211,8 +214,8 @@ lowered_zeros_counted k word =
     ∙ ap (prefix_len (λ b. b == 0)) (digits_cut 8 k (word + without_48 k))
     ∙ lowered_zeros k word
 
--- If the passing prefix has at least n + 1 elements, the first one passes, and at least n passing
--- ones follow it.
+-- If a list begins with at least n + 1 elements that pass a test, the first one passes, and at
+-- least n more that pass follow it.
 first_digit : (t : Bool) (n m : ℕ) → suc n ≤ cond t (1 + m) 0 → (t ≡ true) × (n ≤ m)
 first_digit true n m h = (refl, omega arith)
 first_digit false n m h = absurd (omega arith)
@@ -239,7 +242,8 @@ lowered_digits j (suc k) word digits =
     ∙ ap (λ x. bit_and x (repeated 15 (suc k))) (sym (mod-pow-add word (k * 8) 8))
     ∙ ap (λ e. bit_and (word % 2 ^ e) (repeated 15 (suc k))) (sym bits)
 
--- Masking to lower halves and shifting up by whole bytes can be exchanged.
+-- The mask that keeps the lower halves and the shift up by whole bytes can be applied in either
+-- order.
 shifted_halves : (z k word : ℕ) → bit_and word (repeated 15 k) * 2 ^ (z * 8) ≡ bit_and (word * 2 ^ (z * 8)) (repeated 15 (z + k))
 shifted_halves zero k word =
     let one : bit_and word (repeated 15 k) * 2 ^ (zero * 8) ≡ bit_and word (repeated 15 k) = omega arith in
@@ -252,7 +256,8 @@ shifted_halves (suc z) k word =
     ∙ omega (arith, shifted_halves z k word, and_block 8 (word * 2 ^ (z * 8)) (repeated 15 (z + k)) 0 15 (lit< tt) (lit< tt))
     ∙ ap₂ (λ x n. bit_and x (repeated 15 n)) (sym next) (sym (suc-add z k))
 
--- Cutting a shifted number is the same as shifting the number that is cut.
+-- Shifting a number by z bits and then cutting it to j + z bits is the same as cutting it to j bits
+-- and then shifting it by z bits.
 shift_cut : (a j z : ℕ) → a * 2 ^ z % 2 ^ (j + z) ≡ a % 2 ^ j * 2 ^ z
 shift_cut a j z =
     let p = 2 ^ z in

@@ -1,5 +1,6 @@
 -- What the parses return for an integer type, as functions of the bytes. An *answer* is a number,
--- or the reason why there is none (`Refusal`).
+-- or the reason why there is none (`Refusal`). In the answer for a prefix, a count of bytes comes
+-- with the number.
 use Rattle.std.specs.Prelude.{ℕ, ◌+◌, Bool, List, ℤ, Result, Ok, Err}
 use Rattle.atoi_core.specs.Digit.{Table, decimal_table}
 use Rattle.atoi_core.specs.Refusal.{Refusal, answer_of}
@@ -13,24 +14,25 @@ abbrev pub map_answer : {A B : Type 0} → (A → B) → Result A Refusal → Re
 map_answer f (Ok value) = Ok (f value)
 map_answer f (Err reason) = Err reason
 
--- The answer that a result means: `number` says which integer each value of the type means.
+-- The answer that a Rust `Result` means. `number` gives the integer that a value of the type means.
 abbrev pub typed_answer : {T : Type 0} → (T → ℤ) → Result T AtoiSimdError → Result ℤ Refusal
 typed_answer number result = map_answer number (answer_of result)
 
--- The same for a result whose values have a count.
+-- The same for the `Result` of a prefix parse, which holds a value and a count.
 abbrev pub typed_prefix_answer : {T : Type 0} → (T → ℤ) → Result (T × ℕ) AtoiSimdError → Result (ℤ × ℕ) Refusal
 typed_prefix_answer {T} number result =
     map_answer (λ (found : T × ℕ). (number found.0, found.1)) (answer_of result)
 
--- The answer to a whole body, which is a slice after its sign. `minus` says whether that sign is a
--- minus.
+-- The answer to a body that is parsed as a whole. The *body* is the slice after its sign, or the
+-- whole slice if the call looks for no sign. `minus` says whether the digits are those of a
+-- negative number.
 abbrev pub whole_answer : Table → IntType → (minus skip : Bool) → List ℕ → Result ℤ Refusal
 whole_answer table k minus skip body =
     map_answer (with_sign minus)
     (whole_magnitude table (class_of k) (bound_of k minus) (limit_of k) skip body)
 
--- The answer to the number at the start of a body, with its length in bytes. `minus` says whether
--- the sign before the body is a minus.
+-- The answer to the number at the start of a body, with the length of this number in bytes. `minus`
+-- says whether the digits are those of a negative number.
 abbrev pub prefix_answer : Table → IntType → (minus skip : Bool) → List ℕ → Result (ℤ × ℕ) Refusal
 prefix_answer table k minus skip body =
     map_answer (λ (found : ℕ × ℕ). (with_sign minus found.0, found.1))
@@ -42,21 +44,21 @@ text_answer table k skip plus s =
     let sign = sign_of k.signed plus s in
     whole_answer table k sign.minus skip sign.body
 
--- This is what `parse` returns; its digits are the decimal ones.
+-- This is what `parse` returns. It is `text_answer` with the decimal digits.
 abbrev pub parse_answer : IntType → (skip plus : Bool) → List ℕ → Result ℤ Refusal
 parse_answer k skip plus s = text_answer decimal_table k skip plus s
 
--- The answer of a prefix parse, with a count that is larger by `more`.
+-- Adds `more` to the count in the answer of a prefix parse. A reason stays as it is.
 abbrev pub with_more : ℕ → Result (ℤ × ℕ) Refusal → Result (ℤ × ℕ) Refusal
 with_more more answer = map_answer (λ (found : ℤ × ℕ). (found.0, found.1 + more)) answer
 
--- The answer to the number at the start of a slice, after its sign. The count includes the byte of
--- the sign.
+-- The answer to the number at the start of a slice. If a sign is consumed before the digits, the
+-- count includes the byte of this sign.
 abbrev pub text_prefix_answer : Table → IntType → (skip plus : Bool) → List ℕ → Result (ℤ × ℕ) Refusal
 text_prefix_answer table k skip plus s =
     let sign = sign_of k.signed plus s in
     with_more sign.taken (prefix_answer table k sign.minus skip sign.body)
 
--- This is what `parse_prefix` returns; its digits are the decimal ones.
+-- This is what `parse_prefix` returns. It is `text_prefix_answer` with the decimal digits.
 abbrev pub parse_prefix_answer : IntType → (skip plus : Bool) → List ℕ → Result (ℤ × ℕ) Refusal
 parse_prefix_answer k skip plus s = text_prefix_answer decimal_table k skip plus s

@@ -1,4 +1,5 @@
--- The number that digits spell, as one sum over their positions. Each proof is a plain term.
+-- The number that digits spell, as one sum over their positions. The proofs are written out in
+-- full, without automatic steps such as `omega`.
 use Rattle.std.specs.Prelude.{◌≡◌, ℕ, zero, suc, ◌+◌, ◌-◌, ◌*◌, ◌^◌, List, [], ◌∷◌, length, slice_index, refl}
 use Rattle.std.proofs.Common.{sym, ap, ◌∙◌, add_assoc, zero-add, add-zero}
 use Rattle.std.proofs.Math.Nat.{suc-sub-suc, sub-zero, sub-add-eq}
@@ -11,7 +12,7 @@ abbrev pub sum_below : ℕ → (ℕ → ℕ) → ℕ
 sum_below zero f = 0
 sum_below (suc n) f = sum_below n f + f n
 
--- The sum over each index i: the digit value at i, times ten for every digit after it.
+-- The sum of the digit values of all digits, each multiplied by `10 ^ k` if `k` digits follow it.
 abbrev pub closed_value : Table → List ℕ → ℕ
 closed_value table s = sum_below (length s) (λ i. digit_value table (slice_index s i) * 10 ^ (length s - 1 - i))
 
@@ -28,8 +29,9 @@ sum_below-suc (suc n) f =
     ap (λ (k : ℕ). k + f (suc n)) (sum_below-suc n f)
     ∙ add_assoc (f 0) (sum_below n (λ i. f (suc i))) (f (suc n))
 
--- After the first of n + 1 digits there are n more; and after the digit at index i + 1 of these
--- there are as many as after the digit at index i of the last n.
+-- The next two lemmas count the digits that follow one of `n + 1` digits. The first digit is
+-- followed by `n` others. If the first digit is dropped, the digit at index `i + 1` gets the index
+-- `i`, and the number of digits that follow it stays the same.
 following_first : (n : ℕ) → suc n - 1 - 0 ≡ n
 following_first n = sub-zero (suc n - 1) ∙ suc-sub-suc n 0 ∙ sub-zero n
 
@@ -39,7 +41,7 @@ following_next n i =
     ∙ ap (λ (k : ℕ). n - k) (sym (one-add i))
     ∙ sub-add-eq n 1 i
 
--- The value of digits is that sum.
+-- The value of digits is the sum `closed_value`.
 pub value_is_closed : (table : Table) (s : List ℕ) → value table s ≡ closed_value table s
 value_is_closed table [] = refl
 value_is_closed table (digit ∷ digits) =

@@ -1,7 +1,7 @@
 -- Which bytes are digits, and their digit values.
 use Rattle.std.specs.Prelude.{ℕ, ◌-◌, ◌<◌, ◌&&◌, Bool, Option, Some, None, nat_le, ◌==◌, unwrap_or, is_some, if◌then◌else◌}
 
--- A table gives the digit value of each byte, or `None` if it is no digit.
+-- A table gives the digit value of each byte, or `None` if the byte is no digit.
 abbrev pub Table : Type 0
 Table = ℕ → Option ℕ
 
@@ -9,7 +9,7 @@ Table = ℕ → Option ℕ
 abbrev pub is_digit : Table → ℕ → Bool
 is_digit table byte = is_some (table byte)
 
--- The digit value of a byte; 0 if it is no digit.
+-- The digit value of a byte, or 0 if the byte is no digit.
 abbrev pub digit_value : Table → ℕ → ℕ
 digit_value table byte = unwrap_or (table byte) 0
 

@@ -1,5 +1,5 @@
--- Worked answers. Each is computed from the definitions, so that a wrong definition fails the
--- check.
+-- Worked examples: answers, the texts and the order of errors, signs and limits. The check computes
+-- each example from the definitions, and fails if they give anything else.
 use Rattle.std.specs.Fmt.{digits}
 use Rattle.std.specs.Prelude.{◌≡◌, [], true, false, ◌∷◌, length, replicate, decimal, pos, negsuc, codes, Ok, Err, refl}
 use Rattle.atoi_core.specs.Digit.{decimal_table}
@@ -27,7 +27,7 @@ pub minus : parse_answer i64_type false false (codes "-2345") ≡ Ok (negsuc 234
 unfolding refusal
 minus = refl
 
--- A parse of a negative number without its minus looks for no sign.
+-- A call for negative numbers reads the digits without a minus, and returns the negative number.
 pub negative_body : whole_answer decimal_table i64_type true false (codes "2345") ≡ Ok (negsuc 2344)
 unfolding refusal
 negative_body = refl
@@ -37,12 +37,13 @@ pub prefix_stops : parse_prefix_answer u64_type false false (codes "123something
 unfolding refusal
 prefix_stops = refl
 
--- A value above the bound is reported rather than the byte after it.
+-- If the value is above the bound and another byte follows the digits, the error is `overflow`, not
+-- `invalid64`.
 pub overflow_first : parse_answer u8_type false false (codes "256x") ≡ Err (overflow (codes "256x"))
 unfolding refusal
 overflow_first = refl
 
--- A byte after the digits is reported with the value of the digits, and its index.
+-- If a byte follows the digits, the error holds the value of the digits and the index of this byte.
 pub invalid_after_value : parse_answer u8_type false false (codes "255x") ≡ Err (invalid64 255 3 (codes "255x"))
 unfolding refusal
 invalid_after_value = refl
@@ -52,17 +53,17 @@ pub least_value : parse_answer i8_type false false (codes "-128") ≡ Ok (negsuc
 unfolding refusal
 least_value = refl
 
--- One less is not, and the slice in the error has no sign.
+-- The smallest value minus one is out of range, and the slice in the error has no sign.
 pub below_least : parse_answer i8_type false false (codes "-129") ≡ Err (overflow (codes "129"))
 unfolding refusal
 below_least = refl
 
--- A prefix of a type of at most 32 bits that skips no zeros has at most 16 digits.
+-- If zeros are not skipped and the type has at most 32 bits, a prefix may have at most 16 digits.
 pub seventeen_digits_of_u8 : parse_prefix_answer u8_type false false (codes "00000000000000007") ≡ Err (size 17 (codes "00000000000000007"))
 unfolding refusal
 seventeen_digits_of_u8 = refl
 
--- All 16 are read, and the byte after them does not matter.
+-- 16 digits are accepted, and a byte after them that is no digit does not matter.
 pub sixteen_digits_of_u8 : parse_prefix_answer u8_type false false (codes "0000000000000000x") ≡ Ok (pos 0, 16)
 unfolding refusal
 sixteen_digits_of_u8 = refl
@@ -72,27 +73,29 @@ pub sixteen_digits_of_i32 : parse_prefix_answer i32_type false false (codes "-00
 unfolding refusal
 sixteen_digits_of_i32 = refl
 
--- Nor is it in the slice of an error.
+-- The slice in the error does not contain the sign.
 pub seventeen_digits_of_i8 : parse_prefix_answer i8_type false false (codes "-00000000000000000") ≡ Err (size 17 (codes "00000000000000000"))
 unfolding refusal
 seventeen_digits_of_i8 = refl
 
--- The size is checked before the range, and counts at most 17 digits.
+-- The number of digits is checked before the range. For a prefix of a type of at most 32 bits, the
+-- error `size` counts at most 17 digits.
 pub size_before_range : parse_prefix_answer u8_type false false (codes "00000000000000255999") ≡ Err (size 17 (codes "00000000000000255999"))
 unfolding refusal
 size_before_range = refl
 
--- So it is if the first 16 digits spell a value above the bound already.
+-- The number of digits is checked first even if the first 16 digits already spell a value above the
+-- bound.
 pub size_of_seventeen_ones : parse_prefix_answer u32_type false false (codes "11111111111111111") ≡ Err (size 17 (codes "11111111111111111"))
 unfolding refusal
 size_of_seventeen_ones = refl
 
--- 16 digits are not too many, but their value is out of range.
+-- 16 ones are not too many digits, but their value is out of range.
 pub range_of_sixteen_ones : parse_prefix_answer u32_type false false (codes "1111111111111111") ≡ Err (overflow (codes "1111111111111111"))
 unfolding refusal
 range_of_sixteen_ones = refl
 
--- A prefix that skips zeros may have any number of digits.
+-- If zeros are skipped and the type has at most 32 bits, a prefix may have any number of digits.
 pub narrow_prefix_skips : parse_prefix_answer u8_type true false (codes "00000000000000007") ≡ Ok (pos 7, 17)
 unfolding refusal
 narrow_prefix_skips = refl
@@ -102,18 +105,19 @@ pub zeros_alone : parse_prefix_answer u8_type true false (codes "000000000000000
 unfolding refusal
 zeros_alone = refl
 
--- The slice of an overflow leaves out the zeros if the block of 16 bytes in which they end consists
--- of digits.
+-- For a prefix of a type of at most 32 bits, the rule looks at the body in blocks of 16 bytes. The
+-- slice in `overflow` leaves out the skipped zeros if the block in which they end is full of
+-- digits.
 pub overflow_without_zeros : parse_prefix_answer u8_type true false (codes "00000000000000255999") ≡ Err (overflow (codes "255999"))
 unfolding refusal
 overflow_without_zeros = refl
 
--- 16 digits fill that block.
+-- 16 digits fill the first block, so the 13 zeros are left out.
 pub overflow_drops_thirteen : parse_prefix_answer u8_type true false (codes "0000000000000999x") ≡ Err (overflow (codes "999x"))
 unfolding refusal
 overflow_drops_thirteen = refl
 
--- 15 digits do not, so the zeros are kept.
+-- 15 digits do not fill the first block, so the 12 zeros are kept.
 pub overflow_keeps_twelve : parse_prefix_answer u8_type true false (codes "000000000000999x") ≡ Err (overflow (codes "000000000000999x"))
 unfolding refusal
 overflow_keeps_twelve = refl
@@ -123,7 +127,7 @@ pub zeros_count_as_digits : parse_answer u64_type false false (codes "0000000000
 unfolding refusal
 zeros_count_as_digits = refl
 
--- Skipped zeros do not.
+-- Skipped zeros do not count towards the limit.
 pub zeros_skipped : parse_answer u64_type true false (codes "000000000000000000000") ≡ Ok (pos 0)
 unfolding refusal
 zeros_skipped = refl
@@ -133,18 +137,19 @@ pub greatest_u64 : parse_answer u64_type false false (codes "1844674407370955161
 unfolding refusal
 greatest_u64 = refl
 
--- One more is not.
+-- The largest value of 64 bits plus one is out of range.
 pub above_greatest_u64 : parse_answer u64_type false false (codes "18446744073709551616") ≡ Err (overflow (codes "18446744073709551616"))
 unfolding refusal
 above_greatest_u64 = refl
 
--- 20 digits are too many for a signed type of 64 bits.
+-- If zeros are not skipped, 20 digits are too many for a signed type of 64 bits, even if the first
+-- one is a zero.
 pub twenty_digits_of_i64 : parse_answer i64_type false false (codes "09223372036854775807") ≡ Err (size 20 (codes "09223372036854775807"))
 unfolding refusal
 twenty_digits_of_i64 = refl
 
--- A size counts the skipped zeros and at most 24 of the digits after them, and its slice starts
--- after the zeros.
+-- For a type of 64 bits, the error `size` counts the skipped zeros and at most 24 of the digits
+-- after them. Its slice starts after these zeros.
 pub size_is_capped : parse_prefix_answer u64_type true false (codes "0001111111111111111111111111") ≡ Err (size 27 (codes "1111111111111111111111111"))
 unfolding refusal
 size_is_capped = refl
@@ -164,17 +169,17 @@ pub greatest_u128 : parse_answer u128_type false false (codes "34028236692093846
 unfolding refusal
 greatest_u128 = refl
 
--- One more is not.
+-- The largest value of 128 bits plus one is out of range.
 pub above_greatest_u128 : parse_answer u128_type false false (codes "340282366920938463463374607431768211456") ≡ Err (overflow (codes "340282366920938463463374607431768211456"))
 unfolding refusal
 above_greatest_u128 = refl
 
--- 39 zeros are not too many for 128 bits.
+-- 39 zeros that are not skipped are not too many for 128 bits.
 pub thirty_nine_zeros : parse_answer u128_type false false (codes "000000000000000000000000000000000000000") ≡ Ok (pos 0)
 unfolding refusal
 thirty_nine_zeros = refl
 
--- 41 are, and the size counts at most 40.
+-- 41 zeros that are not skipped are too many, and the error `size` counts at most 40.
 pub forty_one_zeros : parse_answer u128_type false false (codes "00000000000000000000000000000000000000000") ≡ Err (size 40 (codes "00000000000000000000000000000000000000000"))
 unfolding refusal
 forty_one_zeros = refl
@@ -184,7 +189,7 @@ pub plus_counted : parse_prefix_answer i32_type false true (codes "+12a") ≡ Ok
 unfolding refusal
 plus_counted = refl
 
--- It includes a minus, too.
+-- The count of a prefix also includes a minus.
 pub minus_counted : parse_prefix_answer i32_type false false (codes "-12a") ≡ Ok (negsuc 11, 3)
 unfolding refusal
 minus_counted = refl
@@ -204,12 +209,12 @@ pub no_minus_unsigned : parse_answer u8_type false true (codes "-5") ≡ Err emp
 unfolding refusal
 no_minus_unsigned = refl
 
--- The index of the byte counts the skipped zeros, and the slice keeps them.
+-- If a byte follows the digits, its index counts the skipped zeros too, and the slice keeps them.
 pub rest_after_zeros : parse_answer u64_type true false (codes "0000000000000000000000007x") ≡ Err (invalid64 7 25 (codes "0000000000000000000000007x"))
 unfolding refusal
 rest_after_zeros = refl
 
--- A type of 128 bits has a variant of its own.
+-- If a byte follows the digits, the error for a type of 128 bits has a variant of its own.
 pub wide_error : parse_answer u128_type true false (codes "0000012x") ≡ Err (invalid128 12 7 (codes "0000012x"))
 unfolding refusal
 wide_error = refl
@@ -219,12 +224,12 @@ pub text_of_invalid64 : error_text (invalid64 12 2 (codes "12a")) ≡ codes "ato
 unfolding digits
 text_of_invalid64 = refl
 
--- There is one for a type of 128 bits.
+-- There is one space before `input:` for a type of 128 bits.
 pub text_of_invalid128 : error_text (invalid128 12 2 (codes "12a")) ≡ codes "atoi_simd invalid at index: 2 it must contain only digits, starting with: 12 input: [31, 32, 61]"
 unfolding digits
 text_of_invalid128 = refl
 
--- The text of a size shows its number and its slice.
+-- The text of the error `size` shows its number and its slice.
 pub text_of_size : error_text (size 27 (codes "11")) ≡ codes "atoi_simd wrong size: 27 input: [31, 31]"
 unfolding digits
 text_of_size = refl
@@ -234,7 +239,7 @@ pub text_of_no_input : error_text (overflow (codes "")) ≡ codes "atoi_simd ove
 unfolding digits
 text_of_no_input = refl
 
--- Bytes are shown in capitals, without leading zeros.
+-- Bytes are shown in hexadecimal capitals, without leading zeros.
 pub text_of_small_bytes : error_text (overflow (0 ∷ 10 ∷ 13 ∷ 255 ∷ [])) ≡ codes "atoi_simd overflow, input: [0, A, D, FF]"
 unfolding digits
 text_of_small_bytes = refl
@@ -256,7 +261,7 @@ prefix_first = refl
 pub left_number_first : refusal_cmp (invalid64 1 2 (codes "a")) (invalid64 2 1 (codes "a")) ≡ Less
 left_number_first = refl
 
--- The body starts with the second sign.
+-- Only the first of two signs is consumed, and the body starts with the second.
 pub second_sign_stays : sign_of true true (codes "+-5") ≡ record { minus = false; taken = 1; body = codes "-5" }
 second_sign_stays = refl
 

@@ -11,14 +11,14 @@ pub record IntType : Type 0 where
 abbrev pub int_type : ℕ → Bool → ℕ → IntType
 int_type bits signed greatest = record { bits = bits; signed = signed; greatest = greatest }
 
--- The largest value of a type with that many bits. If the type is signed, one of them is for the
+-- The largest value of a type with `bits` bits. If the type is signed, one of its bits is for the
 -- sign.
 abbrev pub greatest_of : ℕ → Bool → ℕ
 greatest_of bits true = 2 ^ (bits - 1) - 1
 greatest_of bits false = 2 ^ bits - 1
 
--- The type has one of the five sizes, 8, 16, 32, 64 and 128 bits, and its largest value is that of
--- its size.
+-- The type has one of the five sizes, 8, 16, 32, 64 and 128 bits, and its largest value is the one
+-- that `greatest_of` gives.
 pub record IsSized (k : IntType) : Type 0 where
   pub bits : (k.bits ≡ 8) ⊎ ((k.bits ≡ 16) ⊎ ((k.bits ≡ 32) ⊎ ((k.bits ≡ 64) ⊎ (k.bits ≡ 128))))
   pub greatest : k.greatest ≡ greatest_of k.bits k.signed
@@ -33,12 +33,13 @@ pub record IsTypeOf (k : IntType) (bits : ℕ) (signed : Bool) (greatest : ℕ) 
 abbrev pub class_of : IntType → Class
 class_of k = if nat_le k.bits 32 then narrow else (if k.bits == 64 then wide64 else wide128)
 
--- The largest magnitude in range, a magnitude being a value without its sign: with a minus that of
--- the smallest value, otherwise that of the largest.
+-- The largest magnitude in range; a magnitude is a value without its sign. Without a minus, this is
+-- the largest value. With a minus, which only a signed type has, it is one more: the magnitude of
+-- the smallest value.
 abbrev pub bound_of : IntType → Bool → ℕ
 bound_of k minus = if minus then k.greatest + 1 else k.greatest
 
--- How many digits the largest magnitude of a type of 64 or 128 bits has. It is the same with a
--- minus and without.
+-- How many digits the largest magnitude of a type of 64 or 128 bits has. This number is the same
+-- with a minus and without.
 abbrev pub limit_of : IntType → ℕ
 limit_of k = if k.bits == 64 then (if k.signed then 19 else 20) else 39

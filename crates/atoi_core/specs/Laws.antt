@@ -15,13 +15,14 @@ use Rattle.atoi_core.specs.Sign.{Sign, sign_of, with_sign}
 use Rattle.atoi_core.specs.Answer.{typed_answer, typed_prefix_answer, whole_answer, prefix_answer, with_more, parse_answer, parse_prefix_answer}
 use Rattle.atoi_core.specs.Text.{IsText, is_minus, DigitsWrite, TextWrites, BeginsWithDigit, PrefixWrites, has_needless_zero}
 
--- How a call gets its sign: either it looks for one at the start of its slice, and accepts a plus
--- only if `plus` is on; or it looks for none, and is passed whether the number is negative.
+-- How a call gets its sign. Either it looks for a sign at the start of its slice, and accepts a
+-- plus only if `plus` is on. Or it looks for none, and `is_negative` says whether its digits are
+-- those of a negative number.
 pub data SignForm : Type 0 where
   looked_for : (plus : Bool) → SignForm
   given : (is_negative : Bool) → SignForm
 
--- The form of a call that reads digits without a sign, of a number that is not negative.
+-- The form of a call that looks for no sign, and reads the digits of a number that is not negative.
 abbrev pub positive : SignForm
 positive = given false
 
@@ -30,7 +31,7 @@ abbrev pub sign_in : IntType → SignForm → List ℕ → Sign
 sign_in k (looked_for plus) s = sign_of k.signed plus s
 sign_in k (given is_negative) s = record { minus = is_negative; taken = 0; body = s }
 
--- The answer of the whole parse of that form.
+-- The answer of the whole parse of that form, which parses all of its slice.
 abbrev pub whole_call : IntType → SignForm → (skip : Bool) → List ℕ → Result ℤ Refusal
 whole_call k (looked_for plus) skip s = parse_answer k skip plus s
 whole_call k (given is_negative) skip s = whole_answer decimal_table k is_negative skip s
@@ -49,8 +50,8 @@ Writes k (given is_negative) = DigitsWrite k is_negative
 abbrev pub least_of : IntType → ℤ
 least_of k = if k.signed then neg_ℤ (pos (k.greatest + 1)) else pos 0
 
--- The condition under which a prefix may have as many digits as a whole slice: either zeros are
--- skipped, or the type has more than 32 bits.
+-- The condition under which a prefix and a whole slice have the same limit on their digits: either
+-- zeros are skipped, or the type has more than 32 bits.
 abbrev pub HasLimitOfWhole : IntType → Bool → Type 0
 HasLimitOfWhole k skip = (skip ≡ true) ⊎ (32 < k.bits)
 
@@ -101,8 +102,8 @@ pub record AcceptedNumbers (k : IntType) : Type 0 where
   pub accepted : (form : SignForm) (s : List ℕ) (number : ℤ)
       → Writes k form s number → whole_call k form true s ≡ Ok number
 
--- The same for a Rust `Result` with a value of a type; `number` gives the integer that such a value
--- means. If zeros are skipped, an error means that the slice writes no number.
+-- The same for the Rust `Result` of a whole parse; `number` gives the integer that a value of the
+-- type means. If zeros are skipped, an error means that the slice writes no number.
 pub record WholeResults {T : Type 0} (k : IntType) (number : T → ℤ) (skip : Bool) : Type 0 where
   pub text : (plus : Bool) (s : List ℕ) (result : Result T AtoiSimdError)
       → typed_answer number result ≡ parse_answer k skip plus s
@@ -119,15 +120,15 @@ pub record WholeResults {T : Type 0} (k : IntType) (number : T → ℤ) (skip : 
 
 -- A prefix parse returns a number and a count only if the first `count` bytes of its slice write
 -- that number, and no digit follows them. If zeros are skipped, the converse holds too: if a prefix
--- is of this kind, its number and its length are returned.
+-- writes a number and no digit follows it, this number and the length of the prefix are returned.
 pub record AcceptedPrefixes (k : IntType) : Type 0 where
   pub written : (form : SignForm) (skip : Bool) (s : List ℕ) (number : ℤ) (count : ℕ)
       → prefix_call k form skip s ≡ Ok (number, count) → PrefixWrites (Writes k form) s number count
   pub accepted : (form : SignForm) (s : List ℕ) (number : ℤ) (count : ℕ)
       → PrefixWrites (Writes k form) s number count → prefix_call k form true s ≡ Ok (number, count)
 
--- The same for a Rust `Result` with a value of a type. If zeros are skipped, an error means that
--- the slice has no such prefix.
+-- The same for the Rust `Result` of a prefix parse. If zeros are skipped, an error means that the
+-- slice has no prefix that writes a number and is not followed by a digit.
 pub record PrefixResults {T : Type 0} (k : IntType) (number : T → ℤ) (skip : Bool) : Type 0 where
   pub text : (plus : Bool) (s : List ℕ) (result : Result (T × ℕ) AtoiSimdError)
       → typed_prefix_answer number result ≡ parse_prefix_answer k skip plus s
@@ -157,8 +158,9 @@ pub record PrefixesAndRests (k : IntType) : Type 0 where
       → PrefixWrites (Writes k form) s other count
       → (number ≡ other) × ((take count s ≡ prefix_bytes) × (drop count s ≡ rest))
 
--- If a prefix parse reads its slice to the end, the whole parse returns the same value. If a prefix
--- may have as many digits as a whole slice, the converse holds too.
+-- If a prefix parse succeeds and its count is the length of the slice, the whole parse succeeds
+-- with the same value. The converse holds if zeros are skipped, or if the type has more than 32
+-- bits.
 pub record PrefixIsWhole (k : IntType) : Type 0 where
   pub whole : (form : SignForm) (skip : Bool) (s : List ℕ) (v : ℤ)
       → prefix_call k form skip s ≡ Ok (v, length s) → whole_call k form skip s ≡ Ok v
@@ -193,8 +195,8 @@ SkippingAgrees k =
     (form : SignForm) (s : List ℕ) (v : ℤ)
     → whole_call k form false s ≡ Ok v → whole_call k form true s ≡ Ok v
 
--- The order of errors calls two errors equal exactly if they are. The slice in an error is a suffix
--- of the slice that was parsed.
+-- The order of errors calls two errors equal exactly if they are the same. The slice in an error is
+-- a suffix of the slice that was parsed.
 pub record OrderAndSuffix (k : IntType) : Type 0 where
   pub order : (a b : Refusal) → (refusal_cmp a b ≡ Equal) ↔ (a ≡ b)
   pub whole : (form : SignForm) (skip : Bool) (s : List ℕ) (reason : Refusal)
@@ -234,13 +236,13 @@ IsTooLong k extent skip body =
     IsAbove (rule_of (class_of k) extent skip (limit_of k) 0 0).limit
     (run_len decimal_table body - skipped_zeros decimal_table skip body)
 
--- The body starts with a digit, and does not have too many.
+-- The body starts with a digit, and does not have too many significant digits.
 pub record HasSomeDigits (k : IntType) (extent : Extent) (skip : Bool) (body : List ℕ) : Type 0 where
   pub some : 0 < run_len decimal_table body
   pub short : ¬ IsTooLong k extent skip body
 
--- Another byte follows digits whose value is in range. The error holds this value and the index of
--- that byte in the body.
+-- The body starts with digits that are not too many and whose value is in range, and another byte
+-- follows them. The error holds this value and the index of that byte in the body.
 pub record IsFollowed (k : IntType) (extent : Extent) (is_negative skip : Bool) (body : List ℕ) (number index : ℕ) : Type 0 where
   pub begins : HasSomeDigits k extent skip body
   pub in_range : value decimal_table (run decimal_table body) ≤ bound_of k is_negative
@@ -249,7 +251,8 @@ pub record IsFollowed (k : IntType) (extent : Extent) (is_negative skip : Bool) 
   pub index_is : index ≡ run_len decimal_table body
 
 -- What a reason says about the body. The first that applies is returned: the body does not start
--- with a digit; it has too many digits; they spell a value out of range; another byte follows them.
+-- with a digit; it has too many significant digits; its digits spell a value out of range; another
+-- byte follows its digits.
 abbrev pub Explains : IntType → Extent → (is_negative skip : Bool) → List ℕ → Refusal → Type 0
 Explains k extent is_negative skip body empty = run_len decimal_table body ≡ 0
 Explains k extent is_negative skip body (size count rest) = (0 < run_len decimal_table body) × IsTooLong k extent skip body
@@ -258,8 +261,8 @@ Explains k extent is_negative skip body (overflow rest) =
 Explains k extent is_negative skip body (invalid64 number index input) = IsFollowed k extent is_negative skip body number index
 Explains k extent is_negative skip body (invalid128 number index input) = IsFollowed k extent is_negative skip body number index
 
--- Each error is explained by the body that the call reads. For a prefix parse, a byte after the
--- digits is never an error.
+-- If a call returns an error, then what `Explains` says for this error holds of the body that the
+-- call reads. For a prefix parse, a byte after the digits is never an error.
 pub record ErrorsInOrder (k : IntType) : Type 0 where
   pub whole : (form : SignForm) (skip : Bool) (s : List ℕ) (reason : Refusal) → whole_call k form skip s ≡ Err reason
       → Explains k whole (sign_in k form s).minus skip (sign_in k form s).body reason

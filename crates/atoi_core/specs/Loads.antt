@@ -6,15 +6,15 @@ use Rattle.atoi_core.specs.Magnitude.{Class, Extent, narrow, wide64, wide128, wh
 use Rattle.atoi_core.specs.IntType.{IntType, class_of}
 
 -- How many loads the upper bound allows in each *turn*, which is what a call does for 16 leading
--- zeros. A loop makes one load in a turn. The wide types have the larger factors 2 and 3: times the
--- two turns that `most_loads` adds, they cover the loads after the last zero too.
+-- zeros. A loop makes one load in a turn. For the wide types the bound allows 2 and 3 loads in a
+-- turn. In this way, the two turns that `most_loads` adds also cover the loads after the last zero.
 abbrev pub loads_a_turn : Class → ℕ
 loads_a_turn narrow = 1
 loads_a_turn wide64 = 2
 loads_a_turn wide128 = 3
 
--- The most loads that a call makes over a slice: those of one turn for each 16 leading zeros, and
--- of two turns more.
+-- The most loads that a call makes over a slice. The bound counts one turn for each 16 leading
+-- zeros, and two more turns.
 abbrev pub most_loads : Table → Class → List ℕ → ℕ
 most_loads table class s = loads_a_turn class * (zeros table s / 16 + 2)
 
@@ -24,8 +24,8 @@ most_unskipped narrow = 2
 most_unskipped wide64 = 2
 most_unskipped wide128 = 5
 
--- Whether a call skips zeros: as its flag says, except that the whole parse of a narrow type always
--- does.
+-- Whether a call skips zeros. The parse of a whole slice for a narrow type always skips them. For
+-- every other call, the flag `skip` decides.
 abbrev pub skips_zeros : Class → Extent → Bool → Bool
 skips_zeros narrow whole skip = true
 skips_zeros narrow prefix skip = skip

@@ -1,6 +1,5 @@
 -- The answer to a body. The *body* is what follows the sign in a slice. The answer is the magnitude
--- that the body spells, which is its value without the sign, or the first reason to refuse the
--- body.
+-- of the number, which is its value without the sign, or the first reason to refuse the body.
 use Rattle.std.specs.Prelude.{ℕ, ◌+◌, ◌-◌, ◌*◌, ◌/◌, ◌^◌, ◌<◌, ◌≤◌, min, Bool, true, false, not, ◌==◌, nat_lt, if◌then◌else◌, List, length, drop, Option, Some, None, Result, Ok, Err}
 use Rattle.atoi_core.specs.Digit.{Table}
 use Rattle.atoi_core.specs.Run.{run_len, run, zeros, value}
@@ -34,9 +33,10 @@ pub record Rule : Type 0 where
   pub dropped : ℕ
 
 -- The rule for each class, extent and flag. The limit for 64 and 128 bits is an argument. For a
--- narrow prefix that skips zeros, the slice of `overflow` leaves out all leading zeros if the
--- digits, zeros included, fill more blocks of 16 bytes than the zeros alone do. Otherwise it leaves
--- out only the zeros that fill whole blocks.
+-- prefix of a narrow type with zeros skipped, the rule looks at the body in blocks of 16 bytes. If
+-- all digits together, leading zeros included, fill more blocks than the leading zeros do, then the
+-- slice of `overflow` leaves out all leading zeros. Otherwise it leaves out only the zeros that
+-- fill whole blocks.
 abbrev pub rule_of : Class → Extent → Bool → (limit digits skipped : ℕ) → Rule
 rule_of narrow whole skip limit digits skipped = record { limit = None; cap = 0; dropped = 0 }
 rule_of narrow prefix false limit digits skipped = record { limit = Some 16; cap = 17; dropped = 0 }
@@ -82,13 +82,13 @@ abbrev pub unless_refused : {A : Type 0} → Option Refusal → A → Result A R
 unless_refused None answer = Ok answer
 unless_refused (Some reason) answer = Err reason
 
--- The answer to a whole body is the value of its digits.
+-- If a whole body is not refused, the answer to it is the value of its digits.
 abbrev pub whole_magnitude : Table → Class → (bound limit : ℕ) → Bool → List ℕ → Result ℕ Refusal
 whole_magnitude table class bound limit skip body =
     unless_refused (refusal table class bound limit whole skip body) (value table (run table body))
 
--- The answer to the number at the start of a body is the value of its digits, and how many there
--- are.
+-- If the number at the start of a body is not refused, the answer to it is the value of its digits
+-- and how many digits it has.
 abbrev pub prefix_magnitude : Table → Class → (bound limit : ℕ) → Bool → List ℕ → Result (ℕ × ℕ) Refusal
 prefix_magnitude table class bound limit skip body =
     unless_refused (refusal table class bound limit prefix skip body) (value table (run table body), run_len table body)

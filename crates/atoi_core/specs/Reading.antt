@@ -1,13 +1,14 @@
--- What has been read at the start of a slice, and the answer that this decides. It is for engines
--- that read integers of 64 and of 128 bits with loops of their own.
+-- What has been read at the start of a slice, and the answer that this decides. This file is for
+-- engines that read integers of 64 and of 128 bits with loops of their own.
 use Rattle.std.specs.Prelude.{◌≡◌, ◌⊎◌, ℕ, ◌+◌, ◌-◌, ◌*◌, ◌^◌, ◌<◌, ◌≤◌, min, Bool, true, false, ◌==◌, nat_lt, if◌then◌else◌, List, length, take, drop, Result, Ok, Err}
 use Rattle.atoi_core.specs.Digit.{Table, IsBelowTen}
 use Rattle.atoi_core.specs.Run.{run_len, run, zeros, value}
 use Rattle.atoi_core.specs.Refusal.{Refusal, empty, size, overflow}
 use Rattle.atoi_core.specs.Magnitude.{Class, prefix, rule_of, HasDigits, prefix_magnitude}
 
--- A reading of the first `count` bytes of a slice, or of all its bytes if there are fewer: how many
--- digits they start with, how many leading zeros, and the number that these digits spell.
+-- A reading of the first `count` bytes of a slice, or of all its bytes if there are fewer. These
+-- bytes start with exactly `digits` digits and exactly `leading` zeros, and the digits spell
+-- `number`.
 pub record Reading (table : Table) (count : ℕ) (s : List ℕ) (digits leading number : ℕ) : Type 0 where
   pub digits_are : digits ≡ run_len table (take count s)
   pub leading_are : leading ≡ zeros table (take count s)
@@ -25,13 +26,13 @@ abbrev pub significant_digits : Bool → (digits leading : ℕ) → ℕ
 significant_digits true digits leading = digits - leading
 significant_digits false digits leading = digits
 
--- How many significant digits the error `size` of a wide class counts at most. The wide classes are
--- those of 64 and of 128 bits.
+-- The largest number of significant digits that the error `size` of a wide class counts. The wide
+-- classes are those of 64 and of 128 bits.
 abbrev pub cap : Class → ℕ
 cap class = (rule_of class prefix true 0 0 0).cap
 
--- The answer of a wide class after `skipped` zeros that are skipped and `significant` more
--- digits that spell `number`.
+-- The answer of a wide class to a slice that begins with `skipped` skipped zeros and then has
+-- `significant` digits that spell `number`.
 abbrev pub answer_by_digits : Class → (bound limit skipped significant number : ℕ) → List ℕ → Result (ℕ × ℕ) Refusal
 answer_by_digits class bound limit skipped significant number s =
     if skipped + significant == 0 then Err empty
@@ -41,10 +42,12 @@ answer_by_digits class bound limit skipped significant number s =
 
 -- The law that what has been read decides the answer.
 pub record ReadingDecides : Type 0 where
-  -- After `offset` zeros, a reading has the zeros that are left, as far as it goes.
+  -- If all bytes before index `offset` are zeros, then a reading from that index on starts with the
+  -- leading zeros of the slice that are left, or with `count` zeros if more are left.
   pub zeros_left : (table : Table) (count : ℕ) (s : List ℕ) (offset : ℕ) → offset ≤ zeros table s
       → zeros table (take count (drop offset s)) ≡ min count (zeros table s - offset)
-  -- If a reading is full of digits, it and the reading after it together form one.
+  -- If all `count` bytes of a reading are digits, then this reading and the next one together form
+  -- one reading of `count + more` bytes.
   pub join_readings : (table : Table) (count more : ℕ) (s : List ℕ) (leading high digits others low : ℕ)
       → Reading table count s count leading high → Reading table more (drop count s) digits others low
       → Reading table (count + more) s (count + digits) (if leading == count then count + others else leading) (high * 10 ^ digits + low)
@@ -67,9 +70,9 @@ pub record ReadingDecides : Type 0 where
       → prefix_magnitude table class bound limit skip s
       ≡ (let significant = significant_digits skip digits leading in
       answer_by_digits class bound limit (offset + (digits - significant)) significant number s)
-  -- After skipped zeros, a reading whose digits end within it and are fewer than the limit has a
-  -- number within the bound, which is the answer. If there are no digits at all, the answer is
-  -- `empty`.
+  -- This is about a reading after skipped zeros whose digits end within it and are fewer than the
+  -- limit. The number that these digits spell is within the bound. It is the answer, unless there
+  -- are no digits and no skipped zeros. Then the answer is `empty`.
   pub short : (table : Table) → IsBelowTen table → (class : Class) (bound limit : ℕ) → limit < cap class → HasDigits limit bound
       → (skip : Bool) (s : List ℕ) (offset count digits leading number : ℕ) → IsSkipped table skip s offset
       → Reading table count (drop offset s) digits leading number → digits < count → digits < limit

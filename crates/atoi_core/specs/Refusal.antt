@@ -7,8 +7,8 @@ use Rattle.std.specs.declared.cmp.Ordering.{Ordering}
 use Rattle.atoi_core.specs.declared.error.AtoiSimdError.{AtoiSimdError}
 use Rattle.atoi_core.specs.declared.error.AtoiSimdError.TheVariants.{Empty, Size, Overflow, Invalid64, Invalid128}
 
--- The five reasons. Each holds the numbers and the slice of the variant of `AtoiSimdError` with its
--- name.
+-- The five reasons. Each corresponds to the variant of `AtoiSimdError` with the same name, and
+-- holds its numbers and its slice.
 pub data Refusal : Type 0 where
   empty : Refusal
   size : ℕ → List ℕ → Refusal
@@ -24,7 +24,7 @@ refusal_of (Overflow input) = overflow input.now
 refusal_of (Invalid64 number index input) = invalid64 number index input.now
 refusal_of (Invalid128 number index input) = invalid128 number index input.now
 
--- The answer that a result means: a reason replaces the error.
+-- The answer that a Rust `Result` means: a reason replaces the error.
 abbrev pub answer_of : {A : Type 0} → Result A AtoiSimdError → Result A Refusal
 answer_of (Ok value) = Ok value
 answer_of (Err error) = Err (refusal_of error)
@@ -45,7 +45,8 @@ numbers (overflow input) = []
 numbers (invalid64 number index input) = number ∷ index ∷ []
 numbers (invalid128 number index input) = number ∷ index ∷ []
 
--- The number that the digits before an invalid byte spell; 0 for the other reasons.
+-- The number in `invalid64` or `invalid128`, which the digits before the invalid byte spell. It is
+-- 0 for the other reasons.
 abbrev pub number_in : Refusal → ℕ
 number_in empty = 0
 number_in (size length input) = 0
@@ -53,7 +54,7 @@ number_in (overflow input) = 0
 number_in (invalid64 number index input) = number
 number_in (invalid128 number index input) = number
 
--- The index of the invalid byte; 0 for the other reasons.
+-- The index of the invalid byte in `invalid64` or `invalid128`. It is 0 for the other reasons.
 abbrev pub index_in : Refusal → ℕ
 index_in empty = 0
 index_in (size length input) = 0

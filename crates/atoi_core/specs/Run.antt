@@ -15,8 +15,8 @@ run table s = take (run_len table s) s
 abbrev pub zeros : Table → List ℕ → ℕ
 zeros table s = prefix_len (is_zero table) s
 
--- The number that digits spell: the sum of their digit values, each times ten for every digit after
--- it.
+-- The number that digits spell: the sum of their digit values, each multiplied by `10 ^ k` if `k`
+-- digits follow it.
 abbrev pub value : Table → List ℕ → ℕ
 value table [] = 0
 value table (digit ∷ digits) = digit_value table digit * 10 ^ length digits + value table digits

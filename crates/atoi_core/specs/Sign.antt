@@ -1,8 +1,8 @@
 -- The sign at the start of a slice.
 use Rattle.std.specs.Prelude.{ℕ, Bool, true, false, ◌&&◌, ◌==◌, if◌then◌else◌, List, [], ◌∷◌, ℤ, pos, neg_ℤ}
 
--- Whether the sign is a minus, how many bytes were consumed with it, and the body, which is the
--- slice after them.
+-- Whether the sign is a minus, how many bytes of the slice were consumed as a sign, and the body,
+-- which is the rest of the slice.
 pub record Sign : Type 0 where
   pub minus : Bool
   pub taken : ℕ

@@ -27,9 +27,9 @@ is_plus no_sign = false
 is_plus plus = true
 is_plus minus = false
 
--- The bytes are one or more decimal digits and nothing else, and write the number: it is their
--- value, negated if `is_negative` holds, and in the range of the type. The definitions of digits
--- and of their value are those of std.
+-- The bytes are one or more decimal digits and nothing else, and they write the number. The number
+-- is their value, negated if `is_negative` holds, and is in the range of the type. (`is_negative`
+-- is meant for signed types only.) The definitions of digits and of their value are those of std.
 pub record DigitsWrite (k : IntType) (is_negative : Bool) (digits : List ℕ) (number : ℤ) : Type 0 where
   pub numeral : IsNumeral 10 digits
   pub in_range : digits_value 10 digits ≤ bound_of k is_negative
@@ -45,7 +45,7 @@ pub record TextWrites (k : IntType) (takes_plus : Bool) (s : List ℕ) (number :
   pub plus_taken : is_plus sign ≡ true → takes_plus ≡ true
   pub written : DigitsWrite k (is_minus sign) digits number
 
--- The bytes are a text of the type: they write some number of it, with a plus allowed.
+-- The bytes are a text of the type: they write some number of the type, and a plus is allowed.
 pub record IsText (k : IntType) (s : List ℕ) : Type 0 where
   pub number : ℤ
   pub written : TextWrites k true s number
@@ -63,8 +63,8 @@ pub record PrefixWrites (Writes : List ℕ → ℤ → Type 0) (s : List ℕ) (n
   pub within : count ≤ length s
   pub ends : ¬ BeginsWithDigit (drop count s)
 
--- The digits start with a zero and have more bytes after it, so the number could be written without
--- it.
+-- The digits start with a zero and at least one more digit follows, so the number could be written
+-- without this zero.
 abbrev pub has_needless_zero : List ℕ → Bool
 has_needless_zero [] = false
 has_needless_zero (digit ∷ []) = false

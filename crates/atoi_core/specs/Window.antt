@@ -4,8 +4,9 @@ use Rattle.atoi_core.specs.Digit.{Table}
 use Rattle.atoi_core.specs.Run.{run_len, run, zeros, value}
 use Rattle.atoi_core.specs.declared.window.Window.{Window}
 
--- The window of the first `size` bytes, or of all bytes if the slice has fewer: the length and the
--- value of their run, and the number of their leading zeros if the window is full of digits.
+-- The window of the first `size` bytes, or of all bytes if the slice has fewer. It has the length
+-- and the value of their run. If there are `size` bytes and all are digits, `zeroes` is the number
+-- of their leading zeros, otherwise it is 0.
 abbrev pub window_of : Table → ℕ → List ℕ → Window
 window_of table size s =
     let bytes = take size s in

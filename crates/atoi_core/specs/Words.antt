@@ -10,8 +10,8 @@ low_bytes count word = digits_l 256 count word
 unfoldable pub word_of : List ℕ → ℕ
 word_of bytes = number_l 256 bytes
 
--- The number that bytes spell by their lower halves: the sum of all bytes modulo 16, each times ten
--- for every byte after it.
+-- The lower half of a byte is the byte modulo 16. This is the number that the lower halves of the
+-- bytes spell: the sum of these halves, each multiplied by `10 ^ k` if `k` bytes follow it.
 abbrev pub low_value : List ℕ → ℕ
 low_value [] = 0
 low_value (byte ∷ bytes) = (byte % 16) * 10 ^ length bytes + low_value bytes

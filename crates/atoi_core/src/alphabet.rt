@@ -1,4 +1,5 @@
-//! Digits of any alphabet, and the window that is read byte by byte in them. It uses only `window`.
+//! The trait `Alphabet`, which says which bytes are digits, and the function `front_of`, which
+//! reads a window byte by byte with these digits. This module uses only `window`.
 ghost use Rattle.std.specs.Prelude.{◌≡◌, ◌≤◌, length};
 ghost use Rattle.atoi_core.specs.Digit.{Table, IsBelowTen};
 ghost use Rattle.atoi_core.specs.Run.{run_len, run, value, zeros};
@@ -8,10 +9,11 @@ use crate::window::Window;
 
 /// The digit value of each byte, as a function that code can call.
 ///
-/// `front_of` reads windows with it, so an `Engine` with digits other than the decimal ones needs
-/// no proof about its windows.
+/// An `Engine` may have digits other than the decimal ones. If they are those of an `Alphabet`, the
+/// engine can read its windows with `front_of`, and then needs no proof about them.
 pub trait Alphabet {
-    /// The digit value of each byte, if it is a digit. Only contracts can refer to it.
+    /// The digit value of each byte that is a digit, and `None` for every other byte. Only
+    /// contracts can refer to this table.
     ghost table: { Table };
 
     /// Returns the digit value of `byte`, or `None` if it is no digit.

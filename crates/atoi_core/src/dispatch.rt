@@ -1,7 +1,8 @@
-//! The four *core calls*, `whole_pos`, `whole_neg`, `prefix_pos` and `prefix_neg`: the parses of
-//! digits without a sign into any integer type. They pick the bound by the sign, and the parser by
-//! the size of the type: at most 32 bits, 64 or 128. It uses `narrow`, `wide`, `prefix_128` and
-//! `number`, and the modules that their contracts name: `engine`, `steps` and `error`.
+//! The four *core calls*, `whole_pos`, `whole_neg`, `prefix_pos` and `prefix_neg`. They parse
+//! digits without a sign into any integer type. The name of the call says whether the number is
+//! negative, and this decides the bound on its magnitude. The size of the type, which is at most 32
+//! bits, 64 or 128, decides the parser. This module uses `narrow`, `wide`, `prefix_128` and
+//! `number`, and the modules that its contracts name, which are `engine`, `steps` and `error`.
 ghost use Rattle.std.specs.Prelude.{◌≡◌, ◌^◌, ◌<◌, ◌≤◌, true, false, IfOk, length};
 ghost use Rattle.atoi_core.specs.Answer.{typed_answer, typed_prefix_answer, whole_answer, prefix_answer};
 ghost use Rattle.atoi_core.specs.IntType.{class_of, bound_of, limit_of};
@@ -21,20 +22,20 @@ use crate::wide::{whole_64, whole_128};
 ///
 /// With `skip` any number of leading zeros is accepted. Types of at most 32 bits always accept
 /// them. The digits are those of the engine `E`. `steps` counts the loads; a *load* is one read of
-/// the engine.
+/// a window by the engine.
 ///
 /// # Errors
 ///
 /// Returns the first that applies. The *significant* digits are those after the skipped leading
 /// zeros, or all digits at the start of `s` without `skip`.
 /// - `Empty` if `s` does not start with a digit.
-/// - `Size(count, digits)` if `T` has 64 or 128 bits and there are more significant digits than its
-///   largest value has: 20 for `u64` and `usize`, 19 for `i64` and `isize`, 39 for types of 128
-///   bits. `count` is the number of skipped zeros plus that of the significant digits, but of the
-///   latter it counts at most 24, or 40 for types of 128 bits. `digits` is `s` from its first
-///   significant digit on.
-/// - `Overflow(digits)` if the value is above `T::MAX`. `digits` is `s`, for types of 64 and 128
-///   bits without the skipped zeros.
+/// - `Size(count, digits)` if `T` has 64 or 128 bits and there are more significant digits than
+///   `T::MAX` has. `T::MAX` has 20 digits for `u64` and `usize`, 19 for `i64` and `isize`, and 39
+///   for types of 128 bits. `count` is the number of skipped zeros plus the number of significant
+///   digits, of which at most 24 are counted, or 40 for types of 128 bits. `digits` is `s` from its
+///   first significant digit on.
+/// - `Overflow(digits)` if the value is above `T::MAX`. `digits` is `s`; for types of 64 and 128
+///   bits it is `s` without the skipped zeros.
 /// - `Invalid64(value, index, s)`, or `Invalid128` for types of 128 bits, if another byte follows
 ///   the digits. `value` is what they spell, and `index` is the position of that byte in `s`.
 #[inline(always)]
@@ -87,8 +88,8 @@ pub fn whole_neg<'a, E: Engine, T: Signed>(
 ///
 /// # Errors
 ///
-/// For types of 64 and 128 bits `Empty`, `Size` and `Overflow`, as for `whole_pos`. For narrower
-/// types those of `narrow_prefix`.
+/// For types of 64 and 128 bits these are `Empty`, `Size` and `Overflow`, as for `whole_pos`. For
+/// narrower types these are the errors of `narrow_prefix`.
 #[inline(always)]
 #[tactic(auto, using(crate::proofs::Calls::prefix_within, crate::proofs::Calls::prefix_in_bounds))]
 pub fn prefix_pos<'a, E: Engine, T: Number>(
@@ -107,8 +108,8 @@ pub fn prefix_pos<'a, E: Engine, T: Number>(
     }
 }
 
-/// Parses the digits of a negative number at the start of `s`, which has no minus, and returns the
-/// integer of type `T` with the number of these digits.
+/// Parses the digits at the start of `s`, which are those of a negative number without its minus.
+/// Returns the integer of type `T`, and how many digits there are, including leading zeros.
 ///
 /// It is like `prefix_pos`, but it negates the value, and the bound is the magnitude of `T::MIN`.
 ///
@@ -133,8 +134,8 @@ pub fn prefix_neg<'a, E: Engine, T: Signed>(
     }
 }
 
-// Returns the magnitude that all of `s` spells, with the bound of a negative number if `minus` is
-// set.
+// Returns the magnitude that all of `s` spells. The bound on it is that of a negative number if
+// `minus` is set, otherwise `T::MAX`.
 #[inline(always)]
 #[tactic(auto, using(crate::proofs::Calls::narrow_whole_limit))]
 fn whole_by_size<'a, E: Engine, T: Number>(
@@ -165,8 +166,8 @@ fn whole_by_size<'a, E: Engine, T: Number>(
     }
 }
 
-// Returns the magnitude at the start of `s`, with the bound of a negative number if `minus` is set,
-// and the number of its digits.
+// Returns the magnitude that the digits at the start of `s` spell, and how many these digits are.
+// The bound is as for `whole_by_size`.
 #[inline(always)]
 #[tactic(auto, using(crate::proofs::Calls::narrow_prefix_limit))]
 fn prefix_by_size<'a, E: Engine, T: Number>(

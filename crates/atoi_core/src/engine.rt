@@ -1,6 +1,7 @@
-//! The trait `Engine`, with the parsers of integers of 64 and of 128 bits over any engine, and the
-//! loop that skips leading zeros. An *engine* is an implementation of the reads that the parsers
-//! make. This module uses `window`, `wide_answer`, `steps` and `error`, and no particular engine.
+//! The trait `Engine`, whose provided methods parse an integer of 64 or of 128 bits at the start of
+//! a slice, and `window_after_zeros`, the loop that skips leading zeros for `narrow` and for the
+//! engine `Words`. An *engine* is an implementation of the reads that the parsers make. This module
+//! uses `window`, `wide_answer`, `steps` and `error`, and no particular engine.
 ghost use Rattle.std.specs.Prelude.{◌≡◌, ◌+◌, ◌-◌, ◌*◌, ◌/◌, ◌<◌, ◌≤◌, ℕ, nat_lt, if◌then◌else◌, length, drop};
 ghost use Rattle.atoi_core.specs.Digit.{Table, IsBelowTen};
 ghost use Rattle.atoi_core.specs.Loads.{LoadsWithin, most_loads};
@@ -17,12 +18,13 @@ use crate::window::Window;
 /// An implementation of the reads that the parsers make.
 ///
 /// An engine has a table of digit values, one for each byte that is a digit. Its functions `window`
-/// and `window_8` return a *window*: they describe the run of the first 16 or 8 bytes of a slice.
+/// and `window_8` return a *window*, which describes the run of the first 16 or 8 bytes of a slice.
 /// The *run* of some bytes is their longest prefix of digits. Each call of these functions is one
 /// *load*, and adds one to `steps`. The other two functions parse integers of 64 and of 128 bits
-/// with these reads. An engine may override them, with bodies that meet the same clauses.
+/// with these reads. An engine may override these parsers, with code that meets the same clauses.
 pub trait Engine {
-    /// The digit value of each byte, if it is a digit. Only contracts can refer to it.
+    /// The digit value of each byte that is a digit, and `None` for every other byte. Only
+    /// contracts can refer to this table.
     ghost table: { Table };
 
     /// Returns the window of the first 16 bytes of `s`, or of all its bytes if there are fewer.
@@ -45,8 +47,8 @@ pub trait Engine {
     /// at the start of `s` belong to the integer, and the first other byte ends it.
     ///
     /// The provided body loads 16 bytes at a time while it skips zeros, and so skips at most 16
-    /// zeros with each load. If the last of these loads is full of significant digits, it then
-    /// loads the 8 bytes after them.
+    /// zeros with each load. Without zeros to skip it makes one such load. If the 16 bytes of the
+    /// last of these loads are all significant digits, it then loads the 8 bytes after them.
     ///
     /// # Errors
     ///
@@ -54,8 +56,8 @@ pub trait Engine {
     /// zeros, or all digits at the start of `s` without `skip`.
     /// - `Empty` if `s` does not start with a digit.
     /// - `Size(count, digits)` if there are more than `limit` significant digits. `count` is the
-    ///   number of skipped zeros plus that of the significant digits, but of the latter it counts
-    ///   at most 24. `digits` is `s` from its first significant digit on.
+    ///   number of skipped zeros plus the number of significant digits, of which at most 24 are
+    ///   counted. `digits` is `s` from its first significant digit on.
     /// - `Overflow(digits)` if the value is above `bound`. `digits` is as in `Size`.
     fn prefix_64<'a>(
         bound: u64,
@@ -97,8 +99,8 @@ pub trait Engine {
     /// exactly 39 digits, which is the limit of significant digits.
     ///
     /// While it skips zeros, the provided body makes the same loads as the provided body of
-    /// `prefix_64`. If the last of these loads is full of significant digits, it loads the 16 bytes
-    /// after them, and if these are full as well, the next 8 bytes.
+    /// `prefix_64`. If the 16 bytes of the last of these loads are all significant digits, it loads
+    /// the 16 bytes after them. If these are all digits too, it also loads the next 8 bytes.
     ///
     /// # Errors
     ///
@@ -149,11 +151,12 @@ pub trait Engine {
 /// Skips leading zeros window by window, and returns the last window that it loads, with its
 /// offset.
 ///
-/// The caller has loaded the first window of `s`, which reported `zeroes`. This function loads
-/// windows until one reports no zeros. A window reports zeros only if it is full of digits. Let `n`
-/// be the number of leading zeros, rounded down to a multiple of 16. If at least 16 digits, zeros
-/// included, begin at offset `n`, then the returned window starts after all leading zeros.
-/// Otherwise it starts at `n`. Adds one step for each 16 bytes that are skipped, rounded up.
+/// The caller has loaded the first window of `s`, which reported `zeroes` leading zeros. This
+/// function loads windows until one reports no zeros. A window reports zeros only if it is full of
+/// digits. Let `n` be the number of leading zeros of `s`, rounded down to a multiple of 16. If
+/// there are at least 16 digits from offset `n` on, zeros included, then the returned window starts
+/// after all leading zeros. Otherwise it starts at `n`. Adds one step for each 16 bytes that are
+/// skipped, rounded up.
 #[inline(always)]
 #[tactic(auto, using(std::proofs::lemmas::List::take_rest))]
 pub(crate) fn window_after_zeros<E: Engine>(

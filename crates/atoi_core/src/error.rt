@@ -9,13 +9,14 @@ use std::error::Error;
 use std::fmt;
 use std::str::from_utf8;
 
-/// The error of a parse: why it refused a slice, and the part of that slice that shows it.
+/// The error of a parse. The variant says why the slice was refused, and every variant except
+/// `Empty` holds a part of that slice.
 ///
 /// The slice in an error is a suffix of the slice that was parsed; it borrows from that slice. It
 /// never contains a sign that was consumed. The variants speak of the *body*, which is the slice
 /// after its sign. Each index is an index into the body, and each value is a magnitude, the value
 /// without its sign. Errors are ordered by variant as written here, then by their numbers from left
-/// to right, then by their slices. Mirrors `atoi_simd::AtoiSimdError`.
+/// to right, then by their slices. The enum mirrors `AtoiSimdError` of the Rust crate `atoi_simd`.
 #[derive(Debug, Clone, Copy, PartialOrd, Ord, PartialEq, Eq)]
 pub enum AtoiSimdError<'a> {
     /// The body does not start with a digit: the slice is empty, is only a sign, or has another
@@ -24,20 +25,22 @@ pub enum AtoiSimdError<'a> {
     /// There are too many *significant* digits. These are the digits after the skipped leading
     /// zeros, or all digits if zeros are not skipped. At most 20 are accepted for `u64` and
     /// `usize`, 19 for `i64` and `isize`, and 39 for types of 128 bits. A prefix of a narrower type
-    /// may have 16 if zeros are not skipped; otherwise narrower types have no limit.
+    /// may have at most 16 if zeros are not skipped; otherwise narrower types have no limit.
     ///
-    /// Holds a number of digits, and the body from its first significant digit on. The number is
-    /// that of the skipped zeros plus that of the significant digits, but of the latter it counts
-    /// at most 24, for types of 128 bits 40, and for narrower types 17.
+    /// Holds a count of digits, and the body from its first significant digit on. The count is the
+    /// number of skipped zeros plus the number of significant digits. Of the significant digits, at
+    /// most 24 are counted for types of 64 bits, at most 40 for types of 128 bits, and at most 17
+    /// for narrower types.
     Size(usize, &'a [u8]),
     /// The value of the digits does not fit in the type.
     ///
     /// Holds the body. For types of 64 and 128 bits the skipped zeros are left out. For a prefix of
-    /// a narrower type with skipped zeros, those in whole blocks of 16 bytes are left out, and all
-    /// of them if the block in which they end consists of digits.
+    /// a narrower type, if zeros are skipped, those that fill whole blocks of 16 bytes are left
+    /// out. For such a prefix, if the 16 bytes after these blocks are all digits, all leading zeros
+    /// are left out.
     Overflow(&'a [u8]),
-    /// In a slice that must be digits to its end, another byte follows the digits; for a type of at
-    /// most 64 bits.
+    /// The body must be digits to its end, but another byte follows the digits. This variant is for
+    /// types of at most 64 bits.
     ///
     /// Holds the value of the digits before that byte, the index of the byte in the body, and the
     /// body.
@@ -47,9 +50,10 @@ pub enum AtoiSimdError<'a> {
 }
 
 impl AtoiSimdError<'_> {
-    /// Writes the text that `Display` prints to the start of `out`, and returns its length in
-    /// bytes, at most 332. The text is ASCII. It shows at most the first 48 bytes of the slice, in
-    /// hexadecimal capitals. The rest of `out` is unspecified.
+    /// Writes the text of this error, which is what `Display` prints, to the start of `out`.
+    /// Returns the length of the text in bytes, which is at most 332. The text is ASCII. It shows
+    /// at most the first 48 bytes of the slice, in hexadecimal capitals. The rest of `out` is
+    /// unspecified.
     pub fn text(&self, out: &mut [u8; 400]) -> usize
         ensures text { take result out.new ≡ error_text (refusal_of self.now) }
         ensures fits { result ≤ 332 }
@@ -119,7 +123,7 @@ impl fmt::Display for AtoiSimdError<'_> {
 
 impl Error for AtoiSimdError<'_> {}
 
-// How many bytes of a slice an error shows at most.
+// The largest number of bytes of its slice that the text of an error shows.
 const SHOWN_BYTES: usize = 48;
 
 // Returns the bytes of a slice that an error shows.
@@ -131,7 +135,8 @@ fn shown(input: &[u8]) -> &[u8]
     &input[..SHOWN_BYTES.min(input.len())]
 }
 
-// Writes a slice as an error shows it, from index `at` on, and returns the index after it.
+// Writes `input` into `out` from index `at` on, in the form that the text of an error has. Returns
+// the index after what it wrote.
 fn put_input(input: &[u8], out: &mut [u8], at: usize) -> usize
     requires { at + 192 ≤ length out.old }
     ensures written { take result out.new ≡ take at out.old ++ input_text input.now }
@@ -143,8 +148,9 @@ fn put_input(input: &[u8], out: &mut [u8], at: usize) -> usize
     put_bytes(b"]", out, end)
 }
 
-// Writes the index of the byte that is no digit, and the value of the digits before it, to the
-// start of `out`. Returns the index after them.
+// Writes the text of `Invalid64` or `Invalid128` to the start of `out`, up to and including
+// `number`. `index` is that of the byte that is no digit, and `number` is the value of the digits
+// before that byte. Returns the index after what it wrote.
 fn put_invalid(number: u128, index: usize, out: &mut [u8; 400]) -> usize
     ensures written { take result out.new
         ≡ codes "atoi_simd invalid at index: " ++ decimal index

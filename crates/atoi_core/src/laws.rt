@@ -1,10 +1,12 @@
-//! Laws about what parses return. The contract of each function says one law, and calling it does
-//! nothing. They use the definitions and `number`, and no parse.
+//! Laws about what parses return. The contract of each function says one law, and calling the
+//! function does nothing. This module uses the definitions and `number`, and no parser.
 //!
-//! A *call* is one of the ten functions of `atoi_simd`; a *whole parse* reads all of its slice, and
-//! a *prefix parse* the number at its start. Bytes *write* a number of a type if they are one or
-//! more digits, with a sign before them only if the call accepts that sign, and the signed value is
-//! in the range of the type.
+//! A *call* is a call of one of the ten functions of `atoi_simd`. A *whole parse* is a call that
+//! reads all of its slice, and a *prefix parse* is a call that reads the number at the start of its
+//! slice. Bytes *write* a number of a type if they are one or more digits, with a sign before them
+//! only if the call accepts that sign. The number is the value of these digits with that sign, and
+//! it must be in the range of the type. A call for negative numbers accepts no sign, and for such a
+//! call the bytes write the negated value of the digits.
 ghost use Rattle.atoi_core.specs.IntType.{int_type};
 ghost use Rattle.atoi_core.specs.Laws.{TextOfValue, AcceptedTexts, AcceptedNumbers, WholeResults, AcceptedPrefixes, PrefixResults, PrefixesAndRests, DecimalDigits, DecimalTexts, ErrorsInOrder, PrefixIsWhole, PrefixOfCut, PrefixStopsAtRest, RestChangesNothing, SkippingAgrees, OrderAndSuffix, ZerosChangeNothing};
 
@@ -32,9 +34,10 @@ pub fn accepted_numbers<T: Number>()
     ensures { AcceptedNumbers T.int_type }
 {}
 
-/// A prefix parse returns `Ok` with a number and a count only if the first so many bytes of its
-/// slice write that number, and no digit follows them. If zeros are skipped, it returns the number
-/// and length of every such prefix.
+/// A prefix parse returns `Ok` with a number and a `count` only if the first `count` bytes of its
+/// slice write that number, and no digit follows them. If zeros are skipped, the converse holds
+/// too: if a prefix of the slice writes a number and no digit follows it, the parse returns that
+/// number and the length of that prefix.
 #[tactic(auto, using(crate::proofs::Prefixes::accepted_prefixes))]
 pub fn accepted_prefixes<T: Number>()
     ensures { AcceptedPrefixes T.int_type }
@@ -47,24 +50,25 @@ pub fn whole_results<T: Number, const SKIP_ZEROES: bool>()
     ensures { WholeResults T.int_type T.number SKIP_ZEROES }
 {}
 
-/// Speaks of a `Result` with a `T` and a count that is what a prefix parse returns. If it is `Ok`,
-/// the first `count` bytes of the slice write that number, and no digit follows them. If it is an
-/// error and zeros are skipped, the slice has no such prefix.
+/// Speaks of a `Result` that a prefix parse of a `T` returns. If it is `Ok` with a number and a
+/// `count`, the first `count` bytes of the slice write that number, and no digit follows them. If
+/// it is an error and zeros are skipped, the slice has no prefix that writes a number and is
+/// followed by no digit.
 #[tactic(auto, using(crate::proofs::Prefixes::prefix_results))]
 pub fn prefix_results<T: Number, const SKIP_ZEROES: bool>()
     ensures { PrefixResults T.int_type T.number SKIP_ZEROES }
 {}
 
-/// If a slice is bytes that write a number, followed by a rest that does not start with a digit,
-/// these bytes are a prefix that writes the number and is followed by no digit. A slice has at most
-/// one such prefix.
+/// `PrefixWrites` means that the first bytes of a slice write a number and no digit follows them.
+/// If a slice consists of bytes that write a number and of a rest that does not start with a digit,
+/// then `PrefixWrites` holds for these bytes, and for no other prefix of the slice.
 #[tactic(auto, using(crate::proofs::Prefixes::prefixes_and_rests))]
 pub fn prefixes_and_rests<T: Number>()
     ensures { PrefixesAndRests T.int_type }
 {}
 
-/// If a prefix parse succeeds with the length of the slice, the whole parse succeeds with the same
-/// value. The converse holds if zeros are skipped, or the type has more than 32 bits.
+/// If a prefix parse succeeds and its count is the length of the slice, the whole parse succeeds
+/// with the same value. The converse holds if zeros are skipped, or the type has more than 32 bits.
 #[tactic(auto, using(crate::proofs::Prefixes::prefix_is_whole))]
 pub fn prefix_is_whole<T: Number>()
     ensures { PrefixIsWhole T.int_type }
@@ -78,7 +82,7 @@ pub fn prefix_of_cut<T: Number>()
 {}
 
 /// If a prefix parse succeeds, it stops at the end of the slice or before a byte that is no digit,
-/// whatever the flags.
+/// whichever flags are on.
 #[tactic(auto, using(crate::proofs::Prefixes::prefix_stops_at_rest))]
 pub fn prefix_stops_at_rest<T: Number>()
     ensures { PrefixStopsAtRest T.int_type }
@@ -98,17 +102,18 @@ pub fn skipping_agrees<T: Number>()
     ensures { SkippingAgrees T.int_type }
 {}
 
-/// Two errors are equal exactly if their order says so, and the slice in an error is a suffix of
-/// the slice that was parsed.
+/// The order of errors calls two errors equal exactly if they have the same variant, numbers and
+/// bytes. The slice in an error is a suffix of the slice that was parsed.
 #[tactic(auto, using(crate::proofs::Errors::order_and_suffix))]
 pub fn order_and_suffix<T: Number>()
     ensures { OrderAndSuffix T.int_type }
 {}
 
-/// Each error explains why the body, the slice after its sign, is refused. The first that applies
-/// is returned: the body does not start with a digit; it has too many significant digits; they
-/// spell a number out of range; another byte follows them. The error then holds the index of that
-/// byte and the number before it. A prefix parse never returns the last.
+/// Each error says why the body, which is the slice after its sign, is refused. The reason is the
+/// first that applies of these four: the body does not start with a digit; it has too many
+/// significant digits; its digits spell a number out of range; another byte follows the digits. In
+/// the last case the error holds the index of that byte and the number that the digits before it
+/// spell. A prefix parse never returns an error of the last case.
 #[tactic(auto, using(crate::proofs::Errors::errors_in_order))]
 pub fn errors_in_order<T: Number>()
     ensures { ErrorsInOrder T.int_type }
@@ -121,10 +126,10 @@ pub fn decimal_digits()
     ensures { DecimalDigits }
 {}
 
-/// Bytes that write a number without a sign start with a digit. `decimal n`, the text that `{}`
-/// prints, writes every `n` in the range of the type, and no other digits without a needless zero
-/// write it. The same holds of `signed_decimal` for texts with a sign, if they have no `+`, and no
-/// minus before 0.
+/// Bytes that write a number without a sign start with a digit. For each number in the range of the
+/// type, let `n` be its value without its sign. The digits `decimal n`, which `{}` prints for `n`,
+/// write that number and have no needless leading zero, and no other digits do both. The same holds
+/// of `signed_decimal` for texts with a sign, if they have no `+`, and no minus before 0.
 #[tactic(auto, using(crate::proofs::Texts::decimal_texts))]
 pub fn decimal_texts<T: Number>()
     ensures { DecimalTexts T.int_type }

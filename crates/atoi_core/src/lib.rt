@@ -1,19 +1,21 @@
-//! The parsers under `atoi_simd`, which read the decimal digits at the start of a byte slice as an
-//! integer, with the definitions that say what they return. The crate uses only std. Of its items,
-//! only `AtoiSimdError` is public in the Rust crate `atoi_simd`.
+//! The parsers that `atoi_simd` and `atoi_lanes` call. They read the digits at the start of a byte
+//! slice as an integer. The crate also has the definitions that say what the parsers return. It
+//! uses only std. Of its items, only `AtoiSimdError` is public in the Rust crate `atoi_simd`.
 //!
 //! The comments of this crate use these words:
 //!
 //! - *digit value*: the number, 0 to 9, that a byte has as a digit. The engine says which bytes are
 //!   digits.
 //! - *run*: the longest prefix of a slice that consists of digits.
-//! - *window*: what one read of the first 8 or 16 bytes of a slice returns: the length and the value
-//!   of their run and, if it has all 8 or 16 bytes, the number of its leading zeros.
+//! - *window*: what one read of the first 8 or 16 bytes of a slice returns. It has the length and
+//!   the value of the run of these bytes. If all 8 or 16 bytes are there and are digits, it also
+//!   has the number of their leading zeros.
 //! - *load*: one read of a window, counted on `Steps`.
 //! - *engine*: an implementation of these reads, such as `Plain` and `Words`.
 //! - *body*: a slice after its sign.
 //! - *magnitude*: a value without its sign.
-//! - *significant digits*: the digits after the skipped leading zeros.
+//! - *significant digits*: the digits after the skipped leading zeros, or all digits if zeros are
+//!   not skipped.
 //! - *narrow*: of at most 32 bits. The *wide* types have 64 or 128 bits.
 //! - *core call*: a call of `whole_pos`, `whole_neg`, `prefix_pos` or `prefix_neg`.
 #![tactic(auto)]

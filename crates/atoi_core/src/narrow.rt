@@ -1,5 +1,6 @@
-//! The parses of integers of at most 32 bits with windows, for a whole slice and for the number at
-//! its start, over any engine. It uses `engine`, `window`, `steps` and `error`.
+//! Two parsers of integers of at most 32 bits, for a whole slice and for the number at the start of
+//! a slice. They read windows with any engine. This module uses `engine`, `window`, `steps` and
+//! `error`.
 ghost use Rattle.std.specs.Prelude.{◌≡◌, ◌+◌, ◌-◌, ◌<◌, ◌≤◌, ◌==◌, true, false, not, ◌&&◌, ◌||◌, nat_lt, if◌then◌else◌, Ok, Err, length, drop};
 ghost use Rattle.atoi_core.specs.Loads.{LoadsWithin, most_loads};
 ghost use Rattle.atoi_core.specs.Magnitude.{narrow, whole_magnitude, prefix_magnitude};
@@ -15,9 +16,9 @@ use crate::window::Window;
 /// Parses the integer of at most 32 bits at the start of `s`, which has no sign, and returns its
 /// value and the number of its bytes, including those of the leading zeros.
 ///
-/// `bound` is the largest accepted value, and must be between 9 and `u32::MAX`. All
-/// digits at the start of `s` belong to the integer, and the first other byte ends it. Without
-/// `skip` it has at most 16 digits, leading zeros included; one window is loaded, and a second if
+/// `bound` is the largest accepted value, and must be between 9 and `u32::MAX`. All digits at the
+/// start of `s` belong to the integer, and the first other byte ends it. Without `skip`, an integer
+/// of at most 16 digits is accepted, leading zeros included; one window is loaded, and a second if
 /// the first is full of digits. With `skip` any number of leading zeros is accepted; each load
 /// skips at most 16 of them.
 ///
@@ -25,7 +26,7 @@ use crate::window::Window;
 ///
 /// Returns the first that applies:
 /// - `Empty` if `s` does not start with a digit.
-/// - `Size(17, s)` if there are more than 16 digits, without `skip` only.
+/// - `Size(17, s)` if there are more than 16 digits and `skip` is off.
 /// - `Overflow(digits)` if the value is above `bound`. Without `skip`, `digits` is `s`. With
 ///   `skip`, it is `s` without the zeros that fill whole blocks of 16 bytes, and without any of its
 ///   leading zeros if the 16 bytes after these blocks are digits.
@@ -135,8 +136,8 @@ fn whole_from_prefix<'a, E: Engine>(
     }
 }
 
-// `error` is the error for the number at the start of the slice. Returns the error for the whole
-// slice: `Empty` stays, and `Overflow` gets all of the slice.
+// Returns the error for a whole slice `s`. `error` is the error for the number at the start of `s`.
+// If it is `Empty`, the result is `Empty` too. Otherwise the result is `Overflow` with all of `s`.
 fn error_of_whole<'a>(error: AtoiSimdError<'_>, s: &'a [u8]) -> AtoiSimdError<'a>
     ensures { refusal_of result
         ≡ (if rank (refusal_of error.entry) == 0 then empty else overflow s.now) }
@@ -170,8 +171,9 @@ fn narrow_prefix_cold<'a, E: Engine>(
     }
 }
 
-// Returns what `narrow_prefix` with `skip` returns, if the first window reported `zeroes` leading
-// zeros and there is at least one: these zeros and those after them are skipped.
+// Returns what `narrow_prefix` with `skip` returns. The caller has loaded the first window, which
+// reported `zeroes` leading zeros, at least one. This function skips these zeros and those after
+// them.
 #[inline(never)]
 fn narrow_prefix_after_zeros<'a, E: Engine>(
     bound: u64,
@@ -191,8 +193,9 @@ fn narrow_prefix_after_zeros<'a, E: Engine>(
     answer_at(bound, at, window, s)
 }
 
-// Returns the answer for the window at index `at`, if all bytes before it are skipped zeros and
-// there is at least one digit.
+// Returns the number of `window` and the index after its digits, or `Overflow` if the number is
+// above `bound`. `window` starts at index `at` of `s`. In every call, `s` starts with a digit and
+// all bytes before `at` are skipped zeros.
 fn answer_at(
     bound: u64,
     at: usize,

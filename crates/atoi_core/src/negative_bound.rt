@@ -1,10 +1,11 @@
-//! Both signs from one parse. A *magnitude* is a value without its sign. `parse_signed` and
-//! `parse_prefix_signed` always parse the body as the digits of a negative number, so the largest
-//! magnitude is that of `T::MIN`. The functions here derive the answer for the actual sign from
-//! that. Of the magnitudes that this parse accepts, only that of `T::MIN` is out of range without a
-//! minus. It has a known number of digits, and all digits before them are zeros, so the number of
-//! all digits says where the slice of the error `Overflow` begins. The file uses `error`, `engine`
-//! and `number`.
+//! The answer for either sign, from one parse. A *magnitude* is a value without its sign.
+//! `parse_signed` and `parse_prefix_signed` always parse the body as the digits of a negative
+//! number, so the largest magnitude that this parse accepts is that of `T::MIN`. The functions here
+//! derive the answer for the actual sign from the answer of this parse. Of the magnitudes that the
+//! parse accepts, only that of `T::MIN` is out of range without a minus. The magnitude of `T::MIN`
+//! has a known number of digits, and all digits before these are leading zeros. So the number of
+//! all digits is enough to find where the slice in the error `Overflow` begins. The file uses
+//! `error`, `engine` and `number`.
 ghost use Rattle.std.specs.Prelude.{List, ◌≡◌, ◌<◌, ◌≤◌, ℕ, true, not, nat_lt, if◌then◌else◌, Some, None, length, drop};
 ghost use Rattle.std.specs.Option.{option_map};
 ghost use Rattle.atoi_core.specs.Answer.{typed_answer, typed_prefix_answer, whole_answer, prefix_answer};
@@ -18,8 +19,8 @@ use crate::engine::Engine;
 use crate::error::AtoiSimdError;
 use crate::number::Signed;
 
-/// Returns the answer for all of `s`, negative if `minus` is set. `negative` is the answer for `s`
-/// as the digits of a negative number.
+/// Returns the answer for all of `s` as the digits of a number, which is negative if `minus` is
+/// set. `negative` is the answer for `s` as the digits of a negative number.
 #[inline(always)]
 pub(crate) fn whole_with_sign<'a, E: Engine, T: Signed>(
     minus: bool,
@@ -66,8 +67,9 @@ pub(crate) fn prefix_with_sign<'a, E: Engine, T: Signed>(
     }
 }
 
-// Returns `negative` itself if `minus` is set, otherwise its magnitude as a number, or `None` if
-// that is out of range. The sign is data here: it selects one of two numbers.
+// Returns `negative` itself if `minus` is set. Otherwise returns its magnitude as a `T`, or `None`
+// if that magnitude is out of range. Except in the rare case that the comment below names, no
+// branch depends on the sign, which only selects one of two numbers.
 fn checked_with_sign<T: Signed>(minus: bool, negative: T) -> Option<T>
     ensures { (magnitude : ℕ) → T.number negative ≡ with_sign true magnitude
         → option_map T.number result ≡ (if nat_lt (bound_of T.int_type minus) magnitude then None
@@ -100,8 +102,8 @@ fn has_no_minus_cold(minus: bool) -> bool
     !minus
 }
 
-// For `Invalid64` and `Invalid128`, returns the number of digits, which is the index in the error,
-// if their value is above the bound for the sign `minus`. Otherwise returns `None`.
+// If `error` is `Invalid64` or `Invalid128` and the value in it is above the bound for the sign
+// `minus`, returns the index in it, which is the number of digits. Otherwise returns `None`.
 fn digits_if_above<T: Signed>(minus: bool, error: AtoiSimdError<'_>) -> Option<usize>
     ensures { let reason = refusal_of error.entry in
         result ≡ (if nat_lt (bound_of T.int_type minus) (number_in reason) then Some (index_in reason)
@@ -132,8 +134,8 @@ fn whole_overflow<'a, E: Engine, T: Signed>(skip: bool, count: usize, s: &'a [u8
 }
 
 // As `whole_overflow`, for the number at the start of `s`. With `skip`, for types of at most 32
-// bits, the slice leaves out the zeros that fill whole windows of 16 bytes, and all leading zeros
-// if the window in which they end is full of digits.
+// bits, the slice leaves out the zeros that fill whole blocks of 16 bytes, and all leading zeros if
+// the 16 bytes after these blocks are digits.
 #[tactic(auto, using(crate::proofs::Bounds::dropped_prefix, crate::proofs::Bounds::run_within))]
 fn prefix_overflow<'a, E: Engine, T: Signed>(skip: bool, count: usize, s: &'a [u8]) -> &'a [u8]
     requires digits { count ≡ run_len E.table s.now }
@@ -150,7 +152,8 @@ fn prefix_overflow<'a, E: Engine, T: Signed>(skip: bool, count: usize, s: &'a [u
 }
 
 // Returns how many leading zeros are skipped among `count` digits that spell the magnitude of
-// `T::MIN`: all digits except those of the magnitude itself.
+// `T::MIN`. With `skip` these are all digits except those of the magnitude itself; without `skip`
+// there are none.
 #[tactic(auto, using(crate::proofs::Bounds::leading_zeros))]
 fn leading_zeros<E: Engine, T: Signed>(skip: bool, count: usize) -> usize
     ensures zeros { (s : List ℕ) → count ≡ run_len E.table s

@@ -1,5 +1,5 @@
-//! The integer types that a parse can return. It uses no other module: all that a parse needs to
-//! know of a type are the constants here.
+//! The integer types that a parse can return. This module uses no other one. All that a parse needs
+//! to know of a type are the constants and conversions here.
 ghost use Rattle.std.specs.Prelude.{◌≡◌, ◌+◌, ◌≤◌, ◌<ℤ◌, ◌↔◌, ℕ, ℤ, pos, Bool, true, false, IsTrue, refl};
 ghost use Rattle.std.proofs.Common.{inl, inr};
 ghost use Rattle.atoi_core.specs.IntType.{IntType, IsSized, IsTypeOf, bound_of};
@@ -8,8 +8,8 @@ ghost use Rattle.atoi_core.specs.Sign.{with_sign};
 
 /// An integer type that a parse can return.
 ///
-/// Types of at most 32 `BITS` are called *narrow*. They have parsers of their own, and so have the
-/// types of 64 and those of 128 bits.
+/// Types of at most 32 `BITS` are called *narrow*. The narrow types, the types of 64 bits and the
+/// types of 128 bits each have parsers of their own.
 pub trait Number: Copy {
     /// The number of bits: 8, 16, 32, 64 or 128.
     const BITS: u32;
@@ -38,8 +38,8 @@ pub trait Number: Copy {
         ensures { number result ≡ pos value };
 
     /// Returns whether the value is negative, and its magnitude, which is the value without its
-    /// sign. The magnitude is at most `GREATEST`, or one more if the value is negative. So every
-    /// value is in the range that the constants give.
+    /// sign. The magnitude is at most `GREATEST`, or at most `GREATEST + 1` if the value is
+    /// negative. So every value is in the range that the constants give.
     fn parts(self) -> (bool, u128)
         ensures number { with_sign result.0 result.1 ≡ number self }
         ensures negative { IsTrue result.0 ↔ (number self <ℤ pos 0) }
@@ -49,7 +49,7 @@ pub trait Number: Copy {
     ghost type_is: { IsTypeOf int_type BITS SIGNED GREATEST };
 
     /// The constants agree: `BITS` is one of the five sizes, and `GREATEST` is the largest value of
-    /// that size.
+    /// a type of that size, which is signed or unsigned as `SIGNED` says.
     ghost sized: { IsSized int_type };
 }
 

@@ -1,6 +1,6 @@
-//! The parse of an integer of 128 bits at the start of a slice. Inlined code answers every run that
-//! ends in the first window, and most runs that end in the second. The engine answers the others.
-//! It uses `engine`, `window`, `wide_answer`, `steps` and `error`.
+//! The parse of an integer of 128 bits at the start of a slice. Inlined code finds the answer for
+//! every run of fewer than 16 digits, and for most runs of 16 to 31 digits. For all other runs the
+//! engine is called. This module uses `engine`, `window`, `wide_answer`, `steps` and `error`.
 ghost use Rattle.std.specs.Prelude.{◌≡◌, ◌+◌, ◌-◌, ◌<◌, ◌≤◌, ℕ, false, IsTrue, None, IfSome, Ok};
 ghost use Rattle.atoi_core.specs.Loads.{LoadsWithin, most_loads};
 ghost use Rattle.atoi_core.specs.Magnitude.{HasDigits, wide128, prefix_magnitude};
@@ -14,9 +14,9 @@ use crate::steps::Steps;
 use crate::wide_answer::append_digits;
 use crate::window::Window;
 
-/// Returns what `Engine::prefix_128` returns, but reads the first two windows in inlined code.
-/// Fewer than 32 digits are never above the bound, which has 39. `whole` says that the caller
-/// accepts only digits to the end of `s`.
+/// Returns what `Engine::prefix_128` returns, but reads the first two windows in inlined code. A
+/// number of fewer than 32 digits is never above the bound, which has 39 digits. `whole` says
+/// whether the caller accepts `s` only if all its bytes are digits.
 ///
 /// The engine is called, and loads again what was read, in three cases: there are 32 digits or
 /// more; the first window is full and starts with zeros that are to be skipped; or it is full,

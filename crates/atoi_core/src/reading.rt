@@ -1,21 +1,22 @@
-//! A law for engines that read wide integers, those of 64 and 128 bits, with a loop of their own. It
-//! says when the digits read so far decide the answer. The file uses only the definitions.
+//! A law for engines that read wide integers, those of 64 and 128 bits, with a loop of their own.
+//! The law says when the digits read so far decide the answer. The file uses only the definitions.
 //!
 //! Such a loop is proved in five steps, as in `wide_lanes` of `atoi_lanes`:
 //!
 //! 1. Call `reading_decides`, whose contract is the law.
 //! 2. Keep `IsSkipped` as an invariant of the loop: all bytes before the current index are zeros
-//!    that are skipped. `zeros_left` gives the number of the zeros after it, which the bound on
-//!    loads needs.
+//!    that are skipped. `zeros_left` says how many zeros a reading from that index on starts with,
+//!    which the bound on loads needs.
 //! 3. Let each window ensure `Reading`: its number of digits, its leading zeros and its value.
 //! 4. Combine two readings with `join_readings`.
-//! 5. Turn the last one into the answer, `answer_by_digits`, with `decided`.
+//! 5. Turn the last reading into the answer with `decided`, which says that `answer_by_digits`
+//!    computes this answer.
 ghost use Rattle.atoi_core.specs.Reading.{ReadingDecides};
 
-/// The law says when the bytes that have been read of a slice decide the answer of
+/// The law says when the bytes that an engine has read so far decide the answer of
 /// `Engine::prefix_64` and `Engine::prefix_128`. It applies to a reading after skipped zeros, in
-/// two cases: the digits end within the bytes that were read, or `cap` significant digits were
-/// read, which is the most that the error `Size` counts. Calling this function does nothing.
+/// two cases: the digits end within the bytes that were read, or at least `cap` significant digits
+/// were read. `cap` is the most that the error `Size` counts. Calling this function does nothing.
 #[tactic(auto, using(crate::proofs::Windows::reading_decides))]
 pub fn reading_decides()
     ensures { ReadingDecides }

@@ -1,7 +1,7 @@
 //! The sign at the start of a slice, and the parses that consume it. Each parse makes one *core
-//! call*, which is `whole_pos`, `whole_neg`, `prefix_pos` or `prefix_neg`, on the *body*, the slice
-//! after its sign. It uses `dispatch` and `negative_bound`, and the modules that their contracts
-//! name.
+//! call* for the *body*, which is the slice after its sign. A core call is a call of `whole_pos`,
+//! `whole_neg`, `prefix_pos` or `prefix_neg`. This module uses `dispatch` and `negative_bound`, and
+//! the modules that its contracts name.
 ghost use Rattle.std.specs.Prelude.{◌≡◌, ◌+◌, ◌≤◌, false, IfOk, length};
 ghost use Rattle.atoi_core.specs.Answer.{typed_answer, typed_prefix_answer, text_answer, text_prefix_answer};
 ghost use Rattle.atoi_core.specs.Loads.{TypedLoads};
@@ -63,8 +63,8 @@ pub fn parse_signed<'a, E: Engine, T: Signed>(
     whole_with_sign::<E, T>(minus, skip, body, negative)
 }
 
-/// Parses all of `s` as an integer of the unsigned type `T`: a `+` if `skip_plus` is on and there
-/// is one, then digits only. In all other respects it is like `parse_signed`.
+/// Parses all of `s` as an integer of the unsigned type `T`: an optional `+` if `skip_plus` is on,
+/// then digits only. `skip`, `steps` and the engine `E` are as for `parse_signed`.
 ///
 /// # Errors
 ///
@@ -115,7 +115,8 @@ pub fn parse_prefix_signed<'a, E: Engine, T: Signed>(
 }
 
 /// Parses the integer of the unsigned type `T` at the start of `s`, and returns it with the number
-/// of its bytes, including that of a `+` that was consumed. In all other respects it is like
+/// of its bytes, including those of a consumed `+` and of the zeros. A `+` is accepted if
+/// `skip_plus` is on, and a `-` never is. In all other respects this function is like
 /// `parse_prefix_signed`.
 ///
 /// # Errors

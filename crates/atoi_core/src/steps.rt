@@ -9,7 +9,7 @@ use std::marker::{Model, PhantomData};
 ///
 /// In the parsers each step is one load, which is one read of a window; the tool also counts
 /// refused reads and writes. The functions that load are passed a `&mut Steps`, and their contracts
-/// say how many steps they add at least and at most.
+/// give a lower and an upper bound on the number of steps that they add.
 #[derive(Drop)]
 pub struct Steps {
     marker: PhantomData<u8>,

@@ -15,8 +15,9 @@ pub fn decimal(value: u128, out: &mut [u8; 39]) -> usize
     put_decimal(value, out, 0)
 }
 
-// Writes `bytes` from index `at` on, and returns the index after them. It keeps what precedes `at`;
-// the rest of `out` is unspecified. The other functions here do the same with what they write.
+// Writes `bytes` into `out` from index `at` on, and returns the index after them. The bytes of
+// `out` before index `at` are kept; the rest of `out` is unspecified. The other `put_` functions
+// here do the same with what they write.
 pub(crate) fn put_bytes(bytes: &[u8], out: &mut [u8], at: usize) -> usize
     requires { at + length bytes.now ≤ length out.old }
     ensures written { take result out.new ≡ take at out.old ++ bytes.now }
@@ -80,8 +81,9 @@ fn hex_digit(digit: u8) -> u8
     }
 }
 
-// Writes each byte in hexadecimal, joined by comma and space. Each takes at most four bytes, and
-// the last at most two.
+// Writes each byte in hexadecimal, with a comma and a space between two of them. With the comma and
+// the space after it, each byte takes at most four bytes of `out`. The last byte has neither after
+// it and takes at most two.
 pub(crate) fn put_hex_list(bytes: &[u8], out: &mut [u8], at: usize) -> usize
     requires { at + (4 * length bytes.now - 2) ≤ length out.old }
     ensures written { take result out.new ≡ take at out.old ++ hex_list bytes.now }

@@ -17,8 +17,9 @@ use crate::steps::Steps;
 ///
 /// # Errors
 ///
-/// Those of `Engine::prefix_64`, and after them `Invalid64(value, index, s)` if another byte
-/// follows the digits. `value` is what they spell, and `index` is the position of that byte in `s`.
+/// Those of `Engine::prefix_64`. If none of them applies and another byte follows the digits, the
+/// error is `Invalid64(value, index, s)`. `value` is what the digits spell, and `index` is the
+/// position of that byte in `s`.
 #[inline(always)]
 pub fn whole_64<'a, E: Engine>(
     bound: u64,
@@ -49,8 +50,9 @@ pub fn whole_64<'a, E: Engine>(
 ///
 /// # Errors
 ///
-/// Those of `Engine::prefix_128`, and after them `Invalid128(value, index, s)` if another byte
-/// follows the digits. `value` is what they spell, and `index` is the position of that byte in `s`.
+/// Those of `Engine::prefix_128`. If none of them applies and another byte follows the digits, the
+/// error is `Invalid128(value, index, s)`. `value` is what the digits spell, and `index` is the
+/// position of that byte in `s`.
 #[inline(always)]
 pub fn whole_128<'a, E: Engine>(
     bound: u128,

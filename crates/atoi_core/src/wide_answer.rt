@@ -1,6 +1,6 @@
-//! Powers of ten, and the answers of the parses of integers of 64 and of 128 bits once their digits
-//! have been read. An engine that reads wide integers with loops of its own may use them too. It
-//! uses `error`.
+//! Powers of ten, and functions that return the answer of a parse of 64 or of 128 bits when its
+//! digits have been read. An engine that reads wide integers with loops of its own may use these
+//! functions too. This module uses `error`.
 ghost use Rattle.std.specs.Prelude.{◌≡◌, ◌+◌, ◌*◌, ◌^◌, ◌<◌, ◌≤◌, nat_lt, if◌then◌else◌, length};
 ghost use Rattle.atoi_core.specs.Magnitude.{HasDigits, wide64, wide128};
 ghost use Rattle.atoi_core.specs.Reading.{answer_by_digits};
@@ -39,8 +39,8 @@ pub fn power_of_ten(digits: u32) -> u64
     POWERS[digits as usize]
 }
 
-/// Returns the value of the digits that spell `high`, followed by `digits` more, at most 16, that
-/// spell `low`.
+/// Returns the number that two rows of digits spell, the second directly after the first. The first
+/// row spells `high`. The second row spells `low` and has `digits` digits, which are at most 16.
 pub fn append_digits(high: u64, digits: u32, low: u64) -> u128
     requires { digits ≤ 16 }
     ensures { result ≡ high * 10 ^ digits + low }
@@ -48,9 +48,9 @@ pub fn append_digits(high: u64, digits: u32, low: u64) -> u128
     u128::from(high) * u128::from(power_of_ten(digits)) + u128::from(low)
 }
 
-/// Returns the answer of a 64-bit parse for digits that have been read: after `skipped` zeros,
-/// which are not significant, and `significant` more digits that spell `number`. The answer is this
-/// value, and the number of all these digits. `s` has at least as many bytes.
+/// Returns the answer of a 64-bit parse of `s` that has read `skipped` zeros, which are not
+/// significant, and then `significant` more digits, which spell `number`. The answer is `number`
+/// and the count of all these digits, the zeros included. `s` must have at least that many bytes.
 ///
 /// # Errors
 ///
@@ -81,10 +81,10 @@ pub fn answer_64<'a>(
     }
 }
 
-/// Returns the answer of a 128-bit parse for 32 digits or more that have been read: after `skipped`
-/// zeros, which are not significant, 32 digits that spell `high`, and `more` digits, at most 8,
-/// that spell `low`. The answer is the value of these digits, and the number of all of them. `s`
-/// has at least as many bytes.
+/// Returns the answer of a 128-bit parse of `s` that has read `skipped` zeros, which are not
+/// significant, then 32 digits, which spell `high`, and then `more` digits, which spell `low`.
+/// `more` is at most 8. The answer is the number that the digits after the zeros spell, and the
+/// count of all these digits, the zeros included. `s` must have at least that many bytes.
 ///
 /// # Errors
 ///
@@ -112,7 +112,7 @@ pub fn answer_128<'a>(
     }
     let power = u128::from(power_of_ten(more));
     if more < 7 {
-        // Fewer than 39 digits are never above the bound.
+        // A number of fewer than 39 digits is never above the bound, which has 39 digits.
         return Ok((high * power + u128::from(low), len));
     }
     match up_to(bound, high, power, low) {

@@ -2,8 +2,8 @@
 //! and what it reports is a *window*. This module uses no other one.
 ghost use Rattle.std.specs.Prelude.{◌≡◌, ◌+◌, ◌^◌, ◌<◌};
 
-/// What is known of the first 8 or 16 bytes of a slice, or of all its bytes if there are fewer: the
-/// *run*, which is their longest prefix of digits, and its leading zeros.
+/// What a load reports about the first 8 or 16 bytes of a slice, or about all its bytes if there
+/// are fewer. The *run* of these bytes is their longest prefix of digits.
 #[derive(Clone, Copy, PartialEq, Eq)]
 pub struct Window {
     /// The number of digits in the run, from 0 to 8 or 16.
@@ -16,7 +16,8 @@ pub struct Window {
 }
 
 impl Window {
-    /// Returns the index after the zeros of this window, which starts at index `at` of the slice.
+    /// Returns the index after the zeros that this window reports. The window starts at index `at`
+    /// of the slice.
     pub(crate) fn after_zeros(self, at: usize) -> usize
         requires { at + self.zeroes < 2 ^ 64 }
         ensures dropped { result ≡ at + self.zeroes }

@@ -83,9 +83,10 @@ impl Engine for Words {
     ghost below_ten = { λ byte. Prim.grind (arith, nat_tests) };
 }
 
-// An engine that reads the windows of `Words`, and has the provided parses. `Words::prefix_64` calls
-// `window_after_zeros`. If that loop ran over `Words`, the two would form a cycle of calls, as far as
-// the checker can see, because the loop may call any method of its engine.
+// An engine that reads the windows of `Words`, and has the provided parsers. `Words::prefix_64`
+// needs this engine for the loop `window_after_zeros`. If `prefix_64` ran this loop with the engine
+// `Words`, the checker would see a cycle of calls, because, as far as it can see, the loop may call
+// any method of its engine, and so also `prefix_64`.
 struct WordWindows;
 
 impl Engine for WordWindows {
@@ -129,8 +130,9 @@ fn prefix_64_cold<'a>(
     }
 }
 
-// Returns what `prefix_64` with `skip` returns, if the first window reported `zeroes` leading zeros
-// and there is at least one: these zeros and those after them are skipped.
+// Returns what `prefix_64` with `skip` returns. The caller has loaded the first window, which
+// reported `zeroes` leading zeros, at least one. This function skips these zeros and those after
+// them.
 #[inline(never)]
 fn prefix_64_after_zeros<'a>(
     bound: u64,
@@ -195,7 +197,8 @@ fn short_window(s: &[u8]) -> Window
     }
 }
 
-// Returns the word with the byte 48, a zero, in its lowest `8 - len` bytes, and 0 in the bytes above.
+// Returns the word that has the byte 48, which is the digit zero, as each of its lowest `8 - len`
+// bytes. The bytes above them are 0.
 fn fill_of_zeros(len: usize) -> u64
     requires some { 0 < len }
     requires few { len ≤ 8 }
@@ -236,9 +239,10 @@ fn not_full(len: u32, number: u64) -> Window
     }
 }
 
-// Returns the word of the bytes from index `at` on, at most 8. If fewer than 8 bytes are left from
-// there on, they are taken from the last 8 bytes of `s` by a shift. If no byte is left, the word
-// has to be shifted by 64 bits. One shift is of at most 63 bits, so there are two.
+// Returns the word of the first 8 bytes from index `at` on, or of all bytes from there on if there
+// are fewer. If there are fewer, they are taken from the last 8 bytes of `s` by a shift. If no byte
+// is left, the word has to be shifted by 64 bits. A single shift can be of at most 63 bits, so the
+// code shifts twice.
 #[inline(always)]
 fn load_from(s: &[u8], at: usize) -> u64
     requires enough { 8 ≤ length s.now }
@@ -256,7 +260,8 @@ fn load_from(s: &[u8], at: usize) -> u64
 }
 
 // Returns the word of the first 8 bytes. Callers have checked the length. Unlike `load_8`, this
-// function has no code for shorter slices, which would make each window larger.
+// function has no code for shorter slices, because such code would make each function that reads a
+// window larger.
 #[tactic(auto, using(crate::proofs::LoadedWords::word_of_first))]
 fn load_full(s: &[u8]) -> u64
     requires { 8 ≤ length s.now }
@@ -311,10 +316,10 @@ fn value_of(word: u64, len: u32) -> u64
     hundreds.wrapping_mul(0x2710_0000_0001) >> 32
 }
 
-// Returns what `check_len_8` returns, with fewer operations. The top bit of a byte marks that it is
-// no digit. For such a byte at least one of two operations sets that bit, adding 70 or subtracting
-// 48; for a digit neither does. A carry or a borrow changes only bytes above the first that is no
-// digit, and these are not counted.
+// Returns what `check_len_8` returns, with fewer operations. A byte is no digit exactly if adding
+// 70 to it or subtracting 48 from it gives a byte whose top bit is set. `marks` has these bits. A
+// carry or a borrow changes only bytes above the first byte that is no digit, and these bytes are
+// not counted.
 fn digits_of(word: u64) -> u32
     ensures len { result ≡ run_len decimal_table (low_bytes 8 word) }
     ensures most { result ≤ 8 }
@@ -338,7 +343,7 @@ fn zeroes_of(word: u64) -> u32
     word.wrapping_sub(ZEROS).trailing_zeros() / 8
 }
 
-// Returns how many zeros two words start with, one after the other.
+// Returns how many zeros the bytes of `first`, followed by those of `next`, start with.
 fn zeroes_of_two(first: u64, next: u64) -> u32
     ensures { result ≡ zeros decimal_table (low_bytes 8 first ++ low_bytes 8 next) }
 {

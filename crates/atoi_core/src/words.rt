@@ -1,9 +1,11 @@
-//! Eight or sixteen bytes in one word, of which the first is the lowest: loads, counts of the
-//! digits or zeros that a word starts with, and the number that its bytes spell.
+//! Functions on words. A *word* is an integer that holds eight or sixteen bytes, of which the first
+//! is the lowest. The functions load a word from a slice, count the digits or the zeros that a word
+//! starts with, or return the number that its bytes spell.
 //!
-//! A parse calls only the loads of this module: `Words` and `Lanes` call `load_high`, and `Lanes`
-//! calls `load_8`. `Words` has shorter counts and sums of its own; its sums require that the bytes
-//! are digits. The other five functions are for callers that have words. It uses no other module.
+//! The parsers call only the two functions that load: `Words` and `Lanes` call `load_high`, and
+//! `Lanes` calls `load_8`. `Words` has shorter functions of its own to count and to return the
+//! number; those that return the number require that the bytes are digits. The other five public
+//! functions are for callers that have words. This module uses no other one.
 ghost use Rattle.std.specs.Prelude.{◌≡◌, ℕ, ◌-◌, ◌<◌, ◌≤◌, ◌++◌, length, take, drop, replicate};
 ghost use Rattle.atoi_core.specs.Digit.{decimal_table};
 ghost use Rattle.atoi_core.specs.Run.{run_len, zeros};
@@ -32,9 +34,9 @@ fn load_part(s: &[u8]) -> u64
     }
 }
 
-/// Returns the word whose highest bytes are those of `s`, the last the highest; the bytes below
-/// them are 0. `s` has 1 to 8 bytes. The word is put together from overlapping parts of `s`,
-/// without a branch on its length.
+/// Returns the word whose highest bytes are those of `s`, and whose other bytes are 0. The last
+/// byte of `s` is the highest. `s` has 1 to 8 bytes. The word is put together from overlapping
+/// parts of `s`, without a branch on the length of `s`.
 #[inline(always)]
 pub fn load_high(s: &[u8]) -> u64
     requires some { 0 < length s.now }
@@ -83,8 +85,9 @@ fn last_four(s: &[u8]) -> u64
     u64::from(u32::from_le_bytes(*bytes))
 }
 
-/// Returns how many bytes of `val`, from the lowest on, are digits, which are the bytes 48 to 57: 0
-/// to 8. It stops at the first byte that is no digit, and the bytes above that byte do not matter.
+/// Returns how many bytes of `val`, from the lowest on, are digits. The result is 0 to 8. The
+/// digits are the bytes 48 to 57. The count stops at the first byte that is no digit, and the bytes
+/// above that byte do not matter.
 pub fn check_len_8(val: u64) -> u32
     ensures len { result ≡ run_len decimal_table (low_bytes 8 val) }
     ensures most { result ≤ 8 }
@@ -96,18 +99,20 @@ pub fn check_len_8(val: u64) -> u32
     ((high | low) ^ 0x3333_3333_3333_3333).trailing_zeros() / 8
 }
 
-/// Returns the number that the lowest `len` bytes of `val` spell, the lowest byte as the most
-/// significant digit: the sum of each byte modulo 16, be it a digit or not, times its power of ten.
-/// `len` is 1 to 8; the bytes above these do not matter. The largest result is 166666665, when
-/// every bit is set.
+/// Returns the number that the lowest `len` bytes of `val` spell. The lowest byte is the most
+/// significant digit. Each byte is taken modulo 16, whether it is a digit or not, and multiplied by
+/// its power of ten; the result is the sum of these products. `len` is 1 to 8, and the bytes above
+/// the lowest `len` do not matter. The largest result is 166666665, which is returned if `len` is 8
+/// and every bit is set.
 pub fn process_8(val: u64, len: u32) -> u64
     requires low { 1 ≤ len }
     requires high { len ≤ 8 }
     ensures sum { result ≡ low_value (low_bytes len val) }
     ensures most { result ≤ 166666665 }
 {
-    // Each product adds to a field of the word the field below it, times 10 for fields of 8 bits,
-    // times 100 for 16 bits, and times 10,000 for 32 bits.
+    // Each multiplication takes the word as fields of equal width, and adds to each field the one
+    // below it, multiplied by 10 for fields of 8 bits, by 100 for fields of 16 bits, and by 10,000
+    // for fields of 32 bits.
     let ones = (val << (64 - 8 * len)) & 0x0F0F_0F0F_0F0F_0F0F;
     let tens = (ones.wrapping_mul(0xA01) >> 8) & 0x00FF_00FF_00FF_00FF;
     let hundreds = (tens.wrapping_mul(0x64_0001) >> 16) & 0x0000_FFFF_0000_FFFF;
@@ -115,8 +120,8 @@ pub fn process_8(val: u64, len: u32) -> u64
 }
 
 /// Returns what `process_8` returns, but for the lowest `len` bytes of a word of sixteen bytes.
-/// `len` is 1 to 16; the bytes above these do not matter. The largest result is 16666666666666665,
-/// when every bit is set.
+/// `len` is 1 to 16, and the bytes above the lowest `len` do not matter. The largest result is
+/// 16666666666666665, which is returned if `len` is 16 and every bit is set.
 pub fn process_16(val: u128, len: u32) -> u64
     requires low { 1 ≤ len }
     requires high { len ≤ 16 }
@@ -132,7 +137,7 @@ pub fn process_16(val: u128, len: u32) -> u64
 }
 
 /// Returns how many bytes of `val`, from the lowest on, are the digit zero, which is the byte 48.
-/// It stops at the first other byte: 0 to 8.
+/// The count stops at the first other byte, and is 0 to 8.
 pub fn len_zeroes(val: u64) -> u32
     ensures zeroes { result ≡ zeros decimal_table (low_bytes 8 val) }
     ensures most { result ≤ 8 }
@@ -141,7 +146,7 @@ pub fn len_zeroes(val: u64) -> u32
 }
 
 /// Returns how many bytes of `val`, from the lowest on, are the digit zero, which is the byte 48.
-/// It stops at the first other byte: 0 to 16.
+/// The count stops at the first other byte, and is 0 to 16.
 pub fn len_zeroes_128(val: u128) -> u32
     ensures zeroes { result ≡ zeros decimal_table (low_bytes 16 val) }
     ensures most { result ≤ 16 }

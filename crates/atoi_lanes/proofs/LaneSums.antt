@@ -1,6 +1,7 @@
--- The number that the decimal digits in the lanes of a vector spell, and in half a vector for
--- slices of fewer than 8 bytes. The lemmas show that `sum_lanes` and `read_short` return the value
--- of the run, the digits that the slice begins with.
+-- The number that the decimal digits in the lanes of a vector spell. The digits of slices of fewer
+-- than 8 bytes are in half a vector. The lemmas show that `sum_lanes` returns the value of the
+-- first `len` lanes, and that `read_short` returns the length and the value of the run, which is
+-- the longest prefix of digits of its slice.
 use Rattle.std.proofs.Common.{◌≡◌, ℕ, zero, suc, ◌+◌, ◌-◌, ◌*◌, ◌%◌, ◌^◌, ◌<◌, ◌≤◌, true, false, cond, List, [], ◌∷◌, ◌++◌, map, length, take, replicate, get_or, refl, sym, ap, ap₂, subst, ◌∙◌, arith, ◌/◌, Fits, w16, Bool, drop, w64}
 use Rattle.std.proofs.Math.Arith.{digits_lt}
 use Rattle.std.proofs.Math.Nat.{pow-zero, pow-suc, mul-le-mul_left, mul-le-mul_right, mod-eq_of_lt, div-add-mod, div-lt_iff_lt-mul}
@@ -21,9 +22,9 @@ use Rattle.std.proofs.lemmas.List.Sums.{count_by-le-length, prefix_len-le-length
 use Rattle.atoi_core.specs.Words.{word_of}
 use Rattle.atoi_lanes.proofs.LoadedLanes.{digits-number, byte_shift, first-and_rest, mask-drop, ones-of_mask}
 
--- ---- From joined digits to the value of the run
--- Neighbouring digits of base t are joined to one digit of base t * t (`paired`), which does not
--- change the number that they spell.
+-- ---- From joined digits to the number that they spell
+-- Two neighbouring digits of base t are joined to one digit of base t * t (`paired`). This does not
+-- change the number that all the digits spell.
 
 -- If all digits are below t, all joined digits are below t * t.
 pub paired-below : (t : ℕ) (xs : List ℕ) → Each1 (λ x. x < t) xs → Each1 (λ x. x < t * t) (paired t xs)
@@ -31,7 +32,7 @@ paired-below t [] h = tt
 paired-below t (x ∷ []) h = tt
 paired-below t (x ∷ y ∷ rest) h = (digits_lt {q = x} {m = t} h.0 h.1.0, paired-below t rest h.1.1)
 
--- There are half as many joined digits.
+-- If there are m + m digits, there are m joined digits.
 pub length-paired : (t m : ℕ) (xs : List ℕ) → length xs ≡ m + m → length (paired t xs) ≡ m
 length-paired t m [] long = omega arith
 length-paired t m (x ∷ []) long = absurd (omega arith)
@@ -43,12 +44,13 @@ abbrev number_in : ℕ → List ℕ → ℕ
 number_in t [] = 0
 number_in t (x ∷ xs) = x * t ^ length xs + number_in t xs
 
--- In base ten it is the value that the specification defines.
+-- In base ten, `number_in` returns the value that the specification defines.
 in_ten : (xs : List ℕ) → number_in 10 xs ≡ value itself xs
 in_ten [] = refl
 in_ten (x ∷ xs) = ap (λ n. x * 10 ^ length xs + n) (in_ten xs)
 
--- Joined digits spell the same number in base t * t.
+-- If the number of digits is even, the joined digits spell in base t * t the number that the digits
+-- spell in base t.
 number-paired : (t m : ℕ) (xs : List ℕ) → length xs ≡ m + m → number_in (t * t) (paired t xs) ≡ number_in t xs
 number-paired t m [] long = refl
 number-paired t m (x ∷ []) long = absurd (omega arith)
@@ -59,15 +61,15 @@ number-paired t (suc m) (x ∷ y ∷ rest) long =
     let next : t ^ suc (length rest) ≡ t ^ length rest * t = pow-suc t (length rest) in
     omega (arith, ap (λ p. (x * t + y) * p) power, ap (λ p. x * p) next, number-paired t m rest (omega arith))
 
--- Two digits below t spell the first times t plus the second.
+-- Two digits of base t spell the first one times t, plus the second. Both are below t.
 number-two : (t : ℕ) (xs : List ℕ) → length xs ≡ 2 → Each1 (λ x. x < t) xs → (get_or xs 0 0 < t) × ((get_or xs 1 0 < t) × (get_or xs 0 0 * t + get_or xs 1 0 ≡ number_in t xs))
 number-two t [] long h = absurd (omega arith)
 number-two t (x ∷ []) long h = absurd (omega arith)
 number-two t (x ∷ y ∷ []) long h = (h.0, (h.1.0, omega (arith, pow-suc t 0, pow-zero t, ap (λ p. x * p) (pow-suc t 0), ap (λ p. y * p) (pow-zero t), ap (λ p. x * (p * t)) (pow-zero t))))
 number-two t (x ∷ y ∷ z ∷ rest) long h = absurd (omega arith)
 
--- Two groups of eight digits, each joined to one number, spell the value of all 16 digits, and each
--- is below 10^8.
+-- If 16 digits are joined to two numbers of eight digits, both numbers are below 10^8, and the
+-- first times 10^8 plus the second is the value of all 16 digits.
 pub by_eights : (digits : List ℕ) → length digits ≡ 16 → Each1 (λ x. x < 10) digits → (eights : List ℕ) → eights ≡ paired 10000 (paired 100 (paired 10 digits))
     → (get_or eights 0 0 < 100000000) × ((get_or eights 1 0 < 100000000) × (get_or eights 0 0 * 100000000 + get_or eights 1 0 ≡ value itself digits))
 by_eights digits long below eights made =
@@ -91,12 +93,13 @@ take-paired t (suc m) (x ∷ y ∷ rest) =
     let two : suc m + suc m ≡ suc (suc (m + m)) = omega arith in
     rw two (ap (λ l. (x * t + y) ∷ l) (take-paired t m rest))
 
--- The first of two digits is the number that the list of this digit alone spells.
+-- A list that has only the first of two digits spells a number that equals this digit.
 first_of-one : (t : ℕ) (xs : List ℕ) → length xs ≡ 2 → get_or xs 0 0 ≡ number_in t (take 1 xs)
 first_of-one t [] long = absurd (omega arith)
 first_of-one t (x ∷ rest) long = omega (arith, ap (λ p. x * p) (pow-zero t))
 
--- The first group of eight joined digits is the value of the first eight of 16 digits.
+-- If 16 digits are joined to two numbers of eight digits, the first of these numbers is the value
+-- of the first eight digits.
 pub by_first_eight : (digits : List ℕ) → length digits ≡ 16 → (eights : List ℕ) → eights ≡ paired 10000 (paired 100 (paired 10 digits))
     → get_or eights 0 0 ≡ value itself (take 8 digits)
 by_first_eight digits long eights made =
@@ -117,20 +120,20 @@ pub value-after_zeros : (n : ℕ) (xs : List ℕ) → value itself (replicate n 
 value-after_zeros zero xs = refl
 value-after_zeros (suc n) xs = omega (arith, value-after_zeros n xs)
 
--- The digit value of a byte, computed by a subtraction that wraps.
+-- A byte minus 48, which is the byte of the digit zero. The subtraction wraps.
 abbrev pub above_zero : ℕ → ℕ
 above_zero x = (x + (2 ^ 8 - 48)) % 2 ^ 8
 
--- For a digit this is its digit value, which is below ten.
+-- If the byte is a digit, `above_zero` returns its digit value, which is below ten.
 above_zero-digit : (x : ℕ) → is_digit decimal_table x ≡ true → (above_zero x ≡ digit_value decimal_table x) × (above_zero x < 10)
 above_zero-digit x h = (grind (arith, nat_tests), grind (arith, nat_tests))
 
--- For each digit, f returns its digit value.
+-- For each byte that is a digit, f returns its digit value, which is below ten.
 abbrev pub GivesDigitValues : (ℕ → ℕ) → Type 0
 GivesDigitValues f = (x : ℕ) → is_digit decimal_table x ≡ true → (f x ≡ digit_value decimal_table x) × (f x < 10)
 
--- If f returns digit values, the numbers that it returns for leading digits spell their value, and
--- each is below ten.
+-- If f returns digit values and the first n elements are digits, then the numbers that f returns
+-- for these elements spell the value of these digits, and each number is below ten.
 pub digits_value : (f : ℕ → ℕ) → GivesDigitValues f → (n : ℕ) (v : List ℕ) → n ≤ run_len decimal_table v
     → (value itself (take n (map f v)) ≡ value decimal_table (take n v)) × Each1 (λ x. x < 10) (take n (map f v))
 digits_value f makes zero v h = (refl, tt)
@@ -147,19 +150,20 @@ digits_value f makes (suc n) (x ∷ xs) h =
       | false ↦ λ is none. absurd (omega arith)
     ]) refl h
 
--- If the first `n` lanes hold digits, subtracting the byte `0` from each gives digits that spell
--- their value.
+-- If the first `n` lanes hold digits and 48 is subtracted from each lane, the first `n` results
+-- spell the value of these digits.
 pub values_sum : (n : ℕ) (v : List ℕ) → length v ≡ 16 → n ≤ run_len decimal_table v
     → value itself (take n (zip2 (λ x y. (x + (2 ^ 8 - y)) % 2 ^ 8) v (replicate 16 48))) ≡ value decimal_table (take n v)
 values_sum n v long digits =
     ap (λ digit_values. value itself (take n digit_values)) (zip2_splat (λ x y. (x + (2 ^ 8 - y)) % 2 ^ 8) v 16 48 long) ∙ (digits_value above_zero above_zero-digit n v digits).0
 
--- Zeros before numbers below ten are below ten too.
+-- If all numbers of a list are below ten, they are still all below ten with zeros before them.
 pub below_after_zeros : (n : ℕ) (xs : List ℕ) → Each1 (λ x. x < 10) xs → Each1 (λ x. x < 10) (replicate n 0 ++ xs)
 below_after_zeros zero xs h = h
 below_after_zeros (suc n) xs h = (omega arith, below_after_zeros n xs h)
 
--- Zeros followed by the digit values of digits are all below ten.
+-- If the first `n` lanes hold digits, then zeros followed by the digit values of these lanes are
+-- all below ten.
 pub values_below : (zeros n : ℕ) (v : List ℕ) → length v ≡ 16 → n ≤ run_len decimal_table v
     → Each1 (λ x. x < 10) (replicate zeros 0 ++ take n (zip2 (λ x y. (x + (2 ^ 8 - y)) % 2 ^ 8) v (replicate 16 48)))
 values_below zeros n v long digits =
@@ -167,7 +171,8 @@ values_below zeros n v long digits =
     below_after_zeros zeros _ (subst (λ l. Each1 (λ x. x < 10) (take n l)) (sym digit_values) (digits_value above_zero above_zero-digit n v digits).1)
 
 -- ---- Joining the two halves of each field
--- A step on a field of double width joins its two halves to one number.
+-- A *field* is a lane that holds two numbers, one in each half. A step on a field joins these two
+-- numbers to one.
 
 -- The number that n digits of base p spell is below p^n.
 pub number-lt : (p : ℕ) (xs : List ℕ) → Each1 (λ x. x < p) xs → number_l p xs < p ^ length xs
@@ -181,8 +186,8 @@ number-digits p (suc n) x some lt =
     let above : x / p < p ^ n = (div-lt_iff_lt-mul {k = p} some).1 (omega (arith, pow-suc p n)) in
     ap (λ m. x % p + p * m) (number-digits p n (x / p) some above) ∙ omega (arith, div-add-mod x p)
 
--- If a step on a field of two digits joins them to one, applying it to all fields joins all
--- neighbours. The first digit of a field is the lower one.
+-- If a step on a field joins the two digits in this field to one, then applying this step to all
+-- fields joins all neighbouring digits. The first digit of a field is the lower one.
 join_lanes : (p t : ℕ) (step : ℕ → ℕ) → t ≤ p → ((x y : ℕ) → x < t → y < t → step (y * p + x) ≡ x * t + y)
     → (m : ℕ) (xs : List ℕ) → length xs ≡ m + m → Each1 (λ x. x < t) xs → map step (digits_l (p * p) m (number_l p xs)) ≡ paired t xs
 join_lanes p t step le joins zero [] long h = refl
@@ -197,8 +202,8 @@ join_lanes p t step le joins (suc m) (x ∷ y ∷ rest) long h =
     (ap (λ k. map step (digits_l (p * p) m k)) (ap (λ k. k / (p * p)) all ∙ div-mul-add n (p * p) (y * p + x) field)
     ∙ join_lanes p t step le joins m rest (omega arith) h.1.1)
 
--- Splitting a number into bytes and reading these gives the same number, if the digits fill whole
--- bytes.
+-- If the digits of a number fill whole bytes, then splitting the number into bytes and reading
+-- these bytes gives the same number.
 recast : (p n : ℕ) (xs : List ℕ) → p ^ length xs ≡ 256 ^ n → Each1 (λ x. x < p) xs → number_l 256 (digits_l 256 n (number_l p xs)) ≡ number_l p xs
 recast p n xs same h = number-digits 256 n (number_l p xs) (omega arith) (omega (arith, same, number-lt p xs h))
 
@@ -211,7 +216,8 @@ square : (t : ℕ) → t ≤ t * t
 square zero = omega arith
 square (suc t) = omega arith
 
--- For a field that holds two digits of base t, this joins them to one digit of base t * t.
+-- If a field holds two digits of base t, and t * t is at most 2^h, then `step` joins the two digits
+-- to one digit of base t * t.
 step-joins : (h t : ℕ) → t * t ≤ 2 ^ h → (x y : ℕ) → x < t → y < t → step h t (y * 2 ^ h + x) ≡ x * t + y
 step-joins h t room x y a b =
     let both : x * t + y < t * t = digits_lt {q = x} {m = t} a b in
@@ -223,7 +229,8 @@ step-joins h t room x y a b =
     let product : (x * t) % (2 ^ h * 2 ^ h) ≡ x * t = mod-eq_of_lt (omega arith) in
     ap₂ (λ l u. ((l * t) % (2 ^ h * 2 ^ h) + u) % (2 ^ h * 2 ^ h)) low high ∙ ap (λ l. (l + y) % (2 ^ h * 2 ^ h)) product ∙ mod-eq_of_lt (omega arith)
 
--- One level of the computation joins all neighbours in a vector.
+-- Under the same condition on h and t, one level of the computation applies `step` to all fields of
+-- a vector, and so joins all neighbouring digits.
 level : (h t n m : ℕ) → t * t ≤ 2 ^ h → (2 ^ h) ^ (m + m) ≡ 256 ^ n → (xs : List ℕ) → length xs ≡ m + m → Each1 (λ x. x < t) xs
     → map (step h t) (digits_l (2 ^ h * 2 ^ h) m (number_l 256 (digits_l 256 n (number_l (2 ^ h) xs)))) ≡ paired t xs
 level h t n m room bytes xs long below =
@@ -231,9 +238,9 @@ level h t n m room bytes xs long below =
     ap (λ k. map (step h t) (digits_l (2 ^ h * 2 ^ h) m k)) (recast (2 ^ h) n xs (ap (λ k. (2 ^ h) ^ k) long ∙ bytes) (Each1-weaker (λ x. x < t) (λ x. x < 2 ^ h) (λ x lt. omega arith) xs below))
     ∙ join_lanes (2 ^ h) t (step h t) le (step-joins h t room) m xs long below
 
--- The weights for bytes of lanes that hold a pair of digits in the upper byte: two neighbouring
--- pairs have the weights 100 and 1, and the lower bytes have the weight 0. `four_each m` is the
--- number of all bytes of `m` times two pairs.
+-- The weights of the bytes in `m` groups of two lanes. Each lane has two bytes and holds a pair of
+-- digits in its upper byte. The upper bytes of a group have the weights 100 and 1, and the lower
+-- bytes have the weight 0. `four_each m` is the number of bytes in all `m` groups.
 abbrev hundreds : ℕ → List ℕ
 hundreds zero = []
 hundreds (suc m) = 0 ∷ 100 ∷ 0 ∷ 1 ∷ hundreds m
@@ -246,7 +253,8 @@ four_each (suc m) = suc (suc (suc (suc (four_each m))))
 abbrev upper : ℕ → ℕ
 upper lane = lane / 256
 
--- The weighted sum of these bytes joins neighbouring pairs to numbers of four digits.
+-- `dots` adds up each group of four bytes, multiplied by their weights. With the weights
+-- `hundreds`, it joins neighbouring pairs to numbers of four digits.
 weighed : (m : ℕ) (xs : List ℕ) → length xs ≡ m + m → Each1 (Fits w16) xs
     → dots (digits_l 256 (four_each m) (number_l 65536 xs)) (hundreds m) ≡ paired 100 (map upper xs)
 weighed zero [] long h = refl
@@ -264,13 +272,13 @@ weighed (suc m) (x ∷ y ∷ rest) long h =
     ap₂ (λ d ds. d ∷ ds) (omega (arith, first, second))
     (ap (λ k. dots (digits_l 256 (four_each m) k) (hundreds m)) following ∙ weighed m rest (omega arith) h.1.1)
 
--- A product that wraps fits in its lane.
+-- A product that wraps fits in a lane of 16 bits.
 wrapped : (factor : ℕ) (xs : List ℕ) → Each1 (Fits w16) (map (λ field. field * factor % 65536) xs)
 wrapped factor [] = tt
 wrapped factor (x ∷ xs) = (record { fits = omega arith }, wrapped factor xs)
 
--- All three levels: the digits are joined to pairs, which are in the upper bytes, then to fours and
--- to eights.
+-- The code computes three levels. It joins the digits to pairs, which are then in the upper bytes
+-- of their lanes, the pairs to numbers of four digits, and these to numbers of eight digits.
 pub all_levels : (digits : List ℕ) → length digits ≡ 16 → Each1 (λ x. x < 10) digits
     → map (step 32 10000) (digits_l (2 ^ 64) 2 (number_l 256 (digits_l 256 16 (number_l (2 ^ 32)
     (dots (digits_l 256 16 (number_l 65536 (map (λ field. field * 2561 % 65536) (digits_l 65536 8 (number_l 256 digits))))) (hundreds 4))))))
@@ -285,23 +293,23 @@ all_levels digits long below =
     ∙ level 32 10000 16 2 (omega arith) refl (paired 100 (paired 10 digits)) four small
 
 -- ---- A short slice in the first half of a vector
--- It ends at lane 8, and the lanes before it are 0.
+-- The last byte of the slice is in the eighth lane. The lanes before the slice and after it are 0.
 
--- The lanes of a slice of at most eight bytes: zeros fill the first half before it, and the second
--- half is 0.
+-- The 16 lanes that hold a slice of at most eight bytes. In the first half, lanes of 0 come before
+-- the slice, and all lanes of the second half are 0.
 abbrev in_half : List ℕ → List ℕ
 in_half s = (replicate (8 - length s) 0 ++ s) ++ replicate 8 0
 
--- Bytes of 0 and then other bytes are all bytes.
+-- If all elements are below 256, they are still all below 256 with zeros before them.
 bytes-after_zeros : (n : ℕ) (s : List ℕ) → Each1 (λ x. x < 256) s → Each1 (λ x. x < 256) (replicate n 0 ++ s)
 bytes-after_zeros zero s h = h
 bytes-after_zeros (suc n) s h = (omega arith, bytes-after_zeros n s h)
 
--- The first half has eight lanes.
+-- The first half of `in_half` has eight lanes.
 length-filled : (s : List ℕ) → length s ≤ 8 → length (replicate (8 - length s) 0 ++ s) ≡ 8
 length-filled s few = length-append (replicate (8 - length s) 0) s ∙ omega (arith, length-replicate {A = ℕ} (8 - length s) 0)
 
--- The word that `load_high` returns has these lanes.
+-- If a vector holds the word from `load_high`, its 16 lanes are `in_half` of the slice.
 half_of_word : (s : List ℕ) → Each1 (λ x. x < 256) s → length s ≤ 8
     → digits_l 256 16 (number_l 256 (replicate (8 - length s) 0 ++ s)) ≡ in_half s
 half_of_word s h few =
@@ -309,8 +317,8 @@ half_of_word s h few =
     digits-number 256 16 8 (replicate (8 - length s) 0 ++ s) (bytes-after_zeros (8 - length s) s h) (omega (arith, long))
     ∙ take_all 16 (in_half s) (omega (arith, long, length-append (replicate (8 - length s) 0 ++ s) (replicate 8 0)))
 
--- In the number that digits of base p spell, lowest first, n digits of 0 before the others multiply
--- it by p^n.
+-- If n digits of 0 are put before digits of base p, of which the first is the lowest, the number
+-- that the digits spell is multiplied by p^n.
 number-after_zeros : (p n : ℕ) (xs : List ℕ) → number_l p (replicate n 0 ++ xs) ≡ p ^ n * number_l p xs
 number-after_zeros p zero xs = omega (arith, ap (λ q. q * number_l p xs) (pow-zero p))
 number-after_zeros p (suc n) xs =
@@ -318,8 +326,8 @@ number-after_zeros p (suc n) xs =
     let power = ap (λ q. q * number_l p xs) (pow-suc p n) in
     omega (arith, rest, power)
 
--- Shifting that word left drops the last bytes of the slice, as if only the first `len` had been
--- loaded.
+-- If the word from `load_high` is shifted left by `length s - len` bytes, the bytes after the first
+-- `len` are dropped. The result is the word from `load_high` for the first `len` bytes.
 shifted_word : (len : ℕ) (s : List ℕ) → Each1 (λ x. x < 256) s → len ≤ length s → length s ≤ 8
     → number_l 256 (replicate (8 - length s) 0 ++ s) * 2 ^ (8 * (length s - len)) % 2 ^ 64 ≡ number_l 256 (replicate (8 - len) 0 ++ take len s)
 shifted_word len s h le few =
@@ -339,7 +347,7 @@ shifted_word len s h le few =
     ∙ omega (arith, ap (λ q. number_l 256 s * q) moved, ap (λ m. 256 ^ (8 - len) * m) (first-and_rest len s le), ap (λ q. rest * q) whole, number-after_zeros 256 (8 - len) front) in
     ap (λ m. m % 2 ^ 64) parts ∙ mod-mul-add rest (2 ^ 64) kept below
 
--- So its lanes hold the first `len` bytes only.
+-- So, if a vector holds the shifted word, its 16 lanes are `in_half` of the first `len` bytes.
 half_of_start : (len : ℕ) (s : List ℕ) → Each1 (λ x. x < 256) s → len ≤ length s → length s ≤ 8
     → digits_l 256 16 (number_l 256 (replicate (8 - length s) 0 ++ s) * 2 ^ (8 * (length s - len)) % 2 ^ 64) ≡ in_half (take len s)
 half_of_start len s h le few =
@@ -357,7 +365,8 @@ count_by-zeros p none zero = refl
 count_by-zeros p none (suc n) =
     sum_by-cons (one_if p) 0 (replicate n 0) ∙ ap₂ (λ a b. a + b) (ap (λ b. cond b 1 0) none) (count_by-zeros p none n)
 
--- So as many lanes pass as bytes of the slice do.
+-- So, if 0 does not pass, the number of lanes that pass is the number of bytes of the slice that
+-- pass.
 count-in_half : (p : ℕ → Bool) → p 0 ≡ false → (s : List ℕ) → count_by p (in_half s) ≡ count_by p s
 count-in_half p none s =
     let zeros = 8 - length s in
@@ -372,15 +381,16 @@ all_pass p (x ∷ xs) h =
       | false ↦ λ more. absurd (omega (arith, more, h, count_by-le-length p xs))
     ]) (sum_by-cons (one_if p) x xs)
 
--- If the mask of the lanes that are digits has as many ones as the slice has bytes, all bytes are
--- digits.
+-- The mask has a 1 for each lane that is a digit. If the number of its ones is the length of the
+-- slice, all bytes of the slice are digits.
 counts_all : (s v : List ℕ) (mask : ℕ) → v ≡ in_half s → mask ≡ mask_l (map (is_digit decimal_table) v)
     → count_ones mask ≡ length s → run_len decimal_table s ≡ length s
 counts_all s v mask is ones h =
     let digit = is_digit decimal_table in
     all_pass digit s (sym (ap count_ones ones ∙ ones-mask_l digit v ∙ ap (count_by digit) is ∙ count-in_half digit refl s) ∙ h)
 
--- Zeros after the elements do not change the passing prefix, if 0 does not pass.
+-- The *passing prefix* of a list is its longest prefix of elements that pass a test. If 0 does not
+-- pass, zeros after a list do not change the length of its passing prefix.
 prefix_len-before_zeros : (p : ℕ → Bool) → p 0 ≡ false → (n : ℕ) (s : List ℕ) → prefix_len p (s ++ replicate n 0) ≡ prefix_len p s
 prefix_len-before_zeros p none zero [] = refl
 prefix_len-before_zeros p none (suc n) [] = ap (λ b. cond b (1 + prefix_len p (replicate n 0)) 0) none
@@ -391,8 +401,8 @@ drop-zeros : (n : ℕ) (s : List ℕ) → drop n (replicate n 0 ++ s) ≡ s
 drop-zeros zero s = refl
 drop-zeros (suc n) s = drop-zeros n s
 
--- If the mask's bits for the zeros before the slice are dropped, the mask begins with as many ones
--- as the slice begins with digits.
+-- If the bits for the lanes before the slice are dropped from the mask, the number of its trailing
+-- ones is the number of digits that the slice begins with.
 digits_first : (s v : List ℕ) (mask : ℕ) → length s ≤ 8 → v ≡ in_half s → mask ≡ mask_l (map (is_digit decimal_table) v)
     → trailing_ones w64 (mask / 2 ^ (8 - length s)) ≡ run_len decimal_table s
 digits_first s v mask few is ones =
@@ -408,25 +418,25 @@ digits_first s v mask few is ones =
 abbrev low_half : ℕ → ℕ
 low_half x = bit_and x 15
 
--- For a digit this is its digit value.
+-- If the byte is a digit, its lower half is its digit value.
 low_half-digit : GivesDigitValues low_half
 low_half-digit x h =
     let half : bit_and x 15 ≡ x % 16 = and_mask x 4 in
     (half ∙ grind (arith, nat_tests), rw half (grind (arith, nat_tests)))
 
--- For 0 it is 0.
+-- The lower half of 0 is 0.
 low_half-zeros : (n : ℕ) → map low_half (replicate n 0) ≡ replicate n 0
 low_half-zeros zero = refl
 low_half-zeros (suc n) = ap (λ l. 0 ∷ l) (low_half-zeros n)
 
--- Numbers below ten and then zeros are all below ten.
+-- If all numbers of a list are below ten, they are still all below ten with zeros after them.
 before_zeros : (n : ℕ) (xs : List ℕ) → Each1 (λ x. x < 10) xs → Each1 (λ x. x < 10) (xs ++ replicate n 0)
 before_zeros zero [] h = tt
 before_zeros (suc n) [] h = (omega arith, before_zeros n [] h)
 before_zeros n (x ∷ xs) h = (h.0, before_zeros n xs h.1)
 
--- If the slice has digits only, the lower halves of its lanes are below ten, and the first eight
--- spell its value.
+-- If the slice consists of digits, the lower halves of all lanes are below ten, and those of the
+-- first eight lanes spell the value of the slice.
 half_values : (s : List ℕ) → length s ≤ 8 → run_len decimal_table s ≡ length s → (v : List ℕ) → v ≡ in_half s
     → (value itself (take 8 (zip2 bit_and v (replicate 16 15))) ≡ value decimal_table s)
     × Each1 (λ x. x < 10) (zip2 bit_and v (replicate 16 15))
@@ -450,7 +460,7 @@ half_values s few digits v is =
       subst (Each1 (λ x. x < 10)) (sym lanes) (before_zeros 8 _ (below_after_zeros zeros digit_values (subst (Each1 (λ x. x < 10)) whole known.1))),
     )
 
--- The run of a run is the whole run.
+-- All elements of the passing prefix pass.
 run_len-run : (p : ℕ → Bool) (s : List ℕ) → prefix_len p (take (prefix_len p s) s) ≡ length (take (prefix_len p s) s)
 run_len-run p [] = refl
 run_len-run p (x ∷ xs) =
@@ -461,14 +471,15 @@ run_len-run p (x ∷ xs) =
       | false ↦ λ h. refl
     ] refl
 
--- The lower halves of the lanes are below ten, and the first eight spell the value of the run.
+-- The lower halves of the lanes `v` are below ten, and those of the first eight lanes spell the
+-- value of the run of `s`.
 abbrev Written : List ℕ → List ℕ → Type 0
 Written s v =
     (value itself (take 8 (zip2 bit_and v (replicate 16 15))) ≡ value decimal_table (run decimal_table s))
     × Each1 (λ x. x < 10) (zip2 bit_and v (replicate 16 15))
 
--- If the mask has as many ones as the slice has bytes, the whole slice is its run, and its lanes
--- spell the value.
+-- If the number of ones in the mask is the length of the slice, the run is the whole slice, and the
+-- lower halves of the lanes spell its value.
 pub all_digits : (s : List ℕ) → Each1 (λ x. x < 256) s → length s ≤ 8 → (word mask : ℕ) (v : List ℕ) → word ≡ word_of (replicate (8 - length s) 0 ++ s)
     → v ≡ digits_l 256 16 word → mask ≡ mask_l (map (is_digit decimal_table) v) → count_ones mask ≡ length s → (length s ≡ run_len decimal_table s) × Written s v
 unfolding word_of
@@ -478,8 +489,9 @@ all_digits s h few word mask v loaded lanes ones count =
     let written = half_values s few digits v is in
     (sym digits, (written.0 ∙ sym (ap (value decimal_table) (take_all (run_len decimal_table s) s (omega (arith, digits)))), written.1))
 
--- The mask gives the length of the run, and the lanes of the word that is shifted by the bytes
--- after the run spell its value.
+-- The trailing ones of the mask, without its bits for the lanes before the slice, give the length
+-- of the run. If the word is shifted left by the number of bytes after the run, the lower halves of
+-- its lanes spell the value of the run.
 pub first_digits : (s : List ℕ) → Each1 (λ x. x < 256) s → length s ≤ 8 → (word mask len : ℕ) (v : List ℕ) → word ≡ word_of (replicate (8 - length s) 0 ++ s)
     → v ≡ digits_l 256 16 word → mask ≡ mask_l (map (is_digit decimal_table) v) → len ≡ trailing_ones w64 (mask / 2 ^ (8 - length s))
     → (len ≡ run_len decimal_table s) × ((len ≤ length s) × ((w : List ℕ) → w ≡ digits_l 256 16 (word * 2 ^ (8 * (length s - len)) % 2 ^ 64) → Written s w))

@@ -1,6 +1,6 @@
--- Windows of 16 and of 32 bytes, read in lanes, and the answers that they decide. A window
--- describes the run, the longest prefix of digits, of these bytes. The lemmas prove the engine
--- `Lanes` and its parses of wide integers.
+-- Windows of 8, 16 and 32 bytes that are read in lanes, and the answers that these windows decide.
+-- A window describes the *run* of its bytes, which is their longest prefix of digits. The engine
+-- `Lanes` and its parsers of integers of 64 and of 128 bits are proved with these lemmas.
 use Rattle.std.proofs.Common.{◌≡◌, ℕ, zero, suc, ◌+◌, ◌<◌, ◌==◌, Bool, true, false, cond, List, [], ◌∷◌, ◌++◌, length, take, replicate, refl, sym, ap, ap₂, ◌∙◌, arith, if◌then◌else◌, ◌-◌, ◌≤◌, drop, ◌⊎◌, ◌*◌, ◌/◌, min, inl, inr, ◌^◌, eqb, subst, lit<}
 use Rattle.std.specs.List.{prefix_len}
 use Rattle.std.proofs.lemmas.List.{take_all, length-take, take-append-le, drop-drop, length-drop, take-replicate, take_rest}
@@ -20,16 +20,20 @@ use Rattle.atoi_core.specs.Magnitude.{wide64, wide128, prefix_magnitude}
 use Rattle.atoi_lanes.specs.declared.window_32.Window32.{Window32}
 
 -- ---- Lanes after a short slice
--- They are 0, which is no digit, so they do not change what is read.
+-- If a slice has fewer bytes than the vector has lanes, the lanes after the slice are 0. 0 is no
+-- digit, so these lanes do not change what is read.
 
--- If 0 does not pass the test, filling up with zeros does not change the passing prefix.
+-- The *passing prefix* of a list is its longest prefix of elements that pass a test. If 0 does not
+-- pass, zeros after a list do not change the length of the passing prefix of its first `n`
+-- elements.
 pub prefix_len-padded : (p : ℕ → Bool) → p 0 ≡ false → (n m : ℕ) (s : List ℕ) → prefix_len p (take n (s ++ replicate m 0)) ≡ prefix_len p (take n s)
 prefix_len-padded p h zero m s = refl
 prefix_len-padded p h (suc n) zero [] = refl
 prefix_len-padded p h (suc n) (suc m) [] = ap (λ b. cond b (1 + prefix_len p (take n (replicate m 0))) 0) h
 prefix_len-padded p h (suc n) m (x ∷ xs) = ap (λ k. cond (p x) (1 + k) 0) (prefix_len-padded p h n m xs)
 
--- Appending to a list does not change a prefix that ends within the list.
+-- If elements are appended to a list, its first `n` elements still begin with the elements that
+-- were their passing prefix before.
 pub prefix-padded : (p : ℕ → Bool) (n : ℕ) (s zs : List ℕ) → take (prefix_len p (take n s)) (take n (s ++ zs)) ≡ take (prefix_len p (take n s)) (take n s)
 prefix-padded p zero s zs = refl
 prefix-padded p (suc n) [] zs = refl
@@ -41,7 +45,8 @@ prefix-padded p (suc n) (x ∷ xs) zs =
       | false ↦ refl
     ]
 
--- A window read from lanes is the one read from the bytes in them.
+-- The window of the lanes is the window of the bytes that were loaded into them. The lanes of 0
+-- after these bytes change nothing.
 lanes_show : (size : ℕ) (s : List ℕ) → lane_window size (padded_start 16 s) ≡ lane_window size (take 16 s)
 lanes_show size s =
     let len = prefix_len-padded (is_digit decimal_table) refl 16 16 s in
@@ -60,7 +65,9 @@ window-of_lanes s = lanes_show 16 s
 pub window-of_half_the_lanes : (s : List ℕ) → lane_window 8 (padded_start 16 (take 8 s)) ≡ window_of decimal_table 8 s
 window-of_half_the_lanes s = lanes_show 8 (take 8 s) ∙ ap (lane_window 8) (take_all 16 (take 8 s) (omega (arith, length-take 8 s)))
 
--- The window of a slice with fewer than 16 bytes is also a reading of 32 bytes.
+-- If a slice has fewer than 16 bytes, the length and the number in its window of 16 bytes are also
+-- those of a reading of 32 bytes. The window reports no zeros of such a slice, but the reading
+-- does.
 pub reading-of_few : (s : List ℕ) (w : Window) → length s < 16 → w ≡ window_of decimal_table 16 s
     → Reading decimal_table 32 s w.len (zeros decimal_table (take 32 s)) w.number
 reading-of_few s w few e =
@@ -73,7 +80,8 @@ reading-of_few s w few e =
 
 -- ---- 32 bytes in two vectors
 
--- What is counted in 16 lanes is a reading of the first 16 bytes.
+-- If the lanes hold the first 16 bytes of a slice, the digits and zeros that the lanes begin with,
+-- and the number that the digits spell, are a reading of these bytes.
 pub reading-of_lanes : (s lanes : List ℕ) (len number : ℕ) → lanes ≡ padded_start 16 s → len ≡ run_len decimal_table lanes
     → number ≡ value decimal_table (take len lanes) → Reading decimal_table 16 s len (zeros decimal_table lanes) number
 reading-of_lanes s lanes len number loaded digits writes =
@@ -86,13 +94,13 @@ reading-of_lanes s lanes len number loaded digits writes =
           ∙ ap (value decimal_table) (prefix-padded (is_digit decimal_table) 16 s (replicate 16 0));
     }
 
--- If the slice has at least 32 bytes, its second 16 fill a vector.
+-- If the slice has at least 32 bytes, the 16 bytes after the first 16 fill a vector.
 pub after_all : (s : List ℕ) → 32 ≤ length s → take 16 (drop 16 s) ≡ padded_start 16 (drop 16 s)
 after_all s enough = sym (take-append-le 16 (drop 16 s) (replicate 16 0) (omega (arith, length-drop 16 s)))
 
--- If the slice has 16 to 31 bytes, those after the first 16 are the last lanes of the vector of its
--- last 16 bytes. Dropping the other lanes and appending zeros gives the padded vector of these
--- bytes.
+-- If the slice has 16 to 31 bytes, the vector of its last 16 bytes ends with the bytes after the
+-- first 16. Dropping the lanes before these bytes and appending zeros gives the padded vector of
+-- these bytes.
 pub after_some : (s : List ℕ) → 16 ≤ length s → length s < 32
     → drop (32 - length s) (take 16 (drop (length s - 16) s)) ++ replicate (32 - length s) 0 ≡ padded_start 16 (drop 16 s)
 after_some s enough short =
@@ -110,12 +118,13 @@ after_some s enough short =
     ∙ ap (λ n. take n (following ++ replicate 16 0)) fill
 
 -- ---- The loop that skips zeros
--- It drops the zeros of one window of 32 bytes in each turn. These lemmas say how far it gets and
--- how many windows it loads.
+-- In each turn the loop skips the zeros that one window of 32 bytes begins with. These lemmas say
+-- how far the loop gets and how many windows it loads.
 
--- The state before a window is loaded at offset `at`: only skipped zeros come before it. So far one
--- window was loaded for each 32 of these zeros, and one more if the last loaded window began with
--- fewer than 32 zeros.
+-- The state of `skip_leading_zeros` at offset `at`: only skipped zeros come before this offset.
+-- `before` is the number of loads when the function is called, and `now` is the number so far. One
+-- load was made for each 32 of the skipped zeros, and one more if their number is no multiple of
+-- 32. In the latter case the slice has no more leading zeros than these.
 pub record Skipping (skip : Bool) (s : List ℕ) (at before now : ℕ) : Type 0 where
   pub skipped : IsSkipped decimal_table skip s at
   pub within : at ≤ length s
@@ -123,7 +132,7 @@ pub record Skipping (skip : Bool) (s : List ℕ) (at before now : ℕ) : Type 0 
   pub least : at + 32 * before ≤ 32 * now
   pub offset : (32 * now ≡ 32 * before + at) ⊎ (at ≡ zeros decimal_table s)
 
--- Before the first window, nothing is skipped and nothing is loaded.
+-- When the function is called, nothing is skipped yet, and the function has made no load.
 pub Skipping-none : (skip : Bool) (s : List ℕ) (n : ℕ) → Skipping skip s 0 n n
 Skipping-none skip s n = record {
   skipped = record { zeros_only = omega arith; asked = λ _. refl };
@@ -133,7 +142,8 @@ Skipping-none skip s n = record {
   offset = inl (omega arith);
 }
 
--- If the window begins with zeros, the loop goes on after them.
+-- If zeros are skipped and the window at offset `at` begins with zeros, then `Skipping` also holds
+-- after these zeros, with one more load.
 pub Skipping-more : (skip : Bool) (s : List ℕ) (at before now next leading : ℕ) → Skipping skip s at before now
     → leading ≡ min 32 (zeros decimal_table s - at) → next ≡ now + 1 → skip ≡ true → 0 < leading → Skipping skip s (at + leading) before next
 Skipping-more skip s at before now next leading after_skip reported one on some =
@@ -148,15 +158,15 @@ Skipping-more skip s at before now next leading after_skip reported one on some 
       offset = elim (cases_lt leading 32) [ inl h ↦ inr (omega arith) | inr h ↦ inl (omega arith) ];
     }
 
--- If the last window begins with fewer than 32 zeros, at least one window was loaded for each 32
--- zeros of the slice.
+-- If the window at offset `at` begins with fewer than 32 zeros, at least one load was made for each
+-- 32 leading zeros of the slice.
 pub Skipping-loads : (skip : Bool) (s : List ℕ) (at before now leading : ℕ) → Skipping skip s at before now
     → leading ≡ min 32 (zeros decimal_table s - at) → leading < 32 → before + zeros decimal_table s / 32 ≤ now
 Skipping-loads skip s at before now leading after_skip reported few = omega (arith, after_skip.least)
 
--- The loop is not entered if zeros are not skipped, or if the first window begins with none or is
--- not full. So if the loop is not entered and the first window is full, that window begins with no
--- zero that is skipped.
+-- The loop is not entered if zeros are not skipped, or if the first window begins with no zero or
+-- is not full of digits. So if the loop is not entered although zeros are skipped and the first
+-- window is full of digits, then this window begins with no zero.
 pub first-ends : (skip : Bool) (len leading : ℕ) → len ≤ 32
     → ((skip ≡ true) × (0 < leading) × (len ≡ 32 → ⊥)) ⊎ (((skip ≡ true) × (leading ≤ 0)) ⊎ (skip ≡ false))
     → skip ≡ true → 32 ≤ len → leading ≡ 0
@@ -166,8 +176,8 @@ first-ends skip len leading most ends on full =
       | inr rest ↦ (elim rest [ inl none ↦ omega (arith, none.1) | inr off ↦ absurd (false≢true (sym off ∙ on)) ])
     ]
 
--- If the first window is not full, or begins with no zero that is skipped, `ReadsAfterZeros` holds
--- for it, with nothing skipped before it.
+-- If the first window is not full of digits, or begins with no zero that is skipped, then
+-- `ReadsAfterZeros` holds for this window at offset 0.
 pub reads-first : ReadingDecides → (skip : Bool) (s : List ℕ) (len leading number : ℕ) → Reading decimal_table 32 s len leading number
     → (skip ≡ true → 32 ≤ len → leading ≡ 0) → ReadsAfterZeros skip s 0 len leading number
 reads-first law skip s len leading number reading ends =
@@ -193,7 +203,7 @@ few-zeros law skip s len leading number reading ends on =
 pub below_ten : IsBelowTen decimal_table
 below_ten byte = grind (arith, nat_tests)
 
--- All digits of a window are significant except its zeros that are skipped.
+-- All digits of a window are significant, except the zeros at its start if zeros are skipped.
 significant_are : (skip : Bool) (len reported leading : ℕ) → reported ≤ len → ((skip ≡ true) × (leading ≡ reported)) ⊎ ((skip ≡ false) × (leading ≡ 0))
     → (significant_digits skip len reported ≡ len - leading) × (len - significant_digits skip len reported ≡ leading)
 significant_are true len reported leading most is = elim is [ inl h ↦ (omega (arith, h), omega (arith, h)) | inr h ↦ absurd (false≢true (sym h.0)) ]
@@ -215,7 +225,8 @@ decided_64 law bound limit skip s at leading w few front is =
     ∙ ap (λ (n : ℕ). answer_by_digits wide64 bound limit (at + n) (significant_digits skip w.len w.zeroes) w.number s) count.1
     ∙ ap (λ (n : ℕ). answer_by_digits wide64 bound limit (at + leading) n w.number s) count.0)
 
--- For 128 bits, a full window and the 8 bytes after it decide the answer.
+-- For 128 bits, a window that is full of digits and the 8 bytes after it decide the answer. The
+-- first three facts are conditions of `answer_128`.
 pub decided_full : ReadingDecides → (bound : ℕ) (skip : Bool) (s : List ℕ) (at : ℕ) (w : Window32) (back : Window)
     → ReadsAfterZeros skip s at w.len w.zeroes w.number → 32 ≤ w.len
     → back ≡ window_of decimal_table 8 (drop 32 (take (length s - at) (drop at s)))

@@ -20,7 +20,7 @@ use Rattle.std.proofs.lemmas.Nat.{mod-mul-add, div-mul-add, pow-add}
 -- ---- Masks
 -- The mask of a comparison gives the number of leading lanes that pass a test.
 
--- A 0 below the bits of a number adds one trailing zero bit.
+-- If a bit of 0 is put below the bits of a number, the number has one more trailing zero bit.
 trailing-even : (k n : ℕ) → count_trailing_zeros (suc k) (2 * n) ≡ suc (count_trailing_zeros k n)
 unfolding count_trailing_zeros
 trailing-even k n =
@@ -33,7 +33,8 @@ trailing-odd : (k n : ℕ) → count_trailing_zeros (suc k) (2 * n + 1) ≡ 0
 unfolding count_trailing_zeros
 trailing-odd k n = let lowest : (2 * n + 1) % 2 ≡ 1 = omega arith in rw lowest
 
--- The complement of a mask has as many trailing zero bits as leading lanes pass.
+-- If there are fewer than k lanes, the number of trailing zero bits in the complement of their mask
+-- is the number of leading lanes that pass.
 trailing-complement : (p : ℕ → Bool) (k : ℕ) (xs : List ℕ) → length xs < k → count_trailing_zeros k ((2 ^ k - 1) - mask_l (map p xs)) ≡ prefix_len p xs
 trailing-complement p zero xs h = absurd (omega arith)
 trailing-complement p (suc k) [] h =
@@ -57,8 +58,8 @@ map-agree : (p q : ℕ → Bool) → agree_below p q 256 ≡ true → (xs : List
 map-agree p q all [] fits = refl
 map-agree p q all (x ∷ xs) fits = ap₂ (λ b bs. b ∷ bs) (agree_below_at p q 256 x all fits.0.fits) (map-agree p q all xs fits.1)
 
--- If the top bit of `f x` is set exactly for the bytes x that pass the test, the bit mask of the
--- mapped lanes is the mask of the lanes that pass.
+-- If for each byte x the top bit of `f x` is set exactly if x passes the test, and f is applied to
+-- all lanes, then the mask of the top bits is the mask of the lanes that pass.
 pub mask-of_lanes : (q : ℕ → Bool) (v : List ℕ) (f : ℕ → ℕ) (z : List ℕ) → length v < 64 → Each1 (Fits w8) v → z ≡ map f v
     → agree_below (λ x. top 7 (f x)) q 256 ≡ true → mask_l (map (top 7) z) % 2 ^ 64 ≡ mask_l (map q v)
 mask-of_lanes q v f z long fits lanes all =
@@ -67,7 +68,7 @@ mask-of_lanes q v f z long fits lanes all =
     ∙ mask_l-mod (map set v) 64 (omega (arith, length-map v set))
     ∙ ap mask_l (map-agree set q all v fits)
 
--- The trailing ones of the mask are as many as the leading lanes that pass.
+-- The number of trailing ones in the mask is the number of leading lanes that pass.
 pub ones-of_mask : (q : ℕ → Bool) (v : List ℕ) → length v < 64 → (mask : ℕ) → mask ≡ mask_l (map q v) → trailing_ones w64 mask ≡ prefix_len q v
 ones-of_mask q v long mask is = ap (trailing_ones w64) is ∙ trailing-complement q 64 v (omega arith)
 
@@ -82,9 +83,10 @@ mask-drop (suc k) (b ∷ bs) =
     ap (λ p. all / p) power ∙ sym (div-div-eq-div-mul all 2 (2 ^ k)) ∙ ap (λ m. m / 2 ^ k) others ∙ mask-drop k bs
 
 -- ---- Shuffles
--- They move the first lanes of a vector to its end, or its last lanes to its start.
+-- The shuffles move the first lanes of a vector to its end, or its last lanes to its start.
 
--- The table `SHIFTS`: 16 entries that select no lane, and then the lanes in order.
+-- The table `SHIFTS`: 16 entries that select no lane, and then 16 entries that select the lanes in
+-- order.
 abbrev shifts : List ℕ
 shifts = replicate 16 128 ++ range_with_len 0 16
 
@@ -94,7 +96,8 @@ take-range zero k a le = refl
 take-range (suc n) zero a le = absurd (omega arith)
 take-range (suc n) (suc k) a le = ap (λ l. a ∷ l) (take-range n k (a + 1) (omega arith))
 
--- The 16 entries from entry n on select no lane for the first places, and then the first n lanes.
+-- Of the 16 entries from index n on, the first 16 - n select no lane, and the others select the
+-- first n lanes in order.
 entries_from : (n : ℕ) → n ≤ 16 → take 16 (take (32 - n) (drop n shifts)) ≡ replicate (16 - n) 128 ++ range_with_len 0 n
 entries_from n le =
     let following : drop n shifts ≡ replicate (16 - n) 128 ++ range_with_len 0 16 =
@@ -119,15 +122,15 @@ lanes_from (suc n) i a xs fits room few =
     ap₂ (λ l ls. l ∷ ls) (cond-false _ _ _ named ∙ ap (λ k. get_or xs k 0) block) (lanes_from n (suc i) (a + 1) xs (omega arith) (omega arith) few)
     ∙ ap (take (suc n)) (sym (drop_more xs a 0 (omega arith)))
 
--- The shuffle with the entries from n on moves the first n lanes to the end, with zeros before
--- them.
+-- The shuffle with the 16 entries from index n on moves the first n lanes to the end, after lanes
+-- of 0.
 pub shifted : (n : ℕ) (v : List ℕ) → n ≤ 16 → length v ≡ 16 → swz_l w8 16 v 0 (take 16 (take (32 - n) (drop n shifts))) ≡ replicate (16 - n) 0 ++ take n v
 shifted n v le long =
     ap (swz_l w8 16 v 0) (entries_from n le)
     ∙ no_lanes (16 - n) 0 v (range_with_len 0 n)
     ∙ ap (λ l. replicate (16 - n) 0 ++ l) (lanes_from n (0 + (16 - n)) 0 v (omega arith) (omega arith) (omega arith))
 
--- All entries of the table are valid in a shuffle.
+-- The 16 entries of `SHIFTS` from index n on are valid in a shuffle.
 pub shift_ok : (n : ℕ) → n ≤ 16 → SwzOk w8 16 16 0 (take 16 (take (32 - n) (drop n shifts)))
 shift_ok n le =
     let entries = take (32 - n) (drop n shifts) in
@@ -135,7 +138,8 @@ shift_ok n le =
     SwzOk-from_Each1 w8 16 1 16 0 (take 16 entries) refl (omega (arith, length-take 16 entries))
     (Each1-chunk _ 0 16 entries (Each1-chunk _ n (32 - n) shifts each))
 
--- The table `FROM`: the lanes in order, and then 16 entries that select no lane.
+-- The table `FROM`: 16 entries that select the lanes in order, and then 16 entries that select no
+-- lane.
 abbrev from_entries : List ℕ
 from_entries = range_with_len 0 16 ++ replicate 16 128
 
@@ -145,7 +149,8 @@ drop-range zero n a b m all first = ap₂ range_with_len (omega arith) (omega ar
 drop-range (suc k) n a b zero all first = absurd (omega arith)
 drop-range (suc k) n a b (suc m) all first = drop-range k n (a + 1) b m (omega arith) (omega arith)
 
--- The 16 entries from entry k on select the lanes from k on, and then no lane.
+-- Of the 16 entries from index k on, the first 16 - k select the lanes after the first k, and the
+-- others select no lane.
 entries_after : (k : ℕ) → k ≤ 16 → take 16 (take (32 - k) (drop k from_entries)) ≡ range_with_len k (16 - k) ++ replicate k 128
 entries_after k le =
     let rest : drop k (range_with_len 0 16) ≡ range_with_len k (16 - k) = drop-range k (16 - k) 0 k 16 (omega arith) (omega arith) in
@@ -157,14 +162,15 @@ entries_after k le =
     ∙ take-append-add (range_with_len k (16 - k)) (replicate 16 128) k
     ∙ ap (λ l. range_with_len k (16 - k) ++ l) (take-replicate k 16 128 le)
 
--- A shuffle with two lists of entries is one with the first list, and then one with the second.
+-- A shuffle with two lists of entries, one after the other, gives the lanes that the first list
+-- selects, and then those that the second list selects.
 swz-append : (xs : List ℕ) (i : ℕ) (is js : List ℕ) → swz_l w8 16 xs i (is ++ js) ≡ swz_l w8 16 xs i is ++ swz_l w8 16 xs (i + length is) js
 swz-append xs i [] js = ap (λ k. swz_l w8 16 xs k js) (omega arith)
 swz-append xs i (l ∷ is) js =
     ap (λ ls. swz_l w8 16 xs i (l ∷ []) ++ ls) (swz-append xs (suc i) is js ∙ ap (λ k. swz_l w8 16 xs (suc i) is ++ swz_l w8 16 xs k js) (omega arith))
 
--- The shuffle with the entries from k on moves the lanes from k on to the start, with zeros after
--- them.
+-- The shuffle with the 16 entries from index k on drops the first k lanes and moves the others to
+-- the start, before lanes of 0.
 pub moved_from : (k : ℕ) (v : List ℕ) → k ≤ 16 → length v ≡ 16 → swz_l w8 16 v 0 (take 16 (take (32 - k) (drop k from_entries))) ≡ drop k v ++ replicate k 0
 moved_from k v le long =
     let count : length (range_with_len k (16 - k)) ≡ 16 - k = length-range_with_len k (16 - k) in
@@ -175,7 +181,7 @@ moved_from k v le long =
     ∙ no_lanes k (0 + length (range_with_len k (16 - k))) v [] ∙ append-nil (replicate k 0) in
     ap (swz_l w8 16 v 0) (entries_after k le) ∙ swz-append v 0 (range_with_len k (16 - k)) (replicate k 128) ∙ ap₂ (λ a b. a ++ b) lanes none
 
--- All entries of that table are valid in a shuffle.
+-- The 16 entries of `FROM` from index k on are valid in a shuffle.
 pub from_ok : (k : ℕ) → k ≤ 16 → SwzOk w8 16 16 0 (take 16 (take (32 - k) (drop k from_entries)))
 from_ok k le =
     let entries = take (32 - k) (drop k from_entries) in
@@ -186,8 +192,8 @@ from_ok k le =
 -- ---- Bytes as a number
 -- The bytes of a short slice are the digits of a number in base 256, the lowest first.
 
--- The number of two lists in a row is that of the first, plus that of the second times the power
--- for the first's length.
+-- The number that two lists spell, one after the other, is the number of the first list, plus the
+-- number of the second list times p^n, if n is the length of the first.
 number-append : (p : ℕ) (xs ys : List ℕ) → number_l p (xs ++ ys) ≡ number_l p xs + p ^ length xs * number_l p ys
 number-append p [] ys = omega (arith, ap (λ q. q * number_l p ys) (pow-zero p))
 number-append p (x ∷ xs) ys =
@@ -195,7 +201,8 @@ number-append p (x ∷ xs) ys =
     let power = ap (λ q. q * number_l p ys) (pow-suc p (length xs)) in
     omega (arith, rest, power)
 
--- One more digit adds its value times the power that belongs to its position.
+-- The number that the first n + 1 digits spell is the number that the first n digits spell, plus
+-- the digit at index n times p^n.
 number-take_more : (p n : ℕ) (xs : List ℕ) → number_l p (take (suc n) xs) ≡ number_l p (take n xs) + get_or xs n 0 * p ^ n
 number-take_more p zero [] = omega arith
 number-take_more p zero (x ∷ xs) = omega (arith, ap (λ q. x * q) (pow-zero p))
@@ -205,13 +212,15 @@ number-take_more p (suc n) (x ∷ xs) =
     let power = ap (λ q. get_or xs n 0 * q) (pow-suc p n) in
     omega (arith, rest, power)
 
--- The sum of the bytes, each times its power of 256, is the number that they spell.
+-- The sum of the first n + 1 bytes, each times its power of 256, is the number that these bytes
+-- spell.
 bytes-number : (n : ℕ) (xs : List ℕ) → sum_through (λ i. byte_worth i (get_or xs i 0)) n ≡ number_l 256 (take (suc n) xs)
 bytes-number zero [] = refl
 bytes-number zero (x ∷ xs) = omega arith
 bytes-number (suc n) xs = ap (λ s. s + get_or xs (suc n) 0 * 256 ^ suc n) (bytes-number n xs) ∙ sym (number-take_more 256 (suc n) xs)
 
--- Dividing a number by p separates its lowest digit from the number without it.
+-- If a number in base p is divided by p, the remainder is its lowest digit, and the quotient is the
+-- number that the other digits spell.
 lowest-digit : (p x n : ℕ) → x < p → ((x + p * n) % p ≡ x) × ((x + p * n) / p ≡ n)
 lowest-digit p x n h =
     let turned : x + p * n ≡ n * p + x = omega arith in
@@ -226,7 +235,8 @@ number-drop p (suc n) (x ∷ xs) h =
     let power : p ^ suc n ≡ p * p ^ n = omega (arith, pow-suc p n) in
     ap (λ q. all / q) power ∙ sym (div-div-eq-div-mul all p (p ^ n)) ∙ ap (λ m. m / p ^ n) (lowest-digit p x (number_l p xs) h.0).1 ∙ number-drop p n xs h.1
 
--- The digits of a number are those that it was made of, followed by zeros.
+-- The lowest n digits of the number that `xs` spells are the first n elements of `xs`, or all of
+-- `xs` and then zeros if `xs` is shorter.
 pub digits-number : (p n m : ℕ) (xs : List ℕ) → Each1 (λ x. x < p) xs → n ≤ length xs + m → digits_l p n (number_l p xs) ≡ take n (xs ++ replicate m 0)
 digits-number p zero m xs h room = refl
 digits-number p (suc n) zero [] h room = absurd (omega arith)
@@ -236,18 +246,19 @@ digits-number p (suc n) m (x ∷ xs) h room =
     let parts = lowest-digit p x (number_l p xs) h.0 in
     ap₂ (λ d ds. d ∷ ds) parts.0 (ap (digits_l p n) parts.1 ∙ digits-number p n m xs h.1 (omega arith))
 
--- A shift by n bytes multiplies or divides by 256^n.
+-- A shift by n bytes, which are 8 * n bits, multiplies or divides by 256^n.
 pub byte_shift : (n : ℕ) → 256 ^ n ≡ 2 ^ (8 * n)
 byte_shift zero = refl
 byte_shift (suc n) = pow-suc 256 n ∙ ap (λ p. p * 256) (byte_shift n) ∙ sym (ap (λ k. 2 ^ k) (omega arith) ∙ pow-add 2 (8 * n) 8)
 
--- The elements of a part of the list are bytes too.
+-- If all elements of a list are below p, the elements after the first n are below p too.
 Each1-drop : (p n : ℕ) (xs : List ℕ) → Each1 (λ x. x < p) xs → Each1 (λ x. x < p) (drop n xs)
 Each1-drop p zero xs h = h
 Each1-drop p (suc n) [] h = tt
 Each1-drop p (suc n) (x ∷ xs) h = Each1-drop p n xs h.1
 
--- Of a word with the last n bytes of the slice, a shift leaves those after the first n.
+-- If a slice has n to 2 * n bytes, shifting the word of its last n bytes leaves the word of the
+-- bytes after its first n.
 pub rest_of_last : (n : ℕ) (s : List ℕ) → Each1 (λ x. x < 256) s → n ≤ length s → length s ≤ 2 * n
     → number_l 256 (drop (length s - n) s) / 2 ^ (8 * (2 * n - length s)) ≡ number_l 256 (drop n s)
 rest_of_last n s h le ge =
@@ -258,7 +269,8 @@ rest_of_last n s h le ge =
     ∙ number-drop 256 over last (Each1-drop 256 (length s - n) s h)
     ∙ ap (number_l 256) (drop-drop over (length s - n) s ∙ ap (λ k. drop k s) count)
 
--- The first n bytes and the bytes above them make up the number.
+-- The number of the first n bytes, plus the number of the other bytes times 256^n, is the number of
+-- all bytes.
 pub first-and_rest : (n : ℕ) (s : List ℕ) → n ≤ length s → number_l 256 (take n s) + number_l 256 (drop n s) * 256 ^ n ≡ number_l 256 s
 first-and_rest n s le =
     let parts = number-append 256 (take n s) (drop n s) in
@@ -269,12 +281,12 @@ first-and_rest n s le =
 pub bytes : (s : List ℕ) → ((k : ℕ) → Fits w8 (get_or s k 0)) → Each1 (λ x. x < 256) s
 bytes s fits = Each1-from_get_or (λ x. x < 256) s 0 (λ k _. (fits k).fits)
 
--- A little-endian word of eight bytes is the number that they spell.
+-- The little-endian word of eight bytes is the number that the bytes spell.
 pub word-of_eight : (xs : List ℕ) → length xs ≡ 8 → from_le_bytes w64 xs ≡ number_l 256 xs
 word-of_eight xs long = bytes-number 7 xs ∙ ap (number_l 256) (take_all 8 xs (omega arith))
 
--- If a slice has 8 to 15 bytes, those after the first eight are shifted from the word of its last
--- eight.
+-- If a slice has 8 to 15 bytes, shifting the word of its last eight bytes leaves the word of the
+-- bytes after its first eight.
 pub high_of_last : (s : List ℕ) → Each1 (λ x. x < 256) s → 8 ≤ length s → length s < 16
     → number_l 256 (drop (length s - 8) s) / 2 ^ (8 * (15 - length s)) / 256 ≡ number_l 256 (drop 8 s)
 high_of_last s h le lt =
@@ -282,7 +294,8 @@ high_of_last s h le lt =
     let power : 2 ^ (8 * (15 - length s)) * 256 ≡ 2 ^ (8 * (2 * 8 - length s)) = sym (ap (λ k. 2 ^ k) (omega arith) ∙ pow-add 2 (8 * (15 - length s)) 8) in
     div-div-eq-div-mul last (2 ^ (8 * (15 - length s))) 256 ∙ ap (λ p. last / p) power ∙ rest_of_last 8 s h le (omega arith)
 
--- The two words of a slice with fewer than 16 bytes make up its 16 lanes.
+-- If a slice has fewer than 16 bytes, the word of its first eight bytes and the word of the others
+-- make up its 16 lanes.
 pub lanes-of_words : (s : List ℕ) → Each1 (λ x. x < 256) s → length s < 16
     → digits_l 256 16 (number_l (2 ^ 64) (number_l 256 (take 8 s) ∷ number_l 256 (drop 8 s) ∷ [])) ≡ take 16 (s ++ replicate 16 0)
 lanes-of_words s h lt =

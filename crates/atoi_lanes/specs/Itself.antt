@@ -1,4 +1,4 @@
--- The table of digits that are given as numbers.
+-- The table for lists whose elements are digit values already, and not bytes of a text.
 use Rattle.std.specs.Prelude.{Some}
 use Rattle.atoi_core.specs.Digit.{Table}
 

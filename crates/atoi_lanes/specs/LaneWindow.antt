@@ -4,8 +4,8 @@ use Rattle.atoi_core.specs.Digit.{decimal_table}
 use Rattle.atoi_core.specs.Run.{run_len, run, zeros, value}
 use Rattle.atoi_core.specs.declared.window.Window.{Window}
 
--- The length and the value of the run that the lanes begin with, and the number of their leading
--- zeros, if the run has `size` digits, and otherwise 0.
+-- The window has the length and the value of the run that the lanes begin with. If the run has
+-- `size` digits, `zeroes` is the number of leading zeros of the lanes, otherwise it is 0.
 abbrev pub lane_window : ℕ → List ℕ → Window
 lane_window size lanes =
     record {

@@ -1,7 +1,8 @@
 -- Neighbouring digits, joined to digits of a larger base.
 use Rattle.std.specs.Prelude.{ℕ, ◌+◌, ◌*◌, List, [], ◌∷◌}
 
--- Each two neighbours become one number: the first times the base, plus the second.
+-- The digits are joined two by two. Each pair becomes one number: its first digit times the base,
+-- plus its second digit. If the number of digits is odd, the last digit is dropped.
 abbrev pub paired : ℕ → List ℕ → List ℕ
 paired base [] = []
 paired base (last ∷ []) = []

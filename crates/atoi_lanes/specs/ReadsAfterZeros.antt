@@ -1,11 +1,11 @@
--- What the last window of a parse of a wide integer has read.
+-- What the last window of 32 bytes has read, in a parse of a wide integer.
 use Rattle.std.specs.Prelude.{◌≡◌, ℕ, ◌+◌, ◌≤◌, Bool, true, List, length, drop}
 use Rattle.atoi_core.specs.Digit.{decimal_table}
 use Rattle.atoi_core.specs.Reading.{Reading, IsSkipped}
 
--- After skipped zeros, at offset `at`, the next 32 bytes begin with `len` digits, which spell
--- `number` and of which the first `zeroes` are zeros. If zeros are skipped and all 32 bytes are
--- digits, the first of these is not zero.
+-- All bytes before offset `at` are skipped zeros. The next 32 bytes, or all that are left if there
+-- are fewer, begin with exactly `len` digits, which spell `number`, and with exactly `zeroes`
+-- zeros. If zeros are skipped and all 32 bytes are digits, the first of them is not zero.
 pub record ReadsAfterZeros (skip : Bool) (s : List ℕ) (at len zeroes number : ℕ) : Type 0 where
   pub skipped : IsSkipped decimal_table skip s at
   pub reading : Reading decimal_table 32 (drop at s) len zeroes number

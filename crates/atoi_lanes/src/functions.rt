@@ -1,6 +1,7 @@
-//! The ten public functions. Six pass their const flags as arguments to a method of the traits that
-//! their type `T` implements, and the four old names call one of these six. The file uses these
-//! three traits, and the laws of `atoi_core` on accepted texts and on results.
+//! The ten public functions. Six of them call a method of a trait that their type `T` implements,
+//! and pass it their const flags as arguments. The other four are old names, and each of them calls
+//! one of these six. The file uses the traits `Parse` and `ParseNeg`, the supertrait `ParsePos` of
+//! `Parse`, and the laws `accepted_texts`, `whole_results` and `prefix_results` of `atoi_core`.
 ghost use Rattle.std.specs.Prelude.{◌≡◌, ◌≤◌, ◌↔◌, ℕ, ℤ, true, false, IsTrue, IsOk, IfOk, OnErr, length};
 ghost use Rattle.atoi_core.specs.Answer.{typed_answer, typed_prefix_answer, whole_answer, prefix_answer, parse_answer, parse_prefix_answer};
 ghost use Rattle.atoi_core.specs.Digit.{decimal_table};
@@ -22,19 +23,20 @@ use atoi_core::laws::{accepted_texts, prefix_results, whole_results};
 /// With both flags on, `parse` accepts exactly what `str::parse::<T>` accepts: an optional sign
 /// (`-` for signed types only), one or more digits, nothing else, and a value in the range of `T`.
 ///
-/// `parse::<i64, false, false>(b"-2345")` returns `Ok(-2345)`. Mirrors `atoi_simd::parse`.
+/// `parse::<i64, false, false>(b"-2345")` returns `Ok(-2345)`. Mirrors `atoi_simd::parse` of the
+/// Rust crate.
 ///
 /// # Errors
 ///
-/// Returns the first of these errors that applies. The *significant* digits of the body are those
-/// after its skipped leading zeros. Without `SKIP_ZEROES` no zeros are skipped, so all digits are
-/// significant.
+/// Returns the first of these errors that applies. The *significant* digits are the digits at the
+/// start of the body, without the leading zeros that are skipped. Without `SKIP_ZEROES` no zeros
+/// are skipped, so all these digits are significant.
 ///
 /// - `Empty` if the body does not start with a digit.
-/// - `Size(count, slice)` if `T` has 64 or 128 bits and the body starts with more significant
-///   digits than the limit. `slice` is the body from its first significant digit on. `count` is the
-///   number of skipped zeros plus the number of significant digits, of which at most 24 are counted
-///   for 64-bit types and at most 40 for 128-bit types.
+/// - `Size(count, slice)` if `T` has 64 or 128 bits and the number of significant digits is above
+///   the limit. `slice` is the body from its first significant digit on. `count` is the number of
+///   skipped zeros plus the number of significant digits, of which at most 24 are counted for
+///   64-bit types and at most 40 for 128-bit types.
 /// - `Overflow(slice)` if the value does not fit in `T`. `slice` is the body; for 64- and 128-bit
 ///   types it is the body without the skipped zeros.
 /// - `Invalid64(value, index, slice)`, or `Invalid128` for 128-bit types, if another byte follows
@@ -65,7 +67,8 @@ pub fn parse<T: Parse, const SKIP_ZEROES: bool, const SKIP_PLUS: bool>(
 /// Returns what the digits of `s` spell, which is never negative. `parse_pos` differs from `parse`
 /// only in the sign: none is accepted, and the body is all of `s`.
 ///
-/// `parse_pos::<u128, true>(b"0012")` returns `Ok(12)`. Mirrors `atoi_simd::parse_pos`.
+/// `parse_pos::<u128, true>(b"0012")` returns `Ok(12)`. Mirrors `atoi_simd::parse_pos` of the Rust
+/// crate.
 ///
 /// # Errors
 ///
@@ -89,12 +92,13 @@ pub fn parse_pos<T: Parse, const SKIP_ZEROES: bool>(s: &[u8]) -> Result<T, AtoiS
 /// from `parse` only in the sign: none is accepted, the body is all of `s`, and the number is read
 /// as if a `-` preceded it.
 ///
-/// `parse_neg::<i8, false>(b"128")` returns `Ok(-128)`. Mirrors `atoi_simd::parse_neg`.
+/// `parse_neg::<i8, false>(b"128")` returns `Ok(-128)`. Mirrors `atoi_simd::parse_neg` of the Rust
+/// crate.
 ///
 /// # Errors
 ///
 /// Returns the errors of `parse`. `Overflow` means that the negated value is less than `T::MIN`.
-/// `Invalid64` and `Invalid128` hold the value of the digits before it is negated.
+/// The value in `Invalid64` and `Invalid128` is not negated.
 #[inline(always)]
 pub fn parse_neg<T: ParseNeg, const SKIP_ZEROES: bool>(s: &[u8]) -> Result<T, AtoiSimdError<'_>>
     ensures answer { typed_answer T.number result
@@ -111,15 +115,17 @@ pub fn parse_neg<T: ParseNeg, const SKIP_ZEROES: bool>(s: &[u8]) -> Result<T, At
 /// Parses the number at the start of `s` as an integer of type `T`, and returns it with its length
 /// in bytes. A sign may precede the digits.
 ///
-/// The number ends before the first byte that is not a digit, or at the end of `s`. The returned
-/// length `count` includes the sign (a `+` too) and leading zeros, so `s[count..]` is the rest.
+/// The *body* is what follows the sign, or all of `s` if there is none. The number ends before the
+/// first byte of the body that is not a digit, or at the end of `s`. The returned length `count`
+/// includes the sign (a `+` too) and leading zeros, so `s[count..]` is the rest.
 ///
 /// Signs and leading zeros are accepted as in `parse`, with one difference: without `SKIP_ZEROES`,
 /// types of at most 32 bits have a limit too. It is 16 digits, including leading zeros.
 ///
 /// `parse_prefix::<u64, false, false>(b"123something_else")` returns `Ok((123, 3))`. Mirrors
-/// `atoi_simd::parse_prefix`, which does not count a `+` that it consumed, and which reads only the
-/// first 16 digits for a type of at most 32 bits without `SKIP_ZEROES`.
+/// `atoi_simd::parse_prefix` of the Rust crate. Unlike this function, that one does not count a `+`
+/// that it has consumed, and reads only the first 16 digits for a type of at most 32 bits without
+/// `SKIP_ZEROES`.
 ///
 /// # Errors
 ///
@@ -156,7 +162,8 @@ pub fn parse_prefix<T: Parse, const SKIP_ZEROES: bool, const SKIP_PLUS: bool>(
 /// differs from `parse_prefix` only in the sign: none is accepted, and the body is all of `s`.
 ///
 /// `parse_prefix_pos::<u16, false>(b"80/tcp")` returns `Ok((80, 2))`. Mirrors
-/// `atoi_simd::parse_prefix_pos`, except for numbers of more than 16 digits: see `parse_prefix`.
+/// `atoi_simd::parse_prefix_pos` of the Rust crate, except for some numbers of more than 16 digits:
+/// see `parse_prefix`.
 ///
 /// # Errors
 ///
@@ -186,7 +193,8 @@ pub fn parse_prefix_pos<T: Parse, const SKIP_ZEROES: bool>(
 /// number is read as if a `-` preceded it.
 ///
 /// `parse_prefix_neg::<i32, false>(b"12a")` returns `Ok((-12, 2))`. Mirrors
-/// `atoi_simd::parse_prefix_neg`, except for numbers of more than 16 digits: see `parse_prefix`.
+/// `atoi_simd::parse_prefix_neg` of the Rust crate, except for some numbers of more than 16 digits:
+/// see `parse_prefix`.
 ///
 /// # Errors
 ///
@@ -209,10 +217,11 @@ pub fn parse_prefix_neg<T: ParseNeg, const SKIP_ZEROES: bool>(
     T::atoi_simd_parse_prefix_neg(s, SKIP_ZEROES)
 }
 
-/// Returns what `parse::<T, true, true>` returns. This is an old name of that call, which the Rust
-/// crate has deprecated.
+/// Returns what `parse::<T, true, true>` returns. `parse_skipped` is an old name for that call, and
+/// is deprecated in the Rust crate.
 ///
-/// `parse_skipped::<isize>(b"+007")` returns `Ok(7)`. Mirrors `atoi_simd::parse_skipped`.
+/// `parse_skipped::<isize>(b"+007")` returns `Ok(7)`. Mirrors `atoi_simd::parse_skipped` of the
+/// Rust crate.
 ///
 /// # Errors
 ///
@@ -227,10 +236,11 @@ pub fn parse_skipped<T: Parse>(s: &[u8]) -> Result<T, AtoiSimdError<'_>>
     parse::<T, true, true>(s)
 }
 
-/// Returns what `parse_prefix::<T, false, false>` returns. This is an old name of that call, which
-/// the Rust crate has deprecated.
+/// Returns what `parse_prefix::<T, false, false>` returns. `parse_any` is an old name for that
+/// call, and is deprecated in the Rust crate.
 ///
-/// `parse_any::<usize>(b"7 ")` returns `Ok((7, 1))`. Mirrors `atoi_simd::parse_any`.
+/// `parse_any::<usize>(b"7 ")` returns `Ok((7, 1))`. Mirrors `atoi_simd::parse_any` of the Rust
+/// crate, except for some numbers of more than 16 digits: see `parse_prefix`.
 ///
 /// # Errors
 ///
@@ -246,10 +256,11 @@ pub fn parse_any<T: Parse>(s: &[u8]) -> Result<(T, usize), AtoiSimdError<'_>>
     parse_prefix::<T, false, false>(s)
 }
 
-/// Returns what `parse_prefix_pos::<T, false>` returns. This is an old name of that call, which the
-/// Rust crate has deprecated.
+/// Returns what `parse_prefix_pos::<T, false>` returns. `parse_any_pos` is an old name for that
+/// call, and is deprecated in the Rust crate.
 ///
-/// `parse_any_pos::<u8>(b"255.")` returns `Ok((255, 3))`. Mirrors `atoi_simd::parse_any_pos`.
+/// `parse_any_pos::<u8>(b"255.")` returns `Ok((255, 3))`. Mirrors `atoi_simd::parse_any_pos` of the
+/// Rust crate, except for some numbers of more than 16 digits: see `parse_prefix`.
 ///
 /// # Errors
 ///
@@ -265,10 +276,11 @@ pub fn parse_any_pos<T: Parse>(s: &[u8]) -> Result<(T, usize), AtoiSimdError<'_>
     parse_prefix_pos::<T, false>(s)
 }
 
-/// Returns what `parse_prefix_neg::<T, false>` returns. This is an old name of that call, which the
-/// Rust crate has deprecated.
+/// Returns what `parse_prefix_neg::<T, false>` returns. `parse_any_neg` is an old name for that
+/// call, and is deprecated in the Rust crate.
 ///
-/// `parse_any_neg::<i16>(b"1-")` returns `Ok((-1, 1))`. Mirrors `atoi_simd::parse_any_neg`.
+/// `parse_any_neg::<i16>(b"1-")` returns `Ok((-1, 1))`. Mirrors `atoi_simd::parse_any_neg` of the
+/// Rust crate, except for some numbers of more than 16 digits: see `parse_prefix`.
 ///
 /// # Errors
 ///

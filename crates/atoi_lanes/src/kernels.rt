@@ -1,7 +1,8 @@
 //! Functions that load up to sixteen bytes into the lanes of one vector, count the digits or zeros
-//! that the lanes begin with, and compute the number that the digits spell. One of them counts and
-//! computes for a slice of fewer than eight bytes, in half of a vector. The file uses `std::simd`,
-//! and `atoi_core::words` to load short slices.
+//! that the lanes begin with, and compute the number that the digits spell. One of them,
+//! `read_short`, counts the digits that a slice of fewer than eight bytes begins with, and computes
+//! the number that they spell, in half of a vector. The file uses `std::simd`, and it loads short
+//! slices with `atoi_core::words`.
 ghost use Rattle.std.specs.Prelude.{◌≡◌, ◌-◌, ◌/◌, ◌≤◌, ◌<◌, ◌++◌, length, map, take, drop, replicate};
 ghost use Rattle.std.specs.Simd.Lanes.{Each1, mask_l, digits_l};
 ghost use Rattle.atoi_core.specs.Digit.{decimal_table, is_digit};
@@ -18,14 +19,16 @@ use std::simd::prelude::*;
 const LANES: usize = 16;
 
 // The 16 entries from `SHIFTS[len]` on are the indices of a shuffle that moves the first `len`
-// lanes of a vector to its end. The index 128 selects no lane, and the shuffle puts 0 there.
+// lanes of a vector to its end. If an index is 128, it selects no lane, and the shuffle puts 0 into
+// the result instead.
 const SHIFTS: [u8; 32] = [
     128, 128, 128, 128, 128, 128, 128, 128, 128, 128, 128, 128, 128, 128, 128, 128, 0, 1, 2, 3, 4,
     5, 6, 7, 8, 9, 10, 11, 12, 13, 14, 15,
 ];
 
-// With these weights `dot4` returns `100 * pair + next_pair`, for two pairs of digits. The value of
-// a pair is in the upper byte of its 16 bits, so the lower byte has weight 0.
+// With these weights `dot4` returns `100 * pair + next_pair` for the two pairs of digits in each
+// group of four bytes. The value of a pair is in the upper byte of its 16 bits, so the lower byte
+// has weight 0.
 const HUNDREDS: [u8; 16] = [0, 100, 0, 1, 0, 100, 0, 1, 0, 100, 0, 1, 0, 100, 0, 1];
 
 /// Returns the first 16 bytes of `s`, or all if there are fewer, as lanes: the first byte is in the
@@ -40,10 +43,10 @@ pub fn load_lanes(s: &[u8]) -> u8x16
     }
 }
 
-// Returns the bytes after the first 8 of a slice of fewer than 16, as a word, or 0 if there are
-// none. They are read with the last 8 bytes of the slice, and a shift drops those that belong to
-// the first 8. If the slice has exactly 8 bytes, all 64 bits have to be dropped. One shift of a
-// word cannot do that, so there are two.
+// Returns the word of the bytes after the first 8 of `s`, which has fewer than 16 bytes. If no
+// bytes come after the first 8, the result is 0. The last 8 bytes of `s` are read as a word, and a
+// shift drops those of them that belong to the first 8. If `s` has exactly 8 bytes, all 64 bits
+// have to be dropped. One shift of a word cannot do that, so there are two.
 fn load_after_8(s: &[u8]) -> u64
     requires { length s.now < LANES }
     ensures { result ≡ word_of (drop 8 s.now) }
@@ -54,7 +57,7 @@ fn load_after_8(s: &[u8]) -> u64
     }
 }
 
-/// Returns how many digits, the bytes 48 to 57, the lanes begin with: 0 to 16.
+/// Returns how many digits the lanes begin with, from 0 to 16. The digits are the bytes 48 to 57.
 pub fn len_lanes(v: u8x16) -> u32
     ensures len { result ≡ run_len decimal_table v }
     ensures most { result ≤ 16 }
@@ -71,7 +74,7 @@ fn digit_mask(v: u8x16) -> u64
     digits.to_bitmask()
 }
 
-/// Returns how many zeros, the byte 48, the lanes begin with: 0 to 16.
+/// Returns how many zeros the lanes begin with, from 0 to 16. A zero is the byte 48.
 pub fn zeroes_lanes(v: u8x16) -> u32
     ensures zeroes { result ≡ zeros decimal_table v }
     ensures most { result ≤ 16 }
@@ -88,7 +91,8 @@ pub fn sum_lanes(v: u8x16, len: u32) -> u64
     ensures { result ≡ value decimal_table (take len v) }
 {
     let digit_values = v - u8x16::splat(b'0');
-    // The same instructions serve every length: if lengths vary, a branch on them is mispredicted.
+    // The same instructions serve every length. If lengths vary, a branch on the length would be
+    // mispredicted.
     number_in_lanes(moved_to_end(digit_values, len))
 }
 
@@ -116,7 +120,8 @@ pub fn read_short(s: &[u8]) -> (u32, u64)
     let mask = digit_mask(lanes);
     if mask.count_ones() as usize == s.len() {
         // All bytes are digits, so the number can be computed without waiting for their count. The
-        // lower four bits of a digit are its value, and a lane whose byte is missing stays 0.
+        // lower four bits of a digit are its value. The lanes that hold no byte of `s` are 0, and
+        // they stay 0.
         return (s.len() as u32, number_in_half(lanes & u8x16::splat(0x0F)));
     }
     let len = (mask >> (8 - s.len())).trailing_ones();
@@ -150,8 +155,9 @@ fn number_in_lanes(digits: u8x16) -> u64
     high * 100_000_000 + low
 }
 
-// Joins sixteen digit values into two numbers of eight digits, one in each lane of 64 bits: first
-// into pairs, the pairs into fours, and the fours into eights.
+// Joins sixteen digit values into two numbers of eight digits, one in each lane of 64 bits. The
+// digit values are first joined into pairs, then the pairs are joined into numbers of four digits,
+// and then these into numbers of eight digits.
 fn eights(digits: u8x16) -> u64x2
     requires { Each1 (λ digit. digit < 10) digits }
     ensures { result ≡ paired 10000 (paired 100 (paired 10 digits)) }

@@ -1,6 +1,7 @@
 //! The engine `Lanes`, which reads sixteen bytes at once into vector lanes. An *engine* is an
-//! implementation of the reads that a parse makes. The file uses the functions of `kernels`,
-//! `wide_lanes` for 64- and 128-bit types, and `Engine`, `Window` and `Steps` of `atoi_core`.
+//! implementation of the reads that a parse makes. The file uses `kernels`, and `wide_lanes` for
+//! types of 64 and 128 bits. From `atoi_core` it uses `Engine`, `Window`, `Steps` and
+//! `AtoiSimdError`.
 ghost use Rattle.std.specs.Prelude.{◌≡◌, ◌+◌};
 ghost use Rattle.std.proofs.Common.{arith};
 ghost use Rattle.std.proofs.lemmas.Bool.Decides.{nat_tests};
@@ -13,18 +14,20 @@ use crate::wide_lanes::{prefix_64_lanes, prefix_128_lanes};
 use atoi_core::{AtoiSimdError, Engine, Steps, Window};
 use std::simd::prelude::*;
 
-/// An engine, which is an implementation of the reads that a parse makes. It reads sixteen bytes at
-/// once, in vector lanes, and its digits are the decimal ones.
+/// The engine that reads sixteen bytes at once, into the lanes of a vector. An *engine* is an
+/// implementation of the reads that a parse makes. For types of 64 and 128 bits, `Lanes` also reads
+/// 32 bytes at once, into two vectors. Its digits are the decimal ones, `b'0'` to `b'9'`.
 pub struct Lanes;
 
-// Returns the window of the `size` bytes that were loaded into the lanes. A *window* describes the
-// longest prefix of digits of these bytes: its length, its value and, if all of the bytes are
-// digits, its leading zeros.
+// Returns the window of the bytes in `lanes`. A *window* describes the longest prefix of digits of
+// its bytes: its length, its value and the number of its leading zeros. If the length is not
+// `size`, that last number is 0. The callers load at most `size` bytes, and the other lanes are 0,
+// which is no digit.
 fn lane_window(lanes: u8x16, size: u32) -> Window
     ensures { result ≡ lane_window size lanes }
 {
     let len = len_lanes(lanes);
-    // Zeros are counted only if all bytes of the window are digits, as `Window` documents.
+    // Zeros are counted only if all `size` bytes are there and are digits, as `Window` documents.
     let number = sum_lanes(lanes, len);
     let zeroes = if len == size { zeroes_lanes(lanes) } else { 0 };
     Window {
@@ -37,9 +40,10 @@ fn lane_window(lanes: u8x16, size: u32) -> Window
 impl Engine for Lanes {
     ghost table = { decimal_table };
 
-    /// Returns the window of the first 16 bytes, or of all if there are fewer: how many digits they
-    /// begin with, the number that these spell, and their leading zeros if all 16 are digits. Adds
-    /// one step.
+    /// Returns the window of the first 16 bytes of `s`, or of all its bytes if there are fewer. The
+    /// window says how many digits these bytes begin with and what number the digits spell. If all
+    /// 16 bytes are there and are digits, the window also has the number of leading zeros, and
+    /// otherwise 0. Adds one step.
     #[inline(always)]
     fn window(s: &[u8], steps: &mut Steps) -> Window {
         steps.tick();
@@ -54,8 +58,8 @@ impl Engine for Lanes {
         lane_window(load_lanes(s), 16)
     }
 
-    /// Returns the window of the first 8 bytes, or of all if there are fewer: its leading zeros are
-    /// counted if all 8 are digits. Adds one step.
+    /// Returns the window of the first 8 bytes of `s`, or of all its bytes if there are fewer.
+    /// Leading zeros are counted only if all 8 bytes are there and are digits. Adds one step.
     #[inline(always)]
     fn window_8(s: &[u8], steps: &mut Steps) -> Window {
         steps.tick();

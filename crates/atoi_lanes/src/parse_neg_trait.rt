@@ -1,7 +1,7 @@
 //! The trait `ParseNeg`, whose methods parse the digits of a negative number without its minus, and
 //! its implementations for the six signed integer types. Each method makes one call of `whole_neg`
-//! or `prefix_neg` of `atoi_core`, with the crate's *engine*, which is its implementation of the
-//! reads.
+//! or `prefix_neg` of `atoi_core`, with the crate's *engine*. An engine is an implementation of the
+//! reads that these parsers make.
 ghost use Rattle.std.specs.Prelude.{◌≡◌, ◌≤◌, true, IfOk, length};
 ghost use Rattle.atoi_core.specs.Answer.{typed_answer, typed_prefix_answer, whole_answer, prefix_answer};
 ghost use Rattle.atoi_core.specs.Digit.{decimal_table};
@@ -21,7 +21,7 @@ pub trait ParseNeg: Signed {
     /// `skip_zeroes` is the flag `SKIP_ZEROES` of that function.
     ///
     /// `i8::atoi_simd_parse_neg(b"128", false)` returns `Ok(-128)`. Mirrors
-    /// `ParseNeg::atoi_simd_parse_neg`.
+    /// `ParseNeg::atoi_simd_parse_neg` of the Rust crate.
     ///
     /// # Errors
     ///
@@ -37,8 +37,8 @@ pub trait ParseNeg: Signed {
     /// `skip_zeroes` is the flag `SKIP_ZEROES` of that function. The length includes leading zeros.
     ///
     /// `i32::atoi_simd_parse_prefix_neg(b"12a", false)` returns `Ok((-12, 2))`. Mirrors
-    /// `ParseNeg::atoi_simd_parse_prefix_neg`, except for numbers of more than 16 digits: see
-    /// `parse_prefix`.
+    /// `ParseNeg::atoi_simd_parse_prefix_neg` of the Rust crate, except for some numbers of more
+    /// than 16 digits: see `parse_prefix`.
     ///
     /// # Errors
     ///

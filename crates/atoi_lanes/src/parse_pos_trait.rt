@@ -1,7 +1,7 @@
-//! The trait `ParsePos`, whose methods parse numbers without a sign that are not negative, and its
-//! implementations for the twelve integer types. Each method makes one call of `whole_pos` or
-//! `prefix_pos` of `atoi_core`, with the crate's *engine*, which is its implementation of the
-//! reads.
+//! The trait `ParsePos`, whose methods parse digits without a sign as a number that is not
+//! negative, and its implementations for the twelve integer types. Each method makes one call of
+//! `whole_pos` or `prefix_pos` of `atoi_core`, with the crate's *engine*. An engine is an
+//! implementation of the reads that these parsers make.
 ghost use Rattle.std.specs.Prelude.{◌≡◌, ◌≤◌, false, IfOk, length};
 ghost use Rattle.atoi_core.specs.Answer.{typed_answer, typed_prefix_answer, whole_answer, prefix_answer};
 ghost use Rattle.atoi_core.specs.Digit.{decimal_table};
@@ -19,7 +19,7 @@ pub trait ParsePos: Number {
     /// `skip_zeroes` is the flag `SKIP_ZEROES` of that function.
     ///
     /// `u8::atoi_simd_parse_pos(b"255", false)` returns `Ok(255)`. Mirrors
-    /// `ParsePos::atoi_simd_parse_pos`.
+    /// `ParsePos::atoi_simd_parse_pos` of the Rust crate.
     ///
     /// # Errors
     ///
@@ -34,8 +34,8 @@ pub trait ParsePos: Number {
     /// `skip_zeroes` is the flag `SKIP_ZEROES` of that function. The length includes leading zeros.
     ///
     /// `u16::atoi_simd_parse_prefix_pos(b"80/tcp", false)` returns `Ok((80, 2))`. Mirrors
-    /// `ParsePos::atoi_simd_parse_prefix_pos`, except for numbers of more than 16 digits: see
-    /// `parse_prefix`.
+    /// `ParsePos::atoi_simd_parse_prefix_pos` of the Rust crate, except for some numbers of more
+    /// than 16 digits: see `parse_prefix`.
     ///
     /// # Errors
     ///

@@ -1,7 +1,7 @@
-//! The parsers of 64- and 128-bit integers at the start of a slice, which read windows of 32 bytes.
+//! The parsers of 64- and 128-bit integers at the start of a slice. They read windows of 32 bytes.
 //! A *window* says how many digits and zeros its bytes begin with, and what number the digits
-//! spell. The file uses `window_32`, the smaller windows of `Lanes`, and from `atoi_core` the law
-//! `reading_decides` and the functions `answer_64` and `answer_128`.
+//! spell. The file uses `window_32` and the smaller windows of `Lanes`. From `atoi_core` it uses
+//! the law `reading_decides` and the functions `answer_64` and `answer_128`.
 ghost use Rattle.std.specs.Prelude.{◌≡◌, ◌+◌, ◌/◌, ◌<◌, ◌≤◌, length, take, drop, true, IsTrue};
 ghost use Rattle.atoi_core.specs.Digit.{decimal_table};
 ghost use Rattle.atoi_core.specs.Loads.{LoadsWithin};
@@ -22,11 +22,12 @@ use atoi_core::{AtoiSimdError, Engine, Steps, Window};
 /// and how many there are.
 ///
 /// This is `Engine::prefix_64` of the engine `Lanes`, with the same conditions: `bound` is the
-/// largest accepted value, and has exactly `limit` digits, 17 to 20. With `skip`, any number of
-/// leading zeros is accepted, and they do not count towards `limit`.
+/// largest accepted value and has exactly `limit` digits, and `limit` is 17 to 20. With `skip`, any
+/// number of leading zeros is accepted, and they do not count towards `limit`.
 ///
-/// Each *load* reads a window of 32 bytes and adds one step, and skips at most 32 leading zeros. A
-/// slice of fewer than 16 bytes is read as a window of 16.
+/// Each *load* reads one window and adds one step. A slice of fewer than 16 bytes is read with one
+/// load, of a window of 16 bytes. Each load of a longer slice reads a window of 32 bytes, and with
+/// `skip` at most 32 leading zeros are skipped for each load.
 ///
 /// # Errors
 ///
@@ -46,8 +47,8 @@ pub fn prefix_64_lanes<'a>(
     ensures loads { LoadsWithin (zeros decimal_table s.now / 32 + 2) 1 decimal_table skip s.now
         steps.old steps.new }
 {
-    // By this law the zeros that a window begins with are the leading zeros of the slice, as far as
-    // the window goes. The call does nothing.
+    // By this law, the first window begins with all leading zeros of the slice, or with 32 zeros if
+    // the slice begins with more. The call does nothing.
     reading_decides();
     if s.len() < 16 {
         let only = Lanes::window(s, steps);
@@ -72,10 +73,11 @@ pub fn prefix_64_lanes<'a>(
 ///
 /// This is `Engine::prefix_128` of the engine `Lanes`, with the same condition: `bound` is the
 /// largest accepted value, and has exactly 39 digits. With `skip`, any number of leading zeros is
-/// accepted, and they do not count towards these 39.
+/// accepted, and they do not count towards the 39 digits that the integer may have.
 ///
-/// Each *load* reads a window of 32 bytes and adds one step, and skips at most 32 leading zeros. If
-/// the last of these windows is full of digits, the 8 bytes after it are loaded too.
+/// Each *load* reads one window and adds one step. The windows have 32 bytes, and with `skip` at
+/// most 32 leading zeros are skipped for each of them. If the last of these windows is full of
+/// digits, one more load reads the 8 bytes after it.
 ///
 /// # Errors
 ///
@@ -91,8 +93,8 @@ pub fn prefix_128_lanes<'a>(
     ensures loads { LoadsWithin (zeros decimal_table s.now / 32 + 3) 2 decimal_table skip s.now
         steps.old steps.new }
 {
-    // By this law the zeros that a window begins with are the leading zeros of the slice, as far as
-    // the window goes. The call does nothing.
+    // By this law, the first window begins with all leading zeros of the slice, or with 32 zeros if
+    // the slice begins with more. The call does nothing.
     reading_decides();
     let first = window_32(s, steps);
     if skip && first.zeroes > 0 && first.len == 32 {
@@ -105,16 +107,16 @@ pub fn prefix_128_lanes<'a>(
     finish_128(bound, skip, reached, s, steps)
 }
 
-// An offset in the slice, with nothing but skipped zeros before it, and the window that was read
-// there.
+// The window that was read at the offset `at` of the slice. All bytes before this offset are
+// skipped zeros.
 #[derive(Clone, Copy)]
 struct WindowAt {
     at: usize,
     window: Window32,
 }
 
-// Calls `prefix_64_after_zeros`, which is never inlined. The call and the match of its result are
-// in a function of their own, which is inlined, so that the stack slot of the result is zeroed only
+// Calls `prefix_64_after_zeros`, which is never inlined, and matches its result. Both are kept in a
+// separate function, which is itself inlined, so that the stack slot of the result is zeroed only
 // on the path that makes the call.
 #[inline(always)]
 fn prefix_64_cold<'a>(
@@ -159,8 +161,8 @@ fn prefix_128_cold<'a>(
     }
 }
 
-// Returns the answer of `prefix_64_lanes` with `skip`. It is called if the first window is full of
-// digits and begins with zeros; `zeroes` is their number.
+// Returns the answer of `prefix_64_lanes` with `skip`. This function is called if the first window
+// is full of digits and begins with zeros; `zeroes` is the number of these zeros.
 #[inline(never)]
 fn prefix_64_after_zeros<'a>(
     bound: u64,
@@ -180,8 +182,8 @@ fn prefix_64_after_zeros<'a>(
     answer_from_window_64(bound, limit, true, skip_leading_zeros(zeroes, s, steps), s)
 }
 
-// Returns the answer of `prefix_128_lanes` with `skip`. It is called if the first window is full of
-// digits and begins with zeros; `zeroes` is their number.
+// Returns the answer of `prefix_128_lanes` with `skip`. This function is called if the first window
+// is full of digits and begins with zeros; `zeroes` is the number of these zeros.
 #[inline(never)]
 fn prefix_128_after_zeros<'a>(
     bound: u128,
@@ -200,8 +202,9 @@ fn prefix_128_after_zeros<'a>(
     finish_128(bound, true, reached, s, steps)
 }
 
-// Skips the `zeroes` zeros of the first window, and those of each later window that is full of
-// digits and begins with a zero. Returns the first later window for which this does not hold, with
+// Skips the `zeroes` zeros that the first window begins with. Then reads one window after the
+// other, and skips the leading zeros of each that is full of digits and begins with a zero. Returns
+// the first of these later windows that is not full of digits or does not begin with a zero, with
 // its offset.
 fn skip_leading_zeros(zeroes: u32, s: &[u8], steps: &mut Steps) -> WindowAt
     requires some { 0 < zeroes }
@@ -211,8 +214,8 @@ fn skip_leading_zeros(zeroes: u32, s: &[u8], steps: &mut Steps) -> WindowAt
     ensures most { steps.new ≤ steps.old + zeros decimal_table s.now / 32 + 1 }
     ensures least { steps.old + zeros decimal_table s.now / 32 ≤ steps.new }
 {
-    // By this law the zeros left after an offset are the leading zeros of the slice, minus those
-    // before that offset. The call does nothing.
+    // By this law, if only zeros come before a window, the window begins with all leading zeros of
+    // the slice that are left, or with 32 zeros if more are left. The call does nothing.
     reading_decides();
     let mut reached = next_window(0, zeroes, s, steps);
     loop {
@@ -223,8 +226,9 @@ fn skip_leading_zeros(zeroes: u32, s: &[u8], steps: &mut Steps) -> WindowAt
     }
 }
 
-// One turn of the loop: skips the zeros that the window at the offset `offset` begins with, and
-// reads the window that follows them.
+// Skips the `zeroes` zeros that the window at `offset` begins with, and reads the window that
+// starts after these zeros. `skip_leading_zeros` calls this function once for each window whose
+// zeros it skips.
 fn next_window(offset: usize, zeroes: u32, s: &[u8], steps: &mut Steps) -> WindowAt
     requires first_window { zeroes ≡ zeros decimal_table (take 32 (drop offset s.now)) }
     requires within { offset + zeroes ≤ length s.now }
@@ -240,8 +244,8 @@ fn next_window(offset: usize, zeroes: u32, s: &[u8], steps: &mut Steps) -> Windo
     }
 }
 
-// Returns the answer of 128 bits. It follows from the last window of 32 bytes and, if that is full
-// of digits, from the eight bytes after it.
+// Returns the answer of `prefix_128_lanes`. It follows from the last window of 32 bytes, which is
+// `reached`. If that window is full of digits, the answer also depends on the eight bytes after it.
 #[inline(always)]
 fn finish_128<'a>(
     bound: u128,
@@ -272,7 +276,8 @@ fn finish_128<'a>(
     )
 }
 
-// Returns the window of the eight bytes after the first 32, or of fewer if the slice ends there.
+// Returns the window of the eight bytes after the first 32, or of all bytes after the first 32 if
+// there are fewer than eight.
 fn window_after_32(s: &[u8], steps: &mut Steps) -> Window
     requires { 32 ≤ length s.now }
     ensures window { result ≡ window_of decimal_table 8 (drop 32 s.now) }
@@ -289,8 +294,8 @@ fn after_32(s: &[u8]) -> &[u8]
     s.split_at(32).1
 }
 
-// Returns the answer of 64 bits for a slice that begins with fewer than `limit` digits. Their value
-// is within the bound, so only `Empty` is possible as an error.
+// Returns the answer of `prefix_64_lanes` for a slice that begins with fewer than `limit` digits.
+// Their value is at most `bound`, so the only possible error is `Empty`.
 #[inline(always)]
 fn answer_short_64<'a>(
     bound: u64,
@@ -314,8 +319,8 @@ fn answer_short_64<'a>(
     }
 }
 
-// Returns the answer of 64 bits, which the last window decides. With `skip`, the zeros that this
-// window begins with are skipped too.
+// Returns the answer of `prefix_64_lanes`, which the last window, `reached`, decides. With `skip`,
+// the zeros that this window begins with are skipped too.
 #[inline(always)]
 fn answer_from_window_64<'a>(
     bound: u64,
@@ -336,8 +341,8 @@ fn answer_from_window_64<'a>(
     answer_64(bound, limit, skipped, significant, reached.window.number, s)
 }
 
-// Returns the answer of 128 bits for a last window that is not full of digits. The value of fewer
-// than 32 digits is within the bound, so only `Empty` is possible as an error.
+// Returns the answer of `prefix_128_lanes` if the last window, `reached`, is not full of digits.
+// The value of fewer than 32 digits is at most `bound`, so the only possible error is `Empty`.
 fn answer_short_128<'a>(
     bound: u128,
     skip: bool,

@@ -1,5 +1,5 @@
-//! Windows of 32 bytes, which are read into the lanes of two vectors of sixteen. The file uses
-//! `std::simd`, `kernels`, and from `atoi_core` the count of steps, `append_digits` and the law
+//! Windows of 32 bytes, which are read into two vectors of sixteen bytes each. The file uses
+//! `std::simd` and `kernels`. From `atoi_core` it uses `Steps`, `append_digits` and the law
 //! `reading_decides`.
 ghost use Rattle.std.specs.Prelude.{◌≡◌, ◌+◌, ◌*◌, ◌^◌, ◌≤◌, ◌==◌, ◌++◌, if◌then◌else◌, take, drop, replicate};
 ghost use Rattle.atoi_core.specs.Digit.{decimal_table};
@@ -13,32 +13,35 @@ use atoi_core::reading::reading_decides;
 use atoi_core::wide_answer::append_digits;
 use std::simd::prelude::*;
 
-// The 16 entries from `FROM[n]` on are the indices of a shuffle that moves the lanes from index `n`
-// on to the start of a vector. The index 128 selects no lane, and the shuffle puts 0 there.
+// The 16 entries from `FROM[n]` on are the indices of a shuffle that drops the first `n` lanes of a
+// vector and moves the others to its start. If an index is 128, it selects no lane, and the shuffle
+// puts 0 into the result instead.
 const FROM: [u8; 32] = [
     0, 1, 2, 3, 4, 5, 6, 7, 8, 9, 10, 11, 12, 13, 14, 15, 128, 128, 128, 128, 128, 128, 128, 128,
     128, 128, 128, 128, 128, 128, 128, 128,
 ];
 
-/// The *window* of the first 32 bytes of a slice, or of all if there are fewer: what one read says
-/// of these bytes.
+/// The *window* of the first 32 bytes of a slice, or of all its bytes if there are fewer. A window
+/// is what one read reports about these bytes.
 #[derive(Clone, Copy)]
 pub(crate) struct Window32 {
     /// How many digits the bytes begin with.
     pub(crate) len: u32,
-    /// How many zeros they begin with.
+    /// How many zeros the bytes begin with.
     pub(crate) zeroes: u32,
-    /// The number that these digits spell.
+    /// The number that the first `len` bytes, which are digits, spell.
     pub(crate) number: u128,
 }
 
-/// Returns the window of the first 32 bytes of `s`, or of all if there are fewer. Adds one step.
+/// Returns the window of the first 32 bytes of `s`, or of all its bytes if there are fewer. Adds
+/// one step.
 #[inline(always)]
 pub(crate) fn window_32(s: &[u8], steps: &mut Steps) -> Window32
     ensures reading { Reading decimal_table 32 s.now result.len result.zeroes result.number }
     ensures one_step { steps.new ≡ steps.old + 1 }
 {
-    // By this law two reads of 16 bytes make one of 32. The call does nothing.
+    // By this law, a read of 16 bytes that are all digits and a read of the next 16 bytes together
+    // make one read of 32 bytes. The call does nothing.
     reading_decides();
     steps.tick();
     let first = load_lanes(s);
@@ -59,9 +62,10 @@ pub(crate) fn window_32(s: &[u8], steps: &mut Steps) -> Window32
     }
 }
 
-// Returns the 16 bytes after the first 16, or all that there are, as lanes; missing bytes are 0. If
-// the slice ends among them, its last 16 bytes contain them all, and a shuffle moves them to the
-// start: one shuffle serves all these lengths, without a branch on the length.
+// Returns the 16 bytes after the first 16 of `s` as lanes, or all bytes after the first 16 if there
+// are fewer. A lane whose byte is missing is 0. If `s` has 16 to 31 bytes, its last 16 bytes
+// contain all bytes after the first 16, and a shuffle moves the latter to the start. One shuffle
+// serves all these lengths, without a branch on the length.
 fn load_after_16(s: &[u8]) -> u8x16
     ensures { result ≡ padded_start 16 (drop 16 s.now) }
 {
@@ -74,7 +78,8 @@ fn load_after_16(s: &[u8]) -> u8x16
     moved_to_start(u8x16::from_slice(&s[s.len() - 16..]), 32 - s.len())
 }
 
-// Returns a vector with the lanes of `v` from index `from` on at its start, before lanes of 0.
+// Returns `v` without its first `from` lanes. The other lanes are moved to the start of the vector,
+// and its last `from` lanes are 0.
 fn moved_to_start(v: u8x16, from: usize) -> u8x16
     requires { from ≤ 16 }
     ensures { result ≡ drop from v ++ replicate from 0 }
@@ -82,8 +87,9 @@ fn moved_to_start(v: u8x16, from: usize) -> u8x16
     v.swizzle_dyn_within::<16>(u8x16::from_slice(&FROM[from..]))
 }
 
-// Returns how many zeros, the byte 48, two vectors begin with, one after the other: 0 to 32. Most
-// slices begin with none, so the first lane is tested before the others.
+// Returns how many zeros the lanes of `first`, followed by those of `second`, begin with, from 0 to
+// 32. A zero is the byte 48. Most slices begin with no zero, so the first lane is tested before the
+// others.
 fn zeroes_of_two(first: u8x16, second: u8x16) -> u32
     ensures { result ≡ (if zeros decimal_table first == 16 then 16 + zeros decimal_table second
         else zeros decimal_table first) }
@@ -99,8 +105,8 @@ fn zeroes_of_two(first: u8x16, second: u8x16) -> u32
     }
 }
 
-// Returns the number that all lanes of `first`, and after them the first `more` lanes of `second`,
-// spell in decimal.
+// Returns the number that the lanes of `first`, followed by the first `more` lanes of `second`,
+// spell in decimal. All these lanes must be digits.
 #[inline(always)]
 fn number_in_two(first: u8x16, second: u8x16, more: u32) -> u128
     requires within { more ≤ 16 }

@@ -1,6 +1,6 @@
 //! The trait `Parse`, whose methods parse numbers that may have a sign, and its implementations for
 //! the twelve integer types. Each method makes one call of a parser of `atoi_core`, with the
-//! crate's *engine*, which is its implementation of the reads.
+//! crate's *engine*. An engine is an implementation of the reads that these parsers make.
 ghost use Rattle.std.specs.Prelude.{◌≡◌, ◌≤◌, IfOk, length};
 ghost use Rattle.atoi_core.specs.Answer.{typed_answer, typed_prefix_answer, parse_answer, parse_prefix_answer};
 
@@ -21,7 +21,7 @@ pub trait Parse: ParsePos {
     /// `skip_zeroes` and `skip_plus` are the flags `SKIP_ZEROES` and `SKIP_PLUS` of that function.
     ///
     /// `i64::atoi_simd_parse(b"-2345", false, false)` returns `Ok(-2345)`. Mirrors
-    /// `Parse::atoi_simd_parse`.
+    /// `Parse::atoi_simd_parse` of the Rust crate.
     ///
     /// # Errors
     ///
@@ -41,8 +41,8 @@ pub trait Parse: ParsePos {
     /// The length includes the sign and leading zeros.
     ///
     /// `i32::atoi_simd_parse_prefix(b"+12a", false, true)` returns `Ok((12, 3))`. Mirrors
-    /// `Parse::atoi_simd_parse_prefix`, with the differences described at `parse_prefix`, such as
-    /// that the Rust crate does not count the `+`.
+    /// `Parse::atoi_simd_parse_prefix` of the Rust crate, with the differences described at
+    /// `parse_prefix`. For instance, the Rust crate does not count the `+`.
     ///
     /// # Errors
     ///

@@ -52,7 +52,8 @@ IsPutUpTo-refused old mid new whole part rest before refused =
       rw cut (Appends-append old mid new before.front (take n part) before.put refused.2),
     )
 
--- If the first `n` bytes are put, and then `m` more of the same bytes, then the first `n + m` were put.
+-- If the first `n` bytes of `xs` are put, and then the next `m` bytes of `xs`, then the first
+-- `n + m` were put.
 pub Appends-take : (old mid new : Option (List ℕ)) (n m : ℕ) (xs : List ℕ) → Appends old mid (take n xs) → Appends mid new (take m (drop n xs)) → Appends old new (take (n + m) xs)
 Appends-take old mid new n m xs first second =
     rw (take-add n m xs) (Appends-append old mid new (take n xs) (take m (drop n xs)) first second)
@@ -67,14 +68,15 @@ pub AppendsPrefix-first : (old new : Option (List ℕ)) (xs ys : List ℕ) → A
 AppendsPrefix-first old new xs ys refused =
     IsPutUpTo-refused old old new (xs ++ ys) xs ys (IsPutUpTo-start old (xs ++ ys)) refused
 
--- The first of two parts and a proper prefix of the second are a proper prefix of both together.
+-- The first of two parts, followed by a proper prefix of the second, is a proper prefix of both
+-- together.
 pub AppendsPrefix-second : (old mid new : Option (List ℕ)) (xs ys : List ℕ) → Appends old mid xs → AppendsPrefix mid new ys → AppendsPrefix old new (xs ++ ys)
 AppendsPrefix-second old mid new xs ys first refused =
     IsPutUpTo-refused old mid new (xs ++ ys) ys []
     (record { front = xs; parts = ap (λ (back : List ℕ). xs ++ back) (sym (append-nil ys)); put = first }) refused
 
--- If the first of two parts was put, and the call that puts the second is refused, then a proper prefix of
--- both together was put.
+-- If the first of two parts was put, and the call that puts the second is refused, then a proper
+-- prefix of both together was put.
 pub OnErr-second : {A E : Type 0} (old mid new : Option (List ℕ)) (xs ys : List ℕ) (r : Result A E) → Appends old mid xs
     → OnErr r (AppendsPrefix mid new ys) → OnErr r (AppendsPrefix old new (xs ++ ys))
 OnErr-second old mid new xs ys (Ok value) first h = tt

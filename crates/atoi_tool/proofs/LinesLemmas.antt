@@ -17,14 +17,14 @@ found_at p xs n found = grind (arith, nat_tests)
 none_found : (p : ℕ → Bool) (xs : List ℕ) → position p xs ≡ None → length xs ≤ position_or_len p xs
 none_found p xs absent = grind (arith, nat_tests)
 
--- If an input has a newline, its first line is what is before the first newline, and the other lines are
--- those of what is after it.
+-- If an input has a newline, its first line is the part before the first newline, and its other
+-- lines are the lines of the part after that newline.
 pub lines_of-newline : FirstField → (xs : List ℕ) (n : ℕ) → position is_newline xs ≡ Some n → lines_of xs ≡ take n xs ∷ lines_of (drop (n + 1) xs)
 lines_of-newline law xs n found =
     let at = found_at is_newline xs n found in
     subst (λ k. lines_of xs ≡ take k xs ∷ lines_of (drop (k + 1) xs)) at.0 (law newline xs (omega arith))
 
--- An input without a newline, but with some byte, is one line.
+-- An input that has at least one byte but no newline is one line.
 pub lines_of-last : FirstField → (xs : List ℕ) → 0 < length xs → position is_newline xs ≡ None → lines_of xs ≡ xs ∷ []
 lines_of-last law xs some absent =
     let end = none_found is_newline xs absent in

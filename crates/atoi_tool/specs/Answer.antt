@@ -18,16 +18,17 @@ use Rattle.atoi_tool.specs.declared.request.Query.TheVariants.{Number, Column}
 use Rattle.atoi_tool.specs.Request.{int_type_of}
 use Rattle.atoi_tool.specs.Row.{row_of}
 
--- The text of an error.
+-- The answer if a call returns an error: `err ` and the text of that error.
 abbrev pub refusal_text : Refusal → List ℕ
 refusal_text reason = codes "err " ++ error_text reason
 
--- The text of an answer to a whole slice: its value, or its error.
+-- The answer to a call for a whole slice: `ok ` and the value, or `err ` and the text of the error.
 abbrev pub whole_text : Result ℤ Refusal → List ℕ
 whole_text (Ok value) = codes "ok " ++ signed_decimal value
 whole_text (Err reason) = refusal_text reason
 
--- The text of an answer to a prefix: its value and the number of its bytes, or its error.
+-- The answer to a call for a prefix: `ok `, the value, a space and how many bytes the prefix has;
+-- or `err ` and the text of the error.
 abbrev pub prefix_text : Result (ℤ × ℕ) Refusal → List ℕ
 prefix_text (Ok found) = codes "ok " ++ signed_decimal found.0 ++ codes " " ++ decimal found.1
 prefix_text (Err reason) = refusal_text reason
@@ -45,14 +46,16 @@ call_text PrefixNeg k flags text = prefix_text (prefix_answer decimal_table k tr
 abbrev pub row_text : Request → List ℕ → List ℕ
 row_text request text = call_text request.call (int_type_of request.integer) request.flags text
 
--- Why a field has no value: the index of the field, an offset in the input, and the error if no number can
--- be read there.
+-- Why a field has no value. If no number can be read at its start, this is the index of the field,
+-- the offset of its first byte and the error. If another byte follows the number, it is the index
+-- of the field and the offset of that byte.
 abbrev pub refused_field_text : Flaw → List ℕ
 refused_field_text (field index place reason) =
     codes "field " ++ decimal index ++ codes " " ++ decimal place ++ codes ": " ++ error_text reason
 refused_field_text (trailing index place) = codes "trailing " ++ decimal index ++ codes " " ++ decimal place
 
--- An item of a column with a space before it: its value, or its error.
+-- An item of a column, with a space before it: the value of a field, or `err ` and why the field
+-- has no value.
 abbrev pub item_text : Result ℤ Flaw → List ℕ
 item_text (Ok value) = codes " " ++ signed_decimal value
 item_text (Err flaw) = codes " err " ++ refused_field_text flaw
@@ -70,6 +73,6 @@ query_text (Column integer separator) text = column_text (int_type_of integer) s
 abbrev pub is_good_line : List ℕ → Bool
 is_good_line line = is_some (row_of line)
 
--- The answer to a line: that of its row, or `bad row`.
+-- The answer to a line: the answer to its row if the line is a good row, otherwise `bad row`.
 abbrev pub line_answer : List ℕ → List ℕ
 line_answer line = option_map_or (λ row. query_text row.0 row.1) (row_of line) (codes "bad row")

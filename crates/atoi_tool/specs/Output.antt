@@ -21,7 +21,7 @@ row_output query text = query_text query text ++ newline ∷ []
 abbrev pub line_output : List ℕ → List ℕ
 line_output line = line_answer line ++ newline ∷ []
 
--- The answers to all lines, in order.
+-- The answers to all lines in order, with a newline after each.
 abbrev pub output_of : List ℕ → List ℕ
 output_of input = flat_map line_output (lines_of input)
 

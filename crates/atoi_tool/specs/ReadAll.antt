@@ -1,9 +1,10 @@
--- Which error `read_all` returns.
+-- What the result of `read_all` says about refused calls of `take`.
 use Rattle.std.specs.Prelude.{◌≡◌, ℕ, ◌+◌, Result, Ok, Err}
 use Rattle.atoi_tool.specs.declared.status.ToolError.{ToolError}
 use Rattle.atoi_tool.specs.declared.status.ToolError.TheVariants.{Memory, Read, Write}
 
--- If the error is `Read`, exactly one call of `take` was refused; else none was. It is never `Write`.
+-- If the result is the error `Read`, exactly one call of `take` was refused; otherwise none was
+-- refused. The error is never `Write`.
 abbrev pub ReadAllCounts : {A : Type 0} → ℕ → ℕ → Result A ToolError → Type 0
 ReadAllCounts old new (Ok bytes) = new ≡ old
 ReadAllCounts old new (Err Memory) = new ≡ old

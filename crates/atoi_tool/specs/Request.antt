@@ -40,8 +40,9 @@ integer_of word =
 abbrev flags : Bool → Bool → Flags
 flags zeroes plus = record { zeroes = zeroes; plus = plus }
 
--- The flags that a word names: `z` for zeros, then `p` for a plus, and a `-` for each of the two that
--- is off. Any other word names none.
+-- The flags that a word names. Its first byte is `z` if leading zeros are skipped, and its second
+-- byte is `p` if a plus is accepted; if a flag is off, its byte is `-`. Any other word names no
+-- flags.
 abbrev pub flags_of : List ℕ → Option Flags
 flags_of word =
     if bytes_eq word (codes "--") then Some (flags false false)
@@ -49,7 +50,8 @@ flags_of word =
     else (if bytes_eq word (codes "-p") then Some (flags false true)
     else (if bytes_eq word (codes "zp") then Some (flags true true) else None)))
 
--- What the definition of an answer reads of a type: its bits, whether it is signed, its largest value.
+-- The facts about a type that the definition of an answer uses: how many bits the type has, whether
+-- it is signed, and its largest value.
 abbrev pub int_type_of : Integer → IntType
 int_type_of U8 = u8_type
 int_type_of I8 = i8_type
@@ -76,8 +78,8 @@ is_negative Neg = true
 is_negative PrefixNeg = true
 is_negative call = false
 
--- Such a row has an answer: the flag for a plus is on only in a call that accepts a sign, and a call
--- that reads the magnitude of a negative number has a signed type.
+-- A row with this request has an answer. This is so unless the flag for a plus is on but the call
+-- accepts no sign, or the call is `neg` or `prefix_neg` but the type is not signed.
 abbrev pub is_known : Request → Bool
 is_known request =
     (if request.flags.plus then takes_sign request.call else true)

@@ -22,27 +22,28 @@ named_request engine_word call_word integer_word flags_word =
     (λ flags. record { engine = engine; call = call; integer = integer; flags = flags })
     (flags_of flags_word)) (integer_of integer_word)) (call_of call_word)) (engine_of engine_word)
 
--- What four words ask for; `None` if one of them names nothing, or if no call can answer them
--- (`is_known`).
+-- What four words ask for; `None` if one of them names nothing, or if a row with these words has no
+-- answer (`is_known`).
 abbrev pub request_of : (engine_word call_word integer_word flags_word : List ℕ) → Option Request
 request_of engine_word call_word integer_word flags_word =
     option_and_then (λ request. if is_known request then Some request else None)
     (named_request engine_word call_word integer_word flags_word)
 
--- The digit value of a hexadecimal digit, whose letters must be capitals.
+-- The value of a hexadecimal digit, or `None` if the byte is no such digit. Only capital letters
+-- are accepted.
 abbrev pub hex_digit : ℕ → Option ℕ
 hex_digit byte =
     if nat_le 48 byte && nat_le byte 57 then Some (byte - 48)
     else (if nat_le 65 byte && nat_le byte 70 then Some (byte - 65 + 10) else None)
 
--- The byte that two hexadecimal digits spell.
+-- The byte that two hexadecimal digits spell, or `None` if the word is anything else.
 abbrev pub byte_of : List ℕ → Option ℕ
 byte_of (high ∷ low ∷ []) =
     option_and_then (λ sixteens. option_map (λ ones. 16 * sixteens + ones) (hex_digit low)) (hex_digit high)
 byte_of word = None
 
--- The column that three words ask for; `None` if the engine is not `w`, if another word names nothing, or
--- if the separator may not separate fields.
+-- The column that three words ask for; `None` if the engine is not `w`, if another word names
+-- nothing, or if the byte that the last word spells may not separate fields.
 abbrev pub column_of : (engine_word integer_word separator_word : List ℕ) → Option Query
 column_of engine_word integer_word separator_word =
     if bytes_eq engine_word (codes "w") then option_and_then (λ integer. option_and_then
@@ -50,7 +51,8 @@ column_of engine_word integer_word separator_word =
     (byte_of separator_word)) (integer_of integer_word)
     else None
 
--- What four words ask for. The last word is a separator if the call is `column`, and flags in other calls.
+-- What four words ask for. The last word is a separator if the call is `column`, and flags in other
+-- calls.
 abbrev pub query_of : (engine_word call_word integer_word last_word : List ℕ) → Option Query
 query_of engine_word call_word integer_word last_word =
     if bytes_eq call_word (codes "column") then column_of engine_word integer_word last_word
@@ -61,8 +63,8 @@ abbrev pub HasAnswer : Query → Type 0
 HasAnswer (Number request) = is_known request ≡ true
 HasAnswer (Column integer separator) = is_separator separator ≡ true
 
--- What a line asks for, and the text after its fourth space, which may have more spaces; `None` if the line
--- is a bad row.
+-- What a line asks for, and the text after its fourth space; `None` if the line is a bad row. The
+-- text may contain spaces too.
 abbrev pub row_of : List ℕ → Option (Query × List ℕ)
 row_of line =
     option_and_then (λ engine. option_and_then (λ call. option_and_then (λ integer. option_and_then

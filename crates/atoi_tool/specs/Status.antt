@@ -1,9 +1,10 @@
--- The exit status of the program, and what it prints for an error.
+-- The exit status of the program, and the message that it prints for an error.
 use Rattle.std.specs.Prelude.{ℕ, List, codes, Bool, true, false, Result, Ok, Err}
 use Rattle.atoi_tool.specs.declared.status.ToolError.{ToolError}
 use Rattle.atoi_tool.specs.declared.status.ToolError.TheVariants.{Memory, Read, Write}
 
--- The exit status is 0 if every row was good, 2 if a row was bad, and a number of its own for each error.
+-- The exit status is 0 if every row was good, 2 if a row was bad, and a number of its own for each
+-- error.
 abbrev pub status_of : Result Bool ToolError → ℕ
 status_of (Ok true) = 0
 status_of (Ok false) = 2
@@ -11,7 +12,7 @@ status_of (Err Memory) = 3
 status_of (Err Read) = 4
 status_of (Err Write) = 5
 
--- What the program prints for an error.
+-- The message of an error, which the program prints after `atoi_tool: `.
 abbrev pub tool_error_text : ToolError → List ℕ
 tool_error_text Memory = codes "out of memory"
 tool_error_text Read = codes "cannot read input"

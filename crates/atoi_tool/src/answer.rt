@@ -1,4 +1,5 @@
-//! Writes the answer to a row about one number. It uses `request`, `calls`, `printed` and `line`.
+//! Writes the answer to a row about one number. It uses `request`, `calls`, `printed` and `line`,
+//! and the traits of `atoi_simd` and of its module `lanes`.
 ghost use Rattle.std.specs.Prelude.{◌≡◌, ◌≤◌, [], true, false, length};
 ghost use Rattle.atoi_tool.specs.Request.{is_known, is_negative};
 ghost use Rattle.atoi_tool.specs.Answer.{call_text, row_text};
@@ -47,7 +48,7 @@ fn answer_signed<T: atoi_simd::Parse + lanes::Parse + atoi_simd::ParseNeg + lane
     }
 }
 
-/// Writes the answer to a row about one number to `out`. The row must be one that has an answer
+/// Writes to `out` the answer to a row about one number. The row must be one that has an answer
 /// (`Request::is_known`), and `out` must be empty.
 pub fn answer_row(request: &Request, text: &[u8], out: &mut Line)
     requires known { is_known request.now ≡ true }

@@ -1,6 +1,6 @@
-//! The calls of both libraries, with the engine and the flags as values. Both libraries return the
-//! same, so no clause names the engine. It uses `request`, six functions of `atoi_simd`, and those
-//! of its module `lanes`.
+//! The calls of both libraries, `atoi_simd` and its module `lanes`, with the engine and the flags
+//! as values. Both libraries return the same results, so no clause names the engine. This module
+//! uses `request`, six functions of `atoi_simd`, and the six of the same names in `lanes`.
 ghost use Rattle.std.specs.Prelude.{◌≡◌, true, false};
 ghost use Rattle.atoi_core.specs.Answer.{typed_answer, typed_prefix_answer, whole_answer, prefix_answer, parse_answer, parse_prefix_answer};
 ghost use Rattle.atoi_core.specs.Digit.{decimal_table};
@@ -29,7 +29,7 @@ pub fn parse<T: atoi_simd::Parse + lanes::Parse>(
     }
 }
 
-/// Parses all of `text`, without a sign. The flag for a plus has no effect.
+/// Parses all of `text`. No sign is accepted, and the flag for a plus has no effect.
 pub fn parse_pos<T: atoi_simd::Parse + lanes::Parse>(
     engine: Engine,
     flags: Flags,
@@ -46,8 +46,8 @@ pub fn parse_pos<T: atoi_simd::Parse + lanes::Parse>(
     }
 }
 
-/// Parses all of `text`, without a sign, as the magnitude of a number that is negative or zero. The
-/// flag for a plus has no effect.
+/// Parses all of `text` as the magnitude (the value without its sign) of a number that is negative
+/// or zero. No sign is accepted, and the flag for a plus has no effect.
 pub fn parse_neg<T: atoi_simd::ParseNeg + lanes::ParseNeg>(
     engine: Engine,
     flags: Flags,
@@ -64,8 +64,8 @@ pub fn parse_neg<T: atoi_simd::ParseNeg + lanes::ParseNeg>(
     }
 }
 
-/// Parses the number at the start of `text`, which may start with a sign, and returns it with the
-/// number of its bytes, the sign included.
+/// Parses the number at the start of `text`, which may start with a sign. Returns the number, and
+/// how many bytes it has, including the sign.
 pub fn parse_prefix<T: atoi_simd::Parse + lanes::Parse>(
     engine: Engine,
     flags: Flags,
@@ -86,8 +86,8 @@ pub fn parse_prefix<T: atoi_simd::Parse + lanes::Parse>(
     }
 }
 
-/// Parses the number at the start of `text`, without a sign, and returns it with the number of its
-/// bytes. The flag for a plus has no effect.
+/// Parses the number at the start of `text`. No sign is accepted, and the flag for a plus has no
+/// effect. Returns the number, and how many bytes it has.
 pub fn parse_prefix_pos<T: atoi_simd::Parse + lanes::Parse>(
     engine: Engine,
     flags: Flags,
@@ -105,8 +105,9 @@ pub fn parse_prefix_pos<T: atoi_simd::Parse + lanes::Parse>(
     }
 }
 
-/// Parses the digits at the start of `text` as the magnitude of a number that is negative or zero,
-/// and returns it with the number of its bytes. The flag for a plus has no effect.
+/// Parses the digits at the start of `text` as the magnitude of a number that is negative or zero.
+/// No sign is accepted, and the flag for a plus has no effect. Returns the number, and how many
+/// digits were read.
 pub fn parse_prefix_neg<T: atoi_simd::ParseNeg + lanes::ParseNeg>(
     engine: Engine,
     flags: Flags,

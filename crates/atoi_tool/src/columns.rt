@@ -1,5 +1,6 @@
 //! Writes the answer to a row about a column, item by item, since the answer can have any length.
-//! It uses `atoi_column`, the trait `Sink`, and `request`, `printed`, `line`, `put` and `refused`.
+//! It uses `atoi_column`, the trait `Parse` of `atoi_simd`, the trait `Sink`, and `request`,
+//! `printed`, `line`, `put` and `refused`.
 ghost use Rattle.std.specs.Prelude.{◌≡◌, ◌+◌, ◌++◌, true, codes, OnOk, OnErr};
 ghost use Rattle.std.specs.List.{flat_map};
 ghost use Rattle.std.specs.Io.KnownBytes.{Appends};
@@ -33,7 +34,7 @@ fn put_items<T: Parse, S: Sink>(column: Column<'_, T>, output: &mut S) -> Result
     Ok(())
 }
 
-// Writes the answer to a row about a column of type `T` to `output`.
+// Writes to `output` the answer to a row about a column whose numbers have the type `T`.
 fn put_items_of<T: Parse, S: Sink>(
     separator: u8,
     text: &[u8],
@@ -50,11 +51,12 @@ fn put_items_of<T: Parse, S: Sink>(
     put_items(Column::<T>::new(text, separator), output)
 }
 
-/// Writes the answer to a row about a column to `output`, without a newline.
+/// Writes to `output` the answer to a row about a column, without a newline.
 ///
 /// # Errors
 ///
-/// `Refused` if a call of `put` is refused; a proper prefix of the answer was written then.
+/// Returns `Refused` if a call of `put` is refused. In that case a proper prefix of the answer was
+/// written.
 pub fn put_column<S: Sink>(
     integer: Integer,
     separator: u8,

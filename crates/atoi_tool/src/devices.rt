@@ -54,9 +54,9 @@ pub(crate) enum Full {
     TakesNone,
 }
 
-/// A writer that accepts at most `part` bytes a call, and `room` bytes until it is full. A call
-/// that finds it full accepts nothing, and then it has room for `room_then` more bytes. It counts
-/// its calls.
+/// A writer that accepts at most `part` bytes a call, and is full when it has accepted `room`
+/// bytes. A call on a full writer accepts nothing, but after that call the writer has room for
+/// `room_then` more bytes. The writer counts its calls.
 #[derive(Drop)]
 pub(crate) struct LimitedWriter {
     pub(crate) held: Vec<u8>,
@@ -106,8 +106,8 @@ impl Write for LimitedWriter {
     }
 }
 
-/// A standard error that keeps what is printed to it from call number `first` on. The calls before
-/// that one fail. It counts its calls from 1.
+/// A standard error whose calls fail until call number `first`, counted from 1. It keeps what that
+/// call and the later ones print. It counts its calls.
 #[derive(Drop)]
 pub(crate) struct Errors {
     pub(crate) reported: RefCell<Vec<u8>>,

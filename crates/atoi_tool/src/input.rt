@@ -7,16 +7,16 @@ use crate::source::Source;
 use crate::status::ToolError;
 use std::alloc::{Allocator, Global};
 
-// The largest number of bytes that one call of `take` can return.
+// The largest number of bytes that `read_all` asks for in one call of `take`.
 const PART: usize = 4096;
 
 /// Returns all bytes of `input` up to its end.
 ///
 /// # Errors
 ///
-/// `Read` if a call of `take` is refused, and `Memory` if the vector cannot grow. A source that
-/// never ends leads to `Memory`, at the latest once the vector has the largest possible length.
-/// The bytes that were taken before an error are lost.
+/// Returns `Read` if a call of `take` is refused, and `Memory` if the vector of the bytes cannot
+/// grow. A source that never ends leads to `Memory`, at the latest once the vector has the largest
+/// possible length. The bytes that were taken before an error are lost.
 pub fn read_all<S: Source>(alloc: Global, input: &mut S) -> Result<Vec<u8>, ToolError>
     ensures all { IfOk result
         (λ bytes. Consumes (S.rest input.old) (S.rest input.new) bytes.items) }
@@ -26,7 +26,7 @@ pub fn read_all<S: Source>(alloc: Global, input: &mut S) -> Result<Vec<u8>, Tool
     read_all_in(alloc, input)
 }
 
-// Does what `read_all` does, with any allocator: the tests use heaps of fixed sizes.
+// Does what `read_all` does, but with any allocator, because the tests use heaps of fixed sizes.
 fn read_all_in<S: Source, A: Allocator>(alloc: A, input: &mut S) -> Result<Vec<u8, A>, ToolError>
     ensures all { IfOk result
         (λ bytes. Consumes (S.rest input.old) (S.rest input.new) bytes.items) }

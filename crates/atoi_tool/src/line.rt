@@ -1,9 +1,10 @@
-//! A buffer in which a line of output is put together. It uses no other module.
+//! A buffer in which the tool puts together a line of output, or one item of a column. It uses no
+//! other module.
 ghost use Rattle.std.specs.Prelude.{◌≡◌, ◌+◌, ◌≤◌, ℕ, List, [], ◌++◌, length, take};
 
 use std::marker::Model;
 
-/// How many bytes a line can hold. The answer to a row about one number is shorter, and so is an
+/// How many bytes a `Line` can hold. The answer to a row about one number is shorter, and so is an
 /// item of a column.
 pub const ROOM: usize = 440;
 

@@ -1,6 +1,6 @@
-//! Reads rows and answers each of them. A row names a call and has a text for it to parse, or it
-//! has a column whose numbers are to be read. This module joins a run to the standard input, output
-//! and error. It uses `run`, `source` and `sink`.
+//! Reads rows and answers each of them. A row either names a call and has the text that this call
+//! parses, or has a column and asks for all its numbers. This module connects a run to the standard
+//! input, output and error. It uses `run`, `source` and `sink`.
 #![tactic(auto)]
 
 use crate::run::{Ended, run};

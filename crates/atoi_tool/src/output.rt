@@ -1,5 +1,6 @@
-//! Writes the answers to all lines of an input to a sink. It uses the trait `Sink`, `row`, `answer`
-//! and `columns`, `line`, `place`, `put`, `refused` and `status`, and a law of `atoi_column`.
+//! Answers all lines of an input, and writes the answers to a sink. It uses the trait `Sink`, the
+//! modules `request`, `row`, `answer`, `columns`, `line`, `place`, `put`, `refused` and `status`,
+//! and a law of `atoi_column`.
 ghost use Rattle.std.specs.Prelude.{◌≡◌, ◌+◌, ◌<◌, [], ◌∷◌, length, IfOk, IfErr, OnOk, OnErr};
 ghost use Rattle.std.specs.Io.KnownBytes.{Appends};
 ghost use Rattle.atoi_tool.specs.Failures.{failures_of, AppendsPrefix};
@@ -20,7 +21,7 @@ use crate::status::ToolError;
 use atoi_column::laws::first_field;
 
 // Returns the first line of an input, without its newline, and what follows that line. The input
-// has at least one byte.
+// must have at least one byte.
 fn first_line(input: &[u8]) -> (&[u8], &[u8])
     requires { 0 < length input.now }
     ensures lines { lines_of input.now ≡ result.0.now ∷ lines_of result.1.now }
@@ -57,7 +58,7 @@ fn put_row<S: Sink>(query: Query, text: &[u8], output: &mut S) -> Result<(), Ref
     }
 }
 
-// Writes the answer to one line, and returns whether the line is a good row.
+// Writes the answer to one line, and a newline after it. Returns whether the line is a good row.
 fn put_answer<S: Sink>(line: &[u8], output: &mut S) -> Result<bool, Refused>
     ensures ok { OnOk result
         (Appends (S.held output.old) (S.held output.new) (line_output line.now)) }
@@ -79,12 +80,13 @@ fn put_answer<S: Sink>(line: &[u8], output: &mut S) -> Result<bool, Refused>
     }
 }
 
-/// Writes the answer to each line of `input` to `output`, and returns whether every line was good.
+/// Writes to `output` the answer to each line of `input`, with a newline after each answer. Returns
+/// whether every line was good.
 ///
 /// # Errors
 ///
-/// `Write` if a call of `put` is refused; a proper prefix of the whole output was written then. The
-/// function allocates nothing and reads nothing, so it returns no other error.
+/// Returns `Write` if a call of `put` is refused. In that case a proper prefix of the whole output
+/// was written. The function allocates nothing and reads nothing, so it returns no other error.
 pub fn answer_lines<S: Sink>(input: &[u8], output: &mut S) -> Result<bool, ToolError>
     ensures output { OnOk result
         (Appends (S.held output.old) (S.held output.new) (output_of input.now)) }

@@ -1,5 +1,5 @@
-//! The text of an answer, for a value of any integer type. It uses `line`, the texts of
-//! `atoi_core`, and the errors of `atoi_column`.
+//! The text of an answer, for a value of any integer type. It uses `line`, `Number`, `decimal` and
+//! the error of `atoi_core`, and the error of `atoi_column`.
 ghost use Rattle.std.specs.Prelude.{◌≡◌, ◌+◌, ◌≤◌, [], ◌++◌, length, decimal, codes};
 ghost use Rattle.std.specs.Fmt.{signed_decimal};
 ghost use Rattle.atoi_core.specs.Refusal.{refusal_of};
@@ -20,8 +20,8 @@ pub const LONGEST: usize = 336;
 // The largest number of digits that a value has.
 const DIGITS: usize = 39;
 
-// The largest number of bytes in the text of an error, and the size of the array that the text is
-// written to. The longest text is that of `Invalid128`.
+// The largest number of bytes in the text of an error. The longest text is that of `Invalid128`.
+// `ERROR_ROOM` is the size of the array that the text is written to.
 const LONGEST_ERROR: usize = 332;
 
 const ERROR_ROOM: usize = 400;
@@ -60,7 +60,7 @@ fn push_error(error: &AtoiSimdError<'_>, out: &mut Line)
     out.push(&text[..count]);
 }
 
-// Appends `err ` and the text of an error.
+// Appends `err ` and the text of an error. `out` must be empty.
 fn push_refusal(error: &AtoiSimdError<'_>, out: &mut Line)
     requires { out.old ≡ [] }
     ensures text { out.new ≡ refusal_text (refusal_of error.now) }
@@ -70,7 +70,8 @@ fn push_refusal(error: &AtoiSimdError<'_>, out: &mut Line)
     push_error(error, out);
 }
 
-/// Appends the answer to a parse of a whole text: its value, or its error.
+/// Appends the answer to a parse of a whole text: `ok ` and the value, or `err ` and the text of
+/// the error. `out` must be empty.
 pub fn push_whole<T: Number>(outcome: Result<T, AtoiSimdError<'_>>, out: &mut Line)
     requires { out.old ≡ [] }
     ensures text { out.new ≡ whole_text (typed_answer T.number outcome.entry) }
@@ -86,7 +87,8 @@ pub fn push_whole<T: Number>(outcome: Result<T, AtoiSimdError<'_>>, out: &mut Li
     }
 }
 
-/// Appends the answer to a parse of a prefix: its value and the number of its bytes, or its error.
+/// Appends the answer to a parse of a prefix: `ok `, the value, a space and how many bytes the
+/// prefix has; or `err ` and the text of the error. `out` must be empty.
 pub fn push_prefix<T: Number>(outcome: Result<(T, usize), AtoiSimdError<'_>>, out: &mut Line)
     requires { out.old ≡ [] }
     ensures text { out.new ≡ prefix_text (typed_prefix_answer T.number outcome.entry) }
@@ -115,8 +117,10 @@ fn push_index_and_place(index: usize, place: usize, out: &mut Line)
     push_decimal(place as u128, out);
 }
 
-// Appends ` err ` and why a field has no value: the index of the field, the offset of its first
-// byte and the error of its parse, or the index and the offset of the byte after the number.
+// Appends ` err ` and why a field has no value. If no number can be read at its start, this is
+// `field `, the index of the field, the offset of its first byte and the text of the error. If
+// another byte follows the number, it is `trailing `, the index of the field and the offset of that
+// byte. `out` must be empty.
 fn push_flaw(error: &ColumnError<'_>, out: &mut Line)
     requires { out.old ≡ [] }
     ensures { out.new ≡ codes " err " ++ refused_field_text (flaw_of error.now) }
@@ -140,7 +144,8 @@ fn push_flaw(error: &ColumnError<'_>, out: &mut Line)
     }
 }
 
-/// Appends an item of a column, with a space before it: its value, or its error.
+/// Appends a space and an item of a column. The item is the value of a field, or `err ` and why the
+/// field has no value. `out` must be empty.
 pub fn push_item<T: Number>(item: Result<T, ColumnError<'_>>, out: &mut Line)
     requires { out.old ≡ [] }
     ensures { out.new ≡ item_text (item_of T.number item.entry) }

@@ -10,7 +10,8 @@ use crate::sink::Sink;
 ///
 /// # Errors
 ///
-/// `Refused` if a call of `put` is refused; a proper prefix of `bytes` was written then.
+/// Returns `Refused` if a call of `put` is refused. In that case a proper prefix of `bytes` was
+/// written.
 pub fn put_all<S: Sink>(bytes: &[u8], output: &mut S) -> Result<(), Refused>
     ensures ok { OnOk result (Appends (S.held output.old) (S.held output.new) bytes.now) }
     ensures err { OnErr result (AppendsPrefix (S.held output.old) (S.held output.new) bytes.now) }

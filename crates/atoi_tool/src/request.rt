@@ -1,5 +1,5 @@
-//! What a row asks for, except for its text, and the words that name it. It uses a law of
-//! `atoi_core`.
+//! The parts of a row that come before its text, and the words that name these parts. It uses a law
+//! of `atoi_core`.
 ghost use Rattle.std.specs.Prelude.{◌≡◌};
 ghost use Rattle.atoi_tool.specs.Request.{engine_of, call_of, integer_of, flags_of, int_type_of, takes_sign, is_negative, is_known};
 
@@ -41,7 +41,7 @@ impl Call {
         matches!(self, Call::Parse | Call::Prefix)
     }
 
-    /// Says whether the call reads the magnitude of a negative number.
+    /// Says whether the call reads the magnitude of a number that is negative or zero.
     pub fn is_negative(self) -> bool
         ensures { result ≡ is_negative self }
     {
@@ -151,8 +151,9 @@ pub fn integer_of(word: &[u8]) -> Option<Integer>
     }
 }
 
-/// Returns the flags that a word names: `z` for zeros, then `p` for a plus, and a `-` for each of
-/// the two that is off. Returns `None` for any other word.
+/// Returns the flags that a word names. Its first byte is `z` if leading zeros are skipped, and its
+/// second byte is `p` if a plus is accepted; if a flag is off, its byte is `-`. Returns `None` for
+/// any other word.
 pub fn flags_of(word: &[u8]) -> Option<Flags>
     ensures { result ≡ flags_of word.now }
 {
@@ -166,7 +167,7 @@ pub fn flags_of(word: &[u8]) -> Option<Flags>
     Some(Flags { zeroes, plus })
 }
 
-/// What a row about one number asks for, except for its text.
+/// What a row about one number asks for. The text of the row is not part of this.
 #[derive(Clone, Copy)]
 pub struct Request {
     /// Which library parses.
@@ -180,8 +181,9 @@ pub struct Request {
 }
 
 impl Request {
-    /// Says whether such a row has an answer: the flag for a plus is on only in a call that accepts
-    /// a sign, and a call that reads the magnitude of a negative number has a signed type.
+    /// Says whether a row with this request has an answer. It has one unless the flag for a plus is
+    /// on but the call accepts no sign, or the call is `neg` or `prefix_neg` but the type is not
+    /// signed.
     pub fn is_known(&self) -> bool
         ensures { result ≡ is_known self.now }
     {
@@ -190,22 +192,22 @@ impl Request {
     }
 }
 
-/// What a row asks for, except for its text.
+/// What a row asks for. The text of the row is not part of this.
 #[derive(Clone, Copy)]
 pub enum Query {
     /// One number.
     Number(Request),
-    /// All numbers of a column. Such a row has an answer if the separator may separate fields: any
-    /// byte except a digit, `+` and `-`.
+    /// All numbers of a column. Such a row has an answer if its separator is any byte except a
+    /// digit, `+` and `-`.
     Column {
         /// The type of the numbers.
         integer: Integer,
-        /// The byte that ends a field.
+        /// The byte that separates the fields.
         separator: u8,
     },
 }
 
-// Proves of each type of this module that `clone` returns the value itself and never fails.
+// Proves, for each type of this module, that `clone` returns the value itself and never fails.
 fn clones() {
     clones_are_the_same::<Engine>();
     clones_are_the_same::<Call>();

@@ -18,7 +18,8 @@ fn cut(line: &[u8]) -> Option<(&[u8], &[u8])>
     Some((&line[..space], &line[space + 1..]))
 }
 
-// Returns what four words ask for; `None` if a word names nothing, or if such a row has no answer.
+// Returns what the four words of a row about one number ask for. Returns `None` if a word names
+// nothing, or if a row with these words has no answer (`Request::is_known`).
 fn request_of(engine: &[u8], call: &[u8], integer: &[u8], flags: &[u8]) -> Option<Request>
     ensures request { result ≡ request_of engine.now call.now integer.now flags.now }
     ensures known { IfSome result (λ request. is_known request ≡ true) }
@@ -36,7 +37,8 @@ fn request_of(engine: &[u8], call: &[u8], integer: &[u8], flags: &[u8]) -> Optio
     }
 }
 
-// Returns the digit value of a hexadecimal digit, whose letters must be capitals.
+// Returns the value of a hexadecimal digit, or `None` if the byte is no such digit. Only capital
+// letters are accepted.
 fn hex_digit(byte: u8) -> Option<u8>
     ensures digit { result ≡ hex_digit byte }
     ensures below { IfSome result (λ digit. digit < 16) }
@@ -48,7 +50,7 @@ fn hex_digit(byte: u8) -> Option<u8>
     }
 }
 
-// Returns the byte that two hexadecimal digits spell.
+// Returns the byte that two hexadecimal digits spell, or `None` if the word is anything else.
 fn byte_of(word: &[u8]) -> Option<u8>
     ensures { result ≡ byte_of word.now }
 {
@@ -60,8 +62,8 @@ fn byte_of(word: &[u8]) -> Option<u8>
     Some(16 * sixteens + ones)
 }
 
-// Returns the column that three words ask for; `None` if the engine is not the one on words, if
-// another word names nothing, or if the byte that the last one spells may not separate fields.
+// Returns the column that three words ask for. Returns `None` if `engine` is not `w`, if `integer`
+// names no type, or if `separator` does not spell a byte that may separate fields.
 fn column_of(engine: &[u8], integer: &[u8], separator: &[u8]) -> Option<Query>
     ensures query { result ≡ column_of engine.now integer.now separator.now }
     ensures answered { IfSome result HasAnswer }
@@ -78,7 +80,8 @@ fn column_of(engine: &[u8], integer: &[u8], separator: &[u8]) -> Option<Query>
     }
 }
 
-// Returns what four words ask for, about a column if the call is `column`, else about one number.
+// Returns what the four words of a row ask for, or `None` if the row is bad. The row is about a
+// column if `call` is `column`, and otherwise about one number.
 fn query_of(engine: &[u8], call: &[u8], integer: &[u8], last: &[u8]) -> Option<Query>
     ensures query { result ≡ query_of engine.now call.now integer.now last.now }
     ensures answered { IfSome result HasAnswer }

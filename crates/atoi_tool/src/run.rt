@@ -14,8 +14,8 @@ use std::alloc::Global;
 use std::marker::PhantomData;
 use std::process::{ExitCode, Termination};
 
-/// How a run that reads from an `I` and writes to an `O` ended: whether every line was good, or the
-/// error that stopped the run.
+/// How a run ended: whether every line was good, or the error that stopped the run. The run reads
+/// from an `I` and writes to an `O`.
 ///
 /// Outside tests only `run` makes a value of this type, and such a value cannot be dropped. So a
 /// `main` that returns one ends with the status of a run, and its result type names the streams of
@@ -36,20 +36,21 @@ impl<I, O> Termination for Ended<I, O> {
             streams: _,
         } = self;
         if let Err(error) = &outcome {
-            // If this line cannot be written, the status still says which error it was.
+            // If this line cannot be written, the status still says which error stopped the run.
             let _ = eprintln!(rt; "atoi_tool: {error}");
         }
         ExitCode::from(status(&outcome))
     }
 }
 
-/// Reads `input` to its end and writes the answer to each of its lines to `output`. The outcome
-/// says whether every line was good.
+/// Reads `input` to its end, and writes to `output` the answer to each line of the input. The
+/// outcome says whether every line was good.
 ///
 /// # Errors
 ///
-/// The outcome is `Memory` or `Read` if the input could not be read; nothing was written then. It
-/// is `Write` if a call of `put` was refused; a proper prefix of the whole output was written then.
+/// The outcome is `Memory` or `Read` if the input could not be read. In that case nothing was
+/// written. The outcome is `Write` if a call of `put` was refused. In that case a proper prefix of
+/// the whole output was written.
 pub fn run<I: Source, O: Sink>(alloc: Global, input: &mut I, output: &mut O) -> Ended<I, O>
     ensures answered { IfOk (outcome_of result)
         (IsAnswered (I.rest input.old) (I.rest input.new) (O.held output.old) (O.held output.new)) }

@@ -10,7 +10,8 @@ use std::io::Write;
 
 /// A sink for bytes, which are appended to it one part after another.
 pub trait Sink {
-    /// The bytes that were appended so far, if contracts can name them, as for a writer in memory.
+    /// The bytes that were appended so far, or `None` if contracts cannot name them. They can name
+    /// those of a writer in memory.
     ghost held: { Self → Option (List ℕ) } = { λ _. None };
 
     /// How many calls of `put` were refused so far.
@@ -18,8 +19,8 @@ pub trait Sink {
 
     /// Appends a prefix of `bytes`, at least one byte, and returns its length.
     ///
-    /// A call that is refused appends nothing and adds one to `failures`, which no other call
-    /// changes.
+    /// A call that is refused appends nothing and adds one to `failures`. A call that is not
+    /// refused leaves `failures` unchanged.
     fn put(&mut self, bytes: &[u8]) -> Result<usize, Refused>
         requires { 0 < length bytes.now }
         ensures some { IfOk result (λ k. 0 < k) }
@@ -64,8 +65,8 @@ impl<W: Write> Sink for ToWriter<W> {
 
     ghost failures = { to_writer_failures };
 
-    /// Calls `write` once. Any error of `write` becomes `Refused`, an interruption too, and so does
-    /// a call of `write` that accepts no byte.
+    /// Calls `write` once. Returns `Refused` if `write` returns an error, even an interruption, or
+    /// if `write` accepts no byte.
     fn put(&mut self, bytes: &[u8]) -> Result<usize, Refused> {
         match self.inner.write(bytes) {
             Ok(0) | Err(_) => {

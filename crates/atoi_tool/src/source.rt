@@ -10,17 +10,18 @@ use std::io::Read;
 
 /// A source of bytes, which are taken from it one part after another, up to its end.
 pub trait Source {
-    /// The bytes that are still to come, if contracts can name them, as for a reader in memory.
+    /// The bytes that are still to come, or `None` if contracts cannot name them. They can name
+    /// those of a reader in memory.
     ghost rest: { Self → Option (List ℕ) } = { λ _. None };
 
     /// How many calls of `take` were refused so far.
     ghost failures: { Self → ℕ };
 
-    /// Writes the next bytes to the start of `space` and returns how many there are: 0 only at the
-    /// end.
+    /// Writes the next bytes to the start of `space` and returns how many it has written. It
+    /// returns 0 only at the end.
     ///
     /// The rest of `space` is unspecified. A call that is refused takes no byte from the source and
-    /// adds one to `failures`, which no other call changes.
+    /// adds one to `failures`. A call that is not refused leaves `failures` unchanged.
     fn take(&mut self, space: &mut [u8]) -> Result<usize, Refused>
         requires { 0 < length space.old }
         ensures within { IfOk result (λ k. k ≤ length space.new) }
@@ -64,7 +65,7 @@ impl<R: Read> Source for FromReader<R> {
 
     ghost failures = { from_reader_failures };
 
-    /// Calls `read` once. Any error of `read` becomes `Refused`, an interruption too.
+    /// Calls `read` once. Any error of `read`, even an interruption, becomes `Refused`.
     fn take(&mut self, space: &mut [u8]) -> Result<usize, Refused> {
         match self.inner.read(space) {
             Ok(count) => Ok(count),

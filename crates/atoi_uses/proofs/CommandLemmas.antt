@@ -20,7 +20,8 @@ one_word line Set IncrBy s t h k = absurd (first_apart line 83 73 (ap (λ l. sli
 one_word line IncrBy Set s t h k = absurd (first_apart line 73 83 (ap (λ l. slice_index l 0) h) (ap (λ l. slice_index l 0) k) (omega arith))
 one_word line IncrBy IncrBy s t h k = (refl, ap (drop 7) (sym h ∙ k))
 
--- A line is at most one command: that of its word, with the number that its text writes.
+-- If a line begins with a word and a space, and `parse` with both flags returns a number for the
+-- text after them, then the only command that the line can be has this word and this number.
 pub only_command : AcceptedTexts i64_type → (line text : List ℕ) (word : Word) (number : ℤ) → HasWord line word text
     → parse_answer i64_type true true text ≡ Ok number
     → (command : Command) → IsCommand line command → record { word = word; number = number } ≡ command

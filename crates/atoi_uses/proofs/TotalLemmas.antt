@@ -5,8 +5,8 @@ use Rattle.std.proofs.lemmas.List.Sums.{sum_by_push}
 use Rattle.atoi_column.specs.Items.{Flaw}
 use Rattle.atoi_column.specs.Laws.{HaveRead, ItemsInTurn}
 
--- `total` is the sum of the items that were read before `left`. It is small enough that all items
--- left can be added.
+-- `total` is the sum of the items that were read before `left`. It is at most 2^64 multiplied by
+-- the number of these items, which keeps it from overflowing.
 pub record IsAddedUpTo (items left : List (Result ℤ Flaw)) (total : ℕ) : Type 0 where
   pub numbers : List ℕ
   pub read : HaveRead items (map pos numbers) left

@@ -15,19 +15,21 @@ prefix_of law text number rest h =
     record { numeral = h.numeral; in_range = omega (arith, h.value_is, h.in_range); value_is = ap pos h.value_is } in
     law.of_parts positive text h.digits rest (pos number) h.parts written h.ends
 
--- The text begins with only one part: this number, followed by this rest.
+-- The text begins with no other part than the digits of this number, followed by this rest.
 abbrev pub IsOnlyPart : List ℕ → ℕ → List ℕ → Type 0
 IsOnlyPart text number rest = (n : ℕ) (r : List ℕ) → IsPart text n r → (n ≡ number) × (r ≡ rest)
 
 module _ (text : List ℕ) (number : ℕ) (after rest : List ℕ) (only : IsOnlyPart text number after) (is : after ≡ dot ∷ rest) where
-  -- So the second part of a version follows the first one and a dot.
+  -- If the text is a version, its second part is at the start of `rest`, which follows the first
+  -- part and a dot.
   pub minor_at : (version : Version) (h : IsVersion text version) → IsPart rest version.minor (dot ∷ h.after_minor)
   minor_at version h =
       let same = (only version.major (dot ∷ h.after_major) h.major).1 ∙ is in
       let here : h.after_major ≡ rest = cc in
       subst (λ s. IsPart s version.minor (dot ∷ h.after_minor)) here h.minor
 
-  -- So the third part follows the second one and a dot.
+  -- If the text is a version, its third part is all of `last`, which follows the second part and a
+  -- dot.
   pub patch_at : (minor : ℕ) (after_minor last : List ℕ) → IsOnlyPart rest minor after_minor → after_minor ≡ dot ∷ last
       → (version : Version) → IsVersion text version → IsPart last version.patch []
   patch_at minor after_minor last only_minor is_minor version h =

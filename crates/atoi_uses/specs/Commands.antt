@@ -26,8 +26,9 @@ pub record IsCommand (line : List ℕ) (command : Command) : Type 0 where
   pub parts : HasWord line command.word text
   pub written : TextWrites i64_type true text command.number
 
--- What an error says about the line. `UnknownWord`: it does not begin with a word and a space.
--- `BadNumber`: it does, and `cause` is the error of `parse` for the text after them.
+-- What an error says about the line. `UnknownWord` says that the line does not begin with a word
+-- and a space. `BadNumber` says that it does, and that `cause` is the error which `parse` with both
+-- flags returns for the text after the space.
 abbrev pub Refuses : List ℕ → CommandError → Type 0
 Refuses line UnknownWord = (word : Word) (text : List ℕ) → ¬ HasWord line word text
 Refuses line (BadNumber cause) =

@@ -3,8 +3,7 @@ use Rattle.std.specs.Prelude.{◌≡◌, ℕ, ◌≤◌, ◌%◌, Bool, not, ◌
 use Rattle.std.specs.Str.Parse.{IsNumeral, digits_value}
 use Rattle.atoi_uses.specs.declared.dates.Date.{Date}
 
--- Every fourth year is a leap year. Of the years that are multiples of 100, only every fourth is
--- one.
+-- A year is a leap year if it is a multiple of 4 but not of 100, or if it is a multiple of 400.
 abbrev pub is_leap_year : ℕ → Bool
 is_leap_year year = year % 4 == 0 && not (year % 100 == 0) || year % 400 == 0
 
@@ -26,7 +25,7 @@ pub record AreDigitsOf (digits : List ℕ) (number : ℕ) : Type 0 where
   pub numeral : IsNumeral 10 digits
   pub value_is : number ≡ digits_value 10 digits
 
--- The text has ten bytes, with a dash after four of them and after seven of them.
+-- The text has ten bytes, with dashes at the offsets 4 and 7.
 pub record HasDashes (text : List ℕ) : Type 0 where
   pub ten : length text ≡ 10
   pub first : slice_index text 4 ≡ 45

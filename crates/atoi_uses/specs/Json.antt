@@ -3,7 +3,8 @@ use Rattle.std.specs.Prelude.{◌≡◌, ℕ, Bool, true, false, ◌&&◌, ◌||
 use Rattle.atoi_simd.specs.IntTypes.{i64_type}
 use Rattle.atoi_simd.specs.Text.{DigitsWrite, BeginsWithDigit}
 
--- What precedes the digits: a minus if the number is negative.
+-- The bytes before the digits: a minus if the argument is `true`, otherwise none. `-0` has a minus
+-- too, although its number is not negative.
 abbrev pub minus_of : Bool → List ℕ
 minus_of true = codes "-"
 minus_of false = []

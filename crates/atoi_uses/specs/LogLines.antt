@@ -25,9 +25,10 @@ HasTotal line total =
     × (AllZip (TextWrites u64_type true) (fields_of comma (columns_of line)) (map pos numbers)
     × (total ≡ sum numbers))
 
--- What an error says about the line. `BadField`: the field of that index is the first that is not a
--- text of a `u64`, and the place is an offset in the line. `TooLarge`: every field is such a text,
--- and their total is not in the range of `u64`.
+-- What an error says about the line. `BadField` says that the field of index `index` is the first
+-- that is not a text of a `u64`. `place` is the offset in the line at which the columns begin, plus
+-- the place in the columns that `IsFirstBad` names. `TooLarge` says that every field is such a
+-- text, and that the total of their numbers is `total`, which is larger than every `u64`.
 abbrev pub Refuses : List ℕ → LogError → Type 0
 Refuses line (BadField index place) =
     (place_in_columns : ℕ)

@@ -4,7 +4,8 @@ use Rattle.std.specs.Str.Parse.{IsNumeral, digits_value}
 use Rattle.atoi_simd.specs.Text.{BeginsWithDigit}
 use Rattle.atoi_uses.specs.declared.versions.Version.{Version}
 
--- The text is the digits of a number of 32 bits, then a rest that does not begin with a digit.
+-- The text consists of one or more digits and a rest that does not begin with a digit. The number
+-- is the value of these digits, and is below 2^32.
 pub record IsPart (text : List ℕ) (number : ℕ) (rest : List ℕ) : Type 0 where
   pub digits : List ℕ
   pub parts : text ≡ digits ++ rest

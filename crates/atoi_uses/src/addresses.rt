@@ -1,5 +1,7 @@
-//! A reader of IPv4 addresses. It uses `atoi_simd::parse_pos` and `parse_prefix_pos`, and two laws:
-//! that a slice begins with at most one number, and which digits `decimal` writes.
+//! A reader of IPv4 addresses. It uses `atoi_simd::parse_pos` and `parse_prefix_pos`, `after_dot`
+//! of `versions`, and two laws. One law says that at most one prefix of a slice writes a number and
+//! has no digit after it. The other says that only the decimal text of a number writes that number
+//! without a needless leading zero.
 ghost use Rattle.std.specs.Prelude.{◌≡◌, ◌^◌, ◌<◌, ◌++◌, ℕ, List, ◌∷◌, IfSome, IfNone, decimal};
 ghost use Rattle.atoi_simd.specs.Text.{has_needless_zero};
 ghost use Rattle.atoi_uses.specs.Addresses.{IsAddress};
@@ -23,8 +25,8 @@ pub struct Address {
     pub fourth: u8,
 }
 
-/// Parses `text` as an IPv4 address such as `192.168.0.1`: four numbers below 256, with dots
-/// between them, each without needless leading zeros.
+/// Parses `text` as an IPv4 address such as `192.168.0.1`. It has four numbers below 256 with dots
+/// between them, and no number has a needless leading zero.
 ///
 /// Returns `None` for every other text, such as `1.2.3`, `1.2.3.04` and `1.2.3.256`.
 pub fn parse_address(text: &[u8]) -> Option<Address>

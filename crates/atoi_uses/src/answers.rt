@@ -1,5 +1,6 @@
-//! A function that checks what a call returned. All tests share it: a test with `assert_eq!` in its
-//! own body takes longer to prove. It uses only std.
+//! A function that checks what a call returned. The tests of this crate call this function, because
+//! a test with `assert_eq!` in its own body takes longer to prove. Only the tests in `samples` have
+//! `assert_eq!` in their own bodies. The file uses only std.
 
 use std::fmt::Debug;
 use std::process::Abort;

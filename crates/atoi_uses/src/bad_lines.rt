@@ -1,5 +1,5 @@
-//! A total whose error names the first bad line by its number, counted from 1. It uses `totals`,
-//! and its function has no proof file.
+//! A function that adds up numbers, one on each line. Its error names the first bad line by the
+//! number of that line, counted from 1. The file uses `totals`, and needs no proof file.
 ghost use Rattle.std.specs.Prelude.{◌≡◌, ◌+◌, ◌++◌, ℕ, List, Ok, IfOk, IfErr, map, pos, sum, codes, decimal};
 ghost use Rattle.atoi_core.specs.IntTypes.{u64_type};
 ghost use Rattle.atoi_column.specs.ErrorText.{flaw_text};
@@ -18,7 +18,7 @@ const NEWLINE: u8 = b'\n';
 pub struct BadLine<'a> {
     /// The number of the line, counted from 1.
     pub line: usize,
-    /// Why it is not a number.
+    /// Why the line is not a number of type `u64`.
     pub error: ColumnError<'a>,
 }
 
@@ -26,8 +26,8 @@ pub struct BadLine<'a> {
 ///
 /// # Errors
 ///
-/// Returns the first line that is not a number of type `u64`: `total_or_bad_line(b"7\n8x\n9")`
-/// names line 2.
+/// Returns a `BadLine` for the first line that is not a number of type `u64`. The error of
+/// `total_or_bad_line(b"7\n8x\n9")` names line 2.
 pub fn total_or_bad_line(lines: &[u8]) -> Result<u128, BadLine<'_>>
     ensures all { IfOk result (λ total. (numbers : List ℕ)
         × (items_of u64_type NEWLINE lines.now ≡ map Ok (map pos numbers))

@@ -1,5 +1,5 @@
-//! A reader of the commands of a protocol, each of which is a word, one space and a number.
-//! It uses `atoi_simd::parse` with both flags, and the law that says which texts it accepts.
+//! A reader of the commands of a protocol, each of which is a word, one space and a number. It uses
+//! `atoi_simd::parse` with both flags, and the law that says which texts this call accepts.
 ghost use Rattle.std.specs.Prelude.{◌≡◌, ◌↔◌, ℕ, List, IfSome, IfNone, IfErr, Ok};
 ghost use Rattle.atoi_uses.specs.Commands.{HasWord, IsCommand, Refuses};
 ghost use Rattle.atoi_uses.specs.declared.commands.Command.{Command};
@@ -29,9 +29,10 @@ pub struct Command {
 /// Why a line is not a command.
 #[derive(Clone, Copy, Debug, PartialEq, Eq)]
 pub enum CommandError<'a> {
-    /// The line does not begin with `SET` or `INCRBY` and a space.
+    /// The line begins neither with `SET` and a space, nor with `INCRBY` and a space.
     UnknownWord,
-    /// What follows them is not a number of type `i64`. Holds the error of `atoi_simd::parse`.
+    /// What follows the word and the space is not a number of type `i64`. Holds the error of
+    /// `atoi_simd::parse`.
     BadNumber(AtoiSimdError<'a>),
 }
 
@@ -51,21 +52,22 @@ impl fmt::Display for CommandError<'_> {
 
 impl Error for CommandError<'_> {}
 
-/// Parses all of `line` as a command: a word in capitals, one space, and a number of type `i64`,
-/// which may have a sign and leading zeros. Nothing else is accepted, not even a line feed at the
-/// end.
+/// Parses all of `line` as a command: the word `SET` or `INCRBY` in capitals, one space, and a
+/// number of type `i64`, which may have a sign and leading zeros. Nothing else is accepted, not
+/// even a line feed at the end.
 ///
 /// `read_command(b"SET 42")` returns the word `Set` and the number 42.
 ///
 /// # Errors
 ///
-/// - `UnknownWord` if the line does not begin with a word and a space;
-/// - `BadNumber` if what follows them is not a number of type `i64`.
+/// - `UnknownWord` if the line does not begin with one of the two words and a space;
+/// - `BadNumber` if what follows the word and the space is not a number of type `i64`.
 pub fn read_command(line: &[u8]) -> Result<Command, CommandError<'_>>
     ensures exact { (command : Command) → (result ≡ Ok command) ↔ IsCommand line.now command }
     ensures refused { IfErr result (λ error. Refuses line.now error) }
 {
-    // The law that says which texts `parse` accepts, and as which number. The call does nothing.
+    // This law says which texts `parse` accepts with both flags on, and which number it returns for
+    // each of them. The call does nothing.
     accepted_texts::<i64>();
     let Some((word, text)) = word_and_text(line) else {
         return Err(CommandError::UnknownWord);

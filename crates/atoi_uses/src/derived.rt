@@ -1,5 +1,8 @@
-//! Proves for the types of this crate that a clone is the same value, and that `==` says whether
-//! two values are the same. It uses `atoi_core::derived`.
+//! Proves for each type of this crate that derives `Clone` that a clone is the same value. If the
+//! type holds no slice, the file also proves that `==` says whether two values are the same. For
+//! `CommandError`, it proves that `==` says whether both errors are `UnknownWord`, or both are
+//! `BadNumber` with causes of the same variant, numbers and bytes. The file uses
+//! `atoi_core::derived`.
 ghost use Rattle.std.specs.Prelude.{◌≡◌, ◌↔◌, IsTrue};
 ghost use Rattle.atoi_uses.specs.Commands.{cause_of};
 

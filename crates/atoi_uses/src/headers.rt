@@ -1,5 +1,6 @@
 //! A reader of the header `Content-Length` of HTTP. It uses `atoi_simd::parse_prefix_pos`, and two
-//! laws: that a slice begins with at most one number, and that a number begins with a digit.
+//! laws. One law says that at most one prefix of a slice writes a number and has no digit after it.
+//! The other says that bytes which write a number without a sign begin with a digit.
 ghost use Rattle.std.specs.Prelude.{◌≡◌, ℕ, IfSome, IfNone};
 ghost use Rattle.atoi_uses.specs.Headers.{IsContentLength, without_blanks};
 
@@ -9,8 +10,8 @@ use atoi_simd::parse_prefix_pos;
 /// Parses the value of a header `Content-Length`: the digits of a number of type `u64`, with any
 /// number of spaces and tabs before and after them.
 ///
-/// `content_length(b" 348 ")` is `Some(348)`. Returns `None` for every other value, such as `+1`,
-/// `1 2` and an empty one.
+/// `content_length(b" 348 ")` is `Some(348)`. Returns `None` for every value that is not of this
+/// form, such as `+1`, `1 2` and an empty one.
 pub fn content_length(value: &[u8]) -> Option<u64>
     ensures some { IfSome result (λ length. IsContentLength value.now length) }
     ensures none { IfNone result ((any : ℕ) → ¬ IsContentLength value.now any) }

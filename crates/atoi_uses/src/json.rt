@@ -1,6 +1,6 @@
-//! A reader of the integers of JSON.
-//! It uses `atoi_simd::parse_prefix`, whose contract says which prefix of a slice writes a number,
-//! and the law that there is at most one such prefix.
+//! A reader of the integers of JSON. It uses `atoi_simd::parse_prefix` and a law. The contract of
+//! `parse_prefix` says which prefix of a slice writes a number and has no digit after it. The law
+//! says that there is at most one such prefix.
 ghost use Rattle.std.specs.Prelude.{◌≡◌, ℕ, ℤ, List, IfSome, IfNone};
 ghost use Rattle.atoi_uses.specs.Json.{IsJsonInteger, leads_with_zero};
 
@@ -17,7 +17,8 @@ pub fn json_integer(text: &[u8]) -> Option<(i64, &[u8])>
     ensures none { IfNone result ((number : ℤ) (rest : List ℕ)
         → ¬ IsJsonInteger text.now number rest) }
 {
-    // The law that at most one prefix of a slice writes a number. The call does nothing.
+    // This law says that at most one prefix of a slice writes a number and has no digit after it.
+    // The call does nothing.
     prefixes_and_rests::<i64>();
     let Ok((number, count)) = parse_prefix::<i64, true, false>(text) else {
         return None;

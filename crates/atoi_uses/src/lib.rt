@@ -1,5 +1,5 @@
-//! Example callers of `atoi_simd` and `atoi_column`, which are proved with the public clauses and
-//! laws of these crates and of `atoi_core`, and nothing else.
+//! Example callers of `atoi_core`, `atoi_simd` and `atoi_column`. They are proved from the public
+//! clauses and laws of these crates, and from nothing else in them.
 #![tactic(auto)]
 
 mod addresses;

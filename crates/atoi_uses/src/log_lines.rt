@@ -1,5 +1,6 @@
-//! The sum of the numbers of a log line: those after its last space, with commas between them.
-//! It uses `totals`, which adds up a column, and a law of `atoi_column`.
+//! A function that adds up the numbers of a log line. These numbers follow the last space of the
+//! line, and have commas between them. The file uses `totals`, which adds up a column, and a law of
+//! `atoi_column`.
 ghost use Rattle.std.specs.Prelude.{◌≡◌, ◌+◌, ◌^◌, ◌<◌, IfOk, IfErr};
 ghost use Rattle.atoi_column.specs.Items.{flaw_of, index_of, place_of};
 ghost use Rattle.atoi_uses.specs.LogLines.{columns_of, HasTotal, Refuses};
@@ -13,15 +14,16 @@ use std::fmt;
 /// Why the numbers of a log line have no total of type `u64`.
 #[derive(Clone, Copy, Debug, PartialEq, Eq)]
 pub enum LogError {
-    /// A field is not a number of type `u64`. This is the first such field.
+    /// A field is not a number of type `u64`. The variant names the first such field.
     BadField {
         /// The index of the field, from 0.
         index: usize,
-        /// The offset of a byte in the line: of the field's first byte if no number can be read
-        /// there, otherwise of the byte after the number.
+        /// An offset in the line. If no number can be read at the field's first byte, this is the
+        /// offset of that byte. Otherwise it is the offset of the byte after the number.
         place: usize,
     },
-    /// Every field is a number, but their sum, which this holds, is larger than `u64::MAX`.
+    /// Every field is a number of type `u64`, but the sum of these numbers is larger than
+    /// `u64::MAX`. Holds the sum.
     TooLarge(u128),
 }
 
@@ -58,7 +60,7 @@ pub fn columns_total(line: &[u8]) -> Result<u64, LogError>
     ensures total { IfOk result (λ total. HasTotal line.now total) }
     ensures refused { IfErr result (λ error. Refuses line.now error) }
 {
-    // The law that says what the items of a column mean for its fields. The call does nothing.
+    // This law says what the items of a column mean for its fields. The call does nothing.
     items_decide::<u64>();
     let columns = columns(line);
     let start = line.len() - columns.len();
@@ -84,7 +86,7 @@ fn bad_field(start: usize, error: &ColumnError<'_>) -> LogError
     }
 }
 
-// Returns what follows the last space of `line`, or all of it if it has no space.
+// Returns what follows the last space of `line`, or all of `line` if it has no space.
 fn columns(line: &[u8]) -> &[u8]
     ensures { result.now ≡ columns_of line.now }
 {

@@ -1,7 +1,7 @@
-//! An engine of our own, for numbers in EBCDIC, as mainframes write them. An engine implements the
-//! reads of digits that the parses of `atoi_core` are made of.
-//! The file uses the traits `Alphabet` and `Engine` and the function `prefix_pos` of `atoi_core`, with
-//! the type `Cents`.
+//! An engine of our own, for numbers in EBCDIC, the character code of mainframes. An *engine* is an
+//! implementation of the reads that the parsers of `atoi_core` make. The file uses the traits
+//! `Alphabet` and `Engine` and the functions `front_of` and `prefix_pos` of `atoi_core`, and the
+//! type `Cents`.
 ghost use Rattle.std.specs.Prelude.{◌≡◌, ◌≤◌, true, false, IfOk, length};
 ghost use Rattle.std.proofs.Common.{arith};
 ghost use Rattle.std.proofs.lemmas.Bool.Decides.{nat_tests};
@@ -48,11 +48,12 @@ impl Engine for Ebcdic {
 /// Reads the amount in cents that `field` begins with. Returns it, and the length of its digits in
 /// bytes.
 ///
-/// `field` has digits in EBCDIC and no sign. It may begin with any number of zeros.
+/// The amount consists of EBCDIC digits without a sign, and may begin with any number of zeros.
 ///
 /// # Errors
 ///
-/// Returns the errors of `atoi_simd::parse_prefix_pos::<i64, true>`, with the digits of EBCDIC.
+/// Returns the errors that `atoi_simd::parse_prefix_pos::<i64, true>` would return if its digits
+/// were those of EBCDIC.
 pub fn amount(field: &[u8]) -> Result<(Cents, usize), AtoiSimdError<'_>>
     ensures answer { typed_prefix_answer (λ amount. amount.0) result
         ≡ prefix_answer ebcdic_table i64_type false true field.now }

@@ -1,4 +1,4 @@
-//! Calls and their results, which README.md and the pages CALLING.md show. It has only tests.
+//! Calls and their results, which README.md and the pages CALLING.md show. The file has only tests.
 
 #[cfg(test)]
 mod tests {

@@ -1,5 +1,5 @@
-//! A reader of settings, each a key of one byte, `=` and a number. It uses
-//! `atoi_simd::parse_prefix`, whose count says where the rest begins.
+//! A reader of settings. A setting is a key of one byte, then `=` and a number. The file uses
+//! `atoi_simd::parse_prefix`, which also returns a count that says where the rest begins.
 ghost use Rattle.std.specs.Prelude.{◌≡◌, ◌++◌, ℕ, List, ◌∷◌, true, IfOk, IfErr, IfSome, IfNone, IsErr, Ok, Err, take, drop, codes};
 ghost use Rattle.atoi_core.specs.Answer.{parse_prefix_answer};
 ghost use Rattle.atoi_core.specs.IntTypes.{i64_type};

@@ -12,9 +12,10 @@ use std::fmt;
 /// Why a column of signed numbers has no total of type `i64`.
 #[derive(Clone, Copy, Debug, PartialEq, Eq)]
 pub enum SignedTotalError<'a> {
-    /// A field is not a number of type `i64`. This is the first such field.
+    /// A field is not a number of type `i64`. Holds the error for the first such field.
     BadField(ColumnError<'a>),
-    /// Every field is a number, but their sum, which this holds, is out of the range of `i64`.
+    /// Every field is a number of type `i64`, but the sum of these numbers is out of the range of
+    /// `i64`. Holds the sum.
     OutOfRange(i128),
 }
 
@@ -31,8 +32,8 @@ pub fn signed_total(input: &[u8], separator: u8) -> Result<i64, SignedTotalError
     ensures total { IfOk result (λ total. HasTotal separator input.now total) }
     ensures refused { IfErr result (λ error. Refuses separator input.now error) }
 {
-    // The laws about reading items one after another, and about what they say of the fields. The
-    // calls do nothing.
+    // The first law is about reading items one after another. The second says what the items mean
+    // for the fields. The calls do nothing.
     items_in_turn();
     items_decide::<i64>();
     let mut total = 0i128;

@@ -1,4 +1,4 @@
-//! The text that an error prints, for tests. It uses only std.
+//! A function for tests that returns the text that an error prints. It uses only std.
 
 use std::alloc::{AllocError, Global};
 use std::error::Error;

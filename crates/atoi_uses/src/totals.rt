@@ -51,8 +51,8 @@ pub fn column_total(input: &[u8], separator: u8) -> Result<u128, ColumnError<'_>
     ensures inside { IfErr result (λ error. (place_of (flaw_of error) ≤ length input.now)
         × (index_of (flaw_of error) < length input.now)) }
 {
-    // Two laws: one about reading items one after another, and one about what the items say of the
-    // fields. The calls do nothing.
+    // The first law is about reading items one after another. The second says what the items mean
+    // for the fields. The calls do nothing.
     items_in_turn();
     items_decide::<u64>();
     let mut total = 0;

@@ -1,6 +1,6 @@
-//! A reader of versions.
-//! It uses `atoi_simd::parse_prefix_pos`, whose contract says which prefix of a slice writes a
-//! number, and the law that there is at most one such prefix.
+//! A reader of versions. It uses `atoi_simd::parse_prefix_pos` and a law. The contract of
+//! `parse_prefix_pos` says which prefix of a slice writes a number and has no digit after it. The
+//! law says that there is at most one such prefix.
 ghost use Rattle.std.specs.Prelude.{◌≡◌, ℕ, List, ◌∷◌, IfSome, IfNone};
 ghost use Rattle.atoi_uses.specs.Versions.{IsPart, IsVersion, dot};
 ghost use Rattle.atoi_uses.specs.declared.versions.Version.{Version as VersionValue};
@@ -48,7 +48,8 @@ fn part(text: &[u8]) -> Option<(u32, &[u8])>
         → IsPart text.now number rest → (number ≡ found.0) × (rest ≡ found.1.now)) }
     ensures none { IfNone result ((number : ℕ) (rest : List ℕ) → ¬ IsPart text.now number rest) }
 {
-    // The law that at most one prefix of a slice writes a number. The call does nothing.
+    // This law says that at most one prefix of a slice writes a number and has no digit after it.
+    // The call does nothing.
     prefixes_and_rests::<u32>();
     match parse_prefix_pos::<u32, true>(text) {
         Ok((number, count)) => Some((number, &text[count..])),

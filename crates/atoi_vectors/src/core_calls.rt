@@ -1,6 +1,6 @@
-//! Checks that each call over an engine returns what `plain_rules` says. An engine implements the
-//! reads of digits that the parses are made of. The file uses `plain_rules`, `answers` and the calls
-//! of `atoi_core`.
+//! Checks that each call over an engine returns what `plain_rules` says. An engine is an
+//! implementation that reads digits from a slice. The file uses `plain_rules`, `answers` and the
+//! calls of `atoi_core`.
 ghost use Rattle.std.specs.Prelude.{◌<◌};
 
 use crate::answers::gives;
@@ -13,8 +13,9 @@ use atoi_core::{
 use atoi_simd::lanes::Lanes;
 use std::process::Abort;
 
-/// Checks on one slice the windows of each of the three engines, the parses over each engine, and
-/// the digit loop. A window is what an engine reads from the first 8 or 16 bytes.
+/// Checks, on one slice, the windows of each of the three engines, the parses over each engine, and
+/// `narrow_whole`, which reads digit by digit. A window is what an engine reads from the first 8 or
+/// 16 bytes.
 pub(crate) fn check(rt: &impl Abort, text: &[u8]) {
     check_digit_loop(rt, text);
     check_decimal::<Plain>(rt, text);
@@ -22,7 +23,7 @@ pub(crate) fn check(rt: &impl Abort, text: &[u8]) {
     check_decimal::<Lanes>(rt, text);
 }
 
-/// Checks what `check` does, and the core calls of each type.
+/// Checks all that `check` checks, and the core calls of each type.
 pub(crate) fn check_all(rt: &impl Abort, text: &[u8]) {
     check(rt, text);
     check_types::<Plain>(rt, Body::of(text));

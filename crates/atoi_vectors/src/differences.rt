@@ -1,6 +1,7 @@
-//! Rows in the form of the tool, for which the Rust crate `atoi_simd` 0.18.1 and this port give
-//! different answers, with both answers: one list for each of the two rules that differ. It uses no
-//! other module. The README.md of this crate says how the answers of the original were made.
+//! Rows as the tool reads them, to which the original (the Rust crate `atoi_simd` 0.18.1) and this
+//! port give different answers, and both answers. There is one list of rows for each of the two
+//! rules that differ. This file uses no other module. The README.md of this crate says how the
+//! answers of the original were made.
 
 /// The first rule: `parse_prefix` counts a plus that it consumes. These are the rows, one on each
 /// line, that have SKIP_PLUS and a text that begins with a plus and digits, and whose call returns
@@ -39,7 +40,7 @@ w prefix i32 -p +12a
 w prefix u64 -p +000000000000000008!
 ";
 
-/// What the original answers to these rows: its count does not include the plus.
+/// What the original answers to `PLUS_ROWS`. Its count does not include the plus.
 pub const PLUS_ORIGINAL: &[u8] = b"\
 ok 8 18
 ok 8 18
@@ -74,7 +75,7 @@ ok 12 2
 ok 8 18
 ";
 
-/// What this port answers to them: the count is one more.
+/// What this port answers to `PLUS_ROWS`. Its count is one more than that of the original.
 pub const PLUS_ANSWERS: &[u8] = b"\
 ok 8 19
 ok 8 19
@@ -138,8 +139,8 @@ w prefix_pos u16 -- 0000000000000000000000000000000000000000x
 w prefix i16 -p +000000000000000008!
 ";
 
-/// What the original answers to these rows: it reads only the first 16 digits. If it returns `Ok`,
-/// its count ends between two digits; for four rows the 16 digits are out of range.
+/// What the original answers to `LONG_ROWS`. The original reads only the first 16 digits. If it
+/// returns `Ok`, its count ends between two digits; for four rows the 16 digits are out of range.
 pub const LONG_ORIGINAL: &[u8] = b"\
 ok 0 16
 ok 0 16
@@ -167,7 +168,7 @@ ok 0 16
 ok 0 16
 ";
 
-/// What this port answers to them: they are refused as too long.
+/// What this port answers to `LONG_ROWS`: the error `Size`, because the texts have too many digits.
 pub const LONG_ANSWERS: &[u8] = b"\
 err atoi_simd wrong size: 17 input: [30, 30, 30, 30, 30, 30, 30, 30, 30, 30, 30, 30, 30, 30, 30, 30, 30, 30, 30, 30, 30, 30, 30, 30, 30, 30, 30, 30, 30, 30, 30, 30, 30, 30, 30, 30, 30, 30, 30, 30, 78]
 err atoi_simd wrong size: 17 input: [30, 30, 30, 30, 30, 30, 30, 30, 30, 30, 30, 30, 30, 30, 30, 30, 30, 38, 21]

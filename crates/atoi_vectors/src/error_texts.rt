@@ -131,7 +131,7 @@ fn errors_of_long_texts(rt: HostRuntime) -> Result<(), AllocError> {
     Ok(())
 }
 
-// Returns what an error prints of which only the trait `Error` is known.
+// Returns what an error prints, for any type that implements the trait `Error`.
 fn printed<E: Error>(alloc: Global, error: &E) -> Result<String, AllocError> {
     format!(in alloc; "{error}")
 }

@@ -5,7 +5,8 @@ ghost use Rattle.std.specs.Prelude.{◌<◌, ◌≤◌};
 use crate::core_calls::check;
 use std::process::Abort;
 
-// Checks a slice of 41 bytes `fill`, with each byte in turn at the offset `place`.
+// Checks slices of 41 bytes, with each byte in turn at the offset `place` and with `fill` at all
+// others.
 fn check_place(rt: &impl Abort, fill: u8, place: usize)
     requires { place < 41 }
 {
@@ -30,8 +31,9 @@ fn among_ones(rt: HostRuntime) {
     }
 }
 
-// Checks `len` ones, then each byte from 0xFA on in turn, then eight nines. If a constant is added
-// to all bytes of a word at once, such a byte carries into the next one.
+// Checks slices of `len` ones, one byte and eight nines, for each value of that byte from 0xFA to
+// 0xFF. If a constant is added to all bytes of a word at once, such a byte carries into the next
+// one.
 fn check_carry(rt: &impl Abort, len: usize)
     requires { len ≤ 16 }
 {
@@ -50,7 +52,7 @@ fn before_nines(rt: HostRuntime) {
     }
 }
 
-// Checks a slice of `len` bytes `fill`.
+// Checks a slice of `len` bytes that are all `fill`.
 fn check_run(rt: &impl Abort, fill: u8, len: usize)
     requires { len ≤ 48 }
 {

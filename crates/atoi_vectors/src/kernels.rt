@@ -26,7 +26,7 @@ fn check_lanes(rt: &impl Abort, bytes: [u8; 16]) {
     gives(rt, sum_lanes(lanes, 0), 0);
 }
 
-// Checks 16 bytes `fill`, with each byte in turn at the offset `place`.
+// Checks 16 bytes, with each byte in turn at the offset `place` and with `fill` at all others.
 fn check_lanes_at(rt: &impl Abort, fill: u8, place: usize)
     requires { place < 16 }
 {
@@ -62,7 +62,7 @@ fn check_word(rt: &impl Abort, bytes: [u8; 8]) {
     }
 }
 
-// Checks 8 bytes `fill`, with each byte in turn at the offset `place`.
+// Checks 8 bytes, with each byte in turn at the offset `place` and with `fill` at all others.
 fn check_word_at(rt: &impl Abort, fill: u8, place: usize)
     requires { place < 8 }
 {
@@ -91,7 +91,7 @@ fn check_long_word(rt: &impl Abort, bytes: [u8; 16]) {
         len_zeroes_128(word) as usize,
         plain_rules::count_zeros(&bytes),
     );
-    // A kernel on lanes counts the digits here, because no kernel on words counts those of 16
+    // A kernel on lanes counts the digits here, because no kernel on words counts the digits of 16
     // bytes.
     let reported = len_lanes(u8x16::from_array(bytes));
     gives(rt, reported as usize, len);
@@ -100,7 +100,7 @@ fn check_long_word(rt: &impl Abort, bytes: [u8; 16]) {
     }
 }
 
-// Checks 16 bytes `fill`, with each byte in turn at the offset `place`.
+// Checks 16 bytes, with each byte in turn at the offset `place` and with `fill` at all others.
 fn check_long_word_at(rt: &impl Abort, fill: u8, place: usize)
     requires { place < 16 }
 {
@@ -119,7 +119,7 @@ fn every_byte_in_a_long_word(rt: HostRuntime) {
     }
 }
 
-// Returns the first `N` bytes of `text`. If there are fewer, bytes 0 follow them.
+// Returns the first `N` bytes of `text`. If `text` has fewer, zero bytes follow them.
 fn padded<const N: usize>(text: &[u8]) -> [u8; N] {
     let mut bytes = [0; N];
     for (byte, loaded) in text.iter().zip(&mut bytes) {

@@ -1,6 +1,6 @@
-//! Tests of the ten functions and of the calls that they make, for both forms of the library and for
-//! the three engines. They compare results with those of the Rust crate, and with the rules written
-//! once more in plain code. The crate has no contract of its own.
+//! Tests of the ten functions and of the calls that they make, for both forms of the library and
+//! for the three engines. They compare results with those of the Rust crate, and with the rules
+//! written once more in plain code. The crate has only tests.
 #![tactic(auto)]
 
 #[cfg(test)]

@@ -1,5 +1,6 @@
-//! Worked examples of `narrow_whole`, and, over each of the three engines, of the loops that the ten
-//! functions call. It uses `answers`, `atoi_core` and `Lanes`.
+//! Worked examples of `narrow_whole`, which reads digit by digit, and of the loops that the ten
+//! functions call, over each of the three engines. The file uses `answers`, `atoi_core` and
+//! `Lanes`.
 
 use crate::answers::{each_gives, gives};
 use atoi_core::AtoiSimdError::{self, Empty, Invalid64, Invalid128, Overflow, Size};
@@ -83,8 +84,8 @@ fn narrow_overflows<E: Engine>(rt: &impl Abort) {
     );
 }
 
-// Checks that a parse of the whole slice returns `expected`, over each engine and by the digit
-// loop.
+// Checks that a parse of the whole slice returns `expected`, over each engine and with
+// `narrow_whole`.
 fn check_narrow_whole(rt: &impl Abort, text: &[u8], expected: Result<u64, AtoiSimdError<'_>>) {
     let mut steps = Steps::new();
     let plain = narrow_whole_windows::<Plain>(GREATEST_U8, text, &mut steps);

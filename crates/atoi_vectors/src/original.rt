@@ -1,7 +1,7 @@
-//! Rows in the form of the tool, for which the Rust crate `atoi_simd` 0.18.1 and this port give the
-//! same answers, and these answers, which the Rust crate gave. It uses no other module. The rows
-//! with two different answers are in `differences`; the README.md of this crate says how all
-//! answers were made.
+//! Rows as the tool reads them, to which the original (the Rust crate `atoi_simd` 0.18.1) and this
+//! port give the same answers, and the answers that the original gave. This file uses no other
+//! module. The rows with two different answers are in `differences`; the README.md of this crate
+//! says how all answers were made.
 
 /// The rows, one on each line: `ENGINE CALL TYPE FLAGS TEXT`. All name the engine `w`. The answers
 /// of the engine `l` are the same, so each row serves both.

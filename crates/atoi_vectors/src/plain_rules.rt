@@ -40,8 +40,8 @@ pub(crate) fn window(size: usize, s: &[u8]) -> (usize, usize, Option<u128>) {
     (len, zeros, value_of(&prefix[..len]))
 }
 
-/// The size of a type, on which its rules depend: up to 32 bits; 64 bits, with the limit of
-/// significant digits, which are those after the skipped leading zeros; or 128 bits.
+/// The width of a type, on which its rules depend: up to 32 bits, 64 bits or 128 bits. `Wide64`
+/// holds the limit on significant digits, which are the digits after the skipped leading zeros.
 #[derive(Clone, Copy)]
 pub(crate) enum Class {
     Narrow,
@@ -78,9 +78,10 @@ impl<'a> Body<'a> {
         &self.bytes[zeros.min(self.bytes.len())..]
     }
 
-    // Returns how many zeros the slice of `Overflow` leaves out. For a narrow prefix with
-    // SKIP_ZEROES these are the leading zeros in whole blocks of 16 bytes, and the others too if
-    // the next block is full of digits.
+    // Returns how many zeros the slice of `Overflow` leaves out. Without SKIP_ZEROES there are
+    // none. With SKIP_ZEROES these are all leading zeros for 64 and 128 bits. For a narrow prefix
+    // they are the leading zeros in whole blocks of 16 bytes, and the others too if the next block
+    // is full of digits.
     fn dropped(self, class: Class, skip: bool) -> usize {
         match class {
             _ if !skip => 0,
@@ -123,8 +124,8 @@ impl<'a> Body<'a> {
         }
     }
 
-    /// Returns the answer of a whole parse for numbers up to `bound`. That of a narrow type always
-    /// skips leading zeros, and the slice of its `Overflow` keeps all of them.
+    /// Returns the answer of a whole parse for numbers up to `bound`. A whole parse for a narrow
+    /// type always skips leading zeros, but the slice of its `Overflow` keeps all of them.
     pub(crate) fn whole(
         self,
         class: Class,

@@ -1,13 +1,14 @@
-//! Checks that each call over each engine returns what the plain rules say, on the slices of the
-//! worked examples and on the texts of the original's rows. It uses `core_calls` and these rows.
+//! Checks that each call over each engine returns what the plain rules say, on slices of worked
+//! examples and on the texts of the rows with answers of the Rust crate. It uses `core_calls` and
+//! these rows.
 
 use crate::core_calls::check_all;
 use crate::differences::{LONG_ROWS, PLUS_ROWS};
 use crate::original::ROWS;
 use std::process::Abort;
 
-// The slices of the worked examples, without their signs, and those of the tests of windows: one on
-// each line.
+// Slices of worked examples, without their signs, and slices of the tests of windows, one on each
+// line.
 const WORKED: &[u8] = b"\
 000000000000000000001234
 1234

@@ -1,7 +1,7 @@
 //! Checks the largest value of each of the twelve types, the smallest of each signed type, and the
-//! number one past each of these: with each sign, after zeros, before another byte, as a whole and
-//! as a prefix, with and without SKIP_ZEROES. It uses `plain_rules`, `answers` and the public calls
-//! of `atoi_simd`.
+//! number one past each of these. Each is parsed with each sign, after zeros, before another byte,
+//! as a whole and as a prefix, with and without SKIP_ZEROES. The file uses `plain_rules`, `answers`
+//! and the public calls of `atoi_simd`.
 
 use crate::answers::both_give;
 use crate::plain_rules::{Body, Class};
@@ -39,8 +39,8 @@ fn text_of(
     Ok(text)
 }
 
-// Checks that `parse` and `parse_prefix` of both libraries follow the rules: they return `value` if
-// the digits are in range, and otherwise an error.
+// Checks that `parse` and `parse_prefix` of both libraries return what `plain_rules` says. That is
+// `value` (for a prefix with its length) or an error.
 fn check_text<T: atoi_simd::Parse + lanes::Parse + Copy + Debug + PartialEq>(
     rt: &impl Abort,
     end: End,

@@ -28,13 +28,14 @@ pub fn read(text: &str) -> Vec<Shape> {
         .collect()
 }
 
-/// The library of the timed columns: an export for each type.
+/// The Rattle source of the timed columns. It has an export for each type.
 pub fn rattle(shapes: &[Shape]) -> String {
     let exports: BTreeSet<String> = shapes.iter().map(Shape::export).collect();
     exports.into_iter().fold(String::from(HEAD), |text, export| text + &export)
 }
 
-/// The declarations of these exports, and the table `SHAPES` of all that is timed.
+/// The Rust source with the declarations of these exports, and with the table `SHAPES` of all that
+/// is timed.
 pub fn rust(shapes: &[Shape]) -> String {
     let names: BTreeSet<String> = shapes.iter().map(Shape::name).collect();
     let mut text = String::from("unsafe extern \"C\" {\n");
@@ -52,7 +53,8 @@ impl Shape {
         format!("column_{}", self.integer)
     }
 
-    // An export that returns the sum of the low bits of all values, or the number of an error.
+    // The source of an export that returns the sum of the low 64 bits of all values. For an error
+    // it returns the number that `standard::ERROR` also has.
     fn export(&self) -> String {
         let (name, integer, low) = (self.name(), &self.integer, low_bits(&self.integer));
         format!(

@@ -1,5 +1,6 @@
-//! The static libraries: a copy of the four crates, with the exports beside them, in a folder out
-//! of the repository, since the gate refuses a Rattle file that no crate of it owns.
+//! Builds the static libraries. The four crates are copied to a folder outside the repository, and
+//! the crates with the exports are put there too. They are not in the repository, because the merge
+//! gate refuses a Rattle file that belongs to no crate of the repository.
 
 use std::env;
 use std::ffi::OsStr;
@@ -30,8 +31,9 @@ pub fn repository() -> PathBuf {
 
 /// Builds three static libraries into `out` and has cargo link them: that of `diff/exports`, one
 /// whose text is `timed`, and one whose text is `summed`. They are separate so that LLVM inlines as
-/// much into the timed calls as it does for a caller of few of them. The first time it proves the
-/// libraries under them, unless `rt check` or `rt lib` has done so in the repository.
+/// much into the timed calls as it does for a caller that makes only a few of them. The first build
+/// also proves the crates that the three libraries use, unless `rt check` or `rt lib` has already
+/// proved them in the repository.
 pub fn build(repository: &Path, timed: &str, summed: &str, out: &Path) {
     let work = work_folder(repository);
     let crates = work.join("crates");
@@ -73,7 +75,8 @@ fn work_folder(repository: &Path) -> PathBuf {
     caches.join(format!("torkettle-diff{place}"))
 }
 
-// Copies a crate's files, and what earlier checks kept of it where there is such.
+// Copies a crate's files, and its folder `out` if there is one, in which earlier checks kept what
+// they proved.
 fn copy_crate(from: &Path, to: &Path) {
     println!("cargo::rerun-if-changed={}", from.join("src").display());
     fs::create_dir_all(to).expect("the folder of a crate is made");
@@ -85,7 +88,7 @@ fn copy_crate(from: &Path, to: &Path) {
     }
 }
 
-// The exports are kept as `NAME.rt.in`.
+// Copies the exports. The repository keeps them as `NAME.rt.in`; the copies are named `NAME.rt`.
 fn copy_exports(from: &Path, to: &Path) {
     println!("cargo::rerun-if-changed={}", from.display());
     for entry in fs::read_dir(from).expect("diff/exports is read") {
@@ -97,7 +100,7 @@ fn copy_exports(from: &Path, to: &Path) {
     }
 }
 
-// Runs a command to its end, and ends this build with what it printed where it fails.
+// Runs a command. If it fails, this build ends with a message that has what the command printed.
 fn run(command: &mut Command) {
     let ran = match command.output() {
         Ok(ran) => ran,

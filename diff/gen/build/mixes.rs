@@ -38,7 +38,8 @@ pub fn read(text: &str) -> Vec<Mix> {
         .collect()
 }
 
-/// The library of the timed calls: an export for each library, call, type and flags.
+/// The Rattle source of the timed calls. For each call, type and flags of a mix it has an export
+/// for `atoi_simd` and one for `lanes`.
 pub fn rattle(mixes: &[Mix]) -> String {
     let mut exports = BTreeSet::new();
     for mix in mixes {
@@ -48,7 +49,8 @@ pub fn rattle(mixes: &[Mix]) -> String {
     exports.into_iter().fold(String::from(HEAD), |text, export| text + &export)
 }
 
-/// The declarations of these exports, and the table `MIXES` of all that is timed.
+/// The Rust source with the declarations of these exports, and with the table `MIXES` of all that
+/// is timed.
 pub fn rust(mixes: &[Mix]) -> String {
     let mut names = BTreeSet::new();
     let mut rows = String::new();
@@ -75,7 +77,7 @@ impl Mix {
         format!("{library}_{}_{}_{flags}", self.call, self.integer)
     }
 
-    // The type and the flags, as the ten functions take them.
+    // The name of the public function, with its type and its flags in angle brackets.
     fn parameters(&self) -> String {
         let skip_zeroes = self.flags.starts_with('z');
         let skip_plus = self.flags.ends_with('p');
@@ -87,8 +89,8 @@ impl Mix {
         }
     }
 
-    // An export that answers the low bits of the value, with a prefix's count added to them, or
-    // the number of an error.
+    // The source of an export that returns the low 64 bits of the value, with the count added if it
+    // parses a prefix. For an error it returns the number that `standard::ERROR` also has.
     fn export(&self, library: &str, path: &str) -> String {
         let name = self.name(library);
         let parameters = self.parameters();
@@ -136,7 +138,7 @@ pub extern "C" fn {name}(text: &[u8; 96], length: usize) -> u64
     }
 }
 
-/// The low 64 bits of `value` in Rattle.
+/// The Rattle expression for the low 64 bits of `value`, whose type is `integer`.
 pub fn low_bits(integer: &str) -> &'static str {
     match integer {
         "u8" | "u16" | "u32" => "u64::from(value)",

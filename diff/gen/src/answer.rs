@@ -2,11 +2,11 @@
 
 use crate::question::{Library, Question};
 
-/// What a call answers. Each place is how many bytes of the text come before the error's slice,
-/// which is the rest of the text.
+/// What a call answers. `place` is the number of bytes of the text before the error's slice, and
+/// this slice is the rest of the text.
 #[derive(Clone, Copy, PartialEq, Eq, Debug)]
 pub enum Answer {
-    /// The value, and how many bytes a prefix is, which is 0 of a whole text.
+    /// The value, and how many bytes a prefix has. For a whole text `count` is 0.
     Value {
         negative: bool,
         magnitude: u128,
@@ -30,18 +30,19 @@ pub enum Answer {
         index: usize,
         place: usize,
     },
-    /// What no call should answer: no such call, or a slice that is not the rest of the text.
+    /// What no call should answer: there is no such call, or the error's slice is not the rest of
+    /// the text.
     Unlike(RawAnswer),
 }
 
 impl Answer {
-    /// A value as all calls answer it: zero is not negative.
+    /// Makes the answer for a value. Zero is not negative, even if `minus` is true.
     pub fn value(minus: bool, magnitude: u128, count: usize) -> Answer {
         Answer::Value { negative: minus && magnitude > 0, magnitude, count }
     }
 }
 
-/// An answer as `torkettle_answer` writes it: `Answer` of `diff/exports`.
+/// An answer as `torkettle_answer` writes it. The fields are those of `Answer` in `diff/exports`.
 #[repr(C)]
 #[derive(Clone, Copy, PartialEq, Eq, Debug, Default)]
 pub struct RawAnswer {
@@ -55,7 +56,7 @@ pub struct RawAnswer {
 }
 
 unsafe extern "C" {
-    // A slice of Rattle crosses as its first byte's address and its length.
+    // Rattle passes a slice as the address of its first byte and its length.
     fn torkettle_answer(
         on_lanes: bool,
         call: u32,
@@ -71,8 +72,8 @@ unsafe extern "C" {
 /// What a library answers to a question about a text.
 pub fn of_library(library: Library, question: &Question, text: &[u8]) -> Answer {
     let mut answer = RawAnswer::default();
-    // SAFETY: the address and the length are of one slice, which the call only reads, and the
-    // answer has the fields of the struct that it writes.
+    // SAFETY: the address and the length are of one slice, which the call only reads, and
+    // `RawAnswer` has the fields of the struct that the call writes.
     unsafe {
         torkettle_answer(
             library == Library::Lanes,

@@ -1,4 +1,5 @@
-//! The times as one picture: a bar for each side of each mix, as a part of what std takes.
+//! The times as one picture. For each mix it has a bar for each side; the bar's length shows the
+//! side's time divided by std's.
 
 use crate::times::Times;
 
@@ -42,7 +43,7 @@ pub fn chart(times: &[Times]) -> String {
     )
 }
 
-// The horizontal axis, from 0 to so many fifths of what std takes.
+// The horizontal axis. It goes from 0 to `fifths` fifths of the time that std takes.
 #[derive(Clone, Copy)]
 struct Scale {
     fifths: u32,
@@ -54,7 +55,7 @@ impl Scale {
     }
 }
 
-// The bars of one mix: the colour of each side, and its time as a part of std's.
+// Returns the bars of one mix: the colour of each side, and the side's time divided by std's.
 fn bars(times: &Times) -> Vec<(&'static str, f64)> {
     let mut bars = vec![(WORDS.1, times.words), (LANES.1, times.lanes)];
     bars.extend(times.original.map(|time| (ORIGINAL.1, time)));
@@ -74,7 +75,8 @@ fn legend(times: &[Times]) -> String {
     legend
 }
 
-// One heading with its mixes under it, from `top` on, and where it ends.
+// Returns one heading with its mixes under it, drawn from `top` on, and the height at which its
+// bars end.
 fn panel(heading: &str, rows: &[&Times], scale: Scale, top: f64) -> (String, f64) {
     let first = top + HEADING;
     let height = |times: &Times| bars(times).len() as f64 * BAR + GAP;

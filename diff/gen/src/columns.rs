@@ -1,4 +1,4 @@
-//! Times on columns: the sum of all fields of a text, by `atoi_column` and in other ways.
+//! Times for adding up all fields of a column, with `atoi_column` and in other ways.
 
 use crate::numbers::push_number;
 #[cfg(feature = "original")]
@@ -7,15 +7,16 @@ use crate::random::Random;
 use crate::standard;
 use std::time::Instant;
 
-// How many bytes a column has at least, and in how many rounds each side sums it.
+// The smallest number of bytes that a column has, and the number of rounds in which each side adds
+// it up.
 const BYTES: usize = 65_536;
 const ROUNDS: usize = 300;
 
 // How many other sides there are.
 const OTHERS: usize = if cfg!(feature = "original") { 4 } else { 2 };
 
-/// What a column is compared with, in the order of the table `SHAPES`. The last two are timed with
-/// the feature `original` only.
+/// The other ways to add up a column, in the order of the field `others` of `Shape`. The last two
+/// are timed only with the feature `original`.
 pub const NAMES: [&str; 4] = [
     "split and str::parse",
     "a byte loop that checks nothing",
@@ -24,11 +25,11 @@ pub const NAMES: [&str; 4] = [
 ];
 
 type Summed = fn(&[u8]) -> u64;
-// A slice of Rattle crosses as its first byte's address and its length.
+// Rattle passes a slice as the address of its first byte and its length.
 type Export = unsafe extern "C" fn(*const u8, usize) -> u64;
 
-/// A line of `diff/columns.txt`, with what is timed on it. Each side returns the sum of the values'
-/// low 64 bits.
+/// A line of `diff/columns.txt`, with the functions that are timed on it. Each of them returns the
+/// sum of the low 64 bits of all values, or `standard::ERROR` for an error.
 pub struct Shape {
     pub integer: &'static str,
     pub digits: &'static str,
@@ -48,7 +49,8 @@ pub struct ColumnTimes {
 }
 
 impl ColumnTimes {
-    // The best of all rounds; in each round all sides sum the text in turn.
+    // Returns the best times of all rounds. In each round all sides add up the text, one after
+    // another.
     fn of(shape: &'static Shape, random: &mut Random) -> ColumnTimes {
         let (text, fields) = fields_of(shape, random);
         let mut times = ColumnTimes {
@@ -69,8 +71,8 @@ impl ColumnTimes {
     }
 }
 
-// One round of one side: the sum that it returns. `best` becomes the round's nanoseconds a field,
-// if these are fewer.
+// Runs one round of one side, and returns its sum. If the round took fewer nanoseconds a field than
+// `best`, `best` becomes that number.
 fn round(text: &[u8], fields: usize, sum: impl Fn(&[u8]) -> u64, best: &mut f64) -> u64 {
     let from = Instant::now();
     let sum = sum(text);
@@ -78,7 +80,8 @@ fn round(text: &[u8], fields: usize, sum: impl Fn(&[u8]) -> u64, best: &mut f64)
     sum
 }
 
-// A column of this shape, with a comma after each field except the last, and the number of fields.
+// Returns a column of this shape, with a comma after each field except the last, and the number of
+// its fields.
 fn fields_of(shape: &Shape, random: &mut Random) -> (Vec<u8>, usize) {
     let has_sign = shape.integer.starts_with('i');
     let mut text = Vec::new();

@@ -1,5 +1,5 @@
-//! The comparison of both libraries with the plain rules, with `str::parse`, and with the Rust
-//! crate where the feature `original` is on.
+//! The comparison of both libraries with the rules, with `str::parse` and, if the feature
+//! `original` is on, with the Rust crate.
 
 use crate::answer::{Answer, of_library};
 #[cfg(feature = "original")]
@@ -9,7 +9,7 @@ use crate::random::Random;
 use crate::{rules, standard, texts};
 use std::time::{Duration, Instant};
 
-// How many differences are printed, of all that are counted.
+// The largest number of differences that are printed. All differences are counted.
 const PRINTED: u64 = 20;
 
 /// How many answers were compared with one side, and how many differed.
@@ -19,13 +19,14 @@ pub struct Count {
     pub differences: u64,
 }
 
-/// What a comparison came to.
+/// The result of a comparison.
 #[derive(Default)]
 pub struct Counts {
     pub rules: Count,
     pub standard: Count,
     pub original: Count,
-    /// How often the Rust crate differed in a way that docs/DIFFERENCES.md lists, each with a name.
+    /// The differences from the Rust crate that docs/DIFFERENCES.md lists: the name of each, and
+    /// how often it was found.
     pub named: Vec<(&'static str, u64)>,
     pub time: Duration,
 }
@@ -36,7 +37,7 @@ impl Counts {
         self.rules.compared + self.standard.compared + self.original.compared
     }
 
-    /// How many differed in a way that no document names.
+    /// How many answers differed in a way that docs/DIFFERENCES.md does not name.
     pub fn differences(&self) -> u64 {
         self.rules.differences + self.standard.differences + self.original.differences
     }
@@ -46,7 +47,8 @@ impl Counts {
         eprintln!("{percent:3} % {compared:>11} compared, {differences} differ");
     }
 
-    // Counts a comparison, and prints it where it differs.
+    // Counts a comparison. If the answers differ, counts the difference, and prints it if fewer
+    // than `PRINTED` were counted before.
     fn count(&mut self, side: fn(&mut Counts) -> &mut Count, differs: Option<Difference<'_>>) {
         let printed = self.differences();
         let count = side(self);
@@ -68,7 +70,7 @@ impl Counts {
     }
 }
 
-// Two answers that differ.
+// An answer of ours that differs from that of another side. For `str::parse`, `theirs` is `None`.
 struct Difference<'a> {
     question: &'a Question,
     library: Library,
@@ -90,7 +92,8 @@ impl Difference<'_> {
     }
 }
 
-/// Asks both libraries every question about so many texts of a seed.
+/// Asks both libraries every question about each of `texts` random texts, which depend only on
+/// `seed`.
 pub fn compare(seed: u64, texts: u64) -> Counts {
     let questions = Question::all();
     let mut random = Random::new(seed);

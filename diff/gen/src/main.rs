@@ -1,11 +1,12 @@
-//! Compares both libraries of this repository with the plain rules and with `str::parse`, and times
-//! them. With the feature `original`, the Rust crate `atoi_simd` too.
+//! Compares `atoi_simd` and its module `lanes` with the rules of docs/SPECIFICATION.md and with
+//! `str::parse`, and times them. With the feature `original`, it also compares them with the Rust
+//! crate `atoi_simd`, and times that crate too.
 //!
 //! `cargo run --release -- [--seed N] [--texts N] [--chart FILE] [--compare-only]`
 //!
-//! Each text is asked about at every call, type and flag. The status is 0, 1 where an answer
-//! differs in a way that docs/DIFFERENCES.md does not name, or 2 where an argument is none of these
-//! or the chart is not written.
+//! Each text is parsed by every call, with every type and every choice of flags. The status is 1 if
+//! an answer differs in a way that docs/DIFFERENCES.md does not name, 2 if the arguments are not of
+//! this form or the chart cannot be written, and 0 otherwise.
 
 mod answer;
 mod chart;
@@ -76,7 +77,7 @@ fn main() -> ExitCode {
     }
 }
 
-// Whether there is no difference without a name.
+// Returns whether docs/DIFFERENCES.md names every difference that was found.
 fn run(arguments: &Arguments) -> Result<bool, String> {
     println!("seed {}, {} texts", arguments.seed, arguments.texts);
     let counts = compare::compare(arguments.seed, arguments.texts);
@@ -131,7 +132,8 @@ fn print_counts(counts: &Counts) {
     }
 }
 
-// Each column's time, and its ratio to that of each other side, whose times follow in brackets.
+// Prints our time for each column, and for each other side our time divided by theirs, with their
+// time in brackets. Then prints the smallest, the largest and the mean ratio for each other side.
 fn print_columns(times: &[ColumnTimes]) {
     println!("columns, ours built for {}; nanoseconds a field", env!("DIFF_CPU"));
     for row in times {
@@ -174,7 +176,7 @@ fn print_times(times: &[Times]) {
     }
 }
 
-// The geometric means of the ratios, and the worst.
+// Prints the geometric means of the ratios, and the worst ratios.
 fn print_means(times: &[Times], is_whole: bool) {
     let rows = times.iter().filter(|row| row.mix.is_whole() == is_whole);
     let form = if is_whole { "whole texts beside str::parse" } else { "prefixes beside std" };

@@ -1,9 +1,9 @@
-//! Random numbers as texts, with as many digits as a line of a table says.
+//! Random numbers as texts. A line of a table says how many digits they have.
 
 use crate::random::Random;
 
-/// Appends a number. With `has_sign` it is negative every other time. `digits` says how many digits
-/// it has, as `diff/mixes.txt` describes.
+/// Appends a number. If `has_sign`, it is negative with probability one half. `digits` says how
+/// many digits the number has, as `diff/mixes.txt` describes.
 pub fn push_number(random: &mut Random, digits: &str, has_sign: bool, text: &mut Vec<u8>) {
     if has_sign && random.one_in(2) {
         text.push(b'-');

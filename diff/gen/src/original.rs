@@ -9,8 +9,8 @@ use crate::rules;
 use crate::standard::{Bits, ERROR, sum_of};
 use atoi_simd::{AtoiSimdError, Parse, ParseNeg};
 
-/// Whether the crate is built without the vector instructions that it would choose: then it answers
-/// as its portable configuration does.
+/// Whether the crate is in its portable configuration. This is so if the build has none of the
+/// vector instructions that the crate would use.
 pub const IS_PORTABLE: bool = !cfg!(any(
     target_feature = "sse3",
     target_feature = "ssse3",
@@ -41,7 +41,8 @@ pub fn beside(question: &Question, text: &[u8], ours: &Answer, theirs: &Answer) 
     }
 }
 
-// What the crate should answer: the rules but for two, with the name of the one that applies.
+// Returns what the crate should answer, and the name of the difference that applies if our answer
+// is different. The crate follows the rules, except for the two differences that show here.
 fn expected(question: &Question, text: &[u8]) -> (Answer, &'static str) {
     let is_prefix = question.call.is_prefix();
     let (_, taken, body) = question.take_sign(text);
@@ -132,7 +133,8 @@ fn of_whole<T: Bits>(parsed: Result<T, AtoiSimdError<'_>>, text: &[u8]) -> Answe
 }
 
 fn of_prefix<T: Bits>(parsed: Result<(T, usize), AtoiSimdError<'_>>, text: &[u8]) -> Answer {
-    // The place of an error's slice, by its address, where it is the rest of the text.
+    // Compares addresses. Returns how many bytes of the text come before an error's slice, or
+    // `None` if the slice is not the rest of the text.
     let place = |slice: &[u8]| {
         let place = text.len().checked_sub(slice.len())?;
         (text[place..].as_ptr() == slice.as_ptr()).then_some(place)
@@ -158,22 +160,23 @@ fn of_prefix<T: Bits>(parsed: Result<(T, usize), AtoiSimdError<'_>>, text: &[u8]
     answer.unwrap_or(Answer::Unlike(RawAnswer::default()))
 }
 
-/// A whole parse of the crate, as the timed exports answer it.
+/// Turns the result of a whole parse of the crate into what a timed export returns.
 pub fn whole<T: Bits>(parsed: Result<T, AtoiSimdError<'_>>) -> u64 {
     parsed.map_or(ERROR, Bits::low_bits)
 }
 
-/// A prefix of the crate, as the timed exports answer it.
+/// Turns the result of a prefix parse of the crate into what a timed export returns.
 pub fn prefix<T: Bits>(parsed: Result<(T, usize), AtoiSimdError<'_>>) -> u64 {
     parsed.map_or(ERROR, |(value, count)| value.low_bits().wrapping_add(count as u64))
 }
 
-/// The sum of a column's fields, which commas separate, by `split` and the crate's `parse`.
+/// Adds up the fields of a column, which commas separate, with `split` and the crate's `parse`.
 pub fn split<T: Parse + Bits>(text: &[u8]) -> u64 {
     sum_of(text.split(|byte| *byte == b','), |field| atoi_simd::parse::<T, true, true>(field).ok())
 }
 
-/// The sum of a column's fields, which commas separate, by a loop of the crate's `parse_prefix`.
+/// Adds up the fields of a column, which commas separate, with a loop that calls the crate's
+/// `parse_prefix`.
 pub fn prefixes<T: Parse + Bits>(mut text: &[u8]) -> u64 {
     let mut sum = 0_u64;
     while let Ok((value, count)) = atoi_simd::parse_prefix::<T, true, true>(text) {

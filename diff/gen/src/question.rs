@@ -12,7 +12,7 @@ pub enum Library {
     Lanes,
 }
 
-/// One of the ten functions, in the order of the numbers that `ask` knows them by.
+/// One of the ten functions. Their order is that of their numbers in `diff/exports/ask.rt.in`.
 #[derive(Clone, Copy, PartialEq, Eq)]
 pub enum Call {
     Parse,
@@ -27,7 +27,7 @@ pub enum Call {
     AnyNeg,
 }
 
-/// How a call comes by the sign of its number.
+/// Where a call gets the sign of its number from.
 #[derive(Clone, Copy, PartialEq, Eq)]
 pub enum Sign {
     /// It is taken from the text.
@@ -67,7 +67,7 @@ impl Call {
         }
     }
 
-    /// How it comes by the sign.
+    /// Returns where the call gets the sign of its number from.
     pub fn sign(self) -> Sign {
         match self {
             Call::Parse | Call::Prefix | Call::Skipped | Call::Any => Sign::Taken,
@@ -76,12 +76,14 @@ impl Call {
         }
     }
 
-    /// Whether it reads only the front of the text, and returns how many bytes that is.
+    /// Says whether the call parses only a prefix of the text. Such a call also returns the length
+    /// of that prefix.
     pub fn is_prefix(self) -> bool {
         !matches!(self, Call::Parse | Call::Pos | Call::Neg | Call::Skipped)
     }
 
-    // The flags that it has, or those that an old name fixes: SKIP_ZEROES, then SKIP_PLUS.
+    // Returns each choice of flags that the call has, as SKIP_ZEROES and SKIP_PLUS. A flag that the
+    // call does not have is off. The name of a deprecated function fixes both flags.
     fn flags(self) -> &'static [(bool, bool)] {
         match self {
             Call::Parse | Call::Prefix => {
@@ -94,7 +96,7 @@ impl Call {
     }
 }
 
-/// One of the twelve types, in the order of the numbers that `ask` knows them by.
+/// One of the twelve types. Their order is that of their numbers in `diff/exports/ask.rt.in`.
 #[derive(Clone, Copy, PartialEq, Eq)]
 pub enum Integer {
     U8,
@@ -111,7 +113,7 @@ pub enum Integer {
     Isize,
 }
 
-// The expression at the Rust type of an `Integer`, which it calls by the given name.
+// Evaluates an expression in which the given name is the Rust type of an `Integer`.
 macro_rules! at_type {
     ($integer:expr, $name:ident => $body:expr) => {
         match $integer {
@@ -199,7 +201,8 @@ impl Integer {
         at_type!(self, T => T::MIN != 0)
     }
 
-    /// The magnitude of its least number, or its greatest number.
+    /// Returns the magnitude of the type's smallest value if `minus`, and otherwise its largest
+    /// value. If `minus`, the type must be signed.
     pub fn bound(self, minus: bool) -> u128 {
         let (_, greatest) = at_type!(self, T => T::MAX.parts());
         if minus { greatest + 1 } else { greatest }
@@ -233,8 +236,8 @@ impl Question {
         all
     }
 
-    /// Whether the number has a minus, how many bytes of the text are the sign, and the body after
-    /// it.
+    /// Returns whether the number has a minus, how many bytes of the text are its sign, and the
+    /// body, which is the rest of the text.
     pub fn take_sign<'a>(&self, text: &'a [u8]) -> (bool, usize, &'a [u8]) {
         match (self.call.sign(), text) {
             (Sign::Taken, [b'+', body @ ..]) if self.skip_plus => (false, 1, body),

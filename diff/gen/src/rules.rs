@@ -35,14 +35,15 @@ pub fn answer(question: &Question, text: &[u8]) -> Answer {
     }
 }
 
-// The number that digits write, where 128 bits can hold it.
+// Returns the number that digits write, or `None` if it does not fit in 128 bits.
 fn number(digits: &[u8]) -> Option<u128> {
     digits.iter().try_fold(0_u128, |number, &digit| {
         number.checked_mul(10)?.checked_add(u128::from(digit - b'0'))
     })
 }
 
-// How many digits may count, where there is a limit, and how many at most `Size` reports.
+// Returns how many significant digits a number may have, and the largest number of them that `Size`
+// reports. Returns `None` if there is no limit.
 fn limits(question: &Question) -> Option<(usize, usize)> {
     match (question.integer.bits(), question.integer.is_signed()) {
         (128, _) => Some((39, 40)),
@@ -53,8 +54,9 @@ fn limits(question: &Question) -> Option<(usize, usize)> {
     }
 }
 
-// How many zeros the slice of a narrow overflow leaves out: those in whole blocks of 16 bytes, and
-// all where the block in which they end is full of digits.
+// Returns how many zeros the slice in `Overflow` leaves out, for a type of up to 32 bits. For a
+// prefix with SKIP_ZEROES these are the leading zeros in whole blocks of 16 bytes, or all leading
+// zeros if the block in which they end is full of digits. For other calls there are none.
 fn dropped(question: &Question, digits: usize, zeros: usize) -> usize {
     if !question.call.is_prefix() || !question.skip_zeroes {
         0

@@ -4,15 +4,17 @@ use crate::answer::Answer;
 use crate::question::{Integer, Question, Sign, at_type};
 use std::str::FromStr;
 
-/// The sign and the magnitude of what `str::parse` makes of a text at a type, where it does.
+/// Returns the sign and the magnitude of the value that `str::parse` reads from a text as a type,
+/// or `None` if it returns an error or the text is not UTF-8.
 pub fn parse(integer: Integer, text: &[u8]) -> Option<(bool, u128)> {
     let text = str::from_utf8(text).ok()?;
     at_type!(integer, T => text.parse::<T>().ok().map(|value| value.parts()))
 }
 
-/// Whether an answer agrees with `str::parse`: a value is the one that std reads from the same
-/// bytes, and a whole parse that skips zeros and plus refuses what std refuses and nothing else.
-/// Of what the other calls refuse std says nothing. `signed` is the text after a minus.
+/// Says whether an answer agrees with `str::parse`. A value must be the one that std reads from the
+/// same bytes. If a whole parse that skips zeros and a plus returns an error, std must refuse the
+/// same text. Std says nothing about the errors of other calls, so for these the function returns
+/// `None`. `signed` is a minus and then the text.
 pub fn agrees(question: &Question, answer: &Answer, text: &[u8], signed: &[u8]) -> Option<bool> {
     let before = usize::from(question.call.sign() == Sign::Minus);
     let text = if before == 1 { signed } else { text };
@@ -30,12 +32,15 @@ pub fn agrees(question: &Question, answer: &Answer, text: &[u8], signed: &[u8]) 
     }
 }
 
-/// Whole texts by `str::parse`, as the timed exports answer them.
+/// Parses a whole text with `str::parse`, and returns what a timed export returns: the low 64 bits
+/// of the value, or `ERROR`.
 pub fn whole<T: FromStr + Bits>(text: &[u8; 96], length: usize) -> u64 {
     parsed::<T>(&text[..length]).map_or(ERROR, Bits::low_bits)
 }
 
-/// The number at the front of a text: its end is looked for, and `str::parse` reads up to there.
+/// Parses the number at the start of a text: finds where its digits end, and lets `str::parse` read
+/// up to there. Returns what a timed export returns: the low 64 bits of the value plus the count,
+/// or `ERROR`.
 pub fn prefix<T: FromStr + Bits>(text: &[u8; 96], length: usize) -> u64 {
     let text = &text[..length];
     let sign = usize::from(text.starts_with(b"-"));
@@ -44,12 +49,13 @@ pub fn prefix<T: FromStr + Bits>(text: &[u8; 96], length: usize) -> u64 {
     parsed::<T>(&text[..count]).map_or(ERROR, |value| value.low_bits().wrapping_add(count as u64))
 }
 
-/// The sum of a column's fields, which commas separate, by `split` and `str::parse`.
+/// Adds up the fields of a column, which commas separate, with `split` and `str::parse`.
 pub fn split<T: FromStr + Bits>(text: &[u8]) -> u64 {
     sum_of(text.split(|byte| *byte == b','), parsed::<T>)
 }
 
-/// The sum of the values of all fields, as the timed columns return it.
+/// Returns the sum of the low 64 bits of the values of all fields, or `ERROR` if a field has no
+/// value, as the timed columns do.
 pub fn sum_of<'a, T: Bits>(
     mut fields: impl Iterator<Item = &'a [u8]>,
     parsed: impl Fn(&[u8]) -> Option<T>,
@@ -58,8 +64,9 @@ pub fn sum_of<'a, T: Bits>(
     fields.try_fold(0, added).unwrap_or(ERROR)
 }
 
-/// The sum of a column's fields by a loop over its bytes that checks nothing: it takes each byte
-/// that is no comma for a digit, or for a sign if it is a minus, and values may be out of range.
+/// Adds up the fields of a column with a loop over its bytes that checks nothing. If `SIGNED`, the
+/// loop reads a minus as a sign. It reads every other byte except a comma as a digit, and values
+/// may be out of range.
 pub fn unchecked<T: Bits, const SIGNED: bool>(text: &[u8]) -> u64 {
     let low_bits = |magnitude: u64, minus: bool| {
         let value = if minus { magnitude.wrapping_neg() } else { magnitude };
@@ -82,20 +89,21 @@ pub fn unchecked<T: Bits, const SIGNED: bool>(text: &[u8]) -> u64 {
     sum.wrapping_add(low_bits(magnitude, minus))
 }
 
-/// What a timed export answers of an error.
+/// What a timed export returns for an error.
 pub const ERROR: u64 = 0x8000_0000_0000_0001;
 
 fn parsed<T: FromStr>(text: &[u8]) -> Option<T> {
-    // SAFETY: the texts that are timed are ASCII. So the time of a test for UTF-8 is left out.
+    // SAFETY: the texts that are timed are ASCII. They are not checked for UTF-8, because the time
+    // of that check would be measured too.
     unsafe { str::from_utf8_unchecked(text) }.parse().ok()
 }
 
-/// A value as numbers that are alike for all types.
+/// An integer type whose values can be turned into numbers of fixed types.
 pub trait Bits: Copy {
-    /// Whether it is below zero, and its magnitude.
+    /// Returns whether the value is below zero, and its magnitude.
     fn parts(self) -> (bool, u128);
 
-    /// Its low 64 bits.
+    /// Returns the low 64 bits of the value. If the type has fewer bits, the others are 0.
     fn low_bits(self) -> u64;
 }
 

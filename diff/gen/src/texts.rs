@@ -1,28 +1,31 @@
-//! Texts round every boundary: the ends of the types, the lengths at which a window, a block or a
-//! limit ends, zeros, signs, what follows the digits, and bytes that are almost digits.
+//! Random texts near every boundary: the largest and the smallest values of the types, the lengths
+//! at which a window, a block of 16 bytes or the limit on digits ends, leading zeros, signs, bytes
+//! after the digits, and bytes that are almost digits.
 
 use crate::random::Random;
 
 const SIGNS: [&[u8]; 9] = [b"-", b"-", b"-", b"+", b"+", b"+-", b"-+", b"--", b"++"];
 
-// Numbers of digits, and of zeros, at which something ends, with their neighbours.
+// The lengths of runs of digits, or of zeros, at which a window, a block or a limit ends, and the
+// neighbours of these lengths.
 const LENGTHS: [usize; 34] = [
     1, 2, 3, 4, 5, 6, 7, 8, 9, 10, 11, 12, 14, 15, 16, 17, 18, 19, 20, 21, 23, 24, 25, 31, 32, 33,
     37, 38, 39, 40, 41, 48, 49, 64,
 ];
 
-// How many bits the greatest number of a type has, all of them set: of the unsigned types those of
-// the type, of the signed ones one less.
+// How many bits the largest value of a type has. This is the width of the type if it is unsigned,
+// and one less if it is signed. All these bits are 1.
 const GREATEST_BITS: [u32; 10] = [7, 8, 15, 16, 31, 32, 63, 64, 127, 128];
 
-// The neighbours of the digits and of the signs, bytes a bit away from a digit, bytes that carry
-// into the next where 6 or 0x46 is added, separators, and the ends of the ASCII and UTF-8 ranges.
+// The neighbours of the digits and of the signs, bytes that differ from a digit in one bit, bytes
+// that carry into the next byte if 6 or 0x46 is added, separators, and the ends of the ASCII and
+// UTF-8 ranges.
 const SUFFIXES: [u8; 28] = [
     b'/', b':', b';', b'.', b',', b' ', b'-', b'+', b'*', b'e', b'x', b'\n', b'\r', 0, 0x10, 0x70,
     0x7F, 0x80, 0xB0, 0xB9, 0xBF, 0xC0, 0xEF, 0xF0, 0xF9, 0xFA, 0xFE, 0xFF,
 ];
 
-/// Appends the next text to `text`, which may hold other bytes before it.
+/// Appends the next text to `text`, and keeps the bytes that `text` already has.
 pub fn push_text(random: &mut Random, text: &mut Vec<u8>) {
     let start = text.len();
     if random.one_in(2) {
@@ -67,7 +70,8 @@ fn push_digits(random: &mut Random, text: &mut Vec<u8>) {
     }
 }
 
-// A number's digits, or those of a near one, or with a digit more, less or changed.
+// Appends the digits of `number` or of a number near it, or these digits with one added, removed or
+// changed.
 fn push_number(random: &mut Random, text: &mut Vec<u8>, number: u128) {
     let mut digits = number.to_string().into_bytes();
     match random.below(8) {
@@ -84,7 +88,7 @@ fn push_number(random: &mut Random, text: &mut Vec<u8>, number: u128) {
     text.extend_from_slice(&digits);
 }
 
-// The number one above, whatever its length.
+// Adds one to the number that the digits spell, whatever its length.
 fn step_up(digits: &mut Vec<u8>) {
     match digits.iter().rposition(|&digit| digit != b'9') {
         Some(place) => {

@@ -1,5 +1,5 @@
-//! Times on mixes of lengths: in most of them the length changes from one call to the next, as it does
-//! for users.
+//! Times on mixes of lengths: in most of them the length changes from one call to the next, as it
+//! does for users.
 
 use crate::numbers::push_number;
 #[cfg(feature = "original")]
@@ -8,8 +8,9 @@ use crate::random::Random;
 use crate::standard;
 use std::time::Instant;
 
-// How many numbers a mix has, how many bytes each has room for, how many rounds each side reads
-// them all in, and how often these rounds are run, all mixes in turn.
+// A mix has `ROWS` numbers, each in an array of `ROOM` bytes. All mixes are timed one after
+// another, and this is done `PASSES` times. Each time there are `ROUNDS` rounds for each mix, and
+// in each round each side reads all numbers of the mix.
 const ROWS: usize = 4096;
 const ROOM: usize = 96;
 const ROUNDS: usize = 200;
@@ -18,8 +19,9 @@ const PASSES: usize = 5;
 type Timed = fn(&[u8; ROOM], usize) -> u64;
 type Export = unsafe extern "C" fn(&[u8; ROOM], usize) -> u64;
 
-/// A line of `diff/mixes.txt`, with what is timed on it. Each answers the low 64 bits of the value,
-/// with a prefix's count added to them.
+/// A line of `diff/mixes.txt`, with the functions that are timed on it. Each of them returns the
+/// low 64 bits of the value, and adds the count if it parses a prefix. For an error it returns
+/// `standard::ERROR`.
 pub struct Mix {
     pub call: &'static str,
     pub integer: &'static str,
@@ -35,7 +37,7 @@ pub struct Mix {
 include!(concat!(env!("OUT_DIR"), "/mixes.rs"));
 
 impl Mix {
-    /// Whether whole texts are read, and not the numbers at their front.
+    /// Says whether whole texts are parsed, and not only the numbers at their start.
     pub fn is_whole(&self) -> bool {
         self.call == "parse"
     }
@@ -48,7 +50,7 @@ pub struct Times {
     pub lanes: f64,
     pub standard: f64,
     pub original: Option<f64>,
-    /// Whether all sides answered alike.
+    /// Whether in each round the answers of all sides had the same sum.
     pub is_alike: bool,
 }
 
@@ -79,7 +81,7 @@ impl Times {
     }
 }
 
-// What a round of one side came to.
+// The result of a round of one side.
 struct Round {
     // Nanoseconds a call.
     time: f64,
@@ -91,8 +93,8 @@ struct Round {
 struct Rows(Vec<([u8; ROOM], usize)>);
 
 impl Rows {
-    // Numbers of a signed type are negative every other time. A prefix is followed by a comma and
-    // sixteen digits.
+    // About half of the numbers of a signed type are negative, except for `prefix_pos`. If the call
+    // parses a prefix, a comma and sixteen digits follow the number.
     fn new(mix: &Mix, random: &mut Random) -> Rows {
         let has_minus = mix.integer.starts_with('i') && mix.call != "prefix_pos";
         let row = |_| {
@@ -130,7 +132,7 @@ pub fn time(seed: u64) -> Vec<Times> {
     times
 }
 
-/// The geometric mean of ratios, and the greatest.
+/// Returns the geometric mean of ratios, and the largest of them.
 pub fn mean_and_worst(ratios: impl Iterator<Item = f64> + Clone) -> (f64, f64) {
     let mean = ratios.clone().map(f64::ln).sum::<f64>() / ratios.clone().count() as f64;
     (mean.exp(), ratios.fold(0.0, f64::max))

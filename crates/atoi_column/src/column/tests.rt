@@ -11,7 +11,8 @@ use std::alloc::{AllocError, Global};
 use std::error::Error;
 use std::test::Fail;
 
-// The item for a field that begins at the offset `place` and does not begin with a digit.
+// The item for a field that begins at the offset `place`, and begins with neither a digit nor a
+// sign.
 fn empty<'a>(index: usize, place: usize) -> Result<u8, ColumnError<'a>> {
     let cause = AtoiSimdError::Empty;
     Err(ColumnError::Field {

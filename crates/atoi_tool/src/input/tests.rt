@@ -57,14 +57,14 @@ fn reports_a_refused_read(rt: HostRuntime) {
     gives(&rt, status(&Err(ToolError::Read)), 4);
 }
 
-// Returns a source of `input` that gives `PART` bytes a call.
+// Returns a source of `input` that gives at most `PART` bytes in each call.
 fn parts_of(input: &[u8]) -> FromReader<FailingReader<'_>> {
     FromReader::new(FailingReader::new(input, PART))
 }
 
-// Five parts need four requests for memory: for 1, 2, 4 and 8 parts, each while the memory of the
-// one before is still held. Each heap in the list below refuses one of the four requests, and no
-// request follows that one.
+// Five parts need four requests for memory: for 1, 2, 4 and 8 parts. Each request is made while the
+// memory of the previous request is still held. Each heap in the list below refuses one of the four
+// requests, and no other request follows the refused one.
 #[test]
 fn reports_each_refused_request_for_memory(rt: HostRuntime) -> Result<(), Fail> {
     let input = vec![in rt.alloc(); b'7'; 5 * PART]?;

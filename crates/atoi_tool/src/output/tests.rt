@@ -1,6 +1,6 @@
-//! Tests of the answers to whole inputs, and of writers that fail.
-//! The expected answers come from the crate `atoi_simd` 0.18.1 of Rust and from its documentation,
-//! except for a plus that a prefix counts and for narrow prefixes of more than 16 digits.
+//! Tests of the answers to whole inputs, and of writers that fail. The expected answers to good
+//! rows come from the Rust crate `atoi_simd` 0.18.1 and from its documentation. The exceptions are
+//! prefixes that count a plus, and prefixes of more than 16 digits for types of up to 32 bits.
 
 use super::answer_lines;
 use crate::answers::gives;
@@ -33,8 +33,8 @@ fn on_lanes(alloc: Global, rows: &[u8]) -> Result<Vec<u8>, AllocError> {
     Ok(lanes)
 }
 
-// Good rows, and then their answers. After the fourth space any byte except a newline belongs to
-// the text, also a space.
+// Good rows, and then their answers. After the fourth space of a row, every byte up to the newline
+// belongs to the text, even a space.
 const GOOD_ROWS: &[u8] = b"\
 w neg i8 -- 0
 w pos i8 -- 128
@@ -91,10 +91,10 @@ err atoi_simd string is empty
 err atoi_simd wrong size: 17 input: [30, 30, 30, 30, 30, 30, 30, 30, 30, 30, 30, 30, 30, 30, 30, 30, 37]
 ";
 
-// A sample of the rows to which the original, the Rust crate `atoi_simd` 0.18.1, and this port have
-// the same answers, and then these answers. With the two samples below it has each call with each of
-// its types, flags and errors. The crate `atoi_vectors` has all 720 rows, and runs them without the
-// tool.
+// A sample of the rows to which the original (the Rust crate `atoi_simd` 0.18.1) and this port give
+// the same answers, and then these answers. This sample and the two samples below together have
+// each call with each of its types, and with each choice of its flags. The crate `atoi_vectors` has
+// all 720 rows, and runs them without the tool.
 const ORIGINAL_ROWS: &[u8] = b"\
 w pos u8 z- 25:
 w prefix_pos i64 -- 9223372036854775808,
@@ -221,8 +221,9 @@ ok 12 3
 ok 12 3
 ";
 
-// A sample of the prefixes of more than 16 digits, of types of up to 32 bits, without skipping of
-// zeros, and then our answers. The original parses the first 16 digits.
+// A sample of the rows whose call is for a prefix, whose type has at most 32 bits, whose flag for
+// zeros is off and whose text has more than 16 digits; and then our answers. The original parses
+// only the first 16 digits.
 const LONG_ROWS: &[u8] = b"\
 w prefix_pos i16 -- 00000000000000007
 w prefix_neg i8 -- 00000000000000001\x20
@@ -272,8 +273,8 @@ fn long_row(alloc: Global, start: &[u8], end: &[u8]) -> Result<Vec<u8>, AllocErr
     Ok(row)
 }
 
-// Returns `start`, which ends with the first zero that an error shows, the 47 further zeros that it
-// shows, and the end of the line.
+// Returns a line with an error that shows 48 zeros. `start` is the line up to and including the
+// first of these zeros. The function appends the other 47 zeros and the end of the line.
 fn zeros_shown(alloc: Global, start: &[u8]) -> Result<Vec<u8>, AllocError> {
     let mut shown = start.to_vec(alloc)?;
     for _ in 1..48 {
@@ -300,7 +301,8 @@ fn answers_long_rows(rt: HostRuntime) -> Result<(), Fail> {
     Ok(())
 }
 
-// An answer to a row about one number is longer only if its index has more digits.
+// No answer to a row about one number is longer than the one in this test, unless it has an index
+// with more digits.
 #[test]
 fn answers_the_longest_line(rt: HostRuntime) -> Result<(), Fail> {
     let greatest = b"340282366920938463463374607431768211455x";

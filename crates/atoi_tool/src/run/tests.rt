@@ -22,7 +22,7 @@ fn ended(outcome: Result<bool, ToolError>) -> Ended<(), ()> {
 }
 
 // Asserts that the program ends with the status `number`, and that one call prints `line` to
-// standard error, or none if `line` is empty.
+// standard error. If `line` is empty, there must be no such call.
 fn check_end<I, O>(rt: &impl Abort, alloc: Global, ended: Ended<I, O>, number: u8, line: &[u8]) {
     let errors = Errors::new(alloc, 1);
     let status = ended.report(&errors);
@@ -31,7 +31,7 @@ fn check_end<I, O>(rt: &impl Abort, alloc: Global, ended: Ended<I, O>, number: u
     gives(rt, errors.reported.into_inner().as_slice(), line);
 }
 
-// One call prints the error, even if that call fails.
+// The program makes only one call to print the error, even if that call fails.
 #[test]
 fn a_fault_is_printed_once(rt: HostRuntime) {
     let outcome = Err(ToolError::Write);
@@ -73,7 +73,7 @@ fn rows(alloc: Global, count: usize, has_last_newline: bool) -> Result<Vec<u8>, 
     Ok(rows)
 }
 
-// Asserts that all of `count` rows are answered with this number of reads and writes, each of at
+// Asserts that all `count` rows are answered with `reads` reads and `writes` writes, each of at
 // most `part` bytes, and that nothing is flushed.
 fn check_rows(
     rt: &impl Abort,
@@ -100,8 +100,9 @@ fn check_rows(
     Ok(())
 }
 
-// Inputs of one, two, three and 25 full reads, and one more read at the end of each. An answer is
-// one write. With one byte a call, a row needs sixteen reads and its answer seven writes.
+// The inputs fill one, two, three and 25 reads, and one more read finds the end of each. An answer
+// is one write. If each call reads or writes one byte, a row needs sixteen reads and its answer
+// seven writes.
 #[test]
 fn answers_inputs_of_whole_reads(rt: HostRuntime) -> Result<(), Fail> {
     for (count, reads) in [(256usize, 2), (512, 3), (768, 4), (6400, 26)] {
@@ -121,8 +122,8 @@ const LINES: &[u8] = b"w pos u8 -- 255\nx\nw neg i8 -- 128\n";
 
 const ANSWERS: &[u8] = b"ok 255\nbad row\nok -128\n";
 
-// Asserts that a run with this reader and this writer ends with a status and a line on standard
-// error, has written `written` and has not flushed.
+// Asserts that a run with this reader and this writer ends with the status `number`, prints `line`
+// to standard error, has written `written` and has not flushed.
 fn check_run(
     rt: &impl Abort,
     alloc: Global,

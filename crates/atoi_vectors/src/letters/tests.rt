@@ -1,6 +1,6 @@
-//! Checks long runs of letters in each call: the expected answer follows from the parts that each
-//! run is made of. Also has worked examples. It uses `core_calls`, `plain_rules`, `answers` and the
-//! engines of `letters`.
+//! Checks each call on long runs of letters. The expected answers follow from the parts that each
+//! run is made of. There are also worked examples. The file uses `core_calls`, `plain_rules`,
+//! `answers` and the engines of `letters`.
 
 use super::{BothCases, Letters};
 use crate::answers::gives;
@@ -29,8 +29,8 @@ const RUNS: [(&[u8], Option<u128>); 12] = [
     (b"BBBBBBBBBBBBBBBBBBBBBBBBBBBBBBBBBBBBBBBBBBBBBBBB", None),
 ];
 
-// Each run follows 0 to 48 zeros. It ends the slice, or the byte `7` follows, which is not a
-// letter.
+// Each run comes after 0 to 48 zeros, which are letters `A`. The slice ends with the run, or the
+// byte `7` follows, which is not a letter.
 #[test]
 fn long_runs_of_letters(rt: HostRuntime) -> Result<(), Fail> {
     for zeros in 0..=48 {

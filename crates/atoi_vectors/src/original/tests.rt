@@ -135,13 +135,14 @@ fn put_prefix<T: Number>(
     }
 }
 
-// Writes the answer to a row whose type does not have its call. No row has that answer, so the test
-// fails.
+// Writes the answer to a row whose call does not exist for its type. No row has this answer, so the
+// test fails.
 fn put_unknown(line: &mut Vec<u8>) -> Result<(), AllocError> {
     line.extend_from_slice(b"unknown")
 }
 
-// Calls a function with the flags of the row as its const arguments.
+// Calls a function with the flag SKIP_ZEROES of the row as its const argument. `by_flags` below
+// also passes SKIP_PLUS.
 macro_rules! by_flag {
     ($surface:ident::$call:ident, $row:expr) => {
         if $row.skip_zeroes {

@@ -15,7 +15,7 @@ rest_byte s i =
     let place : 1 + i ≡ i + 1 = omega arith in
     ap (λ (r : List ℕ). get_or r i 0) (take_rest s 1) ∙ get_or-drop 1 s i 0 ∙ ap (λ (k : ℕ). get_or s k 0) place
 
--- There is one byte less than in the slice.
+-- The rest after the first byte has `length s - 1` bytes.
 rest_length : (s : List ℕ) → length (take (length s - 1) (drop 1 s)) ≡ length s - 1
 rest_length s = ap length (take_rest s 1) ∙ length-drop 1 s
 
@@ -49,8 +49,8 @@ loop-at-init c =
       bound = omega (arith, small);
     }
 
--- What the table gives for byte i after the first byte is what it gives for byte i + 1 of the
--- slice.
+-- If the table gives `found` for byte i after the first byte, it gives `found` for byte i + 1 of
+-- the slice.
 byte_after : (s : List ℕ) (i : ℕ) (read found : Option ℕ) → read ≡ decimal_table (get_or (take (length s - 1) (drop 1 s)) i 0) → read ≡ found
     → decimal_table (get_or s (i + 1) 0) ≡ found
 byte_after s i read found is reported = ap decimal_table (sym (rest_byte s i)) ∙ sym is ∙ reported

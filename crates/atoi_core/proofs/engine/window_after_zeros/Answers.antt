@@ -1,4 +1,5 @@
--- The loop goes on after the zeros of the first window; all clauses follow from where it ends.
+-- The loop goes on after the zeros of the first window. The offset that is returned follows from
+-- where the loop ends.
 use Rattle.std.proofs.Common.{◌+◌, true, inr, refl, sym, arith}
 use Rattle.atoi_core.proofs.Windows.{Skipping-first_window, Skipping-more, Skipped-end}
 use Rattle.atoi_core.proofs.LoopAnswers.{dropped_is}

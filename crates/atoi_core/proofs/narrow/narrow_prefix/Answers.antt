@@ -1,4 +1,6 @@
--- If no zeros are skipped, the first window is the last one, and it decides the answer.
+-- If zeros are not skipped, or the first window reports none, `Skipped` holds after the first
+-- window, just as after a loop that loads only this one. If the body is not too long, the first
+-- window then decides the answer.
 use Rattle.std.proofs.Common.{◌≡◌, ◌≤◌, ℕ, Bool, false, not, ◌&&◌, nat_lt, inl, inr, sym, ◌∙◌, ltb-false, arith}
 use Rattle.atoi_core.proofs.Windows.{Skipped, Skipped-at_once, Skipped-first, Skipped-one}
 use Rattle.atoi_core.proofs.LoopAnswers.{narrow_after_skip, answers_empty}
@@ -15,7 +17,8 @@ returns-then-window-eq0-clause-answer g c =
 few : (skip : Bool) (digits : ℕ) → false ≡ (not skip && nat_lt 16 digits) → skip ≡ false → digits ≤ 16
 few skip digits short counts = ltb-false 16 digits (rw counts at (sym short))
 
--- If the first window reports no zeros, or zeros are not skipped, it is the last window.
+-- If the first window reports no zeros, or zeros are not skipped, `Skipped` holds after this
+-- window.
 last : (g : _) (c : After-answer_at g)
     → Skipped g.E.Engine.table c.args.skip c.args.s.now 0 c.args.steps.now c.window-window.new.steps c.window-window.result
 last g c =

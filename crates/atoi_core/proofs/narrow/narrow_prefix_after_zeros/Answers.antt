@@ -1,4 +1,4 @@
--- The answer follows from where the loop ends.
+-- The answer follows from where the loop of `window_after_zeros` ends.
 use Rattle.std.proofs.Common.{◌∙◌, arith}
 use Rattle.atoi_core.proofs.Windows.{Skipped-after_zeros}
 use Rattle.atoi_core.proofs.LoopAnswers.{narrow_after_skip}

@@ -1,5 +1,5 @@
--- A first window that is not full holds the whole run. A full one that reports no zeros is larger
--- than the bound.
+-- A first window that is not full holds the whole run. If it is full and reports no zeros, its
+-- number is above the bound.
 use Rattle.std.proofs.Common.{ℕ, ◌∙◌, true, nat_lt, if◌then◌else◌, Ok, Err, inl, inr, refl, ap, zero-add, arith}
 use Rattle.atoi_core.specs.Magnitude.{narrow}
 use Rattle.atoi_core.specs.Refusal.{empty, overflow}

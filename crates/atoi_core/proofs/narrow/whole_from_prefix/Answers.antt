@@ -1,4 +1,4 @@
--- The answer to a whole slice follows from that to its prefix, in each of the three cases.
+-- In each of the three cases, the answer to a whole slice follows from the answer to its prefix.
 use Rattle.std.proofs.Common.{◌∙◌, sym, ap, Ok, Err, if◌then◌else◌}
 use Rattle.std.proofs.lemmas.Bool.{eq-eqb, ne_eqb}
 use Rattle.atoi_core.specs.Refusal.{answer_of, invalid64}

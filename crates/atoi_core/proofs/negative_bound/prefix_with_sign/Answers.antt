@@ -1,4 +1,5 @@
--- In each case, the answer with the sign follows from the answer under the negative bound.
+-- In each case, the answer for the actual sign follows from the answer for the digits of a negative
+-- number.
 use Rattle.std.proofs.Common.{◌∙◌, sym, ap, arith}
 use Rattle.atoi_core.specs.Answer.{typed_prefix_answer}
 use Rattle.atoi_core.proofs.Bounds.{prefix_number, prefix_least, prefix_error, prefix_overflows}

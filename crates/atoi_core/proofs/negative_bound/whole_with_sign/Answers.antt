@@ -1,4 +1,5 @@
--- In each case, the answer with the sign follows from the answer under the negative bound.
+-- In each case, the answer for the actual sign follows from the answer for the digits of a negative
+-- number.
 use Rattle.std.proofs.Common.{◌∙◌, length, sym, ap, arith}
 use Rattle.atoi_core.specs.Answer.{typed_answer}
 use Rattle.atoi_core.proofs.Bounds.{whole_number, whole_least, whole_error, whole_error_least, whole_overflows}

@@ -1,4 +1,5 @@
--- The two words hold the first 16 bytes, so together they give their window.
+-- One word holds the first 8 bytes, and the other one the next 8, or those that are left. Together
+-- they give the window of 16 bytes.
 use Rattle.std.proofs.Common.{◌≡◌, ℕ, ◌+◌, ◌*◌, ◌^◌, ◌<◌, ◌∙◌, ap, ap₂, sym, drop, take, ◌++◌, get_or, arith}
 use Rattle.atoi_core.specs.Digit.{decimal_table}
 use Rattle.atoi_core.specs.Run.{run_len, zeros}

@@ -1,4 +1,5 @@
--- If the slice ends among the eight bytes, they are the highest ones of its last eight.
+-- If fewer than eight bytes are left from index `at` on, they are the highest bytes of the word of
+-- the last eight.
 use Rattle.std.proofs.Common.{◌∙◌, ap, ◌+◌, ◌/◌, ◌-◌, ◌*◌, ◌^◌, length}
 use Rattle.atoi_core.proofs.LoadedWords.{last_bytes}
 use Rattle.atoi_core.proofs.word_engine.load_from.Goals as goal

@@ -1,4 +1,4 @@
--- The answers follow from where the loop ends.
+-- The answers follow from where the loop of `window_after_zeros` ends.
 use Rattle.std.proofs.Common.{◌+◌, ℕ, List, true, refl, ap, ◌∙◌, arith, drop}
 use Rattle.std.proofs.lemmas.List.{length-drop, take_rest}
 use Rattle.std.proofs.lemmas.List.Sums.{prefix_len-le-length}
@@ -10,7 +10,7 @@ use Rattle.atoi_core.proofs.LoopAnswers.{answers_short, answers_64}
 use Rattle.atoi_core.proofs.word_engine.prefix_64_after_zeros.Goals as goal
 use Rattle.atoi_core.proofs.word_engine.prefix_64_after_zeros.Goals.{After-window_after_zeros-at, After-window_after_16-back}
 
--- where the loop ends
+-- What holds when that loop has ended.
 ended : (c : After-window_after_zeros-at)
     → Skipped decimal_table true c.args.s.now c.window_after_zeros-at.result.0 c.args.steps.now (c.window_after_zeros-at.new.steps + 1) c.window_after_zeros-at.result.1
 ended c =
@@ -29,7 +29,7 @@ window_after_16-back-requires c =
     rw (take_rest c.args.s.now at, length-drop at c.args.s.now)
     (omega (arith, after_skip.shown.len_is, prefix_len-le-length (is_digit decimal_table) (drop at c.args.s.now), length-drop at c.args.s.now))
 
--- the eight bytes after it
+-- The window of the eight bytes after the last window of the loop.
 following : (c : After-window_after_16-back) → Shows decimal_table 8 (drop 16 (drop c.window_after_zeros-at.result.0 c.args.s.now)) c.window_after_16-back.result
 following c =
     shows decimal_table decimal_below_ten 8 (drop 16 (drop c.window_after_zeros-at.result.0 c.args.s.now)) c.window_after_16-back.result

@@ -1,12 +1,12 @@
--- Subtracting 48 from each digit gives the same bytes as masking their lower halves. Three rounds
--- compute their weighted sum, which is their value.
+-- Subtracting 48 from a digit gives the same byte as masking it to its lower half. Three rounds
+-- compute the weighted sum of the digits, which is their value.
 use Rattle.std.proofs.Common.{ℕ, ◌*◌, ◌/◌, ◌%◌, ◌^◌, ap, ◌∙◌, arith}
 use Rattle.std.specs.Int.Bits.{bit_and}
 use Rattle.atoi_core.proofs.WordFields.{sum_8, sum_most}
 use Rattle.atoi_core.proofs.WordRuns.{lowered_at_top}
 use Rattle.atoi_core.proofs.word_engine.value_of.Goals as goal
 
--- The rounds after the first mask.
+-- The three rounds, without the mask of the first one.
 abbrev rounds : ℕ → ℕ
 rounds ones =
     let tens = ones * 0xA01 % 2 ^ 64 / 2 ^ 8 in

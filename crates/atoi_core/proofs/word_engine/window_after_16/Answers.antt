@@ -1,4 +1,4 @@
--- What is counted in the loaded word makes up the window of its bytes.
+-- The window of the loaded word is the window of the bytes that were loaded.
 use Rattle.std.proofs.Common.{◌+◌, drop}
 use Rattle.std.proofs.lemmas.List.{get_or-drop}
 use Rattle.atoi_core.proofs.LoadedWords.{loaded_window}

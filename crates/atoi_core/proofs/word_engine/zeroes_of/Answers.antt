@@ -1,4 +1,5 @@
--- The trailing bytes of 0 of the difference are the leading zeros.
+-- After the subtraction, the lowest bytes that are 0 are those of the zeros that the word begins
+-- with.
 use Rattle.atoi_core.proofs.WordRuns.{lowered_zeros_counted}
 use Rattle.atoi_core.proofs.word_engine.zeroes_of.Goals as goal
 

@@ -1,5 +1,5 @@
--- Three rounds compute the weighted sum of the bytes that the shift leaves, and their number bounds
--- it.
+-- Three rounds compute the weighted sum of the bytes that the shift leaves. The sum is bounded,
+-- because there are at most 8 of these bytes.
 use Rattle.std.proofs.Common.{arith}
 use Rattle.atoi_core.proofs.WordFields.{sum_8, sum_most}
 use Rattle.atoi_core.proofs.words.process_8.Goals as goal

@@ -4,7 +4,8 @@ use Rattle.atoi_core.specs.Digit.{decimal_table, is_digit}
 use Rattle.atoi_lanes.proofs.LoadedLanes.{mask-of_lanes}
 use Rattle.atoi_lanes.proofs.kernels.digit_mask.Goals as goal
 
--- What a comparison gives for a lane: all bits set if it holds, and otherwise 0.
+-- The lane that the comparison of `a` with `b` returns: all bits are set if `a` is at most `b`, and
+-- otherwise the lane is 0.
 abbrev mask : (ℕ → ℕ → ℕ)
 mask a b = cond (leb a b) 255 0
 

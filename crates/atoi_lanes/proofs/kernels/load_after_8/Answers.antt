@@ -1,5 +1,5 @@
--- If the slice has at least eight bytes, the result is shifted from its last eight. Otherwise no
--- byte is left.
+-- If the slice has at least eight bytes, the result is the word of its last eight bytes, shifted.
+-- Otherwise no bytes come after the first eight.
 use Rattle.std.proofs.Common.{sym, ◌-◌, ◌*◌, ◌/◌, ◌^◌, length, ap, ◌∙◌, arith}
 use Rattle.std.proofs.lemmas.List.{drop_all}
 use Rattle.atoi_core.specs.Words.{word_of}

@@ -1,5 +1,5 @@
--- If all bytes are digits, they are summed as they are. Otherwise the bytes after the run are
--- shifted out first.
+-- If all bytes are digits, the number is computed from the lanes as they were loaded. Otherwise the
+-- bytes after the run are shifted out first.
 use Rattle.std.proofs.Common.{◌∙◌, arith}
 use Rattle.atoi_lanes.proofs.LoadedLanes.{bytes}
 use Rattle.atoi_lanes.proofs.LaneSums.{all_digits, first_digits}

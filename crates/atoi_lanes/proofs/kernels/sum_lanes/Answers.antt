@@ -1,4 +1,5 @@
--- The first lanes, moved to the end, hold digit values, which spell the value of the run.
+-- After 48 is subtracted from each lane, the first `len` lanes hold digit values. If they are moved
+-- to the end, after lanes of 0, the vector spells the value of the first `len` lanes.
 use Rattle.std.proofs.Common.{◌-◌, ap, ◌∙◌}
 use Rattle.atoi_core.specs.Run.{value}
 use Rattle.atoi_lanes.specs.Itself.{itself}

@@ -1,4 +1,4 @@
--- A window that is not full decides the answer.
+-- A window that is not full of digits decides the answer.
 use Rattle.std.proofs.Common.{sym, ◌∙◌, arith, lit<}
 use Rattle.std.proofs.lemmas.Bool.Decides.{nat_tests}
 use Rattle.atoi_core.specs.Digit.{decimal_table}

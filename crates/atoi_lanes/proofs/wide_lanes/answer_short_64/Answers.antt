@@ -1,4 +1,4 @@
--- Fewer digits than the limit decide the answer.
+-- If the slice begins with fewer digits than the limit, these digits decide the answer.
 use Rattle.std.proofs.Common.{sym, ◌∙◌, arith}
 use Rattle.std.proofs.lemmas.Bool.Decides.{nat_tests}
 use Rattle.atoi_core.specs.Digit.{decimal_table}

@@ -1,4 +1,5 @@
--- The last window of 32 bytes and the 8 bytes after it decide the answer.
+-- If the last window of 32 bytes is full of digits, this window and the 8 bytes after it decide the
+-- answer.
 use Rattle.std.proofs.Common.{◌∙◌}
 use Rattle.atoi_lanes.proofs.LaneWindows.{decided_full}
 use Rattle.atoi_lanes.proofs.wide_lanes.finish_128.Goals as goal

@@ -1,4 +1,5 @@
--- If no zeros are to be skipped, the first window is the last one. The number of loads follows.
+-- If the loop that skips zeros is not entered, the first window of 32 bytes is also the last one.
+-- The bounds on the number of loads follow from that.
 use Rattle.std.proofs.Common.{arith}
 use Rattle.atoi_core.specs.Digit.{decimal_table}
 use Rattle.atoi_lanes.proofs.LaneWindows.{first-ends, reads-first, few-zeros}

@@ -1,6 +1,6 @@
--- A slice of fewer than 16 bytes, and a run of fewer digits than the limit, are answered by one
--- window. If no zeros are to be skipped, the first window is the last one too. The number of loads
--- follows.
+-- One window decides the answer for a slice of fewer than 16 bytes, and for a slice that begins
+-- with fewer digits than the limit. If the loop that skips zeros is not entered, the first window
+-- is the last one too. The bounds on the number of loads follow from that.
 use Rattle.std.proofs.Common.{take, refl, ◌∙◌, arith}
 use Rattle.std.proofs.lemmas.List.Sums.{prefix_len-le-length}
 use Rattle.atoi_core.specs.Digit.{decimal_table, is_zero}

@@ -1,4 +1,5 @@
--- The loop keeps `Skipping`, and the number of loads follows from where it ends.
+-- `Skipping` is an invariant of the loop. The bounds on the number of loads follow from this
+-- invariant and from the window at which the loop ends.
 use Rattle.std.proofs.Common.{◌≡◌, ℕ, ◌+◌, ◌<◌, true, List, take, drop, refl, sym, ap, ◌∙◌, subst, arith, inl, inr}
 use Rattle.std.proofs.lemmas.List.{length-take, length-drop}
 use Rattle.std.proofs.lemmas.List.Sums.{prefix_len-le-length}
@@ -8,7 +9,8 @@ use Rattle.atoi_core.specs.Run.{zeros}
 use Rattle.atoi_lanes.proofs.LaneWindows.{Skipping, Skipping-none, Skipping-more, Skipping-loads}
 use Rattle.atoi_lanes.proofs.wide_lanes.skip_leading_zeros.Goals as goal
 
--- A turn drops the leading zeros of its window.
+-- If `Skipping` holds at an offset and the window there begins with zeros, then `Skipping` also
+-- holds after these zeros, with one more load.
 dropped : ReadingDecides → (s : List ℕ) (offset before now next leading at : ℕ) → Skipping true s offset before now
     → leading ≡ zeros decimal_table (take 32 (drop offset s)) → 0 < leading → at ≡ offset + zeros decimal_table (take 32 (drop offset s))
     → next ≡ now + 1 → Skipping true s at before next

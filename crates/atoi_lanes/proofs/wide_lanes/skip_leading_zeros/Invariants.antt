@@ -1,4 +1,5 @@
--- The loop keeps `Skipping`, and the last window is a reading of the bytes at its offset.
+-- The loop has two invariants: `Skipping` holds, and the last window is a `Reading` of the first 32
+-- bytes from its offset on.
 use Rattle.std.proofs.Common.{true, ◌-◌, length, drop}
 use Rattle.atoi_core.specs.Digit.{decimal_table}
 use Rattle.atoi_core.specs.Reading.{Reading}

@@ -1,4 +1,5 @@
--- What is counted in the lanes is a reading of the first 32 bytes.
+-- The digits and zeros that are counted in the lanes, and the number that the digits spell, are a
+-- reading of the first 32 bytes.
 use Rattle.std.proofs.Common.{refl, ◌∙◌, arith}
 use Rattle.atoi_core.specs.Digit.{decimal_table}
 use Rattle.atoi_lanes.proofs.LaneWindows.{reading-of_lanes}

@@ -1,5 +1,5 @@
--- The loop invariant: `total` is the sum of the numbers read so far, and the magnitude of each is
--- at most 2^63.
+-- The loop invariant: `total` is the sum of the numbers read so far, and its magnitude is at most
+-- 2^63 multiplied by how many numbers these are.
 use Rattle.std.proofs.Common.{◌≡◌, ◌*◌, ◌^◌, List, length, ℤ, pos, neg_ℤ, ◌≤ℤ◌}
 use Rattle.atoi_core.specs.IntTypes.{i64_type}
 use Rattle.atoi_column.specs.Items.{items_of}

@@ -1,4 +1,5 @@
--- There are at most as many items as bytes, and the places of errors are within the input.
+-- The number of items is at most the number of bytes. In an error, the place is at most the length
+-- of the input, and the index is less than that length.
 use Rattle.atoi_column.proofs.ItemLemmas.{length-items_left}
 use Rattle.atoi_column.proofs.PlaceLemmas.{items_left-inside}
 use Rattle.atoi_column.proofs.column.Column.new.Goals as goal

@@ -46,12 +46,12 @@ ended g c =
     Skipped-end _ g.met.Self.Engine.below_ten _ _ _ _ _ _ c.window-next.result
     c.loop-next.invariant c.window-next.ensures.window c.window-next.ensures.one_step c.then-not-skip.either
 
--- The window after that one.
+-- The window of 16 bytes after that full window.
 middle : (g : _) (c : After-window-second g) → Shows g.Self.Engine.table 16 (drop 16 (drop c.loop-next.at c.args.s.now)) c.window-second.result
 middle g c =
     shows_following g.Self.Engine.table g.met.Self.Engine.below_ten 16 16 c.args.s.now c.loop-next.at c.window-second.result c.window-second.ensures.window
 
--- The window of 8 bytes after both.
+-- The window of 8 bytes after these two windows.
 third : (g : _) (c : After-window_8-third g) → Shows g.Self.Engine.table 8 (drop 32 (drop c.loop-next.at c.args.s.now)) c.window_8-third.result
 third g c =
     shows_following g.Self.Engine.table g.met.Self.Engine.below_ten 8 32 c.args.s.now c.loop-next.at c.window_8-third.result c.window_8-third.ensures.window

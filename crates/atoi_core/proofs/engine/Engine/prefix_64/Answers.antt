@@ -44,12 +44,12 @@ ended g c =
     Skipped-end _ g.met.Self.Engine.below_ten _ _ _ _ _ _ c.window-window.result
     c.loop-window.invariant c.window-window.ensures.window c.window-window.ensures.one_step c.then-not-skip.either
 
--- The window of 8 bytes after that one.
+-- The window of 8 bytes after that full window.
 following : (g : _) (c : After-window_8-back g) → Shows g.Self.Engine.table 8 (drop 16 (drop c.loop-window.at c.args.s.now)) c.window_8-back.result
 following g c =
     shows_following g.Self.Engine.table g.met.Self.Engine.below_ten 8 16 c.args.s.now c.loop-window.at c.window_8-back.result c.window_8-back.ensures.window
 
--- Both windows decide the answer.
+-- The two windows together decide the answer.
 decided : (g : _) (c : After-window_8-back g) →
     (c.loop-window.at + (16 + c.window_8-back.result.len) ≤ length c.args.s.now)
     × (answer_by_digits wide64 c.args.bound c.args.limit c.loop-window.at (16 + c.window_8-back.result.len) (c.window-window.result.number * 10 ^ c.window_8-back.result.len + c.window_8-back.result.number) c.args.s.now

@@ -1,4 +1,6 @@
--- If there are no zeros to skip, the first window is the last one, and the answers follow from it.
+-- If there are no zeros to skip, `Skipped` holds after the first window, just as after a loop that
+-- loads only this one. The answers follow from that, and if the first window is full, also from the
+-- window of the 8 bytes after it.
 use Rattle.std.proofs.Common.{◌≡◌, ◌⊎◌, ◌≤◌, true, false, inl, inr, refl, ◌∙◌, arith, drop}
 use Rattle.std.proofs.lemmas.List.Sums.{prefix_len-le-length}
 use Rattle.atoi_core.specs.Digit.{decimal_table, is_digit}
@@ -8,7 +10,7 @@ use Rattle.atoi_core.proofs.LoopAnswers.{answers_empty, answers_short, answers_6
 use Rattle.atoi_core.proofs.word_engine.WordsEngine.prefix_64.Goals as goal
 use Rattle.atoi_core.proofs.word_engine.WordsEngine.prefix_64.Goals.{After-window-first, After-window_after_16-back}
 
--- What holds if no zeros are skipped, or the first window reports none.
+-- What holds if zeros are not skipped, or the first window reports none.
 last : (c : After-window-first) → (c.args.skip ≡ true × c.window-first.result.zeroes ≤ 0) ⊎ (c.args.skip ≡ false)
     → Skipped decimal_table c.args.skip c.args.s.now 0 c.args.steps.now c.window-first.new.steps c.window-first.result
 last c stops =
