@@ -108,8 +108,8 @@ abbrev whole_from_prefix : (ℕ → ℕ → List ℕ → Refusal) → List ℕ �
 whole_from_prefix invalid s (Err reason) = Err reason
 whole_from_prefix invalid s (Ok found) = if found.1 == length s then Ok found.0 else Err (invalid found.0 found.1 s)
 
--- Making a fourth test after three others is the same as making it on the outcome of the first
--- three.
+-- A choice by four tests is the same as a choice by the first three, if `whole_from_prefix` then
+-- applies the fourth test to what these three have chosen.
 last_reason : (invalid : ℕ → ℕ → List ℕ → Refusal) (s : List ℕ) (a b c : Bool) (none long above : Refusal) (v n : ℕ) →
     unless_refused (if a then Some none else (if b then Some long else (if c then Some above
     else (if not (n == length s) then Some (invalid v n s) else None)))) v
@@ -373,8 +373,9 @@ short_run t class bound limit extent skip s room few below =
     ∙ ap (λ (x : Option Refusal). cond (eqb digits 0) (Some empty) x)
     (whole_slice class extent skip bound limit digits (skipped_zeros t skip s) number s some_left room few within below)
 
--- Two tests can choose between two errors and a value, or between two refusals and `None`. If
--- `unless_refused` is then applied to the refusal or to `None`, the result is the same.
+-- Let two tests choose between two refusals and `None`, and let `unless_refused` be applied to what
+-- they choose. The result is the same as if the two tests chose between two errors and a value
+-- directly.
 picked : {A : Type 0} (a b : Bool) (p q : Refusal) (v : A) → cond a (Err p) (cond b (Err q) (Ok v)) ≡ unless_refused (cond a (Some p) (cond b (Some q) None)) v
 picked true b p q v = refl
 picked false true p q v = refl

@@ -6,8 +6,9 @@ use Rattle.atoi_core.specs.Magnitude.{Class, Extent, narrow, wide64, wide128, wh
 use Rattle.atoi_core.specs.IntType.{IntType, class_of}
 
 -- How many loads the upper bound allows in each *turn*, which is what a call does for 16 leading
--- zeros. A loop makes one load in a turn. For the wide types the bound allows 2 and 3 loads in a
--- turn. In this way, the two turns that `most_loads` adds also cover the loads after the last zero.
+-- zeros. A loop makes one load in a turn. For the wide types the bound allows 2 and 3. So the two
+-- turns that `most_loads` adds allow 4 and 6 loads, which is enough for the loads after the last
+-- zero.
 abbrev pub loads_a_turn : Class → ℕ
 loads_a_turn narrow = 1
 loads_a_turn wide64 = 2

@@ -70,9 +70,9 @@ pub record ReadingDecides : Type 0 where
       → prefix_magnitude table class bound limit skip s
       ≡ (let significant = significant_digits skip digits leading in
       answer_by_digits class bound limit (offset + (digits - significant)) significant number s)
-  -- This is about a reading after skipped zeros whose digits end within it and are fewer than the
-  -- limit. The number that these digits spell is within the bound. It is the answer, unless there
-  -- are no digits and no skipped zeros. Then the answer is `empty`.
+  -- Let a reading come after skipped zeros, and let its digits end within it and be fewer than the
+  -- limit. The number that these digits spell is then within the bound. It is the answer, unless
+  -- there are no digits and no skipped zeros. Then the answer is `empty`.
   pub short : (table : Table) → IsBelowTen table → (class : Class) (bound limit : ℕ) → limit < cap class → HasDigits limit bound
       → (skip : Bool) (s : List ℕ) (offset count digits leading number : ℕ) → IsSkipped table skip s offset
       → Reading table count (drop offset s) digits leading number → digits < count → digits < limit

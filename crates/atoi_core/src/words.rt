@@ -92,8 +92,8 @@ pub fn check_len_8(val: u64) -> u32
     ensures len { result ≡ run_len decimal_table (low_bytes 8 val) }
     ensures most { result ≤ 8 }
 {
-    // A digit has 3 as its upper half, and keeps it when six is added. Above a byte whose sum
-    // carries, the sums may be wrong, but such a byte is no digit.
+    // A digit has 3 as its upper half, and keeps it when six is added. A byte whose sum carries is
+    // no digit, so the digits are counted only up to it, and wrong sums above it do not matter.
     let high = (val.wrapping_add(0x0606_0606_0606_0606) & 0xF0F0_F0F0_F0F0_F0F0) >> 4;
     let low = val & 0xF0F0_F0F0_F0F0_F0F0;
     ((high | low) ^ 0x3333_3333_3333_3333).trailing_zeros() / 8

@@ -32,8 +32,8 @@ prefix_len-padded p h (suc n) zero [] = refl
 prefix_len-padded p h (suc n) (suc m) [] = ap (λ b. cond b (1 + prefix_len p (take n (replicate m 0))) 0) h
 prefix_len-padded p h (suc n) m (x ∷ xs) = ap (λ k. cond (p x) (1 + k) 0) (prefix_len-padded p h n m xs)
 
--- If elements are appended to a list, its first `n` elements still begin with the elements that
--- were their passing prefix before.
+-- Take the passing prefix of the first `n` elements of a list. If elements are appended to the
+-- list, its first `n` elements still begin with that prefix.
 pub prefix-padded : (p : ℕ → Bool) (n : ℕ) (s zs : List ℕ) → take (prefix_len p (take n s)) (take n (s ++ zs)) ≡ take (prefix_len p (take n s)) (take n s)
 prefix-padded p zero s zs = refl
 prefix-padded p (suc n) [] zs = refl

@@ -10,8 +10,8 @@ use Rattle.atoi_uses.proofs.addresses.octet_and_dot.Goals as goal
 -- If a text begins with an octet and a dot, the number that was found at its start is this octet.
 found_octet : DecimalTexts u8_type → PrefixesAndRests u8_type → (text rest : List ℕ) (n octet count : ℕ) → n < 2 ^ 8 → text ≡ decimal n ++ dot ∷ rest
     → PrefixWrites (DigitsWrite u8_type false) text (pos octet) count → (pos n ≡ pos octet) × ((take count text ≡ decimal n) × (drop count text ≡ dot ∷ rest))
-found_octet decimals shift_entries text rest n octet count fits same =
-    shift_entries.cut positive text (decimal n) (dot ∷ rest) (pos n) (pos octet) count same (decimals.written false n (omega arith)) (λ digit. omega (arith, digit.0))
+found_octet decimals prefixes text rest n octet count fits same =
+    prefixes.cut positive text (decimal n) (dot ∷ rest) (pos n) (pos octet) count same (decimals.written false n (omega arith)) (λ digit. omega (arith, digit.0))
 
 pub returns-in_default-clause-none : goal.returns-in_default-clause-none
 returns-in_default-clause-none c = λ n rest fits same.
