@@ -100,7 +100,7 @@ below t ten count s digits leading number reading =
     let P : ℕ → Type 0 = λ (n : ℕ). value t (run t front) < 10 ^ n in
     omega (arith, reading.number_is, subst P len (value-below t ten (run t front)))
 
--- The first of three tests that holds decides the error.
+-- Of three tests, the first one that holds decides the error.
 first_refusal : {A : Type 0} (a b c : Bool) (p q r : Refusal) (v : A)
     → unless_refused (cond a (Some p) (cond b (Some q) (cond c (Some r) None))) v ≡ cond a (Err p) (cond b (Err q) (cond c (Err r) (Ok v)))
 first_refusal true b c p q r v = refl
@@ -383,8 +383,8 @@ Skipping-more t below skip s at after before now next w after_skip e one on some
     }
 
 -- The state after the loop, whose last window `w` was loaded at offset `at`. All bytes before that
--- offset are zeros. So the run of the bytes from there on is shorter by `at`, has `at` fewer
--- leading zeros, and has the same value as the run of the slice. If zeros are skipped and the
+-- offset are zeros. So the run of the bytes from there on has the same value as the run of the
+-- slice, but is shorter by `at` and has `at` fewer leading zeros. If zeros are skipped and the
 -- window is full, it begins at the first significant digit. The number of windows loaded is bounded
 -- from both sides.
 pub record Skipped (t : Table) (skip : Bool) (s : List ℕ) (at before now : ℕ) (w : Window) : Type 0 where
@@ -469,9 +469,9 @@ Skipped-loads after_skip more counted bounded few = record {
   at_least_skipping = λ on. omega (arith, after_skip.least on);
 }
 
--- If the loop loads one window, and one more window is loaded exactly if zeros are not skipped and
--- the first 16 bytes are digits, then the number of loads is within the bounds for a type of at
--- most 32 bits.
+-- Let the loop load one window. After it, one more window is loaded if zeros are not skipped and
+-- the first 16 bytes are digits, and otherwise none. Then the number of loads is within the bounds
+-- for a type of at most 32 bits.
 pub Skipped-one : (t : Table) (skip : Bool) (s : List ℕ) (at before now last : ℕ) {w : Window} → Skipped t skip s at before now w →
     now ≡ before + 1 → last ≡ now + (if skip || nat_lt (run_len t s) 16 then 0 else 1) → LoadsWithin (most_loads t narrow s) 2 t skip s before last
 Skipped-one t true s at before now last after_skip one counted = record {

@@ -271,8 +271,9 @@ pub record ErrorsInOrder (k : IntType) : Type 0 where
   pub never_followed : (form : SignForm) (skip : Bool) (s : List ℕ) (reason : Refusal) → prefix_call k form skip s ≡ Err reason → rank reason ≤ 2
 
 -- Bytes that write a number without a sign start with a digit. The decimal text of a number in
--- range writes it and has no needless zero, and no other digits do both. The same holds of texts
--- with a sign, if they have no `+`, and no minus before 0.
+-- range writes it and has no needless zero, and no other digits do both. If an integer `x` is in
+-- range, then `signed_decimal x` writes it, and all other texts that write it have a `+`, a minus
+-- before 0 or a needless zero.
 pub record DecimalTexts (k : IntType) : Type 0 where
   pub begins : (is_negative : Bool) (digits : List ℕ) (number : ℤ)
       → DigitsWrite k is_negative digits number → BeginsWithDigit digits

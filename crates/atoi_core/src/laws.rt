@@ -128,8 +128,9 @@ pub fn decimal_digits()
 
 /// Bytes that write a number without a sign start with a digit. For each number in the range of the
 /// type, let `n` be its value without its sign. The digits `decimal n`, which `{}` prints for `n`,
-/// write that number and have no needless leading zero, and no other digits do both. The same holds
-/// of `signed_decimal` for texts with a sign, if they have no `+`, and no minus before 0.
+/// write that number and have no needless leading zero, and no other digits do both. If an integer
+/// `x` is in range, then `signed_decimal x` writes it, and all other texts that write it have a
+/// `+`, a minus before 0 or a needless leading zero.
 #[tactic(auto, using(crate::proofs::Texts::decimal_texts))]
 pub fn decimal_texts<T: Number>()
     ensures { DecimalTexts T.int_type }

@@ -10,7 +10,7 @@
 //! 3. Let each window ensure `Reading`: its number of digits, its leading zeros and its value.
 //! 4. Combine two readings with `join_readings`.
 //! 5. Turn the last reading into the answer with `decided`, which says that `answer_by_digits`
-//!    computes this answer.
+//!    computes this answer. `short` and `full` are shorter ways for two common cases.
 ghost use Rattle.atoi_core.specs.Reading.{ReadingDecides};
 
 /// The law says when the bytes that an engine has read so far decide the answer of

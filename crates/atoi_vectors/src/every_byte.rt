@@ -1,5 +1,5 @@
-//! Checks that each call over each engine returns what the plain rules say, with every byte at
-//! every offset. It uses only `core_calls`.
+//! Checks that the windows and the parsers for each width return what the plain rules say, over
+//! each engine and with every byte at every offset. The file uses only `core_calls`.
 ghost use Rattle.std.specs.Prelude.{◌<◌, ◌≤◌};
 
 use crate::core_calls::check;

@@ -1,6 +1,7 @@
-//! Checks the kernels, which are public functions on a word or a vector of bytes: with every byte
-//! at every offset, and after loads of short and long slices. It uses `plain_rules`, `answers` and
-//! the kernels of `atoi_core` and `atoi_lanes`.
+//! Checks kernels, which are public functions on a word or a vector of bytes: with every byte at
+//! every offset, and after loads of short and long slices. (`load_high` and `read_short` are not
+//! called here; the windows call them.) The file uses `plain_rules`, `answers` and the kernels of
+//! `atoi_core` and `atoi_lanes`.
 ghost use Rattle.std.specs.Prelude.{◌<◌};
 
 use crate::answers::gives;

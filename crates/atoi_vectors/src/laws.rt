@@ -1,5 +1,5 @@
-//! Calls each law for one type, and checks an answer that the law is about. It uses the laws and
-//! the core calls of `atoi_core`, and `answers`.
+//! Calls each law for one type, and checks answers that show what the laws say. The file uses the
+//! laws and the core calls of `atoi_core`, and `answers`.
 
 use crate::answers::gives;
 use atoi_core::laws::{
