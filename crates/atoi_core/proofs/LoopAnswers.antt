@@ -279,7 +279,9 @@ abbrev pub whole_of_prefix_answer : List ℕ → Result (ℕ × ℕ) Refusal →
 whole_of_prefix_answer s (Ok found) = if found.1 == length s then Ok found.0 else Err (invalid64 found.0 found.1 s)
 whole_of_prefix_answer s (Err reason) = Err (if rank reason == 0 then empty else overflow s)
 
--- Making a third test after two others is the same as making it on the outcome of the first two.
+-- A choice by three tests is the same as a choice by the first two, if `whole_of_prefix_answer`
+-- then applies the third test to what these two have chosen, and puts `s` into the error
+-- `Overflow`.
 last_of_three : (s rest : List ℕ) (a b : Bool) (v n : ℕ)
     → unless_refused (if a then Some empty else (if b then Some (overflow s) else (if not (n == length s) then Some (invalid64 v n s) else None))) v
     ≡ whole_of_prefix_answer s (unless_refused (if a then Some empty else (if b then Some (overflow rest) else None)) (v, n))

@@ -16,7 +16,7 @@ use Rattle.std.proofs.lemmas.List.Folds.{length-prefix_len}
 use Rattle.atoi_core.specs.Refusal.{empty, overflow, invalid64}
 use Rattle.atoi_core.specs.Magnitude.{narrow, refusal, unless_refused, whole_magnitude}
 
--- ---- Passing prefixes of a cut slice
+-- ---- Prefixes whose elements pass a test, if the slice is cut
 -- `prefix_len p s` is the length of the longest prefix of `s` whose elements all pass the test `p`.
 
 -- If a slice is cut to its first n elements, its passing prefix is cut to n elements too, if it was

@@ -1,4 +1,4 @@
-//! The integer types that a parse can return. This module uses no other one. All that a parse needs
+//! The integer types that a parse can return. This file uses no other module. All that a parse needs
 //! to know of a type are the constants and conversions here.
 ghost use Rattle.std.specs.Prelude.{◌≡◌, ◌+◌, ◌≤◌, ◌<ℤ◌, ◌↔◌, ℕ, ℤ, pos, Bool, true, false, IsTrue, refl};
 ghost use Rattle.std.proofs.Common.{inl, inr};

@@ -81,9 +81,9 @@ fn hex_digit(digit: u8) -> u8
     }
 }
 
-// Writes each byte in hexadecimal, with a comma and a space between two of them. With the comma and
-// the space after it, each byte takes at most four bytes of `out`. The last byte has neither after
-// it and takes at most two.
+// Writes the bytes in hexadecimal, separated by a comma and a space. Each byte takes at most four
+// bytes of `out`, including the comma and the space after it. The last byte has neither after it,
+// and takes at most two.
 pub(crate) fn put_hex_list(bytes: &[u8], out: &mut [u8], at: usize) -> usize
     requires { at + (4 * length bytes.now - 2) ≤ length out.old }
     ensures written { take result out.new ≡ take at out.old ++ hex_list bytes.now }

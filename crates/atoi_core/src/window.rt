@@ -1,5 +1,5 @@
 //! What one load reports about the start of a slice. A *load* reads the first 8 or 16 bytes once,
-//! and what it reports is a *window*. This module uses no other one.
+//! and what it reports is a *window*. This file uses no other module.
 ghost use Rattle.std.specs.Prelude.{◌≡◌, ◌+◌, ◌^◌, ◌<◌};
 
 /// What a load reports about the first 8 or 16 bytes of a slice, or about all its bytes if there

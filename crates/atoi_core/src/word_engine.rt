@@ -273,7 +273,8 @@ fn load_full(s: &[u8]) -> u64
     }
 }
 
-// Returns the window of a word of 8 bytes. In it a missing byte is 0, which is no digit.
+// Returns the window of a word of 8 bytes. If the slice had fewer bytes, the word has 0 in place of
+// each missing one, and 0 is no digit.
 #[inline(always)]
 fn window_of_word(word: u64) -> Window
     ensures len { result.len ≡ run_len decimal_table (low_bytes 8 word) }
