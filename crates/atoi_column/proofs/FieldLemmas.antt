@@ -1,5 +1,5 @@
--- The first field of an input, and how many fields there are. These lemmas prove the law
--- `FirstField`.
+-- The first field of an input, and how many fields there are. The lemmas about the first field
+-- prove the law `FirstField`.
 use Rattle.std.proofs.Common.{◌≡◌, ◌≢◌, inl, inr, ℕ, ◌+◌, ◌<◌, ◌≤◌, ◌==◌, List, [], ◌∷◌, length, Bool, true, false, if◌then◌else◌, refl, ap, ◌∙◌, arith}
 use Rattle.std.specs.List.{slice_split, onto_first, position_or_len, before_first, after_first}
 use Rattle.std.proofs.lemmas.List.{take_all, drop_all}

@@ -153,8 +153,8 @@ module _ (k : IntType) (separator index place : ℕ) where
     flaw_alone none =
         item-flaw (parse_answer k true true) (parse_prefix_answer k true true) separator index place rest some law none
 
-    -- If a number is followed by the separator, its value is the first item, and the items of what
-    -- comes after it follow.
+    -- If a number is followed by the separator, the value of this number is the first item, and the
+    -- items of what comes after the separator follow.
     pub items_left-ended : (v : ℤ) (count : ℕ) (following : List ℕ) → parse_prefix_answer k true true rest ≡ Ok (v, count)
         → drop count rest ≡ separator ∷ following
         → items_left k separator index place rest ≡ Ok v ∷ items_left k separator (index + 1) (place + count + 1) following
@@ -173,7 +173,8 @@ module _ (k : IntType) (separator index place : ℕ) where
         ∙ ap (λ t. Ok v ∷ items_left k separator (index + 1) (place + count + 1) t) (drop_all (count + 1) rest (omega arith))
         ∙ ap (λ items. Ok v ∷ items) (items_left-nil k separator (index + 1) (place + count + 1))
 
-    -- If a number is followed by another byte, the only item is the error `Trailing`.
+    -- If a number is followed by a byte that is not the separator, the only item is the error
+    -- `Trailing`.
     pub items_left-trailing : (v : ℤ) (count byte : ℕ) (following : List ℕ) → parse_prefix_answer k true true rest ≡ Ok (v, count)
         → drop count rest ≡ byte ∷ following → byte ≢ separator
         → items_left k separator index place rest ≡ Err (trailing index (place + count)) ∷ []

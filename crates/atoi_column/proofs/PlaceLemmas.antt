@@ -22,7 +22,7 @@ place_after-some : (texts : List (List ℕ)) → 0 < length texts → 0 < place_
 place_after-some [] some = absurd (omega arith)
 place_after-some (text ∷ texts) some = omega (arith, place_after-cons text texts)
 
--- One more byte in the first piece makes the pieces longer by at most one byte.
+-- One more byte in the first piece makes all pieces together longer by at most one byte.
 onto_first-place : (x : ℕ) (pieces : List (List ℕ)) → 0 < length pieces → place_after (onto_first x pieces) ≤ place_after pieces + 1
 onto_first-place x [] some = absurd (omega arith)
 onto_first-place x (piece ∷ pieces) some = omega (arith, place_after-cons (x ∷ piece) pieces, place_after-cons piece pieces)

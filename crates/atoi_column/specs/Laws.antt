@@ -8,9 +8,9 @@ use Rattle.atoi_core.specs.Text.{IsText, TextWrites}
 use Rattle.atoi_column.specs.Fields.{is_separator, fields_of}
 use Rattle.atoi_column.specs.Items.{Flaw, flaw_at, index_of, place_of, items_of}
 
--- `rest` is the part of the input that is still unread. `whole` accepts its first field exactly if
--- the number that `prefix` finds at the start of `rest` ends where the field ends. Both then give
--- the same value. No number that `prefix` finds extends past the field.
+-- `rest` is the part of the input that is still unread. `whole` accepts the first field of `rest`
+-- exactly if `prefix` finds a number at the start of `rest` that ends where the field ends. Both
+-- then give the same value. No number that `prefix` finds extends past the field.
 pub record FieldIsPrefix (whole : List ℕ → Result ℤ Refusal) (prefix : List ℕ → Result (ℤ × ℕ) Refusal) (separator : ℕ) (rest : List ℕ) : Type 0 where
   pub to_prefix : (value : ℤ) → whole (before_first (λ byte. byte == separator) rest) ≡ Ok value
       → prefix rest ≡ Ok (value, position_or_len (λ byte. byte == separator) rest)

@@ -1,5 +1,6 @@
 //! `Column`, an iterator over the numbers of a byte slice, which are separated by one byte. It uses
-//! `parse_prefix` of `atoi_simd`, `error`, the law of `fields` and one of `atoi_core`.
+//! `parse_prefix` of `atoi_simd`, the error of the module `error`, the law of the module `fields`,
+//! and a law of `atoi_core`.
 ghost use Rattle.std.specs.Prelude.{◌≡◌, ◌<◌, ◌≤◌, true, length, All, IfErr};
 ghost use Rattle.std.specs.Iterator.{YieldsFirstBy, item_count};
 ghost use Rattle.atoi_column.specs.Fields.{is_separator};
@@ -30,7 +31,7 @@ pub struct Column<'a, T: Parse> {
     // The part of the input that is not read yet. It is empty at the end, and after an error.
     rest: &'a [u8],
     separator: u8,
-    // The index of the field that `rest` begins with, and the offset of its first byte.
+    // The index of the field that `rest` begins with, and the offset of that field's first byte.
     index: usize,
     place: usize,
     values: PhantomData<T>,

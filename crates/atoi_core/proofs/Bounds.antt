@@ -1,5 +1,6 @@
--- Bounds and limits of the integer types, and how the answer for both signs follows from one parse
--- under the negative bound, the magnitude of `T::MIN`.
+-- Bounds and limits of the integer types. The negative bound of a signed type is the magnitude of
+-- `T::MIN`. The lemmas also say how the answer for either sign follows from a parse under that
+-- bound.
 use Rattle.std.proofs.Common.{◌≡◌, ◌⊎◌, ℕ, ◌+◌, ◌-◌, ◌^◌, ◌<◌, ◌≤◌, Bool, true, false, cond, eqb, List, Option, Some, None, refl, arith, inl, inr, lt_of_le_of_lt, le-ltb, ltb-false, ◌*◌, ◌/◌, ltb, leb, not, ◌&&◌, length, drop, Ok, Err, sym, ap, ap₂, ◌∙◌, subst, lit<}
 use Rattle.std.proofs.Math.Nat.{pow-le-pow_right}
 use Rattle.std.proofs.lemmas.Bool.{cases_lt, lt-leb, lt-ltb, ltb-true, eqb-false}
@@ -17,7 +18,7 @@ use Rattle.atoi_core.specs.Answer.{whole_answer, prefix_answer}
 use Rattle.std.proofs.lemmas.List.{length-take-le}
 use Rattle.std.proofs.lemmas.List.Sums.{prefix_len-le-length}
 
--- ---- A number in range never has too many significant digits
+-- ---- If zeros are skipped, a number in range does not have too many significant digits
 
 -- If at most `limit` digits of a whole slice are significant, these are not too many, whatever the
 -- class.
@@ -135,9 +136,10 @@ in_range_short table k sized minus s le =
     ]
 
 -- ---- Both signs from one parse
--- For a signed type, each body is parsed under the negative bound. Without a minus, the answer has
--- the same magnitude or the same error, except that the magnitude of `T::MIN` is then out of range
--- and overflows. In the lemmas below, `minus` says whether there is a minus.
+-- The functions `parse_signed` and `parse_prefix_signed` always parse the body under the negative
+-- bound. If there is no minus, their answer has the magnitude or the error of that parse, with one
+-- exception: the magnitude of `T::MIN` is then out of range and overflows. In the lemmas below,
+-- `minus` says whether there is a minus.
 
 -- If a run spells a number that has exactly `digits` decimal digits, then exactly `digits` digits
 -- of the run follow its leading zeros.
@@ -331,25 +333,27 @@ not_counted : (above : Bool) (index : ℕ) → None ≡ cond above (Some index) 
 not_counted true index h = absurd (cc h)
 not_counted false index h = refl
 
--- Let `negative` be a number that is not positive. Then `either` is the number with the same
--- magnitude, negated exactly if `minus` is set, or it is `None` if that number is out of range.
+-- Let `negative` be a number that is not positive. If `minus` is set, `either` is `negative`
+-- itself; otherwise it is the magnitude of `negative`. But if that number is out of range, `either`
+-- is `None`.
 abbrev pub IsInRange : IntType → Bool → (negative : ℤ) → Option ℤ → Type 0
 IsInRange k minus negative either =
     (magnitude : ℕ) → negative ≡ with_sign true magnitude
     → either ≡ cond (ltb (bound_of k minus) magnitude) None (Some (with_sign minus magnitude))
 
 module _ (t : Table) (k : IntType) (minus skip : Bool) (s : List ℕ) where
-  -- If `x` is the answer for a whole slice under the negative bound, and the number `y` with the
-  -- same magnitude and the sign that `minus` says is in range, then `y` is the answer.
+  -- Let `x` be the answer for a whole slice under the negative bound, and let `y` be the number
+  -- with the same magnitude, and with a minus if `minus` is set. If `y` is in range (`IsInRange`),
+  -- then it is the answer under the bound for `minus`.
   pub whole_number : (x y : ℤ) → Ok x ≡ whole_answer t k true skip s → IsInRange k minus x (Some y) → Ok y ≡ whole_answer t k minus skip s
   whole_number x y h fact =
       let both = map_unless_ok (with_sign true) _ _ x (sym h) in
       let number = chosen _ y _ (fact (value t (run t s)) both.1) in
       rw (accepted_too t k minus whole skip s both.0 (ltb-false _ _ number.0)) (ap Ok number.1)
 
-  -- If a whole slice is accepted under the negative bound, but the number with the sign that
-  -- `minus` says is out of range, then the digits spell the magnitude of `T::MIN` and overflow
-  -- (`IsLeast`). The slice consists of these digits.
+  -- If a whole slice is accepted under the negative bound, but its number is out of range with the
+  -- sign for `minus`, then the digits spell the magnitude of `T::MIN` and overflow (`IsLeast`). The
+  -- slice consists of these digits.
   pub whole_least : (x : ℤ) → Ok x ≡ whole_answer t k true skip s → IsInRange k minus x None → IsLeast t k minus whole skip s × (length s ≡ run_len t s)
   whole_least x h fact =
       let both = map_unless_ok (with_sign true) _ _ x (sym h) in
@@ -358,7 +362,8 @@ module _ (t : Table) (k : IntType) (minus skip : Bool) (s : List ℕ) where
       (accepted_least t k minus whole skip s both.0 (ltb-true _ _ above), sym (whole_is_run (run_len t s) (length s) was.ends))
 
   -- If a whole slice is refused under the negative bound, and the value in the error is not above
-  -- the bound for `minus`, then the error stays the same.
+  -- the bound for `minus`, then the slice is refused with the same error under the bound for
+  -- `minus`.
   pub whole_error : (reason : Refusal) → Err reason ≡ whole_answer t k true skip s
       → None ≡ cond (ltb (bound_of k minus) (number_in reason)) (Some (index_in reason)) None → Err reason ≡ whole_answer t k minus skip s
   whole_error reason h none =
@@ -381,9 +386,9 @@ module _ (t : Table) (k : IntType) (minus skip : Bool) (s : List ℕ) where
       → Err (overflow rest) ≡ whole_answer t k minus skip s
   whole_overflows count rest least count_is rest_is = rw (rest_is, count_is, least.refused_is) refl
 
-  -- If `x` is the answer for a prefix under the negative bound, and the number `y` with the same
-  -- magnitude and the sign that `minus` says is in range, then `y` is the answer, with the same
-  -- count.
+  -- Let `x` be the answer for a prefix under the negative bound, and let `y` be the number with the
+  -- same magnitude, and with a minus if `minus` is set. If `y` is in range (`IsInRange`), then it
+  -- is the answer under the bound for `minus`, with the same count.
   pub prefix_number : (x y : ℤ) (len : ℕ) → Ok (x, len) ≡ prefix_answer t k true skip s → IsInRange k minus x (Some y) → Ok (y, len) ≡ prefix_answer t k minus skip s
   prefix_number x y len h fact =
       let both = map_unless_ok (counted_number true) _ _ (x, len) (sym h) in
@@ -391,16 +396,17 @@ module _ (t : Table) (k : IntType) (minus skip : Bool) (s : List ℕ) where
       let count : len ≡ run_len t s = ap (λ (pair : ℤ × ℕ). pair.1) both.1 in
       rw (accepted_too t k minus prefix skip s both.0 (ltb-false _ _ number.0)) (ap₂ (λ (n : ℤ) (m : ℕ). Ok (n, m)) number.1 count)
 
-  -- If a prefix is accepted under the negative bound, but the number with the sign that `minus`
-  -- says is out of range, then the digits spell the magnitude of `T::MIN` and overflow (`IsLeast`).
-  -- The count is the number of these digits.
+  -- If a prefix is accepted under the negative bound, but its number is out of range with the sign
+  -- for `minus`, then the digits spell the magnitude of `T::MIN` and overflow (`IsLeast`). The
+  -- count is the number of these digits.
   pub prefix_least : (x : ℤ) (len : ℕ) → Ok (x, len) ≡ prefix_answer t k true skip s → IsInRange k minus x None → IsLeast t k minus prefix skip s × (len ≡ run_len t s)
   prefix_least x len h fact =
       let both = map_unless_ok (counted_number true) _ _ (x, len) (sym h) in
       let above = not_chosen _ _ (fact (value t (run t s)) (ap (λ (pair : ℤ × ℕ). pair.0) both.1)) in
       (accepted_least t k minus prefix skip s both.0 (ltb-true _ _ above), ap (λ (pair : ℤ × ℕ). pair.1) both.1)
 
-  -- Prefix: an error never holds the value of the digits, so it stays the same.
+  -- The error for a prefix never holds the value of the digits. So a prefix that is refused under
+  -- the negative bound is refused with the same error under the bound for `minus`.
   pub prefix_error : (reason : Refusal) → Err reason ≡ prefix_answer t k true skip s → Err reason ≡ prefix_answer t k minus skip s
   prefix_error reason h =
       let refused_is = map_unless_err (counted_number true) _ _ reason (sym h) in

@@ -391,7 +391,7 @@ found_prefix k form skip s v count h =
     let found = from_prefix k g.minus skip g.body v count_is.0 count_is.1 in
     record { is_prefix = found.0; number = found.1; count_is = rw (← found.2) count_is.2 }
 
--- If a value and a count are found in the body (`IsFound`), then the prefix call returns them.
+-- If `IsFound` holds for a value and a count, then the prefix call returns `Ok` with these two.
 pub ok_prefix : (k : IntType) (form : SignForm) (skip : Bool) (s : List ℕ) (v : ℤ) (count : ℕ)
     → IsFound k (sign_in k form s) skip v count → prefix_call k form skip s ≡ Ok (v, count)
 ok_prefix k form skip s v count h =
@@ -400,7 +400,7 @@ ok_prefix k form skip s v count h =
     ∙ ap (with_more g.taken) (to_prefix k g.minus skip g.body h.is_prefix)
     ∙ rw (h.number, h.count_is) refl
 
--- ---- Answers for an integer type
+-- ---- Answers to a body, with a bound and a limit
 -- These lemmas say how the answers are related to bounds, limits and counts.
 
 -- A prefix that is answered `Ok` has a value within the bound.

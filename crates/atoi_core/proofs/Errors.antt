@@ -198,8 +198,8 @@ errors_in_order k = record {
 -- ---- Texts of numbers
 -- Numbers of up to 128 bits are written in decimal, and bytes in hexadecimal.
 
--- The text of a number of two or more digits is the text of the number without its last digit, and
--- then that digit.
+-- The text of a number of two or more digits is the text of the number without its last digit,
+-- followed by that digit.
 pub decimal_more : (n : ℕ) → 10 ≤ n → n < 2 ^ 128 → decimal n ≡ decimal (n / 10) ++ (48 + n % 10) ∷ []
 decimal_more n low high = decimal_step_wide n low (omega arith)
 

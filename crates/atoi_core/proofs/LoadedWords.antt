@@ -1,7 +1,8 @@
 -- Words that hold the bytes of a slice: how a word is loaded, and why the digits and zeros that are
 -- counted in a word, and the value that is computed from it, are those of the slice. The word
--- engine and the functions of `words` that load a word are proved with these lemmas. The weighted
--- sum of bytes (`low_value`) adds the lower half of each byte times its power of ten.
+-- engine and the functions of `words` that load a word are proved with these lemmas. To compute the
+-- weighted sum of bytes (`low_value`), the lower half of each byte is multiplied by 10^k if k bytes
+-- follow it, and these products are added.
 use Rattle.std.proofs.Common.{◌≡◌, ℕ, zero, suc, ◌+◌, ◌-◌, ◌*◌, ◌/◌, ◌%◌, ◌^◌, ◌<◌, ◌≤◌, List, [], ◌∷◌, ◌++◌, length, take, drop, replicate, get_or, take-take, refl, sym, ap, ap₂, ◌∙◌, arith, ◌≢◌, min, Bool, true, false, cond, ◌==◌, if◌then◌else◌}
 use Rattle.std.proofs.Math.Nat.{mod-lt, div-one, zero-div, suc-mul, div-div-eq-div-mul, zero-add, suc-add, pow-suc}
 use Rattle.std.proofs.lemmas.List.{take_all, length-drop, get_or-drop, drop-drop, length-take, length-take-le}
@@ -323,8 +324,9 @@ window_from c s len leading number len_is leading_is number_is =
     number_is ∙ ap (value decimal_table) (sym (take-take len c s (omega arith)) ∙ ap (λ n. take n (take c s)) len_is) in
     λ i. record { len = len_is i; zeroes = same_leading i; number = same_number i }
 
--- The number of digits at the start of a loaded word, its reported zeros, and the weighted sum of
--- these digits make up the window of the first eight bytes of the slice.
+-- Let `w.len` be the number of digits at the start of a loaded word, and let `w.number` be the
+-- weighted sum of these digits. Let `w.zeroes` be the number of zeros at the start of the word if
+-- `w.len` is 8, and otherwise 0. Then `w` is the window of the first eight bytes of the slice.
 pub loaded_window : (s : List ℕ) → ((i : ℕ) → get_or s i 0 < 256) → (word : ℕ) (w : Window) → word ≡ word_of (take 8 s)
     → w.len ≡ run_len decimal_table (low_bytes 8 word)
     → w.zeroes ≡ (if w.len == 8 then zeros decimal_table (low_bytes 8 word) else 0)
@@ -390,7 +392,7 @@ window_joined s more leading first next full more_is leading_is first_is next_is
 -- A slice of at most eight bytes is in the highest bytes of a word. The bytes below it are 0, or
 -- they are filled with zeros, which are the byte 48.
 
--- Putting m bytes of 0 before the others shifts the word left by m bytes.
+-- If m bytes that are 0 are put before a slice, the word of the slice is shifted left by m bytes.
 pub word_shifted : (m : ℕ) (s : List ℕ) → word_of (replicate m 0 ++ s) ≡ word_of s * 2 ^ (m * 8)
 unfolding word_of
 word_shifted zero s = omega arith

@@ -1,6 +1,6 @@
 -- Answers of the loops over windows, for each size of type. A loop loads windows of 16 bytes, skips
 -- their leading zeros, and ends with a last window at offset `at`. These lemmas say which answer
--- that window decides.
+-- follows from that window, or for a wide type from that window and the bytes after it.
 use Rattle.std.proofs.Common.{◌≡◌, ℕ, ◌+◌, ◌*◌, ◌^◌, ◌<◌, ◌≤◌, Bool, true, List, length, take, drop, Some, Ok, Err, refl, sym, ap₂, ◌∙◌, lit<, arith, ◌≢◌, ◌==◌, false, not, None, Result, ap, if◌then◌else◌, ◌-◌, ◌/◌, min, nat_lt, ltb-true, ◌&&◌, inl, inr, ◌⊎◌, cond, eqb, ltb, Option, le-ltb, ne_eqb}
 use Rattle.std.proofs.lemmas.Bool.{eq-eqb, cases_lt, lt-ltb}
 use Rattle.std.proofs.lemmas.List.{length-drop, take_rest}
@@ -196,8 +196,8 @@ not_too_long : (t : Table) (skip : Bool) (limit : ℕ) (s : List ℕ) → (skip 
 not_too_long t true limit s few = refl
 not_too_long t false limit s few = le-ltb 16 (significant_digits t false s) (omega (arith, few refl))
 
--- If the number of the last window fits in 32 bits, and there are at most 16 digits unless zeros
--- are skipped, then the window holds the rest of the run.
+-- Let zeros be skipped, or let the run have at most 16 digits. If the number of the last window
+-- fits in 32 bits, then the window holds the rest of the run.
 ends : (t : Table) (skip : Bool) (s : List ℕ) (at before now : ℕ) (w : Window) →
     Skipped t skip s at before now w → (skip ≡ false → run_len t s ≤ 16) → w.number ≤ 4294967295 → run_len t (drop at s) ≡ w.len
 ends t false s at before now w after_skip few small = omega (arith, few refl, after_skip.off refl, after_skip.run_is, after_skip.shown.len_is)
@@ -208,7 +208,7 @@ ends t true s at before now w after_skip few small =
           absurd (omega (arith, least t (drop at s) w after_skip.shown h (after_skip.last refl)))
     ]
 
--- If there are at most 16 digits unless zeros are skipped, and the number of the last window is
+-- Let zeros be skipped, or let the run have at most 16 digits. If the number of the last window is
 -- larger than the bound, the answer is `Overflow`.
 narrow_overflow : (t : Table) (bound limit : ℕ) (skip : Bool) (s : List ℕ) (at before now : ℕ) (w : Window) →
     Skipped t skip s at before now w → (skip ≡ false → run_len t s ≤ 16) → 0 < at + w.len → bound < w.number →
@@ -226,8 +226,8 @@ pub narrow_full : (t : Table) (bound limit : ℕ) (s : List ℕ) (before now : �
 narrow_full t bound limit s before now w after_skip high full =
     narrow_overflow t bound limit true s 0 before now w after_skip (λ no. absurd (cc no)) (omega arith) (omega (arith, least t s w after_skip.shown full (after_skip.last refl)))
 
--- If there is a digit, and at most 16 digits unless zeros are skipped, and the number of the last
--- window is within the bound, the answer is `Ok`.
+-- Let zeros be skipped, or let the run have at most 16 digits. If there is a digit, and the number
+-- of the last window is within the bound, the answer is `Ok`.
 narrow_ok : (t : Table) (bound limit : ℕ) (skip : Bool) (s : List ℕ) (at before now : ℕ) (w : Window) →
     Skipped t skip s at before now w → bound ≤ 4294967295 → (skip ≡ false → run_len t s ≤ 16) → 0 < at + w.len → w.number ≤ bound →
     Ok (w.number, at + w.len) ≡ prefix_magnitude t narrow bound limit skip s
@@ -240,8 +240,8 @@ narrow_ok t bound limit skip s at before now w after_skip high few some within =
     record { some = omega arith; short = not_too_long t skip limit s few; in_range = omega arith; ends = refl } in
     rw (refusal-none t narrow bound limit prefix skip s accepted, number, len) refl
 
--- If there is a digit, and at most 16 digits unless zeros are skipped, the number of the last
--- window decides between `Ok` and `Overflow`.
+-- Let zeros be skipped, or let the run have at most 16 digits. If there is a digit, the number of
+-- the last window decides between `Ok` and `Overflow`.
 pub narrow_after_skip : (t : Table) (bound limit : ℕ) (skip : Bool) (s : List ℕ) (at before now : ℕ) (w : Window) →
     Skipped t skip s at before now w → bound ≤ 4294967295 → (skip ≡ false → run_len t s ≤ 16) → 0 < at + w.len →
     (if nat_lt bound w.number then Err (overflow (drop at s)) else Ok (w.number, at + w.len)) ≡ prefix_magnitude t narrow bound limit skip s
@@ -262,8 +262,8 @@ narrow_size t bound limit false s long =
     let reported : 0 + min (significant_digits t false s) 17 ≡ 17 = omega arith in
     rw (refused_size t narrow bound limit prefix false s (omega arith) too_long) (rw reported refl)
 
--- If the first 16 bytes are digits, the bytes after them begin with a digit exactly if there are
--- more than 16 digits.
+-- Let the first 16 bytes be digits. Then the bytes after them begin with a digit exactly if the run
+-- has more than 16 digits.
 pub digit_after_16 : (t : Table) (s : List ℕ) → run_len t (take 16 s) ≡ 16 →
     nat_lt 0 (run_len t (take (length s - 16) (drop 16 s))) ≡ nat_lt 16 (run_len t s)
 digit_after_16 t s full =

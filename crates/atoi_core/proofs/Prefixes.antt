@@ -1,6 +1,6 @@
--- Prefixes of slices that write a number: where a prefix parse stops, how it is related to a whole
--- parse, and what the results for a type say about their slices. About half of the laws of this
--- crate are proved here.
+-- Prefixes that write a number: where a prefix parse stops, how it is related to a whole parse, and
+-- what the results for a type say about their slices. About half of the laws of this crate are
+-- proved here.
 use Rattle.std.proofs.Common.{◌≡◌, ℕ, ◌≤◌, Bool, List, ◌++◌, length, take, get_or, Ok, ℤ, refl, sym, ap, ◌∙◌, subst, arith, inl, inr, get_or-drop, take-add, add_comm, ◌+◌, ◌<◌, true, IsFalse, [], ◌∷◌, drop, IsOk, Result, Err, eq-eqb, length-drop, append_assoc, append-nil, length-append, IfOk, OnErr}
 use Rattle.std.proofs.lemmas.Bool.{cases_lt, cases_Bool}
 use Rattle.std.proofs.lemmas.List.Sums.{prefix_len-le-length, prefix_len_stops}
@@ -318,8 +318,8 @@ accepted_texts k sized = record {
 -- these lemmas follow from the laws about answers.
 
 module _ {T : Type 0} (number : T → ℤ) where
-  -- Let a result mean an answer. If a property holds for each number that this answer can be, then
-  -- it holds for the number of the result, if there is one.
+  -- Let a result mean an answer, and let a property hold for `any` whenever the answer is `Ok any`.
+  -- If the result is `Ok`, then the property holds for its number.
   if_ok : (result : Result T AtoiSimdError) (answer : Result ℤ Refusal) (P : ℤ → Type 0) → typed_answer number result ≡ answer
       → ((any : ℤ) → answer ≡ Ok any → P any) → IfOk result (λ value. P (number value))
   if_ok (Ok value) answer P is h = h (number value) (sym is)

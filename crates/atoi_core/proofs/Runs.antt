@@ -16,11 +16,11 @@ use Rattle.std.proofs.lemmas.List.Folds.{length-prefix_len}
 use Rattle.atoi_core.specs.Refusal.{empty, overflow, invalid64}
 use Rattle.atoi_core.specs.Magnitude.{narrow, refusal, unless_refused, whole_magnitude}
 
--- ---- Prefixes whose elements pass a test, if the slice is cut
+-- ---- How the prefix whose elements pass a test changes when the slice is cut
 -- `prefix_len p s` is the length of the longest prefix of `s` whose elements all pass the test `p`.
 
--- If a slice is cut to its first n elements, its passing prefix is cut to n elements too, if it was
--- longer.
+-- If a slice is cut to its first n elements, its `prefix_len` becomes n if it was larger than n,
+-- and otherwise it does not change.
 pub prefix_len-take : (p : ℕ → Bool) (n : ℕ) (s : List ℕ) → prefix_len p (take n s) ≡ min n (prefix_len p s)
 prefix_len-take p zero s = omega arith
 prefix_len-take p (suc n) [] = omega arith
@@ -28,7 +28,8 @@ prefix_len-take p (suc n) (b ∷ bs) =
     elim (p b) as (λ v. cond v (1 + prefix_len p (take n bs)) 0 ≡ min (suc n) (cond v (1 + prefix_len p bs) 0))
     [ true ↦ omega (arith, prefix_len-take p n bs) | false ↦ omega arith ]
 
--- If n passing elements are dropped, the passing prefix becomes shorter by n.
+-- Let the first n elements of a slice pass the test. If they are dropped, the `prefix_len` of the
+-- slice becomes smaller by n.
 pub prefix_len-drop : (p : ℕ → Bool) (n : ℕ) (s : List ℕ) → n ≤ prefix_len p s → prefix_len p s ≡ n + prefix_len p (drop n s)
 prefix_len-drop p zero s = λ _. omega arith
 prefix_len-drop p (suc n) [] = λ h. absurd (omega arith)
@@ -121,7 +122,8 @@ value-least t n (b ∷ bs) =
 -- ---- Runs, zeros and values of slices that are cut or joined
 -- These lemmas say how `take`, `++` and zeros that are put before a slice change them.
 
--- If n copies of a passing element are put before a list, its passing prefix becomes longer by n.
+-- If n copies of an element that passes the test `p` are put before a list, the `prefix_len` of the
+-- list becomes larger by n.
 pub prefix_len-replicate_append : {X : Type 0} (p : X → Bool) (x : X) → p x ≡ true → (n : ℕ) (xs : List X)
     → prefix_len p (replicate n x ++ xs) ≡ n + prefix_len p xs
 prefix_len-replicate_append p x h zero xs = omega arith
@@ -249,8 +251,8 @@ pub narrow_whole_is : (t : Table) (bound limit : ℕ) (skip : Bool) (s : List �
 unfolding refusal
 narrow_whole_is t bound limit skip s n number at_n is_number = rw (at_n, is_number) refl
 
--- If i digits within the bound are followed by another byte, the answer is `Empty` for i = 0, and
--- otherwise `Invalid64`.
+-- If a run of i digits, whose value is within the bound, is followed by another byte, the answer is
+-- `Empty` for i = 0, and otherwise `Invalid64`.
 pub narrow_whole_rest : (t : Table) (bound limit : ℕ) (skip : Bool) (s : List ℕ) (i number : ℕ) → i < length s → t (get_or s i 0) ≡ None
     → i + run_len t (drop i s) ≡ run_len t s → number ≡ value t (take i s) → number ≤ bound
     → whole_magnitude t narrow bound limit skip s ≡ Err (if i == 0 then empty else invalid64 number i s)

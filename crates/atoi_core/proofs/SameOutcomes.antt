@@ -52,7 +52,9 @@ len_at g = run_len decimal_table g.body
 abbrev number_at : Sign → ℕ
 number_at g = value decimal_table (run decimal_table g.body)
 
--- The four tests of `refusal` give the same results for two bodies with their signs.
+-- For two bodies with their signs, the first and the last of the four tests of `refusal` give the
+-- same results, and the other two tests compare the same numbers. So all four tests give the same
+-- results.
 record IsAlike (k : IntType) (skip : Bool) (extent : Extent) (g h : Sign) : Type 0 where
   bound : bound_of k g.minus ≡ bound_of k h.minus
   is_empty : eqb (run_len decimal_table g.body) 0 ≡ eqb (run_len decimal_table h.body) 0
@@ -171,8 +173,8 @@ padded_alike k extent count g some =
       followed = followed-padded extent count g.body;
     }
 
--- If the body begins with a digit, a call uses the same sign after zeros are added, and its body is
--- then the padded body.
+-- If the body begins with a digit, adding zeros after the sign does not change the sign that a call
+-- uses. The body after that sign is then the padded body.
 sign_of_padded : (k : IntType) (form : SignForm) (s : List ℕ) (count : ℕ) → 0 < run_len decimal_table (sign_in k form s).body
     → sign_in k form (with_zeros k form count s)
     ≡ record { minus = (sign_in k form s).minus; taken = (sign_in k form s).taken; body = padded count (sign_in k form s).body }

@@ -1,7 +1,8 @@
 -- Words seen as numbers: the fields that they consist of, how the kernels compute decimal values in
 -- them, and what bitwise operators do to each field. A field is a group of neighbouring bits, such
--- as a byte. The weighted sum of bytes (`low_value`) adds up their lower halves, each multiplied by
--- ten for every byte after it. For digits this is their value.
+-- as a byte. The weighted sum of bytes (`low_value`) is the sum of their lower halves, each
+-- multiplied by 10^k if k bytes follow it. If the bytes are decimal digits, the weighted sum is
+-- their value.
 use Rattle.std.proofs.Common.{◌≡◌, ℕ, zero, suc, ◌+◌, ◌-◌, ◌*◌, ◌/◌, ◌%◌, ◌^◌, ◌<◌, ◌≤◌, List, [], ◌∷◌, length, refl, sym, ap, ap₂, ◌∙◌, arith, lit<, map, inl, inr, cond, ◌==◌, mod-lt}
 use Rattle.std.proofs.Math.Nat.{add-mul-div_right, div-div-eq-div-mul, mul_comm, zero-mod, suc-mul, mul-le-mul_right, mul_assoc, pow-zero, pow-suc, suc-add, zero-add, mul-one, mod-eq_of_lt, pow-le-pow_right, div-one, add_comm, eq-zero-or-pos}
 use Rattle.std.proofs.Math.Pow.{mod-mod-pow, ones_lt, pow_mono}
@@ -78,8 +79,8 @@ product_shifted b t word pos =
     ap (λ x. x / b) e ∙ add-mul-div_right word (word * t) pos
 
 -- Let f and g be the two lowest fields of a word, and u the word above them. After the word is
--- spread, the sum `g + f * t` of this pair is in its lowest field, and the lowest field of u plus
--- `g * t` is in the next one, provided that both fit. Above these two fields is u, spread in the
+-- spread, its lowest field has the sum `g + f * t` of this pair, and its next field has `g * t`
+-- plus the lowest field of u, provided that both fit. Above these two fields is u, spread in the
 -- same way.
 spread_pair : (b t u f g : ℕ) → f < b → spread b t ((u * b + g) * b + f) ≡ spread b t u * (b * b) + ((u % b + g * t) * b + (g + f * t))
 unfolding spread
@@ -356,7 +357,8 @@ module _ (op : ℕ → ℕ → ℕ)
 pub or_bytes : (k a b : ℕ) → digits_l 256 k (bit_or a b) ≡ zip2 bit_or (digits_l 256 k a) (digits_l 256 k b)
 or_bytes = op_fields bit_or or_shr or_mod 8
 
--- Masking a word with the word that repeats the byte b masks each of its bytes with b.
+-- If a word is masked with the word that repeats the byte b, each byte of the first word is masked
+-- with b.
 pub and_repeated : (b : ℕ) → b < 256 → (k a : ℕ) → digits_l 256 k (bit_and a (repeated b k)) ≡ map (λ x. bit_and x b) (digits_l 256 k a)
 and_repeated = op_repeated bit_and and_shr and_mod
 

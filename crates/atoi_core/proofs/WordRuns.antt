@@ -17,8 +17,9 @@ use Rattle.atoi_core.specs.Words.{low_bytes}
 use Rattle.atoi_core.proofs.Calls.{digit_in_range}
 use Rattle.atoi_core.proofs.WordFields.{trailing_bytes, repeated, or_bytes, and_repeated, xor_repeated, upper_halves, digits_cut}
 
--- `prefix_len p xs` is the length of the longest prefix whose elements pass the test `p`. To map
--- with `f` first is the same as to test with `p` after `f`.
+-- `prefix_len p xs` is the length of the longest prefix whose elements pass the test `p`. Mapping a
+-- list with `f` and then testing with `p` gives the same length as testing each element `x` of the
+-- list with `p (f x)`.
 prefix_len-map : (p : ℕ → Bool) (f : ℕ → ℕ) (xs : List ℕ) → prefix_len p (map f xs) ≡ prefix_len (λ x. p (f x)) xs
 prefix_len-map p f [] = refl
 prefix_len-map p f (x ∷ xs) = ap (λ n. cond (p (f x)) (1 + n) 0) (prefix_len-map p f xs)
@@ -47,8 +48,8 @@ zeros_counted k word =
 
 -- ---- Counting digits
 
--- Let two lengths be 0 unless a test passes. They are equal if they are equal when that test
--- passes.
+-- Let two lengths be 0 unless a test passes. If they are equal in the case that the test passes,
+-- then they are equal in both cases.
 run_goes_on : (t : Bool) (m n : ℕ) → (t ≡ true → m ≡ n) → cond t (1 + m) 0 ≡ cond t (1 + n) 0
 run_goes_on true m n e = ap (λ x. 1 + x) (e refl)
 run_goes_on false m n e = refl
@@ -88,8 +89,7 @@ added c h =
       rest = λ k word e. let digit = digit_in_range (word % 256) e in omega arith;
     }
 
--- The constant that subtracts 48 from each byte when it is added to a word of k bytes and the sum
--- wraps.
+-- A wrapping addition of this constant to a word of k bytes subtracts 48 from each byte.
 abbrev pub without_48 : ℕ → ℕ
 without_48 zero = 1
 without_48 (suc k) = 256 * without_48 k - 48

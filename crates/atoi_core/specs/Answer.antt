@@ -18,7 +18,8 @@ map_answer f (Err reason) = Err reason
 abbrev pub typed_answer : {T : Type 0} → (T → ℤ) → Result T AtoiSimdError → Result ℤ Refusal
 typed_answer number result = map_answer number (answer_of result)
 
--- The same for the `Result` of a prefix parse, which holds a value and a count.
+-- The answer that the `Result` of a prefix parse means. If this `Result` is `Ok`, it holds a value
+-- and a count.
 abbrev pub typed_prefix_answer : {T : Type 0} → (T → ℤ) → Result (T × ℕ) AtoiSimdError → Result (ℤ × ℕ) Refusal
 typed_prefix_answer {T} number result =
     map_answer (λ (found : T × ℕ). (number found.0, found.1)) (answer_of result)

@@ -154,7 +154,8 @@ pub size_is_capped : parse_prefix_answer u64_type true false (codes "00011111111
 unfolding refusal
 size_is_capped = refl
 
--- A byte after the magnitude of the smallest value is reported with that magnitude.
+-- If a call for negative numbers reads the magnitude of the smallest value, and a byte follows it,
+-- the error holds that magnitude.
 pub magnitude_of_least : whole_answer decimal_table i64_type true false (codes "9223372036854775808x") ≡ Err (invalid64 9223372036854775808 19 (codes "9223372036854775808x"))
 unfolding refusal
 magnitude_of_least = refl

@@ -23,7 +23,8 @@ pub record IsSized (k : IntType) : Type 0 where
   pub bits : (k.bits ≡ 8) ⊎ ((k.bits ≡ 16) ⊎ ((k.bits ≡ 32) ⊎ ((k.bits ≡ 64) ⊎ (k.bits ≡ 128))))
   pub greatest : k.greatest ≡ greatest_of k.bits k.signed
 
--- The record has these three constants of a type.
+-- The fields of `k` are these three constants of a type: its number of bits, whether it is signed,
+-- and its largest value.
 pub record IsTypeOf (k : IntType) (bits : ℕ) (signed : Bool) (greatest : ℕ) : Type 0 where
   pub bits_are : k.bits ≡ bits
   pub sign_is : k.signed ≡ signed

@@ -1,5 +1,5 @@
--- Laws about what the parses return. Each is a statement about the definitions only, for every
--- slice, and does not mention how a parse works.
+-- Laws about what the parses return. Each is a statement about the definitions only, and does not
+-- mention how a parse works. A law that speaks of a slice speaks of every slice.
 use Rattle.std.specs.Prelude.{◌≡◌, ◌≢◌, ◌⊎◌, ◌↔◌, ℕ, ◌+◌, ◌-◌, ◌^◌, ◌<◌, ◌≤◌, Bool, true, false, if◌then◌else◌, IsTrue, IsFalse, List, ◌++◌, length, take, drop, replicate, slice_index, All, Option, Some, None, ℤ, pos, neg_ℤ, ◌≤ℤ◌, Result, Ok, Err, IsOk, IfOk, OnErr}
 use Rattle.std.specs.Fmt.{decimal, signed_decimal}
 use Rattle.std.specs.Char.{IsAsciiDigit}
@@ -102,8 +102,9 @@ pub record AcceptedNumbers (k : IntType) : Type 0 where
   pub accepted : (form : SignForm) (s : List ℕ) (number : ℤ)
       → Writes k form s number → whole_call k form true s ≡ Ok number
 
--- The same for the Rust `Result` of a whole parse; `number` gives the integer that a value of the
--- type means. If zeros are skipped, an error means that the slice writes no number.
+-- What the law `AcceptedNumbers` says, for the Rust `Result` of a whole parse; `number` gives the
+-- integer that a value of the type means. If the `Result` is `Ok`, the slice writes the number in
+-- it. If zeros are skipped, an error means that the slice writes no number.
 pub record WholeResults {T : Type 0} (k : IntType) (number : T → ℤ) (skip : Bool) : Type 0 where
   pub text : (plus : Bool) (s : List ℕ) (result : Result T AtoiSimdError)
       → typed_answer number result ≡ parse_answer k skip plus s
@@ -127,8 +128,10 @@ pub record AcceptedPrefixes (k : IntType) : Type 0 where
   pub accepted : (form : SignForm) (s : List ℕ) (number : ℤ) (count : ℕ)
       → PrefixWrites (Writes k form) s number count → prefix_call k form true s ≡ Ok (number, count)
 
--- The same for the Rust `Result` of a prefix parse. If zeros are skipped, an error means that the
--- slice has no prefix that writes a number and is not followed by a digit.
+-- What the law `AcceptedPrefixes` says, for the Rust `Result` of a prefix parse. If the `Result` is
+-- `Ok` and holds a number and a count, the first `count` bytes write that number, and no digit
+-- follows them. If zeros are skipped, an error means that each prefix of the slice that writes a
+-- number is followed by a digit.
 pub record PrefixResults {T : Type 0} (k : IntType) (number : T → ℤ) (skip : Bool) : Type 0 where
   pub text : (plus : Bool) (s : List ℕ) (result : Result (T × ℕ) AtoiSimdError)
       → typed_prefix_answer number result ≡ parse_prefix_answer k skip plus s
@@ -168,7 +171,7 @@ pub record PrefixIsWhole (k : IntType) : Type 0 where
       → whole_call k form skip s ≡ Ok v → prefix_call k form skip s ≡ Ok (v, length s)
 
 -- The prefix that a prefix parse finds has at least one byte and ends within the slice, and a call
--- for a slice that is only this prefix returns the same.
+-- for a slice that is only this prefix returns the same value and the same count.
 pub record PrefixOfCut (k : IntType) : Type 0 where
   pub cut : (form : SignForm) (skip : Bool) (s : List ℕ) (v : ℤ) (count : ℕ)
       → prefix_call k form skip s ≡ Ok (v, count)
@@ -205,8 +208,8 @@ pub record OrderAndSuffix (k : IntType) : Type 0 where
       → prefix_call k form skip s ≡ Err reason → IsSuffix (input_of reason) s
 
 -- If zeros are skipped and the body starts with a digit, more zeros before the body change neither
--- the value that is returned nor the variant of an error, and the count of a prefix parse grows by
--- their number.
+-- the value that is returned nor the variant of an error. The count of a prefix parse then grows by
+-- the number of the added zeros.
 pub record ZerosChangeNothing (k : IntType) : Type 0 where
   pub whole : (form : SignForm) (s : List ℕ) (count : ℕ)
       → 0 < run_len decimal_table (sign_in k form s).body

@@ -40,7 +40,7 @@ answer_by_digits class bound limit skipped significant number s =
     else (if nat_lt bound number then Err (overflow (drop skipped s))
     else Ok (number, skipped + significant)))
 
--- The law that what has been read decides the answer.
+-- This law says that what has been read decides the answer.
 pub record ReadingDecides : Type 0 where
   -- If all bytes before index `offset` are zeros, then a reading from that index on starts with the
   -- leading zeros of the slice that are left, or with `count` zeros if more are left.
@@ -61,8 +61,8 @@ pub record ReadingDecides : Type 0 where
   -- If a reading has `digits` digits, its number is below ten to the power of `digits`.
   pub below : (table : Table) → IsBelowTen table → (count : ℕ) (s : List ℕ) (digits leading number : ℕ)
       → Reading table count s digits leading number → number < 10 ^ digits
-  -- After skipped zeros, a reading decides the answer of a wide class if its digits end within it,
-  -- or if it has at least `cap class` significant digits.
+  -- After skipped zeros, a reading decides the answer of a wide class if the digits of the reading
+  -- end within it, or if at least `cap class` of them are significant.
   pub decided : (table : Table) (class : Class) (bound limit : ℕ) → limit < cap class
       → (skip : Bool) (s : List ℕ) (offset count digits leading number : ℕ) → IsSkipped table skip s offset
       → Reading table count (drop offset s) digits leading number

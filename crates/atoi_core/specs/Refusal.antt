@@ -45,8 +45,8 @@ numbers (overflow input) = []
 numbers (invalid64 number index input) = number ∷ index ∷ []
 numbers (invalid128 number index input) = number ∷ index ∷ []
 
--- The number in `invalid64` or `invalid128`, which the digits before the invalid byte spell. It is
--- 0 for the other reasons.
+-- The number that `invalid64` or `invalid128` holds. The digits before the invalid byte spell this
+-- number. It is 0 for the other reasons.
 abbrev pub number_in : Refusal → ℕ
 number_in empty = 0
 number_in (size length input) = 0

@@ -1,8 +1,9 @@
 //! The four *core calls*, `whole_pos`, `whole_neg`, `prefix_pos` and `prefix_neg`. They parse
 //! digits without a sign into any integer type. The name of the call says whether the number is
-//! negative, and this decides the bound on its magnitude. The size of the type, which is at most 32
-//! bits, 64 or 128, decides the parser. This module uses `narrow`, `wide`, `prefix_128` and
-//! `number`, and the modules that its contracts name, which are `engine`, `steps` and `error`.
+//! negative, and this decides the bound on its magnitude. The size of the type decides the parser:
+//! the types of at most 32 bits, the types of 64 bits and the types of 128 bits each have parsers
+//! of their own. This module uses `narrow`, `wide`, `prefix_128` and `number`, and the modules that
+//! its contracts name, which are `engine`, `steps` and `error`.
 ghost use Rattle.std.specs.Prelude.{◌≡◌, ◌^◌, ◌<◌, ◌≤◌, true, false, IfOk, length};
 ghost use Rattle.atoi_core.specs.Answer.{typed_answer, typed_prefix_answer, whole_answer, prefix_answer};
 ghost use Rattle.atoi_core.specs.IntType.{class_of, bound_of, limit_of};

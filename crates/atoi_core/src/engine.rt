@@ -43,7 +43,7 @@ pub trait Engine {
     /// and the number of its bytes, including those of the leading zeros.
     ///
     /// `bound` is the largest value that is accepted, and has exactly `limit` digits, 17 to 20.
-    /// With `skip` leading zeros do not count towards `limit`, however many there are. All digits
+    /// With `skip`, leading zeros do not count towards `limit`, however many there are. All digits
     /// at the start of `s` belong to the integer, and the first other byte ends it.
     ///
     /// The provided body loads 16 bytes at a time while it skips zeros, and so skips at most 16
@@ -98,9 +98,10 @@ pub trait Engine {
     /// Parses the integer of 128 bits at the start of `s`. It is like `prefix_64`, but `bound` has
     /// exactly 39 digits, which is the limit of significant digits.
     ///
-    /// While it skips zeros, the provided body makes the same loads as the provided body of
-    /// `prefix_64`. If the 16 bytes of the last of these loads are all significant digits, it loads
-    /// the 16 bytes after them. If these are all digits too, it also loads the next 8 bytes.
+    /// The provided body first makes the same loads of 16 bytes as the provided body of
+    /// `prefix_64`. Without zeros to skip it makes one such load. If the 16 bytes of the last of
+    /// these loads are all significant digits, it then loads the 16 bytes after them. If these are
+    /// all digits too, it also loads the next 8 bytes.
     ///
     /// # Errors
     ///

@@ -1,4 +1,4 @@
-//! The error of a parse, its text, and the order of errors. It uses `text`.
+//! The error of a parse, its text, and the order of errors. This module uses `text`.
 ghost use Rattle.std.specs.Prelude.{◌≡◌, ◌+◌, ◌^◌, ◌<◌, ◌≤◌, ◌++◌, ◌↔◌, IsTrue, Some, length, take, codes, decimal, IsAscii};
 ghost use Rattle.atoi_core.specs.Refusal.{refusal_of, refusal_cmp};
 ghost use Rattle.atoi_core.specs.ErrorText.{input_text, error_text};
@@ -123,7 +123,7 @@ impl fmt::Display for AtoiSimdError<'_> {
 
 impl Error for AtoiSimdError<'_> {}
 
-// The largest number of bytes of its slice that the text of an error shows.
+// The text of an error shows at most this many bytes of the slice that the error holds.
 const SHOWN_BYTES: usize = 48;
 
 // Returns the bytes of a slice that an error shows.

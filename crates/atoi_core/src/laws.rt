@@ -1,10 +1,10 @@
-//! Laws about what parses return. The contract of each function says one law, and calling the
+//! Laws about what a parse returns. The contract of each function says one law, and calling the
 //! function does nothing. This module uses the definitions and `number`, and no parser.
 //!
 //! A *call* is a call of one of the ten functions of `atoi_simd`. A *whole parse* is a call that
 //! reads all of its slice, and a *prefix parse* is a call that reads the number at the start of its
-//! slice. Bytes *write* a number of a type if they are one or more digits, with a sign before them
-//! only if the call accepts that sign. The number is the value of these digits with that sign, and
+//! slice. Bytes *write* a number of a type if they are one or more digits, or a sign that the call
+//! accepts and then one or more digits. The number is the value of these digits with that sign, and
 //! it must be in the range of the type. A call for negative numbers accepts no sign, and for such a
 //! call the bytes write the negated value of the digits.
 ghost use Rattle.atoi_core.specs.IntType.{int_type};
@@ -52,8 +52,8 @@ pub fn whole_results<T: Number, const SKIP_ZEROES: bool>()
 
 /// Speaks of a `Result` that a prefix parse of a `T` returns. If it is `Ok` with a number and a
 /// `count`, the first `count` bytes of the slice write that number, and no digit follows them. If
-/// it is an error and zeros are skipped, the slice has no prefix that writes a number and is
-/// followed by no digit.
+/// it is an error and zeros are skipped, each prefix of the slice that writes a number is followed
+/// by a digit.
 #[tactic(auto, using(crate::proofs::Prefixes::prefix_results))]
 pub fn prefix_results<T: Number, const SKIP_ZEROES: bool>()
     ensures { PrefixResults T.int_type T.number SKIP_ZEROES }
@@ -75,7 +75,7 @@ pub fn prefix_is_whole<T: Number>()
 {}
 
 /// If a prefix parse succeeds, its count is at least one and at most the length of the slice, and
-/// the same call on only the first `count` bytes returns the same.
+/// the same call on only the first `count` bytes returns the same value and the same count.
 #[tactic(auto, using(crate::proofs::Prefixes::prefix_of_cut))]
 pub fn prefix_of_cut<T: Number>()
     ensures { PrefixOfCut T.int_type }
@@ -138,7 +138,7 @@ pub fn decimal_texts<T: Number>()
 
 /// If zeros are skipped and the body, the slice after its sign, starts with a digit, more zeros
 /// before the body change neither the value that is returned nor the variant of an error. The count
-/// of a prefix parse grows by their number.
+/// of a prefix parse grows by the number of the added zeros.
 #[tactic(auto, using(crate::proofs::SameOutcomes::zeros_change_nothing))]
 pub fn zeros_change_nothing<T: Number>()
     ensures { ZerosChangeNothing T.int_type }

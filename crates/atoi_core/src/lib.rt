@@ -1,6 +1,7 @@
 //! The parsers that `atoi_simd` and `atoi_lanes` call. They read the digits at the start of a byte
 //! slice as an integer. The crate also has the definitions that say what the parsers return. It
-//! uses only std. Of its items, only `AtoiSimdError` is public in the Rust crate `atoi_simd`.
+//! uses only std. Of the items of this crate, only `AtoiSimdError` is public in the Rust crate
+//! `atoi_simd`.
 //!
 //! The comments of this crate use these words:
 //!

@@ -1,6 +1,6 @@
-//! Two parsers of integers of at most 32 bits, for a whole slice and for the number at the start of
-//! a slice. They read windows with any engine. This module uses `engine`, `window`, `steps` and
-//! `error`.
+//! Two parsers of integers of at most 32 bits: one for a whole slice, and one for the number at the
+//! start of a slice. They read windows with any engine. This module uses `engine`, `window`,
+//! `steps` and `error`.
 ghost use Rattle.std.specs.Prelude.{◌≡◌, ◌+◌, ◌-◌, ◌<◌, ◌≤◌, ◌==◌, true, false, not, ◌&&◌, ◌||◌, nat_lt, if◌then◌else◌, Ok, Err, length, drop};
 ghost use Rattle.atoi_core.specs.Loads.{LoadsWithin, most_loads};
 ghost use Rattle.atoi_core.specs.Magnitude.{narrow, whole_magnitude, prefix_magnitude};
@@ -114,8 +114,8 @@ pub fn narrow_whole_windows<'a, E: Engine>(
 }
 
 // Returns the answer for a whole slice. `front` is the answer for the number at its start, parsed
-// with zeros skipped. An `Overflow` is returned with all of the slice. If the digits end before the
-// slice does, the answer is `Invalid64`.
+// with zeros skipped. If `front` is `Overflow`, the answer is `Overflow` with all of the slice. If
+// `front` is a number whose digits end before the slice does, the answer is `Invalid64`.
 fn whole_from_prefix<'a, E: Engine>(
     bound: u64,
     front: Result<(u64, usize), AtoiSimdError<'_>>,

@@ -77,8 +77,8 @@ fn checked_with_sign<T: Signed>(minus: bool, negative: T) -> Option<T>
 {
     let (_, magnitude) = negative.parts();
     // For types of at most 64 bits, one is added to a magnitude without a minus, so that one
-    // comparison serves both signs. With 128 bits that addition costs more than it saves, so the
-    // sign is read only if the magnitude is above `T::MAX`.
+    // comparison serves both signs. With 128 bits that addition costs more than it saves, so this
+    // check looks at the sign only if the magnitude is above `T::MAX`.
     let is_above = if T::BITS <= 64 {
         magnitude as u64 + u64::from(!minus) > T::LEAST_MAGNITUDE as u64
     } else {

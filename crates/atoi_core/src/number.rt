@@ -1,5 +1,5 @@
-//! The integer types that a parse can return. This file uses no other module. All that a parse needs
-//! to know of a type are the constants and conversions here.
+//! The integer types that a parse can return. This file uses no other module. All that a parse
+//! needs to know of a type are the constants and conversions here.
 ghost use Rattle.std.specs.Prelude.{◌≡◌, ◌+◌, ◌≤◌, ◌<ℤ◌, ◌↔◌, ℕ, ℤ, pos, Bool, true, false, IsTrue, refl};
 ghost use Rattle.std.proofs.Common.{inl, inr};
 ghost use Rattle.atoi_core.specs.IntType.{IntType, IsSized, IsTypeOf, bound_of};

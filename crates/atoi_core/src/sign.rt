@@ -16,7 +16,7 @@ use crate::number::{Number, Signed};
 use crate::steps::Steps;
 
 /// Consumes at most one sign at the start of `s`: a `+` if `skip_plus` is on, or a `-` if `signed`
-/// is.
+/// is on.
 ///
 /// Returns whether the sign is a `-`, and the body after it. A sign has been consumed exactly if
 /// the body is shorter than `s`; it is then one byte shorter.
@@ -116,7 +116,7 @@ pub fn parse_prefix_signed<'a, E: Engine, T: Signed>(
 
 /// Parses the integer of the unsigned type `T` at the start of `s`, and returns it with the number
 /// of its bytes, including those of a consumed `+` and of the zeros. A `+` is accepted if
-/// `skip_plus` is on, and a `-` never is. In all other respects this function is like
+/// `skip_plus` is on, and a `-` is never accepted. In all other respects this function is like
 /// `parse_prefix_signed`.
 ///
 /// # Errors

@@ -1,5 +1,5 @@
-//! A count of loads, which are the reads of windows. It has no size at run time. It uses no other
-//! module.
+//! A count of loads, which are the reads of windows. It has no size at run time. This file uses no
+//! other module.
 ghost use Rattle.std.specs.Prelude.{◌≡◌, ◌+◌, ℕ};
 ghost use Rattle.std.specs.Borrow.{ftrue};
 

@@ -1,5 +1,5 @@
-//! Functions that write bytes, hexadecimal numbers and decimal numbers into a slice. It uses no
-//! other module.
+//! Functions that write bytes, hexadecimal numbers and decimal numbers into a slice. This file uses
+//! no other module.
 ghost use Rattle.std.specs.Prelude.{◌≡◌, ◌+◌, ◌-◌, ◌*◌, ◌^◌, ◌<◌, ◌≤◌, ◌∷◌, [], ◌++◌, true, length, take, decimal, IsAscii};
 ghost use Rattle.std.specs.Fmt.{digit_glyph};
 ghost use Rattle.atoi_core.specs.ErrorText.{hex_text, hex_list};

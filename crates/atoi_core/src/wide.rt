@@ -1,5 +1,5 @@
-//! The parses of a whole slice into integers of 64 and of 128 bits, over any engine. It uses
-//! `prefix_128`, `engine`, `steps` and `error`.
+//! The parses of a whole slice into integers of 64 and of 128 bits, with any engine. This module
+//! uses `prefix_128`, `engine`, `steps` and `error`.
 ghost use Rattle.std.specs.Prelude.{◌≡◌, ◌≤◌};
 ghost use Rattle.atoi_core.specs.Loads.{LoadsWithin, most_loads};
 ghost use Rattle.atoi_core.specs.Magnitude.{HasDigits, wide64, wide128, whole_magnitude};
@@ -13,7 +13,7 @@ use crate::steps::Steps;
 /// Parses all of `s`, which has no sign, as an integer of 64 bits, and returns its value.
 ///
 /// `bound` is the largest value that is accepted, and has exactly `limit` digits, 17 to 20. With
-/// `skip` leading zeros do not count towards `limit`. `steps` counts the loads.
+/// `skip`, leading zeros do not count towards `limit`. `steps` counts the loads.
 ///
 /// # Errors
 ///
@@ -46,7 +46,8 @@ pub fn whole_64<'a, E: Engine>(
 /// Parses all of `s`, which has no sign, as an integer of 128 bits, and returns its value.
 ///
 /// `bound` is the largest value that is accepted, and has exactly 39 digits, which is the limit of
-/// significant digits. With `skip` leading zeros do not count towards it. `steps` counts the loads.
+/// significant digits. With `skip`, leading zeros do not count towards this limit. `steps` counts
+/// the loads.
 ///
 /// # Errors
 ///

@@ -40,7 +40,7 @@ pub fn power_of_ten(digits: u32) -> u64
 }
 
 /// Returns the number that two rows of digits spell, the second directly after the first. The first
-/// row spells `high`. The second row spells `low` and has `digits` digits, which are at most 16.
+/// row spells `high`. The second row spells `low` and has `digits` digits. `digits` is at most 16.
 pub fn append_digits(high: u64, digits: u32, low: u64) -> u128
     requires { digits ≤ 16 }
     ensures { result ≡ high * 10 ^ digits + low }

@@ -302,8 +302,8 @@ fn number_in_word(word: u64, len: u32) -> u64
 }
 
 // Returns the number that the first `len` bytes of the word spell; each of them is a digit, and
-// there is at least one. The result is that of `process_8`, but instead of a mask it subtracts 48
-// from each byte, as `digits_of` does too.
+// there is at least one. The result is that of `process_8`. Instead of applying a mask as
+// `process_8` does, this function subtracts 48 from each byte, as `digits_of` does too.
 fn value_of(word: u64, len: u32) -> u64
     requires some { 1 ≤ len }
     requires few { len ≤ 8 }

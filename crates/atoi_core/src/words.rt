@@ -49,7 +49,8 @@ pub fn load_high(s: &[u8]) -> u64
 }
 
 // Returns the word of the first four bytes, or 0 if there are fewer. This function and the two
-// after it choose between two arrays, not between two numbers: LLVM compiles that without a branch.
+// after it choose between two arrays, not between two numbers, because LLVM compiles a choice
+// between two arrays without a branch.
 fn first_four(s: &[u8]) -> u64
     ensures enough { 4 ≤ length s.now → result ≡ word_of (take 4 s.now) }
     ensures few { length s.now < 4 → result ≡ 0 }

@@ -23,8 +23,8 @@ use Rattle.atoi_core.specs.Words.{word_of}
 use Rattle.atoi_lanes.proofs.LoadedLanes.{digits-number, byte_shift, first-and_rest, mask-drop, ones-of_mask}
 
 -- ---- From joined digits to the number that they spell
--- Two neighbouring digits of base t are joined to one digit of base t * t (`paired`). This does not
--- change the number that all the digits spell.
+-- Two neighbouring digits of base t are joined to one digit of base t * t (`paired`). Joining them
+-- does not change the number that all the digits spell.
 
 -- If all digits are below t, all joined digits are below t * t.
 pub paired-below : (t : ℕ) (xs : List ℕ) → Each1 (λ x. x < t) xs → Each1 (λ x. x < t * t) (paired t xs)
@@ -120,7 +120,7 @@ pub value-after_zeros : (n : ℕ) (xs : List ℕ) → value itself (replicate n 
 value-after_zeros zero xs = refl
 value-after_zeros (suc n) xs = omega (arith, value-after_zeros n xs)
 
--- A byte minus 48, which is the byte of the digit zero. The subtraction wraps.
+-- A byte minus 48. The subtraction wraps. The byte 48 is the digit zero.
 abbrev pub above_zero : ℕ → ℕ
 above_zero x = (x + (2 ^ 8 - 48)) % 2 ^ 8
 
@@ -157,7 +157,8 @@ pub values_sum : (n : ℕ) (v : List ℕ) → length v ≡ 16 → n ≤ run_len 
 values_sum n v long digits =
     ap (λ digit_values. value itself (take n digit_values)) (zip2_splat (λ x y. (x + (2 ^ 8 - y)) % 2 ^ 8) v 16 48 long) ∙ (digits_value above_zero above_zero-digit n v digits).0
 
--- If all numbers of a list are below ten, they are still all below ten with zeros before them.
+-- If all numbers of a list are below ten, and zeros are put before the list, then all numbers of
+-- the longer list are below ten.
 pub below_after_zeros : (n : ℕ) (xs : List ℕ) → Each1 (λ x. x < 10) xs → Each1 (λ x. x < 10) (replicate n 0 ++ xs)
 below_after_zeros zero xs h = h
 below_after_zeros (suc n) xs h = (omega arith, below_after_zeros n xs h)
@@ -202,8 +203,8 @@ join_lanes p t step le joins (suc m) (x ∷ y ∷ rest) long h =
     (ap (λ k. map step (digits_l (p * p) m k)) (ap (λ k. k / (p * p)) all ∙ div-mul-add n (p * p) (y * p + x) field)
     ∙ join_lanes p t step le joins m rest (omega arith) h.1.1)
 
--- If the digits of a number fill whole bytes, then splitting the number into bytes and reading
--- these bytes gives the same number.
+-- If the digits of a number fill n bytes, and the number is split into n bytes, then these bytes
+-- spell the same number.
 recast : (p n : ℕ) (xs : List ℕ) → p ^ length xs ≡ 256 ^ n → Each1 (λ x. x < p) xs → number_l 256 (digits_l 256 n (number_l p xs)) ≡ number_l p xs
 recast p n xs same h = number-digits 256 n (number_l p xs) (omega arith) (omega (arith, same, number-lt p xs h))
 
@@ -277,8 +278,9 @@ wrapped : (factor : ℕ) (xs : List ℕ) → Each1 (Fits w16) (map (λ field. fi
 wrapped factor [] = tt
 wrapped factor (x ∷ xs) = (record { fits = omega arith }, wrapped factor xs)
 
--- The code computes three levels. It joins the digits to pairs, which are then in the upper bytes
--- of their lanes, the pairs to numbers of four digits, and these to numbers of eight digits.
+-- The code computes three levels. The first level joins the digits to pairs, and each pair is then
+-- in the upper byte of its lane. The second level joins the pairs to numbers of four digits, and
+-- the third level joins these to numbers of eight digits.
 pub all_levels : (digits : List ℕ) → length digits ≡ 16 → Each1 (λ x. x < 10) digits
     → map (step 32 10000) (digits_l (2 ^ 64) 2 (number_l 256 (digits_l 256 16 (number_l (2 ^ 32)
     (dots (digits_l 256 16 (number_l 65536 (map (λ field. field * 2561 % 65536) (digits_l 65536 8 (number_l 256 digits))))) (hundreds 4))))))
@@ -300,7 +302,8 @@ all_levels digits long below =
 abbrev in_half : List ℕ → List ℕ
 in_half s = (replicate (8 - length s) 0 ++ s) ++ replicate 8 0
 
--- If all elements are below 256, they are still all below 256 with zeros before them.
+-- If all elements of a list are below 256, and zeros are put before the list, then all elements of
+-- the longer list are below 256.
 bytes-after_zeros : (n : ℕ) (s : List ℕ) → Each1 (λ x. x < 256) s → Each1 (λ x. x < 256) (replicate n 0 ++ s)
 bytes-after_zeros zero s h = h
 bytes-after_zeros (suc n) s h = (omega arith, bytes-after_zeros n s h)
@@ -372,7 +375,7 @@ count-in_half p none s =
     let zeros = 8 - length s in
     omega (arith, sum_by-append (one_if p) (replicate zeros 0 ++ s) (replicate 8 0), sum_by-append (one_if p) (replicate zeros 0) s, count_by-zeros p none zeros, count_by-zeros p none 8)
 
--- If the count of bytes that pass is the length of the slice, all of them pass.
+-- If the number of bytes that pass is the length of the slice, all bytes of the slice pass.
 all_pass : (p : ℕ → Bool) (s : List ℕ) → count_by p s ≡ length s → prefix_len p s ≡ length s
 all_pass p [] h = refl
 all_pass p (x ∷ xs) h =
@@ -429,7 +432,8 @@ low_half-zeros : (n : ℕ) → map low_half (replicate n 0) ≡ replicate n 0
 low_half-zeros zero = refl
 low_half-zeros (suc n) = ap (λ l. 0 ∷ l) (low_half-zeros n)
 
--- If all numbers of a list are below ten, they are still all below ten with zeros after them.
+-- If all numbers of a list are below ten, and zeros are put after the list, then all numbers of the
+-- longer list are below ten.
 before_zeros : (n : ℕ) (xs : List ℕ) → Each1 (λ x. x < 10) xs → Each1 (λ x. x < 10) (xs ++ replicate n 0)
 before_zeros zero [] h = tt
 before_zeros (suc n) [] h = (omega arith, before_zeros n [] h)
@@ -489,9 +493,9 @@ all_digits s h few word mask v loaded lanes ones count =
     let written = half_values s few digits v is in
     (sym digits, (written.0 ∙ sym (ap (value decimal_table) (take_all (run_len decimal_table s) s (omega (arith, digits)))), written.1))
 
--- The trailing ones of the mask, without its bits for the lanes before the slice, give the length
--- of the run. If the word is shifted left by the number of bytes after the run, the lower halves of
--- its lanes spell the value of the run.
+-- If the bits for the lanes before the slice are dropped from the mask, the number of its trailing
+-- ones is the length of the run. If the word is shifted left by the number of bytes after the run,
+-- the lower halves of its lanes spell the value of the run.
 pub first_digits : (s : List ℕ) → Each1 (λ x. x < 256) s → length s ≤ 8 → (word mask len : ℕ) (v : List ℕ) → word ≡ word_of (replicate (8 - length s) 0 ++ s)
     → v ≡ digits_l 256 16 word → mask ≡ mask_l (map (is_digit decimal_table) v) → len ≡ trailing_ones w64 (mask / 2 ^ (8 - length s))
     → (len ≡ run_len decimal_table s) × ((len ≤ length s) × ((w : List ℕ) → w ≡ digits_l 256 16 (word * 2 ^ (8 * (length s - len)) % 2 ^ 64) → Written s w))

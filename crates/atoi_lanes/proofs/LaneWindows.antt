@@ -142,8 +142,8 @@ Skipping-none skip s n = record {
   offset = inl (omega arith);
 }
 
--- If zeros are skipped and the window at offset `at` begins with zeros, then `Skipping` also holds
--- after these zeros, with one more load.
+-- If `Skipping` holds at offset `at`, zeros are skipped, and the window at this offset begins with
+-- zeros, then `Skipping` also holds after these zeros, with one more load.
 pub Skipping-more : (skip : Bool) (s : List ℕ) (at before now next leading : ℕ) → Skipping skip s at before now
     → leading ≡ min 32 (zeros decimal_table s - at) → next ≡ now + 1 → skip ≡ true → 0 < leading → Skipping skip s (at + leading) before next
 Skipping-more skip s at before now next leading after_skip reported one on some =
@@ -158,8 +158,8 @@ Skipping-more skip s at before now next leading after_skip reported one on some 
       offset = elim (cases_lt leading 32) [ inl h ↦ inr (omega arith) | inr h ↦ inl (omega arith) ];
     }
 
--- If the window at offset `at` begins with fewer than 32 zeros, at least one load was made for each
--- 32 leading zeros of the slice.
+-- If `Skipping` holds at offset `at`, and the window at this offset begins with fewer than 32
+-- zeros, then at least one load was made for each 32 leading zeros of the slice.
 pub Skipping-loads : (skip : Bool) (s : List ℕ) (at before now leading : ℕ) → Skipping skip s at before now
     → leading ≡ min 32 (zeros decimal_table s - at) → leading < 32 → before + zeros decimal_table s / 32 ≤ now
 Skipping-loads skip s at before now leading after_skip reported few = omega (arith, after_skip.least)

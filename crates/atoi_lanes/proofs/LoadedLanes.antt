@@ -53,13 +53,13 @@ trailing-complement p (suc k) (x ∷ xs) h =
           ap (count_trailing_zeros (suc k)) odd ∙ trailing-odd k ((2 ^ k - 1) - m)
     ]
 
--- Two tests that agree on each byte pass the same elements of a list of bytes.
+-- If two tests agree on each byte, then the same elements of a list of bytes pass both tests.
 map-agree : (p q : ℕ → Bool) → agree_below p q 256 ≡ true → (xs : List ℕ) → Each1 (Fits w8) xs → map p xs ≡ map q xs
 map-agree p q all [] fits = refl
 map-agree p q all (x ∷ xs) fits = ap₂ (λ b bs. b ∷ bs) (agree_below_at p q 256 x all fits.0.fits) (map-agree p q all xs fits.1)
 
--- If for each byte x the top bit of `f x` is set exactly if x passes the test, and f is applied to
--- all lanes, then the mask of the top bits is the mask of the lanes that pass.
+-- For each byte x, let the top bit of `f x` be set exactly if x passes the test. If f is applied to
+-- all lanes, the mask of the top bits of the results is the mask of the lanes that pass.
 pub mask-of_lanes : (q : ℕ → Bool) (v : List ℕ) (f : ℕ → ℕ) (z : List ℕ) → length v < 64 → Each1 (Fits w8) v → z ≡ map f v
     → agree_below (λ x. top 7 (f x)) q 256 ≡ true → mask_l (map (top 7) z) % 2 ^ 64 ≡ mask_l (map q v)
 mask-of_lanes q v f z long fits lanes all =

@@ -1,4 +1,5 @@
--- What the last window of 32 bytes has read, in a parse of a wide integer.
+-- What a parse of a wide integer has found when it has read its last window of 32 bytes. The wide
+-- integers are those of 64 and of 128 bits.
 use Rattle.std.specs.Prelude.{◌≡◌, ℕ, ◌+◌, ◌≤◌, Bool, true, List, length, drop}
 use Rattle.atoi_core.specs.Digit.{decimal_table}
 use Rattle.atoi_core.specs.Reading.{Reading, IsSkipped}

@@ -1,8 +1,8 @@
 //! Functions that load up to sixteen bytes into the lanes of one vector, count the digits or zeros
 //! that the lanes begin with, and compute the number that the digits spell. One of them,
-//! `read_short`, counts the digits that a slice of fewer than eight bytes begins with, and computes
-//! the number that they spell, in half of a vector. The file uses `std::simd`, and it loads short
-//! slices with `atoi_core::words`.
+//! `read_short`, needs only half of a vector: it counts the digits that a slice of fewer than eight
+//! bytes begins with, and computes the number that they spell. The file uses `std::simd`, and it
+//! loads short slices with `atoi_core::words`.
 ghost use Rattle.std.specs.Prelude.{◌≡◌, ◌-◌, ◌/◌, ◌≤◌, ◌<◌, ◌++◌, length, map, take, drop, replicate};
 ghost use Rattle.std.specs.Simd.Lanes.{Each1, mask_l, digits_l};
 ghost use Rattle.atoi_core.specs.Digit.{decimal_table, is_digit};

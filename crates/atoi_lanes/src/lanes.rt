@@ -19,10 +19,10 @@ use std::simd::prelude::*;
 /// 32 bytes at once, into two vectors. Its digits are the decimal ones, `b'0'` to `b'9'`.
 pub struct Lanes;
 
-// Returns the window of the bytes in `lanes`. A *window* describes the longest prefix of digits of
-// its bytes: its length, its value and the number of its leading zeros. If the length is not
-// `size`, that last number is 0. The callers load at most `size` bytes, and the other lanes are 0,
-// which is no digit.
+// Returns the window of the bytes in `lanes`. A *window* says how many digits its bytes begin with,
+// what number these digits spell, and how many zeros the bytes begin with. If the number of digits
+// is not `size`, the window reports 0 zeros. The callers load at most `size` bytes, and the other
+// lanes are 0, which is no digit.
 fn lane_window(lanes: u8x16, size: u32) -> Window
     ensures { result ≡ lane_window size lanes }
 {
@@ -42,8 +42,8 @@ impl Engine for Lanes {
 
     /// Returns the window of the first 16 bytes of `s`, or of all its bytes if there are fewer. The
     /// window says how many digits these bytes begin with and what number the digits spell. If all
-    /// 16 bytes are there and are digits, the window also has the number of leading zeros, and
-    /// otherwise 0. Adds one step.
+    /// 16 bytes are there and are digits, the field `zeroes` of the window is the number of leading
+    /// zeros. Otherwise this field is 0. Adds one step.
     #[inline(always)]
     fn window(s: &[u8], steps: &mut Steps) -> Window {
         steps.tick();

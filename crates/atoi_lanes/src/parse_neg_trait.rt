@@ -1,7 +1,7 @@
 //! The trait `ParseNeg`, whose methods parse the digits of a negative number without its minus, and
 //! its implementations for the six signed integer types. Each method makes one call of `whole_neg`
-//! or `prefix_neg` of `atoi_core`, with the crate's *engine*. An engine is an implementation of the
-//! reads that these parsers make.
+//! or `prefix_neg` of `atoi_core`, with the *engine* of this crate. An engine is an implementation
+//! of the reads that these parsers make.
 ghost use Rattle.std.specs.Prelude.{◌≡◌, ◌≤◌, true, IfOk, length};
 ghost use Rattle.atoi_core.specs.Answer.{typed_answer, typed_prefix_answer, whole_answer, prefix_answer};
 ghost use Rattle.atoi_core.specs.Digit.{decimal_table};
@@ -11,9 +11,9 @@ use atoi_core::{AtoiSimdError, Signed, Steps, prefix_neg, whole_neg};
 
 /// A signed type that can be parsed from the digits of a negative number, without its minus.
 ///
-/// It is implemented for the six signed integer types. A type of another crate can implement it
-/// too; that crate must then prove the clauses of both methods. Mirrors `ParseNeg` of the Rust
-/// crate, whose methods have the flag as a const parameter.
+/// This trait is implemented for the six signed integer types. A type of another crate can
+/// implement it too; that crate must then prove the clauses of both methods. Mirrors `ParseNeg` of
+/// the Rust crate, whose methods have the flag as a const parameter.
 pub trait ParseNeg: Signed {
     /// Parses all of `s`, the digits of a negative number without its minus, as the function
     /// `parse_neg` does.

@@ -1,6 +1,6 @@
 //! The trait `Parse`, whose methods parse numbers that may have a sign, and its implementations for
 //! the twelve integer types. Each method makes one call of a parser of `atoi_core`, with the
-//! crate's *engine*. An engine is an implementation of the reads that these parsers make.
+//! *engine* of this crate. An engine is an implementation of the reads that these parsers make.
 ghost use Rattle.std.specs.Prelude.{◌≡◌, ◌≤◌, IfOk, length};
 ghost use Rattle.atoi_core.specs.Answer.{typed_answer, typed_prefix_answer, parse_answer, parse_prefix_answer};
 
@@ -12,9 +12,9 @@ use atoi_core::{
 
 /// An integer type that can be parsed from text with or without a sign.
 ///
-/// It is implemented for the twelve integer types. No other crate can implement it, since no other
-/// crate can name its supertrait `ParsePos`. Mirrors `Parse` of the Rust crate, whose methods have
-/// the flags as const parameters.
+/// This trait is implemented for the twelve integer types. No other crate can implement it, since
+/// no other crate can name its supertrait `ParsePos`. Mirrors `Parse` of the Rust crate, whose
+/// methods have the flags as const parameters.
 pub trait Parse: ParsePos {
     /// Parses all of `s`, with at most one sign, as the function `parse` does.
     ///

@@ -115,9 +115,9 @@ struct WindowAt {
     window: Window32,
 }
 
-// Calls `prefix_64_after_zeros`, which is never inlined, and matches its result. Both are kept in a
-// separate function, which is itself inlined, so that the stack slot of the result is zeroed only
-// on the path that makes the call.
+// Calls `prefix_64_after_zeros`, which is never inlined, and matches its result. The call and the
+// match are kept in a separate function, which is itself inlined, so that the stack slot of the
+// result is zeroed only on the path that makes the call.
 #[inline(always)]
 fn prefix_64_cold<'a>(
     bound: u64,
@@ -244,8 +244,9 @@ fn next_window(offset: usize, zeroes: u32, s: &[u8], steps: &mut Steps) -> Windo
     }
 }
 
-// Returns the answer of `prefix_128_lanes`. It follows from the last window of 32 bytes, which is
-// `reached`. If that window is full of digits, the answer also depends on the eight bytes after it.
+// Returns the answer of `prefix_128_lanes`. The last window of 32 bytes is `reached`. If this
+// window is not full of digits, it decides the answer. Otherwise the answer also depends on the
+// eight bytes after the window.
 #[inline(always)]
 fn finish_128<'a>(
     bound: u128,

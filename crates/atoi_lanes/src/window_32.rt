@@ -40,8 +40,8 @@ pub(crate) fn window_32(s: &[u8], steps: &mut Steps) -> Window32
     ensures reading { Reading decimal_table 32 s.now result.len result.zeroes result.number }
     ensures one_step { steps.new ≡ steps.old + 1 }
 {
-    // By this law, a read of 16 bytes that are all digits and a read of the next 16 bytes together
-    // make one read of 32 bytes. The call does nothing.
+    // By this law, if 16 bytes are all digits, then a read of them and a read of the next 16 bytes
+    // together make one read of 32 bytes. The call does nothing.
     reading_decides();
     steps.tick();
     let first = load_lanes(s);
@@ -64,8 +64,8 @@ pub(crate) fn window_32(s: &[u8], steps: &mut Steps) -> Window32
 
 // Returns the 16 bytes after the first 16 of `s` as lanes, or all bytes after the first 16 if there
 // are fewer. A lane whose byte is missing is 0. If `s` has 16 to 31 bytes, its last 16 bytes
-// contain all bytes after the first 16, and a shuffle moves the latter to the start. One shuffle
-// serves all these lengths, without a branch on the length.
+// contain all bytes after the first 16. A shuffle then moves the bytes after the first 16 to the
+// start of the vector. One shuffle serves all these lengths, without a branch on the length.
 fn load_after_16(s: &[u8]) -> u8x16
     ensures { result ≡ padded_start 16 (drop 16 s.now) }
 {

@@ -131,7 +131,8 @@ pub fn parse_neg<T: ParseNeg, const SKIP_ZEROES: bool>(s: &[u8]) -> Result<T, At
 ///
 /// Returns the errors of `parse`, with these differences:
 ///
-/// - It never returns `Invalid64` or `Invalid128`, since another byte ends the number.
+/// - It never returns `Invalid64` or `Invalid128`, since the number ends before the first byte that
+///   is not a digit.
 /// - It returns `Size(17, slice)` if `T` has at most 32 bits, `SKIP_ZEROES` is off, and the body
 ///   starts with more than 16 digits. `slice` is the body.
 /// - The slice of `Overflow` is cut differently if `T` has at most 32 bits and `SKIP_ZEROES` is on.

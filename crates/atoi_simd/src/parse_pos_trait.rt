@@ -1,6 +1,6 @@
 //! The trait `ParsePos`, whose methods parse digits without a sign as a number that is not
 //! negative, and its implementations for the twelve integer types. Each method makes one call of
-//! `whole_pos` or `prefix_pos` of `atoi_core`, with the crate's *engine*. An engine is an
+//! `whole_pos` or `prefix_pos` of `atoi_core`, with the *engine* of this crate. An engine is an
 //! implementation of the reads that these parsers make.
 ghost use Rattle.std.specs.Prelude.{◌≡◌, ◌≤◌, false, IfOk, length};
 ghost use Rattle.atoi_core.specs.Answer.{typed_answer, typed_prefix_answer, whole_answer, prefix_answer};
@@ -11,7 +11,7 @@ use atoi_core::{AtoiSimdError, Number, Steps, prefix_pos, whole_pos};
 
 /// An integer type that can be parsed from digits without a sign.
 ///
-/// It is implemented for the twelve integer types, and no other crate can name it. Mirrors
+/// This trait is implemented for the twelve integer types, and no other crate can name it. Mirrors
 /// `ParsePos` of the Rust crate, whose methods have the flag as a const parameter.
 pub trait ParsePos: Number {
     /// Parses all of `s`, digits without a sign, as the function `parse_pos` does.

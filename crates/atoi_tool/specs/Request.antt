@@ -78,8 +78,9 @@ is_negative Neg = true
 is_negative PrefixNeg = true
 is_negative call = false
 
--- A row with this request has an answer. This is so unless the flag for a plus is on but the call
--- accepts no sign, or the call is `neg` or `prefix_neg` but the type is not signed.
+-- A row with this request has an answer. It has none if the flag for a plus is on but the call
+-- accepts no sign. It also has none if the call is `neg` or `prefix_neg` but the type is unsigned.
+-- In all other cases it has one.
 abbrev pub is_known : Request → Bool
 is_known request =
     (if request.flags.plus then takes_sign request.call else true)

@@ -29,8 +29,8 @@ request_of engine_word call_word integer_word flags_word =
     option_and_then (λ request. if is_known request then Some request else None)
     (named_request engine_word call_word integer_word flags_word)
 
--- The value of a hexadecimal digit, or `None` if the byte is no such digit. Only capital letters
--- are accepted.
+-- The value of a hexadecimal digit, or `None` if the byte is no such digit. The letters `A` to `F`
+-- are accepted only as capitals.
 abbrev pub hex_digit : ℕ → Option ℕ
 hex_digit byte =
     if nat_le 48 byte && nat_le byte 57 then Some (byte - 48)
@@ -51,8 +51,8 @@ column_of engine_word integer_word separator_word =
     (byte_of separator_word)) (integer_of integer_word)
     else None
 
--- What four words ask for. The last word is a separator if the call is `column`, and flags in other
--- calls.
+-- What four words ask for. If the call is `column`, the last word spells a separator; for any other
+-- call it names the flags.
 abbrev pub query_of : (engine_word call_word integer_word last_word : List ℕ) → Option Query
 query_of engine_word call_word integer_word last_word =
     if bytes_eq call_word (codes "column") then column_of engine_word integer_word last_word

@@ -181,9 +181,9 @@ pub struct Request {
 }
 
 impl Request {
-    /// Says whether a row with this request has an answer. It has one unless the flag for a plus is
-    /// on but the call accepts no sign, or the call is `neg` or `prefix_neg` but the type is not
-    /// signed.
+    /// Says whether a row with this request has an answer. It has none if the flag for a plus is on
+    /// but the call accepts no sign. It also has none if the call is `neg` or `prefix_neg` but the
+    /// type is unsigned. In all other cases it has one.
     pub fn is_known(&self) -> bool
         ensures { result ≡ is_known self.now }
     {

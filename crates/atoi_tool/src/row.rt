@@ -37,8 +37,8 @@ fn request_of(engine: &[u8], call: &[u8], integer: &[u8], flags: &[u8]) -> Optio
     }
 }
 
-// Returns the value of a hexadecimal digit, or `None` if the byte is no such digit. Only capital
-// letters are accepted.
+// Returns the value of a hexadecimal digit, or `None` if the byte is no such digit. The letters
+// `A` to `F` are accepted only as capitals.
 fn hex_digit(byte: u8) -> Option<u8>
     ensures digit { result ≡ hex_digit byte }
     ensures below { IfSome result (λ digit. digit < 16) }

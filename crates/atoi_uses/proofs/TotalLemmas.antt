@@ -6,7 +6,7 @@ use Rattle.atoi_column.specs.Items.{Flaw}
 use Rattle.atoi_column.specs.Laws.{HaveRead, ItemsInTurn}
 
 -- `total` is the sum of the items that were read before `left`. It is at most 2^64 multiplied by
--- the number of these items, which keeps it from overflowing.
+-- the number of these items. This bound keeps the total from overflowing.
 pub record IsAddedUpTo (items left : List (Result ℤ Flaw)) (total : ℕ) : Type 0 where
   pub numbers : List ℕ
   pub read : HaveRead items (map pos numbers) left

@@ -15,7 +15,8 @@ prefix_of law text number rest h =
     record { numeral = h.numeral; in_range = omega (arith, h.value_is, h.in_range); value_is = ap pos h.value_is } in
     law.of_parts positive text h.digits rest (pos number) h.parts written h.ends
 
--- The text begins with no other part than the digits of this number, followed by this rest.
+-- If the text begins with a part, the number of that part is `number`, and what follows the part is
+-- `rest`.
 abbrev pub IsOnlyPart : List ℕ → ℕ → List ℕ → Type 0
 IsOnlyPart text number rest = (n : ℕ) (r : List ℕ) → IsPart text n r → (n ≡ number) × (r ≡ rest)
 

@@ -27,8 +27,9 @@ HasTotal line total =
 
 -- What an error says about the line. `BadField` says that the field of index `index` is the first
 -- that is not a text of a `u64`. `place` is the offset in the line at which the columns begin, plus
--- the place in the columns that `IsFirstBad` names. `TooLarge` says that every field is such a
--- text, and that the total of their numbers is `total`, which is larger than every `u64`.
+-- the place in the columns that `IsFirstBad` names. `TooLarge` says that every field is a text of a
+-- `u64`, and that the sum of the numbers that the fields write is `total`, which is larger than
+-- every `u64`.
 abbrev pub Refuses : List ℕ → LogError → Type 0
 Refuses line (BadField index place) =
     (place_in_columns : ℕ)

@@ -1,5 +1,6 @@
-//! A reader of dates.
-//! It uses `atoi_simd::parse_pos`, whose contract says which digits write a number.
+//! A reader of dates. It uses `atoi_simd::parse_pos` with the flag `SKIP_ZEROES` on. If this call
+//! returns a number, its contract says that the slice consists of digits that write this number. If
+//! the call returns an error, its contract says that the slice writes no number of the type.
 ghost use Rattle.std.specs.Prelude.{◌≡◌, ◌↔◌, ◌≤◌, ℕ, IsTrue, IfSome, IfNone, length};
 ghost use Rattle.atoi_uses.specs.Dates.{is_leap_year, days_of, IsDay, AreDigitsOf, HasDashes, IsDate};
 ghost use Rattle.atoi_uses.specs.declared.dates.Date.{Date as DateValue};
@@ -45,8 +46,8 @@ fn has_dashes(text: &[u8]) -> bool
     text.len() == 10 && text[4] == b'-' && text[7] == b'-'
 }
 
-// Returns the number that `digits` write, or `None` if they are not one or more digits and nothing
-// else.
+// Returns the number that `digits` write. Returns `None` if `digits` is empty, or if one of its
+// bytes is no digit.
 fn number(digits: &[u8]) -> Option<u16>
     requires { length digits.now ≤ 4 }
     ensures some { IfSome result (λ number. AreDigitsOf digits.now number) }

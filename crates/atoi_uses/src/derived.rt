@@ -1,8 +1,8 @@
-//! Proves for each type of this crate that derives `Clone` that a clone is the same value. If the
-//! type holds no slice, the file also proves that `==` says whether two values are the same. For
-//! `CommandError`, it proves that `==` says whether both errors are `UnknownWord`, or both are
-//! `BadNumber` with causes of the same variant, numbers and bytes. The file uses
-//! `atoi_core::derived`.
+//! Proofs about the types of this crate that derive `Clone`. For each of them, the file proves that
+//! `clone` returns the value itself. If the type holds no slice, the file also proves that `==`
+//! says whether two values are the same. For `CommandError`, it proves that `==` says whether both
+//! errors are `UnknownWord`, or both are `BadNumber` with causes of the same variant, numbers and
+//! bytes. The file uses `atoi_core::derived`.
 ghost use Rattle.std.specs.Prelude.{◌≡◌, ◌↔◌, IsTrue};
 ghost use Rattle.atoi_uses.specs.Commands.{cause_of};
 

@@ -30,7 +30,8 @@ pub fn json_integer(text: &[u8]) -> Option<(i64, &[u8])>
     }
 }
 
-// Says whether `integer` begins with a zero, or a minus and a zero, and has more bytes after it.
+// Says whether `integer` begins with a zero, or with a minus and a zero, and has more bytes after
+// that zero.
 fn has_leading_zero(integer: &[u8]) -> bool
     ensures { result ≡ leads_with_zero integer.now }
 {

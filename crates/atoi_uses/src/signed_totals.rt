@@ -1,5 +1,5 @@
-//! The total of a column of signed numbers. It uses `atoi_column::Column` and two laws of
-//! `atoi_column`.
+//! A function that adds up a column of signed numbers. The file uses `atoi_column::Column` and two
+//! laws of `atoi_column`.
 ghost use Rattle.std.specs.Prelude.{◌≡◌, true, IfOk, IfErr};
 ghost use Rattle.atoi_column.specs.Fields.{is_separator};
 ghost use Rattle.atoi_uses.specs.SignedTotals.{HasTotal, Refuses};

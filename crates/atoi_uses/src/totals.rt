@@ -1,5 +1,6 @@
-//! The total of a column of numbers, which are separated by newlines or by another byte. It uses
-//! `atoi_column::Column`, whose contract names the items, and two laws of `atoi_column`.
+//! Two functions that add up a column of numbers, which are separated by newlines or by another
+//! byte. The file uses `atoi_column::Column`, whose contract names the items, and two laws of
+//! `atoi_column`.
 ghost use Rattle.std.specs.Prelude.{◌≡◌, ◌<◌, ◌≤◌, ◌++◌, ℕ, true, List, [], ◌∷◌, length, pos, Ok, Err, IfOk, IfErr, map, sum};
 ghost use Rattle.atoi_core.specs.IntTypes.{u64_type};
 ghost use Rattle.atoi_column.specs.Fields.{is_separator};

@@ -1,5 +1,5 @@
-//! Functions that check whether a call returned the expected answer. All tests share them: a test
-//! with `assert_eq!` in its own body takes longer to prove. It uses only std.
+//! Functions that check whether a call returned the expected answer. Several files of tests share
+//! them: a test with `assert_eq!` in its own body takes longer to prove. This file uses only std.
 
 use std::fmt::Debug;
 use std::process::Abort;

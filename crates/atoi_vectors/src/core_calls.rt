@@ -161,7 +161,7 @@ fn parts<T: Number>(
     }
 }
 
-// Does the same for a prefix, and also returns its length.
+// Does for the number of a prefix parse what `parts` does, and also returns the prefix's length.
 fn prefix_parts<T: Number>(
     answer: Result<(T, usize), AtoiSimdError<'_>>,
 ) -> Result<(bool, u128, usize), AtoiSimdError<'_>> {

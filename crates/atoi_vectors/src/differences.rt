@@ -3,9 +3,9 @@
 //! rules that differ. This file uses no other module. The README.md of this crate says how the
 //! answers of the original were made.
 
-/// The first rule: `parse_prefix` counts a plus that it consumes. These are the rows, one on each
-/// line, that have SKIP_PLUS and a text that begins with a plus and digits, and whose call returns
-/// `Ok`.
+/// The first rule: `parse_prefix` counts a plus that it consumes. These are the rows of the call
+/// `prefix`, one on each line, that have SKIP_PLUS and a text that begins with a plus and digits,
+/// and for which this port returns `Ok`.
 pub const PLUS_ROWS: &[u8] = b"\
 w prefix u128 -p +000000000000000008!
 w prefix u128 zp +000000000000000008!

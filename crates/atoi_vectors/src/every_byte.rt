@@ -5,8 +5,8 @@ ghost use Rattle.std.specs.Prelude.{◌<◌, ◌≤◌};
 use crate::core_calls::check;
 use std::process::Abort;
 
-// Checks slices of 41 bytes, with each byte in turn at the offset `place` and with `fill` at all
-// others.
+// Checks slices of 41 bytes. The byte at the offset `place` has each of its 256 values in turn, and
+// all others are `fill`.
 fn check_place(rt: &impl Abort, fill: u8, place: usize)
     requires { place < 41 }
 {

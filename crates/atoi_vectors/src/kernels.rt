@@ -1,7 +1,8 @@
-//! Checks kernels, which are public functions on a word or a vector of bytes: with every byte at
-//! every offset, and after loads of short and long slices. (`load_high` and `read_short` are not
-//! called here; the windows call them.) The file uses `plain_rules`, `answers` and the kernels of
-//! `atoi_core` and `atoi_lanes`.
+//! Checks kernels, which are public functions on a word or a vector of bytes. Those that count
+//! digits or zeros, or compute a number, are called with every byte at every offset. Those that
+//! load a word or a vector are called with short and long slices. (`load_high` and `read_short` are
+//! not called here; the windows call them.) The file uses `plain_rules`, `answers` and the kernels
+//! of `atoi_core` and `atoi_lanes`.
 ghost use Rattle.std.specs.Prelude.{◌<◌};
 
 use crate::answers::gives;
@@ -27,7 +28,8 @@ fn check_lanes(rt: &impl Abort, bytes: [u8; 16]) {
     gives(rt, sum_lanes(lanes, 0), 0);
 }
 
-// Checks 16 bytes, with each byte in turn at the offset `place` and with `fill` at all others.
+// Checks 16 bytes. The one at the offset `place` has each of the 256 values of a byte in turn, and
+// all others are `fill`.
 fn check_lanes_at(rt: &impl Abort, fill: u8, place: usize)
     requires { place < 16 }
 {
@@ -47,7 +49,7 @@ fn every_byte_in_every_lane(rt: HostRuntime) {
     }
 }
 
-// Checks the kernels on words of 8 bytes in the same way.
+// Checks the kernels on words of 8 bytes in the same way as `check_lanes` checks those on lanes.
 fn check_word(rt: &impl Abort, bytes: [u8; 8]) {
     let word = u64::from_le_bytes(bytes);
     let (len, _, number) = plain_rules::window(8, &bytes);
@@ -63,7 +65,8 @@ fn check_word(rt: &impl Abort, bytes: [u8; 8]) {
     }
 }
 
-// Checks 8 bytes, with each byte in turn at the offset `place` and with `fill` at all others.
+// Checks 8 bytes. The one at the offset `place` has each of the 256 values of a byte in turn, and
+// all others are `fill`.
 fn check_word_at(rt: &impl Abort, fill: u8, place: usize)
     requires { place < 8 }
 {
@@ -83,7 +86,7 @@ fn every_byte_in_a_word(rt: HostRuntime) {
     }
 }
 
-// Checks the kernels on words of 16 bytes in the same way.
+// Checks the kernels on words of 16 bytes in the same way as `check_lanes` checks those on lanes.
 fn check_long_word(rt: &impl Abort, bytes: [u8; 16]) {
     let word = u128::from_le_bytes(bytes);
     let (len, _, number) = plain_rules::window(16, &bytes);
@@ -101,7 +104,8 @@ fn check_long_word(rt: &impl Abort, bytes: [u8; 16]) {
     }
 }
 
-// Checks 16 bytes, with each byte in turn at the offset `place` and with `fill` at all others.
+// Checks 16 bytes. The one at the offset `place` has each of the 256 values of a byte in turn, and
+// all others are `fill`.
 fn check_long_word_at(rt: &impl Abort, fill: u8, place: usize)
     requires { place < 16 }
 {
@@ -120,7 +124,7 @@ fn every_byte_in_a_long_word(rt: HostRuntime) {
     }
 }
 
-// Returns the first `N` bytes of `text`. If `text` has fewer, zero bytes follow them.
+// Returns the first `N` bytes of `text`. If `text` has fewer, bytes with the value 0 follow them.
 fn padded<const N: usize>(text: &[u8]) -> [u8; N] {
     let mut bytes = [0; N];
     for (byte, loaded) in text.iter().zip(&mut bytes) {

@@ -1,5 +1,5 @@
 //! Two engines whose digits are letters, and tests of the calls over them. The calls are generic
-//! over engines, so they work with any table of digits. It uses `Alphabet` and `front_of` of
+//! over engines, so they work with any table of digits. The file uses `Alphabet` and `front_of` of
 //! `atoi_core`.
 ghost use Rattle.std.proofs.Common.{arith};
 ghost use Rattle.std.proofs.lemmas.Bool.Decides.{nat_tests};

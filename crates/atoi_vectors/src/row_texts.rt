@@ -83,7 +83,7 @@ fn on_every_worked_slice(rt: HostRuntime) {
     }
 }
 
-// Checks the text of each row, which follows the first four words.
+// Checks the text of each row. The text follows the first four words of the row.
 fn check_texts(rt: &impl Abort, rows: &[u8]) {
     for row in rows.split(is_end) {
         let text = row.splitn(5, |byte| *byte == b' ').nth(4);

@@ -1,7 +1,8 @@
 //! Checks the largest value of each of the twelve types, the smallest of each signed type, and the
-//! number one past each of these. Each is parsed with each sign, after zeros, before another byte,
-//! as a whole and as a prefix, with and without SKIP_ZEROES. The file uses `plain_rules`, `answers`
-//! and the public calls of `atoi_simd`.
+//! number one past each of these. Positive numbers are parsed without a sign and with a plus;
+//! negative numbers are parsed with a minus. Each number is parsed with and without leading zeros,
+//! with and without another byte after it, as a whole and as a prefix, and with and without
+//! SKIP_ZEROES. The file uses `plain_rules`, `answers` and the public calls of `atoi_simd`.
 
 use crate::answers::both_give;
 use crate::plain_rules::{Body, Class};

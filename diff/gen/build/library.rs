@@ -1,6 +1,7 @@
-//! Builds the static libraries. The four crates are copied to a folder outside the repository, and
-//! the crates with the exports are put there too. They are not in the repository, because the merge
-//! gate refuses a Rattle file that belongs to no crate of the repository.
+//! Builds the static libraries. The four crates of `LIBRARIES` are copied to a folder outside the
+//! repository, and the crates with the exports are put there too. The crates with the exports are
+//! not in the repository, because the merge gate refuses a Rattle file that belongs to no crate of
+//! the repository.
 
 use std::env;
 use std::ffi::OsStr;

@@ -113,7 +113,9 @@ pub fn compare(seed: u64, texts: u64) -> Counts {
     counts
 }
 
-// Compares both libraries' answers to one question. `signed` is a minus and then the text.
+// Compares the answers of both libraries to one question with the answers of the rules, of
+// `str::parse` and, if the feature `original` is on, of the Rust crate. `signed` is a minus and
+// then the text.
 fn ask(question: &Question, signed: &[u8], counts: &mut Counts) {
     let text = &signed[1..];
     let expected = rules::answer(question, text);

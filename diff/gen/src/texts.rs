@@ -70,8 +70,8 @@ fn push_digits(random: &mut Random, text: &mut Vec<u8>) {
     }
 }
 
-// Appends the digits of `number` or of a number near it, or these digits with one added, removed or
-// changed.
+// Appends the digits of `number` or of a number near it, or the digits of `number` with one digit
+// added at the end, removed from the end or changed.
 fn push_number(random: &mut Random, text: &mut Vec<u8>, number: u128) {
     let mut digits = number.to_string().into_bytes();
     match random.below(8) {

@@ -1,5 +1,5 @@
-//! Times on mixes of lengths: in most of them the length changes from one call to the next, as it
-//! does for users.
+//! Measures how long the calls take on the mixes. A mix is a list of numbers. In most mixes the
+//! length of the number changes from one call to the next, as it does for users.
 
 use crate::numbers::push_number;
 #[cfg(feature = "original")]

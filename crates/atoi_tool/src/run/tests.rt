@@ -100,9 +100,9 @@ fn check_rows(
     Ok(())
 }
 
-// The inputs fill one, two, three and 25 reads, and one more read finds the end of each. An answer
-// is one write. If each call reads or writes one byte, a row needs sixteen reads and its answer
-// seven writes.
+// The inputs fill one, two, three and 25 reads, and one more read finds the end of each. Each
+// answer needs one write. If a call reads or writes at most one byte, a row needs sixteen reads,
+// and its answer needs seven writes.
 #[test]
 fn answers_inputs_of_whole_reads(rt: HostRuntime) -> Result<(), Fail> {
     for (count, reads) in [(256usize, 2), (512, 3), (768, 4), (6400, 26)] {

@@ -135,8 +135,8 @@ fn put_prefix<T: Number>(
     }
 }
 
-// Writes the answer to a row whose call does not exist for its type. No row has this answer, so the
-// test fails.
+// Writes the answer to a row whose call does not exist for its type. This answer is expected for no
+// row, so a test that calls this function fails.
 fn put_unknown(line: &mut Vec<u8>) -> Result<(), AllocError> {
     line.extend_from_slice(b"unknown")
 }

@@ -1,4 +1,4 @@
--- A first window that is not full holds the whole run. If it is full and reports no zeros, its
+-- If the first window is not full, it holds the whole run. If it is full and reports no zeros, its
 -- number is above the bound.
 use Rattle.std.proofs.Common.{ℕ, ◌∙◌, true, nat_lt, if◌then◌else◌, Ok, Err, inl, inr, refl, ap, zero-add, arith}
 use Rattle.atoi_core.specs.Magnitude.{narrow}

@@ -1,5 +1,5 @@
--- After the subtraction, the lowest bytes that are 0 are those of the zeros that the word begins
--- with.
+-- The code subtracts 48 from each byte. The result begins with as many bytes of 0 as the word
+-- begins with zeros.
 use Rattle.atoi_core.proofs.WordRuns.{lowered_zeros_counted}
 use Rattle.atoi_core.proofs.word_engine.zeroes_of.Goals as goal
 

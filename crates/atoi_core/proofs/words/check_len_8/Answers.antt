@@ -1,5 +1,5 @@
--- Masking the sum before the shift or after it gives the same. The rest is the lemma
--- `digits_counted` for eight bytes.
+-- It makes no difference whether the sum is masked before the shift or after it. The rest is the
+-- lemma `digits_counted` for eight bytes.
 use Rattle.std.proofs.Common.{◌+◌, ◌/◌, ◌%◌, ◌^◌, ap, ◌∙◌}
 use Rattle.std.proofs.lemmas.Nat.{and_shr}
 use Rattle.std.specs.Int.Bits.{bit_and, bit_or, bit_xor}

@@ -1,5 +1,6 @@
 -- If the slice has at least 32 bytes, the bytes after its first 16 fill a vector. If it has 16 to
--- 31 bytes, a shuffle takes those after the first 16 from its last 16 bytes.
+-- 31 bytes, its last 16 bytes contain all bytes after the first 16, and a shuffle moves these to
+-- the start of the vector.
 use Rattle.std.proofs.Common.{◌∙◌}
 use Rattle.atoi_lanes.proofs.LaneWindows.{after_all, after_some}
 use Rattle.atoi_lanes.proofs.window_32.load_after_16.Goals as goal

@@ -1,4 +1,5 @@
--- A line is accepted exactly if it is a command, and an error says why it is none.
+-- A line is accepted exactly if it is a command. For any other line, the error says why the line is
+-- no command.
 use Rattle.std.proofs.Common.{◌≡◌, Ok, ap, sym, subst, rules, w64}
 use Rattle.std.proofs.lemmas.Int.{to_z-of_z}
 use Rattle.atoi_uses.specs.Commands.{IsCommand}

@@ -1,5 +1,5 @@
--- The text is no version if a part is no number, if no dot follows one of the first two parts, or
--- if anything follows the third part.
+-- The text is no version if a part is no number, if one of the first two parts has no dot after it,
+-- or if anything follows the third part.
 use Rattle.std.proofs.Common.{ℕ, List, [], ◌∷◌, ◌==◌, length, sym, ap, ◌∙◌}
 use Rattle.std.proofs.lemmas.Bool.{both_ways}
 use Rattle.atoi_uses.specs.Versions.{dot}

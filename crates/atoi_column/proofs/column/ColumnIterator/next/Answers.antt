@@ -1,4 +1,5 @@
--- In each case, `next` gives the first of the items that are left, and leaves the others.
+-- In each case in which items are left, `next` gives the first of them and leaves the others. If no
+-- item is left, it gives `None`.
 use Rattle.std.proofs.Common.{◌≡◌, ◌+◌, ◌<◌, Ok, Err, ◌∷◌, length, drop, length-drop, sym, ap, ◌∙◌, arith}
 use Rattle.std.proofs.lemmas.List.{take_rest}
 use Rattle.std.proofs.lemmas.Bool.Decides.{nat_tests}
