@@ -174,7 +174,7 @@ fn prefix_parts<T: Number>(
     }
 }
 
-// Checks the core calls for numbers from 0 to `bound`.
+// Checks `whole_pos` and `prefix_pos`, the core calls whose results are from 0 to `bound`.
 fn check_pos<E: Engine, T: Number>(
     rt: &impl Abort,
     class: Class,
