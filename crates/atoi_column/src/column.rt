@@ -133,6 +133,3 @@ impl<'a, T: Parse> Iterator for Column<'a, T> {
 }
 
 impl<'a, T: Parse> FusedIterator for Column<'a, T> {}
-
-#[cfg(test)]
-mod tests;

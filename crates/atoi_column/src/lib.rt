@@ -5,8 +5,6 @@
 //! `atoi_core`. It allocates no memory and copies nothing.
 #![tactic(auto)]
 
-#[cfg(test)]
-mod answers;
 mod column;
 mod error;
 mod fields;

@@ -74,20 +74,3 @@ impl ParseNeg for Cents {
         }
     }
 }
-
-#[cfg(test)]
-mod tests {
-    use super::*;
-    use crate::answers::gives;
-    use atoi_simd::{parse_neg, parse_prefix_neg};
-
-    #[test]
-    fn the_functions_of_negative_numbers_answer_cents(rt: HostRuntime) {
-        gives(&rt, parse_neg::<Cents, false>(b"2345"), Ok(Cents(-2345)));
-        gives(
-            &rt,
-            parse_prefix_neg::<Cents, false>(b"12a"),
-            Ok((Cents(-12), 2)),
-        );
-    }
-}

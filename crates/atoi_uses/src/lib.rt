@@ -3,8 +3,6 @@
 #![tactic(auto)]
 
 mod addresses;
-#[cfg(test)]
-mod answers;
 mod bad_lines;
 mod cents;
 mod commands;
@@ -14,11 +12,8 @@ mod headers;
 mod json;
 mod log_lines;
 mod own_engine;
-mod samples;
 mod settings;
 mod signed_totals;
-#[cfg(test)]
-mod texts;
 mod totals;
 mod versions;
 

@@ -45,21 +45,3 @@ pub fn setting(line: &[u8]) -> Option<(u8, i64, &[u8])>
         Err(_) => None,
     }
 }
-
-#[cfg(test)]
-mod tests {
-    use super::*;
-    use crate::answers::gives;
-
-    #[test]
-    fn a_setting_and_its_rest(rt: HostRuntime) {
-        gives(&rt, setting(b"w=+12px"), Some((b'w', 12, b"px".as_slice())));
-        gives(&rt, setting(b"h=px"), None);
-        gives(&rt, setting(b"w:1"), None);
-    }
-
-    #[test]
-    fn a_sign_without_a_digit_is_no_number(rt: HostRuntime) {
-        gives(&rt, number_and_rest(b"-x"), Err(AtoiSimdError::Empty));
-    }
-}

@@ -65,21 +65,3 @@ pub fn column_total(input: &[u8], separator: u8) -> Result<u128, ColumnError<'_>
     }
     Ok(total)
 }
-
-#[cfg(test)]
-mod tests {
-    use super::*;
-    use crate::answers::gives;
-
-    #[test]
-    fn all_lines_or_the_first_bad_one(rt: HostRuntime) {
-        gives(
-            &rt,
-            total(b"7\n18446744073709551615\n"),
-            Ok(18446744073709551622),
-        );
-        gives(&rt, total(b""), Ok(0));
-        let trailing = ColumnError::Trailing { index: 1, place: 3 };
-        gives(&rt, total(b"7\n8x\n-9"), Err(trailing));
-    }
-}

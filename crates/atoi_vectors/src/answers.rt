@@ -1,6 +1,9 @@
-//! Functions that check whether a call returned the expected answer. Several files of tests share
-//! them: a test with `assert_eq!` in its own body takes longer to prove. This file uses only std.
+//! Functions that check whether a call returned the expected answer, and one that returns what an
+//! error prints. Several files of tests share them: a test with `assert_eq!` in its own body takes
+//! longer to prove. This file uses only std.
 
+use std::alloc::{AllocError, Global};
+use std::error::Error;
 use std::fmt::Debug;
 use std::process::Abort;
 
@@ -31,4 +34,10 @@ pub(crate) fn each_gives<A: Copy + Debug + PartialEq>(
     assert_eq!(rt; plain, expected, "of Plain");
     assert_eq!(rt; words, expected, "of Words");
     assert_eq!(rt; lanes, expected, "of Lanes");
+}
+
+/// Returns the text that `error` prints. Nothing is known of the type of `error` except that it
+/// implements the trait `Error`.
+pub(crate) fn printed<E: Error>(alloc: Global, error: &E) -> Result<String, AllocError> {
+    format!(in alloc; "{error}")
 }

@@ -1,10 +1,15 @@
 //! Tests of the ten functions and of the calls that they make, for both forms of the library and
 //! for the three engines. They compare results with those of the Rust crate, and with the rules
-//! written once more in plain code. The crate has only tests.
+//! written once more in plain code. There are also tests of columns and of the example callers. The
+//! crate has only tests.
 #![tactic(auto)]
 
 #[cfg(test)]
 mod answers;
+#[cfg(test)]
+mod callers;
+#[cfg(test)]
+mod columns;
 #[cfg(test)]
 mod core_calls;
 #[cfg(test)]
@@ -31,6 +36,8 @@ mod original;
 mod plain_rules;
 #[cfg(test)]
 mod row_texts;
+#[cfg(test)]
+mod samples;
 #[cfg(test)]
 mod type_ends;
 #[cfg(test)]

@@ -1,14 +1,12 @@
 //! Tests of columns: worked inputs, long ones, and the calls that Rust's iterators have.
-//! The expected items are counted by hand.
+//! The expected items are counted by hand. The file uses `answers`, `atoi_column`, and the error of
+//! `atoi_simd`.
 
-use super::Column;
-use crate::answers::gives;
-use crate::error::ColumnError;
-use crate::laws::{items_decide, items_in_turn, texts_and_items};
-use crate::separator::is_separator;
+use crate::answers::{gives, printed};
+use atoi_column::laws::{items_decide, items_in_turn, texts_and_items};
+use atoi_column::{Column, ColumnError, is_separator};
 use atoi_simd::AtoiSimdError;
 use std::alloc::{AllocError, Global};
-use std::error::Error;
 use std::test::Fail;
 
 // The item for a field that begins at the offset `place`, and begins with neither a digit nor a
@@ -93,11 +91,6 @@ fn an_error_has_the_number_and_the_place_of_its_field(rt: HostRuntime) {
         Some(Err(field)),
     );
     gives(&rt, (field.index(), field.place()), (2, 5));
-}
-
-// Returns the text that `error` prints. Nothing is known of its type except the trait `Error`.
-fn printed<E: Error>(alloc: Global, error: &E) -> Result<String, AllocError> {
-    format!(in alloc; "{error}")
 }
 
 #[test]
