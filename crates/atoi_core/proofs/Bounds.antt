@@ -211,9 +211,9 @@ index_in-invalid narrow number index s = refl
 index_in-invalid wide64 number index s = refl
 index_in-invalid wide128 number index s = refl
 
--- `first_of` chooses the error of the first of its tests that holds. If the third test is replaced
--- by one that also holds whenever the old one did, then the chosen error stays the same, unless it
--- was the fourth error and the new third test holds.
+-- `first_of` has four tests and an error for each, and chooses the error of the first test that
+-- holds. Let a new test replace the third one, and let it hold whenever the old one holds. The
+-- chosen error stays the same, unless it was the fourth error and the new test holds.
 other_third : (a b c e d : Bool) (p q r i reason : Refusal) → (c ≡ true → e ≡ true) → (i ≡ reason → e ≡ false)
     → first_of a b c d p q r i ≡ Some reason → first_of a b e d p q r i ≡ Some reason
 other_third true b c e d p q r i reason more none h = h

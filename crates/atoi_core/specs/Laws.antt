@@ -73,7 +73,7 @@ pub record HaveSameRun (k : IntType) (form : SignForm) (s t : List ℕ) : Type 0
   pub taken : (sign_in k form s).taken ≡ (sign_in k form t).taken
   pub run : run decimal_table (sign_in k form s).body ≡ run decimal_table (sign_in k form t).body
 
--- The byte `0`.
+-- The byte 48, which is the digit zero.
 abbrev pub zero_byte : ℕ
 zero_byte = 48
 
@@ -253,9 +253,9 @@ pub record IsFollowed (k : IntType) (extent : Extent) (is_negative skip : Bool) 
   pub number_is : number ≡ value decimal_table (run decimal_table body)
   pub index_is : index ≡ run_len decimal_table body
 
--- What a reason says about the body. The first that applies is returned: the body does not start
--- with a digit; it has too many significant digits; its digits spell a value out of range; another
--- byte follows its digits.
+-- What a reason, which is an error as contracts see it, says about the body. The first that applies
+-- is returned: the body does not start with a digit; it has too many significant digits; its digits
+-- spell a value out of range; another byte follows its digits.
 abbrev pub Explains : IntType → Extent → (is_negative skip : Bool) → List ℕ → Refusal → Type 0
 Explains k extent is_negative skip body empty = run_len decimal_table body ≡ 0
 Explains k extent is_negative skip body (size count rest) = (0 < run_len decimal_table body) × IsTooLong k extent skip body

@@ -102,8 +102,9 @@ fn has_no_minus_cold(minus: bool) -> bool
     !minus
 }
 
-// If `error` is `Invalid64` or `Invalid128` and the value in it is above the bound for the sign
-// `minus`, returns the index in it, which is the number of digits. Otherwise returns `None`.
+// If `error` is `Invalid64` or `Invalid128` and the value in it is out of range, returns the index
+// in it, which is the number of digits. Otherwise returns `None`. The largest value in range is the
+// magnitude of `T::MIN` if `minus` is set, otherwise `T::MAX`.
 fn digits_if_above<T: Signed>(minus: bool, error: AtoiSimdError<'_>) -> Option<usize>
     ensures { let reason = refusal_of error.entry in
         result ≡ (if nat_lt (bound_of T.int_type minus) (number_in reason) then Some (index_in reason)

@@ -173,10 +173,10 @@ fn window_after_16(s: &[u8], steps: &mut Steps) -> Window
     window_of_word(load_from(s, 16))
 }
 
-// Returns the window of a slice of at most 8 bytes. A slice of fewer than 8 bytes is read as if
-// zeros preceded it, and the result leaves these zeros out. So there are always eight bytes, and
-// unless `s` is empty, no branch depends on its length. For fewer than 8 bytes the windows of 8 and
-// of 16 bytes are the same.
+// Returns the window of the first 16 bytes of a slice that has at most 8. A slice of fewer than 8
+// bytes is read as if zeros preceded it, and the result leaves these zeros out. So there are always
+// eight bytes, and unless `s` is empty, no branch depends on its length. For fewer than 8 bytes the
+// windows of 8 and of 16 bytes are the same.
 fn short_window(s: &[u8]) -> Window
     requires { length s.now ≤ 8 }
     ensures of_16 { result ≡ window_of decimal_table 16 s.now }
@@ -335,8 +335,8 @@ fn digits_of(word: u64) -> u32
     }
 }
 
-// Returns how many zeros the word starts with, as `len_zeroes` does. It uses the same difference as
-// `digits_of` and `value_of`.
+// Returns how many zeros the word starts with, as `len_zeroes` does. Like `digits_of` and
+// `value_of`, it subtracts 48 from each byte, so that a zero becomes the byte 0.
 fn zeroes_of(word: u64) -> u32
     ensures zeroes { result ≡ zeros decimal_table (low_bytes 8 word) }
     ensures most { result ≤ 8 }

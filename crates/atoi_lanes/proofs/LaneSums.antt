@@ -203,8 +203,8 @@ join_lanes p t step le joins (suc m) (x ∷ y ∷ rest) long h =
     (ap (λ k. map step (digits_l (p * p) m k)) (ap (λ k. k / (p * p)) all ∙ div-mul-add n (p * p) (y * p + x) field)
     ∙ join_lanes p t step le joins m rest (omega arith) h.1.1)
 
--- If the digits of a number fill n bytes, and the number is split into n bytes, then these bytes
--- spell the same number.
+-- Let the digits xs of base p have as many values, all together, as n bytes have. If the number
+-- that these digits spell is split into n bytes, then the bytes spell the same number in base 256.
 recast : (p n : ℕ) (xs : List ℕ) → p ^ length xs ≡ 256 ^ n → Each1 (λ x. x < p) xs → number_l 256 (digits_l 256 n (number_l p xs)) ≡ number_l p xs
 recast p n xs same h = number-digits 256 n (number_l p xs) (omega arith) (omega (arith, same, number-lt p xs h))
 
@@ -230,8 +230,9 @@ step-joins h t room x y a b =
     let product : (x * t) % (2 ^ h * 2 ^ h) ≡ x * t = mod-eq_of_lt (omega arith) in
     ap₂ (λ l u. ((l * t) % (2 ^ h * 2 ^ h) + u) % (2 ^ h * 2 ^ h)) low high ∙ ap (λ l. (l + y) % (2 ^ h * 2 ^ h)) product ∙ mod-eq_of_lt (omega arith)
 
--- Under the same condition on h and t, one level of the computation applies `step` to all fields of
--- a vector, and so joins all neighbouring digits.
+-- The code joins neighbouring digits in three levels (`all_levels`). Under the same condition on h
+-- and t, one such level applies `step` to all fields of a vector, and so joins all neighbouring
+-- digits.
 level : (h t n m : ℕ) → t * t ≤ 2 ^ h → (2 ^ h) ^ (m + m) ≡ 256 ^ n → (xs : List ℕ) → length xs ≡ m + m → Each1 (λ x. x < t) xs
     → map (step h t) (digits_l (2 ^ h * 2 ^ h) m (number_l 256 (digits_l 256 n (number_l (2 ^ h) xs)))) ≡ paired t xs
 level h t n m room bytes xs long below =

@@ -69,10 +69,11 @@ abbrev pub query_text : Query → List ℕ → List ℕ
 query_text (Number request) text = row_text request text
 query_text (Column integer separator) text = column_text (int_type_of integer) separator text
 
--- The line is a row that has an answer.
+-- The line is good: it has the form of a row, and its words name a call or a column that the tool
+-- accepts.
 abbrev pub is_good_line : List ℕ → Bool
 is_good_line line = is_some (row_of line)
 
--- The answer to a line: the answer to its row if the line is a good row, otherwise `bad row`.
+-- The answer to a line: the answer to its row if the line is good, otherwise `bad row`.
 abbrev pub line_answer : List ℕ → List ℕ
 line_answer line = option_map_or (λ row. query_text row.0 row.1) (row_of line) (codes "bad row")

@@ -63,7 +63,7 @@ abbrev pub HasAnswer : Query → Type 0
 HasAnswer (Number request) = is_known request ≡ true
 HasAnswer (Column integer separator) = is_separator separator ≡ true
 
--- What a line asks for, and the text after its fourth space; `None` if the line is a bad row. The
+-- What a line asks for, and the text after its fourth space; `None` if the line is not good. The
 -- text may contain spaces too.
 abbrev pub row_of : List ℕ → Option (Query × List ℕ)
 row_of line =

@@ -1,5 +1,5 @@
-//! Readers, writers and a standard error that fail when a test wants them to. Only tests use them,
-//! and they use only std.
+//! Readers, writers and a replacement for the stream of standard error, which fail when a test
+//! wants them to. Only tests use them, and they use only std.
 
 use std::alloc::Global;
 use std::cell::{Cell, RefCell};
@@ -106,8 +106,8 @@ impl Write for LimitedWriter {
     }
 }
 
-/// A standard error whose calls fail until call number `first`, counted from 1. It keeps what that
-/// call and the later ones print. It counts its calls.
+/// A replacement for the stream of standard error. Its calls fail until call number `first`, counted
+/// from 1. It keeps what that call and the later ones print, and counts its calls.
 #[derive(Drop)]
 pub(crate) struct Errors {
     pub(crate) reported: RefCell<Vec<u8>>,
@@ -116,7 +116,7 @@ pub(crate) struct Errors {
 }
 
 impl Errors {
-    /// Returns a standard error to which nothing was printed yet.
+    /// Returns such a stream, to which nothing was printed yet.
     pub(crate) fn new(alloc: Global, first: usize) -> Errors {
         Errors {
             reported: RefCell::new(Vec::new(alloc)),

@@ -58,7 +58,7 @@ fn put_row<S: Sink>(query: Query, text: &[u8], output: &mut S) -> Result<(), Ref
     }
 }
 
-// Writes the answer to one line, and a newline after it. Returns whether the line is a good row.
+// Writes the answer to one line, and a newline after it. Returns whether the line is good.
 fn put_answer<S: Sink>(line: &[u8], output: &mut S) -> Result<bool, Refused>
     ensures ok { OnOk result
         (Appends (S.held output.old) (S.held output.new) (line_output line.now)) }

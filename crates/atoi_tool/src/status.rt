@@ -8,7 +8,7 @@ use std::fmt;
 /// An error that stops the program.
 #[derive(Debug, Drop, PartialEq)]
 pub enum ToolError {
-    /// The input does not fit in memory.
+    /// A request for memory for the input was refused.
     Memory,
     /// A read was refused.
     Read,

@@ -6,8 +6,8 @@ use atoi_simd::{
     AtoiSimdError, parse, parse_neg, parse_pos, parse_prefix, parse_prefix_neg, parse_prefix_pos,
 };
 
-// In this file, `assert_eq!` calls `gives`. With the macro of std, which the pages mean, these tests
-// would check the same, but would take much longer to prove.
+// In this file, `assert_eq!` calls `gives`. With the macro of std, which the pages mean, these
+// tests would check the same, but would take much longer to prove.
 macro_rules! assert_eq {
     ($rt:expr; $answer:expr, $expected:expr $(,)?) => {
         gives(&$rt, $answer, $expected)

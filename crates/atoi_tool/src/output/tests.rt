@@ -320,7 +320,7 @@ fn answers_the_longest_line(rt: HostRuntime) -> Result<(), Fail> {
     Ok(())
 }
 
-// Asserts that each of the lines is a bad row.
+// Asserts that the answer to each of the lines is `bad row`.
 fn assert_bad_rows(rt: &impl Abort, alloc: Global, rows: &[&[u8]]) -> Result<(), Fail> {
     for row in rows {
         let mut line = row.to_vec(alloc)?;
