@@ -1,18 +1,9 @@
 //! Calls and their results, which README.md and the pages CALLING.md show.
 
-use crate::answers::gives;
 use atoi_column::{Column, ColumnError};
 use atoi_simd::{
     AtoiSimdError, parse, parse_neg, parse_pos, parse_prefix, parse_prefix_neg, parse_prefix_pos,
 };
-
-// In this file, `assert_eq!` calls `gives`. With the macro of std, which the pages mean, these
-// tests would check the same, but would take much longer to prove.
-macro_rules! assert_eq {
-    ($rt:expr; $answer:expr, $expected:expr $(,)?) => {
-        gives(&$rt, $answer, $expected)
-    };
-}
 
 #[test]
 fn first_calls(rt: HostRuntime) {
