@@ -469,9 +469,9 @@ Skipped-loads after_skip more counted bounded few = record {
   at_least_skipping = λ on. omega (arith, after_skip.least on);
 }
 
--- Let the loop load one window. After it, one more window is loaded if zeros are not skipped and
--- the first 16 bytes are digits, and otherwise none. Then the number of loads is within the bounds
--- for a type of at most 32 bits.
+-- Suppose that the loop loads exactly one window. Suppose also that after the loop one more window
+-- is loaded if zeros are not skipped and the first 16 bytes are digits, and otherwise none. Then the
+-- number of loads is within the bounds for a type of at most 32 bits.
 pub Skipped-one : (t : Table) (skip : Bool) (s : List ℕ) (at before now last : ℕ) {w : Window} → Skipped t skip s at before now w →
     now ≡ before + 1 → last ≡ now + (if skip || nat_lt (run_len t s) 16 then 0 else 1) → LoadsWithin (most_loads t narrow s) 2 t skip s before last
 Skipped-one t true s at before now last after_skip one counted = record {

@@ -61,7 +61,8 @@ fn parts_of(window: Window) -> (usize, usize, Option<u128>) {
     )
 }
 
-/// Checks the parses over an engine. `body` counts the digits of that engine.
+/// Checks the parses over an engine. `body` is the slice, with the number of bytes at its start that
+/// are digits of that engine.
 pub(crate) fn check_engine<E: Engine>(rt: &impl Abort, body: Body<'_>) {
     for skip in [false, true] {
         check_narrow::<E>(rt, skip, body);
@@ -131,7 +132,7 @@ fn check_128<E: Engine>(rt: &impl Abort, skip: bool, body: Body<'_>) {
     }
 }
 
-/// Checks the core calls of each type over an engine. `body` counts the digits of that engine.
+/// Checks the core calls of each type over an engine. `body` is as for `check_engine`.
 pub(crate) fn check_types<E: Engine>(rt: &impl Abort, body: Body<'_>) {
     let (unsigned, signed) = (Class::Wide64(20), Class::Wide64(19));
     for skip in [false, true] {
