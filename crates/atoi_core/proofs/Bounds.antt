@@ -333,9 +333,9 @@ not_counted : (above : Bool) (index : ℕ) → None ≡ cond above (Some index) 
 not_counted true index h = absurd (cc h)
 not_counted false index h = refl
 
--- Let `negative` be a number that is not positive. If `minus` is set, `either` is `negative`
--- itself; otherwise it is the magnitude of `negative`. But if that number is out of range, `either`
--- is `None`.
+-- Let `negative` be a number that is not positive. If `minus` is set, `either` holds `negative`
+-- itself; otherwise it holds the magnitude of `negative`. But if the number that `either` would
+-- hold is out of range, `either` is `None`.
 abbrev pub IsInRange : IntType → Bool → (negative : ℤ) → Option ℤ → Type 0
 IsInRange k minus negative either =
     (magnitude : ℕ) → negative ≡ with_sign true magnitude

@@ -28,8 +28,8 @@ impl fmt::Display for ToolError {
     }
 }
 
-/// Returns the exit status of the program: 0 if every row was good, 2 if a row was bad, 3 if there
-/// was not enough memory, 4 after a refused read and 5 after a refused write.
+/// Returns the exit status of the program: 0 if every line was good, 2 if some line was not, 3 if
+/// there was not enough memory, 4 after a refused read and 5 after a refused write.
 pub fn status(outcome: &Result<bool, ToolError>) -> u8
     ensures { result ≡ status_of outcome.now }
 {

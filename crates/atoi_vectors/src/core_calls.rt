@@ -1,6 +1,6 @@
 //! Checks that each call over an engine returns what `plain_rules` says. An engine is an
-//! implementation that reads digits from a slice. The file uses `plain_rules`, `answers` and the
-//! calls of `atoi_core`.
+//! implementation that reads digits from a slice. The file uses `plain_rules`, `answers`, the calls
+//! of `atoi_core` and the engine `Lanes`.
 ghost use Rattle.std.specs.Prelude.{◌<◌};
 
 use crate::answers::gives;
@@ -61,8 +61,8 @@ fn parts_of(window: Window) -> (usize, usize, Option<u128>) {
     )
 }
 
-/// Checks the parses over an engine. `body` is the slice, with the number of bytes at its start that
-/// are digits of that engine.
+/// Checks the parses over an engine. `body` is the slice, with the number of bytes at its start
+/// that are digits of that engine.
 pub(crate) fn check_engine<E: Engine>(rt: &impl Abort, body: Body<'_>) {
     for skip in [false, true] {
         check_narrow::<E>(rt, skip, body);
