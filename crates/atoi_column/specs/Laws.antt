@@ -31,11 +31,11 @@ FieldsArePrefixes k =
 abbrev pub place_after : List (List ℕ) → ℕ
 place_after texts = sum_by (λ text. length text + 1) texts
 
--- The list holds the fields of an input that follow its first fields. The first fields are texts of
--- the type, and `last` are the items that follow their items. If the list is empty, then so is
--- `last`. Otherwise the first field in the list is not a text of the type, and `last` is one item:
--- the flaw of that field. The flaw depends on what `prefix` answers to `rest`, the input from that
--- field's first byte on.
+-- Let an input begin with fields that are texts of the type. The list has the other fields of the
+-- input, and `last` has the items that come after those of the first fields. If the list is empty,
+-- then so is `last`. Otherwise the first field in the list is not a text of the type, and `last` is
+-- one item: the flaw of that field. The flaw depends on what `prefix` answers to `rest`, the input
+-- from that field's first byte on.
 abbrev pub EndsItems : IntType → (prefix : List ℕ → Result (ℤ × ℕ) Refusal) → (index place : ℕ) → (rest : List ℕ) → List (List ℕ) → List (Result ℤ Flaw) → Type 0
 EndsItems k prefix index place rest [] last = last ≡ []
 EndsItems k prefix index place rest (text ∷ texts) last =

@@ -55,8 +55,8 @@ whole_of_prefix k form skip s v h =
     let body_is = is_whole k g.minus skip g.body prefix_is.some short prefix_is.in_range to_end in
     whole_call-is k form skip s ∙ to_whole k g.minus skip g.body body_is ∙ ap Ok (sym found.number)
 
--- If a whole parse gives a value, and a prefix may have as many digits as a whole slice, the prefix
--- parse gives the same value and reaches the end.
+-- If a whole parse gives a value, and the limit on digits is the same for a prefix as for a whole
+-- slice (`HasLimitOfWhole`), the prefix parse gives the same value and reaches the end.
 prefix_of_whole : (k : IntType) (form : SignForm) (skip : Bool) (s : List ℕ) (v : ℤ) → HasLimitOfWhole k skip
     → whole_call k form skip s ≡ Ok v → prefix_call k form skip s ≡ Ok (v, length s)
 prefix_of_whole k form skip s v limit h =

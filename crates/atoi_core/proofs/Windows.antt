@@ -248,7 +248,8 @@ pub record Shows (t : Table) (c : ℕ) (s : List ℕ) (w : Window) : Type 0 wher
   pub number_is : w.number ≡ value t (take w.len s)
   -- A number of n digits is below 10^n.
   pub below : w.number < 10 ^ w.len
-  -- A window reports leading zeros only if it is full of digits.
+  -- A window reports at most the leading zeros of the slice. It reports some only if it is full. If
+  -- it is full, it reports the smaller of c and the number of these zeros.
   pub zeroes : w.zeroes ≤ zeros t s
   pub full : 0 < w.zeroes → w.len ≡ c
   pub zeroes_of : w.len ≡ c → w.zeroes ≡ min c (zeros t s)
@@ -470,8 +471,8 @@ Skipped-loads after_skip more counted bounded few = record {
 }
 
 -- Suppose that the loop loads exactly one window. Suppose also that after the loop one more window
--- is loaded if zeros are not skipped and the first 16 bytes are digits, and otherwise none. Then the
--- number of loads is within the bounds for a type of at most 32 bits.
+-- is loaded if zeros are not skipped and the first 16 bytes are digits, and otherwise none. Then
+-- the number of loads is within the bounds for a type of at most 32 bits.
 pub Skipped-one : (t : Table) (skip : Bool) (s : List ℕ) (at before now last : ℕ) {w : Window} → Skipped t skip s at before now w →
     now ≡ before + 1 → last ≡ now + (if skip || nat_lt (run_len t s) 16 then 0 else 1) → LoadsWithin (most_loads t narrow s) 2 t skip s before last
 Skipped-one t true s at before now last after_skip one counted = record {

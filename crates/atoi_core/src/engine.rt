@@ -42,9 +42,9 @@ pub trait Engine {
     /// Parses the integer of 64 bits at the start of `s`, which has no sign, and returns its value
     /// and the number of its bytes, including those of the leading zeros.
     ///
-    /// `bound` is the largest value that is accepted, and has exactly `limit` digits, 17 to 20.
-    /// With `skip`, leading zeros do not count towards `limit`, however many there are. All digits
-    /// at the start of `s` belong to the integer, and the first other byte ends it.
+    /// `bound` is the largest value that is accepted, and has exactly `limit` digits; `limit` is 17
+    /// to 20. With `skip`, leading zeros do not count towards `limit`, however many there are. All
+    /// digits at the start of `s` belong to the integer, and the first other byte ends it.
     ///
     /// The provided body loads 16 bytes at a time while it skips zeros, and so skips at most 16
     /// zeros with each load. Without zeros to skip it makes one such load. If the 16 bytes of the

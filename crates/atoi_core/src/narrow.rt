@@ -148,8 +148,9 @@ fn error_of_whole<'a>(error: AtoiSimdError<'_>, s: &'a [u8]) -> AtoiSimdError<'a
     }
 }
 
-// Kept separate, with the result matched right after the call, so that the stack slot of that
-// result is cleared only on the path that calls `narrow_prefix_after_zeros`.
+// Calls `narrow_prefix_after_zeros`, which is never inlined, and matches its result.
+// The call and the match are kept in a separate function, which is itself inlined, so that the
+// stack slot of the result is cleared only on the path that makes the call.
 #[inline(always)]
 fn narrow_prefix_cold<'a, E: Engine>(
     bound: u64,

@@ -44,8 +44,9 @@ pub(crate) fn prefix_128_inline<'a, E: Engine>(
     }
 }
 
-// Kept separate, with the result matched right after the call, so that the stack slot of that
-// result is cleared only on the path that calls `E::prefix_128`.
+// Calls `E::prefix_128` and matches its result. The call and the match are kept in a separate
+// function, which is itself inlined, so that the stack slot of the result is cleared only on the
+// path that makes the call.
 #[inline(always)]
 fn prefix_128_cold<'a, E: Engine>(
     bound: u128,

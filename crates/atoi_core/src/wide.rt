@@ -12,8 +12,8 @@ use crate::steps::Steps;
 
 /// Parses all of `s`, which has no sign, as an integer of 64 bits, and returns its value.
 ///
-/// `bound` is the largest value that is accepted, and has exactly `limit` digits, 17 to 20. With
-/// `skip`, leading zeros do not count towards `limit`. `steps` counts the loads.
+/// `bound` is the largest value that is accepted, and has exactly `limit` digits; `limit` is 17 to
+/// 20. With `skip`, leading zeros do not count towards `limit`. `steps` counts the loads.
 ///
 /// # Errors
 ///

@@ -104,8 +104,9 @@ impl Engine for WordWindows {
     ghost below_ten = { λ byte. Prim.grind (arith, nat_tests) };
 }
 
-// Kept separate, with the result matched right after the call, so that the stack slot of that
-// result is cleared only on the path that calls `prefix_64_after_zeros`.
+// Calls `prefix_64_after_zeros`, which is never inlined, and matches its result.
+// The call and the match are kept in a separate function, which is itself inlined, so that the
+// stack slot of the result is cleared only on the path that makes the call.
 #[inline(always)]
 fn prefix_64_cold<'a>(
     bound: u64,
@@ -173,10 +174,10 @@ fn window_after_16(s: &[u8], steps: &mut Steps) -> Window
     window_of_word(load_from(s, 16))
 }
 
-// Returns the window of the first 16 bytes of a slice that has at most 8. A slice of fewer than 8
-// bytes is read as if zeros preceded it, and the result leaves these zeros out. So there are always
-// eight bytes, and unless `s` is empty, no branch depends on its length. For fewer than 8 bytes the
-// windows of 8 and of 16 bytes are the same.
+// Returns what a read of 16 bytes returns for a slice of at most 8 bytes, which is a window that is
+// not full. A slice of fewer than 8 bytes is read as if zeros preceded it, and the result leaves
+// these zeros out. So there are always eight bytes, and unless `s` is empty, no branch depends on
+// its length. For fewer than 8 bytes the windows of 8 and of 16 bytes are the same.
 fn short_window(s: &[u8]) -> Window
     requires { length s.now ≤ 8 }
     ensures of_16 { result ≡ window_of decimal_table 16 s.now }
@@ -260,8 +261,8 @@ fn load_from(s: &[u8], at: usize) -> u64
 }
 
 // Returns the word of the first 8 bytes. Callers have checked the length. Unlike `load_8`, this
-// function has no code for shorter slices, because such code would make each function that reads a
-// window larger.
+// function has no code for shorter slices, because such code would enlarge each function that reads
+// a window.
 #[tactic(auto, using(crate::proofs::LoadedWords::word_of_first))]
 fn load_full(s: &[u8]) -> u64
     requires { 8 ≤ length s.now }

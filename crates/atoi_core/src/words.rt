@@ -4,8 +4,9 @@
 //!
 //! The parsers call only the two functions that load: `Words` and `Lanes` call `load_high`, and
 //! `Lanes` calls `load_8`. `Words` has shorter functions of its own, which count digits and zeros
-//! and compute the number. Those that compute the number require that the bytes are digits. The
-//! other five public functions are for callers that have words. This file uses no other module.
+//! and compute the number; the functions of `Words` that compute the number require that the bytes
+//! are digits. The five public functions of this file that do not load are for callers that have
+//! words. This file uses no other module.
 ghost use Rattle.std.specs.Prelude.{◌≡◌, ℕ, ◌-◌, ◌<◌, ◌≤◌, ◌++◌, length, take, drop, replicate};
 ghost use Rattle.atoi_core.specs.Digit.{decimal_table};
 ghost use Rattle.atoi_core.specs.Run.{run_len, zeros};

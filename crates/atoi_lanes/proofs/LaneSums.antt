@@ -188,7 +188,7 @@ number-digits p (suc n) x some lt =
     ap (λ m. x % p + p * m) (number-digits p n (x / p) some above) ∙ omega (arith, div-add-mod x p)
 
 -- If a step on a field joins the two digits in this field to one, then applying this step to all
--- fields joins all neighbouring digits. The first digit of a field is the lower one.
+-- fields joins all neighbouring digits. The first digit of a field is in its lower half.
 join_lanes : (p t : ℕ) (step : ℕ → ℕ) → t ≤ p → ((x y : ℕ) → x < t → y < t → step (y * p + x) ≡ x * t + y)
     → (m : ℕ) (xs : List ℕ) → length xs ≡ m + m → Each1 (λ x. x < t) xs → map step (digits_l (p * p) m (number_l p xs)) ≡ paired t xs
 join_lanes p t step le joins zero [] long h = refl
@@ -203,8 +203,9 @@ join_lanes p t step le joins (suc m) (x ∷ y ∷ rest) long h =
     (ap (λ k. map step (digits_l (p * p) m k)) (ap (λ k. k / (p * p)) all ∙ div-mul-add n (p * p) (y * p + x) field)
     ∙ join_lanes p t step le joins m rest (omega arith) h.1.1)
 
--- Let the digits xs of base p have as many values, all together, as n bytes have. If the number
--- that these digits spell is split into n bytes, then the bytes spell the same number in base 256.
+-- Let there be as many numbers of `length xs` digits in base p as there are numbers of n bytes. If
+-- the number that the digits xs spell is split into n bytes, then the bytes spell the same number
+-- in base 256.
 recast : (p n : ℕ) (xs : List ℕ) → p ^ length xs ≡ 256 ^ n → Each1 (λ x. x < p) xs → number_l 256 (digits_l 256 n (number_l p xs)) ≡ number_l p xs
 recast p n xs same h = number-digits 256 n (number_l p xs) (omega arith) (omega (arith, same, number-lt p xs h))
 
@@ -230,9 +231,8 @@ step-joins h t room x y a b =
     let product : (x * t) % (2 ^ h * 2 ^ h) ≡ x * t = mod-eq_of_lt (omega arith) in
     ap₂ (λ l u. ((l * t) % (2 ^ h * 2 ^ h) + u) % (2 ^ h * 2 ^ h)) low high ∙ ap (λ l. (l + y) % (2 ^ h * 2 ^ h)) product ∙ mod-eq_of_lt (omega arith)
 
--- The code joins neighbouring digits in three levels (`all_levels`). Under the same condition on h
--- and t, one such level applies `step` to all fields of a vector, and so joins all neighbouring
--- digits.
+-- The code joins neighbouring digits in three levels (`all_levels`). The third level applies `step`
+-- to all fields of a vector. If t * t is at most 2^h, this joins all neighbouring digits.
 level : (h t n m : ℕ) → t * t ≤ 2 ^ h → (2 ^ h) ^ (m + m) ≡ 256 ^ n → (xs : List ℕ) → length xs ≡ m + m → Each1 (λ x. x < t) xs
     → map (step h t) (digits_l (2 ^ h * 2 ^ h) m (number_l 256 (digits_l 256 n (number_l (2 ^ h) xs)))) ≡ paired t xs
 level h t n m room bytes xs long below =
@@ -274,7 +274,7 @@ weighed (suc m) (x ∷ y ∷ rest) long h =
     ap₂ (λ d ds. d ∷ ds) (omega (arith, first, second))
     (ap (λ k. dots (digits_l 256 (four_each m) k) (hundreds m)) following ∙ weighed m rest (omega arith) h.1.1)
 
--- A product that wraps fits in a lane of 16 bits.
+-- A product modulo 2^16 fits in a lane of 16 bits.
 wrapped : (factor : ℕ) (xs : List ℕ) → Each1 (Fits w16) (map (λ field. field * factor % 65536) xs)
 wrapped factor [] = tt
 wrapped factor (x ∷ xs) = (record { fits = omega arith }, wrapped factor xs)

@@ -7,6 +7,6 @@ abbrev pub failures_of : {A E : Type 0} → Result A E → ℕ
 failures_of (Ok value) = 0
 failures_of (Err error) = 1
 
--- The known bytes grow by a proper prefix of `bytes`.
+-- The bytes of a sink, if contracts can name them, grow by a proper prefix of `bytes`.
 abbrev pub AppendsPrefix : Option (List ℕ) → Option (List ℕ) → List ℕ → Type 0
 AppendsPrefix old new bytes = (count : ℕ) × (count < length bytes) × Appends old new (take count bytes)

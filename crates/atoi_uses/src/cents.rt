@@ -1,6 +1,6 @@
-//! A type of our own, `Cents`, to which the digits of a negative number can be parsed. Its methods
-//! of the trait `atoi_simd::ParseNeg` call those of `i64`, and must return the same numbers and
-//! errors.
+//! A type of our own, `Cents`, which the core calls of `atoi_core` can parse. It also implements
+//! the trait `atoi_simd::ParseNeg`, for the digits of negative numbers. The methods of that trait
+//! call those of `i64`, and must return the same numbers and errors.
 ghost use Rattle.std.specs.Prelude.{true, refl};
 ghost use Rattle.std.proofs.Common.{inl, inr};
 ghost use Rattle.atoi_core.specs.IntTypes.{i64_type};
