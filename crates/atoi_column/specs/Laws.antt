@@ -31,11 +31,11 @@ FieldsArePrefixes k =
 abbrev pub place_after : List (List ℕ) → ℕ
 place_after texts = sum_by (λ text. length text + 1) texts
 
--- Let an input begin with fields that are texts of the type. The list has the other fields of the
--- input, and `last` has the items that come after those of the first fields. If the list is empty,
--- then so is `last`. Otherwise the first field in the list is not a text of the type, and `last` is
--- one item: the flaw of that field. The flaw depends on what `prefix` answers to `rest`, the input
--- from that field's first byte on.
+-- Let an input begin with fields that are texts of the type. The argument of type `List (List ℕ)`
+-- has the other fields of the input, and `last` has the items of the input without those of the
+-- first fields. If there are no other fields, then `last` is empty. Otherwise the first of the
+-- other fields is not a text of the type, and `last` is one item: the flaw of that field. The flaw
+-- depends on what `prefix` answers to `rest`, the input from that field's first byte on.
 abbrev pub EndsItems : IntType → (prefix : List ℕ → Result (ℤ × ℕ) Refusal) → (index place : ℕ) → (rest : List ℕ) → List (List ℕ) → List (Result ℤ Flaw) → Type 0
 EndsItems k prefix index place rest [] last = last ≡ []
 EndsItems k prefix index place rest (text ∷ texts) last =

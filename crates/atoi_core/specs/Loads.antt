@@ -5,11 +5,11 @@ use Rattle.atoi_core.specs.Run.{zeros}
 use Rattle.atoi_core.specs.Magnitude.{Class, Extent, narrow, wide64, wide128, whole, prefix}
 use Rattle.atoi_core.specs.IntType.{IntType, class_of}
 
--- A *turn* is the work of a call on 16 leading zeros. `loads_a_turn` is the number of loads that
+-- A *turn* is what a call does with 16 leading zeros. `loads_a_turn` is the number of loads that
 -- the upper bound `most_loads` allows for each turn. A loop makes one load in a turn. The bound
 -- allows more for the wide types: 2 loads in a turn for 64 bits, and 3 for 128 bits. Besides one
--- turn for each 16 leading zeros, `most_loads` counts two more turns. They allow 4 loads for 64 bits
--- and 6 for 128 bits, which is enough for the loads after the last zero.
+-- turn for each 16 leading zeros, `most_loads` counts two more turns. They allow 4 loads for 64
+-- bits and 6 for 128 bits, which is enough for the loads after the last zero.
 abbrev pub loads_a_turn : Class → ℕ
 loads_a_turn narrow = 1
 loads_a_turn wide64 = 2
