@@ -61,7 +61,8 @@ number-paired t (suc m) (x ∷ y ∷ rest) long =
     let next : t ^ suc (length rest) ≡ t ^ length rest * t = pow-suc t (length rest) in
     omega (arith, ap (λ p. (x * t + y) * p) power, ap (λ p. x * p) next, number-paired t m rest (omega arith))
 
--- Two digits of base t spell the first one times t, plus the second. Both are below t.
+-- The number that two digits of base t spell is the first digit times t, plus the second digit.
+-- Both digits are below t.
 number-two : (t : ℕ) (xs : List ℕ) → length xs ≡ 2 → Each1 (λ x. x < t) xs → (get_or xs 0 0 < t) × ((get_or xs 1 0 < t) × (get_or xs 0 0 * t + get_or xs 1 0 ≡ number_in t xs))
 number-two t [] long h = absurd (omega arith)
 number-two t (x ∷ []) long h = absurd (omega arith)
@@ -203,9 +204,8 @@ join_lanes p t step le joins (suc m) (x ∷ y ∷ rest) long h =
     (ap (λ k. map step (digits_l (p * p) m k)) (ap (λ k. k / (p * p)) all ∙ div-mul-add n (p * p) (y * p + x) field)
     ∙ join_lanes p t step le joins m rest (omega arith) h.1.1)
 
--- Let there be as many numbers of `length xs` digits in base p as there are numbers of n bytes. If
--- the number that the digits xs spell is split into n bytes, then the bytes spell the same number
--- in base 256.
+-- Suppose that p to the power of `length xs` is 256^n. If the number that the digits xs spell in
+-- base p is split into n bytes, then the bytes spell the same number in base 256.
 recast : (p n : ℕ) (xs : List ℕ) → p ^ length xs ≡ 256 ^ n → Each1 (λ x. x < p) xs → number_l 256 (digits_l 256 n (number_l p xs)) ≡ number_l p xs
 recast p n xs same h = number-digits 256 n (number_l p xs) (omega arith) (omega (arith, same, number-lt p xs h))
 

@@ -1,7 +1,8 @@
 //! The parsers of 64- and 128-bit integers at the start of a slice. They read windows of 32 bytes.
 //! A *window* says how many digits and zeros its bytes begin with, and what number the digits
 //! spell. The file uses `window_32` and the smaller windows of `Lanes`. From `atoi_core` it uses
-//! the law `reading_decides` and the functions `answer_64` and `answer_128`.
+//! the law `reading_decides`, the functions `answer_64` and `answer_128`, and the types of errors,
+//! engines, windows and loads.
 ghost use Rattle.std.specs.Prelude.{◌≡◌, ◌+◌, ◌/◌, ◌<◌, ◌≤◌, length, take, drop, true, IsTrue};
 ghost use Rattle.atoi_core.specs.Digit.{decimal_table};
 ghost use Rattle.atoi_core.specs.Loads.{LoadsWithin};
