@@ -9,7 +9,7 @@ use atoi_core::laws::{prefix_is_whole, prefix_of_cut, rest_changes_nothing};
 /// first byte of a field. Then `parse`, with both flags on, accepts this field exactly if
 /// `parse_prefix` returns a number that ends where the field ends. Both then return the same value.
 /// So a column need not look for the end of a field first. Calling this function does nothing.
-#[tactic(auto, using(crate::proofs::PrefixLemmas::fields_are_prefixes))]
+#[tactic(auto, using(crate::proofs::lemmas::Prefixes::fields_are_prefixes))]
 pub fn fields_are_prefixes<T: Number>()
     ensures { FieldsArePrefixes T.int_type }
 {

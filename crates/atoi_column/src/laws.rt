@@ -13,7 +13,7 @@ use atoi_core::laws::{accepted_numbers, accepted_texts};
 /// If some field is not such a text, one error follows the numbers, and it is the last item. The
 /// error depends on what `parse_prefix` with both flags returns for the input from that field's
 /// first byte on.
-#[tactic(auto, using(crate::proofs::TextLemmas::texts_and_items))]
+#[tactic(auto, using(crate::proofs::lemmas::Texts::texts_and_items))]
 pub fn texts_and_items<T: Number>()
     ensures { TextsAndItems T.int_type }
 {
@@ -27,7 +27,7 @@ pub fn texts_and_items<T: Number>()
 /// is less than the length of the input. Its `place` is the offset of the byte after the number
 /// that the field begins with, or the offset of the field's first byte if no number can be read
 /// there.
-#[tactic(auto, using(crate::proofs::DecideLemmas::items_decide))]
+#[tactic(auto, using(crate::proofs::lemmas::Decides::items_decide))]
 pub fn items_decide<T: Number>()
     ensures { ItemsDecide T.int_type }
 {
@@ -39,7 +39,7 @@ pub fn items_decide<T: Number>()
 /// and each value that is read adds one number to `numbers`. If no item is left, all items are
 /// `numbers`. Nothing follows an error, so an error comes right after `numbers` and is the last
 /// item.
-#[tactic(auto, using(crate::proofs::TurnLemmas::items_in_turn))]
+#[tactic(auto, using(crate::proofs::lemmas::Turns::items_in_turn))]
 pub fn items_in_turn()
     ensures { ItemsInTurn }
 {}
@@ -47,7 +47,7 @@ pub fn items_in_turn()
 /// If an input is not empty, its first field ends before the first separator, and its other fields
 /// are the fields of what follows that separator. If there is no separator, the whole input is the
 /// only field.
-#[tactic(auto, using(crate::proofs::FieldLemmas::fields_of_first))]
+#[tactic(auto, using(crate::proofs::lemmas::Fields::fields_of_first))]
 pub fn first_field()
     ensures { FirstField }
 {}

@@ -6,8 +6,7 @@ use Rattle.atoi_core.specs.Digit.{decimal_table}
 use Rattle.atoi_core.specs.Refusal.{empty, size, overflow, invalid64, invalid128, refusal_cmp}
 use Rattle.atoi_core.specs.ErrorText.{error_text}
 use Rattle.atoi_core.specs.Magnitude.{refusal}
-use Rattle.atoi_core.specs.IntType.{bound_of, limit_of}
-use Rattle.atoi_core.specs.IntTypes.{u8_type, i8_type, u32_type, i32_type, u64_type, i64_type, u128_type, i128_type}
+use Rattle.atoi_core.specs.IntType.{bound_of, limit_of, u8_type, i8_type, u32_type, i32_type, u64_type, i64_type, u128_type, i128_type}
 use Rattle.atoi_core.specs.Answer.{parse_answer, parse_prefix_answer, whole_answer}
 use Rattle.atoi_core.specs.Sign.{sign_of}
 use Rattle.std.specs.declared.cmp.Ordering.TheVariants.{Less}

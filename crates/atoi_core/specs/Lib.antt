@@ -5,7 +5,6 @@ pub mod Refusal
 pub mod ErrorText
 pub mod Magnitude
 pub mod IntType
-pub mod IntTypes
 pub mod Sign
 pub mod Answer
 pub mod Text

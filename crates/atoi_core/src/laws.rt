@@ -14,7 +14,7 @@ use crate::number::Number;
 
 /// `parse` returns each value of the type from its decimal text, whichever of the two flags are on.
 /// That text has a `-` if the value is negative, and no leading zeros.
-#[tactic(auto, using(crate::proofs::Texts::text_of_value))]
+#[tactic(auto, using(crate::proofs::lemmas::Texts::text_of_value))]
 pub fn text_of_value<T: Number>()
     ensures { TextOfValue T.int_type }
 {}
@@ -22,14 +22,14 @@ pub fn text_of_value<T: Number>()
 /// `parse` with both flags on returns `Ok` exactly for the texts of the type: an optional sign (`-`
 /// for signed types only), one or more digits, nothing else, and a value in range. It returns the
 /// number that the text writes.
-#[tactic(auto, using(crate::proofs::Prefixes::accepted_texts))]
+#[tactic(auto, using(crate::proofs::lemmas::Prefixes::accepted_texts))]
 pub fn accepted_texts<T: Number>()
     ensures { AcceptedTexts T.int_type }
 {}
 
 /// A whole parse returns `Ok` only with the number that its slice writes. If zeros are skipped, it
 /// returns every number that its slice writes.
-#[tactic(auto, using(crate::proofs::Prefixes::accepted_numbers))]
+#[tactic(auto, using(crate::proofs::lemmas::Prefixes::accepted_numbers))]
 pub fn accepted_numbers<T: Number>()
     ensures { AcceptedNumbers T.int_type }
 {}
@@ -38,14 +38,14 @@ pub fn accepted_numbers<T: Number>()
 /// slice write that number, and no digit follows them. If zeros are skipped, the converse holds
 /// too: if a prefix of the slice writes a number and no digit follows it, the parse returns that
 /// number and the length of that prefix.
-#[tactic(auto, using(crate::proofs::Prefixes::accepted_prefixes))]
+#[tactic(auto, using(crate::proofs::lemmas::Prefixes::accepted_prefixes))]
 pub fn accepted_prefixes<T: Number>()
     ensures { AcceptedPrefixes T.int_type }
 {}
 
 /// Speaks of a `Result` that a whole parse of a `T` returns. If it is `Ok`, the slice writes the
 /// number in it. If it is an error and zeros are skipped, the slice writes no number.
-#[tactic(auto, using(crate::proofs::Prefixes::whole_results))]
+#[tactic(auto, using(crate::proofs::lemmas::Prefixes::whole_results))]
 pub fn whole_results<T: Number, const SKIP_ZEROES: bool>()
     ensures { WholeResults T.int_type T.number SKIP_ZEROES }
 {}
@@ -54,7 +54,7 @@ pub fn whole_results<T: Number, const SKIP_ZEROES: bool>()
 /// `count`, the first `count` bytes of the slice write that number, and no digit follows them. If
 /// it is an error and zeros are skipped, each prefix of the slice that writes a number is followed
 /// by a digit.
-#[tactic(auto, using(crate::proofs::Prefixes::prefix_results))]
+#[tactic(auto, using(crate::proofs::lemmas::Prefixes::prefix_results))]
 pub fn prefix_results<T: Number, const SKIP_ZEROES: bool>()
     ensures { PrefixResults T.int_type T.number SKIP_ZEROES }
 {}
@@ -62,49 +62,49 @@ pub fn prefix_results<T: Number, const SKIP_ZEROES: bool>()
 /// `PrefixWrites` means that the first bytes of a slice write a number and no digit follows them.
 /// If a slice consists of bytes that write a number and of a rest that does not start with a digit,
 /// then `PrefixWrites` holds for these bytes, and for no other prefix of the slice.
-#[tactic(auto, using(crate::proofs::Prefixes::prefixes_and_rests))]
+#[tactic(auto, using(crate::proofs::lemmas::Prefixes::prefixes_and_rests))]
 pub fn prefixes_and_rests<T: Number>()
     ensures { PrefixesAndRests T.int_type }
 {}
 
 /// If a prefix parse succeeds and its count is the length of the slice, the whole parse succeeds
 /// with the same value. The converse holds if zeros are skipped, or the type has more than 32 bits.
-#[tactic(auto, using(crate::proofs::Prefixes::prefix_is_whole))]
+#[tactic(auto, using(crate::proofs::lemmas::Prefixes::prefix_is_whole))]
 pub fn prefix_is_whole<T: Number>()
     ensures { PrefixIsWhole T.int_type }
 {}
 
 /// If a prefix parse succeeds, its count is at least one and at most the length of the slice, and
 /// the same call on only the first `count` bytes returns the same value and the same count.
-#[tactic(auto, using(crate::proofs::Prefixes::prefix_of_cut))]
+#[tactic(auto, using(crate::proofs::lemmas::Prefixes::prefix_of_cut))]
 pub fn prefix_of_cut<T: Number>()
     ensures { PrefixOfCut T.int_type }
 {}
 
 /// If a prefix parse succeeds, it stops at the end of the slice or before a byte that is no digit,
 /// whichever flags are on.
-#[tactic(auto, using(crate::proofs::Prefixes::prefix_stops_at_rest))]
+#[tactic(auto, using(crate::proofs::lemmas::Prefixes::prefix_stops_at_rest))]
 pub fn prefix_stops_at_rest<T: Number>()
     ensures { PrefixStopsAtRest T.int_type }
 {}
 
 /// What follows the digits does not change whether a prefix parse succeeds, nor the value and the
 /// count that it returns, nor the variant of its error.
-#[tactic(auto, using(crate::proofs::SameOutcomes::rest_changes_nothing))]
+#[tactic(auto, using(crate::proofs::lemmas::SameOutcomes::rest_changes_nothing))]
 pub fn rest_changes_nothing<T: Number>()
     ensures { RestChangesNothing T.int_type }
 {}
 
 /// If a whole parse succeeds without skipping zeros, it succeeds with skipping them too, and
 /// returns the same value.
-#[tactic(auto, using(crate::proofs::Texts::skipping_agrees))]
+#[tactic(auto, using(crate::proofs::lemmas::Texts::skipping_agrees))]
 pub fn skipping_agrees<T: Number>()
     ensures { SkippingAgrees T.int_type }
 {}
 
 /// The order of errors calls two errors equal exactly if they have the same variant, numbers and
 /// bytes. The slice in an error is a suffix of the slice that was parsed.
-#[tactic(auto, using(crate::proofs::Errors::order_and_suffix))]
+#[tactic(auto, using(crate::proofs::lemmas::Errors::order_and_suffix))]
 pub fn order_and_suffix<T: Number>()
     ensures { OrderAndSuffix T.int_type }
 {}
@@ -114,14 +114,14 @@ pub fn order_and_suffix<T: Number>()
 /// significant digits; its digits spell a number out of range; another byte follows the digits. In
 /// the last case the error holds the index of that byte and the number that the digits before it
 /// spell. A prefix parse never returns an error of the last case.
-#[tactic(auto, using(crate::proofs::Errors::errors_in_order))]
+#[tactic(auto, using(crate::proofs::lemmas::Errors::errors_in_order))]
 pub fn errors_in_order<T: Number>()
     ensures { ErrorsInOrder T.int_type }
 {}
 
 /// The digits are those of std, `b'0'` to `b'9'`, and their value is std's `digits_value 10`. It is
 /// below ten to the power of the number of digits.
-#[tactic(auto, using(crate::proofs::Texts::decimal_digits))]
+#[tactic(auto, using(crate::proofs::lemmas::Texts::decimal_digits))]
 pub fn decimal_digits()
     ensures { DecimalDigits }
 {}
@@ -131,7 +131,7 @@ pub fn decimal_digits()
 /// write that number and have no needless leading zero, and no other digits do both. If an integer
 /// `x` is in range, then `signed_decimal x` writes it, and all other texts that write it have a
 /// `+`, a minus before 0 or a needless leading zero.
-#[tactic(auto, using(crate::proofs::Texts::decimal_texts))]
+#[tactic(auto, using(crate::proofs::lemmas::Texts::decimal_texts))]
 pub fn decimal_texts<T: Number>()
     ensures { DecimalTexts T.int_type }
 {}
@@ -139,7 +139,7 @@ pub fn decimal_texts<T: Number>()
 /// If zeros are skipped and the body, the slice after its sign, starts with a digit, more zeros
 /// before the body change neither the value that is returned nor the variant of an error. The count
 /// of a prefix parse grows by the number of the added zeros.
-#[tactic(auto, using(crate::proofs::SameOutcomes::zeros_change_nothing))]
+#[tactic(auto, using(crate::proofs::lemmas::SameOutcomes::zeros_change_nothing))]
 pub fn zeros_change_nothing<T: Number>()
     ensures { ZerosChangeNothing T.int_type }
 {}

@@ -22,14 +22,13 @@
 #![tactic(auto)]
 
 mod alphabet;
+mod core_calls;
 pub mod derived;
 mod digit_loop;
-mod dispatch;
 mod engine;
 mod error;
 pub mod laws;
 mod narrow;
-mod negative_bound;
 mod number;
 mod plain;
 mod prefix_128;
@@ -40,12 +39,13 @@ mod text;
 mod wide;
 pub mod wide_answer;
 mod window;
+mod with_sign;
 mod word_engine;
 pub mod words;
 
 pub use crate::alphabet::{Alphabet, front_of};
+pub use crate::core_calls::{prefix_neg, prefix_pos, whole_neg, whole_pos};
 pub use crate::digit_loop::narrow_whole;
-pub use crate::dispatch::{prefix_neg, prefix_pos, whole_neg, whole_pos};
 pub use crate::engine::Engine;
 pub use crate::error::AtoiSimdError;
 pub use crate::narrow::{narrow_prefix, narrow_whole_windows};

@@ -31,7 +31,7 @@ use crate::window::Window;
 ///   `skip`, it is `s` without the zeros that fill whole blocks of 16 bytes, and without any of its
 ///   leading zeros if the 16 bytes after these blocks are digits.
 #[inline(always)]
-#[tactic(auto, using(crate::proofs::LoopAnswers::narrow_size))]
+#[tactic(auto, using(crate::proofs::lemmas::LoopAnswers::narrow_size))]
 pub fn narrow_prefix<'a, E: Engine>(
     bound: u64,
     skip: bool,
@@ -60,7 +60,7 @@ pub fn narrow_prefix<'a, E: Engine>(
 
 // Says whether `s` has more than 16 digits at its start and zeros are not skipped. `window` is the
 // first window of `s`; a second one is loaded only if the first is full of digits.
-#[tactic(auto, using(crate::proofs::LoopAnswers::digit_after_16))]
+#[tactic(auto, using(crate::proofs::lemmas::LoopAnswers::digit_after_16))]
 fn is_too_long<E: Engine>(skip: bool, window: Window, s: &[u8], steps: &mut Steps) -> bool
     requires first_window { window ≡ window_of E.table 16 s.now }
     ensures answer { result ≡ (not skip && nat_lt 16 (run_len E.table s.now)) }

@@ -2,8 +2,7 @@
 //! needs to know of a type are the constants and conversions here.
 ghost use Rattle.std.specs.Prelude.{◌≡◌, ◌+◌, ◌≤◌, ◌<ℤ◌, ◌↔◌, ℕ, ℤ, pos, Bool, true, false, IsTrue, refl};
 ghost use Rattle.std.proofs.Common.{inl, inr};
-ghost use Rattle.atoi_core.specs.IntType.{IntType, IsSized, IsTypeOf, bound_of};
-ghost use Rattle.atoi_core.specs.IntTypes.{u8_type, i8_type, u16_type, i16_type, u32_type, i32_type, u64_type, i64_type, u128_type, i128_type, usize_type, isize_type};
+ghost use Rattle.atoi_core.specs.IntType.{IntType, IsSized, IsTypeOf, bound_of, u8_type, i8_type, u16_type, i16_type, u32_type, i32_type, u64_type, i64_type, u128_type, i128_type, usize_type, isize_type};
 ghost use Rattle.atoi_core.specs.Sign.{with_sign};
 
 /// An integer type that a parse can return.

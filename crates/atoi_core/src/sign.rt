@@ -1,6 +1,6 @@
 //! The sign at the start of a slice, and the parses that consume it. Each parse makes one *core
 //! call* for the *body*, which is the slice after its sign. A core call is a call of `whole_pos`,
-//! `whole_neg`, `prefix_pos` or `prefix_neg`. This module uses `dispatch` and `negative_bound`, and
+//! `whole_neg`, `prefix_pos` or `prefix_neg`. This module uses `core_calls` and `with_sign`, and
 //! the modules that its contracts name.
 ghost use Rattle.std.specs.Prelude.{◌≡◌, ◌+◌, ◌≤◌, false, IfOk, length};
 ghost use Rattle.atoi_core.specs.Answer.{typed_answer, typed_prefix_answer, text_answer, text_prefix_answer};
@@ -8,12 +8,12 @@ ghost use Rattle.atoi_core.specs.Loads.{TypedLoads};
 ghost use Rattle.atoi_core.specs.Magnitude.{whole, prefix};
 ghost use Rattle.atoi_core.specs.Sign.{sign_of};
 
-use crate::dispatch::{prefix_neg, prefix_pos, whole_neg, whole_pos};
+use crate::core_calls::{prefix_neg, prefix_pos, whole_neg, whole_pos};
 use crate::engine::Engine;
 use crate::error::AtoiSimdError;
-use crate::negative_bound::{prefix_with_sign, whole_with_sign};
 use crate::number::{Number, Signed};
 use crate::steps::Steps;
+use crate::with_sign::{prefix_with_sign, whole_with_sign};
 
 /// Consumes at most one sign at the start of `s`: a `+` if `skip_plus` is on, or a `-` if `signed`
 /// is on.

@@ -263,7 +263,7 @@ fn load_from(s: &[u8], at: usize) -> u64
 // Returns the word of the first 8 bytes. Callers have checked the length. Unlike `load_8`, this
 // function has no code for shorter slices, because such code would enlarge each function that reads
 // a window.
-#[tactic(auto, using(crate::proofs::LoadedWords::word_of_first))]
+#[tactic(auto, using(crate::proofs::lemmas::LoadedWords::word_of_first))]
 fn load_full(s: &[u8]) -> u64
     requires { 8 ≤ length s.now }
     ensures { result ≡ word_of (take 8 s.now) }

@@ -1,5 +1,1 @@
-pub mod Padded
-pub mod ReadsAfterZeros
-pub mod Itself
-pub mod LaneWindow
-pub mod Paired
+pub mod Lanes

@@ -8,9 +8,7 @@ ghost use Rattle.std.specs.Simd.Lanes.{Each1, mask_l, digits_l};
 ghost use Rattle.atoi_core.specs.Digit.{decimal_table, is_digit};
 ghost use Rattle.atoi_core.specs.Run.{run_len, run, zeros, value};
 ghost use Rattle.atoi_core.specs.Words.{word_of};
-ghost use Rattle.atoi_lanes.specs.Itself.{itself};
-ghost use Rattle.atoi_lanes.specs.Padded.{padded_start};
-ghost use Rattle.atoi_lanes.specs.Paired.{paired};
+ghost use Rattle.atoi_lanes.specs.Lanes.{itself, padded_start, paired};
 
 use atoi_core::words::{load_8, load_high};
 use std::simd::prelude::*;

@@ -7,7 +7,7 @@ ghost use Rattle.std.proofs.Common.{arith};
 ghost use Rattle.std.proofs.lemmas.Bool.Decides.{nat_tests};
 ghost use Rattle.atoi_core.specs.Digit.{decimal_table};
 ghost use Rattle.atoi_core.specs.Window.{window_of};
-ghost use Rattle.atoi_lanes.specs.LaneWindow.{lane_window};
+ghost use Rattle.atoi_lanes.specs.Lanes.{lane_window};
 
 use crate::kernels::{len_lanes, load_lanes, read_short, sum_lanes, zeroes_lanes};
 use crate::wide_lanes::{prefix_64_lanes, prefix_128_lanes};

@@ -11,7 +11,7 @@ ghost use Rattle.atoi_core.specs.Reading.{Reading};
 ghost use Rattle.atoi_core.specs.Refusal.{answer_of};
 ghost use Rattle.atoi_core.specs.Run.{zeros};
 ghost use Rattle.atoi_core.specs.Window.{window_of};
-ghost use Rattle.atoi_lanes.specs.ReadsAfterZeros.{ReadsAfterZeros};
+ghost use Rattle.atoi_lanes.specs.Lanes.{ReadsAfterZeros};
 
 use crate::lanes::Lanes;
 use crate::window_32::{Window32, window_32};

@@ -5,7 +5,7 @@ ghost use Rattle.std.specs.Prelude.{◌≡◌, ◌+◌, ◌*◌, ◌^◌, ◌≤
 ghost use Rattle.atoi_core.specs.Digit.{decimal_table};
 ghost use Rattle.atoi_core.specs.Reading.{Reading};
 ghost use Rattle.atoi_core.specs.Run.{run_len, zeros, value};
-ghost use Rattle.atoi_lanes.specs.Padded.{padded_start};
+ghost use Rattle.atoi_lanes.specs.Lanes.{padded_start};
 
 use crate::kernels::{len_lanes, load_lanes, sum_lanes, zeroes_lanes};
 use atoi_core::Steps;

@@ -3,7 +3,6 @@ pub use Rattle.atoi_core.specs.Run
 pub use Rattle.atoi_core.specs.Refusal
 pub use Rattle.atoi_core.specs.Magnitude
 pub use Rattle.atoi_core.specs.IntType
-pub use Rattle.atoi_core.specs.IntTypes
 pub use Rattle.atoi_core.specs.Sign
 pub use Rattle.atoi_core.specs.Answer
 pub use Rattle.atoi_core.specs.Text

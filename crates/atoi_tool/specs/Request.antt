@@ -1,8 +1,7 @@
 -- What the words of a row name, and which rows have an answer.
 use Rattle.std.specs.Prelude.{Option, Some, None, Bool, true, false, List, ℕ, codes, ◌&&◌, if◌then◌else◌}
 use Rattle.std.specs.Str.{bytes_eq}
-use Rattle.atoi_core.specs.IntType.{IntType}
-use Rattle.atoi_core.specs.IntTypes.{u8_type, i8_type, u16_type, i16_type, u32_type, i32_type, u64_type, i64_type, u128_type, i128_type, usize_type, isize_type}
+use Rattle.atoi_core.specs.IntType.{IntType, u8_type, i8_type, u16_type, i16_type, u32_type, i32_type, u64_type, i64_type, u128_type, i128_type, usize_type, isize_type}
 use Rattle.atoi_tool.specs.declared.request.Engine.{Engine}
 use Rattle.atoi_tool.specs.declared.request.Engine.TheVariants.{Words, Lanes}
 use Rattle.atoi_tool.specs.declared.request.Call.{Call}

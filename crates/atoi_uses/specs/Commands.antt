@@ -2,7 +2,7 @@
 use Rattle.std.specs.Prelude.{◌≡◌, ℕ, true, Option, Some, None, List, ◌++◌, Err, codes}
 use Rattle.atoi_core.specs.Answer.{parse_answer}
 use Rattle.atoi_core.specs.ErrorText.{error_text as cause_text}
-use Rattle.atoi_core.specs.IntTypes.{i64_type}
+use Rattle.atoi_core.specs.IntType.{i64_type}
 use Rattle.atoi_core.specs.Refusal.{Refusal, refusal_of}
 use Rattle.atoi_core.specs.Text.{TextWrites}
 use Rattle.atoi_uses.specs.declared.commands.Command.{Command}

@@ -1,7 +1,7 @@
 -- The value of a header `Content-Length`.
 use Rattle.std.specs.Prelude.{◌≡◌, ℕ, Bool, false, ◌||◌, ◌==◌, if◌then◌else◌, List, [], ◌∷◌, ◌++◌, pos}
 use Rattle.std.specs.List.{AllPass}
-use Rattle.atoi_simd.specs.IntTypes.{u64_type}
+use Rattle.atoi_simd.specs.IntType.{u64_type}
 use Rattle.atoi_simd.specs.Text.{DigitsWrite}
 
 -- A blank is a space or a tab.

@@ -1,6 +1,6 @@
 -- The integers of JSON, as its grammar defines them.
 use Rattle.std.specs.Prelude.{◌≡◌, ℕ, Bool, true, false, ◌&&◌, ◌||◌, not, ◌==◌, IsFalse, List, [], ◌∷◌, ◌++◌, codes, length, ℤ}
-use Rattle.atoi_simd.specs.IntTypes.{i64_type}
+use Rattle.atoi_simd.specs.IntType.{i64_type}
 use Rattle.atoi_simd.specs.Text.{DigitsWrite, BeginsWithDigit}
 
 -- The bytes before the digits: a minus if the argument is `true`, otherwise none. `-0` has a minus

@@ -1,7 +1,7 @@
 -- The numbers of a log line: the fields after its last space, with commas between them.
 use Rattle.std.specs.Prelude.{◌≡◌, ℕ, ◌+◌, ◌-◌, ◌^◌, ◌≤◌, ◌==◌, true, List, ◌++◌, length, map, sum, pos, codes, decimal}
 use Rattle.std.specs.List.{AllZip, after_last}
-use Rattle.atoi_core.specs.IntTypes.{u64_type}
+use Rattle.atoi_core.specs.IntType.{u64_type}
 use Rattle.atoi_core.specs.Text.{TextWrites}
 use Rattle.atoi_column.specs.Fields.{fields_of}
 use Rattle.atoi_column.specs.Laws.{IsFirstBad}

@@ -3,7 +3,7 @@ use Rattle.std.specs.Prelude.{◌≡◌, ℕ, true, List, ◌++◌, ℤ, pos, �
 use Rattle.std.specs.Int.{w64}
 use Rattle.std.specs.List.{AllZip}
 use Rattle.std.specs.Fmt.{signed_decimal}
-use Rattle.atoi_core.specs.IntTypes.{i64_type}
+use Rattle.atoi_core.specs.IntType.{i64_type}
 use Rattle.atoi_core.specs.Text.{TextWrites}
 use Rattle.atoi_column.specs.ErrorText.{flaw_text}
 use Rattle.atoi_column.specs.Fields.{fields_of}

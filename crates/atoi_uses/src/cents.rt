@@ -3,7 +3,7 @@
 //! call those of `i64`, and must return the same numbers and errors.
 ghost use Rattle.std.specs.Prelude.{true, refl};
 ghost use Rattle.std.proofs.Common.{inl, inr};
-ghost use Rattle.atoi_core.specs.IntTypes.{i64_type};
+ghost use Rattle.atoi_core.specs.IntType.{i64_type};
 
 use atoi_core::{Number, Signed};
 use atoi_simd::{AtoiSimdError, ParseNeg};

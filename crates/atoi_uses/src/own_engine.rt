@@ -6,7 +6,7 @@ ghost use Rattle.std.specs.Prelude.{◌≡◌, ◌≤◌, true, false, IfOk, len
 ghost use Rattle.std.proofs.Common.{arith};
 ghost use Rattle.std.proofs.lemmas.Bool.Decides.{nat_tests};
 ghost use Rattle.atoi_core.specs.Answer.{typed_prefix_answer, prefix_answer};
-ghost use Rattle.atoi_core.specs.IntTypes.{i64_type};
+ghost use Rattle.atoi_core.specs.IntType.{i64_type};
 ghost use Rattle.atoi_uses.specs.OwnEngine.{ebcdic_table};
 
 use crate::cents::Cents;

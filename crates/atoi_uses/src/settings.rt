@@ -2,7 +2,7 @@
 //! `atoi_simd::parse_prefix`, which also returns a count that says where the rest begins.
 ghost use Rattle.std.specs.Prelude.{◌≡◌, ◌++◌, ℕ, List, ◌∷◌, true, IfOk, IfErr, IfSome, IfNone, IsErr, Ok, Err, take, drop, codes};
 ghost use Rattle.atoi_core.specs.Answer.{parse_prefix_answer};
-ghost use Rattle.atoi_core.specs.IntTypes.{i64_type};
+ghost use Rattle.atoi_core.specs.IntType.{i64_type};
 ghost use Rattle.atoi_core.specs.Refusal.{refusal_of};
 
 use atoi_simd::{AtoiSimdError, parse_prefix};

@@ -2,7 +2,7 @@
 //! byte. The file uses `atoi_column::Column`, whose contract names the items, and two laws of
 //! `atoi_column`.
 ghost use Rattle.std.specs.Prelude.{◌≡◌, ◌<◌, ◌≤◌, ◌++◌, ℕ, true, List, [], ◌∷◌, length, pos, Ok, Err, IfOk, IfErr, map, sum};
-ghost use Rattle.atoi_core.specs.IntTypes.{u64_type};
+ghost use Rattle.atoi_core.specs.IntType.{u64_type};
 ghost use Rattle.atoi_column.specs.Fields.{is_separator};
 ghost use Rattle.atoi_column.specs.Items.{flaw_of, index_of, items_of, place_of};
 ghost use Rattle.atoi_column.specs.Laws.{IsFirstBad};

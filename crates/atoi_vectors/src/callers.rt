@@ -1,5 +1,5 @@
 //! Tests of the example callers in `atoi_uses`, one file for each of its files. Expected values are
-//! written by hand. The files use `answers`, `atoi_uses`, and the errors of `atoi_simd` and
+//! written by hand. The files use `checks`, `atoi_uses`, and the errors of `atoi_simd` and
 //! `atoi_column`.
 
 mod addresses;

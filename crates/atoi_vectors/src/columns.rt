@@ -2,7 +2,7 @@
 //! The expected items are counted by hand. The file uses `answers`, `atoi_column`, and the error of
 //! `atoi_simd`.
 
-use crate::answers::{gives, printed};
+use crate::checks::{gives, printed};
 use atoi_column::laws::{items_decide, items_in_turn, texts_and_items};
 use atoi_column::{Column, ColumnError, is_separator};
 use atoi_simd::AtoiSimdError;

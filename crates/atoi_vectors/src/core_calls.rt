@@ -3,7 +3,7 @@
 //! of `atoi_core` and the engine `Lanes`.
 ghost use Rattle.std.specs.Prelude.{◌<◌};
 
-use crate::answers::gives;
+use crate::checks::gives;
 use crate::plain_rules::{self, Body, Class};
 use atoi_core::{
     AtoiSimdError, Engine, Number, Plain, Signed, Steps, Window, Words, narrow_prefix,

@@ -3,7 +3,7 @@
 //! `atoi_core` and the public calls of `atoi_simd`.
 ghost use Rattle.std.specs.Prelude.{◌≤◌};
 
-use crate::answers::both_give;
+use crate::checks::both_give;
 use atoi_core::decimal;
 use atoi_simd::{lanes, parse};
 use std::fmt::Debug;

@@ -3,7 +3,7 @@
 //! shortest and the longest slices and numbers. It uses `answers`, and `parse` and the error of
 //! `atoi_simd`.
 
-use crate::answers::gives;
+use crate::checks::gives;
 use atoi_simd::AtoiSimdError::{self, Empty, Invalid64, Invalid128, Overflow, Size};
 use atoi_simd::parse;
 use std::alloc::{AllocError, Global};

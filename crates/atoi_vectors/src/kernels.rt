@@ -5,7 +5,7 @@
 //! of `atoi_core` and `atoi_lanes`.
 ghost use Rattle.std.specs.Prelude.{◌<◌};
 
-use crate::answers::gives;
+use crate::checks::gives;
 use crate::plain_rules;
 use atoi_core::words::{check_len_8, len_zeroes, len_zeroes_128, load_8, process_8, process_16};
 use atoi_simd::lanes::kernels::{len_lanes, load_lanes, sum_lanes, zeroes_lanes};

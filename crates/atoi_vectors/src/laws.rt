@@ -1,7 +1,7 @@
 //! Calls each law for one type, and checks answers that show what the laws say. The file uses the
 //! laws and the core calls of `atoi_core`, and `answers`.
 
-use crate::answers::gives;
+use crate::checks::gives;
 use atoi_core::laws::{
     accepted_numbers, accepted_prefixes, accepted_texts, decimal_digits, decimal_texts,
     errors_in_order, order_and_suffix, prefix_is_whole, prefix_of_cut, prefix_results,

@@ -5,9 +5,9 @@
 #![tactic(auto)]
 
 #[cfg(test)]
-mod answers;
-#[cfg(test)]
 mod callers;
+#[cfg(test)]
+mod checks;
 #[cfg(test)]
 mod columns;
 #[cfg(test)]

@@ -2,7 +2,7 @@
 //! functions call, over each of the three engines. The file uses `answers`, `atoi_core` and
 //! `Lanes`.
 
-use crate::answers::{each_gives, gives};
+use crate::checks::{each_gives, gives};
 use atoi_core::AtoiSimdError::{self, Empty, Invalid64, Invalid128, Overflow, Size};
 use atoi_core::{
     Engine, Plain, Steps, Words, narrow_prefix, narrow_whole, narrow_whole_windows, whole_64,

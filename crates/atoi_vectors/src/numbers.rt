@@ -1,7 +1,7 @@
 //! Compares the constants, the largest and the smallest values of the twelve types with those of
 //! std. It uses `Number` and `Signed` of `atoi_core`.
 
-use crate::answers::gives;
+use crate::checks::gives;
 use atoi_core::{Number, Signed};
 
 // Each row is a type of std and its largest value. In `signed!` the magnitude of its smallest value

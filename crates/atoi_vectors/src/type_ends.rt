@@ -4,7 +4,7 @@
 //! with and without another byte after it, as a whole and as a prefix, and with and without
 //! SKIP_ZEROES. The file uses `plain_rules`, `answers` and the public calls of `atoi_simd`.
 
-use crate::answers::both_give;
+use crate::checks::both_give;
 use crate::plain_rules::{Body, Class};
 use atoi_simd::{lanes, parse, parse_prefix};
 use std::alloc::{AllocError, Global};

@@ -1,7 +1,7 @@
 //! Worked examples of the ten functions. Each is written once, and checked for the root and for
 //! `lanes`. It uses `answers`, the public calls of `atoi_simd`, and `take_sign` of `atoi_core`.
 
-use crate::answers::{both_give, gives};
+use crate::checks::{both_give, gives};
 use atoi_core::take_sign;
 use atoi_simd::AtoiSimdError::{self, Empty, Invalid64, Overflow, Size};
 use atoi_simd::{Parse, ParseNeg, lanes, parse};

@@ -1,6 +1,6 @@
 //! Tests of the reader of IPv4 addresses.
 
-use crate::answers::gives;
+use crate::checks::gives;
 use atoi_uses::{Address, parse_address};
 
 fn address(first: u8, second: u8, third: u8, fourth: u8) -> Option<Address> {

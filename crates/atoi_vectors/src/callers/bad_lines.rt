@@ -1,6 +1,6 @@
 //! Tests of the sum of a column whose error names a line.
 
-use crate::answers::{gives, printed};
+use crate::checks::{gives, printed};
 use atoi_column::ColumnError;
 use atoi_uses::{BadLine, total_or_bad_line};
 use std::test::Fail;

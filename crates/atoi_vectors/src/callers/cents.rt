@@ -1,7 +1,7 @@
 //! Tests of `Cents`, an integer type that is defined outside of the library, with the functions of
 //! `atoi_simd` for negative numbers.
 
-use crate::answers::gives;
+use crate::checks::gives;
 use atoi_simd::{parse_neg, parse_prefix_neg};
 use atoi_uses::Cents;
 

@@ -1,6 +1,6 @@
 //! Tests of the reader of commands.
 
-use crate::answers::{gives, printed};
+use crate::checks::{gives, printed};
 use atoi_simd::AtoiSimdError;
 use atoi_uses::{Command, CommandError, Word, read_command};
 use std::test::Fail;

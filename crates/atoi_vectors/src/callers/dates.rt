@@ -1,6 +1,6 @@
 //! Tests of the reader of dates.
 
-use crate::answers::gives;
+use crate::checks::gives;
 use atoi_uses::{Date, parse_date};
 
 fn at(year: u16, month: u16, day: u16) -> Option<Date> {

@@ -1,6 +1,6 @@
 //! Tests of the reader of the header Content-Length.
 
-use crate::answers::gives;
+use crate::checks::gives;
 use atoi_uses::content_length;
 
 #[test]

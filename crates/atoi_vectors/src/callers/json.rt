@@ -1,6 +1,6 @@
 //! Tests of the reader of JSON integers.
 
-use crate::answers::gives;
+use crate::checks::gives;
 use atoi_uses::json_integer;
 
 fn read(text: &[u8]) -> Option<(i64, &[u8])> {

@@ -1,6 +1,6 @@
 //! Tests of the sum of the numbers in a log line.
 
-use crate::answers::{gives, printed};
+use crate::checks::{gives, printed};
 use atoi_uses::{LogError, columns_total};
 use std::test::Fail;
 

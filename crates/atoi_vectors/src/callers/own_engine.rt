@@ -1,6 +1,6 @@
 //! Tests of an engine that is defined outside of the library, and whose digits are those of EBCDIC.
 
-use crate::answers::gives;
+use crate::checks::gives;
 use atoi_simd::AtoiSimdError;
 use atoi_uses::{Cents, amount};
 

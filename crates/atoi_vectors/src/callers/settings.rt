@@ -1,6 +1,6 @@
 //! Tests of the reader of settings, and of a number and its rest.
 
-use crate::answers::gives;
+use crate::checks::gives;
 use atoi_simd::AtoiSimdError;
 use atoi_uses::{number_and_rest, setting};
 

@@ -1,6 +1,6 @@
 //! Tests of the sum of a column of signed numbers.
 
-use crate::answers::{gives, printed};
+use crate::checks::{gives, printed};
 use atoi_column::ColumnError;
 use atoi_uses::{SignedTotalError, signed_total};
 use std::test::Fail;

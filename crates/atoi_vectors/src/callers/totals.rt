@@ -1,6 +1,6 @@
 //! Tests of the sum of a column.
 
-use crate::answers::gives;
+use crate::checks::gives;
 use atoi_column::ColumnError;
 use atoi_uses::total;
 

@@ -1,6 +1,6 @@
 //! Tests of the reader of versions.
 
-use crate::answers::gives;
+use crate::checks::gives;
 use atoi_uses::{Version, parse_version};
 
 #[test]

@@ -3,7 +3,7 @@
 //! `answers` and the engines of `letters`.
 
 use super::{BothCases, Letters};
-use crate::answers::gives;
+use crate::checks::gives;
 use crate::core_calls::{check_engine, check_types};
 use crate::plain_rules::Body;
 use atoi_core::AtoiSimdError::{Empty, Invalid64, Invalid128, Overflow};

@@ -6,7 +6,7 @@ use Rattle.std.proofs.lemmas.List.{take_rest, length-drop, get_or-drop}
 use Rattle.atoi_core.specs.Digit.{decimal_table}
 use Rattle.atoi_core.specs.Run.{value}
 use Rattle.atoi_core.specs.Refusal.{empty, invalid64}
-use Rattle.atoi_core.proofs.Runs.{value_more, run_more, digit_value_of, decimal_below_ten, narrow_whole_rest, narrow_whole_over, narrow_whole_end}
+use Rattle.atoi_core.proofs.lemmas.Runs.{value_more, run_more, digit_value_of, decimal_below_ten, narrow_whole_rest, narrow_whole_over, narrow_whole_end}
 use Rattle.atoi_core.proofs.digit_loop.narrow_whole.Goals as goal
 
 -- Byte i after the first byte is byte i + 1 of the slice.

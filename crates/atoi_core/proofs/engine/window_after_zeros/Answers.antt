@@ -1,8 +1,8 @@
 -- The loop goes on after the zeros of the first window. The offset that is returned follows from
 -- where the loop ends.
 use Rattle.std.proofs.Common.{◌+◌, true, inr, refl, sym, arith}
-use Rattle.atoi_core.proofs.Windows.{Skipping-first_window, Skipping-more, Skipped-end}
-use Rattle.atoi_core.proofs.LoopAnswers.{dropped_is}
+use Rattle.atoi_core.proofs.lemmas.Windows.{Skipping-first_window, Skipping-more, Skipped-end}
+use Rattle.atoi_core.proofs.lemmas.LoopAnswers.{dropped_is}
 use Rattle.atoi_core.proofs.engine.window_after_zeros.Goals as goal
 
 pub loop-window-init : goal.loop-window-init

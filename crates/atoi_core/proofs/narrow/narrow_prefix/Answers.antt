@@ -2,8 +2,8 @@
 -- window, just as after a loop that loads only this one. If the body is not too long, the first
 -- window then decides the answer.
 use Rattle.std.proofs.Common.{◌≡◌, ◌≤◌, ℕ, Bool, false, not, ◌&&◌, nat_lt, inl, inr, sym, ◌∙◌, ltb-false, arith}
-use Rattle.atoi_core.proofs.Windows.{Skipped, Skipped-at_once, Skipped-first, Skipped-one}
-use Rattle.atoi_core.proofs.LoopAnswers.{narrow_after_skip, answers_empty}
+use Rattle.atoi_core.proofs.lemmas.Windows.{Skipped, Skipped-at_once, Skipped-first, Skipped-one}
+use Rattle.atoi_core.proofs.lemmas.LoopAnswers.{narrow_after_skip, answers_empty}
 use Rattle.atoi_core.proofs.narrow.narrow_prefix.Goals as goal
 use Rattle.atoi_core.proofs.narrow.narrow_prefix.Goals.{After-answer_at}
 

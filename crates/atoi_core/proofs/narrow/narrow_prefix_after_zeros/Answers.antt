@@ -1,7 +1,7 @@
 -- The answer follows from where the loop of `window_after_zeros` ends.
 use Rattle.std.proofs.Common.{◌∙◌, arith}
-use Rattle.atoi_core.proofs.Windows.{Skipped-after_zeros}
-use Rattle.atoi_core.proofs.LoopAnswers.{narrow_after_skip}
+use Rattle.atoi_core.proofs.lemmas.Windows.{Skipped-after_zeros}
+use Rattle.atoi_core.proofs.lemmas.LoopAnswers.{narrow_after_skip}
 use Rattle.atoi_core.proofs.narrow.narrow_prefix_after_zeros.Goals as goal
 
 pub returns-clause-answer : goal.returns-clause-answer

@@ -3,8 +3,8 @@
 use Rattle.std.proofs.Common.{ℕ, ◌∙◌, true, nat_lt, if◌then◌else◌, Ok, Err, inl, inr, refl, ap, zero-add, arith}
 use Rattle.atoi_core.specs.Magnitude.{narrow}
 use Rattle.atoi_core.specs.Refusal.{empty, overflow}
-use Rattle.atoi_core.proofs.LoopAnswers.{narrow_full, narrow_whole_of, short_none, short_some}
-use Rattle.atoi_core.proofs.Windows.{Skipped-at_once, Skipped-first, Skipped-loads}
+use Rattle.atoi_core.proofs.lemmas.LoopAnswers.{narrow_full, narrow_whole_of, short_none, short_some}
+use Rattle.atoi_core.proofs.lemmas.Windows.{Skipped-at_once, Skipped-first, Skipped-loads}
 use Rattle.atoi_core.proofs.narrow.narrow_whole_windows.Goals as goal
 
 pub whole_from_prefix-requires : goal.whole_from_prefix-requires

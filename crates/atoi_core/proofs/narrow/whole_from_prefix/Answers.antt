@@ -2,7 +2,7 @@
 use Rattle.std.proofs.Common.{◌∙◌, sym, ap, Ok, Err, if◌then◌else◌}
 use Rattle.std.proofs.lemmas.Bool.{eq-eqb, ne_eqb}
 use Rattle.atoi_core.specs.Refusal.{answer_of, invalid64}
-use Rattle.atoi_core.proofs.LoopAnswers.{narrow_whole_of}
+use Rattle.atoi_core.proofs.lemmas.LoopAnswers.{narrow_whole_of}
 use Rattle.atoi_core.proofs.narrow.whole_from_prefix.Goals as goal
 
 pub returns-then-len-s : goal.returns-then-len-s

@@ -1,8 +1,8 @@
 -- A first window that is not full holds the whole run, and no zeros are skipped before it.
 use Rattle.std.proofs.Common.{ℕ, Ok, ap, ◌∙◌, arith, lit≤}
 use Rattle.atoi_core.specs.Magnitude.{wide128}
-use Rattle.atoi_core.proofs.LoopAnswers.{short_empty, short_wide}
-use Rattle.atoi_core.proofs.Windows.{Skipped-first, Skipped-loads}
+use Rattle.atoi_core.proofs.lemmas.LoopAnswers.{short_empty, short_wide}
+use Rattle.atoi_core.proofs.lemmas.Windows.{Skipped-first, Skipped-loads}
 use Rattle.atoi_core.proofs.prefix_128.first_two_windows.Goals as goal
 
 pub returns-then-first-eq0-clause-answer : goal.returns-then-first-eq0-clause-answer

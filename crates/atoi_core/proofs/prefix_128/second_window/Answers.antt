@@ -4,8 +4,8 @@
 use Rattle.std.proofs.Common.{refl, arith}
 use Rattle.std.proofs.lemmas.List.Sums.{prefix_len-le-length}
 use Rattle.atoi_core.specs.Digit.{is_digit}
-use Rattle.atoi_core.proofs.Windows.{shows, shows_rest, two_full, Skipped-at_once}
-use Rattle.atoi_core.proofs.LoopAnswers.{answers_two}
+use Rattle.atoi_core.proofs.lemmas.Windows.{shows, shows_rest, two_full, Skipped-at_once}
+use Rattle.atoi_core.proofs.lemmas.LoopAnswers.{answers_two}
 use Rattle.atoi_core.proofs.prefix_128.second_window.Goals as goal
 
 pub slice_bounds-window-start : goal.slice_bounds-window-start

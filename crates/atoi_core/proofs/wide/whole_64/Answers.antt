@@ -1,7 +1,7 @@
 -- An error of the prefix is returned as it is. Otherwise the length of the number is compared with
 -- that of the slice.
 use Rattle.std.proofs.lemmas.Result.{err_from_is_err_and}
-use Rattle.atoi_core.proofs.LoopAnswers.{wide_64, whole_err, whole_ok, whole_invalid}
+use Rattle.atoi_core.proofs.lemmas.LoopAnswers.{wide_64, whole_err, whole_ok, whole_invalid}
 use Rattle.atoi_core.proofs.wide.whole_64.Goals as goal
 
 pub returns-in_err-number-clause-answer : goal.returns-in_err-number-clause-answer

@@ -2,7 +2,7 @@
 use Rattle.std.proofs.Common.{◌≡◌, ◌+◌, ◌*◌, ◌^◌, ◌<◌, ℕ, refl, ◌∙◌, arith}
 use Rattle.std.proofs.lemmas.Bool.Decides.{nat_tests}
 use Rattle.atoi_core.specs.Magnitude.{HasDigits}
-use Rattle.atoi_core.proofs.Windows.{below_bound}
+use Rattle.atoi_core.proofs.lemmas.Windows.{below_bound}
 use Rattle.atoi_core.proofs.wide_answer.answer_128.Goals as goal
 
 -- As above, with the power of ten that the code multiplies with.

@@ -5,7 +5,7 @@ use Rattle.atoi_core.specs.Digit.{decimal_table}
 use Rattle.atoi_core.specs.Run.{run_len, zeros}
 use Rattle.atoi_core.specs.Words.{low_bytes, low_value}
 use Rattle.atoi_core.specs.declared.window.Window.{Window}
-use Rattle.atoi_core.proofs.LoadedWords.{enough_bytes, fits_after, loaded_bytes, loaded_run, loaded_sum, window_joined, reported_full, reported_none}
+use Rattle.atoi_core.proofs.lemmas.LoadedWords.{enough_bytes, fits_after, loaded_bytes, loaded_run, loaded_sum, window_joined, reported_full, reported_none}
 use Rattle.atoi_core.proofs.word_engine.join_words.Goals as goal
 
 pub load_from-next-requires-clause-enough : goal.load_from-next-requires-clause-enough

@@ -1,7 +1,7 @@
 -- If fewer than eight bytes are left from index `at` on, they are the highest bytes of the word of
 -- the last eight.
 use Rattle.std.proofs.Common.{◌∙◌, ap, ◌+◌, ◌/◌, ◌-◌, ◌*◌, ◌^◌, length}
-use Rattle.atoi_core.proofs.LoadedWords.{last_bytes}
+use Rattle.atoi_core.proofs.lemmas.LoadedWords.{last_bytes}
 use Rattle.atoi_core.proofs.word_engine.load_from.Goals as goal
 
 pub returns-in-Some : goal.returns-in-Some

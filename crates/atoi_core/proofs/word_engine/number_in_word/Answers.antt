@@ -1,5 +1,5 @@
 -- The value of no digits is 0.
-use Rattle.atoi_core.proofs.LoadedWords.{sum_of_none}
+use Rattle.atoi_core.proofs.lemmas.LoadedWords.{sum_of_none}
 use Rattle.atoi_core.proofs.word_engine.number_in_word.Goals as goal
 
 pub returns-then-len-eq0-clause-sum : goal.returns-then-len-eq0-clause-sum

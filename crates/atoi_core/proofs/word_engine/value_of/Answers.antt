@@ -2,8 +2,8 @@
 -- compute the weighted sum of the digits, which is their value.
 use Rattle.std.proofs.Common.{ℕ, ◌*◌, ◌/◌, ◌%◌, ◌^◌, ap, ◌∙◌, arith}
 use Rattle.std.specs.Int.Bits.{bit_and}
-use Rattle.atoi_core.proofs.WordFields.{sum_8, sum_most}
-use Rattle.atoi_core.proofs.WordRuns.{lowered_at_top}
+use Rattle.atoi_core.proofs.lemmas.WordFields.{sum_8, sum_most}
+use Rattle.atoi_core.proofs.lemmas.WordRuns.{lowered_at_top}
 use Rattle.atoi_core.proofs.word_engine.value_of.Goals as goal
 
 -- The three rounds, without the mask of the first one.

@@ -1,7 +1,7 @@
 -- The zeros of the second word are added only if the first consists of zeros.
 use Rattle.std.proofs.Common.{◌+◌, ◌∙◌, ap, sym}
 use Rattle.std.proofs.lemmas.Bool.{eq-eqb, ne_eqb}
-use Rattle.atoi_core.proofs.LoadedWords.{zeros_of_two}
+use Rattle.atoi_core.proofs.lemmas.LoadedWords.{zeros_of_two}
 use Rattle.atoi_core.proofs.word_engine.zeroes_of_two.Goals as goal
 
 pub returns-then-zeroes-eq8 : goal.returns-then-zeroes-eq8

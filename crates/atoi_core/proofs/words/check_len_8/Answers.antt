@@ -4,7 +4,7 @@ use Rattle.std.proofs.Common.{◌+◌, ◌/◌, ◌%◌, ◌^◌, ap, ◌∙◌}
 use Rattle.std.proofs.lemmas.Nat.{and_shr}
 use Rattle.std.specs.Int.Bits.{bit_and, bit_or, bit_xor}
 use Rattle.std.specs.Int.Count.{count_trailing_zeros}
-use Rattle.atoi_core.proofs.WordRuns.{digits_counted}
+use Rattle.atoi_core.proofs.lemmas.WordRuns.{digits_counted}
 use Rattle.atoi_core.proofs.words.check_len_8.Goals as goal
 
 pub returns-clause-len : goal.returns-clause-len

@@ -2,7 +2,7 @@
 use Rattle.std.proofs.Common.{◌∙◌, ap, take, arith}
 use Rattle.std.proofs.lemmas.List.{length-take}
 use Rattle.std.specs.Int.{from_le_bytes, w16}
-use Rattle.atoi_core.proofs.LoadedWords.{word_from_two}
+use Rattle.atoi_core.proofs.lemmas.LoadedWords.{word_from_two}
 use Rattle.atoi_core.proofs.words.first_two.Goals as goal
 use Rattle.atoi_core.proofs.words.first_two.Goals.{in-Some, in-None}
 

@@ -2,7 +2,7 @@
 use Rattle.std.proofs.Common.{◌-◌, ◌∙◌, ap, drop, length, arith}
 use Rattle.std.proofs.lemmas.List.{length-drop}
 use Rattle.std.specs.Int.{from_le_bytes, w32}
-use Rattle.atoi_core.proofs.LoadedWords.{word_from_four}
+use Rattle.atoi_core.proofs.lemmas.LoadedWords.{word_from_four}
 use Rattle.atoi_core.proofs.words.last_four.Goals as goal
 use Rattle.atoi_core.proofs.words.last_four.Goals.{in-Some, in-None}
 

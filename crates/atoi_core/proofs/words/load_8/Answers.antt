@@ -2,7 +2,7 @@
 use Rattle.std.proofs.Common.{◌∙◌, ap, sym, arith}
 use Rattle.std.proofs.lemmas.List.{take_all}
 use Rattle.atoi_core.specs.Words.{word_of}
-use Rattle.atoi_core.proofs.LoadedWords.{word_of_first}
+use Rattle.atoi_core.proofs.lemmas.LoadedWords.{word_of_first}
 use Rattle.atoi_core.proofs.words.load_8.Goals as goal
 
 pub returns-in-Some : goal.returns-in-Some

@@ -3,7 +3,7 @@ use Rattle.std.proofs.Common.{◌-◌, ◌*◌, ◌%◌, ◌^◌, ◌<◌, ◌�
 use Rattle.std.proofs.lemmas.Bool.{cases_lt}
 use Rattle.std.specs.Int.Bits.{bit_or}
 use Rattle.atoi_core.specs.Words.{word_of}
-use Rattle.atoi_core.proofs.LoadedWords.{four_or_more, below_four}
+use Rattle.atoi_core.proofs.lemmas.LoadedWords.{four_or_more, below_four}
 use Rattle.atoi_core.proofs.words.load_high.Goals as goal
 
 pub returns : goal.returns

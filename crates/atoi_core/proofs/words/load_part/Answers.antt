@@ -1,7 +1,7 @@
 -- The shift drops the bytes of 0 that are below those of the slice.
 use Rattle.std.proofs.Common.{◌-◌, ◌*◌, ◌/◌, ◌^◌, ◌∙◌, ap, length, arith}
 use Rattle.std.proofs.lemmas.Bool.Decides.{nat_tests}
-use Rattle.atoi_core.proofs.LoadedWords.{word_of_none, shifted_back}
+use Rattle.atoi_core.proofs.lemmas.LoadedWords.{word_of_none, shifted_back}
 use Rattle.atoi_core.proofs.words.load_part.Goals as goal
 
 pub returns-then-is_empty : goal.returns-then-is_empty

@@ -3,7 +3,7 @@
 use Rattle.std.proofs.Common.{sym, ◌-◌, ◌*◌, ◌/◌, ◌^◌, length, ap, ◌∙◌, arith}
 use Rattle.std.proofs.lemmas.List.{drop_all}
 use Rattle.atoi_core.specs.Words.{word_of}
-use Rattle.atoi_lanes.proofs.LoadedLanes.{bytes, word-of_eight, high_of_last}
+use Rattle.atoi_lanes.proofs.lemmas.LoadedLanes.{bytes, word-of_eight, high_of_last}
 use Rattle.std.specs.Simd.Lanes.{number_l}
 use Rattle.atoi_lanes.proofs.kernels.load_after_8.Goals as goal
 

@@ -2,7 +2,7 @@ use Rattle.std.proofs.Common.{◌∷◌, [], ap₂, sym, ◌∙◌}
 use Rattle.std.proofs.lemmas.List.{take-append-le}
 use Rattle.std.specs.Simd.Lanes.{number_l, digits_l}
 use Rattle.atoi_core.specs.Words.{word_of}
-use Rattle.atoi_lanes.proofs.LoadedLanes.{bytes, lanes-of_words}
+use Rattle.atoi_lanes.proofs.lemmas.LoadedLanes.{bytes, lanes-of_words}
 use Rattle.atoi_lanes.proofs.kernels.load_lanes.Goals as goal
 use Rattle.atoi_lanes.proofs.kernels.load_lanes.Goals.{in-Some, in-None}
 

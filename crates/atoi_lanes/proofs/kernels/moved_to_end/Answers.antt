@@ -1,5 +1,5 @@
 -- The shuffle is valid, and moves the first lanes to the end.
-use Rattle.atoi_lanes.proofs.LoadedLanes.{shifted, shift_ok}
+use Rattle.atoi_lanes.proofs.lemmas.LoadedLanes.{shifted, shift_ok}
 use Rattle.atoi_lanes.proofs.kernels.moved_to_end.Goals as goal
 
 pub swizzle : goal.swizzle

@@ -1,4 +1,4 @@
-use Rattle.atoi_lanes.proofs.LaneSums.{by_first_eight}
+use Rattle.atoi_lanes.proofs.lemmas.LaneSums.{by_first_eight}
 use Rattle.atoi_lanes.proofs.kernels.number_in_half.Goals as goal
 
 pub returns : goal.returns

@@ -1,8 +1,8 @@
 -- If all bytes are digits, the number is computed from the lanes as they were loaded. Otherwise the
 -- bytes after the run are shifted out first.
 use Rattle.std.proofs.Common.{◌∙◌, arith}
-use Rattle.atoi_lanes.proofs.LoadedLanes.{bytes}
-use Rattle.atoi_lanes.proofs.LaneSums.{all_digits, first_digits}
+use Rattle.atoi_lanes.proofs.lemmas.LoadedLanes.{bytes}
+use Rattle.atoi_lanes.proofs.lemmas.LaneSums.{all_digits, first_digits}
 use Rattle.atoi_lanes.proofs.kernels.read_short.Goals as goal
 
 pub number_in_half-requires : goal.number_in_half-requires

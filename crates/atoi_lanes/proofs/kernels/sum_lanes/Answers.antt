@@ -2,8 +2,8 @@
 -- to the end, after lanes of 0, the vector spells the value of the first `len` lanes.
 use Rattle.std.proofs.Common.{◌-◌, ap, ◌∙◌}
 use Rattle.atoi_core.specs.Run.{value}
-use Rattle.atoi_lanes.specs.Itself.{itself}
-use Rattle.atoi_lanes.proofs.LaneSums.{values_below, value-after_zeros, values_sum}
+use Rattle.atoi_lanes.specs.Lanes.{itself}
+use Rattle.atoi_lanes.proofs.lemmas.LaneSums.{values_below, value-after_zeros, values_sum}
 use Rattle.atoi_lanes.proofs.kernels.sum_lanes.Goals as goal
 
 pub number_in_lanes-requires : goal.number_in_lanes-requires

@@ -3,7 +3,7 @@ use Rattle.std.proofs.Common.{sym, ◌∙◌, arith}
 use Rattle.std.proofs.lemmas.Bool.Decides.{nat_tests}
 use Rattle.atoi_core.specs.Digit.{decimal_table}
 use Rattle.atoi_core.specs.Magnitude.{wide64}
-use Rattle.atoi_lanes.proofs.LaneWindows.{below_ten}
+use Rattle.atoi_lanes.proofs.lemmas.LaneWindows.{below_ten}
 use Rattle.atoi_lanes.proofs.wide_lanes.answer_short_64.Goals as goal
 
 pub returns-then-len-eq0 : goal.returns-then-len-eq0

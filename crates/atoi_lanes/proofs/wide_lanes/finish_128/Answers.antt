@@ -1,7 +1,7 @@
 -- If the last window of 32 bytes is full of digits, this window and the 8 bytes after it decide the
 -- answer.
 use Rattle.std.proofs.Common.{◌∙◌}
-use Rattle.atoi_lanes.proofs.LaneWindows.{decided_full}
+use Rattle.atoi_lanes.proofs.lemmas.LaneWindows.{decided_full}
 use Rattle.atoi_lanes.proofs.wide_lanes.finish_128.Goals as goal
 
 pub answer_128-requires : goal.answer_128-requires

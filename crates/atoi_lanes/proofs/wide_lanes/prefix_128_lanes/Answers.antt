@@ -2,7 +2,7 @@
 -- The bounds on the number of loads follow from that.
 use Rattle.std.proofs.Common.{arith}
 use Rattle.atoi_core.specs.Digit.{decimal_table}
-use Rattle.atoi_lanes.proofs.LaneWindows.{first-ends, reads-first, few-zeros}
+use Rattle.atoi_lanes.proofs.lemmas.LaneWindows.{first-ends, reads-first, few-zeros}
 use Rattle.atoi_lanes.proofs.wide_lanes.prefix_128_lanes.Goals as goal
 
 pub finish_128-requires-clause-reached : goal.finish_128-requires-clause-reached

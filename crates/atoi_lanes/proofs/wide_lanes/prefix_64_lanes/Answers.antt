@@ -6,7 +6,7 @@ use Rattle.std.proofs.lemmas.List.Sums.{prefix_len-le-length}
 use Rattle.atoi_core.specs.Digit.{decimal_table, is_zero}
 use Rattle.atoi_core.specs.Reading.{Reading}
 use Rattle.atoi_core.specs.Run.{zeros}
-use Rattle.atoi_lanes.proofs.LaneWindows.{first-ends, reads-first, few-zeros, reading-of_few}
+use Rattle.atoi_lanes.proofs.lemmas.LaneWindows.{first-ends, reads-first, few-zeros, reading-of_few}
 use Rattle.atoi_lanes.proofs.wide_lanes.prefix_64_lanes.Goals as goal
 
 pub answer_short_64-requires-clause-reached : goal.answer_short_64-requires-clause-reached

@@ -6,7 +6,7 @@ use Rattle.std.proofs.lemmas.List.Sums.{prefix_len-le-length}
 use Rattle.atoi_core.specs.Digit.{decimal_table, is_zero}
 use Rattle.atoi_core.specs.Reading.{ReadingDecides}
 use Rattle.atoi_core.specs.Run.{zeros}
-use Rattle.atoi_lanes.proofs.LaneWindows.{Skipping, Skipping-none, Skipping-more, Skipping-loads}
+use Rattle.atoi_lanes.proofs.lemmas.LaneWindows.{Skipping, Skipping-none, Skipping-more, Skipping-loads}
 use Rattle.atoi_lanes.proofs.wide_lanes.skip_leading_zeros.Goals as goal
 
 -- If `Skipping` holds at an offset and the window there begins with zeros, then `Skipping` also

@@ -3,7 +3,7 @@
 use Rattle.std.proofs.Common.{true, ◌-◌, length, drop}
 use Rattle.atoi_core.specs.Digit.{decimal_table}
 use Rattle.atoi_core.specs.Reading.{Reading}
-use Rattle.atoi_lanes.proofs.LaneWindows.{Skipping}
+use Rattle.atoi_lanes.proofs.lemmas.LaneWindows.{Skipping}
 use Rattle.atoi_lanes.proofs.wide_lanes.skip_leading_zeros.Given as goal
 
 abbrev pub invariant-loop-reached : goal.invariant-loop-reached

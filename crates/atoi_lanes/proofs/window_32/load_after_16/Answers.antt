@@ -2,7 +2,7 @@
 -- 31 bytes, its last 16 bytes contain all bytes after the first 16, and a shuffle moves these to
 -- the start of the vector.
 use Rattle.std.proofs.Common.{◌∙◌}
-use Rattle.atoi_lanes.proofs.LaneWindows.{after_all, after_some}
+use Rattle.atoi_lanes.proofs.lemmas.LaneWindows.{after_all, after_some}
 use Rattle.atoi_lanes.proofs.window_32.load_after_16.Goals as goal
 
 pub returns : goal.returns

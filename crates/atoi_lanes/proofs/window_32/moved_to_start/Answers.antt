@@ -1,5 +1,5 @@
 -- The shuffle is valid, and moves the last lanes to the start.
-use Rattle.atoi_lanes.proofs.LoadedLanes.{moved_from, from_ok}
+use Rattle.atoi_lanes.proofs.lemmas.LoadedLanes.{moved_from, from_ok}
 use Rattle.atoi_lanes.proofs.window_32.moved_to_start.Goals as goal
 
 pub swizzle : goal.swizzle

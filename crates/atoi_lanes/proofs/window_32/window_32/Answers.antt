@@ -2,7 +2,7 @@
 -- reading of the first 32 bytes.
 use Rattle.std.proofs.Common.{refl, ◌∙◌, arith}
 use Rattle.atoi_core.specs.Digit.{decimal_table}
-use Rattle.atoi_lanes.proofs.LaneWindows.{reading-of_lanes}
+use Rattle.atoi_lanes.proofs.lemmas.LaneWindows.{reading-of_lanes}
 use Rattle.atoi_lanes.proofs.window_32.window_32.Goals as goal
 
 pub returns-then-len-lt16-clause-reading : goal.returns-then-len-lt16-clause-reading

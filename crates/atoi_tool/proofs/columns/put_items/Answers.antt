@@ -3,7 +3,7 @@ use Rattle.std.specs.List.{flat_map}
 use Rattle.std.proofs.lemmas.Grind.{common_steps}
 use Rattle.atoi_column.specs.Items.{item_of}
 use Rattle.atoi_tool.specs.Answer.{item_text}
-use Rattle.atoi_tool.proofs.Appended.{IsPutUpTo-more, IsPutUpTo-refused, OnErr-any}
+use Rattle.atoi_tool.proofs.lemmas.Appended.{IsPutUpTo-more, IsPutUpTo-refused, OnErr-any}
 use Rattle.atoi_tool.proofs.columns.put_items.Goals as goal
 
 pub loop-item-preserved : goal.loop-item-preserved

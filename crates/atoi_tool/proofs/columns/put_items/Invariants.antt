@@ -1,7 +1,7 @@
 use Rattle.std.proofs.Common.{◌≡◌}
 use Rattle.std.specs.List.{flat_map}
 use Rattle.atoi_tool.specs.Answer.{item_text}
-use Rattle.atoi_tool.proofs.Appended.{IsPutUpTo}
+use Rattle.atoi_tool.proofs.lemmas.Appended.{IsPutUpTo}
 use Rattle.atoi_tool.proofs.columns.put_items.Given as goal
 
 abbrev pub invariant-loop-item : goal.invariant-loop-item

@@ -2,7 +2,7 @@ use Rattle.std.proofs.Common.{codes}
 use Rattle.std.specs.List.{flat_map}
 use Rattle.atoi_column.specs.Items.{items_of}
 use Rattle.atoi_tool.specs.Answer.{item_text}
-use Rattle.atoi_tool.proofs.Appended.{OnErr-any, OnErr-second, AppendsPrefix-first}
+use Rattle.atoi_tool.proofs.lemmas.Appended.{OnErr-any, OnErr-second, AppendsPrefix-first}
 use Rattle.atoi_tool.proofs.columns.put_items_of.Goals as goal
 
 pub returns-in_err-put_all-clause-err : goal.returns-in_err-put_all-clause-err

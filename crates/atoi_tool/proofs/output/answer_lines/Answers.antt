@@ -4,7 +4,7 @@ use Rattle.std.proofs.Math.Bool.{and_assoc}
 use Rattle.std.proofs.lemmas.Grind.{common_steps}
 use Rattle.atoi_tool.specs.Answer.{is_good_line}
 use Rattle.atoi_tool.specs.Output.{line_output, output_of, is_good_input}
-use Rattle.atoi_tool.proofs.Appended.{IsPutUpTo-more, IsPutUpTo-refused}
+use Rattle.atoi_tool.proofs.lemmas.Appended.{IsPutUpTo-more, IsPutUpTo-refused}
 use Rattle.atoi_tool.proofs.output.answer_lines.Goals as goal
 
 pub returns-in-Err-clause-prefix : goal.returns-in-Err-clause-prefix

@@ -1,6 +1,6 @@
 use Rattle.std.proofs.Common.{◌≡◌, length, ◌&&◌}
 use Rattle.atoi_tool.specs.Output.{output_of, is_good_input}
-use Rattle.atoi_tool.proofs.Appended.{IsPutUpTo}
+use Rattle.atoi_tool.proofs.lemmas.Appended.{IsPutUpTo}
 use Rattle.atoi_tool.proofs.output.answer_lines.Given as goal
 
 abbrev pub invariant-loop-rest : goal.invariant-loop-rest

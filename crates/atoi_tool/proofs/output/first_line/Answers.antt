@@ -1,6 +1,6 @@
 use Rattle.std.proofs.Common.{◌+◌, length, sym, ◌∙◌, arith}
 use Rattle.std.proofs.lemmas.List.{take_rest, drop_all}
-use Rattle.atoi_tool.proofs.LinesLemmas.{lines_of-newline, lines_of-last}
+use Rattle.atoi_tool.proofs.lemmas.Lines.{lines_of-newline, lines_of-last}
 use Rattle.atoi_tool.proofs.output.first_line.Goals as goal
 
 pub returns-in-Some-clause-lines : goal.returns-in-Some-clause-lines

@@ -2,7 +2,7 @@ use Rattle.std.proofs.Common.{◌∷◌, []}
 use Rattle.atoi_tool.specs.Request.{int_type_of}
 use Rattle.atoi_tool.specs.Answer.{column_text}
 use Rattle.atoi_tool.specs.Output.{newline}
-use Rattle.atoi_tool.proofs.Appended.{OnErr-second}
+use Rattle.atoi_tool.proofs.lemmas.Appended.{OnErr-second}
 use Rattle.atoi_tool.proofs.output.put_row.Goals as goal
 
 pub returns-in_ok-put_column-in-Column-clause-err :

@@ -1,7 +1,7 @@
 use Rattle.std.proofs.Common.{◌≡◌, ℕ, ◌^◌, ◌<◌, false, List, ◌∷◌, ◌++◌, length, take, drop, decimal, pos, refl, sym, ap, ◌∙◌, arith}
 use Rattle.std.proofs.lemmas.Bool.{both_ways}
 use Rattle.std.proofs.lemmas.List.{take_rest, take-append-drop}
-use Rattle.atoi_simd.specs.IntTypes.{u8_type}
+use Rattle.atoi_simd.specs.IntType.{u8_type}
 use Rattle.atoi_simd.specs.Laws.{positive, DecimalTexts, PrefixesAndRests}
 use Rattle.atoi_simd.specs.Text.{DigitsWrite, PrefixWrites, has_needless_zero}
 use Rattle.atoi_uses.specs.Versions.{dot}

@@ -3,7 +3,7 @@
 use Rattle.std.proofs.Common.{◌≡◌, Ok, ap, sym, subst, rules, w64}
 use Rattle.std.proofs.lemmas.Int.{to_z-of_z}
 use Rattle.atoi_uses.specs.Commands.{IsCommand}
-use Rattle.atoi_uses.proofs.CommandLemmas.{only_command}
+use Rattle.atoi_uses.proofs.lemmas.Commands.{only_command}
 use Rattle.atoi_uses.proofs.commands.read_command.Goals as goal
 
 pub returns-in-Ok-clause-exact : goal.returns-in-Ok-clause-exact

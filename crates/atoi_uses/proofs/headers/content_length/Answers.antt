@@ -6,7 +6,7 @@ use Rattle.std.proofs.lemmas.Bool.{both_ways, eqb-true}
 use Rattle.std.proofs.lemmas.List.{take_rest, take-append-drop, nil_from_length}
 use Rattle.atoi_simd.specs.Laws.{positive}
 use Rattle.atoi_uses.specs.Headers.{is_blank, without_blanks}
-use Rattle.atoi_uses.proofs.HeaderLemmas.{blanks_before, field_is, none_after, no_digit_after}
+use Rattle.atoi_uses.proofs.lemmas.Headers.{blanks_before, field_is, none_after, no_digit_after}
 use Rattle.atoi_uses.proofs.headers.content_length.Goals as goal
 
 pub returns-in_default-clause-none : goal.returns-in_default-clause-none

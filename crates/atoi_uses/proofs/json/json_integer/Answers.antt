@@ -5,7 +5,7 @@ use Rattle.std.proofs.Math.Seq.{take-append_seam}
 use Rattle.std.proofs.lemmas.Bool.{both_ways}
 use Rattle.std.proofs.lemmas.Int.{to_z-of_z}
 use Rattle.std.proofs.lemmas.List.{take_rest, take-append-drop}
-use Rattle.atoi_simd.specs.IntTypes.{i64_type}
+use Rattle.atoi_simd.specs.IntType.{i64_type}
 use Rattle.atoi_simd.specs.Laws.{looked_for, PrefixesAndRests}
 use Rattle.atoi_simd.specs.Text.{SignMark, no_sign, plus, minus, sign_bytes, is_minus, is_plus, DigitsWrite, TextWrites, PrefixWrites}
 use Rattle.atoi_uses.specs.Json.{IsJsonInteger, minus_of, leads_with_zero}

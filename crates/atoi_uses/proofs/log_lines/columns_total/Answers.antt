@@ -3,7 +3,7 @@
 use Rattle.std.proofs.Common.{sym, subst, ◌∙◌, arith}
 use Rattle.atoi_column.specs.Items.{flaw_of}
 use Rattle.atoi_uses.specs.LogLines.{Refuses}
-use Rattle.atoi_uses.proofs.LogLemmas.{has_total, has_bad}
+use Rattle.atoi_uses.proofs.lemmas.Logs.{has_total, has_bad}
 use Rattle.atoi_uses.proofs.log_lines.columns_total.Goals as goal
 
 pub returns-in-Ok-try_from-clause-total : goal.returns-in-Ok-try_from-clause-total

@@ -3,7 +3,7 @@ use Rattle.std.proofs.Common.{◌≡◌, ◌^◌, ◌<◌, ◌≤◌, [], ◌∷
 use Rattle.std.specs.Int.{w128}
 use Rattle.std.proofs.lemmas.Int.{ints}
 use Rattle.std.proofs.lemmas.List.Sums.{fold-append}
-use Rattle.atoi_core.specs.IntTypes.{i64_type}
+use Rattle.atoi_core.specs.IntType.{i64_type}
 use Rattle.atoi_column.specs.Items.{item_of, items_of}
 use Rattle.atoi_uses.proofs.signed_totals.signed_total.Goals as goal
 

@@ -1,7 +1,7 @@
 -- The loop invariant: `total` is the sum of the numbers read so far. If `n` numbers have been read,
 -- the magnitude of `total` is at most 2^63 multiplied by `n`.
 use Rattle.std.proofs.Common.{◌≡◌, ◌*◌, ◌^◌, List, length, ℤ, pos, neg_ℤ, ◌≤ℤ◌}
-use Rattle.atoi_core.specs.IntTypes.{i64_type}
+use Rattle.atoi_core.specs.IntType.{i64_type}
 use Rattle.atoi_column.specs.Items.{items_of}
 use Rattle.atoi_column.specs.Laws.{HaveRead}
 use Rattle.atoi_uses.specs.SignedTotals.{sum_of}

@@ -1,8 +1,8 @@
 -- The loop keeps its invariant, and an error is that of the first bad field.
 use Rattle.std.proofs.Common.{◌≡◌, ◌∷◌, map, pos, Ok, Err, ap, ◌∙◌, rules}
-use Rattle.atoi_core.specs.IntTypes.{u64_type}
+use Rattle.atoi_core.specs.IntType.{u64_type}
 use Rattle.atoi_column.specs.Items.{item_of, items_of, flaw_of}
-use Rattle.atoi_uses.proofs.TotalLemmas.{IsAddedUpTo-more}
+use Rattle.atoi_uses.proofs.lemmas.Totals.{IsAddedUpTo-more}
 use Rattle.atoi_uses.proofs.totals.column_total.Goals as goal
 
 pub loop-item-preserved : goal.loop-item-preserved

@@ -1,7 +1,7 @@
 -- The loop keeps `IsAddedUpTo`.
-use Rattle.atoi_core.specs.IntTypes.{u64_type}
+use Rattle.atoi_core.specs.IntType.{u64_type}
 use Rattle.atoi_column.specs.Items.{items_of}
-use Rattle.atoi_uses.proofs.TotalLemmas.{IsAddedUpTo}
+use Rattle.atoi_uses.proofs.lemmas.Totals.{IsAddedUpTo}
 use Rattle.atoi_uses.proofs.totals.column_total.Given as goal
 
 abbrev pub invariant-loop-item : goal.invariant-loop-item

@@ -3,7 +3,7 @@
 use Rattle.std.proofs.Common.{ℕ, List, [], ◌∷◌, ◌==◌, length, sym, ap, ◌∙◌}
 use Rattle.std.proofs.lemmas.Bool.{both_ways}
 use Rattle.atoi_uses.specs.Versions.{dot}
-use Rattle.atoi_uses.proofs.VersionLemmas.{minor_at, patch_at}
+use Rattle.atoi_uses.proofs.lemmas.Versions.{minor_at, patch_at}
 use Rattle.atoi_uses.proofs.versions.parse_version.Goals as goal
 
 pub returns-in_err-major-clause-none : goal.returns-in_err-major-clause-none

@@ -3,7 +3,7 @@ use Rattle.std.proofs.Common.{◌≡◌, pos, refl, sym, ◌∙◌}
 use Rattle.std.proofs.lemmas.List.{take_rest}
 use Rattle.std.proofs.lemmas.List.Prefix.{front_rest}
 use Rattle.atoi_simd.specs.Laws.{positive}
-use Rattle.atoi_uses.proofs.VersionLemmas.{prefix_of}
+use Rattle.atoi_uses.proofs.lemmas.Versions.{prefix_of}
 use Rattle.atoi_uses.proofs.versions.part.Goals as goal
 
 pub returns-in-Ok-clause-only : goal.returns-in-Ok-clause-only

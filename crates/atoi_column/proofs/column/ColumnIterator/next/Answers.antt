@@ -6,7 +6,7 @@ use Rattle.std.proofs.lemmas.Bool.Decides.{nat_tests}
 use Rattle.atoi_core.specs.IntType.{IntType}
 use Rattle.atoi_core.specs.Refusal.{refusal_of}
 use Rattle.atoi_column.specs.Items.{field, trailing}
-use Rattle.atoi_column.proofs.ItemLemmas.{items_left-empty, items_left-after_all, items_left-ended, items_left-last, items_left-trailing, items_left-refused, one_item_less}
+use Rattle.atoi_column.proofs.lemmas.Items.{items_left-empty, items_left-after_all, items_left-ended, items_left-last, items_left-trailing, items_left-refused, one_item_less}
 use Rattle.atoi_column.proofs.column.ColumnIterator.next.Goals as goal
 
 pub returns-then-is_empty-clause-steps : goal.returns-then-is_empty-clause-steps

@@ -3,9 +3,9 @@ use Rattle.std.proofs.Common.{◌≤◌, ◌∙◌, ap, refl, arith, lit<, lengt
 use Rattle.std.proofs.lemmas.List.{take_rest}
 use Rattle.std.proofs.lemmas.List.Sums.{prefix_len-le-length}
 use Rattle.atoi_core.specs.Digit.{is_digit}
-use Rattle.atoi_core.proofs.Runs.{prefix_len-drop}
-use Rattle.atoi_core.proofs.Windows.{Shows, Skipping-none, Skipping-more, Skipped, Skipped-end, Skipped-loads, shows_following}
-use Rattle.atoi_core.proofs.LoopAnswers.{answers_empty, answers_short, answers_two, answers_128}
+use Rattle.atoi_core.proofs.lemmas.Runs.{prefix_len-drop}
+use Rattle.atoi_core.proofs.lemmas.Windows.{Shows, Skipping-none, Skipping-more, Skipped, Skipped-end, Skipped-loads, shows_following}
+use Rattle.atoi_core.proofs.lemmas.LoopAnswers.{answers_empty, answers_short, answers_two, answers_128}
 use Rattle.atoi_core.proofs.engine.Engine.prefix_128.Goals as goal
 use Rattle.atoi_core.proofs.engine.Engine.prefix_128.Goals.{After-window-second, After-window_8-third}
 

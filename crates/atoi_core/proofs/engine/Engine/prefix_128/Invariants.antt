@@ -1,6 +1,6 @@
 -- The loop that skips leading zeros keeps `Skipping`.
 use Rattle.std.proofs.Common.{length, ◌-◌}
-use Rattle.atoi_core.proofs.Windows.{Skipping}
+use Rattle.atoi_core.proofs.lemmas.Windows.{Skipping}
 use Rattle.atoi_core.proofs.engine.Engine.prefix_128.Given as goal
 
 abbrev pub invariant-loop-next : goal.invariant-loop-next

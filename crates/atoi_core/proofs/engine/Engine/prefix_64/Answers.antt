@@ -2,8 +2,8 @@
 use Rattle.std.proofs.Common.{◌≡◌, ◌+◌, ◌*◌, ◌^◌, ◌≤◌, ◌∙◌, refl, arith, length, drop}
 use Rattle.atoi_core.specs.Magnitude.{wide64, prefix_magnitude}
 use Rattle.atoi_core.specs.Reading.{answer_by_digits}
-use Rattle.atoi_core.proofs.Windows.{Shows, Skipping-none, Skipping-more, Skipped, Skipped-end, Skipped-loads, shows_following}
-use Rattle.atoi_core.proofs.LoopAnswers.{answers_empty, answers_short, answers_64}
+use Rattle.atoi_core.proofs.lemmas.Windows.{Shows, Skipping-none, Skipping-more, Skipped, Skipped-end, Skipped-loads, shows_following}
+use Rattle.atoi_core.proofs.lemmas.LoopAnswers.{answers_empty, answers_short, answers_64}
 use Rattle.atoi_core.proofs.engine.Engine.prefix_64.Goals as goal
 use Rattle.atoi_core.proofs.engine.Engine.prefix_64.Goals.{After-window_8-back}
 

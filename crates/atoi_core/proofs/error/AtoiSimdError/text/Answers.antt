@@ -1,5 +1,5 @@
 -- The text of each error is ASCII, because its numbers and its slice are shown in ASCII.
-use Rattle.atoi_core.proofs.Errors.{IsAscii-size_text, IsAscii-overflow_text, IsAscii-invalid64_text, IsAscii-invalid128_text}
+use Rattle.atoi_core.proofs.lemmas.Errors.{IsAscii-size_text, IsAscii-overflow_text, IsAscii-invalid64_text, IsAscii-invalid128_text}
 use Rattle.atoi_core.proofs.error.AtoiSimdError.text.Goals as goal
 
 pub returns-in-Size-clause-ascii : goal.returns-in-Size-clause-ascii

@@ -4,9 +4,9 @@
 use Rattle.std.proofs.Common.{◌≡◌, ◌⊎◌, ◌≤◌, true, false, inl, inr, refl, ◌∙◌, arith, drop}
 use Rattle.std.proofs.lemmas.List.Sums.{prefix_len-le-length}
 use Rattle.atoi_core.specs.Digit.{decimal_table, is_digit}
-use Rattle.atoi_core.proofs.Runs.{decimal_below_ten}
-use Rattle.atoi_core.proofs.Windows.{Skipped, Skipped-at_once, Skipped-loads, Shows, shows}
-use Rattle.atoi_core.proofs.LoopAnswers.{answers_empty, answers_short, answers_64}
+use Rattle.atoi_core.proofs.lemmas.Runs.{decimal_below_ten}
+use Rattle.atoi_core.proofs.lemmas.Windows.{Skipped, Skipped-at_once, Skipped-loads, Shows, shows}
+use Rattle.atoi_core.proofs.lemmas.LoopAnswers.{answers_empty, answers_short, answers_64}
 use Rattle.atoi_core.proofs.word_engine.WordsEngine.prefix_64.Goals as goal
 use Rattle.atoi_core.proofs.word_engine.WordsEngine.prefix_64.Goals.{After-window-first, After-window_after_16-back}
 

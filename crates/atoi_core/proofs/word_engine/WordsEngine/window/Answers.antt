@@ -1,6 +1,6 @@
 -- If the run ends within the first eight bytes, these determine the window of 16 bytes.
 use Rattle.std.proofs.Common.{ℕ, ◌<◌, ◌∙◌, get_or}
-use Rattle.atoi_core.proofs.LoadedWords.{loaded_run, loaded_sum, window_short}
+use Rattle.atoi_core.proofs.lemmas.LoadedWords.{loaded_run, loaded_sum, window_short}
 use Rattle.atoi_core.proofs.word_engine.WordsEngine.window.Goals as goal
 
 pub returns-else-len-eq8-clause-window : goal.returns-else-len-eq8-clause-window

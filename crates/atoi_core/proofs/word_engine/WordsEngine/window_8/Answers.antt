@@ -1,5 +1,5 @@
 -- The window of the loaded word is the window of the bytes that were loaded.
-use Rattle.atoi_core.proofs.LoadedWords.{loaded_window}
+use Rattle.atoi_core.proofs.lemmas.LoadedWords.{loaded_window}
 use Rattle.atoi_core.proofs.word_engine.WordsEngine.window_8.Goals as goal
 
 pub returns-clause-window : goal.returns-clause-window

@@ -1,6 +1,6 @@
 use Rattle.std.proofs.Common.{ap, ◌∙◌}
-use Rattle.atoi_lanes.specs.LaneWindow.{lane_window}
-use Rattle.atoi_lanes.proofs.LaneWindows.{window-of_lanes}
+use Rattle.atoi_lanes.specs.Lanes.{lane_window}
+use Rattle.atoi_lanes.proofs.lemmas.LaneWindows.{window-of_lanes}
 use Rattle.atoi_lanes.proofs.lanes.LanesEngine.window.Goals as goal
 
 pub returns-clause-window : goal.returns-clause-window

@@ -1,9 +1,8 @@
 use Rattle.std.proofs.Common.{take, length, ap, ◌∙◌}
 use Rattle.std.proofs.Math.Nat.{min_comm}
 use Rattle.std.proofs.lemmas.List.{take_min}
-use Rattle.atoi_lanes.specs.LaneWindow.{lane_window}
-use Rattle.atoi_lanes.specs.Padded.{padded_start}
-use Rattle.atoi_lanes.proofs.LaneWindows.{window-of_half_the_lanes}
+use Rattle.atoi_lanes.specs.Lanes.{lane_window, padded_start}
+use Rattle.atoi_lanes.proofs.lemmas.LaneWindows.{window-of_half_the_lanes}
 use Rattle.atoi_lanes.proofs.lanes.LanesEngine.window_8.Goals as goal
 
 pub returns-clause-window : goal.returns-clause-window

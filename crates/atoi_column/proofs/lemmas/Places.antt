@@ -1,0 +1,91 @@
+-- The places and indices in the errors of a column. A place is at most the length of the input, and
+-- an index is less than that length.
+use Rattle.std.proofs.Common.{◌≡◌, ℕ, ◌+◌, ◌-◌, ◌<◌, ◌≤◌, ◌==◌, true, false, if◌then◌else◌, Bool, List, [], ◌∷◌, length, drop, ℤ, Result, Ok, Err, refl, arith, length-drop}
+use Rattle.std.specs.Prelude.{IfErr}
+use Rattle.std.specs.List.{All, slice_split, onto_first}
+use Rattle.std.proofs.lemmas.List.Elements.{All-nil, All-cons}
+use Rattle.std.proofs.lemmas.List.Splits.{length-slice_split}
+use Rattle.std.proofs.lemmas.List.Sums.{sum_by-cons}
+use Rattle.atoi_core.specs.Refusal.{Refusal}
+use Rattle.atoi_core.specs.IntType.{IntType}
+use Rattle.atoi_core.specs.Answer.{parse_answer, parse_prefix_answer}
+use Rattle.atoi_core.specs.Laws.{PrefixOfCut, looked_for}
+use Rattle.atoi_column.specs.Fields.{without_empty_last, fields_of}
+use Rattle.atoi_column.specs.Items.{Flaw, flaw_at, index_of, place_of, items_from, items_left}
+use Rattle.atoi_column.specs.Laws.{place_after}
+use Rattle.atoi_column.proofs.lemmas.Fields.{length-fields_of}
+
+place_after-cons : (text : List ℕ) (texts : List (List ℕ)) → place_after (text ∷ texts) ≡ length text + 1 + place_after texts
+place_after-cons text texts = sum_by-cons (λ t. length t + 1) text texts
+
+place_after-some : (texts : List (List ℕ)) → 0 < length texts → 0 < place_after texts
+place_after-some [] some = absurd (omega arith)
+place_after-some (text ∷ texts) some = omega (arith, place_after-cons text texts)
+
+-- One more byte in the first piece makes all pieces together longer by at most one byte.
+onto_first-place : (x : ℕ) (pieces : List (List ℕ)) → 0 < length pieces → place_after (onto_first x pieces) ≤ place_after pieces + 1
+onto_first-place x [] some = absurd (omega arith)
+onto_first-place x (piece ∷ pieces) some = omega (arith, place_after-cons (x ∷ piece) pieces, place_after-cons piece pieces)
+
+-- The pieces of an input, each with a separator after it, are together at most one byte longer than
+-- the input.
+split-place : (p : ℕ → Bool) (xs : List ℕ) → place_after (slice_split p xs) ≤ length xs + 1
+split-place p [] = omega arith
+split-place p (x ∷ xs) =
+    elim (p x) as (λ b. place_after (if b then [] ∷ slice_split p xs else onto_first x (slice_split p xs)) ≤ length (x ∷ xs) + 1) [
+      | true ↦ omega (arith, place_after-cons [] (slice_split p xs), split-place p xs)
+      | false ↦ omega (arith, onto_first-place x (slice_split p xs) (omega (arith, length-slice_split p xs)), split-place p xs)
+    ]
+
+without_last-place : (pieces : List (List ℕ)) → place_after (without_empty_last pieces) ≤ place_after pieces
+without_last-place [] = omega arith
+without_last-place (piece ∷ []) =
+    elim (length piece == 0) as (λ b. place_after (if b then [] else piece ∷ []) ≤ place_after (piece ∷ [])) [
+      | true ↦ omega arith
+      | false ↦ omega arith
+    ]
+without_last-place (piece ∷ next ∷ pieces) =
+    omega (arith, place_after-cons piece (without_empty_last (next ∷ pieces)), place_after-cons piece (next ∷ pieces), without_last-place (next ∷ pieces))
+
+fields_of-place : (separator : ℕ) (rest : List ℕ) → place_after (fields_of separator rest) ≤ length rest + 1
+fields_of-place separator rest =
+    omega (arith, without_last-place (slice_split (λ byte. byte == separator) rest), split-place (λ byte. byte == separator) rest)
+
+-- If the item is an error, its place is at most `bytes`, and its index is less than `bytes`.
+abbrev IsInside : ℕ → Result ℤ Flaw → Type 0
+IsInside bytes item = IfErr item (λ flaw. (place_of flaw ≤ bytes) × (index_of flaw < bytes))
+
+module _ (whole : List ℕ → Result ℤ Refusal) (prefix : List ℕ → Result (ℤ × ℕ) Refusal)
+    (within : (rest : List ℕ) (v : ℤ) (count : ℕ) → prefix rest ≡ Ok (v, count) → count ≤ length rest) (bytes : ℕ) where
+  flaw_at-inside : (index place : ℕ) (rest : List ℕ) → place + length rest ≤ bytes → index < bytes → IsInside bytes (Err (flaw_at index place (prefix rest)))
+  flaw_at-inside index place rest room fewer =
+      elim (prefix rest) as (λ r. ((v : ℤ) (count : ℕ) → r ≡ Ok (v, count) → count ≤ length rest) → IsInside bytes (Err (flaw_at index place r))) [
+        | Ok found ↦ λ fits. (omega (arith, fits found.0 found.1 refl), fewer)
+        | Err reason ↦ λ fits. (omega arith, fewer)
+      ] (within rest)
+
+  items_from-inside : (index place : ℕ) (rest : List ℕ) (texts : List (List ℕ)) → place_after texts ≤ length rest + 1 → index + length texts ≤ bytes
+      → (0 < length texts → place + length rest ≤ bytes) → All (IsInside bytes) (items_from whole prefix index place rest texts)
+  items_from-inside index place rest [] fits fewer room = All-nil (IsInside bytes)
+  items_from-inside index place rest (text ∷ texts) fits fewer room =
+      let here : place + length rest ≤ bytes = room (omega arith) in
+      let cut : place_after (text ∷ texts) ≡ length text + 1 + place_after texts = place_after-cons text texts in
+      let left : length (drop (length text + 1) rest) ≡ length rest - (length text + 1) = length-drop (length text + 1) rest in
+      let following = items_from-inside (index + 1) (place + length text + 1) (drop (length text + 1) rest) texts (omega arith) (omega arith) (λ some. omega (arith, place_after-some texts some)) in
+      elim (whole text) as (λ r. All (IsInside bytes) (elim r as (λ _. List (Result ℤ Flaw)) [
+        | Ok value ↦ Ok value ∷ items_from whole prefix (index + 1) (place + length text + 1) (drop (length text + 1) rest) texts
+        | Err reason ↦ Err (flaw_at index place (prefix rest)) ∷ []
+      ])) [
+        | Ok value ↦ All-cons (IsInside bytes) (Ok value) _ tt following
+        | Err reason ↦ All-cons (IsInside bytes) (Err (flaw_at index place (prefix rest))) [] (flaw_at-inside index place rest here (omega arith)) (All-nil (IsInside bytes))
+      ]
+
+-- The place of each error is within the input or at its end, and its index is less than the length
+-- of the input.
+pub items_left-inside : (k : IntType) → PrefixOfCut k → (separator : ℕ) (input : List ℕ)
+    → All (λ item. IfErr item (λ flaw. (place_of flaw ≤ length input) × (index_of flaw < length input))) (items_left k separator 0 0 input)
+unfolding items_left
+items_left-inside k law separator input =
+    items_from-inside (parse_answer k true true) (parse_prefix_answer k true true)
+    (λ rest v count h. (law.cut (looked_for true) true rest v count h).1) (length input) 0 0 input (fields_of separator input)
+    (fields_of-place separator input) (omega (arith, length-fields_of separator input)) (λ some. omega arith)

@@ -1,0 +1,100 @@
+-- The items of an input, described with the texts of the type. These lemmas prove the law
+-- `TextsAndItems`.
+use Rattle.std.proofs.Common.{◌≡◌, ℕ, ◌+◌, true, List, [], ◌∷◌, ◌++◌, length, drop, map, ℤ, Result, Ok, Err, refl, ap, ◌∙◌, arith, zero-add, add-zero}
+use Rattle.std.specs.List.{AllZip}
+use Rattle.std.proofs.lemmas.List.{drop-drop}
+use Rattle.std.proofs.lemmas.List.Sums.{sum_by-cons}
+use Rattle.atoi_core.specs.Refusal.{Refusal}
+use Rattle.atoi_core.specs.IntType.{IntType}
+use Rattle.atoi_core.specs.Answer.{parse_answer, parse_prefix_answer}
+use Rattle.atoi_core.specs.Text.{IsText, TextWrites}
+use Rattle.atoi_core.specs.Laws.{looked_for, AcceptedTexts, AcceptedNumbers}
+use Rattle.atoi_column.specs.Fields.{fields_of}
+use Rattle.atoi_column.specs.Items.{Flaw, flaw_at, items_from, items_left}
+use Rattle.atoi_column.specs.Laws.{place_after, EndsItems, TextsAndItems}
+use Rattle.atoi_column.proofs.lemmas.Items.{items_from-ok, items_from-err}
+
+-- A field is accepted and writes its number, or it is refused and is no text of the type.
+data IsRead (k : IntType) (whole : List ℕ → Result ℤ Refusal) (text : List ℕ) : Type 0 where
+  accepted : (v : ℤ) → whole text ≡ Ok v → TextWrites k true text v → IsRead k whole text
+  refused : ((v : ℤ) → whole text ≡ Ok v → ⊥) → ¬ IsText k text → IsRead k whole text
+
+module _ (k : IntType) (whole : List ℕ → Result ℤ Refusal) (prefix : List ℕ → Result (ℤ × ℕ) Refusal) (read : (text : List ℕ) → IsRead k whole text) where
+  -- `HasItems` for some of the fields: the first of them has the index `index` and begins at
+  -- `place`.
+  record HasItemsFrom (index place : ℕ) (rest : List ℕ) (fields : List (List ℕ)) : Type 0 where
+    texts : List (List ℕ)
+    others : List (List ℕ)
+    numbers : List ℤ
+    last : List (Result ℤ Flaw)
+    parts : fields ≡ texts ++ others
+    written : AllZip (TextWrites k true) texts numbers
+    items : items_from whole prefix index place rest fields ≡ map Ok numbers ++ last
+    end : EndsItems k prefix (index + length texts) (place + place_after texts) (drop (place_after texts) rest) others last
+
+  -- If the items of some fields end as `EndsItems` says, then the items with one more field before
+  -- these fields end in this way too.
+  ends_after : (index place : ℕ) (rest text : List ℕ) (texts others : List (List ℕ)) (last : List (Result ℤ Flaw))
+      → EndsItems k prefix (index + 1 + length texts) (place + length text + 1 + place_after texts) (drop (place_after texts) (drop (length text + 1) rest)) others last
+      → EndsItems k prefix (index + length (text ∷ texts)) (place + place_after (text ∷ texts)) (drop (place_after (text ∷ texts)) rest) others last
+  ends_after index place rest text texts others last h =
+      let further : place_after (text ∷ texts) ≡ length text + 1 + place_after texts = sum_by-cons (λ t. length t + 1) text texts in
+      let count : index + length (text ∷ texts) ≡ index + 1 + length texts = omega arith in
+      let place_is : place + (length text + 1 + place_after texts) ≡ place + length text + 1 + place_after texts = omega arith in
+      rw (further, count, place_is, ← drop-drop (place_after texts) (length text + 1) rest) h
+
+  has_items_from : (index place : ℕ) (rest : List ℕ) (fields : List (List ℕ)) → HasItemsFrom index place rest fields
+  has_items_from index place rest [] = record { texts = []; others = []; numbers = []; last = []; parts = refl; written = tt; items = refl; end = refl }
+  has_items_from index place rest (text ∷ fields) =
+      let following = has_items_from (index + 1) (place + length text + 1) (drop (length text + 1) rest) fields in
+      elim (read text) [
+        | accepted v h is ↦ record {
+          texts = text ∷ following.texts;
+          others = following.others;
+          numbers = v ∷ following.numbers;
+          last = following.last;
+          parts = ap (λ fs. text ∷ fs) following.parts;
+          written = (is, following.written);
+          items = items_from-ok whole prefix index place rest text fields v h ∙ ap (λ items. Ok v ∷ items) following.items;
+          end = ends_after index place rest text following.texts following.others following.last following.end;
+        }
+        | refused h none ↦ record {
+          texts = [];
+          others = text ∷ fields;
+          numbers = [];
+          last = Err (flaw_at index place (prefix rest)) ∷ [];
+          parts = refl;
+          written = tt;
+          items = items_from-err whole prefix index place rest text fields h;
+          end = simp add-zero (none, refl);
+        }
+      ]
+
+ok_or_err : (r : Result ℤ Refusal) (v : ℤ) (reason : Refusal) → r ≡ Ok v → r ≡ Err reason → ⊥
+ok_or_err r v reason h other = absurd (cc)
+
+-- A field that is a text of the type is accepted with its number, and no other field is accepted.
+module _ (k : IntType) (texts : AcceptedTexts k) (numbers : AcceptedNumbers k) (text : List ℕ) where
+  read_as : (r : Result ℤ Refusal) → parse_answer k true true text ≡ r → IsRead k (parse_answer k true true) text
+  read_as (Ok v) h = accepted v h (numbers.written (looked_for true) true text v h)
+  read_as (Err reason) h =
+      refused (λ v ok. ok_or_err (parse_answer k true true text) v reason ok h)
+      (λ is. ok_or_err (parse_answer k true true text) _ reason (texts.number text is.number is.written) h)
+
+  read_by_law : IsRead k (parse_answer k true true) text
+  read_by_law = read_as (parse_answer k true true text) refl
+
+pub texts_and_items : (k : IntType) → AcceptedTexts k → AcceptedNumbers k → TextsAndItems k
+unfolding items_left
+texts_and_items k texts numbers separator input =
+    let from = has_items_from k (parse_answer k true true) (parse_prefix_answer k true true) (read_by_law k texts numbers) 0 0 input (fields_of separator input) in
+    record {
+      texts = from.texts;
+      others = from.others;
+      numbers = from.numbers;
+      last = from.last;
+      fields = from.parts;
+      written = from.written;
+      items = from.items;
+      end = simp zero-add at from.end;
+    }

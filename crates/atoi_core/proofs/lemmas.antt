@@ -1,0 +1,12 @@
+pub mod Runs
+pub mod Errors
+pub mod Calls
+pub mod Windows
+pub mod WordFields
+pub mod WordRuns
+pub mod LoopAnswers
+pub mod Bounds
+pub mod Texts
+pub mod Prefixes
+pub mod SameOutcomes
+pub mod LoadedWords

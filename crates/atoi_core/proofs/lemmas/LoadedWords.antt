@@ -1,0 +1,506 @@
+-- Words that hold the bytes of a slice: how a word is loaded, and why the digits and zeros that are
+-- counted in a word, and the value that is computed from it, are those of the slice. The word
+-- engine and the functions of `words` that load a word are proved with these lemmas. To compute the
+-- weighted sum of bytes (`low_value`), the lower half of each byte is multiplied by 10^k if k bytes
+-- follow it, and these products are added.
+use Rattle.std.proofs.Common.{◌≡◌, ℕ, zero, suc, ◌+◌, ◌-◌, ◌*◌, ◌/◌, ◌%◌, ◌^◌, ◌<◌, ◌≤◌, List, [], ◌∷◌, ◌++◌, length, take, drop, replicate, get_or, take-take, refl, sym, ap, ap₂, ◌∙◌, arith, ◌≢◌, min, Bool, true, false, cond, ◌==◌, if◌then◌else◌}
+use Rattle.std.proofs.Math.Nat.{mod-lt, div-one, zero-div, suc-mul, div-div-eq-div-mul, zero-add, suc-add, pow-suc}
+use Rattle.std.proofs.lemmas.List.{take_all, length-drop, get_or-drop, drop-drop, length-take, length-take-le}
+use Rattle.std.proofs.lemmas.Nat.{pow_pos, pow-add, mod-pow-add, or_block, shr_split, div-mul-add}
+use Rattle.std.specs.Int.{from_le_bytes, w16, w32, w64}
+use Rattle.std.specs.Int.Bits.{bit_or, or_self, or_zero_r}
+use Rattle.std.specs.Simd.Lanes.{number_l, digits_l}
+use Rattle.atoi_core.specs.Words.{word_of, low_bytes, low_value}
+use Rattle.std.proofs.lemmas.Bool.{eq-eqb, ne_eqb}
+use Rattle.std.proofs.lemmas.Bool.Decides.{nat_tests}
+use Rattle.std.proofs.lemmas.List.Sums.{prefix_len-le-length}
+use Rattle.std.proofs.lemmas.List.Folds.{prefix_len-append}
+use Rattle.std.proofs.Math.Seq.{take-add}
+use Rattle.std.specs.List.{prefix_len}
+use Rattle.atoi_core.specs.Digit.{decimal_table, is_digit, is_zero, digit_value}
+use Rattle.atoi_core.specs.Run.{run_len, run, zeros, value}
+use Rattle.atoi_core.specs.Window.{window_of}
+use Rattle.atoi_core.specs.declared.window.Window.{Window}
+use Rattle.atoi_core.proofs.lemmas.Runs.{prefix_len-take, prefix_len-drop, value-take-add}
+use Rattle.atoi_core.proofs.lemmas.WordFields.{length-digits}
+
+-- ---- Loading a word from a slice
+
+-- The first eight bytes, read as a little-endian number, are the word of these bytes. Missing bytes
+-- are 0 in both.
+pub word_from_bytes : (s : List ℕ) → from_le_bytes w64 s ≡ word_of (take 8 s)
+unfolding word_of
+word_from_bytes [] = omega arith
+word_from_bytes (a ∷ []) = omega arith
+word_from_bytes (a ∷ b ∷ []) = omega arith
+word_from_bytes (a ∷ b ∷ c ∷ []) = omega arith
+word_from_bytes (a ∷ b ∷ c ∷ d ∷ []) = omega arith
+word_from_bytes (a ∷ b ∷ c ∷ d ∷ e ∷ []) = omega arith
+word_from_bytes (a ∷ b ∷ c ∷ d ∷ e ∷ f ∷ []) = omega arith
+word_from_bytes (a ∷ b ∷ c ∷ d ∷ e ∷ f ∷ g ∷ []) = omega arith
+word_from_bytes (a ∷ b ∷ c ∷ d ∷ e ∷ f ∷ g ∷ h ∷ rest) = omega arith
+
+-- As above, if the first eight bytes are given as an array.
+pub word_of_first : (s bytes : List ℕ) → bytes ≡ take 8 s → from_le_bytes w64 bytes ≡ word_of (take 8 s)
+word_of_first s bytes e = ap (from_le_bytes w64) e ∙ word_from_bytes (take 8 s) ∙ ap word_of (take-take 8 8 s (omega arith))
+
+-- The word of no bytes is 0.
+pub word_of_none : (s : List ℕ) → length s ≡ 0 → 0 ≡ word_of s
+unfolding word_of
+word_of_none [] none = refl
+word_of_none (a ∷ s) none = absurd (omega arith)
+
+-- A slice of at most four bytes, read as a little-endian number, is the word of these bytes. The
+-- lemma after this one says the same of a slice of at most two bytes.
+pub word_from_four : (s : List ℕ) → length s ≤ 4 → from_le_bytes w32 s ≡ word_of s
+unfolding word_of
+word_from_four [] few = omega arith
+word_from_four (a ∷ []) few = omega arith
+word_from_four (a ∷ b ∷ []) few = omega arith
+word_from_four (a ∷ b ∷ c ∷ []) few = omega arith
+word_from_four (a ∷ b ∷ c ∷ d ∷ []) few = omega arith
+word_from_four (a ∷ b ∷ c ∷ d ∷ e ∷ rest) few = absurd (omega arith)
+
+pub word_from_two : (s : List ℕ) → length s ≤ 2 → from_le_bytes w16 s ≡ word_of s
+unfolding word_of
+word_from_two [] few = omega arith
+word_from_two (a ∷ []) few = omega arith
+word_from_two (a ∷ b ∷ []) few = omega arith
+word_from_two (a ∷ b ∷ c ∷ rest) few = absurd (omega arith)
+
+-- A number does not change if its own lowest `r` bits are joined to it by `|`.
+with_low_bits : (a r : ℕ) → bit_or (a % 2 ^ r) a ≡ a
+with_low_bits a r =
+    let low = a % 2 ^ r in
+    let small : low < 2 ^ r = mod-lt a (pow_pos r) in
+    ap (bit_or low) (sym (shr_split a r))
+    ∙ ap (λ x. bit_or x (a / 2 ^ r * 2 ^ r + low)) (omega arith)
+    ∙ or_block r 0 (a / 2 ^ r) low low small small
+    ∙ ap (λ x. a / 2 ^ r * 2 ^ r + x) (or_self low)
+    ∙ shr_split a r
+
+-- Let `low` be the lowest `r + k` bits of a number, and let `high` be the number with its lowest
+-- `k` bits set to 0. Then `low | high` is the number. The two parts may overlap: both have the `r`
+-- bits from bit `k` on.
+overlap : (whole low high r k : ℕ) → low ≡ whole % 2 ^ (r + k) → high ≡ whole / 2 ^ k * 2 ^ k → bit_or low high ≡ whole
+overlap whole low high r k low_is high_is =
+    let q = whole / 2 ^ k in
+    let rest = whole % 2 ^ k in
+    ap₂ bit_or (low_is ∙ mod-pow-add whole r k) (high_is ∙ omega arith)
+    ∙ or_block k (q % 2 ^ r) q rest 0 (mod-lt whole (pow_pos k)) (pow_pos k)
+    ∙ ap₂ (λ x y. x * 2 ^ k + y) (with_low_bits q r) (or_zero_r rest)
+    ∙ shr_split whole k
+
+-- If the word of a slice is shifted right by `k` bytes, the result is the word of the slice without
+-- its first `k` bytes.
+bytes_above : (k : ℕ) (s : List ℕ) → ((i : ℕ) → get_or s i 0 < 256) → word_of s / 2 ^ (k * 8) ≡ word_of (drop k s)
+unfolding word_of
+bytes_above zero s fits = div-one (number_l 256 s)
+bytes_above (suc k) [] fits = zero-div (2 ^ (suc k * 8))
+bytes_above (suc k) (b ∷ bs) fits =
+    let word = number_l 256 bs in
+    let up : 2 ^ (suc k * 8) ≡ 256 * 2 ^ (k * 8) = ap (λ e. 2 ^ e) (suc-mul k 8) ∙ pow-add 2 (k * 8) 8 ∙ omega arith in
+    let rest : (b + 256 * word) / 256 ≡ word = omega (arith, fits 0) in
+    ap (λ p. (b + 256 * word) / p) up ∙ sym (div-div-eq-div-mul (b + 256 * word) 256 (2 ^ (k * 8)))
+    ∙ ap (λ w. w / 2 ^ (k * 8)) rest ∙ bytes_above k bs (λ i. fits (suc i))
+
+-- Let a slice have at least eight bytes, but fewer than eight from offset `at` on. The bytes from
+-- `at` on are then the highest ones in the word of the last eight bytes. Two right shifts of this
+-- word, the second by one byte, leave the word of the bytes from `at` on.
+pub last_bytes : (s last : List ℕ) (at : ℕ) → 8 ≤ length s → at ≤ length s → length s < at + 8 → ((i : ℕ) → get_or s i 0 < 256) → last ≡ drop (length s - 8) s
+    → from_le_bytes w64 last / 2 ^ (8 * (at + 7 - length s)) / 2 ^ 8 ≡ word_of (take 8 (drop at s))
+last_bytes s last at enough inside few fits is =
+    let back = drop (length s - 8) s in
+    let missing = at + 8 - length s in
+    let whole : take 8 back ≡ back = take_all 8 back (omega (arith, length-drop (length s - 8) s)) in
+    let rest : take 8 (drop at s) ≡ drop at s = take_all 8 (drop at s) (omega (arith, length-drop at s)) in
+    let twice : 2 ^ (8 * (at + 7 - length s)) * 2 ^ 8 ≡ 2 ^ (missing * 8) = sym (pow-add 2 (8 * (at + 7 - length s)) 8) ∙ ap (λ e. 2 ^ e) (omega arith) in
+    let above : length s - 8 + missing ≡ at = omega arith in
+    div-div-eq-div-mul (from_le_bytes w64 last) (2 ^ (8 * (at + 7 - length s))) (2 ^ 8)
+    ∙ ap₂ (λ bytes p. from_le_bytes w64 bytes / p) is twice
+    ∙ ap (λ w. w / 2 ^ (missing * 8)) (word_from_bytes back ∙ ap word_of whole)
+    ∙ bytes_above missing back (λ i. rw get_or-drop (fits (length s - 8 + i)))
+    ∙ ap word_of (drop-drop missing (length s - 8) s ∙ ap (λ n. drop n s) above ∙ sym rest)
+
+-- How `load_high` builds the word of one to eight bytes. It joins four parts: the first two bytes,
+-- the first four bytes, the last four bytes, and the last byte. Each part is shifted to its
+-- position in the word. If there are fewer than four bytes, both parts of four bytes are 0. If
+-- there is only one byte, the part of two bytes is 0 too.
+module _ (whole two first_four last_four last n r : ℕ) where
+  of_four : two ≡ first_four % 2 ^ 16 → first_four * 2 ^ n % 2 ^ 64 ≡ whole % 2 ^ (r + 32) → last_four * 2 ^ 32 % 2 ^ 64 ≡ whole / 2 ^ 32 * 2 ^ 32
+      → last * 2 ^ 56 % 2 ^ 64 ≡ whole / 2 ^ 56 * 2 ^ 56 → whole < 2 ^ 64
+      → bit_or (bit_or (bit_or two first_four * 2 ^ n % 2 ^ 64) (last_four * 2 ^ 32 % 2 ^ 64)) (last * 2 ^ 56 % 2 ^ 64) ≡ whole
+  of_four two_is front back high fits =
+      let first : bit_or two first_four ≡ first_four = overlap first_four two first_four 16 0 two_is (omega arith) in
+      let most : bit_or (bit_or two first_four * 2 ^ n % 2 ^ 64) (last_four * 2 ^ 32 % 2 ^ 64) ≡ whole =
+      overlap whole _ _ r 32 (ap (λ x. x * 2 ^ n % 2 ^ 64) first ∙ front) back in
+      overlap whole _ _ 8 56 (most ∙ omega arith) high
+
+  of_two : first_four ≡ 0 → last_four ≡ 0 → two * 2 ^ n % 2 ^ 64 ≡ whole % 2 ^ (r + 56) → last * 2 ^ 56 % 2 ^ 64 ≡ whole / 2 ^ 56 * 2 ^ 56
+      → bit_or (bit_or (bit_or two first_four * 2 ^ n % 2 ^ 64) (last_four * 2 ^ 32 % 2 ^ 64)) (last * 2 ^ 56 % 2 ^ 64) ≡ whole
+  of_two none_first none_last front high =
+      let first : bit_or two first_four ≡ two = ap (bit_or two) none_first ∙ or_zero_r two in
+      let most : bit_or (bit_or two first_four * 2 ^ n % 2 ^ 64) (last_four * 2 ^ 32 % 2 ^ 64) ≡ two * 2 ^ n % 2 ^ 64 =
+      ap₂ (λ x y. bit_or (x * 2 ^ n % 2 ^ 64) (y * 2 ^ 32 % 2 ^ 64)) first none_last ∙ or_zero_r (two * 2 ^ n % 2 ^ 64) in
+      overlap whole _ _ r 56 (most ∙ front) high
+
+pub four_or_more : (s : List ℕ) → 4 ≤ length s → length s ≤ 8 → ((i : ℕ) → get_or s i 0 < 256)
+    → bit_or (bit_or (bit_or (word_of (take 2 s)) (word_of (take 4 s)) * 2 ^ (64 - 8 * length s) % 2 ^ 64) (word_of (drop (length s - 4) s) * 2 ^ 32 % 2 ^ 64)) (get_or s (length s - 1) 0 * 2 ^ 56 % 2 ^ 64)
+    ≡ word_of (replicate (8 - length s) 0 ++ s)
+unfolding word_of
+four_or_more [] enough few fits = absurd (omega arith)
+four_or_more (a ∷ []) enough few fits = absurd (omega arith)
+four_or_more (a ∷ b ∷ []) enough few fits = absurd (omega arith)
+four_or_more (a ∷ b ∷ c ∷ []) enough few fits = absurd (omega arith)
+four_or_more (a ∷ b ∷ c ∷ d ∷ []) enough few fits =
+    let s : List ℕ = a ∷ b ∷ c ∷ d ∷ [] in
+    let a_fits : a < 256 = fits 0 in let b_fits : b < 256 = fits 1 in let c_fits : c < 256 = fits 2 in let d_fits : d < 256 = fits 3 in
+    of_four (word_of (replicate 4 0 ++ s)) (word_of (take 2 s)) (word_of (take 4 s)) (word_of (drop 0 s)) d 32 32 (omega arith) (omega arith) (omega arith) (omega arith) (omega arith)
+four_or_more (a ∷ b ∷ c ∷ d ∷ e ∷ []) enough few fits =
+    let s : List ℕ = a ∷ b ∷ c ∷ d ∷ e ∷ [] in
+    let a_fits : a < 256 = fits 0 in let b_fits : b < 256 = fits 1 in let c_fits : c < 256 = fits 2 in let d_fits : d < 256 = fits 3 in let e_fits : e < 256 = fits 4 in
+    of_four (word_of (replicate 3 0 ++ s)) (word_of (take 2 s)) (word_of (take 4 s)) (word_of (drop 1 s)) e 24 24 (omega arith) (omega arith) (omega arith) (omega arith) (omega arith)
+four_or_more (a ∷ b ∷ c ∷ d ∷ e ∷ f ∷ []) enough few fits =
+    let s : List ℕ = a ∷ b ∷ c ∷ d ∷ e ∷ f ∷ [] in
+    let a_fits : a < 256 = fits 0 in let b_fits : b < 256 = fits 1 in let c_fits : c < 256 = fits 2 in let d_fits : d < 256 = fits 3 in let e_fits : e < 256 = fits 4 in let f_fits : f < 256 = fits 5 in
+    of_four (word_of (replicate 2 0 ++ s)) (word_of (take 2 s)) (word_of (take 4 s)) (word_of (drop 2 s)) f 16 16 (omega arith) (omega arith) (omega arith) (omega arith) (omega arith)
+four_or_more (a ∷ b ∷ c ∷ d ∷ e ∷ f ∷ g ∷ []) enough few fits =
+    let s : List ℕ = a ∷ b ∷ c ∷ d ∷ e ∷ f ∷ g ∷ [] in
+    let a_fits : a < 256 = fits 0 in let b_fits : b < 256 = fits 1 in let c_fits : c < 256 = fits 2 in let d_fits : d < 256 = fits 3 in let e_fits : e < 256 = fits 4 in let f_fits : f < 256 = fits 5 in let g_fits : g < 256 = fits 6 in
+    of_four (word_of (replicate 1 0 ++ s)) (word_of (take 2 s)) (word_of (take 4 s)) (word_of (drop 3 s)) g 8 8 (omega arith) (omega arith) (omega arith) (omega arith) (omega arith)
+four_or_more (a ∷ b ∷ c ∷ d ∷ e ∷ f ∷ g ∷ h ∷ []) enough few fits =
+    let s : List ℕ = a ∷ b ∷ c ∷ d ∷ e ∷ f ∷ g ∷ h ∷ [] in
+    let a_fits : a < 256 = fits 0 in let b_fits : b < 256 = fits 1 in let c_fits : c < 256 = fits 2 in let d_fits : d < 256 = fits 3 in let e_fits : e < 256 = fits 4 in let f_fits : f < 256 = fits 5 in let g_fits : g < 256 = fits 6 in let h_fits : h < 256 = fits 7 in
+    of_four (word_of (replicate 0 0 ++ s)) (word_of (take 2 s)) (word_of (take 4 s)) (word_of (drop 4 s)) h 0 0 (omega arith) (omega arith) (omega arith) (omega arith) (omega arith)
+four_or_more (a ∷ b ∷ c ∷ d ∷ e ∷ f ∷ g ∷ h ∷ i ∷ rest) enough few fits = absurd (omega arith)
+
+pub below_four : (s : List ℕ) (two first_four last_four : ℕ) → 0 < length s → length s < 4 → ((i : ℕ) → get_or s i 0 < 256)
+    → (2 ≤ length s → two ≡ word_of (take 2 s)) → (length s < 2 → two ≡ 0) → first_four ≡ 0 → last_four ≡ 0
+    → bit_or (bit_or (bit_or two first_four * 2 ^ (64 - 8 * length s) % 2 ^ 64) (last_four * 2 ^ 32 % 2 ^ 64)) (get_or s (length s - 1) 0 * 2 ^ 56 % 2 ^ 64)
+    ≡ word_of (replicate (8 - length s) 0 ++ s)
+unfolding word_of
+below_four [] two first_four last_four some few fits is none none_first none_last = absurd (omega arith)
+below_four (a ∷ []) two first_four last_four some few fits is none none_first none_last =
+    let s : List ℕ = a ∷ [] in
+    let two_is : two ≡ 0 = none (omega arith) in
+    let a_fits : a < 256 = fits 0 in
+    of_two (word_of (replicate 7 0 ++ s)) two first_four last_four a 56 0 none_first none_last (omega arith) (omega arith)
+below_four (a ∷ b ∷ []) two first_four last_four some few fits is none none_first none_last =
+    let s : List ℕ = a ∷ b ∷ [] in
+    let two_is : two ≡ word_of (take 2 s) = is (omega arith) in
+    let a_fits : a < 256 = fits 0 in let b_fits : b < 256 = fits 1 in
+    of_two (word_of (replicate 6 0 ++ s)) two first_four last_four b 48 8 none_first none_last (omega arith) (omega arith)
+below_four (a ∷ b ∷ c ∷ []) two first_four last_four some few fits is none none_first none_last =
+    let s : List ℕ = a ∷ b ∷ c ∷ [] in
+    let two_is : two ≡ word_of (take 2 s) = is (omega arith) in
+    let a_fits : a < 256 = fits 0 in let b_fits : b < 256 = fits 1 in let c_fits : c < 256 = fits 2 in
+    of_two (word_of (replicate 5 0 ++ s)) two first_four last_four c 40 0 none_first none_last (omega arith) (omega arith)
+below_four (a ∷ b ∷ c ∷ d ∷ rest) two first_four last_four some few fits is none none_first none_last = absurd (omega arith)
+
+-- ---- Digits and zeros of a loaded word
+
+-- Dividing a word by 256 separates its lowest byte from the word of the bytes above it.
+low_and_high : (b word : ℕ) → b < 256 → ((b + 256 * word) % 256 ≡ b) × ((b + 256 * word) / 256 ≡ word)
+low_and_high b word small = (omega arith, omega arith)
+
+-- Let a word be loaded from the first `k` bytes of a slice, and let the byte 0 not pass a test.
+-- Then these bytes of the slice and the `k` bytes of the word begin with the same number of bytes
+-- that pass the test. A byte that the slice does not have is 0 in the word.
+loaded_start : (p : ℕ → Bool) → p 0 ≡ false → (k : ℕ) (s : List ℕ) → ((i : ℕ) → get_or s i 0 < 256)
+    → prefix_len p (digits_l 256 k (number_l 256 (take k s))) ≡ prefix_len p (take k s)
+loaded_start p stops zero s fits = refl
+loaded_start p stops (suc k) [] fits = ap (λ t. cond t (1 + prefix_len p (digits_l 256 k (0 / 256))) 0) stops
+loaded_start p stops (suc k) (b ∷ bs) fits =
+    let word = number_l 256 (take k bs) in
+    let parts = low_and_high b word (fits 0) in
+    ap₂ (λ x y. cond (p x) (1 + prefix_len p (digits_l 256 k y)) 0) parts.0 parts.1
+    ∙ ap (λ n. cond (p b) (1 + n) 0) (loaded_start p stops k bs (λ i. fits (suc i)))
+
+-- If the slice has at least `k` bytes, the `k` bytes of the loaded word are the first `k` bytes of
+-- the slice.
+loaded_whole : (k : ℕ) (s : List ℕ) → k ≤ length s → ((i : ℕ) → get_or s i 0 < 256) → digits_l 256 k (number_l 256 (take k s)) ≡ take k s
+loaded_whole zero s enough fits = refl
+loaded_whole (suc k) [] enough fits = absurd (omega arith)
+loaded_whole (suc k) (b ∷ bs) enough fits =
+    let word = number_l 256 (take k bs) in
+    let parts = low_and_high b word (fits 0) in
+    ap₂ (λ x xs. x ∷ xs) parts.0 (ap (digits_l 256 k) parts.1 ∙ loaded_whole k bs (omega arith) (λ i. fits (suc i)))
+
+-- The lower half of a digit's byte is its digit value.
+half_is_value : (b : ℕ) → is_digit decimal_table b ≡ true → b % 16 ≡ digit_value decimal_table b
+half_is_value b digit = grind (arith, nat_tests)
+
+-- If a list begins with at least n + 1 elements that pass a test, then the first element passes it,
+-- and at least n passing elements follow the first.
+first_passes : (t : Bool) (n m : ℕ) → suc n ≤ cond t (1 + m) 0 → (t ≡ true) × (n ≤ m)
+first_passes true n m h = (refl, omega arith)
+first_passes false n m h = absurd (omega arith)
+
+-- The weighted sum of leading digits is their value.
+loaded_value : (n k : ℕ) (s : List ℕ) → ((i : ℕ) → get_or s i 0 < 256) → n ≤ run_len decimal_table (take k s)
+    → low_value (digits_l 256 n (number_l 256 (take k s))) ≡ value decimal_table (take n (take k s))
+loaded_value zero k s fits digits = refl
+loaded_value (suc n) zero s fits digits = absurd (omega arith)
+loaded_value (suc n) (suc k) [] fits digits = absurd (omega arith)
+loaded_value (suc n) (suc k) (b ∷ bs) fits digits =
+    let word = number_l 256 (take k bs) in
+    let parts = low_and_high b word (fits 0) in
+    let passes = first_passes (is_digit decimal_table b) n (run_len decimal_table (take k bs)) digits in
+    let places : length (digits_l 256 n word) ≡ length (take n (take k bs)) =
+    length-digits 256 n word ∙ sym (length-take-le n (take k bs) (omega (arith, passes.1, prefix_len-le-length (is_digit decimal_table) (take k bs)))) in
+    ap₂ (λ x y. (x % 16) * 10 ^ length (digits_l 256 n y) + low_value (digits_l 256 n y)) parts.0 parts.1
+    ∙ ap₂ (λ x e. x * 10 ^ e + low_value (digits_l 256 n word)) (half_is_value b passes.0) places
+    ∙ ap (λ v. digit_value decimal_table b * 10 ^ length (take n (take k bs)) + v) (loaded_value n k bs (λ i. fits (suc i)) passes.1)
+
+-- ---- Stated for words of eight bytes
+-- These lemmas are stated with `low_bytes`, `word_of` and `low_value`, as the contracts of the
+-- functions on words are.
+
+-- The loaded word begins with as many digits as the first eight bytes.
+pub loaded_run : (s : List ℕ) → ((i : ℕ) → get_or s i 0 < 256) → (word : ℕ) → word ≡ word_of (take 8 s)
+    → run_len decimal_table (low_bytes 8 word) ≡ run_len decimal_table (take 8 s)
+unfolding low_bytes word_of
+loaded_run s fits word is = ap (λ w. run_len decimal_table (low_bytes 8 w)) is ∙ loaded_start (is_digit decimal_table) refl 8 s fits
+
+-- The loaded word begins with as many zeros as the first eight bytes.
+pub loaded_zeros : (s : List ℕ) → ((i : ℕ) → get_or s i 0 < 256) → (word : ℕ) → word ≡ word_of (take 8 s)
+    → zeros decimal_table (low_bytes 8 word) ≡ zeros decimal_table (take 8 s)
+unfolding low_bytes word_of
+loaded_zeros s fits word is = ap (λ w. zeros decimal_table (low_bytes 8 w)) is ∙ loaded_start (is_zero decimal_table) refl 8 s fits
+
+-- If the slice has at least eight bytes, the bytes of the loaded word are the first eight.
+pub loaded_bytes : (s : List ℕ) → ((i : ℕ) → get_or s i 0 < 256) → (word : ℕ) → word ≡ word_of (take 8 s) → 8 ≤ length s
+    → low_bytes 8 word ≡ take 8 s
+unfolding low_bytes word_of
+loaded_bytes s fits word is enough = ap (low_bytes 8) is ∙ loaded_whole 8 s enough fits
+
+-- The elements of the slice after its first eight are bytes too.
+pub fits_after : (s : List ℕ) → ((i : ℕ) → get_or s i 0 < 256) → (i : ℕ) → get_or (drop 8 s) i 0 < 256
+fits_after s fits i = rw get_or-drop (fits (8 + i))
+
+-- The weighted sum of all leading digits is their value.
+pub loaded_sum : (s : List ℕ) → ((i : ℕ) → get_or s i 0 < 256) → (word len : ℕ) → word ≡ word_of (take 8 s) → len ≡ run_len decimal_table (low_bytes 8 word)
+    → low_value (low_bytes len word) ≡ value decimal_table (take len s)
+unfolding low_bytes word_of
+loaded_sum s fits word len is len_is =
+    let digits : len ≡ run_len decimal_table (take 8 s) = len_is ∙ loaded_run s fits word is in
+    let within : run_len decimal_table (take 8 s) ≡ min 8 (run_len decimal_table s) = prefix_len-take (is_digit decimal_table) 8 s in
+    ap (λ w. low_value (low_bytes len w)) is ∙ loaded_value len 8 s fits (omega arith) ∙ ap (value decimal_table) (take-take len 8 s (omega arith))
+
+-- The weighted sum of no bytes is 0.
+pub sum_of_none : (word len : ℕ) → len ≡ 0 → 0 ≡ low_value (low_bytes len word)
+unfolding low_bytes
+sum_of_none word len e = ap (λ l. low_value (low_bytes l word)) (sym e)
+
+-- The leading zeros of two words in a row are those of the first word. Those of the second word are
+-- added only if the first word consists of zeros.
+pub zeros_of_two : (first next : ℕ) → zeros decimal_table (low_bytes 8 first ++ low_bytes 8 next)
+    ≡ (if zeros decimal_table (low_bytes 8 first) == 8 then 8 + zeros decimal_table (low_bytes 8 next) else zeros decimal_table (low_bytes 8 first))
+unfolding low_bytes
+zeros_of_two first next = prefix_len-append (is_zero decimal_table) (digits_l 256 8 first) (digits_l 256 8 next)
+
+-- ---- Windows read by words
+
+-- A window that is full of digits reports its zeros.
+pub reported_full : (n c z : ℕ) → n ≡ c → (if n == c then z else 0) ≡ z
+reported_full n c z e = ap (λ t. cond t z 0) (eq-eqb n c e)
+
+-- Any other window reports no zeros.
+pub reported_none : (n c z : ℕ) → n ≢ c → (if n == c then z else 0) ≡ 0
+reported_none n c z ne = ap (λ t. cond t z 0) (ne_eqb n c ne)
+
+-- If three numbers are the length of the run of the first `c` bytes, the zeros that a window of
+-- these bytes reports, and the value of that run, then they make up this window.
+pub window_from : (c : ℕ) (s : List ℕ) (len leading number : ℕ)
+    → len ≡ run_len decimal_table (take c s)
+    → leading ≡ (if len == c then zeros decimal_table (take c s) else 0)
+    → number ≡ value decimal_table (take len s)
+    → ◌≡◌ {A = Window} (record { len = len; zeroes = leading; number = number }) (window_of decimal_table c s)
+window_from c s len leading number len_is leading_is number_is =
+    let within : run_len decimal_table (take c s) ≡ min c (run_len decimal_table s) = prefix_len-take (is_digit decimal_table) c s in
+    let same_leading : leading ≡ (if run_len decimal_table (take c s) == c then zeros decimal_table (take c s) else 0) =
+    leading_is ∙ ap (λ n. if n == c then zeros decimal_table (take c s) else 0) len_is in
+    let same_number : number ≡ value decimal_table (take (run_len decimal_table (take c s)) (take c s)) =
+    number_is ∙ ap (value decimal_table) (sym (take-take len c s (omega arith)) ∙ ap (λ n. take n (take c s)) len_is) in
+    λ i. record { len = len_is i; zeroes = same_leading i; number = same_number i }
+
+-- Let `w.len` be the number of digits at the start of a loaded word, and let `w.number` be the
+-- weighted sum of these digits. Let `w.zeroes` be the number of zeros at the start of the word if
+-- `w.len` is 8, and otherwise 0. Then `w` is the window of the first eight bytes of the slice.
+pub loaded_window : (s : List ℕ) → ((i : ℕ) → get_or s i 0 < 256) → (word : ℕ) (w : Window) → word ≡ word_of (take 8 s)
+    → w.len ≡ run_len decimal_table (low_bytes 8 word)
+    → w.zeroes ≡ (if w.len == 8 then zeros decimal_table (low_bytes 8 word) else 0)
+    → w.number ≡ low_value (low_bytes w.len word)
+    → w ≡ window_of decimal_table 8 s
+loaded_window s fits word w is len_is zeroes_are number_is =
+    window_from 8 s w.len w.zeroes w.number
+    (len_is ∙ loaded_run s fits word is)
+    (zeroes_are ∙ ap (λ z. if w.len == 8 then z else 0) (loaded_zeros s fits word is))
+    (number_is ∙ loaded_sum s fits word w.len is len_is)
+
+-- If a slice does not begin with eight digits, its first eight bytes determine the window of 16
+-- bytes.
+pub window_short : (s : List ℕ) (len number : ℕ) → len ≡ run_len decimal_table (take 8 s) → len ≢ 8
+    → number ≡ value decimal_table (take len s)
+    → ◌≡◌ {A = Window} (record { len = len; zeroes = 0; number = number }) (window_of decimal_table 16 s)
+window_short s len number len_is short number_is =
+    let few : run_len decimal_table (take 8 s) ≡ min 8 (run_len decimal_table s) = prefix_len-take (is_digit decimal_table) 8 s in
+    let more : run_len decimal_table (take 16 s) ≡ min 16 (run_len decimal_table s) = prefix_len-take (is_digit decimal_table) 16 s in
+    window_from 16 s len 0 number (omega arith) (sym (reported_none len 16 (zeros decimal_table (take 16 s)) (omega arith))) number_is
+
+-- For fewer than eight bytes, the window of 8 bytes is the same as that of 16.
+pub few_in_both : (s : List ℕ) → length s < 8 → window_of decimal_table 16 s ≡ window_of decimal_table 8 s
+few_in_both s few =
+    let within : run_len decimal_table s ≤ length s = prefix_len-le-length (is_digit decimal_table) s in
+    let sixteen : take 16 s ≡ s = take_all 16 s (omega arith) in
+    let eight : s ≡ take 8 s = sym (take_all 8 s (omega arith)) in
+    let none : (if run_len decimal_table s == 16 then zeros decimal_table s else 0) ≡ (if run_len decimal_table s == 8 then zeros decimal_table s else 0) =
+    reported_none (run_len decimal_table s) 16 (zeros decimal_table s) (omega arith) ∙ sym (reported_none (run_len decimal_table s) 8 (zeros decimal_table s) (omega arith)) in
+    ap (λ (r : List ℕ). let w : Window = record { len = run_len decimal_table r; zeroes = if run_len decimal_table r == 16 then zeros decimal_table r else 0; number = value decimal_table (run decimal_table r) } in w) sixteen
+    ∙ ap (λ (z : ℕ). let w : Window = record { len = run_len decimal_table s; zeroes = z; number = value decimal_table (run decimal_table s) } in w) none
+    ∙ ap (λ (r : List ℕ). let w : Window = record { len = run_len decimal_table r; zeroes = if run_len decimal_table r == 8 then zeros decimal_table r else 0; number = value decimal_table (run decimal_table r) } in w) eight
+
+-- If the first eight bytes of a slice are digits, it has at least eight bytes.
+pub enough_bytes : (s : List ℕ) → run_len decimal_table (take 8 s) ≡ 8 → 8 ≤ length s
+enough_bytes s full = omega (arith, prefix_len-le-length (is_digit decimal_table) (take 8 s), length-take 8 s)
+
+-- If a slice begins with eight digits, the window of 16 bytes follows from these eight digits and
+-- from the eight bytes after them. Its number is the value of the eight digits, multiplied by ten
+-- for each digit that follows them, plus the value of the digits that follow.
+pub window_joined : (s : List ℕ) (more leading first next : ℕ)
+    → run_len decimal_table (take 8 s) ≡ 8
+    → more ≡ run_len decimal_table (take 8 (drop 8 s))
+    → leading ≡ (if more == 8 then zeros decimal_table (take 8 s ++ take 8 (drop 8 s)) else 0)
+    → first ≡ value decimal_table (take 8 s)
+    → next ≡ value decimal_table (take more (drop 8 s))
+    → ◌≡◌ {A = Window} (record { len = 8 + more; zeroes = leading; number = first * 10 ^ more + next }) (window_of decimal_table 16 s)
+window_joined s more leading first next full more_is leading_is first_is next_is =
+    let few : run_len decimal_table (take 8 s) ≡ min 8 (run_len decimal_table s) = prefix_len-take (is_digit decimal_table) 8 s in
+    let following : run_len decimal_table (take 8 (drop 8 s)) ≡ min 8 (run_len decimal_table (drop 8 s)) = prefix_len-take (is_digit decimal_table) 8 (drop 8 s) in
+    let all : run_len decimal_table (take 16 s) ≡ min 16 (run_len decimal_table s) = prefix_len-take (is_digit decimal_table) 16 s in
+    let run_after_eight : run_len decimal_table s ≡ 8 + run_len decimal_table (drop 8 s) = prefix_len-drop (is_digit decimal_table) 8 s (omega arith) in
+    let within : run_len decimal_table s ≤ length s = prefix_len-le-length (is_digit decimal_table) s in
+    let sixteen : take 8 s ++ take 8 (drop 8 s) ≡ take 16 s = sym (take-add 8 8 s) in
+    let same_test : (more == 8) ≡ (8 + more == 16) = grind (arith, nat_tests) in
+    let same_leading : leading ≡ (if 8 + more == 16 then zeros decimal_table (take 16 s) else 0) =
+    leading_is ∙ ap₂ (λ t z. cond t z 0) same_test (ap (zeros decimal_table) sixteen) in
+    let same_number : first * 10 ^ more + next ≡ value decimal_table (take (8 + more) s) =
+    ap₂ (λ x y. x * 10 ^ more + y) first_is next_is ∙ sym (value-take-add decimal_table 8 more s (omega arith)) in
+    window_from 16 s (8 + more) leading (first * 10 ^ more + next) (omega arith) same_leading same_number
+
+-- ---- Short slices in the highest bytes of a word
+-- A slice of at most eight bytes is in the highest bytes of a word. The bytes below it are 0, or
+-- they are filled with zeros, which are the byte 48.
+
+-- If m bytes that are 0 are put before a slice, the word of the slice is shifted left by m bytes.
+pub word_shifted : (m : ℕ) (s : List ℕ) → word_of (replicate m 0 ++ s) ≡ word_of s * 2 ^ (m * 8)
+unfolding word_of
+word_shifted zero s = omega arith
+word_shifted (suc m) s =
+    let rest = word_shifted m s in
+    let up : 2 ^ (suc m * 8) ≡ 2 ^ (m * 8) * 256 = ap (λ e. 2 ^ e) (suc-mul m 8) ∙ pow-add 2 (m * 8) 8 in
+    omega (arith, ap (λ p. number_l 256 s * p) up)
+
+-- If a slice of at most eight bytes is in the highest bytes of a word, shifting that word right
+-- gives the word of the slice.
+pub shifted_back : (s : List ℕ) → length s ≤ 8 → word_of (replicate (8 - length s) 0 ++ s) / 2 ^ (64 - 8 * length s) ≡ word_of s
+shifted_back s few =
+    let places : 64 - 8 * length s ≡ (8 - length s) * 8 = omega arith in
+    let up = 2 ^ ((8 - length s) * 8) in
+    ap₂ (λ x e. x / 2 ^ e) (word_shifted (8 - length s) s) places
+    ∙ ap (λ x. x / up) (omega arith)
+    ∙ div-mul-add (word_of s) up 0 (pow_pos ((8 - length s) * 8))
+
+-- If the lowest m bytes of a word are 0, adding the word of m zeros fills these bytes with zeros.
+pub word_filled : (m : ℕ) (s : List ℕ) → word_of (replicate m 0 ++ s) + word_of (replicate m 48) ≡ word_of (replicate m 48 ++ s)
+unfolding word_of
+word_filled zero s = omega arith
+word_filled (suc m) s = omega (arith, word_filled m s)
+
+-- The word of n bytes is below 256^n.
+word_most : (s : List ℕ) → ((i : ℕ) → get_or s i 0 < 256) → word_of s < 256 ^ length s
+unfolding word_of
+word_most [] fits = omega arith
+word_most (b ∷ bs) fits =
+    let up : 256 ^ suc (length bs) ≡ 256 ^ length bs * 256 = pow-suc 256 (length bs) in
+    omega (arith, fits 0, word_most bs (λ i. fits (suc i)))
+
+-- The elements are still bytes after zeros are put before them.
+filled_fit : (m : ℕ) (s : List ℕ) → ((i : ℕ) → get_or s i 0 < 256) → (i : ℕ) → get_or (replicate m 48 ++ s) i 0 < 256
+filled_fit zero s fits i = fits i
+filled_fit (suc m) s fits zero = omega arith
+filled_fit (suc m) s fits (suc i) = filled_fit m s fits i
+
+filled_length : (m : ℕ) (s : List ℕ) → length (replicate m 48 ++ s) ≡ m + length s
+filled_length zero s = omega arith
+filled_length (suc m) s = omega (arith, filled_length m s)
+
+-- If m zeros are put before a slice, its run becomes longer by m.
+filled_run : (m : ℕ) (s : List ℕ) → run_len decimal_table (replicate m 48 ++ s) ≡ m + run_len decimal_table s
+filled_run zero s = omega arith
+filled_run (suc m) s = omega (arith, filled_run m s)
+
+-- The filled word of at most eight bytes fits in 64 bits.
+pub filled_fits : (s : List ℕ) → length s ≤ 8 → ((i : ℕ) → get_or s i 0 < 256)
+    → word_of (replicate (8 - length s) 0 ++ s) + word_of (replicate (8 - length s) 48) < 2 ^ 64
+filled_fits s few fits =
+    let m = 8 - length s in
+    let most = word_most (replicate m 48 ++ s) (filled_fit m s fits) in
+    let eight : length (replicate m 48 ++ s) ≡ 8 = filled_length m s ∙ omega arith in
+    let power : 256 ^ length (replicate m 48 ++ s) ≡ 256 ^ 8 = ap (λ n. 256 ^ n) eight in
+    omega (arith, word_filled m s)
+
+-- The number of digits at the start of the filled word is the number of the zeros that fill it plus
+-- the length of the run of the slice.
+pub filled_digits : (s : List ℕ) → length s ≤ 8 → ((i : ℕ) → get_or s i 0 < 256) → (word filling digits : ℕ)
+    → word ≡ word_of (replicate (8 - length s) 0 ++ s) → filling ≡ word_of (replicate (8 - length s) 48)
+    → digits ≡ run_len decimal_table (low_bytes 8 (word + filling))
+    → digits ≡ 8 - length s + run_len decimal_table s
+filled_digits s few fits word filling digits word_is filling_is digits_is =
+    let m = 8 - length s in
+    let filled = replicate m 48 ++ s in
+    let all : take 8 filled ≡ filled = take_all 8 filled (omega (arith, filled_length m s)) in
+    digits_is
+    ∙ loaded_run filled (filled_fit m s fits) (word + filling)
+    (ap₂ (λ x y. x + y) word_is filling_is ∙ word_filled m s ∙ ap word_of (sym all))
+    ∙ ap (run_len decimal_table) all
+    ∙ filled_run m s
+
+-- Zeros before the other bytes add nothing to the weighted sum.
+low_value_filled : (z k : ℕ) (s : List ℕ) → low_value (digits_l 256 (z + k) (word_of (replicate z 48 ++ s))) ≡ low_value (digits_l 256 k (word_of s))
+unfolding word_of
+low_value_filled zero k s = ap (λ n. low_value (digits_l 256 n (number_l 256 s))) (zero-add k)
+low_value_filled (suc z) k s =
+    let rest = number_l 256 (replicate z 48 ++ s) in
+    let low : (48 + 256 * rest) % 256 ≡ 48 = omega arith in
+    let high : (48 + 256 * rest) / 256 ≡ rest = omega arith in
+    ap (λ n. low_value (digits_l 256 n (48 + 256 * rest))) (suc-add z k)
+    ∙ ap₂ (λ x y. low_value (x ∷ digits_l 256 (z + k) y)) low high
+    ∙ omega arith
+    ∙ low_value_filled z k s
+
+-- The window of a slice of at most eight bytes follows from the filled word. The `len` of the
+-- window is the number of leading digits of the word, without the zeros that fill it. The `number`
+-- of the window is the weighted sum of the leading digits of the word.
+pub filled_window : (s : List ℕ) → length s ≤ 8 → ((i : ℕ) → get_or s i 0 < 256) → (filled digits found number : ℕ)
+    → filled ≡ word_of (replicate (8 - length s) 48 ++ s)
+    → digits ≡ 8 - length s + run_len decimal_table s
+    → found ≡ digits - (8 - length s)
+    → number ≡ low_value (low_bytes digits filled)
+    → ◌≡◌ {A = Window} (record { len = found; zeroes = 0; number = number }) (window_of decimal_table 16 s)
+unfolding low_bytes
+filled_window s few fits filled digits found number filled_is digits_is found_is number_is =
+    let m = 8 - length s in
+    let len = run_len decimal_table s in
+    let eight : take 8 s ≡ s = take_all 8 s few in
+    let all : take 16 s ≡ s = take_all 16 s (omega arith) in
+    let within : len ≤ length s = prefix_len-le-length (is_digit decimal_table) s in
+    let run : len ≡ run_len decimal_table (low_bytes 8 (word_of (take 8 s))) =
+    ap (run_len decimal_table) (sym eight) ∙ sym (loaded_run s fits (word_of (take 8 s)) refl) in
+    let word_is : filled ≡ word_of (replicate m 48 ++ take 8 s) = filled_is ∙ ap (λ x. word_of (replicate m 48 ++ x)) (sym eight) in
+    let sum : number ≡ value decimal_table (take len s) =
+    number_is ∙ ap₂ (λ n w. low_value (digits_l 256 n w)) digits_is word_is ∙ low_value_filled m len (take 8 s)
+    ∙ loaded_sum s fits (word_of (take 8 s)) len refl run in
+    let left : found ≡ len = omega arith in
+    ap (λ n. let w : Window = record { len = n; zeroes = 0; number = number } in w) left
+    ∙ window_from 16 s len 0 number (ap (run_len decimal_table) (sym all)) (sym (reported_none len 16 (zeros decimal_table (take 16 s)) (omega arith))) sum

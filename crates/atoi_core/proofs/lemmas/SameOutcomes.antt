@@ -1,0 +1,220 @@
+-- Two answers have the same outcome if both are `Ok` with the same value, or both are errors of the
+-- same variant. The lemmas prove two laws. Bytes after the run (the digits that a body begins with)
+-- do not change the outcome of a prefix parse (`RestChangesNothing`). If zeros are skipped and the
+-- body begins with a digit, added leading zeros do not change the outcome, except that the count of
+-- a prefix parse grows by their number (`ZerosChangeNothing`).
+use Rattle.std.proofs.Common.{◌≡◌, ℕ, ◌+◌, ◌-◌, ◌<◌, Bool, true, not, if◌then◌else◌, eqb, ltb, List, [], ◌++◌, length, take, replicate, Option, Some, None, Result, ℤ, option_map, refl, sym, ap, ◌∙◌, subst₂, arith, take_at, drop_at, length-append, ne_eqb}
+use Rattle.std.proofs.lemmas.List.{length-replicate}
+use Rattle.std.proofs.lemmas.Bool.Decides.{nat_tests}
+use Rattle.std.proofs.Math.Seq.{take-add}
+use Rattle.atoi_core.specs.Digit.{decimal_table, is_digit, is_zero}
+use Rattle.atoi_core.specs.Run.{run_len, run, zeros, value}
+use Rattle.atoi_core.specs.Refusal.{Refusal, rank}
+use Rattle.atoi_core.specs.Magnitude.{Extent, whole, prefix, is_above, leaves_rest, invalid, refusal, unless_refused}
+use Rattle.atoi_core.specs.IntType.{IntType, class_of, bound_of, limit_of}
+use Rattle.atoi_core.specs.Sign.{Sign, with_sign}
+use Rattle.atoi_core.specs.Answer.{map_answer, whole_answer, prefix_answer, with_more}
+use Rattle.atoi_core.specs.Laws.{SignForm, sign_in, with_zeros, zero_byte, HaveSameOutcome, RestChangesNothing, ZerosChangeNothing}
+use Rattle.atoi_core.proofs.lemmas.Runs.{length-run, zeros-run, value-replicate, prefix_len-replicate_append}
+use Rattle.atoi_core.proofs.lemmas.Calls.{refusal-rank, first_of, limit_at, significant_digits, sign_again, whole_call-is, prefix_call-is, counted_number, with_more-zero}
+
+-- Two whole answers have the same outcome if their values are equal, and if both are refused for
+-- reasons of the same rank or neither is refused. The rank is the position of a reason among the
+-- five.
+same_outcome : (minus other_minus : Bool) (r q : Option Refusal) (x y : ℕ) → option_map rank r ≡ option_map rank q
+    → with_sign minus x ≡ with_sign other_minus y
+    → HaveSameOutcome (map_answer (with_sign minus) (unless_refused r x)) (map_answer (with_sign other_minus) (unless_refused q y))
+same_outcome minus other_minus None None x y h e = e
+same_outcome minus other_minus (Some reason) (Some other) x y h e = cc h
+same_outcome minus other_minus None (Some other) x y h e = absurd (cc h)
+same_outcome minus other_minus (Some reason) None x y h e = absurd (cc h)
+
+-- The same holds of two prefix answers after `more` is added to the count of the first, if the two
+-- counts are then equal too.
+same_prefix_outcome : (more taken other_taken : ℕ) (minus other_minus : Bool) (r q : Option Refusal) (x y : ℕ × ℕ) → option_map rank r ≡ option_map rank q
+    → with_sign minus x.0 ≡ with_sign other_minus y.0 → x.1 + taken + more ≡ y.1 + other_taken
+    → HaveSameOutcome (with_more more (with_more taken (map_answer (counted_number minus) (unless_refused r x))))
+    (with_more other_taken (map_answer (counted_number other_minus) (unless_refused q y)))
+same_prefix_outcome more taken other_taken minus other_minus None None x y h e c = λ i. (e i, c i)
+same_prefix_outcome more taken other_taken minus other_minus (Some reason) (Some other) x y h e c = cc h
+same_prefix_outcome more taken other_taken minus other_minus None (Some other) x y h e c = absurd (cc h)
+same_prefix_outcome more taken other_taken minus other_minus (Some reason) None x y h e c = absurd (cc h)
+
+-- The reason to refuse the body after the sign `g`, or `None` if there is no reason.
+abbrev reason_at : IntType → Bool → Extent → Sign → Option Refusal
+reason_at k skip extent g = refusal decimal_table (class_of k) (bound_of k g.minus) (limit_of k) extent skip g.body
+
+-- The length of the body's run.
+abbrev len_at : Sign → ℕ
+len_at g = run_len decimal_table g.body
+
+-- The value of the body's run.
+abbrev number_at : Sign → ℕ
+number_at g = value decimal_table (run decimal_table g.body)
+
+-- For two bodies with their signs, the first and the last of the four tests of `refusal` give the
+-- same results, and the other two tests compare the same numbers. So all four tests give the same
+-- results.
+record IsAlike (k : IntType) (skip : Bool) (extent : Extent) (g h : Sign) : Type 0 where
+  bound : bound_of k g.minus ≡ bound_of k h.minus
+  is_empty : eqb (run_len decimal_table g.body) 0 ≡ eqb (run_len decimal_table h.body) 0
+  counts : significant_digits decimal_table skip g.body ≡ significant_digits decimal_table skip h.body
+  number : number_at g ≡ number_at h
+  followed : leaves_rest extent (run_len decimal_table g.body) (length g.body) ≡ leaves_rest extent (run_len decimal_table h.body) (length h.body)
+
+-- If the four tests give the same results for two bodies, their refusals have the same rank, or
+-- neither is refused.
+same_reason : (k : IntType) (skip : Bool) (extent : Extent) (g h : Sign) → IsAlike k skip extent g h
+    → option_map rank (reason_at k skip extent g) ≡ option_map rank (reason_at k skip extent h)
+same_reason k skip extent g h alike =
+    refusal-rank decimal_table (class_of k) (bound_of k g.minus) (limit_of k) extent skip g.body
+    ∙ (λ i. first_of (alike.is_empty i) (is_above (limit_at (class_of k) extent skip (limit_of k)) (alike.counts i)) (ltb (alike.bound i) (alike.number i)) (alike.followed i) 0 1 2 (rank (invalid (class_of k) 0 0 [])))
+    ∙ sym (refusal-rank decimal_table (class_of k) (bound_of k h.minus) (limit_of k) extent skip h.body)
+
+-- What a prefix call returns when it uses the sign `g` and the body after that sign.
+abbrev prefix_at : IntType → Bool → Sign → Result (ℤ × ℕ) Refusal
+prefix_at k skip g = with_more g.taken (prefix_answer decimal_table k g.minus skip g.body)
+
+-- What a whole call returns when it uses the sign `g` and the body after that sign.
+abbrev whole_at : IntType → Bool → Sign → Result ℤ Refusal
+whole_at k skip g = whole_answer decimal_table k g.minus skip g.body
+
+-- Equal runs have equal lengths.
+same_len : (s t : List ℕ) → run decimal_table s ≡ run decimal_table t → run_len decimal_table s ≡ run_len decimal_table t
+same_len s t e = sym (length-run decimal_table s) ∙ ap length e ∙ length-run decimal_table t
+
+-- Slices with equal runs have equally many leading zeros.
+same_zeros : (s t : List ℕ) → run decimal_table s ≡ run decimal_table t → zeros decimal_table s ≡ zeros decimal_table t
+same_zeros s t e = sym (zeros-run decimal_table s) ∙ ap (zeros decimal_table) e ∙ zeros-run decimal_table t
+
+-- Two bodies with equal runs and the same sign give prefix answers of the same outcome.
+same_run : (k : IntType) (skip : Bool) (g h : Sign) → g.minus ≡ h.minus → g.taken ≡ h.taken → run decimal_table g.body ≡ run decimal_table h.body
+    → HaveSameOutcome (with_more 0 (prefix_at k skip g)) (prefix_at k skip h)
+same_run k skip g h minus taken runs =
+    let len = same_len g.body h.body runs in
+    let leading = same_zeros g.body h.body runs in
+    let number : number_at g ≡ number_at h = ap (value decimal_table) runs in
+    same_prefix_outcome 0 g.taken h.taken g.minus h.minus (reason_at k skip prefix g) (reason_at k skip prefix h)
+    (number_at g, len_at g) (number_at h, len_at h)
+    (same_reason k skip prefix g h (record {
+      bound = ap (bound_of k) minus;
+      is_empty = ap (λ (n : ℕ). eqb n 0) len;
+      counts = λ i. len i - (if skip then leading i else 0);
+      number = number;
+      followed = refl;
+    }))
+    (λ i. with_sign (minus i) (number i)) (omega arith)
+
+-- The law `RestChangesNothing`: bytes after the run do not change the outcome of a prefix parse.
+pub rest_changes_nothing : (k : IntType) → RestChangesNothing k
+rest_changes_nothing k form skip s t same =
+    subst₂ (λ x y. HaveSameOutcome x y) (with_more-zero (prefix_at k skip (sign_in k form s)) ∙ sym (prefix_call-is k form skip s)) (sym (prefix_call-is k form skip t))
+    (same_run k skip (sign_in k form s) (sign_in k form t) same.minus same.taken same.run)
+
+-- ---- Added leading zeros
+
+-- A body with `count` zeros put before it.
+abbrev padded : ℕ → List ℕ → List ℕ
+padded count body = replicate count zero_byte ++ body
+
+-- The run of the padded body is longer by `count`.
+run_len-padded : (count : ℕ) (body : List ℕ) → run_len decimal_table (padded count body) ≡ count + run_len decimal_table body
+run_len-padded count body = prefix_len-replicate_append (is_digit decimal_table) zero_byte refl count body
+
+-- The padded body has `count` more leading zeros.
+zeros-padded : (count : ℕ) (body : List ℕ) → zeros decimal_table (padded count body) ≡ count + zeros decimal_table body
+zeros-padded count body = prefix_len-replicate_append (is_zero decimal_table) zero_byte refl count body
+
+-- The padded body is longer by `count`.
+length-padded : (count : ℕ) (body : List ℕ) → length (padded count body) ≡ count + length body
+length-padded count body = simp (length-append, length-replicate)
+
+-- A prefix of the padded body that includes all added zeros consists of these zeros and a prefix of
+-- the body.
+take-padded : (count n : ℕ) (body : List ℕ) → take (count + n) (padded count body) ≡ padded count (take n body)
+take-padded count n body =
+    let len = length-replicate count zero_byte in
+    take-add count n (padded count body)
+    ∙ (λ i. take_at (replicate count zero_byte) body count len i ++ take n (drop_at (replicate count zero_byte) body count len i))
+
+-- The run of the body and that of the padded body have the same value.
+value-padded : (count : ℕ) (body : List ℕ) → value decimal_table (run decimal_table body) ≡ value decimal_table (run decimal_table (padded count body))
+value-padded count body =
+    let n = run_len decimal_table body in
+    sym (value-replicate decimal_table zero_byte refl count (take n body))
+    ∙ ap (value decimal_table) (sym (take-padded count n body))
+    ∙ ap (λ (m : ℕ). value decimal_table (take m (padded count body))) (sym (run_len-padded count body))
+
+-- Adding the same number to both sides does not change a comparison for equality.
+eqb-add : (more m n : ℕ) → eqb m n ≡ eqb (more + m) (more + n)
+eqb-add more m n = grind (arith, nat_tests)
+
+-- The test whether another byte follows the digits gives the same result for the body and for the
+-- padded body.
+followed-padded : (extent : Extent) (count : ℕ) (body : List ℕ)
+    → leaves_rest extent (run_len decimal_table body) (length body) ≡ leaves_rest extent (run_len decimal_table (padded count body)) (length (padded count body))
+followed-padded prefix count body = refl
+followed-padded whole count body =
+    ap not (eqb-add count (run_len decimal_table body) (length body))
+    ∙ rw (run_len-padded count body, length-padded count body) refl
+
+-- If zeros are skipped and the body begins with a digit, the four tests give the same results after
+-- zeros are added.
+padded_alike : (k : IntType) (extent : Extent) (count : ℕ) (g : Sign) → 0 < run_len decimal_table g.body
+    → IsAlike k true extent g (record g { body = padded count g.body })
+padded_alike k extent count g some =
+    let longer = run_len-padded count g.body in
+    let leading = zeros-padded count g.body in
+    record {
+      bound = refl;
+      is_empty = ne_eqb (run_len decimal_table g.body) 0 (omega arith) ∙ sym (ne_eqb (run_len decimal_table (padded count g.body)) 0 (omega arith));
+      counts = omega arith;
+      number = value-padded count g.body;
+      followed = followed-padded extent count g.body;
+    }
+
+-- If the body begins with a digit, adding zeros after the sign does not change the sign that a call
+-- uses. The body after that sign is then the padded body.
+sign_of_padded : (k : IntType) (form : SignForm) (s : List ℕ) (count : ℕ) → 0 < run_len decimal_table (sign_in k form s).body
+    → sign_in k form (with_zeros k form count s)
+    ≡ record { minus = (sign_in k form s).minus; taken = (sign_in k form s).taken; body = padded count (sign_in k form s).body }
+sign_of_padded k form s count some =
+    let longer = run_len-padded count (sign_in k form s).body in
+    sign_again k form s (padded count (sign_in k form s).body) (omega arith)
+
+-- If zeros are skipped and the body begins with a digit, adding zeros after the sign does not
+-- change the outcome of a whole parse.
+whole_padded : (k : IntType) (g : Sign) (count : ℕ) → 0 < run_len decimal_table g.body
+    → HaveSameOutcome (whole_at k true g) (whole_at k true (record g { body = padded count g.body }))
+whole_padded k g count some =
+    let h = record g { body = padded count g.body } in
+    same_outcome g.minus g.minus (reason_at k true whole g) (reason_at k true whole h) (number_at g) (number_at h)
+    (same_reason k true whole g h (padded_alike k whole count g some))
+    (ap (with_sign g.minus) (value-padded count g.body))
+
+-- If zeros are skipped and the body begins with a digit, adding zeros after the sign does not
+-- change the outcome of a prefix parse, except that its count grows by their number.
+prefix_padded : (k : IntType) (g : Sign) (count : ℕ) → 0 < run_len decimal_table g.body
+    → HaveSameOutcome (with_more count (prefix_at k true g)) (prefix_at k true (record g { body = padded count g.body }))
+prefix_padded k g count some =
+    let h = record g { body = padded count g.body } in
+    let more = run_len-padded count g.body in
+    same_prefix_outcome count g.taken g.taken g.minus g.minus (reason_at k true prefix g) (reason_at k true prefix h)
+    (number_at g, len_at g) (number_at h, len_at h)
+    (same_reason k true prefix g h (padded_alike k prefix count g some))
+    (ap (with_sign g.minus) (value-padded count g.body)) (omega arith)
+
+-- The law `ZerosChangeNothing`: if zeros are skipped and the body begins with a digit, added
+-- leading zeros do not change the outcome, except that the count of a prefix parse grows by their
+-- number.
+pub zeros_change_nothing : (k : IntType) → ZerosChangeNothing k
+zeros_change_nothing k = record {
+  whole = λ form s count some.
+      subst₂ (λ x y. HaveSameOutcome x y) (sym (whole_call-is k form true s))
+      (ap (whole_at k true) (sym (sign_of_padded k form s count some)) ∙ sym (whole_call-is k form true (with_zeros k form count s)))
+      (whole_padded k (sign_in k form s) count some);
+  prefix = λ form s count some.
+      subst₂ (λ x y. HaveSameOutcome x y) (ap (with_more count) (sym (prefix_call-is k form true s)))
+      (ap (prefix_at k true) (sym (sign_of_padded k form s count some)) ∙ sym (prefix_call-is k form true (with_zeros k form count s)))
+      (prefix_padded k (sign_in k form s) count some);
+}

@@ -1,0 +1,371 @@
+-- Texts of numbers: decimal digits as std defines them, the texts that a whole parse accepts, and
+-- the text that `decimal` writes. The lemmas about `decimal` require numbers below 10^64. All
+-- magnitudes in the range of a type are smaller.
+use Rattle.std.proofs.Common.{◌≡◌, ℕ, suc, ◌+◌, ◌-◌, ◌^◌, ◌<◌, ◌≤◌, Bool, true, false, cond, eqb, List, [], ◌∷◌, length, decimal, Ok, ℤ, pos, negsuc, neg_ℤ, ◌≤ℤ◌, refl, sym, ap, ◌∙◌, arith, inl, inr, add-one, leb→le, le-leb, lt_of_le_of_lt, Some, All, IsTrue, ◌++◌, eqb-true, ◌≢◌, zero, ◌*◌, ◌/◌, ◌%◌, get_or, append_assoc, append-nil, length-append}
+use Rattle.std.specs.Fmt.{signed_decimal}
+use Rattle.std.specs.Str.Parse.{AllDigits, IsNumeral, digits_value, digits_value_after}
+use Rattle.std.proofs.lemmas.Str.Parse.{IsNumeralModel, numerals_by_weight, tells_digits, digit_from_value}
+use Rattle.std.proofs.lemmas.Fmt.{decimal_is_IsNumeral_wide, length-decimal-le_wide, decimal_digit, decimal_step_wide, decimal_by_steps_wide}
+use Rattle.atoi_core.specs.Digit.{decimal_table, digit_value, is_digit}
+use Rattle.atoi_core.specs.Run.{run_len, run, value}
+use Rattle.atoi_core.specs.Magnitude.{whole, is_above}
+use Rattle.atoi_core.specs.IntType.{IntType, IsSized, class_of, bound_of, limit_of}
+use Rattle.atoi_core.specs.Sign.{Sign, sign_of, with_sign, plus_sign, minus_sign}
+use Rattle.atoi_core.specs.Answer.{whole_answer, parse_answer}
+use Rattle.atoi_core.specs.Laws.{sign_in, least_of, TextOfValue, SkippingAgrees, DecimalDigits, SignForm, looked_for, given, whole_call, Writes, DecimalTexts}
+use Rattle.atoi_core.proofs.lemmas.Runs.{run_all, digits_all, decimal_below_ten, value-below}
+use Rattle.atoi_core.proofs.lemmas.Calls.{sign_of_digits, digit_in_range, sign_cases, whole_call-is, from_whole, to_whole, is_whole, whole_is_run, limit_at, significant_digits}
+use Rattle.atoi_core.proofs.lemmas.Bounds.{shorter, short_enough, limit_of_whole, bound-limit, bound_below-64}
+use Rattle.std.proofs.lemmas.Bool.{and_parts, ne_eqb, eqb-false}
+use Rattle.atoi_core.specs.Text.{SignMark, no_sign, plus, minus, sign_bytes, is_minus, is_plus, DigitsWrite, TextWrites, BeginsWithDigit, has_needless_zero}
+use Rattle.std.specs.Prelude.{IsFalse}
+use Rattle.std.proofs.Math.ListN.{get_or-append}
+use Rattle.std.specs.Char.{digit_value as std_digit_value}
+use Rattle.std.proofs.lemmas.Str.{digit_value_digit}
+
+-- ---- The decimal text of a number is parsed to that number
+
+-- If a whole parse accepts a body without skipping zeros, it also accepts that body when it skips
+-- zeros, and returns the same value.
+whole_skipping : (k : IntType) (is_negative : Bool) (body : List ℕ) (v : ℤ)
+    → whole_answer decimal_table k is_negative false body ≡ Ok v → whole_answer decimal_table k is_negative true body ≡ Ok v
+whole_skipping k is_negative body v h =
+    let found = from_whole k is_negative false body v h in
+    let old = found.0 in
+    let n = run_len decimal_table body in
+    let limit = limit_of_whole (class_of k) true (limit_of k) in
+    let fewer : significant_digits decimal_table true body ≤ significant_digits decimal_table false body = omega arith in
+    let short = shorter (limit_at (class_of k) whole true (limit_of k)) _ _ fewer (rw limit old.short) in
+    to_whole k is_negative true body
+    (is_whole k is_negative true body old.some short old.in_range (whole_is_run n (length body) old.ends))
+    ∙ ap Ok (sym found.1)
+
+-- The law `SkippingAgrees`: if a whole parse succeeds without skipping zeros, it returns the same
+-- value when it skips zeros.
+pub skipping_agrees : (k : IntType) → SkippingAgrees k
+skipping_agrees k form s v h =
+    whole_call-is k form true s ∙ whole_skipping k (sign_in k form s).minus (sign_in k form s).body v (sym (whole_call-is k form false s) ∙ h)
+
+-- A byte from 48 to 57 is a decimal digit, and the table gives `byte - 48` for it.
+pub digit_is : (byte : ℕ) → 48 ≤ byte → byte ≤ 57 → decimal_table byte ≡ Some (byte - 48)
+digit_is byte lo hi = rw (le-leb 48 byte lo, le-leb byte 57 hi) refl
+
+-- So the digit value of such a byte is `byte - 48`.
+digit_value_is : (byte : ℕ) → 48 ≤ byte → byte ≤ 57 → digit_value decimal_table byte ≡ byte - 48
+digit_value_is byte lo hi = rw (digit_is byte lo hi) refl
+
+-- The value of decimal digits is the one that std defines.
+pub own : IsNumeralModel (AllDigits 10) (value decimal_table)
+own = numerals_by_weight (AllDigits 10) tells_digits (value decimal_table) (record { empty = refl; more = λ c cs h. rw (digit_value_is c h.0 h.1) refl })
+
+-- If std counts all bytes as digits, the run is the whole slice.
+pub run_of_digits : (ds : List ℕ) → AllDigits 10 ds → run_len decimal_table ds ≡ length ds
+run_of_digits [] h = refl
+run_of_digits (d ∷ ds) h =
+    let r = digit_from_value d h.0 in
+    rw (digit_is d r.0 r.1) (omega (arith, run_of_digits ds h.1))
+
+-- The bytes are a decimal text of n: there is at least one, all of them are digits, and their value
+-- is n.
+record IsTextOf (n : ℕ) (ds : List ℕ) : Type 0 where
+  all : run_len decimal_table ds ≡ length ds
+  some : 0 < length ds
+  is : value decimal_table ds ≡ n
+
+-- The text that std writes for a number is such a text.
+decimal_text : (n : ℕ) → n < 10 ^ 64 → IsTextOf n (decimal n)
+decimal_text n h =
+    let numeral = decimal_is_IsNumeral_wide n h in
+    record {
+      all = run_of_digits (decimal n) numeral.0.1;
+      some = numeral.0.0;
+      is = own.same (decimal n) numeral.0.1 ∙ numeral.1;
+    }
+
+-- The decimal text of a number in range does not have too many digits, even if zeros are not
+-- skipped.
+decimal_short : (k : IntType) → IsSized k → (is_negative : Bool) (n : ℕ) → n ≤ bound_of k is_negative
+    → is_above (limit_at (class_of k) whole false (limit_of k)) (length (decimal n)) ≡ false
+decimal_short k sized is_negative n le =
+    elim (bound-limit k sized is_negative) [
+      | inl e ↦ rw e refl
+      | inr lt ↦
+          short_enough (class_of k) false (limit_of k) (length (decimal n))
+          (length-decimal-le_wide (limit_of k) n (limit_pos k) (lt_of_le_of_lt le lt) (lt_of_le_of_lt le (bound_below-64 k sized is_negative)))
+    ]
+  where
+    limit_pos : (k : IntType) → 0 < limit_of k
+    limit_pos k = cases (eqb k.bits 64) k.signed
+      where
+        cases : (a b : Bool) → 0 < cond a (cond b 19 20) 39
+        cases true true = omega arith
+        cases true false = omega arith
+        cases false b = omega arith
+
+-- If zeros are not skipped, the decimal text of a magnitude in range is parsed to that magnitude
+-- with the given sign.
+counting_text : (k : IntType) → IsSized k → (is_negative : Bool) (n : ℕ) → n ≤ bound_of k is_negative
+    → whole_answer decimal_table k is_negative false (decimal n) ≡ Ok (with_sign is_negative n)
+counting_text k sized is_negative n le =
+    let text = decimal_text n (lt_of_le_of_lt le (bound_below-64 k sized is_negative)) in
+    let is_run = run_all decimal_table (decimal n) text.all in
+    let some : 0 < run_len decimal_table (decimal n) = omega (arith, text.all, text.some) in
+    let count : significant_digits decimal_table false (decimal n) ≡ length (decimal n) = omega (arith, text.all) in
+    let short : is_above (limit_at (class_of k) whole false (limit_of k)) (significant_digits decimal_table false (decimal n)) ≡ false =
+    rw count (decimal_short k sized is_negative n le)
+    in
+    let in_range : value decimal_table (run decimal_table (decimal n)) ≤ bound_of k is_negative = rw (is_run, text.is) le in
+    to_whole k is_negative false (decimal n) (is_whole k is_negative false (decimal n) some short in_range text.all)
+    ∙ ap (λ digits. Ok (with_sign is_negative (value decimal_table digits))) is_run
+    ∙ ap (λ m. Ok (with_sign is_negative m)) text.is
+
+-- The decimal text of a magnitude in range is parsed to that magnitude with the given sign, whether
+-- zeros are skipped or not.
+magnitude_text : (k : IntType) → IsSized k → (is_negative skip : Bool) (n : ℕ) → n ≤ bound_of k is_negative
+    → whole_answer decimal_table k is_negative skip (decimal n) ≡ Ok (with_sign is_negative n)
+magnitude_text k sized is_negative true n le = whole_skipping k is_negative (decimal n) (with_sign is_negative n) (counting_text k sized is_negative n le)
+magnitude_text k sized is_negative false n le = counting_text k sized is_negative n le
+
+-- A minus before the digits is consumed if the type is signed.
+sign_of_minus : (signed takes_plus : Bool) (digits : List ℕ) → signed ≡ true
+    → sign_of signed takes_plus (45 ∷ digits) ≡ record { minus = true; taken = 1; body = digits }
+sign_of_minus signed true digits h = rw h refl
+sign_of_minus signed false digits h = rw h refl
+
+-- If a negative number is not below the smallest value of the type, then the type is signed, and
+-- the magnitude of the number is in range.
+pub negative_in_range : (signed : Bool) (greatest n : ℕ) → cond signed (neg_ℤ (pos (greatest + 1))) (pos 0) ≤ℤ negsuc n
+    → (signed ≡ true) × (n ≤ greatest)
+negative_in_range false greatest n h = absurd h.le
+negative_in_range true greatest n h = let within = rw add-one at h in (refl, leb→le n greatest within.le)
+
+-- The law `TextOfValue`: the decimal text of each number of the type is parsed to that number.
+pub text_of_value : (k : IntType) → IsSized k → TextOfValue k
+text_of_value k sized = record { parsed = parsed }
+  where
+    parsed : (skip takes_plus : Bool) (x : ℤ) → least_of k ≤ℤ x → x ≤ℤ pos k.greatest → parse_answer k skip takes_plus (signed_decimal x) ≡ Ok x
+    parsed skip takes_plus (pos n) low high =
+        let text = decimal_text n (lt_of_le_of_lt (leb→le n k.greatest high.le) (bound_below-64 k sized false)) in
+        ap (λ (g : Sign). whole_answer decimal_table k g.minus skip g.body) (sign_of_digits k.signed takes_plus (decimal n) (omega (arith, text.all, text.some)))
+        ∙ magnitude_text k sized false skip n (leb→le n k.greatest high.le)
+    parsed skip takes_plus (negsuc n) low high =
+        let within = negative_in_range k.signed k.greatest n low in
+        ap (λ (g : Sign). whole_answer decimal_table k g.minus skip g.body) (sign_of_minus k.signed takes_plus (decimal (suc n)) within.0)
+        ∙ magnitude_text k sized true skip (suc n) (omega (arith, within.1))
+
+-- ---- Decimal digits and their values are those of std
+
+-- If all bytes are decimal digits for this crate, they are decimal digits for std too.
+pub to_std : (s : List ℕ) → All (λ byte. IsTrue (is_digit decimal_table byte)) s → AllDigits 10 s
+to_std [] h = tt
+to_std (byte ∷ bytes) h =
+    tells_digits.more byte bytes (digit_in_range byte (h 0 0 (omega arith))) (to_std bytes (λ i d lt. h (suc i) d (omega arith)))
+
+-- The law `DecimalDigits`: digits and their values are those of std, and the value of n bytes is
+-- below 10^n.
+pub decimal_digits : DecimalDigits
+decimal_digits = record {
+  byte = λ byte. (digit_in_range byte, λ r. rw (digit_is byte r.0 r.1) refl);
+  to_std = to_std;
+  from_std = λ s h. digits_all decimal_table s (run_of_digits s h);
+  value_is = own.same;
+  below = value-below decimal_table decimal_below_ten;
+}
+
+-- ---- What a whole parse accepts
+
+-- The slice `s` consists of a sign, or none, and of the body of `g`. The sign is a minus exactly if
+-- `g.minus` is true. It is a minus only if the type is signed, and a plus only if `takes_plus` is
+-- true.
+record IsSplit (signed takes_plus : Bool) (s : List ℕ) (g : Sign) : Type 0 where
+  mark : SignMark
+  parts : s ≡ sign_bytes mark ++ g.body
+  same : is_minus mark ≡ g.minus
+  allowed : is_minus mark ≡ true → signed ≡ true
+  plus_taken : is_plus mark ≡ true → takes_plus ≡ true
+
+-- Each slice consists of these two parts, if `g` is what `sign_of` gives for it.
+split : (signed takes_plus : Bool) (s : List ℕ) → IsSplit signed takes_plus s (sign_of signed takes_plus s)
+split signed takes_plus [] = record { mark = no_sign; parts = refl; same = refl; allowed = λ e. absurd (cc e); plus_taken = λ e. absurd (cc e) }
+split signed takes_plus (byte ∷ bytes) =
+    sign_cases signed takes_plus byte bytes (IsSplit signed takes_plus (byte ∷ bytes))
+    (λ e. let both = and_parts takes_plus (eqb byte plus_sign) e in
+    record { mark = plus; parts = ap (λ b. b ∷ bytes) (eqb-true byte plus_sign both.1); same = refl; allowed = λ q. absurd (cc q); plus_taken = λ q. both.0 })
+    (λ p e. let both = and_parts signed (eqb byte minus_sign) e in
+    record { mark = minus; parts = ap (λ b. b ∷ bytes) (eqb-true byte minus_sign both.1); same = refl; allowed = λ q. both.0; plus_taken = λ q. absurd (cc q) })
+    (record { mark = no_sign; parts = refl; same = refl; allowed = λ q. absurd (cc q); plus_taken = λ q. absurd (cc q) })
+
+-- If an allowed sign is followed by a digit, `sign_of` consumes exactly that sign. From a slice
+-- that begins with a digit it consumes nothing.
+pub sign_of_text : (signed takes_plus : Bool) (mark : SignMark) (digits : List ℕ) → (is_minus mark ≡ true → signed ≡ true)
+    → (is_plus mark ≡ true → takes_plus ≡ true) → 0 < run_len decimal_table digits
+    → sign_of signed takes_plus (sign_bytes mark ++ digits) ≡ record { minus = is_minus mark; taken = length (sign_bytes mark); body = digits }
+sign_of_text signed takes_plus no_sign digits h p some = sign_of_digits signed takes_plus digits some
+sign_of_text signed takes_plus plus digits h p some = rw (p refl) refl
+sign_of_text signed true minus digits h p some = rw (h refl) refl
+sign_of_text signed false minus digits h p some = rw (h refl) refl
+
+-- A body that is accepted as a whole consists of digits only, and these write the number of the
+-- answer.
+digits_written : (k : IntType) (is_negative skip : Bool) (body : List ℕ) (number : ℤ)
+    → whole_answer decimal_table k is_negative skip body ≡ Ok number → DigitsWrite k is_negative body number
+digits_written k is_negative skip body number h =
+    let found = from_whole k is_negative skip body number h in
+    let all = whole_is_run (run_len decimal_table body) (length body) found.0.ends in
+    let is_run = run_all decimal_table body all in
+    let digits = to_std body (digits_all decimal_table body all) in
+    let same = own.same body digits in
+    record { numeral = (omega (arith, found.0.some), digits); in_range = rw (is_run, same) at found.0.in_range; value_is = rw (is_run, same) at found.1 }
+
+-- A slice that `parse` accepts is a text that writes the number of the answer.
+text_written : (k : IntType) (takes_plus skip : Bool) (s : List ℕ) (number : ℤ)
+    → parse_answer k skip takes_plus s ≡ Ok number → TextWrites k takes_plus s number
+text_written k takes_plus skip s number h =
+    let g = sign_of k.signed takes_plus s in
+    let parts = split k.signed takes_plus s in
+    record {
+      sign = parts.mark;
+      digits = g.body;
+      parts = parts.parts;
+      signed = parts.allowed;
+      plus_taken = parts.plus_taken;
+      written = rw parts.same (digits_written k g.minus skip g.body number h);
+    }
+
+-- If a whole call gives a number, its slice writes that number.
+pub whole_written : (k : IntType) (form : SignForm) (skip : Bool) (s : List ℕ) (number : ℤ)
+    → whole_call k form skip s ≡ Ok number → Writes k form s number
+whole_written k (looked_for takes_plus) skip s number h = text_written k takes_plus skip s number h
+whole_written k (given is_negative) skip s number h = digits_written k is_negative skip s number h
+
+-- ---- Texts with no needless zero
+-- The decimal text of a number is the only text of digits with no needless zero that writes it.
+
+-- Bytes that write a number without a sign begin with a digit.
+begins : (k : IntType) (is_negative : Bool) (digits : List ℕ) (number : ℤ) → DigitsWrite k is_negative digits number → BeginsWithDigit digits
+begins k is_negative [] number h = absurd (omega (arith, h.numeral.0))
+begins k is_negative (digit ∷ digits) number h = digit_from_value digit h.numeral.1.0
+
+-- If n is a magnitude in range, `decimal n` writes the number that has this magnitude and the given
+-- sign.
+decimal_writes : (k : IntType) → IsSized k → (is_negative : Bool) (n : ℕ) → n ≤ bound_of k is_negative → DigitsWrite k is_negative (decimal n) (with_sign is_negative n)
+decimal_writes k sized is_negative n le =
+    let numeral = decimal_is_IsNumeral_wide n (lt_of_le_of_lt le (bound_below-64 k sized is_negative)) in
+    record { numeral = numeral.0; in_range = omega (arith, numeral.1); value_is = rw numeral.1 refl }
+
+-- The digits are not empty, and if n is above 0 they do not begin with a zero.
+abbrev IsLed : ℕ → List ℕ → Type 0
+IsLed n digits = (0 < length digits) × (0 < n → 48 < get_or digits 0 0)
+
+led : (n : ℕ) → n < 10 ^ 64 → IsLed n (decimal n)
+led n small = decimal_by_steps_wide IsLed (λ m low. (omega arith, λ above. omega arith))
+    (λ m digits low h. (omega (arith, length-append digits ((48 + m % 10) ∷ [])), λ above. omega (arith, get_or-append digits ((48 + m % 10) ∷ []) 0 0 h.0, h.1 (omega arith)))) n small
+
+no_needless : (digits : List ℕ) → 48 < get_or digits 0 0 → IsFalse (has_needless_zero digits)
+no_needless [] h = refl
+no_needless (digit ∷ []) h = refl
+no_needless (digit ∷ next ∷ more) h = ne_eqb digit 48 (λ same. omega arith)
+
+-- `decimal n` has no needless zero.
+decimal_shortest : (n : ℕ) → n < 10 ^ 64 → IsFalse (has_needless_zero (decimal n))
+decimal_shortest zero small = rw (decimal_digit 0 (omega arith)) refl
+decimal_shortest (suc n) small = no_needless (decimal (suc n)) ((led (suc n) small).1 (omega arith))
+
+value_after-least : (n : ℕ) (digits : List ℕ) → n ≤ digits_value_after 10 n digits
+value_after-least n [] = omega arith
+value_after-least n (digit ∷ digits) = omega (arith, value_after-least (n * 10 + std_digit_value digit) digits)
+
+-- If digits are appended to a number above 0, the decimal text of the new number is that of the old
+-- one, followed by these digits.
+decimal_after : (n : ℕ) (digits : List ℕ) → 0 < n → AllDigits 10 digits → digits_value_after 10 n digits < 10 ^ 64
+    → decimal (digits_value_after 10 n digits) ≡ decimal n ++ digits
+decimal_after n [] some all small = sym (append-nil (decimal n))
+decimal_after n (digit ∷ digits) some all small =
+    let m : ℕ = n * 10 + std_digit_value digit in
+    let is = digit_value_digit digit (digit_from_value digit all.0) in
+    let front : m / 10 ≡ n = omega (arith, all.0) in
+    let end : 48 + m % 10 ≡ digit = omega (arith, all.0) in
+    decimal_after m digits (omega arith) all.1 small
+    ∙ ap (λ text. text ++ digits) (decimal_step_wide m (omega arith) (omega (arith, value_after-least m digits)) ∙ (λ i. decimal (front i) ++ (end i ∷ [])))
+    ∙ append_assoc (decimal n) (digit ∷ []) digits
+
+-- Digits with no needless zero are the decimal text of their value.
+decimal_of_digits : (digits : List ℕ) → IsNumeral 10 digits → IsFalse (has_needless_zero digits) → digits_value 10 digits < 10 ^ 64
+    → digits ≡ decimal (digits_value 10 digits)
+decimal_of_digits [] numeral shortest small = absurd (omega (arith, numeral.0))
+decimal_of_digits (digit ∷ []) numeral shortest small =
+    let is = digit_value_digit digit (digit_from_value digit numeral.1.0) in
+    sym (decimal_digit (0 * 10 + std_digit_value digit) (omega (arith, numeral.1.0)) ∙ ap (λ byte. byte ∷ []) (omega arith))
+decimal_of_digits (digit ∷ next ∷ more) numeral shortest small =
+    let is = digit_value_digit digit (digit_from_value digit numeral.1.0) in
+    let no_zero : digit ≢ 48 = eqb-false digit 48 shortest in
+    let same : 48 + (0 * 10 + std_digit_value digit) ≡ digit = omega arith in
+    sym (decimal_after (0 * 10 + std_digit_value digit) (next ∷ more) (omega arith) numeral.1.1 small
+    ∙ ap (λ text. text ++ (next ∷ more)) (decimal_digit (0 * 10 + std_digit_value digit) (omega (arith, numeral.1.0)) ∙ ap (λ byte. byte ∷ []) same))
+
+with_sign-injective : (is_negative : Bool) (m n : ℕ) → with_sign is_negative m ≡ with_sign is_negative n → m ≡ n
+with_sign-injective true zero zero h = refl
+with_sign-injective true zero (suc n) h = absurd (cc)
+with_sign-injective true (suc m) zero h = absurd (cc)
+with_sign-injective true (suc m) (suc n) h = cc
+with_sign-injective false m n h = cc
+
+-- If digits with no needless zero write a number of magnitude n, they are `decimal n`.
+decimal_only : (k : IntType) → IsSized k → (is_negative : Bool) (digits : List ℕ) (n : ℕ)
+    → DigitsWrite k is_negative digits (with_sign is_negative n) → IsFalse (has_needless_zero digits) → digits ≡ decimal n
+decimal_only k sized is_negative digits n h shortest =
+    decimal_of_digits digits h.numeral shortest (lt_of_le_of_lt h.in_range (bound_below-64 k sized is_negative))
+    ∙ ap decimal (sym (with_sign-injective is_negative n (digits_value 10 digits) h.value_is))
+
+-- If x is in the range of the type, `signed_decimal x` writes x.
+signed_writes : (k : IntType) → IsSized k → (takes_plus : Bool) (x : ℤ) → least_of k ≤ℤ x → x ≤ℤ pos k.greatest → TextWrites k takes_plus (signed_decimal x) x
+signed_writes k sized takes_plus (pos n) low high = record {
+  sign = no_sign;
+  digits = decimal n;
+  parts = refl;
+  signed = λ e. absurd (cc e);
+  plus_taken = λ e. absurd (cc e);
+  written = decimal_writes k sized false n (leb→le n k.greatest high.le);
+}
+signed_writes k sized takes_plus (negsuc n) low high =
+    let within = negative_in_range k.signed k.greatest n low in
+    record {
+      sign = minus;
+      digits = decimal (suc n);
+      parts = refl;
+      signed = λ e. within.0;
+      plus_taken = λ e. absurd (cc e);
+      written = decimal_writes k sized true (suc n) (omega (arith, within.1));
+    }
+
+-- If x is not 0 and is the negative of n, its text is a minus followed by `decimal n`.
+minus_text : (x : ℤ) (n : ℕ) → x ≢ pos 0 → x ≡ neg_ℤ (pos n) → 45 ∷ decimal n ≡ signed_decimal x
+minus_text x zero some is = absurd (some is)
+minus_text x (suc n) some is = rw is refl
+
+-- If a text without a plus writes x, has no needless zero, and has no minus if x is 0, then that
+-- text is `signed_decimal x`.
+signed_only : (k : IntType) → IsSized k → (s : List ℕ) (x : ℤ) (text : TextWrites k false s x)
+    → IsFalse (has_needless_zero text.digits) → (is_minus text.sign ≡ true → x ≢ pos 0) → s ≡ signed_decimal x
+signed_only k sized s x text shortest some =
+    let n : ℕ = digits_value 10 text.digits in
+    let digits : text.digits ≡ decimal n =
+    decimal_of_digits text.digits text.written.numeral shortest (lt_of_le_of_lt text.written.in_range (bound_below-64 k sized (is_minus text.sign))) in
+    text.parts ∙ ap (λ digits. sign_bytes text.sign ++ digits) digits ∙ by_sign text.sign n some text.written.value_is text.plus_taken
+  where
+    by_sign : (sign : SignMark) (n : ℕ) → (is_minus sign ≡ true → x ≢ pos 0) → x ≡ with_sign (is_minus sign) n
+        → (is_plus sign ≡ true → false ≡ true) → sign_bytes sign ++ decimal n ≡ signed_decimal x
+    by_sign no_sign n some is none = rw is refl
+    by_sign plus n some is none = absurd (cc (none refl))
+    by_sign minus n some is none = minus_text x n (some refl) is
+
+-- The law `DecimalTexts`.
+pub decimal_texts : (k : IntType) → IsSized k → DecimalTexts k
+decimal_texts k sized = record {
+  begins = begins k;
+  written = decimal_writes k sized;
+  shortest = λ is_negative n le. decimal_shortest n (lt_of_le_of_lt le (bound_below-64 k sized is_negative));
+  only = decimal_only k sized;
+  text = signed_writes k sized;
+  only_text = signed_only k sized;
+}

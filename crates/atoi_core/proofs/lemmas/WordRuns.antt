@@ -1,0 +1,289 @@
+-- How many digits and how many zeros a word begins with, counted from its lowest byte. The lemmas
+-- show that the kernels and the word engine count them correctly.
+use Rattle.std.proofs.Common.{◌≡◌, ℕ, zero, suc, ◌+◌, ◌*◌, ◌/◌, ◌%◌, ◌^◌, ◌<◌, ◌≤◌, ◌-◌, Bool, true, false, cond, ◌==◌, List, [], ◌∷◌, map, refl, sym, ap, ap₂, ◌∙◌, arith, mod-lt, zero-lt-suc}
+use Rattle.std.proofs.Math.Dec.{lit<}
+use Rattle.std.proofs.lemmas.Bool.{agree_below_at}
+use Rattle.std.proofs.lemmas.Nat.{pow_pos, pow-add, mod-pow-add, and_mask, and_block, div-mul-add, mod-mul-add}
+use Rattle.std.proofs.Math.Nat.{zero-add, suc-mul, suc-add, add_comm}
+use Rattle.std.proofs.Math.Pow.{mod-mod-pow}
+use Rattle.std.proofs.lemmas.Bool.Decides.{nat_tests}
+use Rattle.std.specs.List.{prefix_len}
+use Rattle.std.specs.Int.Bits.{bit_and, bit_or, bit_xor, and_zero_r}
+use Rattle.std.specs.Int.Count.{count_trailing_zeros}
+use Rattle.std.specs.Simd.Lanes.{digits_l, zip2}
+use Rattle.atoi_core.specs.Digit.{decimal_table, is_digit, is_zero}
+use Rattle.atoi_core.specs.Run.{run_len, zeros}
+use Rattle.atoi_core.specs.Words.{low_bytes}
+use Rattle.atoi_core.proofs.lemmas.Calls.{digit_in_range}
+use Rattle.atoi_core.proofs.lemmas.WordFields.{trailing_bytes, repeated, or_bytes, and_repeated, xor_repeated, upper_halves, digits_cut}
+
+-- `prefix_len p xs` is the length of the longest prefix whose elements pass the test `p`. Mapping a
+-- list with `f` and then testing with `p` gives the same length as testing each element `x` of the
+-- list with `p (f x)`.
+prefix_len-map : (p : ℕ → Bool) (f : ℕ → ℕ) (xs : List ℕ) → prefix_len p (map f xs) ≡ prefix_len (λ x. p (f x)) xs
+prefix_len-map p f [] = refl
+prefix_len-map p f (x ∷ xs) = ap (λ n. cond (p (f x)) (1 + n) 0) (prefix_len-map p f xs)
+
+-- ---- Counting zeros
+
+-- A byte xor 48 is 0 exactly if the byte is the digit zero.
+combined_is_zero : (b : ℕ) → b < 256 → (bit_xor b 48 == 0) ≡ is_zero decimal_table b
+combined_is_zero b h = agree_below_at (λ x. bit_xor x 48 == 0) (is_zero decimal_table) 256 b refl h
+
+-- If two tests agree on each byte, the same number of leading bytes of a word passes each of them.
+prefix_len-agree : (p q : ℕ → Bool) → ((b : ℕ) → b < 256 → p b ≡ q b) → (k word : ℕ) → prefix_len p (digits_l 256 k word) ≡ prefix_len q (digits_l 256 k word)
+prefix_len-agree p q agree zero word = refl
+prefix_len-agree p q agree (suc k) word =
+    ap₂ (λ b n. cond b (1 + n) 0) (agree (word % 256) (mod-lt word (zero-lt-suc 255))) (prefix_len-agree p q agree k (word / 256))
+
+-- If each byte of a word is xored with 48, the number of trailing zero bits of the result, divided
+-- by 8, is the number of zeros that the word begins with.
+pub zeros_counted : (k word : ℕ) → count_trailing_zeros (k * 8) (bit_xor word (repeated 48 k)) / 8 ≡ zeros decimal_table (low_bytes k word)
+unfolding low_bytes
+zeros_counted k word =
+    trailing_bytes k (bit_xor word (repeated 48 k))
+    ∙ ap (prefix_len (λ b. b == 0)) (xor_repeated 48 (lit< tt) k word)
+    ∙ prefix_len-map (λ b. b == 0) (λ x. bit_xor x 48) (digits_l 256 k word)
+    ∙ prefix_len-agree (λ x. bit_xor x 48 == 0) (is_zero decimal_table) combined_is_zero k word
+
+-- ---- Counting digits
+
+-- Let two lengths be 0 unless a test passes. If they are equal in the case that the test passes,
+-- then they are equal in both cases.
+run_goes_on : (t : Bool) (m n : ℕ) → (t ≡ true → m ≡ n) → cond t (1 + m) 0 ≡ cond t (1 + n) 0
+run_goes_on true m n e = ap (λ x. 1 + x) (e refl)
+run_goes_on false m n e = refl
+
+-- Mapping a function over the results of a pairwise operation is one pairwise operation.
+marked : (h : ℕ → ℕ) (op : ℕ → ℕ → ℕ) (xs ys : List ℕ) → map h (zip2 op xs ys) ≡ zip2 (λ x y. h (op x y)) xs ys
+marked h op [] ys = refl
+marked h op (x ∷ xs) [] = refl
+marked h op (x ∷ xs) (y ∷ ys) = ap (λ zs. h (op x y) ∷ zs) (marked h op xs ys)
+
+-- Mapping both lists first and then combining them pairwise is one pairwise operation too.
+changed : (f g : ℕ → ℕ) (op : ℕ → ℕ → ℕ) (xs ys : List ℕ) → zip2 op (map f xs) (map g ys) ≡ zip2 (λ x y. op (f x) (g y)) xs ys
+changed f g op [] ys = refl
+changed f g op (x ∷ xs) [] = refl
+changed f g op (x ∷ xs) (y ∷ ys) = ap (λ zs. op (f x) (g y) ∷ zs) (changed f g op xs ys)
+
+-- How an addition or subtraction acts on the bytes of a word. A constant is added to each byte, or
+-- subtracted from it, in one operation on the whole word. The lowest byte then changes as a byte on
+-- its own would (`low`). If it is a digit, nothing is carried to the bytes above it (`rest`).
+record Change : Type 0 where
+  of_word : ℕ → ℕ → ℕ
+  of_byte : ℕ → ℕ
+  low : (k word : ℕ) → of_word (suc k) word % 256 ≡ of_byte (word % 256)
+  rest : (k word : ℕ) → is_digit decimal_table (word % 256) ≡ true → of_word (suc k) word / 256 ≡ of_word k (word / 256)
+
+-- The change that leaves the word as it is.
+abbrev unchanged : Change
+unchanged = record { of_word = λ k word. word; of_byte = λ b. b; low = λ k word. refl; rest = λ k word e. refl }
+
+-- The change that adds c to each byte. With c below 199, no digit carries.
+abbrev added : (c : ℕ) → c < 199 → Change
+added c h =
+    record {
+      of_word = λ k word. word + repeated c k;
+      of_byte = λ b. (b + c) % 256;
+      low = λ k word. omega arith;
+      rest = λ k word e. let digit = digit_in_range (word % 256) e in omega arith;
+    }
+
+-- A wrapping addition of this constant to a word of k bytes subtracts 48 from each byte.
+abbrev pub without_48 : ℕ → ℕ
+without_48 zero = 1
+without_48 (suc k) = 256 * without_48 k - 48
+
+without_48-some : (k : ℕ) → 1 ≤ without_48 k
+without_48-some zero = omega arith
+without_48-some (suc k) = let some = without_48-some k in omega arith
+
+-- The change that subtracts 48 from each byte. No digit borrows.
+abbrev lowered : Change
+lowered =
+    record {
+      of_word = λ k word. word + without_48 k;
+      of_byte = λ b. (b + 208) % 256;
+      low = λ k word. let some = without_48-some k in omega arith;
+      rest = λ k word e.
+          let some = without_48-some k in
+          let digit = digit_in_range (word % 256) e in
+          omega arith;
+    }
+
+-- Two changed words are combined to a mark for each byte. Up to the first byte that is no digit,
+-- each mark is what the byte on its own gives. So if the mark is 0 exactly for digits, the number
+-- of leading marks of 0 is the number of leading digits.
+module _ (first second : Change) (mark : ℕ → ℕ → ℕ)
+    (digit_byte : (b : ℕ) → b < 256 → (mark (first.of_byte b) (second.of_byte b) == 0) ≡ is_digit decimal_table b) where
+  carried_run : (k word : ℕ)
+      → prefix_len (λ b. b == 0) (zip2 mark (digits_l 256 k (first.of_word k word)) (digits_l 256 k (second.of_word k word)))
+      ≡ prefix_len (is_digit decimal_table) (digits_l 256 k word)
+  carried_run zero word = refl
+  carried_run (suc k) word =
+      let byte = word % 256 in
+      let run : ℕ → ℕ → ℕ = λ x y. prefix_len (λ b. b == 0) (zip2 mark (digits_l 256 k x) (digits_l 256 k y)) in
+      let now = run (first.of_word (suc k) word / 256) (second.of_word (suc k) word / 256) in
+      ap₂ (λ x y. cond (mark x y == 0) (1 + now) 0) (first.low k word) (second.low k word)
+      ∙ ap (λ t. cond t (1 + now) 0) (digit_byte byte (mod-lt word (zero-lt-suc 255)))
+      ∙ run_goes_on (is_digit decimal_table byte) now (prefix_len (is_digit decimal_table) (digits_l 256 k (word / 256)))
+      (λ e. ap₂ run (first.rest k word e) (second.rest k word e) ∙ carried_run k (word / 256))
+
+-- The mark that the kernel `check_len_8` computes for a byte.
+abbrev kernel_mark : ℕ → ℕ → ℕ
+kernel_mark raised byte = bit_xor (bit_or (raised / 16) (bit_and byte 240)) 51
+
+-- This mark is 0 exactly for digits.
+kernel_byte : (b : ℕ) → b < 256 → (kernel_mark ((b + 6) % 256) b == 0) ≡ is_digit decimal_table b
+kernel_byte b h = agree_below_at (λ x. kernel_mark ((x + 6) % 256) x == 0) (is_digit decimal_table) 256 b refl h
+
+-- The trailing zero bits of these marks, divided by 8, are the number of leading digits.
+pub digits_counted : (k word : ℕ)
+    → count_trailing_zeros (k * 8) (bit_xor (bit_or (bit_and ((word + repeated 6 k) % 2 ^ (k * 8) / 16) (repeated 15 k)) (bit_and word (repeated 240 k))) (repeated 51 k)) / 8
+    ≡ run_len decimal_table (low_bytes k word)
+unfolding low_bytes
+digits_counted k word =
+    let raised = (word + repeated 6 k) % 2 ^ (k * 8) in
+    let high = bit_and (raised / 16) (repeated 15 k) in
+    let low = bit_and word (repeated 240 k) in
+    trailing_bytes k (bit_xor (bit_or high low) (repeated 51 k))
+    ∙ ap (prefix_len (λ b. b == 0))
+    (xor_repeated 51 (lit< tt) k (bit_or high low)
+    ∙ ap (map (λ x. bit_xor x 51))
+    (or_bytes k high low
+    ∙ ap₂ (zip2 bit_or)
+    (upper_halves k raised ∙ ap (map (λ x. x / 16)) (digits_cut 8 k (word + repeated 6 k)))
+    (and_repeated 240 (lit< tt) k word)
+    ∙ changed (λ x. x / 16) (λ x. bit_and x 240) bit_or (digits_l 256 k (word + repeated 6 k)) (digits_l 256 k word))
+    ∙ marked (λ x. bit_xor x 51) (λ x y. bit_or (x / 16) (bit_and y 240)) (digits_l 256 k (word + repeated 6 k)) (digits_l 256 k word))
+    ∙ carried_run (added 6 (lit< tt)) unchanged kernel_mark kernel_byte k word
+
+-- The mark that the word engine computes for a byte.
+abbrev engine_mark : ℕ → ℕ → ℕ
+engine_mark above below = bit_and (bit_or above below) 128
+
+-- This mark is 0 exactly for digits too.
+engine_byte : (b : ℕ) → b < 256 → (engine_mark ((b + 70) % 256) ((b + 208) % 256) == 0) ≡ is_digit decimal_table b
+engine_byte b h =
+    agree_below_at (λ x. engine_mark ((x + 70) % 256) ((x + 208) % 256) == 0) (is_digit decimal_table) 256 b refl h
+
+-- The trailing zero bits of the engine's marks, divided by 8, are the number of leading digits.
+pub marks_counted : (k word : ℕ)
+    → count_trailing_zeros (k * 8) (bit_and (bit_or ((word + repeated 70 k) % 2 ^ (k * 8)) ((word + without_48 k) % 2 ^ (k * 8))) (repeated 128 k)) / 8
+    ≡ run_len decimal_table (low_bytes k word)
+unfolding low_bytes
+marks_counted k word =
+    let above = (word + repeated 70 k) % 2 ^ (k * 8) in
+    let below = (word + without_48 k) % 2 ^ (k * 8) in
+    trailing_bytes k (bit_and (bit_or above below) (repeated 128 k))
+    ∙ ap (prefix_len (λ b. b == 0))
+    (and_repeated 128 (lit< tt) k (bit_or above below)
+    ∙ ap (map (λ x. bit_and x 128))
+    (or_bytes k above below ∙ ap₂ (zip2 bit_or) (digits_cut 8 k (word + repeated 70 k)) (digits_cut 8 k (word + without_48 k)))
+    ∙ marked (λ x. bit_and x 128) bit_or (digits_l 256 k (word + repeated 70 k)) (digits_l 256 k (word + without_48 k)))
+    ∙ carried_run (added 70 (lit< tt)) lowered engine_mark engine_byte k word
+
+-- ---- The word with 48 subtracted from each byte
+
+-- A byte minus 48 is 0 exactly if the byte is the digit zero.
+lowered_zero : (b : ℕ) → b < 256 → ((b + 208) % 256 == 0) ≡ is_zero decimal_table b
+lowered_zero b h = agree_below_at (λ x. (x + 208) % 256 == 0) (is_zero decimal_table) 256 b refl h
+
+-- A zero is a digit.
+zero_is_digit : (b : ℕ) → b < 256 → is_zero decimal_table b ≡ true → is_digit decimal_table b ≡ true
+zero_is_digit b h e = grind (arith, nat_tests)
+
+-- The number of zeros that a word begins with is the number of bytes of 0 that it begins with after
+-- the subtraction.
+lowered_zeros : (k word : ℕ) → prefix_len (λ b. b == 0) (digits_l 256 k (word + without_48 k)) ≡ prefix_len (is_zero decimal_table) (digits_l 256 k word)
+lowered_zeros zero word = refl
+lowered_zeros (suc k) word =
+    let byte = word % 256 in
+    let fits : byte < 256 = mod-lt word (zero-lt-suc 255) in
+    let now = prefix_len (λ b. b == 0) (digits_l 256 k ((word + without_48 (suc k)) / 256)) in
+    ap (λ x. cond (x == 0) (1 + now) 0) (lowered.low k word)
+    ∙ ap (λ t. cond t (1 + now) 0) (lowered_zero byte fits)
+    ∙ run_goes_on (is_zero decimal_table byte) now (prefix_len (is_zero decimal_table) (digits_l 256 k (word / 256)))
+    (λ e. ap (λ x. prefix_len (λ b. b == 0) (digits_l 256 k x)) (lowered.rest k word (zero_is_digit byte fits e)) ∙ lowered_zeros k (word / 256))
+
+-- The trailing zero bits of the difference, divided by 8, are the number of leading zeros.
+pub lowered_zeros_counted : (k word : ℕ) → count_trailing_zeros (k * 8) ((word + without_48 k) % 2 ^ (k * 8)) / 8 ≡ zeros decimal_table (low_bytes k word)
+unfolding low_bytes
+lowered_zeros_counted k word =
+    trailing_bytes k ((word + without_48 k) % 2 ^ (k * 8))
+    ∙ ap (prefix_len (λ b. b == 0)) (digits_cut 8 k (word + without_48 k))
+    ∙ lowered_zeros k word
+
+-- If a list begins with at least n + 1 elements that pass a test, the first one passes, and at
+-- least n more that pass follow it.
+first_digit : (t : Bool) (n m : ℕ) → suc n ≤ cond t (1 + m) 0 → (t ≡ true) × (n ≤ m)
+first_digit true n m h = (refl, omega arith)
+first_digit false n m h = absurd (omega arith)
+
+-- The lower half of a digit's byte is the byte minus 48.
+lower_half : (b : ℕ) → is_digit decimal_table b ≡ true → bit_and b 15 ≡ (b + 208) % 256
+lower_half b digit = and_mask b 4 ∙ (let range = digit_in_range b digit in omega arith)
+
+-- If the lowest k bytes are digits, subtracting 48 from each leaves their lower halves.
+lowered_digits : (j k word : ℕ) → k ≤ prefix_len (is_digit decimal_table) (digits_l 256 (k + j) word)
+    → (word + without_48 (k + j)) % 2 ^ (k * 8) ≡ bit_and (word % 2 ^ (k * 8)) (repeated 15 k)
+lowered_digits j zero word digits = omega (arith, and_zero_r (word % 2 ^ (zero * 8)))
+lowered_digits j (suc k) word digits =
+    let byte = word % 256 in
+    let passes = first_digit (is_digit decimal_table byte) k (prefix_len (is_digit decimal_table) (digits_l 256 (k + j) (word / 256))) (rw (suc-add k j) at digits) in
+    let bits : suc k * 8 ≡ k * 8 + 8 = suc-mul k 8 in
+    let lower = word + without_48 (suc (k + j)) in
+    ap (λ n. (word + without_48 n) % 2 ^ (suc k * 8)) (suc-add k j)
+    ∙ ap (λ e. lower % 2 ^ e) bits
+    ∙ mod-pow-add lower (k * 8) 8
+    ∙ ap₂ (λ x y. x % 2 ^ (k * 8) * 256 + y) (lowered.rest (k + j) word passes.0) (lowered.low (k + j) word ∙ sym (lower_half byte passes.0))
+    ∙ ap (λ x. x * 256 + bit_and byte 15) (lowered_digits j k (word / 256) passes.1)
+    ∙ sym (and_block 8 (word / 256 % 2 ^ (k * 8)) (repeated 15 k) byte 15 (mod-lt word (zero-lt-suc 255)) (lit< tt))
+    ∙ ap (λ x. bit_and x (repeated 15 (suc k))) (sym (mod-pow-add word (k * 8) 8))
+    ∙ ap (λ e. bit_and (word % 2 ^ e) (repeated 15 (suc k))) (sym bits)
+
+-- The mask that keeps the lower halves and the shift up by whole bytes can be applied in either
+-- order.
+shifted_halves : (z k word : ℕ) → bit_and word (repeated 15 k) * 2 ^ (z * 8) ≡ bit_and (word * 2 ^ (z * 8)) (repeated 15 (z + k))
+shifted_halves zero k word =
+    let one : bit_and word (repeated 15 k) * 2 ^ (zero * 8) ≡ bit_and word (repeated 15 k) = omega arith in
+    let same : word ≡ word * 2 ^ (zero * 8) = omega arith in
+    one ∙ ap₂ (λ x n. bit_and x (repeated 15 n)) same (sym (zero-add k))
+shifted_halves (suc z) k word =
+    let up : 2 ^ (suc z * 8) ≡ 2 ^ (z * 8) * 256 = ap (λ e. 2 ^ e) (suc-mul z 8) ∙ pow-add 2 (z * 8) 8 in
+    let next : word * 2 ^ (suc z * 8) ≡ word * 2 ^ (z * 8) * 256 + 0 = ap (λ p. word * p) up ∙ omega arith in
+    ap (λ p. bit_and word (repeated 15 k) * p) up
+    ∙ omega (arith, shifted_halves z k word, and_block 8 (word * 2 ^ (z * 8)) (repeated 15 (z + k)) 0 15 (lit< tt) (lit< tt))
+    ∙ ap₂ (λ x n. bit_and x (repeated 15 n)) (sym next) (sym (suc-add z k))
+
+-- Shifting a number by z bits and then cutting it to j + z bits is the same as cutting it to j bits
+-- and then shifting it by z bits.
+shift_cut : (a j z : ℕ) → a * 2 ^ z % 2 ^ (j + z) ≡ a % 2 ^ j * 2 ^ z
+shift_cut a j z =
+    let p = 2 ^ z in
+    let none : a * p ≡ a * p + 0 = omega arith in
+    let high : a * p / p ≡ a = ap (λ x. x / p) none ∙ div-mul-add a p 0 (pow_pos z) in
+    let low : a * p % p ≡ 0 = ap (λ x. x % p) none ∙ mod-mul-add a p 0 (pow_pos z) in
+    mod-pow-add (a * p) j z ∙ ap₂ (λ x y. x % 2 ^ j * p + y) high low ∙ omega arith
+
+-- If the lowest `len` bytes of an 8-byte word are digits, shifting them to the top of the word
+-- gives the same result whether 48 is subtracted from each or each is masked to its lower half. So
+-- the engine may use the subtraction instead of the mask.
+pub lowered_at_top : (len word : ℕ) → len ≤ 8 → len ≤ run_len decimal_table (low_bytes 8 word)
+    → (word + without_48 8) % 2 ^ 64 * 2 ^ (64 - 8 * len) % 2 ^ 64 ≡ bit_and (word * 2 ^ (64 - 8 * len) % 2 ^ 64) (repeated 15 8)
+unfolding low_bytes
+lowered_at_top len word few digits =
+    let z = 8 - len in
+    let all : len + z ≡ 8 = omega arith in
+    let places : 64 - 8 * len ≡ z * 8 = omega arith in
+    let bits : 64 ≡ len * 8 + z * 8 = omega arith in
+    let lower = word + without_48 8 in
+    let kept : lower % 2 ^ (len * 8) ≡ bit_and (word % 2 ^ (len * 8)) (repeated 15 len) =
+    ap (λ n. (word + without_48 n) % 2 ^ (len * 8)) (sym all) ∙ lowered_digits z len word (rw all digits) in
+    let cut : (x : ℕ) → x * 2 ^ (64 - 8 * len) % 2 ^ 64 ≡ x % 2 ^ (len * 8) * 2 ^ (z * 8) =
+    λ x. ap₂ (λ e f. x * 2 ^ e % 2 ^ f) places bits ∙ shift_cut x (len * 8) (z * 8) in
+    cut (lower % 2 ^ 64)
+    ∙ ap (λ e. lower % 2 ^ e % 2 ^ (len * 8) * 2 ^ (z * 8)) (bits ∙ add_comm (len * 8) (z * 8))
+    ∙ ap (λ x. x * 2 ^ (z * 8)) (mod-mod-pow lower (z * 8) (len * 8) ∙ kept)
+    ∙ shifted_halves z len (word % 2 ^ (len * 8))
+    ∙ ap₂ (λ x n. bit_and x (repeated 15 n)) (sym (cut word)) (add_comm z len ∙ all)

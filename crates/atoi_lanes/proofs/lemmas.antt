@@ -1,0 +1,3 @@
+pub mod LaneSums
+pub mod LoadedLanes
+pub mod LaneWindows

@@ -1,0 +1,5 @@
+pub mod Totals
+pub mod Commands
+pub mod Logs
+pub mod Versions
+pub mod Headers
