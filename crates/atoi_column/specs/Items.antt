@@ -57,9 +57,9 @@ items_from whole prefix index place rest (text ∷ texts) =
 -- The items that are left if `rest` is still to be read. The first field of `rest` has the index
 -- `index`, and begins at the offset `place` of the input.
 unfoldable pub items_left : IntType → (separator index place : ℕ) → List ℕ → List (Result ℤ Flaw)
-items_left k separator index place rest =
-    items_from (parse_answer k true true) (parse_prefix_answer k true true) index place rest (fields_of separator rest)
+items_left int separator index place rest =
+    items_from (parse_answer int true true) (parse_prefix_answer int true true) index place rest (fields_of separator rest)
 
 -- The items of an input.
 abbrev pub items_of : IntType → (separator : ℕ) → List ℕ → List (Result ℤ Flaw)
-items_of k separator input = items_left k separator 0 0 input
+items_of int separator input = items_left int separator 0 0 input

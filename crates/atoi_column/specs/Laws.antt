@@ -22,9 +22,9 @@ pub record FieldIsPrefix (whole : List ℕ → Result ℤ Refusal) (prefix : Lis
 -- `FieldIsPrefix` holds for the parses that skip zeros and accept a plus, with every separator and
 -- every `rest`.
 abbrev pub FieldsArePrefixes : IntType → Type 0
-FieldsArePrefixes k =
+FieldsArePrefixes int =
     (separator : ℕ) → is_separator separator ≡ true → (rest : List ℕ)
-    → FieldIsPrefix (parse_answer k true true) (parse_prefix_answer k true true) separator rest
+    → FieldIsPrefix (parse_answer int true true) (parse_prefix_answer int true true) separator rest
 
 -- The offset after the fields `texts` and their separators, if an input begins with these fields
 -- and a separator follows each of them.
@@ -37,26 +37,26 @@ place_after texts = sum_by (λ text. length text + 1) texts
 -- other fields is not a text of the type, and `last` is one item: the flaw of that field. The flaw
 -- depends on what `prefix` answers to `rest`, the input from that field's first byte on.
 abbrev pub EndsItems : IntType → (prefix : List ℕ → Result (ℤ × ℕ) Refusal) → (index place : ℕ) → (rest : List ℕ) → List (List ℕ) → List (Result ℤ Flaw) → Type 0
-EndsItems k prefix index place rest [] last = last ≡ []
-EndsItems k prefix index place rest (text ∷ texts) last =
-    ¬ IsText k text × (last ≡ Err (flaw_at index place (prefix rest)) ∷ [])
+EndsItems int prefix index place rest [] last = last ≡ []
+EndsItems int prefix index place rest (text ∷ texts) last =
+    ¬ IsText int text × (last ≡ Err (flaw_at index place (prefix rest)) ∷ [])
 
 -- The items of an input, described by its fields. `texts` are the fields before the first one that
 -- is not a text of the type, or all fields if there is none. `others` are the remaining fields. The
 -- items are `numbers`, which `texts` write, and then `last`.
-pub record HasItems (k : IntType) (separator : ℕ) (input : List ℕ) : Type 0 where
+pub record HasItems (int : IntType) (separator : ℕ) (input : List ℕ) : Type 0 where
   pub texts : List (List ℕ)
   pub others : List (List ℕ)
   pub numbers : List ℤ
   pub last : List (Result ℤ Flaw)
   pub fields : fields_of separator input ≡ texts ++ others
-  pub written : AllZip (TextWrites k true) texts numbers
-  pub items : items_of k separator input ≡ map Ok numbers ++ last
-  pub end : EndsItems k (parse_prefix_answer k true true) (length texts) (place_after texts) (drop (place_after texts) input) others last
+  pub written : AllZip (TextWrites int true) texts numbers
+  pub items : items_of int separator input ≡ map Ok numbers ++ last
+  pub end : EndsItems int (parse_prefix_answer int true true) (length texts) (place_after texts) (drop (place_after texts) input) others last
 
 -- `HasItems` holds for every input, with any byte as the separator.
 abbrev pub TextsAndItems : IntType → Type 0
-TextsAndItems k = (separator : ℕ) (input : List ℕ) → HasItems k separator input
+TextsAndItems int = (separator : ℕ) (input : List ℕ) → HasItems int separator input
 
 -- The length in bytes of the number that was read, or 0 if there was none.
 abbrev pub number_len : Result (ℤ × ℕ) Refusal → ℕ
@@ -66,27 +66,27 @@ number_len (Err reason) = 0
 -- The field of index `index` is the first field of the input that is not a text of the type.
 -- `place` is the offset of the byte after the number that the field begins with, or the offset of
 -- the field's first byte if no number can be read there.
-pub record IsFirstBad (k : IntType) (separator : ℕ) (input : List ℕ) (index place : ℕ) : Type 0 where
+pub record IsFirstBad (int : IntType) (separator : ℕ) (input : List ℕ) (index place : ℕ) : Type 0 where
   pub before : List (List ℕ)
   pub field : List ℕ
   pub others : List (List ℕ)
   pub parts : fields_of separator input ≡ before ++ field ∷ others
-  pub good : All (IsText k) before
-  pub bad : ¬ IsText k field
+  pub good : All (IsText int) before
+  pub bad : ¬ IsText int field
   pub index_is : index ≡ length before
   pub index_within : index < length input
   pub place_is : place
-      ≡ place_after before + number_len (parse_prefix_answer k true true (drop (place_after before) input))
+      ≡ place_after before + number_len (parse_prefix_answer int true true (drop (place_after before) input))
 
 -- The items of an input decide what its fields are. If all items are values, every field is a text
 -- of the type, and the fields write these values in the same order. If the last item is an error,
 -- it is about the first field that is not such a text.
-pub record ItemsDecide (k : IntType) : Type 0 where
-  pub whole : (separator : ℕ) (input : List ℕ) (numbers : List ℤ) → items_of k separator input ≡ map Ok numbers
-      → AllZip (TextWrites k true) (fields_of separator input) numbers
+pub record ItemsDecide (int : IntType) : Type 0 where
+  pub whole : (separator : ℕ) (input : List ℕ) (numbers : List ℤ) → items_of int separator input ≡ map Ok numbers
+      → AllZip (TextWrites int true) (fields_of separator input) numbers
   pub first_bad : (separator : ℕ) (input : List ℕ) (numbers : List ℤ) (flaw : Flaw)
-      → items_of k separator input ≡ map Ok numbers ++ Err flaw ∷ []
-      → IsFirstBad k separator input (index_of flaw) (place_of flaw)
+      → items_of int separator input ≡ map Ok numbers ++ Err flaw ∷ []
+      → IsFirstBad int separator input (index_of flaw) (place_of flaw)
 
 -- If an input is not empty, its first field ends before the first separator, and its other fields
 -- are the fields of what follows that separator. If there is no separator, the whole input is the
@@ -112,8 +112,8 @@ pub record ItemsInTurn : Type 0 where
       → left ≡ Ok number ∷ after → HaveRead items (numbers ++ number ∷ []) after
   pub all : (items left : List (Result ℤ Flaw)) (numbers : List ℤ) → HaveRead items numbers left
       → left ≡ [] → items ≡ map Ok numbers
-  pub after_error : (k : IntType) (separator : ℕ) (input : List ℕ) (numbers : List ℤ) (flaw : Flaw) (after : List (Result ℤ Flaw))
-      → items_of k separator input ≡ map Ok numbers ++ Err flaw ∷ after → after ≡ []
-  pub at_error : (k : IntType) (separator : ℕ) (input : List ℕ) (numbers : List ℤ) (left after : List (Result ℤ Flaw)) (flaw : Flaw)
-      → HaveRead (items_of k separator input) numbers left → left ≡ Err flaw ∷ after
-      → items_of k separator input ≡ map Ok numbers ++ Err flaw ∷ []
+  pub after_error : (int : IntType) (separator : ℕ) (input : List ℕ) (numbers : List ℤ) (flaw : Flaw) (after : List (Result ℤ Flaw))
+      → items_of int separator input ≡ map Ok numbers ++ Err flaw ∷ after → after ≡ []
+  pub at_error : (int : IntType) (separator : ℕ) (input : List ℕ) (numbers : List ℤ) (left after : List (Result ℤ Flaw)) (flaw : Flaw)
+      → HaveRead (items_of int separator input) numbers left → left ≡ Err flaw ∷ after
+      → items_of int separator input ≡ map Ok numbers ++ Err flaw ∷ []

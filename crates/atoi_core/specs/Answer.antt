@@ -28,26 +28,26 @@ typed_prefix_answer {T} number result =
 -- whole slice if the call looks for no sign. `minus` says whether the digits are those of a
 -- negative number.
 abbrev pub whole_answer : Table → IntType → (minus skip : Bool) → List ℕ → Result ℤ Refusal
-whole_answer table k minus skip body =
+whole_answer table int minus skip body =
     map_answer (with_sign minus)
-    (whole_magnitude table (class_of k) (bound_of k minus) (limit_of k) skip body)
+    (whole_magnitude table (class_of int) (bound_of int minus) (limit_of int) skip body)
 
 -- The answer to the number at the start of a body, with the length of this number in bytes. `minus`
 -- says whether the digits are those of a negative number.
 abbrev pub prefix_answer : Table → IntType → (minus skip : Bool) → List ℕ → Result (ℤ × ℕ) Refusal
-prefix_answer table k minus skip body =
+prefix_answer table int minus skip body =
     map_answer (λ (found : ℕ × ℕ). (with_sign minus found.0, found.1))
-    (prefix_magnitude table (class_of k) (bound_of k minus) (limit_of k) skip body)
+    (prefix_magnitude table (class_of int) (bound_of int minus) (limit_of int) skip body)
 
 -- The answer to a whole slice: its sign is consumed, and its body is parsed with that sign.
 abbrev pub text_answer : Table → IntType → (skip plus : Bool) → List ℕ → Result ℤ Refusal
-text_answer table k skip plus s =
-    let sign = sign_of k.signed plus s in
-    whole_answer table k sign.minus skip sign.body
+text_answer table int skip plus s =
+    let sign = sign_of int.signed plus s in
+    whole_answer table int sign.minus skip sign.body
 
 -- This is what `parse` returns. It is `text_answer` with the decimal digits.
 abbrev pub parse_answer : IntType → (skip plus : Bool) → List ℕ → Result ℤ Refusal
-parse_answer k skip plus s = text_answer decimal_table k skip plus s
+parse_answer int skip plus s = text_answer decimal_table int skip plus s
 
 -- Adds `more` to the count in the answer of a prefix parse. A reason stays as it is.
 abbrev pub with_more : ℕ → Result (ℤ × ℕ) Refusal → Result (ℤ × ℕ) Refusal
@@ -56,10 +56,10 @@ with_more more answer = map_answer (λ (found : ℤ × ℕ). (found.0, found.1 +
 -- The answer to the number at the start of a slice. If a sign is consumed before the digits, the
 -- count includes the byte of this sign.
 abbrev pub text_prefix_answer : Table → IntType → (skip plus : Bool) → List ℕ → Result (ℤ × ℕ) Refusal
-text_prefix_answer table k skip plus s =
-    let sign = sign_of k.signed plus s in
-    with_more sign.taken (prefix_answer table k sign.minus skip sign.body)
+text_prefix_answer table int skip plus s =
+    let sign = sign_of int.signed plus s in
+    with_more sign.taken (prefix_answer table int sign.minus skip sign.body)
 
 -- This is what `parse_prefix` returns. It is `text_prefix_answer` with the decimal digits.
 abbrev pub parse_prefix_answer : IntType → (skip plus : Bool) → List ℕ → Result (ℤ × ℕ) Refusal
-parse_prefix_answer k skip plus s = text_prefix_answer decimal_table k skip plus s
+parse_prefix_answer int skip plus s = text_prefix_answer decimal_table int skip plus s

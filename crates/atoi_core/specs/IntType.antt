@@ -19,31 +19,31 @@ greatest_of bits false = 2 ^ bits - 1
 
 -- The type has one of the five sizes, 8, 16, 32, 64 and 128 bits, and its largest value is the one
 -- that `greatest_of` gives.
-pub record IsSized (k : IntType) : Type 0 where
-  pub bits : (k.bits ≡ 8) ⊎ ((k.bits ≡ 16) ⊎ ((k.bits ≡ 32) ⊎ ((k.bits ≡ 64) ⊎ (k.bits ≡ 128))))
-  pub greatest : k.greatest ≡ greatest_of k.bits k.signed
+pub record IsSized (int : IntType) : Type 0 where
+  pub bits : (int.bits ≡ 8) ⊎ ((int.bits ≡ 16) ⊎ ((int.bits ≡ 32) ⊎ ((int.bits ≡ 64) ⊎ (int.bits ≡ 128))))
+  pub greatest : int.greatest ≡ greatest_of int.bits int.signed
 
--- The fields of `k` are these three constants of a type: its number of bits, whether it is signed,
+-- The fields of `int` are these three constants of a type: its number of bits, whether it is signed,
 -- and its largest value.
-pub record IsTypeOf (k : IntType) (bits : ℕ) (signed : Bool) (greatest : ℕ) : Type 0 where
-  pub bits_are : k.bits ≡ bits
-  pub sign_is : k.signed ≡ signed
-  pub greatest_is : k.greatest ≡ greatest
+pub record IsTypeOf (int : IntType) (bits : ℕ) (signed : Bool) (greatest : ℕ) : Type 0 where
+  pub bits_are : int.bits ≡ bits
+  pub sign_is : int.signed ≡ signed
+  pub greatest_is : int.greatest ≡ greatest
 
 -- The width class of a type: at most 32 bits, 64 bits, or 128 bits.
 abbrev pub class_of : IntType → Class
-class_of k = if nat_le k.bits 32 then narrow else (if k.bits == 64 then wide64 else wide128)
+class_of int = if nat_le int.bits 32 then narrow else (if int.bits == 64 then wide64 else wide128)
 
 -- The largest magnitude in range; a magnitude is a value without its sign. Without a minus, this is
 -- the largest value. With a minus, which only a signed type has, it is one more: the magnitude of
 -- the smallest value.
 abbrev pub bound_of : IntType → Bool → ℕ
-bound_of k minus = if minus then k.greatest + 1 else k.greatest
+bound_of int minus = if minus then int.greatest + 1 else int.greatest
 
 -- How many digits the largest magnitude of a type of 64 or 128 bits has. This number is the same
 -- with a minus and without.
 abbrev pub limit_of : IntType → ℕ
-limit_of k = if k.bits == 64 then (if k.signed then 19 else 20) else 39
+limit_of int = if int.bits == 64 then (if int.signed then 19 else 20) else 39
 
 -- The twelve integer types. `usize` and `isize` have 64 bits.
 abbrev pub u8_type : IntType

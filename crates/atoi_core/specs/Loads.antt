@@ -45,5 +45,5 @@ pub record LoadsWithin (most unskipped : ℕ) (table : Table) (skip : Bool) (s :
 
 -- The loads of a parse of an integer type are within the bounds for its width class.
 abbrev pub TypedLoads : Table → IntType → Extent → Bool → List ℕ → (before after : ℕ) → Type 0
-TypedLoads table k extent skip s before after =
-    LoadsWithin (most_loads table (class_of k) s) (most_unskipped (class_of k)) table (skips_zeros (class_of k) extent skip) s before after
+TypedLoads table int extent skip s before after =
+    LoadsWithin (most_loads table (class_of int) s) (most_unskipped (class_of int)) table (skips_zeros (class_of int) extent skip) s before after

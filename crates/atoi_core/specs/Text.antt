@@ -30,25 +30,25 @@ is_plus minus = false
 -- The bytes are one or more decimal digits and nothing else, and they write the number. The number
 -- is their value, negated if `is_negative` holds, and is in the range of the type. (`is_negative`
 -- is meant for signed types only.) The definitions of digits and of their value are those of std.
-pub record DigitsWrite (k : IntType) (is_negative : Bool) (digits : List ℕ) (number : ℤ) : Type 0 where
+pub record DigitsWrite (int : IntType) (is_negative : Bool) (digits : List ℕ) (number : ℤ) : Type 0 where
   pub numeral : IsNumeral 10 digits
-  pub in_range : digits_value 10 digits ≤ bound_of k is_negative
+  pub in_range : digits_value 10 digits ≤ bound_of int is_negative
   pub value_is : number ≡ with_sign is_negative (digits_value 10 digits)
 
 -- The bytes are an optional sign and digits that write the number with that sign. A minus is
 -- allowed only if the type is signed, and a plus only if `takes_plus` holds.
-pub record TextWrites (k : IntType) (takes_plus : Bool) (s : List ℕ) (number : ℤ) : Type 0 where
+pub record TextWrites (int : IntType) (takes_plus : Bool) (s : List ℕ) (number : ℤ) : Type 0 where
   pub sign : SignMark
   pub digits : List ℕ
   pub parts : s ≡ sign_bytes sign ++ digits
-  pub signed : is_minus sign ≡ true → k.signed ≡ true
+  pub signed : is_minus sign ≡ true → int.signed ≡ true
   pub plus_taken : is_plus sign ≡ true → takes_plus ≡ true
-  pub written : DigitsWrite k (is_minus sign) digits number
+  pub written : DigitsWrite int (is_minus sign) digits number
 
 -- The bytes are a text of the type: they write some number of the type, and a plus is allowed.
-pub record IsText (k : IntType) (s : List ℕ) : Type 0 where
+pub record IsText (int : IntType) (s : List ℕ) : Type 0 where
   pub number : ℤ
-  pub written : TextWrites k true s number
+  pub written : TextWrites int true s number
 
 -- The first byte is a decimal digit.
 abbrev pub BeginsWithDigit : List ℕ → Type 0

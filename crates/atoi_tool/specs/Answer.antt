@@ -35,12 +35,12 @@ prefix_text (Err reason) = refusal_text reason
 
 -- The text of what a call returns for the slice `text`.
 abbrev pub call_text : Call → IntType → Flags → List ℕ → List ℕ
-call_text Parse k flags text = whole_text (parse_answer k flags.zeroes flags.plus text)
-call_text Pos k flags text = whole_text (whole_answer decimal_table k false flags.zeroes text)
-call_text Neg k flags text = whole_text (whole_answer decimal_table k true flags.zeroes text)
-call_text Prefix k flags text = prefix_text (parse_prefix_answer k flags.zeroes flags.plus text)
-call_text PrefixPos k flags text = prefix_text (prefix_answer decimal_table k false flags.zeroes text)
-call_text PrefixNeg k flags text = prefix_text (prefix_answer decimal_table k true flags.zeroes text)
+call_text Parse int flags text = whole_text (parse_answer int flags.zeroes flags.plus text)
+call_text Pos int flags text = whole_text (whole_answer decimal_table int false flags.zeroes text)
+call_text Neg int flags text = whole_text (whole_answer decimal_table int true flags.zeroes text)
+call_text Prefix int flags text = prefix_text (parse_prefix_answer int flags.zeroes flags.plus text)
+call_text PrefixPos int flags text = prefix_text (prefix_answer decimal_table int false flags.zeroes text)
+call_text PrefixNeg int flags text = prefix_text (prefix_answer decimal_table int true flags.zeroes text)
 
 -- The answer to a row about one number. It does not depend on the engine.
 abbrev pub row_text : Request → List ℕ → List ℕ
@@ -62,7 +62,7 @@ item_text (Err flaw) = codes " err " ++ refused_field_text flaw
 
 -- The word `col` and then all items of a column, in order.
 abbrev pub column_text : IntType → (separator : ℕ) → List ℕ → List ℕ
-column_text k separator text = codes "col" ++ flat_map item_text (items_of k separator text)
+column_text int separator text = codes "col" ++ flat_map item_text (items_of int separator text)
 
 -- The answer to a row about one number or about a column.
 abbrev pub query_text : Query → List ℕ → List ℕ

@@ -42,32 +42,32 @@ place_of-flaw_at index place (Ok found) = refl
 place_of-flaw_at index place (Err reason) = omega arith
 
 -- If each field writes a number, each field is a text of the type.
-texts_of : (k : IntType) (texts : List (List ℕ)) (values : List ℤ) → AllZip (TextWrites k true) texts values → All (IsText k) texts
-texts_of k [] [] written = All-nil (IsText k)
-texts_of k [] (value ∷ values) written = elim written [ ]
-texts_of k (text ∷ texts) [] written = elim written [ ]
-texts_of k (text ∷ texts) (value ∷ values) written =
-    All-cons (IsText k) text texts (record { number = value; written = written.0 }) (texts_of k texts values written.1)
+texts_of : (int : IntType) (texts : List (List ℕ)) (values : List ℤ) → AllZip (TextWrites int true) texts values → All (IsText int) texts
+texts_of int [] [] written = All-nil (IsText int)
+texts_of int [] (value ∷ values) written = elim written [ ]
+texts_of int (text ∷ texts) [] written = elim written [ ]
+texts_of int (text ∷ texts) (value ∷ values) written =
+    All-cons (IsText int) text texts (record { number = value; written = written.0 }) (texts_of int texts values written.1)
 
-module _ (k : IntType) (separator : ℕ) (input : List ℕ) (has : HasItems k separator input) (numbers : List ℤ) where
+module _ (int : IntType) (separator : ℕ) (input : List ℕ) (has : HasItems int separator input) (numbers : List ℤ) where
   whole_from_prefix : (others : List (List ℕ)) (last : List (Result ℤ Flaw)) → fields_of separator input ≡ has.texts ++ others
-      → EndsItems k (parse_prefix_answer k true true) (length has.texts) (place_after has.texts) (drop (place_after has.texts) input) others last
-      → map Ok numbers ≡ map Ok has.numbers ++ last → AllZip (TextWrites k true) (fields_of separator input) numbers
+      → EndsItems int (parse_prefix_answer int true true) (length has.texts) (place_after has.texts) (drop (place_after has.texts) input) others last
+      → map Ok numbers ≡ map Ok has.numbers ++ last → AllZip (TextWrites int true) (fields_of separator input) numbers
   whole_from_prefix [] last parts end same =
       let all : fields_of separator input ≡ has.texts = parts ∙ append-nil has.texts in
       let alone : map Ok numbers ≡ map Ok has.numbers = same ∙ (ap (λ l. map Ok has.numbers ++ l) end ∙ append-nil (map Ok has.numbers)) in
-      subst (λ fields. AllZip (TextWrites k true) fields numbers) (sym all) (subst (AllZip (TextWrites k true) has.texts) (sym (same_values numbers has.numbers alone)) has.written)
+      subst (λ fields. AllZip (TextWrites int true) fields numbers) (sym all) (subst (AllZip (TextWrites int true) has.texts) (sym (same_values numbers has.numbers alone)) has.written)
   whole_from_prefix (field ∷ others) last parts end same =
       absurd (no_error numbers has.numbers _ (same ∙ ap (λ l. map Ok has.numbers ++ l) end.1))
 
-  bad_of : All (IsText k) has.texts → (flaw : Flaw) (others : List (List ℕ)) (last : List (Result ℤ Flaw)) → fields_of separator input ≡ has.texts ++ others
-      → EndsItems k (parse_prefix_answer k true true) (length has.texts) (place_after has.texts) (drop (place_after has.texts) input) others last
-      → map Ok numbers ++ Err flaw ∷ [] ≡ map Ok has.numbers ++ last → IsFirstBad k separator input (index_of flaw) (place_of flaw)
+  bad_of : All (IsText int) has.texts → (flaw : Flaw) (others : List (List ℕ)) (last : List (Result ℤ Flaw)) → fields_of separator input ≡ has.texts ++ others
+      → EndsItems int (parse_prefix_answer int true true) (length has.texts) (place_after has.texts) (drop (place_after has.texts) input) others last
+      → map Ok numbers ++ Err flaw ∷ [] ≡ map Ok has.numbers ++ last → IsFirstBad int separator input (index_of flaw) (place_of flaw)
   bad_of good flaw [] last parts end same =
       absurd (no_error has.numbers numbers flaw (sym (append-nil (map Ok has.numbers)) ∙ (ap (λ l. map Ok has.numbers ++ l) (sym end) ∙ sym same)))
   bad_of good flaw (field ∷ others) last parts end same =
       let place : ℕ = place_after has.texts in
-      let read : Result (ℤ × ℕ) Refusal = parse_prefix_answer k true true (drop place input) in
+      let read : Result (ℤ × ℕ) Refusal = parse_prefix_answer int true true (drop place input) in
       let flaw_is : flaw ≡ flaw_at (length has.texts) place read =
       same_flaw numbers has.numbers flaw (flaw_at (length has.texts) place read) (same ∙ ap (λ l. map Ok has.numbers ++ l) end.1) in
       record {
@@ -82,12 +82,12 @@ module _ (k : IntType) (separator : ℕ) (input : List ℕ) (has : HasItems k se
         place_is = ap place_of flaw_is ∙ place_of-flaw_at (length has.texts) place read;
       }
 
-pub items_decide : (k : IntType) → TextsAndItems k → ItemsDecide k
-items_decide k law = record {
+pub items_decide : (int : IntType) → TextsAndItems int → ItemsDecide int
+items_decide int law = record {
   whole = λ separator input numbers same.
       let has = law separator input in
-      whole_from_prefix k separator input has numbers has.others has.last has.fields has.end (sym same ∙ has.items);
+      whole_from_prefix int separator input has numbers has.others has.last has.fields has.end (sym same ∙ has.items);
   first_bad = λ separator input numbers flaw same.
       let has = law separator input in
-      bad_of k separator input has numbers (texts_of k has.texts has.numbers has.written) flaw has.others has.last has.fields has.end (sym same ∙ has.items);
+      bad_of int separator input has numbers (texts_of int has.texts has.numbers has.written) flaw has.others has.last has.fields has.end (sym same ∙ has.items);
 }

@@ -113,79 +113,79 @@ drop_first n xs b ys h =
     ]
 
 -- If nothing is left, there are no items.
-pub items_left-nil : (k : IntType) (separator index place : ℕ) → items_left k separator index place [] ≡ []
+pub items_left-nil : (int : IntType) (separator index place : ℕ) → items_left int separator index place [] ≡ []
 unfolding items_left
-items_left-nil k separator index place = refl
+items_left-nil int separator index place = refl
 
-pub items_left-empty : (k : IntType) (separator index place : ℕ) (rest : List ℕ) → length rest ≡ 0 → items_left k separator index place rest ≡ []
-items_left-empty k separator index place [] h = items_left-nil k separator index place
-items_left-empty k separator index place (byte ∷ bytes) h = absurd (omega arith)
+pub items_left-empty : (int : IntType) (separator index place : ℕ) (rest : List ℕ) → length rest ≡ 0 → items_left int separator index place rest ≡ []
+items_left-empty int separator index place [] h = items_left-nil int separator index place
+items_left-empty int separator index place (byte ∷ bytes) h = absurd (omega arith)
 
 -- After the whole rest is read, there are no items.
-pub items_left-after_all : (k : IntType) (separator index place : ℕ) (rest : List ℕ)
-    → items_left k separator index place (take (length rest - length rest) (drop (length rest) rest)) ≡ []
-items_left-after_all k separator index place rest =
-    ap (items_left k separator index place) (take_rest rest (length rest) ∙ drop_all (length rest) rest (omega arith))
-    ∙ items_left-nil k separator index place
+pub items_left-after_all : (int : IntType) (separator index place : ℕ) (rest : List ℕ)
+    → items_left int separator index place (take (length rest - length rest) (drop (length rest) rest)) ≡ []
+items_left-after_all int separator index place rest =
+    ap (items_left int separator index place) (take_rest rest (length rest) ∙ drop_all (length rest) rest (omega arith))
+    ∙ items_left-nil int separator index place
 
-module _ (k : IntType) (separator index place : ℕ) where
+module _ (int : IntType) (separator index place : ℕ) where
   -- The number of items left is at most the number of bytes left.
-  pub length-items_left : (rest : List ℕ) → length (items_left k separator index place rest) ≤ length rest
+  pub length-items_left : (rest : List ℕ) → length (items_left int separator index place rest) ≤ length rest
   unfolding items_left
   length-items_left rest =
       omega (
         arith,
-        length-items_from (parse_answer k true true) (parse_prefix_answer k true true) index place rest (fields_of separator rest),
+        length-items_from (parse_answer int true true) (parse_prefix_answer int true true) index place rest (fields_of separator rest),
         length-fields_of separator rest,
       )
 
-  module _ (rest : List ℕ) (some : 0 < length rest) (law : FieldIsPrefix (parse_answer k true true) (parse_prefix_answer k true true) separator rest) where
-    value_then : (v : ℤ) (count : ℕ) → parse_prefix_answer k true true rest ≡ Ok (v, count)
+  module _ (rest : List ℕ) (some : 0 < length rest) (law : FieldIsPrefix (parse_answer int true true) (parse_prefix_answer int true true) separator rest) where
+    value_then : (v : ℤ) (count : ℕ) → parse_prefix_answer int true true rest ≡ Ok (v, count)
         → count ≡ position_or_len (λ byte. byte == separator) rest
-        → items_left k separator index place rest ≡ Ok v ∷ items_left k separator (index + 1) (place + count + 1) (drop (count + 1) rest)
+        → items_left int separator index place rest ≡ Ok v ∷ items_left int separator (index + 1) (place + count + 1) (drop (count + 1) rest)
     unfolding items_left
     value_then v count h ends =
-        rw ends (item-value (parse_answer k true true) (parse_prefix_answer k true true) separator index place rest some law v (rw ends at h))
+        rw ends (item-value (parse_answer int true true) (parse_prefix_answer int true true) separator index place rest some law v (rw ends at h))
 
-    flaw_alone : ((v : ℤ) → parse_prefix_answer k true true rest ≡ Ok (v, position_or_len (λ byte. byte == separator) rest) → ⊥)
-        → items_left k separator index place rest ≡ Err (flaw_at index place (parse_prefix_answer k true true rest)) ∷ []
+    flaw_alone : ((v : ℤ) → parse_prefix_answer int true true rest ≡ Ok (v, position_or_len (λ byte. byte == separator) rest) → ⊥)
+        → items_left int separator index place rest ≡ Err (flaw_at index place (parse_prefix_answer int true true rest)) ∷ []
     unfolding items_left
     flaw_alone none =
-        item-flaw (parse_answer k true true) (parse_prefix_answer k true true) separator index place rest some law none
+        item-flaw (parse_answer int true true) (parse_prefix_answer int true true) separator index place rest some law none
 
     -- If a number is followed by the separator, the value of this number is the first item, and the
     -- items of what comes after the separator follow.
-    pub items_left-ended : (v : ℤ) (count : ℕ) (following : List ℕ) → parse_prefix_answer k true true rest ≡ Ok (v, count)
+    pub items_left-ended : (v : ℤ) (count : ℕ) (following : List ℕ) → parse_prefix_answer int true true rest ≡ Ok (v, count)
         → drop count rest ≡ separator ∷ following
-        → items_left k separator index place rest ≡ Ok v ∷ items_left k separator (index + 1) (place + count + 1) following
+        → items_left int separator index place rest ≡ Ok v ∷ items_left int separator (index + 1) (place + count + 1) following
     items_left-ended v count following h cut =
         let first = drop_first count rest separator following cut in
-        value_then v count h (ends_with_field (parse_answer k true true) (parse_prefix_answer k true true) separator index place rest some law v count h first.0 first.1)
-        ∙ ap (λ t. Ok v ∷ items_left k separator (index + 1) (place + count + 1) t) first.2
+        value_then v count h (ends_with_field (parse_answer int true true) (parse_prefix_answer int true true) separator index place rest some law v count h first.0 first.1)
+        ∙ ap (λ t. Ok v ∷ items_left int separator (index + 1) (place + count + 1) t) first.2
 
     -- If a number ends with the input, its value is the only item.
-    pub items_left-last : (v : ℤ) (count : ℕ) → parse_prefix_answer k true true rest ≡ Ok (v, count)
-        → length rest ≤ count → items_left k separator index place rest ≡ Ok v ∷ []
+    pub items_left-last : (v : ℤ) (count : ℕ) → parse_prefix_answer int true true rest ≡ Ok (v, count)
+        → length rest ≤ count → items_left int separator index place rest ≡ Ok v ∷ []
     items_left-last v count h all =
         let within = law.within v count h in
         let end = prefix_len-le-length (λ byte. not (byte == separator)) rest in
         value_then v count h (omega arith)
-        ∙ ap (λ t. Ok v ∷ items_left k separator (index + 1) (place + count + 1) t) (drop_all (count + 1) rest (omega arith))
-        ∙ ap (λ items. Ok v ∷ items) (items_left-nil k separator (index + 1) (place + count + 1))
+        ∙ ap (λ t. Ok v ∷ items_left int separator (index + 1) (place + count + 1) t) (drop_all (count + 1) rest (omega arith))
+        ∙ ap (λ items. Ok v ∷ items) (items_left-nil int separator (index + 1) (place + count + 1))
 
     -- If a number is followed by a byte that is not the separator, the only item is the error
     -- `Trailing`.
-    pub items_left-trailing : (v : ℤ) (count byte : ℕ) (following : List ℕ) → parse_prefix_answer k true true rest ≡ Ok (v, count)
+    pub items_left-trailing : (v : ℤ) (count byte : ℕ) (following : List ℕ) → parse_prefix_answer int true true rest ≡ Ok (v, count)
         → drop count rest ≡ byte ∷ following → byte ≢ separator
-        → items_left k separator index place rest ≡ Err (trailing index (place + count)) ∷ []
+        → items_left int separator index place rest ≡ Err (trailing index (place + count)) ∷ []
     items_left-trailing v count byte following h cut other =
         let first = drop_first count rest byte following cut in
-        flaw_alone (ends_apart (parse_answer k true true) (parse_prefix_answer k true true) separator index place rest some law v count h first.0 (λ e. other (sym first.1 ∙ e)))
+        flaw_alone (ends_apart (parse_answer int true true) (parse_prefix_answer int true true) separator index place rest some law v count h first.0 (λ e. other (sym first.1 ∙ e)))
         ∙ ap (λ r. Err (flaw_at index place r) ∷ []) h
 
     -- If no number can be read, the only item is the error `Field`.
-    pub items_left-refused : (reason : Refusal) → parse_prefix_answer k true true rest ≡ Err reason
-        → items_left k separator index place rest ≡ Err (field index place reason) ∷ []
+    pub items_left-refused : (reason : Refusal) → parse_prefix_answer int true true rest ≡ Err reason
+        → items_left int separator index place rest ≡ Err (field index place reason) ∷ []
     items_left-refused reason h =
         flaw_alone (λ v ok. absurd (cc (h, ok))) ∙ ap (λ r. Err (flaw_at index place r) ∷ []) h
 

@@ -82,10 +82,10 @@ module _ (whole : List ℕ → Result ℤ Refusal) (prefix : List ℕ → Result
 
 -- The place of each error is within the input or at its end, and its index is less than the length
 -- of the input.
-pub items_left-inside : (k : IntType) → PrefixOfCut k → (separator : ℕ) (input : List ℕ)
-    → All (λ item. IfErr item (λ flaw. (place_of flaw ≤ length input) × (index_of flaw < length input))) (items_left k separator 0 0 input)
+pub items_left-inside : (int : IntType) → PrefixOfCut int → (separator : ℕ) (input : List ℕ)
+    → All (λ item. IfErr item (λ flaw. (place_of flaw ≤ length input) × (index_of flaw < length input))) (items_left int separator 0 0 input)
 unfolding items_left
-items_left-inside k law separator input =
-    items_from-inside (parse_answer k true true) (parse_prefix_answer k true true)
+items_left-inside int law separator input =
+    items_from-inside (parse_answer int true true) (parse_prefix_answer int true true)
     (λ rest v count h. (law.cut (looked_for true) true rest v count h).1) (length input) 0 0 input (fields_of separator input)
     (fields_of-place separator input) (omega (arith, length-fields_of separator input)) (λ some. omega arith)

@@ -74,26 +74,26 @@ and_false : (a b : Bool) → b ≡ false → (a && b) ≡ false
 and_false true b h = h
 and_false false b h = refl
 
-module _ (k : IntType) where
+module _ (int : IntType) where
   -- If a byte that is no digit, no plus and no minus follows a field, then this byte and all bytes
   -- after it change neither the sign that a call consumes nor the digits that it reads.
-  same_run_before : (b : ℕ) (ys : List ℕ) → IsApart b → (xs : List ℕ) → HaveSameRun k (looked_for true) xs (xs ++ b ∷ ys)
+  same_run_before : (b : ℕ) (ys : List ℕ) → IsApart b → (xs : List ℕ) → HaveSameRun int (looked_for true) xs (xs ++ b ∷ ys)
   same_run_before b ys is [] =
-      let none : sign_of k.signed true (b ∷ ys) ≡ record { minus = false; taken = 0; body = b ∷ ys } =
-      rw (is.no_plus, is.no_minus, and_false k.signed false refl) refl in
+      let none : sign_of int.signed true (b ∷ ys) ≡ record { minus = false; taken = 0; body = b ∷ ys } =
+      rw (is.no_plus, is.no_minus, and_false int.signed false refl) refl in
       record {
         minus = sym (ap (λ (g : Sign). g.minus) none);
         taken = sym (ap (λ (g : Sign). g.taken) none);
         run = prefix-stops (is_digit decimal_table) b ys is.no_digit [] ∙ sym (ap (λ (g : Sign). run decimal_table g.body) none);
       }
   same_run_before b ys is (x ∷ xs) =
-      let front = same_prefix b ys is.no_digit (x == plus_sign) (k.signed && x == minus_sign) x xs in
+      let front = same_prefix b ys is.no_digit (x == plus_sign) (int.signed && x == minus_sign) x xs in
       record { minus = front.minus; taken = front.taken; run = front.run }
 
   -- So a call consumes the same sign and reads the same digits in the first field and in the whole
   -- rest.
   same_run_of_field : (separator : ℕ) → is_separator separator ≡ true → (rest : List ℕ)
-      → HaveSameRun k (looked_for true) (before_first (λ byte. byte == separator) rest) rest
+      → HaveSameRun int (looked_for true) (before_first (λ byte. byte == separator) rest) rest
   same_run_of_field separator is rest =
       let p : ℕ → Bool = λ byte. byte == separator in
       elim (leb_tells (length rest) (position_or_len p rest)) [
@@ -102,7 +102,7 @@ module _ (k : IntType) where
             let at : get_or rest (position_or_len p rest) 0 ≡ separator = eqb-true _ _ (passes_at_first p rest 0 found.1) in
             let cut : before_first p rest ++ (separator ∷ after_first p rest) ≡ rest =
             ap (λ b. before_first p rest ++ (b ∷ after_first p rest)) (sym at) ∙ sym (split_at_first p rest 0 found.1) in
-            subst (λ r. HaveSameRun k (looked_for true) (before_first p rest) r) cut
+            subst (λ r. HaveSameRun int (looked_for true) (before_first p rest) r) cut
             (same_run_before separator (after_first p rest) (apart separator is) (before_first p rest))
       ]
 
@@ -118,21 +118,21 @@ same_outcome-ok_back (Err reason) (Ok y) z same h = absurd same
 same_outcome-ok_back a (Err other) z same h = absurd (cc h)
 
 -- The law `FieldsArePrefixes`, which follows from three laws of `atoi_core`.
-pub fields_are_prefixes : (k : IntType) → PrefixIsWhole k → PrefixOfCut k → RestChangesNothing k → FieldsArePrefixes k
-fields_are_prefixes k is_whole of_cut rest_changes separator is rest =
+pub fields_are_prefixes : (int : IntType) → PrefixIsWhole int → PrefixOfCut int → RestChangesNothing int → FieldsArePrefixes int
+fields_are_prefixes int is_whole of_cut rest_changes separator is rest =
     let p : ℕ → Bool = λ byte. byte == separator in
     let text : List ℕ = before_first p rest in
     let ends : length text ≡ position_or_len p rest = length-before_first p rest in
-    let same = rest_changes (looked_for true) true text rest (same_run_of_field k separator is rest) in
+    let same = rest_changes (looked_for true) true text rest (same_run_of_field int separator is rest) in
     record {
       to_prefix = λ value h.
-          same_outcome-ok (prefix_call k (looked_for true) true text) (prefix_call k (looked_for true) true rest) (value, position_or_len p rest) same
+          same_outcome-ok (prefix_call int (looked_for true) true text) (prefix_call int (looked_for true) true rest) (value, position_or_len p rest) same
           (rw ends at (is_whole.back (looked_for true) true text value (inl refl) h));
       to_field = λ value h.
           is_whole.whole (looked_for true) true text value
-          (rw ends (same_outcome-ok_back (prefix_call k (looked_for true) true text) (prefix_call k (looked_for true) true rest) (value, position_or_len p rest) same h));
+          (rw ends (same_outcome-ok_back (prefix_call int (looked_for true) true text) (prefix_call int (looked_for true) true rest) (value, position_or_len p rest) same h));
       within = λ value count h.
           let cut = of_cut.cut (looked_for true) true text value count
-          (same_outcome-ok_back (prefix_call k (looked_for true) true text) (prefix_call k (looked_for true) true rest) (value, count) same h) in
+          (same_outcome-ok_back (prefix_call int (looked_for true) true text) (prefix_call int (looked_for true) true rest) (value, count) same h) in
           omega (arith, cut.1, ends);
     }

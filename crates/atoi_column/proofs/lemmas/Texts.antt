@@ -15,11 +15,11 @@ use Rattle.atoi_column.specs.Laws.{place_after, EndsItems, TextsAndItems}
 use Rattle.atoi_column.proofs.lemmas.Items.{items_from-ok, items_from-err}
 
 -- A field is accepted and writes its number, or it is refused and is no text of the type.
-data IsRead (k : IntType) (whole : List ℕ → Result ℤ Refusal) (text : List ℕ) : Type 0 where
-  accepted : (v : ℤ) → whole text ≡ Ok v → TextWrites k true text v → IsRead k whole text
-  refused : ((v : ℤ) → whole text ≡ Ok v → ⊥) → ¬ IsText k text → IsRead k whole text
+data IsRead (int : IntType) (whole : List ℕ → Result ℤ Refusal) (text : List ℕ) : Type 0 where
+  accepted : (v : ℤ) → whole text ≡ Ok v → TextWrites int true text v → IsRead int whole text
+  refused : ((v : ℤ) → whole text ≡ Ok v → ⊥) → ¬ IsText int text → IsRead int whole text
 
-module _ (k : IntType) (whole : List ℕ → Result ℤ Refusal) (prefix : List ℕ → Result (ℤ × ℕ) Refusal) (read : (text : List ℕ) → IsRead k whole text) where
+module _ (int : IntType) (whole : List ℕ → Result ℤ Refusal) (prefix : List ℕ → Result (ℤ × ℕ) Refusal) (read : (text : List ℕ) → IsRead int whole text) where
   -- `HasItems` for some of the fields: the first of them has the index `index` and begins at
   -- `place`.
   record HasItemsFrom (index place : ℕ) (rest : List ℕ) (fields : List (List ℕ)) : Type 0 where
@@ -28,15 +28,15 @@ module _ (k : IntType) (whole : List ℕ → Result ℤ Refusal) (prefix : List 
     numbers : List ℤ
     last : List (Result ℤ Flaw)
     parts : fields ≡ texts ++ others
-    written : AllZip (TextWrites k true) texts numbers
+    written : AllZip (TextWrites int true) texts numbers
     items : items_from whole prefix index place rest fields ≡ map Ok numbers ++ last
-    end : EndsItems k prefix (index + length texts) (place + place_after texts) (drop (place_after texts) rest) others last
+    end : EndsItems int prefix (index + length texts) (place + place_after texts) (drop (place_after texts) rest) others last
 
   -- If the items of some fields end as `EndsItems` says, then the items with one more field before
   -- these fields end in this way too.
   ends_after : (index place : ℕ) (rest text : List ℕ) (texts others : List (List ℕ)) (last : List (Result ℤ Flaw))
-      → EndsItems k prefix (index + 1 + length texts) (place + length text + 1 + place_after texts) (drop (place_after texts) (drop (length text + 1) rest)) others last
-      → EndsItems k prefix (index + length (text ∷ texts)) (place + place_after (text ∷ texts)) (drop (place_after (text ∷ texts)) rest) others last
+      → EndsItems int prefix (index + 1 + length texts) (place + length text + 1 + place_after texts) (drop (place_after texts) (drop (length text + 1) rest)) others last
+      → EndsItems int prefix (index + length (text ∷ texts)) (place + place_after (text ∷ texts)) (drop (place_after (text ∷ texts)) rest) others last
   ends_after index place rest text texts others last h =
       let further : place_after (text ∷ texts) ≡ length text + 1 + place_after texts = sum_by-cons (λ t. length t + 1) text texts in
       let count : index + length (text ∷ texts) ≡ index + 1 + length texts = omega arith in
@@ -74,20 +74,20 @@ ok_or_err : (r : Result ℤ Refusal) (v : ℤ) (reason : Refusal) → r ≡ Ok v
 ok_or_err r v reason h other = absurd (cc)
 
 -- A field that is a text of the type is accepted with its number, and no other field is accepted.
-module _ (k : IntType) (texts : AcceptedTexts k) (numbers : AcceptedNumbers k) (text : List ℕ) where
-  read_as : (r : Result ℤ Refusal) → parse_answer k true true text ≡ r → IsRead k (parse_answer k true true) text
+module _ (int : IntType) (texts : AcceptedTexts int) (numbers : AcceptedNumbers int) (text : List ℕ) where
+  read_as : (r : Result ℤ Refusal) → parse_answer int true true text ≡ r → IsRead int (parse_answer int true true) text
   read_as (Ok v) h = accepted v h (numbers.written (looked_for true) true text v h)
   read_as (Err reason) h =
-      refused (λ v ok. ok_or_err (parse_answer k true true text) v reason ok h)
-      (λ is. ok_or_err (parse_answer k true true text) _ reason (texts.number text is.number is.written) h)
+      refused (λ v ok. ok_or_err (parse_answer int true true text) v reason ok h)
+      (λ is. ok_or_err (parse_answer int true true text) _ reason (texts.number text is.number is.written) h)
 
-  read_by_law : IsRead k (parse_answer k true true) text
-  read_by_law = read_as (parse_answer k true true text) refl
+  read_by_law : IsRead int (parse_answer int true true) text
+  read_by_law = read_as (parse_answer int true true text) refl
 
-pub texts_and_items : (k : IntType) → AcceptedTexts k → AcceptedNumbers k → TextsAndItems k
+pub texts_and_items : (int : IntType) → AcceptedTexts int → AcceptedNumbers int → TextsAndItems int
 unfolding items_left
-texts_and_items k texts numbers separator input =
-    let from = has_items_from k (parse_answer k true true) (parse_prefix_answer k true true) (read_by_law k texts numbers) 0 0 input (fields_of separator input) in
+texts_and_items int texts numbers separator input =
+    let from = has_items_from int (parse_answer int true true) (parse_prefix_answer int true true) (read_by_law int texts numbers) 0 0 input (fields_of separator input) in
     record {
       texts = from.texts;
       others = from.others;

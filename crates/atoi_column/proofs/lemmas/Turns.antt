@@ -37,11 +37,11 @@ module _ (whole : List ℕ → Result ℤ Refusal) (prefix : List ℕ → Result
         | Err reason ↦ after_flaw (flaw_at index place (prefix rest)) numbers flaw after
       ] same
 
-after_error : (k : IntType) (separator : ℕ) (input : List ℕ) (numbers : List ℤ) (flaw : Flaw) (after : List (Result ℤ Flaw))
-    → items_of k separator input ≡ map Ok numbers ++ Err flaw ∷ after → after ≡ []
+after_error : (int : IntType) (separator : ℕ) (input : List ℕ) (numbers : List ℤ) (flaw : Flaw) (after : List (Result ℤ Flaw))
+    → items_of int separator input ≡ map Ok numbers ++ Err flaw ∷ after → after ≡ []
 unfolding items_left
-after_error k separator input numbers flaw after same =
-    following_error (parse_answer k true true) (parse_prefix_answer k true true) flaw after 0 0 input (fields_of separator input) numbers same
+after_error int separator input numbers flaw after same =
+    following_error (parse_answer int true true) (parse_prefix_answer int true true) flaw after 0 0 input (fields_of separator input) numbers same
 
 one_more : (items left after : List (Result ℤ Flaw)) (numbers : List ℤ) (number : ℤ) → HaveRead items numbers left
     → left ≡ Ok number ∷ after → HaveRead items (numbers ++ number ∷ []) after
@@ -59,7 +59,7 @@ items_in_turn = record {
   more = one_more;
   all = λ items left numbers read none. read.parts ∙ (ap (λ rest. map Ok numbers ++ rest) none ∙ append-nil (map Ok numbers));
   after_error = after_error;
-  at_error = λ k separator input numbers left after flaw read next.
-      let same : items_of k separator input ≡ map Ok numbers ++ Err flaw ∷ after = read.parts ∙ ap (λ rest. map Ok numbers ++ rest) next in
-      same ∙ ap (λ rest. map Ok numbers ++ Err flaw ∷ rest) (after_error k separator input numbers flaw after same);
+  at_error = λ int separator input numbers left after flaw read next.
+      let same : items_of int separator input ≡ map Ok numbers ++ Err flaw ∷ after = read.parts ∙ ap (λ rest. map Ok numbers ++ rest) next in
+      same ∙ ap (λ rest. map Ok numbers ++ Err flaw ∷ rest) (after_error int separator input numbers flaw after same);
 }

@@ -48,11 +48,11 @@ long_as_whole wide128 skip limit count h = h
 
 -- If zeros are skipped, or the type has more than 32 bits, a prefix has the same limit as a whole
 -- slice.
-pub limit_of_prefix : (k : IntType) (skip : Bool) (limit : ℕ) → HasLimitOfWhole k skip → limit_at (class_of k) prefix skip limit ≡ limit_at (class_of k) whole skip limit
-limit_of_prefix k skip limit h =
+pub limit_of_prefix : (int : IntType) (skip : Bool) (limit : ℕ) → HasLimitOfWhole int skip → limit_at (class_of int) prefix skip limit ≡ limit_at (class_of int) whole skip limit
+limit_of_prefix int skip limit h =
     elim h [
-      | inl e ↦ rw e (skipping (class_of k))
-      | inr lt ↦ rw (lt-leb k.bits 32 lt) (wide (eqb k.bits 64))
+      | inl e ↦ rw e (skipping (class_of int))
+      | inr lt ↦ rw (lt-leb int.bits 32 lt) (wide (eqb int.bits 64))
     ]
   where
     skipping : (class : Class) → limit_at class prefix true limit ≡ limit_at class whole true limit
@@ -82,17 +82,17 @@ bound-64 true false = omega arith
 bound-64 false true = omega arith
 bound-64 false false = omega arith
 
--- If a type has more than 32 bits, its bound has at most `limit_of k` digits, with a minus and
+-- If a type has more than 32 bits, its bound has at most `limit_of int` digits, with a minus and
 -- without.
-pub bound-limit : (k : IntType) → IsSized k → (minus : Bool)
-    → (class_of k ≡ narrow) ⊎ (bound_of k minus < 10 ^ limit_of k)
-bound-limit k sized minus =
+pub bound-limit : (int : IntType) → IsSized int → (minus : Bool)
+    → (class_of int ≡ narrow) ⊎ (bound_of int minus < 10 ^ limit_of int)
+bound-limit int sized minus =
     elim sized.bits [
       | inl e ↦ inl (rw e refl)
       | inr (inl e) ↦ inl (rw e refl)
       | inr (inr (inl e)) ↦ inl (rw e refl)
-      | inr (inr (inr (inl e))) ↦ inr (rw (sized.greatest, e) (bound-64 k.signed minus))
-      | inr (inr (inr (inr e))) ↦ inr (rw (sized.greatest, e) (magnitude_below 39 128 k.signed minus (omega arith) (omega arith)))
+      | inr (inr (inr (inl e))) ↦ inr (rw (sized.greatest, e) (bound-64 int.signed minus))
+      | inr (inr (inr (inr e))) ↦ inr (rw (sized.greatest, e) (magnitude_below 39 128 int.signed minus (omega arith) (omega arith)))
     ]
 
 -- For each of the five sizes, the bounds of the signed and of the unsigned type are below 10^64.
@@ -108,8 +108,8 @@ below-64 bits signed minus h =
     ]
 
 -- So the bounds of every integer type are below 10^64.
-pub bound_below-64 : (k : IntType) → IsSized k → (minus : Bool) → bound_of k minus < 10 ^ 64
-bound_below-64 k sized minus = rw sized.greatest (below-64 k.bits k.signed minus sized.bits)
+pub bound_below-64 : (int : IntType) → IsSized int → (minus : Bool) → bound_of int minus < 10 ^ 64
+bound_below-64 int sized minus = rw sized.greatest (below-64 int.bits int.signed minus sized.bits)
 
 -- If the value of a run is below 10^limit, the run has at most `limit` digits after its leading
 -- zeros.
@@ -126,13 +126,13 @@ places-le table s limit h =
 
 -- If zeros are skipped and the value is in range, a whole slice does not have too many significant
 -- digits.
-pub in_range_short : (table : Table) (k : IntType) → IsSized k → (minus : Bool) (s : List ℕ)
-    → value table (run table s) ≤ bound_of k minus
-    → is_above (limit_at (class_of k) whole true (limit_of k)) (significant_digits table true s) ≡ false
-in_range_short table k sized minus s le =
-    elim (bound-limit k sized minus) [
+pub in_range_short : (table : Table) (int : IntType) → IsSized int → (minus : Bool) (s : List ℕ)
+    → value table (run table s) ≤ bound_of int minus
+    → is_above (limit_at (class_of int) whole true (limit_of int)) (significant_digits table true s) ≡ false
+in_range_short table int sized minus s le =
+    elim (bound-limit int sized minus) [
       | inl e ↦ rw e refl
-      | inr lt ↦ short_enough (class_of k) true (limit_of k) _ (places-le table s (limit_of k) (lt_of_le_of_lt le lt))
+      | inr lt ↦ short_enough (class_of int) true (limit_of int) _ (places-le table s (limit_of int) (lt_of_le_of_lt le lt))
     ]
 
 -- ---- Both signs from one parse
@@ -160,11 +160,11 @@ leading_zeros t below digits number has s is =
       | inr enough ↦ omega arith
     ]
 
-module _ (k : IntType) (skip : Bool) (limit digits skipped : ℕ) where
+module _ (int : IntType) (skip : Bool) (limit digits skipped : ℕ) where
   -- For the parse of a whole slice, the slice in `Overflow` leaves out the skipped zeros if the
   -- type has more than 32 bits. Otherwise it leaves out no zeros.
-  pub dropped_whole : (rule_of (class_of k) whole skip limit digits skipped).dropped ≡ cond (leb k.bits 32) 0 skipped
-  dropped_whole = wide (leb k.bits 32) (eqb k.bits 64)
+  pub dropped_whole : (rule_of (class_of int) whole skip limit digits skipped).dropped ≡ cond (leb int.bits 32) 0 skipped
+  dropped_whole = wide (leb int.bits 32) (eqb int.bits 64)
     where
       wide : (small middle : Bool) → (rule_of (cond small narrow (cond middle wide64 wide128)) whole skip limit digits skipped).dropped ≡ cond small 0 skipped
       wide true middle = refl
@@ -176,9 +176,9 @@ module _ (k : IntType) (skip : Bool) (limit digits skipped : ℕ) where
   -- bytes than the skipped zeros do, then the slice leaves out only the zeros that fill whole
   -- blocks.
   pub dropped_prefix : (skip ≡ false → skipped ≡ 0)
-      → (rule_of (class_of k) prefix skip limit digits skipped).dropped
-      ≡ cond (leb k.bits 32 && not (ltb (skipped / 16) (digits / 16))) (16 * (skipped / 16)) skipped
-  dropped_prefix = cases (leb k.bits 32) (eqb k.bits 64) skip
+      → (rule_of (class_of int) prefix skip limit digits skipped).dropped
+      ≡ cond (leb int.bits 32 && not (ltb (skipped / 16) (digits / 16))) (16 * (skipped / 16)) skipped
+  dropped_prefix = cases (leb int.bits 32) (eqb int.bits 64) skip
     where
       cases : (small middle skips : Bool) → (skips ≡ false → skipped ≡ 0)
           → (rule_of (cond small narrow (cond middle wide64 wide128)) prefix skips limit digits skipped).dropped
@@ -234,79 +234,79 @@ only_fourth false false false false p q r i reason least hp hq hr more h = absur
 
 -- If a magnitude is within the negative bound, but above the bound for `minus`, then it is the
 -- magnitude of `T::MIN`.
-only_least : (k : IntType) (minus : Bool) (v : ℕ) → v ≤ bound_of k true → bound_of k minus < v → v ≡ k.greatest + 1
-only_least k true v most above = absurd (omega arith)
-only_least k false v most above = omega arith
+only_least : (int : IntType) (minus : Bool) (v : ℕ) → v ≤ bound_of int true → bound_of int minus < v → v ≡ int.greatest + 1
+only_least int true v most above = absurd (omega arith)
+only_least int false v most above = omega arith
 
-module _ (t : Table) (k : IntType) (minus : Bool) (extent : Extent) (skip : Bool) (s : List ℕ) where
+module _ (t : Table) (int : IntType) (minus : Bool) (extent : Extent) (skip : Bool) (s : List ℕ) where
   -- The refusal of the body under the bound of a sign.
   abbrev pub refused : Bool → Option Refusal
-  refused sign = refusal t (class_of k) (bound_of k sign) (limit_of k) extent skip s
+  refused sign = refusal t (class_of int) (bound_of int sign) (limit_of int) extent skip s
 
   -- The error `Overflow` for this body.
   abbrev pub overflows : Refusal
-  overflows = overflow (drop (rule_of (class_of k) extent skip (limit_of k) (run_len t s) (skipped_zeros t skip s)).dropped s)
+  overflows = overflow (drop (rule_of (class_of int) extent skip (limit_of int) (run_len t s) (skipped_zeros t skip s)).dropped s)
 
   -- The digits spell the magnitude of `T::MIN`, and under the bound for `minus` the refusal is
   -- `Overflow`.
   pub record IsLeast : Type 0 where
-    pub least : value t (run t s) ≡ k.greatest + 1
+    pub least : value t (run t s) ≡ int.greatest + 1
     pub refused_is : refused minus ≡ Some overflows
 
   -- If a body is accepted under the negative bound, and its value is within the bound for `minus`,
   -- then it is accepted under that bound too.
-  accepted_too : refused true ≡ None → value t (run t s) ≤ bound_of k minus → refused minus ≡ None
+  accepted_too : refused true ≡ None → value t (run t s) ≤ bound_of int minus → refused minus ≡ None
   accepted_too h within =
-      let fact = accepted t (class_of k) (bound_of k true) (limit_of k) extent skip s h in
-      refusal-none t (class_of k) (bound_of k minus) (limit_of k) extent skip s (record { some = fact.some; short = fact.short; in_range = within; ends = fact.ends })
+      let fact = accepted t (class_of int) (bound_of int true) (limit_of int) extent skip s h in
+      refusal-none t (class_of int) (bound_of int minus) (limit_of int) extent skip s (record { some = fact.some; short = fact.short; in_range = within; ends = fact.ends })
 
   -- If a body is accepted under the negative bound, and its value is above the bound for `minus`,
   -- then this value is the magnitude of `T::MIN` and overflows (`IsLeast`).
-  accepted_least : refused true ≡ None → bound_of k minus < value t (run t s) → IsLeast
+  accepted_least : refused true ≡ None → bound_of int minus < value t (run t s) → IsLeast
   accepted_least h above =
-      let fact = accepted t (class_of k) (bound_of k true) (limit_of k) extent skip s h in
+      let fact = accepted t (class_of int) (bound_of int true) (limit_of int) extent skip s h in
       record {
-        least = only_least k minus (value t (run t s)) fact.in_range above;
-        refused_is = refused_overflow t (class_of k) (bound_of k minus) (limit_of k) extent skip s fact.some fact.short above;
+        least = only_least int minus (value t (run t s)) fact.in_range above;
+        refused_is = refused_overflow t (class_of int) (bound_of int minus) (limit_of int) extent skip s fact.some fact.short above;
       }
 
   -- A body that is refused under the negative bound is refused with the same error under the bound
   -- for `minus`, unless the value in the error (`number_in`) is above that bound.
-  refused_too : (reason : Refusal) → refused true ≡ Some reason → number_in reason ≤ bound_of k minus → refused minus ≡ Some reason
+  refused_too : (reason : Refusal) → refused true ≡ Some reason → number_in reason ≤ bound_of int minus → refused minus ≡ Some reason
   refused_too reason h within =
       let number = value t (run t s) in
-      let shown : followed t (class_of k) (bound_of k minus) (limit_of k) extent skip s ≡ reason → number ≤ bound_of k minus =
-      λ e. omega (arith, ap number_in e, number_in-invalid (class_of k) number (run_len t s) s) in
-      let less : bound_of k minus ≤ bound_of k true = bound-true k minus in
-      refusal-is t (class_of k) (bound_of k minus) (limit_of k) extent skip s
-      ∙ other_third (is_empty t (class_of k) (bound_of k minus) (limit_of k) extent skip s) (is_long t (class_of k) (bound_of k minus) (limit_of k) extent skip s)
-      (ltb (bound_of k true) number) (ltb (bound_of k minus) number) (is_followed t (class_of k) (bound_of k minus) (limit_of k) extent skip s)
-      empty (too_long t (class_of k) (bound_of k minus) (limit_of k) extent skip s) (over t (class_of k) (bound_of k minus) (limit_of k) extent skip s) (followed t (class_of k) (bound_of k minus) (limit_of k) extent skip s) reason
-      (λ e. lt-ltb (bound_of k minus) number (omega (arith, ltb-true (bound_of k true) number e)))
-      (λ e. le-ltb (bound_of k minus) number (shown e))
-      (sym (refusal-is t (class_of k) (bound_of k true) (limit_of k) extent skip s) ∙ h)
+      let shown : followed t (class_of int) (bound_of int minus) (limit_of int) extent skip s ≡ reason → number ≤ bound_of int minus =
+      λ e. omega (arith, ap number_in e, number_in-invalid (class_of int) number (run_len t s) s) in
+      let less : bound_of int minus ≤ bound_of int true = bound-true int minus in
+      refusal-is t (class_of int) (bound_of int minus) (limit_of int) extent skip s
+      ∙ other_third (is_empty t (class_of int) (bound_of int minus) (limit_of int) extent skip s) (is_long t (class_of int) (bound_of int minus) (limit_of int) extent skip s)
+      (ltb (bound_of int true) number) (ltb (bound_of int minus) number) (is_followed t (class_of int) (bound_of int minus) (limit_of int) extent skip s)
+      empty (too_long t (class_of int) (bound_of int minus) (limit_of int) extent skip s) (over t (class_of int) (bound_of int minus) (limit_of int) extent skip s) (followed t (class_of int) (bound_of int minus) (limit_of int) extent skip s) reason
+      (λ e. lt-ltb (bound_of int minus) number (omega (arith, ltb-true (bound_of int true) number e)))
+      (λ e. le-ltb (bound_of int minus) number (shown e))
+      (sym (refusal-is t (class_of int) (bound_of int true) (limit_of int) extent skip s) ∙ h)
     where
-      bound-true : (k : IntType) (minus : Bool) → bound_of k minus ≤ bound_of k true
-      bound-true k true = omega arith
-      bound-true k false = omega arith
+      bound-true : (int : IntType) (minus : Bool) → bound_of int minus ≤ bound_of int true
+      bound-true int true = omega arith
+      bound-true int false = omega arith
 
   -- If a body is refused under the negative bound, and the value in the error is above the bound
   -- for `minus`, then the digits spell the magnitude of `T::MIN` and overflow (`IsLeast`). The
   -- index in the error is the number of these digits.
-  refused_least : (reason : Refusal) → refused true ≡ Some reason → bound_of k minus < number_in reason → IsLeast × (index_in reason ≡ run_len t s)
+  refused_least : (reason : Refusal) → refused true ≡ Some reason → bound_of int minus < number_in reason → IsLeast × (index_in reason ≡ run_len t s)
   refused_least reason h above =
       let number = value t (run t s) in
-      let tests = only_fourth (is_empty t (class_of k) (bound_of k true) (limit_of k) extent skip s) (is_long t (class_of k) (bound_of k true) (limit_of k) extent skip s)
-      (ltb (bound_of k true) number) (is_followed t (class_of k) (bound_of k true) (limit_of k) extent skip s)
-      empty (too_long t (class_of k) (bound_of k true) (limit_of k) extent skip s) (over t (class_of k) (bound_of k true) (limit_of k) extent skip s) (followed t (class_of k) (bound_of k true) (limit_of k) extent skip s)
-      reason (bound_of k minus) refl refl refl above (sym (refusal-is t (class_of k) (bound_of k true) (limit_of k) extent skip s) ∙ h) in
-      let number_is : number ≡ number_in reason = sym (number_in-invalid (class_of k) number (run_len t s) s) ∙ ap number_in tests.3 in
-      let index_is : run_len t s ≡ index_in reason = sym (index_in-invalid (class_of k) number (run_len t s) s) ∙ ap index_in tests.3 in
-      let most : number ≤ bound_of k true = ltb-false (bound_of k true) number tests.2 in
-      let more : bound_of k minus < number = omega arith in (
+      let tests = only_fourth (is_empty t (class_of int) (bound_of int true) (limit_of int) extent skip s) (is_long t (class_of int) (bound_of int true) (limit_of int) extent skip s)
+      (ltb (bound_of int true) number) (is_followed t (class_of int) (bound_of int true) (limit_of int) extent skip s)
+      empty (too_long t (class_of int) (bound_of int true) (limit_of int) extent skip s) (over t (class_of int) (bound_of int true) (limit_of int) extent skip s) (followed t (class_of int) (bound_of int true) (limit_of int) extent skip s)
+      reason (bound_of int minus) refl refl refl above (sym (refusal-is t (class_of int) (bound_of int true) (limit_of int) extent skip s) ∙ h) in
+      let number_is : number ≡ number_in reason = sym (number_in-invalid (class_of int) number (run_len t s) s) ∙ ap number_in tests.3 in
+      let index_is : run_len t s ≡ index_in reason = sym (index_in-invalid (class_of int) number (run_len t s) s) ∙ ap index_in tests.3 in
+      let most : number ≤ bound_of int true = ltb-false (bound_of int true) number tests.2 in
+      let more : bound_of int minus < number = omega arith in (
         record {
-          least = only_least k minus number most more;
-          refused_is = refused_overflow t (class_of k) (bound_of k minus) (limit_of k) extent skip s (omega (arith, eqb-false (run_len t s) 0 tests.0)) tests.1 more;
+          least = only_least int minus number most more;
+          refused_is = refused_overflow t (class_of int) (bound_of int minus) (limit_of int) extent skip s (omega (arith, eqb-false (run_len t s) 0 tests.0)) tests.1 more;
         },
         sym index_is,
       )
@@ -337,86 +337,86 @@ not_counted false index h = refl
 -- itself; otherwise it holds the magnitude of `negative`. But if the number that `either` would
 -- hold is out of range, `either` is `None`.
 abbrev pub IsInRange : IntType → Bool → (negative : ℤ) → Option ℤ → Type 0
-IsInRange k minus negative either =
+IsInRange int minus negative either =
     (magnitude : ℕ) → negative ≡ with_sign true magnitude
-    → either ≡ cond (ltb (bound_of k minus) magnitude) None (Some (with_sign minus magnitude))
+    → either ≡ cond (ltb (bound_of int minus) magnitude) None (Some (with_sign minus magnitude))
 
-module _ (t : Table) (k : IntType) (minus skip : Bool) (s : List ℕ) where
+module _ (t : Table) (int : IntType) (minus skip : Bool) (s : List ℕ) where
   -- Let `x` be the answer for a whole slice under the negative bound, and let `y` be the number
   -- with the same magnitude, and with a minus if `minus` is set. If `y` is in range (`IsInRange`),
   -- then it is the answer under the bound for `minus`.
-  pub whole_number : (x y : ℤ) → Ok x ≡ whole_answer t k true skip s → IsInRange k minus x (Some y) → Ok y ≡ whole_answer t k minus skip s
+  pub whole_number : (x y : ℤ) → Ok x ≡ whole_answer t int true skip s → IsInRange int minus x (Some y) → Ok y ≡ whole_answer t int minus skip s
   whole_number x y h fact =
       let both = map_unless_ok (with_sign true) _ _ x (sym h) in
       let number = chosen _ y _ (fact (value t (run t s)) both.1) in
-      rw (accepted_too t k minus whole skip s both.0 (ltb-false _ _ number.0)) (ap Ok number.1)
+      rw (accepted_too t int minus whole skip s both.0 (ltb-false _ _ number.0)) (ap Ok number.1)
 
   -- If a whole slice is accepted under the negative bound, but its number is out of range with the
   -- sign for `minus`, then the digits spell the magnitude of `T::MIN` and overflow (`IsLeast`). The
   -- slice consists of these digits.
-  pub whole_least : (x : ℤ) → Ok x ≡ whole_answer t k true skip s → IsInRange k minus x None → IsLeast t k minus whole skip s × (length s ≡ run_len t s)
+  pub whole_least : (x : ℤ) → Ok x ≡ whole_answer t int true skip s → IsInRange int minus x None → IsLeast t int minus whole skip s × (length s ≡ run_len t s)
   whole_least x h fact =
       let both = map_unless_ok (with_sign true) _ _ x (sym h) in
       let above = not_chosen _ _ (fact (value t (run t s)) both.1) in
-      let was = accepted t (class_of k) (bound_of k true) (limit_of k) whole skip s both.0 in
-      (accepted_least t k minus whole skip s both.0 (ltb-true _ _ above), sym (whole_is_run (run_len t s) (length s) was.ends))
+      let was = accepted t (class_of int) (bound_of int true) (limit_of int) whole skip s both.0 in
+      (accepted_least t int minus whole skip s both.0 (ltb-true _ _ above), sym (whole_is_run (run_len t s) (length s) was.ends))
 
   -- If a whole slice is refused under the negative bound, and the value in the error is not above
   -- the bound for `minus`, then the slice is refused with the same error under the bound for
   -- `minus`.
-  pub whole_error : (reason : Refusal) → Err reason ≡ whole_answer t k true skip s
-      → None ≡ cond (ltb (bound_of k minus) (number_in reason)) (Some (index_in reason)) None → Err reason ≡ whole_answer t k minus skip s
+  pub whole_error : (reason : Refusal) → Err reason ≡ whole_answer t int true skip s
+      → None ≡ cond (ltb (bound_of int minus) (number_in reason)) (Some (index_in reason)) None → Err reason ≡ whole_answer t int minus skip s
   whole_error reason h none =
-      rw (refused_too t k minus whole skip s reason (map_unless_err (with_sign true) _ _ reason (sym h)) (ltb-false _ _ (not_counted _ _ none))) refl
+      rw (refused_too t int minus whole skip s reason (map_unless_err (with_sign true) _ _ reason (sym h)) (ltb-false _ _ (not_counted _ _ none))) refl
 
   -- If a whole slice is refused under the negative bound, and the value in the error is above the
   -- bound for `minus`, then the digits spell the magnitude of `T::MIN` and overflow (`IsLeast`).
   -- The index in the error, `count`, is the number of these digits.
-  pub whole_error_least : (reason : Refusal) (count : ℕ) → Err reason ≡ whole_answer t k true skip s
-      → Some count ≡ cond (ltb (bound_of k minus) (number_in reason)) (Some (index_in reason)) None → IsLeast t k minus whole skip s × (count ≡ run_len t s)
+  pub whole_error_least : (reason : Refusal) (count : ℕ) → Err reason ≡ whole_answer t int true skip s
+      → Some count ≡ cond (ltb (bound_of int minus) (number_in reason)) (Some (index_in reason)) None → IsLeast t int minus whole skip s × (count ≡ run_len t s)
   whole_error_least reason count h some =
       let above = counted_digits _ count _ some in
-      let least = refused_least t k minus whole skip s reason (map_unless_err (with_sign true) _ _ reason (sym h)) (ltb-true _ _ above.0) in
+      let least = refused_least t int minus whole skip s reason (map_unless_err (with_sign true) _ _ reason (sym h)) (ltb-true _ _ above.0) in
       (least.0, above.1 ∙ least.1)
 
   -- If the digits of a whole slice spell the magnitude of `T::MIN` and overflow (`IsLeast`), the
   -- answer is `Overflow` with the slice `rest`, which leaves out the zeros that the rule names.
-  pub whole_overflows : (count : ℕ) (rest : List ℕ) → IsLeast t k minus whole skip s → count ≡ run_len t s
-      → rest ≡ drop (rule_of (class_of k) whole skip (limit_of k) count (skipped_zeros t skip s)).dropped s
-      → Err (overflow rest) ≡ whole_answer t k minus skip s
+  pub whole_overflows : (count : ℕ) (rest : List ℕ) → IsLeast t int minus whole skip s → count ≡ run_len t s
+      → rest ≡ drop (rule_of (class_of int) whole skip (limit_of int) count (skipped_zeros t skip s)).dropped s
+      → Err (overflow rest) ≡ whole_answer t int minus skip s
   whole_overflows count rest least count_is rest_is = rw (rest_is, count_is, least.refused_is) refl
 
   -- Let `x` be the answer for a prefix under the negative bound, and let `y` be the number with the
   -- same magnitude, and with a minus if `minus` is set. If `y` is in range (`IsInRange`), then it
   -- is the answer under the bound for `minus`, with the same count.
-  pub prefix_number : (x y : ℤ) (len : ℕ) → Ok (x, len) ≡ prefix_answer t k true skip s → IsInRange k minus x (Some y) → Ok (y, len) ≡ prefix_answer t k minus skip s
+  pub prefix_number : (x y : ℤ) (len : ℕ) → Ok (x, len) ≡ prefix_answer t int true skip s → IsInRange int minus x (Some y) → Ok (y, len) ≡ prefix_answer t int minus skip s
   prefix_number x y len h fact =
       let both = map_unless_ok (counted_number true) _ _ (x, len) (sym h) in
       let number = chosen _ y _ (fact (value t (run t s)) (ap (λ (pair : ℤ × ℕ). pair.0) both.1)) in
       let count : len ≡ run_len t s = ap (λ (pair : ℤ × ℕ). pair.1) both.1 in
-      rw (accepted_too t k minus prefix skip s both.0 (ltb-false _ _ number.0)) (ap₂ (λ (n : ℤ) (m : ℕ). Ok (n, m)) number.1 count)
+      rw (accepted_too t int minus prefix skip s both.0 (ltb-false _ _ number.0)) (ap₂ (λ (n : ℤ) (m : ℕ). Ok (n, m)) number.1 count)
 
   -- If a prefix is accepted under the negative bound, but its number is out of range with the sign
   -- for `minus`, then the digits spell the magnitude of `T::MIN` and overflow (`IsLeast`). The
   -- count is the number of these digits.
-  pub prefix_least : (x : ℤ) (len : ℕ) → Ok (x, len) ≡ prefix_answer t k true skip s → IsInRange k minus x None → IsLeast t k minus prefix skip s × (len ≡ run_len t s)
+  pub prefix_least : (x : ℤ) (len : ℕ) → Ok (x, len) ≡ prefix_answer t int true skip s → IsInRange int minus x None → IsLeast t int minus prefix skip s × (len ≡ run_len t s)
   prefix_least x len h fact =
       let both = map_unless_ok (counted_number true) _ _ (x, len) (sym h) in
       let above = not_chosen _ _ (fact (value t (run t s)) (ap (λ (pair : ℤ × ℕ). pair.0) both.1)) in
-      (accepted_least t k minus prefix skip s both.0 (ltb-true _ _ above), ap (λ (pair : ℤ × ℕ). pair.1) both.1)
+      (accepted_least t int minus prefix skip s both.0 (ltb-true _ _ above), ap (λ (pair : ℤ × ℕ). pair.1) both.1)
 
   -- The error for a prefix never holds the value of the digits. So a prefix that is refused under
   -- the negative bound is refused with the same error under the bound for `minus`.
-  pub prefix_error : (reason : Refusal) → Err reason ≡ prefix_answer t k true skip s → Err reason ≡ prefix_answer t k minus skip s
+  pub prefix_error : (reason : Refusal) → Err reason ≡ prefix_answer t int true skip s → Err reason ≡ prefix_answer t int minus skip s
   prefix_error reason h =
       let refused_is = map_unless_err (counted_number true) _ _ reason (sym h) in
       let none : number_in reason ≡ 0 =
-      refusal-cases t (class_of k) (bound_of k true) (limit_of k) prefix skip s (λ r. number_in r ≡ 0) (λ _. refl) (λ _ _. refl) (λ _ _ _. refl) (λ _ _ _ e. absurd (cc e)) reason refused_is in
-      rw (refused_too t k minus prefix skip s reason refused_is (omega arith)) refl
+      refusal-cases t (class_of int) (bound_of int true) (limit_of int) prefix skip s (λ r. number_in r ≡ 0) (λ _. refl) (λ _ _. refl) (λ _ _ _. refl) (λ _ _ _ e. absurd (cc e)) reason refused_is in
+      rw (refused_too t int minus prefix skip s reason refused_is (omega arith)) refl
 
   -- If the digits of a prefix spell the magnitude of `T::MIN` and overflow (`IsLeast`), the answer
   -- is `Overflow` with the slice `rest`, which leaves out the zeros that the rule names.
-  pub prefix_overflows : (count : ℕ) (rest : List ℕ) → IsLeast t k minus prefix skip s → count ≡ run_len t s
-      → rest ≡ drop (rule_of (class_of k) prefix skip (limit_of k) count (skipped_zeros t skip s)).dropped s
-      → Err (overflow rest) ≡ prefix_answer t k minus skip s
+  pub prefix_overflows : (count : ℕ) (rest : List ℕ) → IsLeast t int minus prefix skip s → count ≡ run_len t s
+      → rest ≡ drop (rule_of (class_of int) prefix skip (limit_of int) count (skipped_zeros t skip s)).dropped s
+      → Err (overflow rest) ≡ prefix_answer t int minus skip s
   prefix_overflows count rest least count_is rest_is = rw (rest_is, count_is, least.refused_is) refl

@@ -223,18 +223,18 @@ sign_cases signed plus byte bytes P p q r =
     (record { minus = false; taken = 0; body = byte ∷ bytes }) P p q r
 
 -- The body is the slice without the bytes of its sign.
-pub drop-taken : (k : IntType) (form : SignForm) (s : List ℕ) → drop (sign_in k form s).taken s ≡ (sign_in k form s).body
-drop-taken k (looked_for plus) [] = refl
-drop-taken k (looked_for plus) (byte ∷ bytes) =
-    sign_cases k.signed plus byte bytes (λ g. drop g.taken (byte ∷ bytes) ≡ g.body) (λ e. refl) (λ p e. refl) refl
-drop-taken k (given is_negative) s = refl
+pub drop-taken : (int : IntType) (form : SignForm) (s : List ℕ) → drop (sign_in int form s).taken s ≡ (sign_in int form s).body
+drop-taken int (looked_for plus) [] = refl
+drop-taken int (looked_for plus) (byte ∷ bytes) =
+    sign_cases int.signed plus byte bytes (λ g. drop g.taken (byte ∷ bytes) ≡ g.body) (λ e. refl) (λ p e. refl) refl
+drop-taken int (given is_negative) s = refl
 
 -- The slice is as long as its sign and its body together.
-pub length-taken : (k : IntType) (form : SignForm) (s : List ℕ) → (sign_in k form s).taken + length (sign_in k form s).body ≡ length s
-length-taken k (looked_for plus) [] = omega arith
-length-taken k (looked_for plus) (byte ∷ bytes) =
-    sign_cases k.signed plus byte bytes (λ g. g.taken + length g.body ≡ length (byte ∷ bytes)) (λ e. omega arith) (λ p e. omega arith) (omega arith)
-length-taken k (given is_negative) s = omega arith
+pub length-taken : (int : IntType) (form : SignForm) (s : List ℕ) → (sign_in int form s).taken + length (sign_in int form s).body ≡ length s
+length-taken int (looked_for plus) [] = omega arith
+length-taken int (looked_for plus) (byte ∷ bytes) =
+    sign_cases int.signed plus byte bytes (λ g. g.taken + length g.body ≡ length (byte ∷ bytes)) (λ e. omega arith) (λ p e. omega arith) (omega arith)
+length-taken int (given is_negative) s = omega arith
 
 -- A decimal digit is a byte from 48 to 57.
 pub digit_in_range : (byte : ℕ) → is_digit decimal_table byte ≡ true → (48 ≤ byte) × (byte ≤ 57)
@@ -260,15 +260,15 @@ sign_of_digits signed plus (byte ∷ bytes) h =
 
 -- If the body after a sign is replaced by another body that begins with a digit, the same sign is
 -- consumed.
-pub sign_again : (k : IntType) (form : SignForm) (s t : List ℕ) → 0 < run_len decimal_table t
-    → sign_in k form (take (sign_in k form s).taken s ++ t)
-    ≡ record { minus = (sign_in k form s).minus; taken = (sign_in k form s).taken; body = t }
-sign_again k (looked_for plus) [] t h = sign_of_digits k.signed plus t h
-sign_again k (looked_for plus) (byte ∷ bytes) t h =
-    sign_cases k.signed plus byte bytes
-    (λ g. sign_of k.signed plus (take g.taken (byte ∷ bytes) ++ t) ≡ record { minus = g.minus; taken = g.taken; body = t })
-    (λ e. rw e refl) (λ p e. rw (p, e) refl) (sign_of_digits k.signed plus t h)
-sign_again k (given is_negative) s t h = refl
+pub sign_again : (int : IntType) (form : SignForm) (s t : List ℕ) → 0 < run_len decimal_table t
+    → sign_in int form (take (sign_in int form s).taken s ++ t)
+    ≡ record { minus = (sign_in int form s).minus; taken = (sign_in int form s).taken; body = t }
+sign_again int (looked_for plus) [] t h = sign_of_digits int.signed plus t h
+sign_again int (looked_for plus) (byte ∷ bytes) t h =
+    sign_cases int.signed plus byte bytes
+    (λ g. sign_of int.signed plus (take g.taken (byte ∷ bytes) ++ t) ≡ record { minus = g.minus; taken = g.taken; body = t })
+    (λ e. rw e refl) (λ p e. rw (p, e) refl) (sign_of_digits int.signed plus t h)
+sign_again int (given is_negative) s t h = refl
 
 -- ---- Calls and their results
 -- These lemmas say how the answer of a call follows from its sign and its body, and what follows
@@ -280,18 +280,18 @@ with_more-zero (Ok found) = rw add-zero refl
 with_more-zero (Err reason) = refl
 
 -- The answer of a whole parse is the answer for its body, with the sign that the call uses.
-pub whole_call-is : (k : IntType) (form : SignForm) (skip : Bool) (s : List ℕ)
-    → whole_call k form skip s ≡ whole_answer decimal_table k (sign_in k form s).minus skip (sign_in k form s).body
-whole_call-is k (looked_for plus) skip s = refl
-whole_call-is k (given is_negative) skip s = refl
+pub whole_call-is : (int : IntType) (form : SignForm) (skip : Bool) (s : List ℕ)
+    → whole_call int form skip s ≡ whole_answer decimal_table int (sign_in int form s).minus skip (sign_in int form s).body
+whole_call-is int (looked_for plus) skip s = refl
+whole_call-is int (given is_negative) skip s = refl
 
 -- The answer of a prefix parse is the answer for the prefix of its body, with the sign that the
 -- call uses. But the count also includes the byte of the sign, if a sign is consumed.
-pub prefix_call-is : (k : IntType) (form : SignForm) (skip : Bool) (s : List ℕ)
-    → prefix_call k form skip s
-    ≡ with_more (sign_in k form s).taken (prefix_answer decimal_table k (sign_in k form s).minus skip (sign_in k form s).body)
-prefix_call-is k (looked_for plus) skip s = refl
-prefix_call-is k (given is_negative) skip s = sym (with_more-zero (prefix_answer decimal_table k is_negative skip s))
+pub prefix_call-is : (int : IntType) (form : SignForm) (skip : Bool) (s : List ℕ)
+    → prefix_call int form skip s
+    ≡ with_more (sign_in int form s).taken (prefix_answer decimal_table int (sign_in int form s).minus skip (sign_in int form s).body)
+prefix_call-is int (looked_for plus) skip s = refl
+prefix_call-is int (given is_negative) skip s = sym (with_more-zero (prefix_answer decimal_table int is_negative skip s))
 
 -- The magnitude with its sign, and the number of bytes read.
 abbrev pub counted_number : Bool → ℕ × ℕ → ℤ × ℕ
@@ -330,46 +330,46 @@ with_more_ok more (Ok found) v count h =
     (found.1, ap (λ x. Ok (x, found.1)) (ap (λ (p : ℤ × ℕ). p.0) e), sym (ap (λ (p : ℤ × ℕ). p.1) e))
 with_more_ok more (Err reason) v count h = absurd (cc h)
 
-module _ (k : IntType) (minus skip : Bool) (body : List ℕ) where
+module _ (int : IntType) (minus skip : Bool) (body : List ℕ) where
   -- The body is accepted as a whole slice.
   abbrev pub IsWhole : Type 0
-  IsWhole = IsAccepted decimal_table (class_of k) (bound_of k minus) (limit_of k) whole skip body
+  IsWhole = IsAccepted decimal_table (class_of int) (bound_of int minus) (limit_of int) whole skip body
 
   -- The body is accepted as a slice that begins with a number.
   abbrev pub IsPrefix : Type 0
-  IsPrefix = IsAccepted decimal_table (class_of k) (bound_of k minus) (limit_of k) prefix skip body
+  IsPrefix = IsAccepted decimal_table (class_of int) (bound_of int minus) (limit_of int) prefix skip body
 
   -- If a whole body is answered `Ok`, it is accepted, and the answer is its value with the sign.
-  pub from_whole : (v : ℤ) → whole_answer decimal_table k minus skip body ≡ Ok v
+  pub from_whole : (v : ℤ) → whole_answer decimal_table int minus skip body ≡ Ok v
       → IsWhole × (v ≡ with_sign minus (value decimal_table (run decimal_table body)))
   from_whole v h =
       let found = map_unless_ok (with_sign minus) _ _ v h in
-      (accepted decimal_table (class_of k) (bound_of k minus) (limit_of k) whole skip body found.0, found.1)
+      (accepted decimal_table (class_of int) (bound_of int minus) (limit_of int) whole skip body found.0, found.1)
 
   -- If a body is accepted as a whole slice, the answer is its value with the sign.
-  pub to_whole : IsWhole → whole_answer decimal_table k minus skip body ≡ Ok (with_sign minus (value decimal_table (run decimal_table body)))
+  pub to_whole : IsWhole → whole_answer decimal_table int minus skip body ≡ Ok (with_sign minus (value decimal_table (run decimal_table body)))
   to_whole h =
-      map_unless_none (with_sign minus) _ _ (refusal-none decimal_table (class_of k) (bound_of k minus) (limit_of k) whole skip body h)
+      map_unless_none (with_sign minus) _ _ (refusal-none decimal_table (class_of int) (bound_of int minus) (limit_of int) whole skip body h)
 
   -- If a prefix is answered `Ok`, the body is accepted, and the answer is the value of its run with
   -- the sign, and the length of its run.
-  pub from_prefix : (v : ℤ) (count : ℕ) → prefix_answer decimal_table k minus skip body ≡ Ok (v, count)
+  pub from_prefix : (v : ℤ) (count : ℕ) → prefix_answer decimal_table int minus skip body ≡ Ok (v, count)
       → IsPrefix × (v ≡ with_sign minus (value decimal_table (run decimal_table body))) × (count ≡ run_len decimal_table body)
   from_prefix v count h =
       let found = map_unless_ok (counted_number minus) _ _ (v, count) h in
-      (accepted decimal_table (class_of k) (bound_of k minus) (limit_of k) prefix skip body found.0, ap (λ (p : ℤ × ℕ). p.0) found.1, ap (λ (p : ℤ × ℕ). p.1) found.1)
+      (accepted decimal_table (class_of int) (bound_of int minus) (limit_of int) prefix skip body found.0, ap (λ (p : ℤ × ℕ). p.0) found.1, ap (λ (p : ℤ × ℕ). p.1) found.1)
 
   -- If a body is accepted as a slice that begins with a number, the answer is the value of its run
   -- with the sign, and the length of its run.
-  pub to_prefix : IsPrefix → prefix_answer decimal_table k minus skip body ≡ Ok (with_sign minus (value decimal_table (run decimal_table body)), run_len decimal_table body)
+  pub to_prefix : IsPrefix → prefix_answer decimal_table int minus skip body ≡ Ok (with_sign minus (value decimal_table (run decimal_table body)), run_len decimal_table body)
   to_prefix h =
-      map_unless_none (counted_number minus) _ _ (refusal-none decimal_table (class_of k) (bound_of k minus) (limit_of k) prefix skip body h)
+      map_unless_none (counted_number minus) _ _ (refusal-none decimal_table (class_of int) (bound_of int minus) (limit_of int) prefix skip body h)
 
   -- A body is accepted as a whole slice if it consists of one or more digits and nothing else, does
   -- not have too many significant digits, and has a value within the bound.
   pub is_whole : 0 < run_len decimal_table body
-      → is_above (limit_at (class_of k) whole skip (limit_of k)) (significant_digits decimal_table skip body) ≡ false
-      → value decimal_table (run decimal_table body) ≤ bound_of k minus
+      → is_above (limit_at (class_of int) whole skip (limit_of int)) (significant_digits decimal_table skip body) ≡ false
+      → value decimal_table (run decimal_table body) ≤ bound_of int minus
       → run_len decimal_table body ≡ length body
       → IsWhole
   is_whole some short in_range all =
@@ -377,27 +377,27 @@ module _ (k : IntType) (minus skip : Bool) (body : List ℕ) where
 
 -- What an `Ok` of a prefix parse means: the body is accepted, `v` is the value of its run with the
 -- sign, and `count` is the number of bytes of the run and of the sign together.
-pub record IsFound (k : IntType) (g : Sign) (skip : Bool) (v : ℤ) (count : ℕ) : Type 0 where
-  pub is_prefix : IsPrefix k g.minus skip g.body
+pub record IsFound (int : IntType) (g : Sign) (skip : Bool) (v : ℤ) (count : ℕ) : Type 0 where
+  pub is_prefix : IsPrefix int g.minus skip g.body
   pub number : v ≡ with_sign g.minus (value decimal_table (run decimal_table g.body))
   pub count_is : count ≡ run_len decimal_table g.body + g.taken
 
 -- If a prefix call returns `Ok`, then `IsFound` holds for its value and its count.
-pub found_prefix : (k : IntType) (form : SignForm) (skip : Bool) (s : List ℕ) (v : ℤ) (count : ℕ)
-    → prefix_call k form skip s ≡ Ok (v, count) → IsFound k (sign_in k form s) skip v count
-found_prefix k form skip s v count h =
-    let g = sign_in k form s in
-    let count_is = with_more_ok g.taken (prefix_answer decimal_table k g.minus skip g.body) v count (sym (prefix_call-is k form skip s) ∙ h) in
-    let found = from_prefix k g.minus skip g.body v count_is.0 count_is.1 in
+pub found_prefix : (int : IntType) (form : SignForm) (skip : Bool) (s : List ℕ) (v : ℤ) (count : ℕ)
+    → prefix_call int form skip s ≡ Ok (v, count) → IsFound int (sign_in int form s) skip v count
+found_prefix int form skip s v count h =
+    let g = sign_in int form s in
+    let count_is = with_more_ok g.taken (prefix_answer decimal_table int g.minus skip g.body) v count (sym (prefix_call-is int form skip s) ∙ h) in
+    let found = from_prefix int g.minus skip g.body v count_is.0 count_is.1 in
     record { is_prefix = found.0; number = found.1; count_is = rw (← found.2) count_is.2 }
 
 -- If `IsFound` holds for a value and a count, then the prefix call returns `Ok` with these two.
-pub ok_prefix : (k : IntType) (form : SignForm) (skip : Bool) (s : List ℕ) (v : ℤ) (count : ℕ)
-    → IsFound k (sign_in k form s) skip v count → prefix_call k form skip s ≡ Ok (v, count)
-ok_prefix k form skip s v count h =
-    let g = sign_in k form s in
-    prefix_call-is k form skip s
-    ∙ ap (with_more g.taken) (to_prefix k g.minus skip g.body h.is_prefix)
+pub ok_prefix : (int : IntType) (form : SignForm) (skip : Bool) (s : List ℕ) (v : ℤ) (count : ℕ)
+    → IsFound int (sign_in int form s) skip v count → prefix_call int form skip s ≡ Ok (v, count)
+ok_prefix int form skip s v count h =
+    let g = sign_in int form s in
+    prefix_call-is int form skip s
+    ∙ ap (with_more g.taken) (to_prefix int g.minus skip g.body h.is_prefix)
     ∙ rw (h.number, h.count_is) refl
 
 -- ---- Answers to a body, with a bound and a limit

@@ -80,10 +80,10 @@ refusal_cmp-Equal a b = (same-refusal_cmp a b, λ same. rw (← same) (tied_itse
 -- Each slice in an error is a suffix of the slice that was parsed.
 
 -- A suffix of the body is a suffix of the slice.
-suffix_of_body : (k : IntType) (form : SignForm) (s t : List ℕ) → (n : ℕ) × (t ≡ drop n (sign_in k form s).body) → IsSuffix t s
-suffix_of_body k form s t end =
-    let taken = (sign_in k form s).taken in
-    let at : t ≡ drop (taken + end.0) s = end.1 ∙ ap (drop end.0) (sym (drop-taken k form s)) ∙ drop-drop end.0 taken s in
+suffix_of_body : (int : IntType) (form : SignForm) (s t : List ℕ) → (n : ℕ) × (t ≡ drop n (sign_in int form s).body) → IsSuffix t s
+suffix_of_body int form s t end =
+    let taken = (sign_in int form s).taken in
+    let at : t ≡ drop (taken + end.0) s = end.1 ∙ ap (drop end.0) (sym (drop-taken int form s)) ∙ drop-drop end.0 taken s in
     (take (taken + end.0) s, sym (take-append-drop (taken + end.0) s) ∙ ap (λ rest. take (taken + end.0) s ++ rest) (sym at))
 
 -- Adding to the count of an answer does not change an error.
@@ -92,32 +92,32 @@ with_more_err more (Ok found) reason h = absurd (cc h)
 with_more_err more (Err other) reason h = cc
 
 -- The error of a whole call is the refusal of its body.
-pub whole_refused : (k : IntType) (form : SignForm) (skip : Bool) (s : List ℕ) (reason : Refusal) → whole_call k form skip s ≡ Err reason
-    → refusal decimal_table (class_of k) (bound_of k (sign_in k form s).minus) (limit_of k) whole skip (sign_in k form s).body ≡ Some reason
-whole_refused k form skip s reason h =
-    map_unless_err (with_sign (sign_in k form s).minus) _ _ reason (sym (whole_call-is k form skip s) ∙ h)
+pub whole_refused : (int : IntType) (form : SignForm) (skip : Bool) (s : List ℕ) (reason : Refusal) → whole_call int form skip s ≡ Err reason
+    → refusal decimal_table (class_of int) (bound_of int (sign_in int form s).minus) (limit_of int) whole skip (sign_in int form s).body ≡ Some reason
+whole_refused int form skip s reason h =
+    map_unless_err (with_sign (sign_in int form s).minus) _ _ reason (sym (whole_call-is int form skip s) ∙ h)
 
 -- The error of a prefix call is the refusal of its body.
-pub prefix_refused : (k : IntType) (form : SignForm) (skip : Bool) (s : List ℕ) (reason : Refusal) → prefix_call k form skip s ≡ Err reason
-    → refusal decimal_table (class_of k) (bound_of k (sign_in k form s).minus) (limit_of k) prefix skip (sign_in k form s).body ≡ Some reason
-prefix_refused k form skip s reason h =
-    let g = sign_in k form s in
+pub prefix_refused : (int : IntType) (form : SignForm) (skip : Bool) (s : List ℕ) (reason : Refusal) → prefix_call int form skip s ≡ Err reason
+    → refusal decimal_table (class_of int) (bound_of int (sign_in int form s).minus) (limit_of int) prefix skip (sign_in int form s).body ≡ Some reason
+prefix_refused int form skip s reason h =
+    let g = sign_in int form s in
     map_unless_err (counted_number g.minus) _ _ reason
-    (with_more_err g.taken (prefix_answer decimal_table k g.minus skip g.body) reason (sym (prefix_call-is k form skip s) ∙ h))
+    (with_more_err g.taken (prefix_answer decimal_table int g.minus skip g.body) reason (sym (prefix_call-is int form skip s) ∙ h))
 
 -- The law `OrderAndSuffix`: two errors compare as equal exactly if they are the same, and the slice
 -- in an error is a suffix of the slice that was parsed.
-pub order_and_suffix : (k : IntType) → OrderAndSuffix k
-order_and_suffix k = record {
+pub order_and_suffix : (int : IntType) → OrderAndSuffix int
+order_and_suffix int = record {
   order = refusal_cmp-Equal;
   whole = λ form skip s reason h.
-      let g = sign_in k form s in
-      suffix_of_body k form s (input_of reason)
-      (refusal-input decimal_table (class_of k) (bound_of k g.minus) (limit_of k) whole skip g.body reason (whole_refused k form skip s reason h));
+      let g = sign_in int form s in
+      suffix_of_body int form s (input_of reason)
+      (refusal-input decimal_table (class_of int) (bound_of int g.minus) (limit_of int) whole skip g.body reason (whole_refused int form skip s reason h));
   prefix = λ form skip s reason h.
-      let g = sign_in k form s in
-      suffix_of_body k form s (input_of reason)
-      (refusal-input decimal_table (class_of k) (bound_of k g.minus) (limit_of k) prefix skip g.body reason (prefix_refused k form skip s reason h));
+      let g = sign_in int form s in
+      suffix_of_body int form s (input_of reason)
+      (refusal-input decimal_table (class_of int) (bound_of int g.minus) (limit_of int) prefix skip g.body reason (prefix_refused int form skip s reason h));
 }
 
 -- ---- What an error says about the body
@@ -137,11 +137,11 @@ rest_left : (extent : Extent) (digits length : ℕ) → digits ≤ length → le
 rest_left whole digits length le h = omega (arith, eqb-false digits length (not-true (eqb digits length) h))
 rest_left prefix digits length le h = absurd (cc h)
 
-module _ (k : IntType) (extent : Extent) (is_negative skip : Bool) (body : List ℕ) where
+module _ (int : IntType) (extent : Extent) (is_negative skip : Bool) (body : List ℕ) where
   -- If `IsFollowed` holds for a value and an index, then `Explains` holds for the `invalid` error
   -- that holds these two, whatever the class.
-  invalid_explained : (class : Class) (number index : ℕ) → IsFollowed k extent is_negative skip body number index
-      → Explains k extent is_negative skip body (invalid class number index body)
+  invalid_explained : (class : Class) (number index : ℕ) → IsFollowed int extent is_negative skip body number index
+      → Explains int extent is_negative skip body (invalid class number index body)
   invalid_explained narrow number index h = h
   invalid_explained wide64 number index h = h
   invalid_explained wide128 number index h = h
@@ -149,27 +149,27 @@ module _ (k : IntType) (extent : Extent) (is_negative skip : Bool) (body : List 
   -- If neither of the first two tests of `refusal` holds, the body begins with a digit and does not
   -- have too many significant digits.
   begins : eqb (run_len decimal_table body) 0 ≡ false
-      → is_above (limit_at (class_of k) extent skip (limit_of k)) (significant_digits decimal_table skip body) ≡ false
-      → HasSomeDigits k extent skip body
+      → is_above (limit_at (class_of int) extent skip (limit_of int)) (significant_digits decimal_table skip body) ≡ false
+      → HasSomeDigits int extent skip body
   begins some short = record {
     some = omega (arith, eqb-false (run_len decimal_table body) 0 some);
-    short = not_above (limit_at (class_of k) extent skip (limit_of k)) (significant_digits decimal_table skip body) short;
+    short = not_above (limit_at (class_of int) extent skip (limit_of int)) (significant_digits decimal_table skip body) short;
   }
 
   -- If a body is refused, `Explains` holds for its error.
-  explained : (reason : Refusal) → refusal decimal_table (class_of k) (bound_of k is_negative) (limit_of k) extent skip body ≡ Some reason
-      → Explains k extent is_negative skip body reason
+  explained : (reason : Refusal) → refusal decimal_table (class_of int) (bound_of int is_negative) (limit_of int) extent skip body ≡ Some reason
+      → Explains int extent is_negative skip body reason
   explained reason h =
       let number = value decimal_table (run decimal_table body) in
       let digits = run_len decimal_table body in
-      refusal-cases decimal_table (class_of k) (bound_of k is_negative) (limit_of k) extent skip body
-      (Explains k extent is_negative skip body)
+      refusal-cases decimal_table (class_of int) (bound_of int is_negative) (limit_of int) extent skip body
+      (Explains int extent is_negative skip body)
       (λ e. eqb-true digits 0 e)
-      (λ e l. (omega (arith, eqb-false digits 0 e), above (limit_at (class_of k) extent skip (limit_of k)) (significant_digits decimal_table skip body) l))
-      (λ e l o. (begins e l, ltb-true (bound_of k is_negative) number o))
-      (λ e l o f. invalid_explained (class_of k) number digits (record {
+      (λ e l. (omega (arith, eqb-false digits 0 e), above (limit_at (class_of int) extent skip (limit_of int)) (significant_digits decimal_table skip body) l))
+      (λ e l o. (begins e l, ltb-true (bound_of int is_negative) number o))
+      (λ e l o f. invalid_explained (class_of int) number digits (record {
         begins = begins e l;
-        in_range = ltb-false (bound_of k is_negative) number o;
+        in_range = ltb-false (bound_of int is_negative) number o;
         follows = rest_left extent digits (length body) (prefix_len-le-length (is_digit decimal_table) body) f;
         number_is = refl;
         index_is = refl;
@@ -184,15 +184,15 @@ not_followed table class bound limit skip body reason h =
     (λ e. omega arith) (λ e l. omega arith) (λ e l o. omega arith) (λ e l o f. absurd (cc f)) reason h
 
 -- The law `ErrorsInOrder`: the error is the first that applies.
-pub errors_in_order : (k : IntType) → ErrorsInOrder k
-errors_in_order k = record {
+pub errors_in_order : (int : IntType) → ErrorsInOrder int
+errors_in_order int = record {
   whole = λ form skip s reason h.
-      explained k whole (sign_in k form s).minus skip (sign_in k form s).body reason (whole_refused k form skip s reason h);
+      explained int whole (sign_in int form s).minus skip (sign_in int form s).body reason (whole_refused int form skip s reason h);
   prefix = λ form skip s reason h.
-      explained k prefix (sign_in k form s).minus skip (sign_in k form s).body reason (prefix_refused k form skip s reason h);
+      explained int prefix (sign_in int form s).minus skip (sign_in int form s).body reason (prefix_refused int form skip s reason h);
   never_followed = λ form skip s reason h.
-      not_followed decimal_table (class_of k) (bound_of k (sign_in k form s).minus) (limit_of k) skip (sign_in k form s).body reason
-      (prefix_refused k form skip s reason h);
+      not_followed decimal_table (class_of int) (bound_of int (sign_in int form s).minus) (limit_of int) skip (sign_in int form s).body reason
+      (prefix_refused int form skip s reason h);
 }
 
 -- ---- Texts of numbers

@@ -27,62 +27,62 @@ use Rattle.atoi_core.specs.declared.error.AtoiSimdError.{AtoiSimdError}
 
 -- The law `PrefixStopsAtRest`: a prefix parse stops at the end of the slice, or before a byte that
 -- is no digit.
-pub prefix_stops_at_rest : (k : IntType) → PrefixStopsAtRest k
-prefix_stops_at_rest k form skip s v count h =
-    let counts = (found_prefix k form skip s v count h).count_is in
-    let g = sign_in k form s in
+pub prefix_stops_at_rest : (int : IntType) → PrefixStopsAtRest int
+prefix_stops_at_rest int form skip s v count h =
+    let counts = (found_prefix int form skip s v count h).count_is in
+    let g = sign_in int form s in
     let n = run_len decimal_table g.body in
-    let parts = length-taken k form s in
+    let parts = length-taken int form s in
     elim (cases_lt n (length g.body)) [
       | inl lt ↦
           let stops = prefix_len_stops (is_digit decimal_table) g.body 0 lt in
           let here : get_or g.body n 0 ≡ get_or s count 0 =
-          ap (λ (body : List ℕ). get_or body n 0) (sym (drop-taken k form s)) ∙ get_or-drop g.taken s n 0 ∙ ap (λ (at : ℕ). get_or s at 0) (add_comm g.taken n ∙ sym counts)
+          ap (λ (body : List ℕ). get_or body n 0) (sym (drop-taken int form s)) ∙ get_or-drop g.taken s n 0 ∙ ap (λ (at : ℕ). get_or s at 0) (add_comm g.taken n ∙ sym counts)
           in
           inr (omega arith, rw here at stops)
       | inr le ↦ inl (omega (arith, prefix_len-le-length (is_digit decimal_table) g.body))
     ]
 
 -- If a prefix parse reaches the end of the slice, the whole parse gives the same value.
-whole_of_prefix : (k : IntType) (form : SignForm) (skip : Bool) (s : List ℕ) (v : ℤ)
-    → prefix_call k form skip s ≡ Ok (v, length s) → whole_call k form skip s ≡ Ok v
-whole_of_prefix k form skip s v h =
-    let found = found_prefix k form skip s v (length s) h in
-    let g = sign_in k form s in
+whole_of_prefix : (int : IntType) (form : SignForm) (skip : Bool) (s : List ℕ) (v : ℤ)
+    → prefix_call int form skip s ≡ Ok (v, length s) → whole_call int form skip s ≡ Ok v
+whole_of_prefix int form skip s v h =
+    let found = found_prefix int form skip s v (length s) h in
+    let g = sign_in int form s in
     let prefix_is = found.is_prefix in
-    let to_end : run_len decimal_table g.body ≡ length g.body = omega (arith, found.count_is, length-taken k form s) in
-    let short = long_as_whole (class_of k) skip (limit_of k) (significant_digits decimal_table skip g.body) prefix_is.short in
-    let body_is = is_whole k g.minus skip g.body prefix_is.some short prefix_is.in_range to_end in
-    whole_call-is k form skip s ∙ to_whole k g.minus skip g.body body_is ∙ ap Ok (sym found.number)
+    let to_end : run_len decimal_table g.body ≡ length g.body = omega (arith, found.count_is, length-taken int form s) in
+    let short = long_as_whole (class_of int) skip (limit_of int) (significant_digits decimal_table skip g.body) prefix_is.short in
+    let body_is = is_whole int g.minus skip g.body prefix_is.some short prefix_is.in_range to_end in
+    whole_call-is int form skip s ∙ to_whole int g.minus skip g.body body_is ∙ ap Ok (sym found.number)
 
 -- If a whole parse gives a value, and the limit on digits is the same for a prefix as for a whole
 -- slice (`HasLimitOfWhole`), the prefix parse gives the same value and reaches the end.
-prefix_of_whole : (k : IntType) (form : SignForm) (skip : Bool) (s : List ℕ) (v : ℤ) → HasLimitOfWhole k skip
-    → whole_call k form skip s ≡ Ok v → prefix_call k form skip s ≡ Ok (v, length s)
-prefix_of_whole k form skip s v limit h =
-    let g = sign_in k form s in
+prefix_of_whole : (int : IntType) (form : SignForm) (skip : Bool) (s : List ℕ) (v : ℤ) → HasLimitOfWhole int skip
+    → whole_call int form skip s ≡ Ok v → prefix_call int form skip s ≡ Ok (v, length s)
+prefix_of_whole int form skip s v limit h =
+    let g = sign_in int form s in
     let n = run_len decimal_table g.body in
-    let found = from_whole k g.minus skip g.body v (sym (whole_call-is k form skip s) ∙ h) in
+    let found = from_whole int g.minus skip g.body v (sym (whole_call-is int form skip s) ∙ h) in
     let body_is = found.0 in
     let to_end = whole_is_run n (length g.body) body_is.ends in
-    let parts = length-taken k form s in
-    ok_prefix k form skip s v (length s) (record {
-      is_prefix = record { some = body_is.some; short = rw (limit_of_prefix k skip (limit_of k) limit) body_is.short; in_range = body_is.in_range; ends = refl };
+    let parts = length-taken int form s in
+    ok_prefix int form skip s v (length s) (record {
+      is_prefix = record { some = body_is.some; short = rw (limit_of_prefix int skip (limit_of int) limit) body_is.short; in_range = body_is.in_range; ends = refl };
       number = found.1;
       count_is = omega arith;
     })
 
 -- The law `PrefixIsWhole`, which has both directions.
-pub prefix_is_whole : (k : IntType) → PrefixIsWhole k
-prefix_is_whole k = record {
-  whole = whole_of_prefix k;
-  back = prefix_of_whole k;
+pub prefix_is_whole : (int : IntType) → PrefixIsWhole int
+prefix_is_whole int = record {
+  whole = whole_of_prefix int;
+  back = prefix_of_whole int;
 }
 
 -- If a number is found at the start of a body, it is found in the run of that body too.
-found_again : (k : IntType) (g : Sign) (skip : Bool) (v : ℤ) (count : ℕ) → IsFound k g skip v count
-    → IsFound k (record g { body = run decimal_table g.body }) skip v count
-found_again k g skip v count h =
+found_again : (int : IntType) (g : Sign) (skip : Bool) (v : ℤ) (count : ℕ) → IsFound int g skip v count
+    → IsFound int (record g { body = run decimal_table g.body }) skip v count
+found_again int g skip v count h =
     let len : run_len decimal_table (run decimal_table g.body) ≡ run_len decimal_table g.body = run_len-run decimal_table g.body in
     let leading = zeros-run decimal_table g.body in
     let same : run decimal_table (run decimal_table g.body) ≡ run decimal_table g.body =
@@ -101,31 +101,31 @@ found_again k g skip v count h =
 
 -- A prefix that is found is not empty and lies within the slice. If the slice is cut after it, the
 -- answer is the same.
-found_in_cut : (k : IntType) (form : SignForm) (skip : Bool) (s : List ℕ) (v : ℤ) (count : ℕ) → prefix_call k form skip s ≡ Ok (v, count)
-    → (1 ≤ count) × (count ≤ length s) × (prefix_call k form skip (take count s) ≡ Ok (v, count))
-found_in_cut k form skip s v count h =
-    let found = found_prefix k form skip s v count h in
-    let g = sign_in k form s in
+found_in_cut : (int : IntType) (form : SignForm) (skip : Bool) (s : List ℕ) (v : ℤ) (count : ℕ) → prefix_call int form skip s ≡ Ok (v, count)
+    → (1 ≤ count) × (count ≤ length s) × (prefix_call int form skip (take count s) ≡ Ok (v, count))
+found_in_cut int form skip s v count h =
+    let found = found_prefix int form skip s v count h in
+    let g = sign_in int form s in
     let n = run_len decimal_table g.body in
     let some = found.is_prefix.some in
     let count_is = found.count_is in
     let most = prefix_len-le-length (is_digit decimal_table) g.body in
-    let parts = length-taken k form s in
+    let parts = length-taken int form s in
     let cut : take count s ≡ take g.taken s ++ run decimal_table g.body =
-    ap (λ (m : ℕ). take m s) (count_is ∙ add_comm n g.taken) ∙ take-add g.taken n s ∙ ap (λ body. take g.taken s ++ take n body) (drop-taken k form s)
+    ap (λ (m : ℕ). take m s) (count_is ∙ add_comm n g.taken) ∙ take-add g.taken n s ∙ ap (λ body. take g.taken s ++ take n body) (drop-taken int form s)
     in
-    let again : sign_in k form (take count s) ≡ record g { body = run decimal_table g.body } =
-    ap (sign_in k form) cut ∙ sign_again k form s (run decimal_table g.body) (rw (run_len-run decimal_table g.body) some)
+    let again : sign_in int form (take count s) ≡ record g { body = run decimal_table g.body } =
+    ap (sign_in int form) cut ∙ sign_again int form s (run decimal_table g.body) (rw (run_len-run decimal_table g.body) some)
     in (
       omega arith,
       omega arith,
-      ok_prefix k form skip (take count s) v count
-          (subst (λ (h : Sign). IsFound k h skip v count) (sym again) (found_again k g skip v count found)),
+      ok_prefix int form skip (take count s) v count
+          (subst (λ (h : Sign). IsFound int h skip v count) (sym again) (found_again int g skip v count found)),
     )
 
 -- The law `PrefixOfCut`.
-pub prefix_of_cut : (k : IntType) → PrefixOfCut k
-prefix_of_cut k = record { cut = found_in_cut k }
+pub prefix_of_cut : (int : IntType) → PrefixOfCut int
+prefix_of_cut int = record { cut = found_in_cut int }
 
 -- ---- Slices and prefixes that write a number
 -- A whole parse that skips zeros accepts exactly the slices that write a number. A prefix parse
@@ -157,18 +157,18 @@ module _ (digits rest : List ℕ) (all : AllDigits 10 digits) (ends : ¬ BeginsW
 
 -- If a body consists of digits that write a number and of a rest that does not begin with a digit,
 -- then a parse that skips zeros finds that number at the start of the body.
-prefix_found : (k : IntType) → IsSized k → (is_negative : Bool) (taken : ℕ) (digits rest : List ℕ) (number : ℤ)
-    → DigitsWrite k is_negative digits number → ¬ BeginsWithDigit rest
-    → IsFound k (record { minus = is_negative; taken = taken; body = digits ++ rest }) true number (length digits + taken)
-prefix_found k sized is_negative taken digits rest number written ends =
+prefix_found : (int : IntType) → IsSized int → (is_negative : Bool) (taken : ℕ) (digits rest : List ℕ) (number : ℤ)
+    → DigitsWrite int is_negative digits number → ¬ BeginsWithDigit rest
+    → IsFound int (record { minus = is_negative; taken = taken; body = digits ++ rest }) true number (length digits + taken)
+prefix_found int sized is_negative taken digits rest number written ends =
     let len = run_len_before digits rest written.numeral.1 ends in
     let is_run = run_before digits rest written.numeral.1 ends in
     let same = own.same digits written.numeral.1 in
-    let in_range : value decimal_table (run decimal_table (digits ++ rest)) ≤ bound_of k is_negative = rw (is_run, same) written.in_range in
+    let in_range : value decimal_table (run decimal_table (digits ++ rest)) ≤ bound_of int is_negative = rw (is_run, same) written.in_range in
     record {
       is_prefix = record {
         some = omega (arith, len, written.numeral.0);
-        short = rw (limit_of_prefix k true (limit_of k) (inl refl)) (in_range_short decimal_table k sized is_negative (digits ++ rest) in_range);
+        short = rw (limit_of_prefix int true (limit_of int) (inl refl)) (in_range_short decimal_table int sized is_negative (digits ++ rest) in_range);
         in_range = in_range;
         ends = refl;
       };
@@ -178,18 +178,18 @@ prefix_found k sized is_negative taken digits rest number written ends =
 
 -- If a prefix consists of digits that write a number, and no digit follows it, then that number is
 -- found when zeros are skipped.
-found_digits : (k : IntType) → IsSized k → (is_negative : Bool) (s : List ℕ) (number : ℤ) (count : ℕ)
-    → PrefixWrites (DigitsWrite k is_negative) s number count → IsFound k (record { minus = is_negative; taken = 0; body = s }) true number count
-found_digits k sized is_negative s number count h =
-    let found = prefix_found k sized is_negative 0 (take count s) (drop count s) number h.written h.ends in
+found_digits : (int : IntType) → IsSized int → (is_negative : Bool) (s : List ℕ) (number : ℤ) (count : ℕ)
+    → PrefixWrites (DigitsWrite int is_negative) s number count → IsFound int (record { minus = is_negative; taken = 0; body = s }) true number count
+found_digits int sized is_negative s number count h =
+    let found = prefix_found int sized is_negative 0 (take count s) (drop count s) number h.written h.ends in
     let len : length (take count s) + 0 ≡ count = omega (arith, length-take-le count s h.within) in
     rw (take-append-drop count s, len) at found
 
 -- If a prefix consists of an optional sign and of digits that write a number, and no digit follows
 -- it, then that number is found when zeros are skipped.
-found_text : (k : IntType) → IsSized k → (takes_plus : Bool) (s : List ℕ) (number : ℤ) (count : ℕ)
-    → PrefixWrites (TextWrites k takes_plus) s number count → IsFound k (sign_of k.signed takes_plus s) true number count
-found_text k sized takes_plus s number count h =
+found_text : (int : IntType) → IsSized int → (takes_plus : Bool) (s : List ℕ) (number : ℤ) (count : ℕ)
+    → PrefixWrites (TextWrites int takes_plus) s number count → IsFound int (sign_of int.signed takes_plus s) true number count
+found_text int sized takes_plus s number count h =
     let text = h.written in
     let rest = drop count s in
     let parts : s ≡ sign_bytes text.sign ++ (text.digits ++ rest) =
@@ -198,77 +198,77 @@ found_text k sized takes_plus s number count h =
     let some : 0 < run_len decimal_table (text.digits ++ rest) =
     omega (arith, run_len_before text.digits rest text.written.numeral.1 h.ends, text.written.numeral.0)
     in
-    let sign_is = ap (sign_of k.signed takes_plus) parts ∙ sign_of_text k.signed takes_plus text.sign (text.digits ++ rest) text.signed text.plus_taken some in
+    let sign_is = ap (sign_of int.signed takes_plus) parts ∙ sign_of_text int.signed takes_plus text.sign (text.digits ++ rest) text.signed text.plus_taken some in
     let len : length text.digits + length (sign_bytes text.sign) ≡ count =
     omega (arith, length-take-le count s h.within, simp length-append at (ap length text.parts))
     in
-    subst (λ (g : Sign). IsFound k g true number count) (sym sign_is)
-    (rw len at (prefix_found k sized (is_minus text.sign) (length (sign_bytes text.sign)) text.digits rest number text.written h.ends))
+    subst (λ (g : Sign). IsFound int g true number count) (sym sign_is)
+    (rw len at (prefix_found int sized (is_minus text.sign) (length (sign_bytes text.sign)) text.digits rest number text.written h.ends))
 
 -- The law `AcceptedPrefixes`: if a prefix parse finds a number, the prefix writes that number, and
 -- no digit follows it. If zeros are skipped, the converse holds too.
-pub accepted_prefixes : (k : IntType) → IsSized k → AcceptedPrefixes k
-accepted_prefixes k sized = record { written = written; accepted = accepted }
+pub accepted_prefixes : (int : IntType) → IsSized int → AcceptedPrefixes int
+accepted_prefixes int sized = record { written = written; accepted = accepted }
   where
     written : (form : SignForm) (skip : Bool) (s : List ℕ) (number : ℤ) (count : ℕ)
-        → prefix_call k form skip s ≡ Ok (number, count) → PrefixWrites (Writes k form) s number count
+        → prefix_call int form skip s ≡ Ok (number, count) → PrefixWrites (Writes int form) s number count
     written form skip s number count h =
-        let cut = (prefix_of_cut k).cut form skip s number count h in
+        let cut = (prefix_of_cut int).cut form skip s number count h in
         let len : count ≡ length (take count s) = sym (length-take-le count s cut.1) in
-        let to_end : prefix_call k form skip (take count s) ≡ Ok (number, length (take count s)) = cut.2 ∙ ap (λ (n : ℕ). Ok (number, n)) len in
+        let to_end : prefix_call int form skip (take count s) ≡ Ok (number, length (take count s)) = cut.2 ∙ ap (λ (n : ℕ). Ok (number, n)) len in
         record {
-          written = whole_written k form skip (take count s) number ((prefix_is_whole k).whole form skip (take count s) number to_end);
+          written = whole_written int form skip (take count s) number ((prefix_is_whole int).whole form skip (take count s) number to_end);
           some = omega (arith, cut.0);
           within = cut.1;
           ends = no_digit (drop count s) (λ lt.
               let at : get_or (drop count s) 0 0 ≡ get_or s count 0 = get_or-drop count s 0 0 ∙ ap (λ (i : ℕ). get_or s i 0) (omega arith) in
-              elim (prefix_stops_at_rest k form skip s number count h) [ inl e ↦ absurd (omega (arith, length-drop count s)) | inr end ↦ rw at end.1 ]);
+              elim (prefix_stops_at_rest int form skip s number count h) [ inl e ↦ absurd (omega (arith, length-drop count s)) | inr end ↦ rw at end.1 ]);
         }
 
     accepted : (form : SignForm) (s : List ℕ) (number : ℤ) (count : ℕ)
-        → PrefixWrites (Writes k form) s number count → prefix_call k form true s ≡ Ok (number, count)
+        → PrefixWrites (Writes int form) s number count → prefix_call int form true s ≡ Ok (number, count)
     accepted (looked_for takes_plus) s number count h =
-        ok_prefix k (looked_for takes_plus) true s number count (found_text k sized takes_plus s number count h)
+        ok_prefix int (looked_for takes_plus) true s number count (found_text int sized takes_plus s number count h)
     accepted (given is_negative) s number count h =
-        ok_prefix k (given is_negative) true s number count (found_digits k sized is_negative s number count h)
+        ok_prefix int (given is_negative) true s number count (found_digits int sized is_negative s number count h)
 
 -- Bytes that write a number are not empty.
-some : (k : IntType) (form : SignForm) (prefix_bytes : List ℕ) (number : ℤ) → Writes k form prefix_bytes number → 0 < length prefix_bytes
-some k (looked_for takes_plus) prefix_bytes number h = omega (arith, ap length h.parts, length-append {A = ℕ}, h.written.numeral.0)
-some k (given is_negative) prefix_bytes number h = h.numeral.0
+some : (int : IntType) (form : SignForm) (prefix_bytes : List ℕ) (number : ℤ) → Writes int form prefix_bytes number → 0 < length prefix_bytes
+some int (looked_for takes_plus) prefix_bytes number h = omega (arith, ap length h.parts, length-append {A = ℕ}, h.written.numeral.0)
+some int (given is_negative) prefix_bytes number h = h.numeral.0
 
-of_parts : (k : IntType) (form : SignForm) (s prefix_bytes rest : List ℕ) (number : ℤ)
-    → s ≡ prefix_bytes ++ rest → Writes k form prefix_bytes number → ¬ BeginsWithDigit rest → PrefixWrites (Writes k form) s number (length prefix_bytes)
-of_parts k form s prefix_bytes rest number parts written ends =
+of_parts : (int : IntType) (form : SignForm) (s prefix_bytes rest : List ℕ) (number : ℤ)
+    → s ≡ prefix_bytes ++ rest → Writes int form prefix_bytes number → ¬ BeginsWithDigit rest → PrefixWrites (Writes int form) s number (length prefix_bytes)
+of_parts int form s prefix_bytes rest number parts written ends =
     let cut : take (length prefix_bytes) s ≡ prefix_bytes = ap (take (length prefix_bytes)) parts ∙ take-append_seam prefix_bytes rest in
     record {
       written = rw cut written;
-      some = some k form prefix_bytes number written;
+      some = some int form prefix_bytes number written;
       within = omega (arith, ap length parts, length-append prefix_bytes rest);
       ends = rw (front_rest s prefix_bytes rest parts) ends;
     }
 
 -- If the same answer is both `Ok (a, m)` and `Ok (b, n)`, then `a` is `b`, and `m` is `n`.
 same_answer : {E : Type 0} (a b : ℤ) (m n : ℕ) (answer : Result (ℤ × ℕ) E) → answer ≡ Ok (a, m) → answer ≡ Ok (b, n) → (a ≡ b) × (m ≡ n)
-same_answer a b m n answer h k =
-    let both = sym h ∙ k in
+same_answer a b m n answer h int =
+    let both = sym h ∙ int in
     let pair : (a, m) ≡ (b, n) = cc in (ap (λ (p : ℤ × ℕ). p.0) pair, ap (λ (p : ℤ × ℕ). p.1) pair)
 
 -- A slice has at most one prefix that writes a number and is followed by no digit, because a prefix
 -- parse that skips zeros returns the number and the length of any such prefix.
-only : (k : IntType) → IsSized k → (form : SignForm) (s : List ℕ) (number other : ℤ) (count len : ℕ)
-    → PrefixWrites (Writes k form) s number count → PrefixWrites (Writes k form) s other len → (number ≡ other) × (count ≡ len)
-only k sized form s number other count len h g =
-    let found = (accepted_prefixes k sized).accepted in
-    same_answer number other count len (prefix_call k form true s) (found form s number count h) (found form s other len g)
+only : (int : IntType) → IsSized int → (form : SignForm) (s : List ℕ) (number other : ℤ) (count len : ℕ)
+    → PrefixWrites (Writes int form) s number count → PrefixWrites (Writes int form) s other len → (number ≡ other) × (count ≡ len)
+only int sized form s number other count len h g =
+    let found = (accepted_prefixes int sized).accepted in
+    same_answer number other count len (prefix_call int form true s) (found form s number count h) (found form s other len g)
 
 -- If a slice begins with bytes that write a number and are followed by no digit, then a prefix for
 -- which `PrefixWrites` holds consists of exactly these bytes, and writes the same number.
-cut : (k : IntType) → IsSized k → (form : SignForm) (s prefix_bytes rest : List ℕ) (number other : ℤ) (count : ℕ)
-    → s ≡ prefix_bytes ++ rest → Writes k form prefix_bytes number → ¬ BeginsWithDigit rest → PrefixWrites (Writes k form) s other count
+cut : (int : IntType) → IsSized int → (form : SignForm) (s prefix_bytes rest : List ℕ) (number other : ℤ) (count : ℕ)
+    → s ≡ prefix_bytes ++ rest → Writes int form prefix_bytes number → ¬ BeginsWithDigit rest → PrefixWrites (Writes int form) s other count
     → (number ≡ other) × ((take count s ≡ prefix_bytes) × (drop count s ≡ rest))
-cut k sized form s prefix_bytes rest number other count parts written ends found =
-    let same = only k sized form s number other (length prefix_bytes) count (of_parts k form s prefix_bytes rest number parts written ends) found in (
+cut int sized form s prefix_bytes rest number other count parts written ends found =
+    let same = only int sized form s number other (length prefix_bytes) count (of_parts int form s prefix_bytes rest number parts written ends) found in (
       same.0,
       (
         ap (λ n. take n s) (sym same.1) ∙ (ap (take (length prefix_bytes)) parts ∙ take-append_seam prefix_bytes rest),
@@ -277,20 +277,20 @@ cut k sized form s prefix_bytes rest number other count parts written ends found
     )
 
 -- The law `PrefixesAndRests`.
-pub prefixes_and_rests : (k : IntType) → IsSized k → PrefixesAndRests k
-prefixes_and_rests k sized = record { of_parts = of_parts k; only = only k sized; cut = cut k sized }
+pub prefixes_and_rests : (int : IntType) → IsSized int → PrefixesAndRests int
+prefixes_and_rests int sized = record { of_parts = of_parts int; only = only int sized; cut = cut int sized }
 
 -- If a slice writes a number, it is a prefix of itself that writes this number. So a whole parse
 -- that skips zeros returns the number.
-whole_accepted : (k : IntType) → IsSized k → (form : SignForm) (s : List ℕ) (number : ℤ) → Writes k form s number → whole_call k form true s ≡ Ok number
-whole_accepted k sized form s number h =
-    (prefix_is_whole k).whole form true s number
-    ((accepted_prefixes k sized).accepted form s number (length s) (of_parts k form s s [] number (sym (append-nil s)) h (λ digit. digit)))
+whole_accepted : (int : IntType) → IsSized int → (form : SignForm) (s : List ℕ) (number : ℤ) → Writes int form s number → whole_call int form true s ≡ Ok number
+whole_accepted int sized form s number h =
+    (prefix_is_whole int).whole form true s number
+    ((accepted_prefixes int sized).accepted form s number (length s) (of_parts int form s s [] number (sym (append-nil s)) h (λ digit. digit)))
 
 -- The law `AcceptedNumbers`: a whole parse returns a number only if the slice writes that number.
 -- If zeros are skipped, the converse holds too.
-pub accepted_numbers : (k : IntType) → IsSized k → AcceptedNumbers k
-accepted_numbers k sized = record { written = whole_written k; accepted = whole_accepted k sized }
+pub accepted_numbers : (int : IntType) → IsSized int → AcceptedNumbers int
+accepted_numbers int sized = record { written = whole_written int; accepted = whole_accepted int sized }
 
 -- An answer that is `Ok` has a value.
 ok_value : {A E : Type 0} (r : Result A E) → IsOk r → (x : A) × (r ≡ Ok x)
@@ -303,14 +303,14 @@ ok_is_ok r x h = rw h refl
 
 -- The law `AcceptedTexts`: with both flags on, a parse accepts exactly the texts of the type, and
 -- gives their number.
-pub accepted_texts : (k : IntType) → IsSized k → AcceptedTexts k
-accepted_texts k sized = record {
+pub accepted_texts : (int : IntType) → IsSized int → AcceptedTexts int
+accepted_texts int sized = record {
   accepted = λ s. (
-    λ h. let found = ok_value (parse_answer k true true s) h in
-        record { number = found.0; written = whole_written k (looked_for true) true s found.0 found.1 },
-    λ text. ok_is_ok _ _ (whole_accepted k sized (looked_for true) s text.number text.written),
+    λ h. let found = ok_value (parse_answer int true true s) h in
+        record { number = found.0; written = whole_written int (looked_for true) true s found.0 found.1 },
+    λ text. ok_is_ok _ _ (whole_accepted int sized (looked_for true) s text.number text.written),
   );
-  number = whole_accepted k sized (looked_for true);
+  number = whole_accepted int sized (looked_for true);
 }
 
 -- ---- What the results of a type say about their slices
@@ -343,35 +343,35 @@ module _ {T : Type 0} (number : T → ℤ) where
   on_none (Ok found) answer P is h = tt
   on_none (Err error) answer P is h = λ any count p. let same = is ∙ h any count p in absurd (cc)
 
-module _ {T : Type 0} (k : IntType) (sized : IsSized k) (number : T → ℤ) (skip : Bool) where
+module _ {T : Type 0} (int : IntType) (sized : IsSized int) (number : T → ℤ) (skip : Bool) where
   -- The law `WholeResults`.
-  pub whole_results : WholeResults k number skip
+  pub whole_results : WholeResults int number skip
   whole_results = record {
     text = λ plus s result is.
-        if_ok number result (parse_answer k skip plus s) (TextWrites k plus s) is (λ any h. law.written (looked_for plus) skip s any h);
+        if_ok number result (parse_answer int skip plus s) (TextWrites int plus s) is (λ any h. law.written (looked_for plus) skip s any h);
     no_text = λ plus s result is on.
-        on_err number result (parse_answer k skip plus s) (TextWrites k plus s) is (λ any h. rw on (law.accepted (looked_for plus) s any h));
+        on_err number result (parse_answer int skip plus s) (TextWrites int plus s) is (λ any h. rw on (law.accepted (looked_for plus) s any h));
     digits = λ is_negative s result is.
-        if_ok number result (whole_answer decimal_table k is_negative skip s) (DigitsWrite k is_negative s) is (λ any h. law.written (given is_negative) skip s any h);
+        if_ok number result (whole_answer decimal_table int is_negative skip s) (DigitsWrite int is_negative s) is (λ any h. law.written (given is_negative) skip s any h);
     no_digits = λ is_negative s result is on.
-        on_err number result (whole_answer decimal_table k is_negative skip s) (DigitsWrite k is_negative s) is (λ any h. rw on (law.accepted (given is_negative) s any h));
+        on_err number result (whole_answer decimal_table int is_negative skip s) (DigitsWrite int is_negative s) is (λ any h. rw on (law.accepted (given is_negative) s any h));
   }
     where
-      law : AcceptedNumbers k
-      law = accepted_numbers k sized
+      law : AcceptedNumbers int
+      law = accepted_numbers int sized
 
   -- The law `PrefixResults`.
-  pub prefix_results : PrefixResults k number skip
+  pub prefix_results : PrefixResults int number skip
   prefix_results = record {
     text = λ plus s result is.
-        if_found number result (parse_prefix_answer k skip plus s) (PrefixWrites (TextWrites k plus) s) is (λ any count h. law.written (looked_for plus) skip s any count h);
+        if_found number result (parse_prefix_answer int skip plus s) (PrefixWrites (TextWrites int plus) s) is (λ any count h. law.written (looked_for plus) skip s any count h);
     no_text = λ plus s result is on.
-        on_none number result (parse_prefix_answer k skip plus s) (PrefixWrites (TextWrites k plus) s) is (λ any count h. rw on (law.accepted (looked_for plus) s any count h));
+        on_none number result (parse_prefix_answer int skip plus s) (PrefixWrites (TextWrites int plus) s) is (λ any count h. rw on (law.accepted (looked_for plus) s any count h));
     digits = λ is_negative s result is.
-        if_found number result (prefix_answer decimal_table k is_negative skip s) (PrefixWrites (DigitsWrite k is_negative) s) is (λ any count h. law.written (given is_negative) skip s any count h);
+        if_found number result (prefix_answer decimal_table int is_negative skip s) (PrefixWrites (DigitsWrite int is_negative) s) is (λ any count h. law.written (given is_negative) skip s any count h);
     no_digits = λ is_negative s result is on.
-        on_none number result (prefix_answer decimal_table k is_negative skip s) (PrefixWrites (DigitsWrite k is_negative) s) is (λ any count h. rw on (law.accepted (given is_negative) s any count h));
+        on_none number result (prefix_answer decimal_table int is_negative skip s) (PrefixWrites (DigitsWrite int is_negative) s) is (λ any count h. rw on (law.accepted (given is_negative) s any count h));
   }
     where
-      law : AcceptedPrefixes k
-      law = accepted_prefixes k sized
+      law : AcceptedPrefixes int
+      law = accepted_prefixes int sized

@@ -42,7 +42,7 @@ same_prefix_outcome more taken other_taken minus other_minus (Some reason) None 
 
 -- The reason to refuse the body after the sign `g`, or `None` if there is no reason.
 abbrev reason_at : IntType → Bool → Extent → Sign → Option Refusal
-reason_at k skip extent g = refusal decimal_table (class_of k) (bound_of k g.minus) (limit_of k) extent skip g.body
+reason_at int skip extent g = refusal decimal_table (class_of int) (bound_of int g.minus) (limit_of int) extent skip g.body
 
 -- The length of the body's run.
 abbrev len_at : Sign → ℕ
@@ -55,8 +55,8 @@ number_at g = value decimal_table (run decimal_table g.body)
 -- For two bodies with their signs, the first and the last of the four tests of `refusal` give the
 -- same results, and the other two tests compare the same numbers. So all four tests give the same
 -- results.
-record IsAlike (k : IntType) (skip : Bool) (extent : Extent) (g h : Sign) : Type 0 where
-  bound : bound_of k g.minus ≡ bound_of k h.minus
+record IsAlike (int : IntType) (skip : Bool) (extent : Extent) (g h : Sign) : Type 0 where
+  bound : bound_of int g.minus ≡ bound_of int h.minus
   is_empty : eqb (run_len decimal_table g.body) 0 ≡ eqb (run_len decimal_table h.body) 0
   counts : significant_digits decimal_table skip g.body ≡ significant_digits decimal_table skip h.body
   number : number_at g ≡ number_at h
@@ -64,20 +64,20 @@ record IsAlike (k : IntType) (skip : Bool) (extent : Extent) (g h : Sign) : Type
 
 -- If the four tests give the same results for two bodies, their refusals have the same rank, or
 -- neither is refused.
-same_reason : (k : IntType) (skip : Bool) (extent : Extent) (g h : Sign) → IsAlike k skip extent g h
-    → option_map rank (reason_at k skip extent g) ≡ option_map rank (reason_at k skip extent h)
-same_reason k skip extent g h alike =
-    refusal-rank decimal_table (class_of k) (bound_of k g.minus) (limit_of k) extent skip g.body
-    ∙ (λ i. first_of (alike.is_empty i) (is_above (limit_at (class_of k) extent skip (limit_of k)) (alike.counts i)) (ltb (alike.bound i) (alike.number i)) (alike.followed i) 0 1 2 (rank (invalid (class_of k) 0 0 [])))
-    ∙ sym (refusal-rank decimal_table (class_of k) (bound_of k h.minus) (limit_of k) extent skip h.body)
+same_reason : (int : IntType) (skip : Bool) (extent : Extent) (g h : Sign) → IsAlike int skip extent g h
+    → option_map rank (reason_at int skip extent g) ≡ option_map rank (reason_at int skip extent h)
+same_reason int skip extent g h alike =
+    refusal-rank decimal_table (class_of int) (bound_of int g.minus) (limit_of int) extent skip g.body
+    ∙ (λ i. first_of (alike.is_empty i) (is_above (limit_at (class_of int) extent skip (limit_of int)) (alike.counts i)) (ltb (alike.bound i) (alike.number i)) (alike.followed i) 0 1 2 (rank (invalid (class_of int) 0 0 [])))
+    ∙ sym (refusal-rank decimal_table (class_of int) (bound_of int h.minus) (limit_of int) extent skip h.body)
 
 -- What a prefix call returns when it uses the sign `g` and the body after that sign.
 abbrev prefix_at : IntType → Bool → Sign → Result (ℤ × ℕ) Refusal
-prefix_at k skip g = with_more g.taken (prefix_answer decimal_table k g.minus skip g.body)
+prefix_at int skip g = with_more g.taken (prefix_answer decimal_table int g.minus skip g.body)
 
 -- What a whole call returns when it uses the sign `g` and the body after that sign.
 abbrev whole_at : IntType → Bool → Sign → Result ℤ Refusal
-whole_at k skip g = whole_answer decimal_table k g.minus skip g.body
+whole_at int skip g = whole_answer decimal_table int g.minus skip g.body
 
 -- Equal runs have equal lengths.
 same_len : (s t : List ℕ) → run decimal_table s ≡ run decimal_table t → run_len decimal_table s ≡ run_len decimal_table t
@@ -88,16 +88,16 @@ same_zeros : (s t : List ℕ) → run decimal_table s ≡ run decimal_table t �
 same_zeros s t e = sym (zeros-run decimal_table s) ∙ ap (zeros decimal_table) e ∙ zeros-run decimal_table t
 
 -- Two bodies with equal runs and the same sign give prefix answers of the same outcome.
-same_run : (k : IntType) (skip : Bool) (g h : Sign) → g.minus ≡ h.minus → g.taken ≡ h.taken → run decimal_table g.body ≡ run decimal_table h.body
-    → HaveSameOutcome (with_more 0 (prefix_at k skip g)) (prefix_at k skip h)
-same_run k skip g h minus taken runs =
+same_run : (int : IntType) (skip : Bool) (g h : Sign) → g.minus ≡ h.minus → g.taken ≡ h.taken → run decimal_table g.body ≡ run decimal_table h.body
+    → HaveSameOutcome (with_more 0 (prefix_at int skip g)) (prefix_at int skip h)
+same_run int skip g h minus taken runs =
     let len = same_len g.body h.body runs in
     let leading = same_zeros g.body h.body runs in
     let number : number_at g ≡ number_at h = ap (value decimal_table) runs in
-    same_prefix_outcome 0 g.taken h.taken g.minus h.minus (reason_at k skip prefix g) (reason_at k skip prefix h)
+    same_prefix_outcome 0 g.taken h.taken g.minus h.minus (reason_at int skip prefix g) (reason_at int skip prefix h)
     (number_at g, len_at g) (number_at h, len_at h)
-    (same_reason k skip prefix g h (record {
-      bound = ap (bound_of k) minus;
+    (same_reason int skip prefix g h (record {
+      bound = ap (bound_of int) minus;
       is_empty = ap (λ (n : ℕ). eqb n 0) len;
       counts = λ i. len i - (if skip then leading i else 0);
       number = number;
@@ -106,10 +106,10 @@ same_run k skip g h minus taken runs =
     (λ i. with_sign (minus i) (number i)) (omega arith)
 
 -- The law `RestChangesNothing`: bytes after the run do not change the outcome of a prefix parse.
-pub rest_changes_nothing : (k : IntType) → RestChangesNothing k
-rest_changes_nothing k form skip s t same =
-    subst₂ (λ x y. HaveSameOutcome x y) (with_more-zero (prefix_at k skip (sign_in k form s)) ∙ sym (prefix_call-is k form skip s)) (sym (prefix_call-is k form skip t))
-    (same_run k skip (sign_in k form s) (sign_in k form t) same.minus same.taken same.run)
+pub rest_changes_nothing : (int : IntType) → RestChangesNothing int
+rest_changes_nothing int form skip s t same =
+    subst₂ (λ x y. HaveSameOutcome x y) (with_more-zero (prefix_at int skip (sign_in int form s)) ∙ sym (prefix_call-is int form skip s)) (sym (prefix_call-is int form skip t))
+    (same_run int skip (sign_in int form s) (sign_in int form t) same.minus same.taken same.run)
 
 -- ---- Added leading zeros
 
@@ -160,9 +160,9 @@ followed-padded whole count body =
 
 -- If zeros are skipped and the body begins with a digit, the four tests give the same results after
 -- zeros are added.
-padded_alike : (k : IntType) (extent : Extent) (count : ℕ) (g : Sign) → 0 < run_len decimal_table g.body
-    → IsAlike k true extent g (record g { body = padded count g.body })
-padded_alike k extent count g some =
+padded_alike : (int : IntType) (extent : Extent) (count : ℕ) (g : Sign) → 0 < run_len decimal_table g.body
+    → IsAlike int true extent g (record g { body = padded count g.body })
+padded_alike int extent count g some =
     let longer = run_len-padded count g.body in
     let leading = zeros-padded count g.body in
     record {
@@ -175,46 +175,46 @@ padded_alike k extent count g some =
 
 -- If the body begins with a digit, adding zeros after the sign does not change the sign that a call
 -- uses. The body after that sign is then the padded body.
-sign_of_padded : (k : IntType) (form : SignForm) (s : List ℕ) (count : ℕ) → 0 < run_len decimal_table (sign_in k form s).body
-    → sign_in k form (with_zeros k form count s)
-    ≡ record { minus = (sign_in k form s).minus; taken = (sign_in k form s).taken; body = padded count (sign_in k form s).body }
-sign_of_padded k form s count some =
-    let longer = run_len-padded count (sign_in k form s).body in
-    sign_again k form s (padded count (sign_in k form s).body) (omega arith)
+sign_of_padded : (int : IntType) (form : SignForm) (s : List ℕ) (count : ℕ) → 0 < run_len decimal_table (sign_in int form s).body
+    → sign_in int form (with_zeros int form count s)
+    ≡ record { minus = (sign_in int form s).minus; taken = (sign_in int form s).taken; body = padded count (sign_in int form s).body }
+sign_of_padded int form s count some =
+    let longer = run_len-padded count (sign_in int form s).body in
+    sign_again int form s (padded count (sign_in int form s).body) (omega arith)
 
 -- If zeros are skipped and the body begins with a digit, adding zeros after the sign does not
 -- change the outcome of a whole parse.
-whole_padded : (k : IntType) (g : Sign) (count : ℕ) → 0 < run_len decimal_table g.body
-    → HaveSameOutcome (whole_at k true g) (whole_at k true (record g { body = padded count g.body }))
-whole_padded k g count some =
+whole_padded : (int : IntType) (g : Sign) (count : ℕ) → 0 < run_len decimal_table g.body
+    → HaveSameOutcome (whole_at int true g) (whole_at int true (record g { body = padded count g.body }))
+whole_padded int g count some =
     let h = record g { body = padded count g.body } in
-    same_outcome g.minus g.minus (reason_at k true whole g) (reason_at k true whole h) (number_at g) (number_at h)
-    (same_reason k true whole g h (padded_alike k whole count g some))
+    same_outcome g.minus g.minus (reason_at int true whole g) (reason_at int true whole h) (number_at g) (number_at h)
+    (same_reason int true whole g h (padded_alike int whole count g some))
     (ap (with_sign g.minus) (value-padded count g.body))
 
 -- If zeros are skipped and the body begins with a digit, adding zeros after the sign does not
 -- change the outcome of a prefix parse, except that its count grows by their number.
-prefix_padded : (k : IntType) (g : Sign) (count : ℕ) → 0 < run_len decimal_table g.body
-    → HaveSameOutcome (with_more count (prefix_at k true g)) (prefix_at k true (record g { body = padded count g.body }))
-prefix_padded k g count some =
+prefix_padded : (int : IntType) (g : Sign) (count : ℕ) → 0 < run_len decimal_table g.body
+    → HaveSameOutcome (with_more count (prefix_at int true g)) (prefix_at int true (record g { body = padded count g.body }))
+prefix_padded int g count some =
     let h = record g { body = padded count g.body } in
     let more = run_len-padded count g.body in
-    same_prefix_outcome count g.taken g.taken g.minus g.minus (reason_at k true prefix g) (reason_at k true prefix h)
+    same_prefix_outcome count g.taken g.taken g.minus g.minus (reason_at int true prefix g) (reason_at int true prefix h)
     (number_at g, len_at g) (number_at h, len_at h)
-    (same_reason k true prefix g h (padded_alike k prefix count g some))
+    (same_reason int true prefix g h (padded_alike int prefix count g some))
     (ap (with_sign g.minus) (value-padded count g.body)) (omega arith)
 
 -- The law `ZerosChangeNothing`: if zeros are skipped and the body begins with a digit, added
 -- leading zeros do not change the outcome, except that the count of a prefix parse grows by their
 -- number.
-pub zeros_change_nothing : (k : IntType) → ZerosChangeNothing k
-zeros_change_nothing k = record {
+pub zeros_change_nothing : (int : IntType) → ZerosChangeNothing int
+zeros_change_nothing int = record {
   whole = λ form s count some.
-      subst₂ (λ x y. HaveSameOutcome x y) (sym (whole_call-is k form true s))
-      (ap (whole_at k true) (sym (sign_of_padded k form s count some)) ∙ sym (whole_call-is k form true (with_zeros k form count s)))
-      (whole_padded k (sign_in k form s) count some);
+      subst₂ (λ x y. HaveSameOutcome x y) (sym (whole_call-is int form true s))
+      (ap (whole_at int true) (sym (sign_of_padded int form s count some)) ∙ sym (whole_call-is int form true (with_zeros int form count s)))
+      (whole_padded int (sign_in int form s) count some);
   prefix = λ form s count some.
-      subst₂ (λ x y. HaveSameOutcome x y) (ap (with_more count) (sym (prefix_call-is k form true s)))
-      (ap (prefix_at k true) (sym (sign_of_padded k form s count some)) ∙ sym (prefix_call-is k form true (with_zeros k form count s)))
-      (prefix_padded k (sign_in k form s) count some);
+      subst₂ (λ x y. HaveSameOutcome x y) (ap (with_more count) (sym (prefix_call-is int form true s)))
+      (ap (prefix_at int true) (sym (sign_of_padded int form s count some)) ∙ sym (prefix_call-is int form true (with_zeros int form count s)))
+      (prefix_padded int (sign_in int form s) count some);
 }

@@ -27,24 +27,24 @@ use Rattle.std.proofs.lemmas.Str.{digit_value_digit}
 
 -- If a whole parse accepts a body without skipping zeros, it also accepts that body when it skips
 -- zeros, and returns the same value.
-whole_skipping : (k : IntType) (is_negative : Bool) (body : List ℕ) (v : ℤ)
-    → whole_answer decimal_table k is_negative false body ≡ Ok v → whole_answer decimal_table k is_negative true body ≡ Ok v
-whole_skipping k is_negative body v h =
-    let found = from_whole k is_negative false body v h in
+whole_skipping : (int : IntType) (is_negative : Bool) (body : List ℕ) (v : ℤ)
+    → whole_answer decimal_table int is_negative false body ≡ Ok v → whole_answer decimal_table int is_negative true body ≡ Ok v
+whole_skipping int is_negative body v h =
+    let found = from_whole int is_negative false body v h in
     let old = found.0 in
     let n = run_len decimal_table body in
-    let limit = limit_of_whole (class_of k) true (limit_of k) in
+    let limit = limit_of_whole (class_of int) true (limit_of int) in
     let fewer : significant_digits decimal_table true body ≤ significant_digits decimal_table false body = omega arith in
-    let short = shorter (limit_at (class_of k) whole true (limit_of k)) _ _ fewer (rw limit old.short) in
-    to_whole k is_negative true body
-    (is_whole k is_negative true body old.some short old.in_range (whole_is_run n (length body) old.ends))
+    let short = shorter (limit_at (class_of int) whole true (limit_of int)) _ _ fewer (rw limit old.short) in
+    to_whole int is_negative true body
+    (is_whole int is_negative true body old.some short old.in_range (whole_is_run n (length body) old.ends))
     ∙ ap Ok (sym found.1)
 
 -- The law `SkippingAgrees`: if a whole parse succeeds without skipping zeros, it returns the same
 -- value when it skips zeros.
-pub skipping_agrees : (k : IntType) → SkippingAgrees k
-skipping_agrees k form s v h =
-    whole_call-is k form true s ∙ whole_skipping k (sign_in k form s).minus (sign_in k form s).body v (sym (whole_call-is k form false s) ∙ h)
+pub skipping_agrees : (int : IntType) → SkippingAgrees int
+skipping_agrees int form s v h =
+    whole_call-is int form true s ∙ whole_skipping int (sign_in int form s).minus (sign_in int form s).body v (sym (whole_call-is int form false s) ∙ h)
 
 -- A byte from 48 to 57 is a decimal digit, and the table gives `byte - 48` for it.
 pub digit_is : (byte : ℕ) → 48 ≤ byte → byte ≤ 57 → decimal_table byte ≡ Some (byte - 48)
@@ -84,18 +84,18 @@ decimal_text n h =
 
 -- The decimal text of a number in range does not have too many digits, even if zeros are not
 -- skipped.
-decimal_short : (k : IntType) → IsSized k → (is_negative : Bool) (n : ℕ) → n ≤ bound_of k is_negative
-    → is_above (limit_at (class_of k) whole false (limit_of k)) (length (decimal n)) ≡ false
-decimal_short k sized is_negative n le =
-    elim (bound-limit k sized is_negative) [
+decimal_short : (int : IntType) → IsSized int → (is_negative : Bool) (n : ℕ) → n ≤ bound_of int is_negative
+    → is_above (limit_at (class_of int) whole false (limit_of int)) (length (decimal n)) ≡ false
+decimal_short int sized is_negative n le =
+    elim (bound-limit int sized is_negative) [
       | inl e ↦ rw e refl
       | inr lt ↦
-          short_enough (class_of k) false (limit_of k) (length (decimal n))
-          (length-decimal-le_wide (limit_of k) n (limit_pos k) (lt_of_le_of_lt le lt) (lt_of_le_of_lt le (bound_below-64 k sized is_negative)))
+          short_enough (class_of int) false (limit_of int) (length (decimal n))
+          (length-decimal-le_wide (limit_of int) n (limit_pos int) (lt_of_le_of_lt le lt) (lt_of_le_of_lt le (bound_below-64 int sized is_negative)))
     ]
   where
-    limit_pos : (k : IntType) → 0 < limit_of k
-    limit_pos k = cases (eqb k.bits 64) k.signed
+    limit_pos : (int : IntType) → 0 < limit_of int
+    limit_pos int = cases (eqb int.bits 64) int.signed
       where
         cases : (a b : Bool) → 0 < cond a (cond b 19 20) 39
         cases true true = omega arith
@@ -104,27 +104,27 @@ decimal_short k sized is_negative n le =
 
 -- If zeros are not skipped, the decimal text of a magnitude in range is parsed to that magnitude
 -- with the given sign.
-counting_text : (k : IntType) → IsSized k → (is_negative : Bool) (n : ℕ) → n ≤ bound_of k is_negative
-    → whole_answer decimal_table k is_negative false (decimal n) ≡ Ok (with_sign is_negative n)
-counting_text k sized is_negative n le =
-    let text = decimal_text n (lt_of_le_of_lt le (bound_below-64 k sized is_negative)) in
+counting_text : (int : IntType) → IsSized int → (is_negative : Bool) (n : ℕ) → n ≤ bound_of int is_negative
+    → whole_answer decimal_table int is_negative false (decimal n) ≡ Ok (with_sign is_negative n)
+counting_text int sized is_negative n le =
+    let text = decimal_text n (lt_of_le_of_lt le (bound_below-64 int sized is_negative)) in
     let is_run = run_all decimal_table (decimal n) text.all in
     let some : 0 < run_len decimal_table (decimal n) = omega (arith, text.all, text.some) in
     let count : significant_digits decimal_table false (decimal n) ≡ length (decimal n) = omega (arith, text.all) in
-    let short : is_above (limit_at (class_of k) whole false (limit_of k)) (significant_digits decimal_table false (decimal n)) ≡ false =
-    rw count (decimal_short k sized is_negative n le)
+    let short : is_above (limit_at (class_of int) whole false (limit_of int)) (significant_digits decimal_table false (decimal n)) ≡ false =
+    rw count (decimal_short int sized is_negative n le)
     in
-    let in_range : value decimal_table (run decimal_table (decimal n)) ≤ bound_of k is_negative = rw (is_run, text.is) le in
-    to_whole k is_negative false (decimal n) (is_whole k is_negative false (decimal n) some short in_range text.all)
+    let in_range : value decimal_table (run decimal_table (decimal n)) ≤ bound_of int is_negative = rw (is_run, text.is) le in
+    to_whole int is_negative false (decimal n) (is_whole int is_negative false (decimal n) some short in_range text.all)
     ∙ ap (λ digits. Ok (with_sign is_negative (value decimal_table digits))) is_run
     ∙ ap (λ m. Ok (with_sign is_negative m)) text.is
 
 -- The decimal text of a magnitude in range is parsed to that magnitude with the given sign, whether
 -- zeros are skipped or not.
-magnitude_text : (k : IntType) → IsSized k → (is_negative skip : Bool) (n : ℕ) → n ≤ bound_of k is_negative
-    → whole_answer decimal_table k is_negative skip (decimal n) ≡ Ok (with_sign is_negative n)
-magnitude_text k sized is_negative true n le = whole_skipping k is_negative (decimal n) (with_sign is_negative n) (counting_text k sized is_negative n le)
-magnitude_text k sized is_negative false n le = counting_text k sized is_negative n le
+magnitude_text : (int : IntType) → IsSized int → (is_negative skip : Bool) (n : ℕ) → n ≤ bound_of int is_negative
+    → whole_answer decimal_table int is_negative skip (decimal n) ≡ Ok (with_sign is_negative n)
+magnitude_text int sized is_negative true n le = whole_skipping int is_negative (decimal n) (with_sign is_negative n) (counting_text int sized is_negative n le)
+magnitude_text int sized is_negative false n le = counting_text int sized is_negative n le
 
 -- A minus before the digits is consumed if the type is signed.
 sign_of_minus : (signed takes_plus : Bool) (digits : List ℕ) → signed ≡ true
@@ -140,18 +140,18 @@ negative_in_range false greatest n h = absurd h.le
 negative_in_range true greatest n h = let within = rw add-one at h in (refl, leb→le n greatest within.le)
 
 -- The law `TextOfValue`: the decimal text of each number of the type is parsed to that number.
-pub text_of_value : (k : IntType) → IsSized k → TextOfValue k
-text_of_value k sized = record { parsed = parsed }
+pub text_of_value : (int : IntType) → IsSized int → TextOfValue int
+text_of_value int sized = record { parsed = parsed }
   where
-    parsed : (skip takes_plus : Bool) (x : ℤ) → least_of k ≤ℤ x → x ≤ℤ pos k.greatest → parse_answer k skip takes_plus (signed_decimal x) ≡ Ok x
+    parsed : (skip takes_plus : Bool) (x : ℤ) → least_of int ≤ℤ x → x ≤ℤ pos int.greatest → parse_answer int skip takes_plus (signed_decimal x) ≡ Ok x
     parsed skip takes_plus (pos n) low high =
-        let text = decimal_text n (lt_of_le_of_lt (leb→le n k.greatest high.le) (bound_below-64 k sized false)) in
-        ap (λ (g : Sign). whole_answer decimal_table k g.minus skip g.body) (sign_of_digits k.signed takes_plus (decimal n) (omega (arith, text.all, text.some)))
-        ∙ magnitude_text k sized false skip n (leb→le n k.greatest high.le)
+        let text = decimal_text n (lt_of_le_of_lt (leb→le n int.greatest high.le) (bound_below-64 int sized false)) in
+        ap (λ (g : Sign). whole_answer decimal_table int g.minus skip g.body) (sign_of_digits int.signed takes_plus (decimal n) (omega (arith, text.all, text.some)))
+        ∙ magnitude_text int sized false skip n (leb→le n int.greatest high.le)
     parsed skip takes_plus (negsuc n) low high =
-        let within = negative_in_range k.signed k.greatest n low in
-        ap (λ (g : Sign). whole_answer decimal_table k g.minus skip g.body) (sign_of_minus k.signed takes_plus (decimal (suc n)) within.0)
-        ∙ magnitude_text k sized true skip (suc n) (omega (arith, within.1))
+        let within = negative_in_range int.signed int.greatest n low in
+        ap (λ (g : Sign). whole_answer decimal_table int g.minus skip g.body) (sign_of_minus int.signed takes_plus (decimal (suc n)) within.0)
+        ∙ magnitude_text int sized true skip (suc n) (omega (arith, within.1))
 
 -- ---- Decimal digits and their values are those of std
 
@@ -207,10 +207,10 @@ sign_of_text signed false minus digits h p some = rw (h refl) refl
 
 -- A body that is accepted as a whole consists of digits only, and these write the number of the
 -- answer.
-digits_written : (k : IntType) (is_negative skip : Bool) (body : List ℕ) (number : ℤ)
-    → whole_answer decimal_table k is_negative skip body ≡ Ok number → DigitsWrite k is_negative body number
-digits_written k is_negative skip body number h =
-    let found = from_whole k is_negative skip body number h in
+digits_written : (int : IntType) (is_negative skip : Bool) (body : List ℕ) (number : ℤ)
+    → whole_answer decimal_table int is_negative skip body ≡ Ok number → DigitsWrite int is_negative body number
+digits_written int is_negative skip body number h =
+    let found = from_whole int is_negative skip body number h in
     let all = whole_is_run (run_len decimal_table body) (length body) found.0.ends in
     let is_run = run_all decimal_table body all in
     let digits = to_std body (digits_all decimal_table body all) in
@@ -218,39 +218,39 @@ digits_written k is_negative skip body number h =
     record { numeral = (omega (arith, found.0.some), digits); in_range = rw (is_run, same) at found.0.in_range; value_is = rw (is_run, same) at found.1 }
 
 -- A slice that `parse` accepts is a text that writes the number of the answer.
-text_written : (k : IntType) (takes_plus skip : Bool) (s : List ℕ) (number : ℤ)
-    → parse_answer k skip takes_plus s ≡ Ok number → TextWrites k takes_plus s number
-text_written k takes_plus skip s number h =
-    let g = sign_of k.signed takes_plus s in
-    let parts = split k.signed takes_plus s in
+text_written : (int : IntType) (takes_plus skip : Bool) (s : List ℕ) (number : ℤ)
+    → parse_answer int skip takes_plus s ≡ Ok number → TextWrites int takes_plus s number
+text_written int takes_plus skip s number h =
+    let g = sign_of int.signed takes_plus s in
+    let parts = split int.signed takes_plus s in
     record {
       sign = parts.mark;
       digits = g.body;
       parts = parts.parts;
       signed = parts.allowed;
       plus_taken = parts.plus_taken;
-      written = rw parts.same (digits_written k g.minus skip g.body number h);
+      written = rw parts.same (digits_written int g.minus skip g.body number h);
     }
 
 -- If a whole call gives a number, its slice writes that number.
-pub whole_written : (k : IntType) (form : SignForm) (skip : Bool) (s : List ℕ) (number : ℤ)
-    → whole_call k form skip s ≡ Ok number → Writes k form s number
-whole_written k (looked_for takes_plus) skip s number h = text_written k takes_plus skip s number h
-whole_written k (given is_negative) skip s number h = digits_written k is_negative skip s number h
+pub whole_written : (int : IntType) (form : SignForm) (skip : Bool) (s : List ℕ) (number : ℤ)
+    → whole_call int form skip s ≡ Ok number → Writes int form s number
+whole_written int (looked_for takes_plus) skip s number h = text_written int takes_plus skip s number h
+whole_written int (given is_negative) skip s number h = digits_written int is_negative skip s number h
 
 -- ---- Texts with no needless zero
 -- The decimal text of a number is the only text of digits with no needless zero that writes it.
 
 -- Bytes that write a number without a sign begin with a digit.
-begins : (k : IntType) (is_negative : Bool) (digits : List ℕ) (number : ℤ) → DigitsWrite k is_negative digits number → BeginsWithDigit digits
-begins k is_negative [] number h = absurd (omega (arith, h.numeral.0))
-begins k is_negative (digit ∷ digits) number h = digit_from_value digit h.numeral.1.0
+begins : (int : IntType) (is_negative : Bool) (digits : List ℕ) (number : ℤ) → DigitsWrite int is_negative digits number → BeginsWithDigit digits
+begins int is_negative [] number h = absurd (omega (arith, h.numeral.0))
+begins int is_negative (digit ∷ digits) number h = digit_from_value digit h.numeral.1.0
 
 -- If n is a magnitude in range, `decimal n` writes the number that has this magnitude and the given
 -- sign.
-decimal_writes : (k : IntType) → IsSized k → (is_negative : Bool) (n : ℕ) → n ≤ bound_of k is_negative → DigitsWrite k is_negative (decimal n) (with_sign is_negative n)
-decimal_writes k sized is_negative n le =
-    let numeral = decimal_is_IsNumeral_wide n (lt_of_le_of_lt le (bound_below-64 k sized is_negative)) in
+decimal_writes : (int : IntType) → IsSized int → (is_negative : Bool) (n : ℕ) → n ≤ bound_of int is_negative → DigitsWrite int is_negative (decimal n) (with_sign is_negative n)
+decimal_writes int sized is_negative n le =
+    let numeral = decimal_is_IsNumeral_wide n (lt_of_le_of_lt le (bound_below-64 int sized is_negative)) in
     record { numeral = numeral.0; in_range = omega (arith, numeral.1); value_is = rw numeral.1 refl }
 
 -- The digits are not empty, and if n is above 0 they do not begin with a zero.
@@ -311,31 +311,31 @@ with_sign-injective true (suc m) (suc n) h = cc
 with_sign-injective false m n h = cc
 
 -- If digits with no needless zero write a number of magnitude n, they are `decimal n`.
-decimal_only : (k : IntType) → IsSized k → (is_negative : Bool) (digits : List ℕ) (n : ℕ)
-    → DigitsWrite k is_negative digits (with_sign is_negative n) → IsFalse (has_needless_zero digits) → digits ≡ decimal n
-decimal_only k sized is_negative digits n h shortest =
-    decimal_of_digits digits h.numeral shortest (lt_of_le_of_lt h.in_range (bound_below-64 k sized is_negative))
+decimal_only : (int : IntType) → IsSized int → (is_negative : Bool) (digits : List ℕ) (n : ℕ)
+    → DigitsWrite int is_negative digits (with_sign is_negative n) → IsFalse (has_needless_zero digits) → digits ≡ decimal n
+decimal_only int sized is_negative digits n h shortest =
+    decimal_of_digits digits h.numeral shortest (lt_of_le_of_lt h.in_range (bound_below-64 int sized is_negative))
     ∙ ap decimal (sym (with_sign-injective is_negative n (digits_value 10 digits) h.value_is))
 
 -- If x is in the range of the type, `signed_decimal x` writes x.
-signed_writes : (k : IntType) → IsSized k → (takes_plus : Bool) (x : ℤ) → least_of k ≤ℤ x → x ≤ℤ pos k.greatest → TextWrites k takes_plus (signed_decimal x) x
-signed_writes k sized takes_plus (pos n) low high = record {
+signed_writes : (int : IntType) → IsSized int → (takes_plus : Bool) (x : ℤ) → least_of int ≤ℤ x → x ≤ℤ pos int.greatest → TextWrites int takes_plus (signed_decimal x) x
+signed_writes int sized takes_plus (pos n) low high = record {
   sign = no_sign;
   digits = decimal n;
   parts = refl;
   signed = λ e. absurd (cc e);
   plus_taken = λ e. absurd (cc e);
-  written = decimal_writes k sized false n (leb→le n k.greatest high.le);
+  written = decimal_writes int sized false n (leb→le n int.greatest high.le);
 }
-signed_writes k sized takes_plus (negsuc n) low high =
-    let within = negative_in_range k.signed k.greatest n low in
+signed_writes int sized takes_plus (negsuc n) low high =
+    let within = negative_in_range int.signed int.greatest n low in
     record {
       sign = minus;
       digits = decimal (suc n);
       parts = refl;
       signed = λ e. within.0;
       plus_taken = λ e. absurd (cc e);
-      written = decimal_writes k sized true (suc n) (omega (arith, within.1));
+      written = decimal_writes int sized true (suc n) (omega (arith, within.1));
     }
 
 -- If x is not 0 and is the negative of n, its text is a minus followed by `decimal n`.
@@ -345,12 +345,12 @@ minus_text x (suc n) some is = rw is refl
 
 -- If a text without a plus writes x, has no needless zero, and has no minus if x is 0, then that
 -- text is `signed_decimal x`.
-signed_only : (k : IntType) → IsSized k → (s : List ℕ) (x : ℤ) (text : TextWrites k false s x)
+signed_only : (int : IntType) → IsSized int → (s : List ℕ) (x : ℤ) (text : TextWrites int false s x)
     → IsFalse (has_needless_zero text.digits) → (is_minus text.sign ≡ true → x ≢ pos 0) → s ≡ signed_decimal x
-signed_only k sized s x text shortest some =
+signed_only int sized s x text shortest some =
     let n : ℕ = digits_value 10 text.digits in
     let digits : text.digits ≡ decimal n =
-    decimal_of_digits text.digits text.written.numeral shortest (lt_of_le_of_lt text.written.in_range (bound_below-64 k sized (is_minus text.sign))) in
+    decimal_of_digits text.digits text.written.numeral shortest (lt_of_le_of_lt text.written.in_range (bound_below-64 int sized (is_minus text.sign))) in
     text.parts ∙ ap (λ digits. sign_bytes text.sign ++ digits) digits ∙ by_sign text.sign n some text.written.value_is text.plus_taken
   where
     by_sign : (sign : SignMark) (n : ℕ) → (is_minus sign ≡ true → x ≢ pos 0) → x ≡ with_sign (is_minus sign) n
@@ -360,12 +360,12 @@ signed_only k sized s x text shortest some =
     by_sign minus n some is none = minus_text x n (some refl) is
 
 -- The law `DecimalTexts`.
-pub decimal_texts : (k : IntType) → IsSized k → DecimalTexts k
-decimal_texts k sized = record {
-  begins = begins k;
-  written = decimal_writes k sized;
-  shortest = λ is_negative n le. decimal_shortest n (lt_of_le_of_lt le (bound_below-64 k sized is_negative));
-  only = decimal_only k sized;
-  text = signed_writes k sized;
-  only_text = signed_only k sized;
+pub decimal_texts : (int : IntType) → IsSized int → DecimalTexts int
+decimal_texts int sized = record {
+  begins = begins int;
+  written = decimal_writes int sized;
+  shortest = λ is_negative n le. decimal_shortest n (lt_of_le_of_lt le (bound_below-64 int sized is_negative));
+  only = decimal_only int sized;
+  text = signed_writes int sized;
+  only_text = signed_only int sized;
 }

@@ -18,49 +18,49 @@ returns-then-is_empty-clause-steps g c =
 
 pub returns-in-None-clause-steps : goal.returns-in-None-clause-steps
 returns-in-None-clause-steps g c =
-    let k : IntType = g.T.Number.int_type in
+    let int : IntType = g.T.Number.int_type in
     let inside = c.self.inside in
     let rest = inside.rest.now in
     let some : 0 < length rest = grind (arith, nat_tests) in
     let law = c.fields_are_prefixes.ensures inside.separator c.self.invariant.separates rest in
     sym c.self.view_is
-    ∙ items_left-last k inside.separator inside.index inside.place rest some law (g.T.Number.number c.in-Ok.found.0) c.in-Ok.found.1 (sym c.in-Ok.ensures.answer)
+    ∙ items_left-last int inside.separator inside.index inside.place rest some law (g.T.Number.number c.in-Ok.found.0) c.in-Ok.found.1 (sym c.in-Ok.ensures.answer)
     (let left : length (drop c.in-Ok.found.1 rest) ≡ 0 = rw (take_rest rest c.in-Ok.found.1) at c.in-None.ensures.cases in omega (arith, left, length-drop c.in-Ok.found.1 rest))
-    ∙ ap (λ left. Ok (g.T.Number.number c.in-Ok.found.0) ∷ left) (sym (items_left-after_all k inside.separator inside.index inside.place rest))
+    ∙ ap (λ left. Ok (g.T.Number.number c.in-Ok.found.0) ∷ left) (sym (items_left-after_all int inside.separator inside.index inside.place rest))
 
 pub returns-then-byte-self-clause-steps : goal.returns-then-byte-self-clause-steps
 returns-then-byte-self-clause-steps g c =
-    let k : IntType = g.T.Number.int_type in
+    let int : IntType = g.T.Number.int_type in
     let inside = c.self.inside in
     let rest = inside.rest.now in
     let some : 0 < length rest = grind (arith, nat_tests) in
     let law = c.fields_are_prefixes.ensures inside.separator c.self.invariant.separates rest in
     sym c.self.view_is
-    ∙ items_left-ended k inside.separator inside.index inside.place rest some law (g.T.Number.number c.in-Ok.found.0) c.in-Ok.found.1 c.in-Some.following.now (sym c.in-Ok.ensures.answer)
+    ∙ items_left-ended int inside.separator inside.index inside.place rest some law (g.T.Number.number c.in-Ok.found.0) c.in-Ok.found.1 c.in-Some.following.now (sym c.in-Ok.ensures.answer)
     ((rw (take_rest rest c.in-Ok.found.1) at c.in-Some.ensures.cases.0) ∙ ap (λ byte. byte ∷ c.in-Some.following.now) c.if-byte-self.true)
 
 pub returns-else-byte-self-clause-steps : goal.returns-else-byte-self-clause-steps
 returns-else-byte-self-clause-steps g c =
-    let k : IntType = g.T.Number.int_type in
+    let int : IntType = g.T.Number.int_type in
     let inside = c.self.inside in
     let rest = inside.rest.now in
     let some : 0 < length rest = grind (arith, nat_tests) in
     let law = c.fields_are_prefixes.ensures inside.separator c.self.invariant.separates rest in
     sym c.self.view_is
-    ∙ items_left-trailing k inside.separator inside.index inside.place rest some law (g.T.Number.number c.in-Ok.found.0) c.in-Ok.found.1 c.in-Some.byte.now c.in-Some.following.now (sym c.in-Ok.ensures.answer)
+    ∙ items_left-trailing int inside.separator inside.index inside.place rest some law (g.T.Number.number c.in-Ok.found.0) c.in-Ok.found.1 c.in-Some.byte.now c.in-Some.following.now (sym c.in-Ok.ensures.answer)
     (rw (take_rest rest c.in-Ok.found.1) at c.in-Some.ensures.cases.0) c.if-byte-self.false
-    ∙ ap (λ left. Err (trailing inside.index (inside.place + c.in-Ok.found.1)) ∷ left) (sym (items_left-after_all k inside.separator inside.index inside.place rest))
+    ∙ ap (λ left. Err (trailing inside.index (inside.place + c.in-Ok.found.1)) ∷ left) (sym (items_left-after_all int inside.separator inside.index inside.place rest))
 
 pub returns-in-Err-clause-steps : goal.returns-in-Err-clause-steps
 returns-in-Err-clause-steps g c =
-    let k : IntType = g.T.Number.int_type in
+    let int : IntType = g.T.Number.int_type in
     let inside = c.self.inside in
     let rest = inside.rest.now in
     let some : 0 < length rest = grind (arith, nat_tests) in
     let law = c.fields_are_prefixes.ensures inside.separator c.self.invariant.separates rest in
     sym c.self.view_is
-    ∙ items_left-refused k inside.separator inside.index inside.place rest some law (refusal_of c.in-Err.cause) (sym c.in-Err.ensures.answer)
-    ∙ ap (λ left. Err (field inside.index inside.place (refusal_of c.in-Err.cause)) ∷ left) (sym (items_left-after_all k inside.separator inside.index inside.place rest))
+    ∙ items_left-refused int inside.separator inside.index inside.place rest some law (refusal_of c.in-Err.cause) (sym c.in-Err.ensures.answer)
+    ∙ ap (λ left. Err (field inside.index inside.place (refusal_of c.in-Err.cause)) ∷ left) (sym (items_left-after_all int inside.separator inside.index inside.place rest))
 
 pub returns-in-None-clause-goes : goal.returns-in-None-clause-goes
 returns-in-None-clause-goes g c = one_item_less _ (λ _. tt) _ _ _ _ (returns-in-None-clause-steps g c)
