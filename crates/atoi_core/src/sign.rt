@@ -2,7 +2,7 @@
 //! call* for the *body*, which is the slice after its sign. A core call is a call of `whole_pos`,
 //! `whole_neg`, `prefix_pos` or `prefix_neg`. This module uses `core_calls` and `with_sign`, and
 //! the modules that its contracts name.
-ghost use Rattle.std.specs.Prelude.{◌≡◌, ◌+◌, ◌≤◌, false, IfOk, length};
+ghost use Rattle.std.specs.Prelude.{◌≡◌, ◌+◌, ◌-◌, ◌≤◌, false, IfOk, length, drop};
 ghost use Rattle.atoi_core.specs.Answer.{typed_answer, typed_prefix_answer, text_answer, text_prefix_answer};
 ghost use Rattle.atoi_core.specs.Loads.{TypedLoads};
 ghost use Rattle.atoi_core.specs.Magnitude.{whole, prefix};
@@ -29,12 +29,22 @@ pub fn take_sign(signed: bool, skip_plus: bool, s: &[u8]) -> (bool, &[u8])
     let [first, ..] = s else {
         return (false, s);
     };
+    if skip_plus && *first == b'+' {
+        return (false, without_first(s));
+    }
     let minus = signed & (*first == b'-');
-    let plus = skip_plus & (*first == b'+');
-    // Sliced twice, by 0 or 1, instead of branching: with mixed signs a branch would be
-    // mispredicted.
-    let body = &s[usize::from(minus)..];
-    (minus, &body[usize::from(plus)..])
+    // Sliced by 0 or 1: with mixed signs, a branch would be mispredicted.
+    (minus, &s[usize::from(minus)..])
+}
+
+// Never inlined, so that a `+` is a branch: with a select in its place, the address of the digits
+// would wait for the first byte.
+#[inline(never)]
+fn without_first(s: &[u8]) -> &[u8]
+    requires { 1 ≤ length s.now }
+    ensures { result.now ≡ drop 1 s.now }
+{
+    &s[1..]
 }
 
 /// Parses all of `s` as an integer of the signed type `T`: at most one sign, then digits only.
@@ -110,8 +120,8 @@ pub fn parse_prefix_signed<'a, E: Engine, T: Signed>(
 {
     let (minus, body) = take_sign(true, skip_plus, s);
     let negative = prefix_neg::<E, T>(skip, body, steps);
-    let (number, len) = prefix_with_sign::<E, T>(minus, skip, body, negative)?;
-    Ok((number, len + (s.len() - body.len())))
+    let found = prefix_with_sign::<E, T>(minus, skip, body, negative)?;
+    Ok(count_sign(found, body, s))
 }
 
 /// Parses the integer of the unsigned type `T` at the start of `s`, and returns it with the number
@@ -137,8 +147,15 @@ pub fn parse_prefix_unsigned<'a, E: Engine, T: Number>(
         steps.old steps.new }
 {
     let (_, body) = take_sign(false, skip_plus, s);
-    match prefix_pos::<E, T>(skip, body, steps) {
-        Ok((number, len)) => Ok((number, len + (s.len() - body.len()))),
-        Err(error) => Err(error),
-    }
+    let found = prefix_pos::<E, T>(skip, body, steps)?;
+    Ok(count_sign(found, body, s))
+}
+
+// Adds the bytes of `s` before `body` to the count.
+fn count_sign<T>(found: (T, usize), body: &[u8], s: &[u8]) -> (T, usize)
+    requires inside { found.1 ≤ length body.now }
+    requires shorter { length body.now ≤ length s.now }
+    ensures { result ≡ (found.0, found.1 + (length s.now - length body.now)) }
+{
+    (found.0, found.1 + (s.len() - body.len()))
 }
