@@ -2,7 +2,6 @@
 //! in Rust.
 
 use crate::mixes::{low_bits, words};
-use std::collections::BTreeSet;
 
 const HEAD: &str = "//! The columns that are timed: the build of `diff/gen` wrote them.
 #![tactic(auto)]
@@ -28,19 +27,18 @@ pub fn read(text: &str) -> Vec<Shape> {
         .collect()
 }
 
-/// The Rattle source of the timed columns. It has an export for each type.
+/// The Rattle source of the timed columns. It has an export for each line, so that a type has
+/// several loops in one library: `Column::next` has to be inlined into each of them.
 pub fn rattle(shapes: &[Shape]) -> String {
-    let exports: BTreeSet<String> = shapes.iter().map(Shape::export).collect();
-    exports.into_iter().fold(String::from(HEAD), |text, export| text + &export)
+    shapes.iter().fold(String::from(HEAD), |text, shape| text + &shape.export())
 }
 
 /// The Rust source with the declarations of these exports, and with the table `SHAPES` of all that
 /// is timed.
 pub fn rust(shapes: &[Shape]) -> String {
-    let names: BTreeSet<String> = shapes.iter().map(Shape::name).collect();
     let mut text = String::from("unsafe extern \"C\" {\n");
-    for name in names {
-        text += &format!("    fn {name}(text: *const u8, length: usize) -> u64;\n");
+    for shape in shapes {
+        text += &format!("    fn {}(text: *const u8, length: usize) -> u64;\n", shape.name());
     }
     text += "}\n\npub static SHAPES: &[Shape] = &[\n";
     shapes.iter().for_each(|shape| text += &shape.row());
@@ -50,7 +48,7 @@ pub fn rust(shapes: &[Shape]) -> String {
 impl Shape {
     // The name of the export.
     fn name(&self) -> String {
-        format!("column_{}", self.integer)
+        format!("column_{}_{}", self.integer, self.digits.replace('-', "_"))
     }
 
     // The source of an export that returns the sum of the low 64 bits of all values. For an error
