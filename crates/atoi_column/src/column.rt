@@ -91,7 +91,7 @@ impl<'a, T: Parse> Iterator for Column<'a, T> {
 
     /// Returns the value of the next field, or an error that says why it has none. Returns `None`
     /// at the end, and after an error.
-    #[inline]
+    #[inline(always)]
     fn next(&mut self) -> Option<Result<T, ColumnError<'a>>> {
         // The clause `next_gives` follows from this law. The call does nothing.
         fields_are_prefixes::<T>();
