@@ -4,6 +4,7 @@ pub mod ClosedValue
 pub mod Refusal
 pub mod ErrorText
 pub mod Magnitude
+pub mod Narrow
 pub mod IntType
 pub mod Sign
 pub mod Answer

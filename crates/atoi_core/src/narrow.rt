@@ -1,10 +1,11 @@
 //! Two parsers of integers of at most 32 bits: one for a whole slice, and one for the number at the
 //! start of a slice. They read windows with any engine. This module uses `engine`, `window`,
 //! `steps` and `error`.
-ghost use Rattle.std.specs.Prelude.{◌≡◌, ◌+◌, ◌-◌, ◌<◌, ◌≤◌, ◌==◌, true, false, not, ◌&&◌, ◌||◌, nat_lt, if◌then◌else◌, Ok, Err, length, drop};
+ghost use Rattle.std.specs.Prelude.{◌≡◌, ℕ, ◌+◌, ◌-◌, ◌<◌, ◌≤◌, ◌==◌, true, false, not, ◌&&◌, ◌||◌, nat_lt, if◌then◌else◌, Ok, Err, length, drop};
 ghost use Rattle.atoi_core.specs.Loads.{LoadsWithin, most_loads};
 ghost use Rattle.atoi_core.specs.Magnitude.{narrow, whole_magnitude, prefix_magnitude};
-ghost use Rattle.atoi_core.specs.Refusal.{answer_of, refusal_of, rank, empty, overflow};
+ghost use Rattle.atoi_core.specs.Narrow.{narrow_decision};
+ghost use Rattle.atoi_core.specs.Refusal.{answer_of, overflow};
 ghost use Rattle.atoi_core.specs.Run.{run_len};
 ghost use Rattle.atoi_core.specs.Window.{window_of};
 
@@ -100,51 +101,45 @@ pub fn narrow_whole_windows<'a, E: Engine>(
     ensures loads { LoadsWithin (most_loads E.table narrow s.now) 2 E.table true s.now
         steps.old steps.new }
 {
-    let first = E::window(s, steps);
-    if first.len == 0 {
-        Err(AtoiSimdError::Empty)
-    } else if first.len < 16 {
-        whole_from_prefix::<E>(bound, answer_at(bound, 0, first, s), s)
-    } else if first.zeroes > 0 {
-        let front = narrow_prefix_cold::<E>(bound, first.zeroes, s, steps);
-        whole_from_prefix::<E>(bound, front, s)
+    if s.len() <= 8 {
+        let window = E::window(s, steps);
+        decide(bound, window.len as usize, window.number, s)
     } else {
+        let (len, number) = digits_of_long::<E>(s, steps);
+        decide(bound, len, number, s)
+    }
+}
+
+// Never inlined, so that short slices stay cheap. A pair comes back in registers. If the value does
+// not fit in 32 bits, both numbers may be smaller than those of the run.
+#[inline(never)]
+fn digits_of_long<E: Engine>(s: &[u8], steps: &mut Steps) -> (usize, u64)
+    ensures decides { (bound : ℕ) → bound ≤ 4294967295 →
+        narrow_decision bound result.0 result.1 s.now
+        ≡ whole_magnitude E.table narrow bound 0 false s.now }
+    ensures loads { LoadsWithin (most_loads E.table narrow s.now) 2 E.table true s.now
+        steps.old steps.new }
+{
+    let window = E::window(s, steps);
+    if window.zeroes == 0 {
+        return (window.len as usize, window.number);
+    }
+    let (at, last) = window_after_zeros::<E>(window.zeroes, s, steps);
+    (at + last.len as usize, last.number)
+}
+
+// The answer to a whole slice, by the number at its start.
+fn decide(bound: u64, len: usize, number: u64, s: &[u8]) -> Result<u64, AtoiSimdError<'_>>
+    ensures { answer_of result ≡ narrow_decision bound len number s.now }
+{
+    if len == 0 {
+        Err(AtoiSimdError::Empty)
+    } else if number > bound {
         Err(AtoiSimdError::Overflow(s))
-    }
-}
-
-// Returns the answer for a whole slice. `front` is the answer for the number at its start, parsed
-// with zeros skipped. If `front` is `Overflow`, the answer is `Overflow` with all of the slice. If
-// `front` is a number whose digits end before the slice does, the answer is `Invalid64`.
-fn whole_from_prefix<'a, E: Engine>(
-    bound: u64,
-    front: Result<(u64, usize), AtoiSimdError<'_>>,
-    s: &'a [u8],
-) -> Result<u64, AtoiSimdError<'a>>
-    requires { answer_of front ≡ prefix_magnitude E.table narrow bound 0 true s.now }
-    ensures { answer_of result ≡ whole_magnitude E.table narrow bound 0 false s.now }
-{
-    match front {
-        Ok((number, len)) => {
-            if len == s.len() {
-                Ok(number)
-            } else {
-                Err(AtoiSimdError::Invalid64(number, len, s))
-            }
-        }
-        Err(error) => Err(error_of_whole(error, s)),
-    }
-}
-
-// Returns the error for a whole slice `s`. `error` is the error for the number at the start of `s`.
-// If it is `Empty`, the result is `Empty` too. Otherwise the result is `Overflow` with all of `s`.
-fn error_of_whole<'a>(error: AtoiSimdError<'_>, s: &'a [u8]) -> AtoiSimdError<'a>
-    ensures { refusal_of result
-        ≡ (if rank (refusal_of error.entry) == 0 then empty else overflow s.now) }
-{
-    match error {
-        AtoiSimdError::Empty => AtoiSimdError::Empty,
-        _ => AtoiSimdError::Overflow(s),
+    } else if len == s.len() {
+        Ok(number)
+    } else {
+        Err(AtoiSimdError::Invalid64(number, len, s))
     }
 }
 

@@ -6,7 +6,8 @@ use Rattle.std.proofs.lemmas.Bool.{eq-eqb, cases_lt, lt-ltb}
 use Rattle.std.proofs.lemmas.List.{length-drop, take_rest}
 use Rattle.atoi_core.specs.Digit.{Table, IsBelowTen, is_zero, is_digit}
 use Rattle.atoi_core.specs.Run.{zeros, run_len, run, value}
-use Rattle.atoi_core.specs.Refusal.{empty, Refusal, invalid64, invalid128, rank, size, overflow}
+use Rattle.atoi_core.specs.Narrow.{narrow_decision}
+use Rattle.atoi_core.specs.Refusal.{empty, Refusal, invalid64, invalid128, size, overflow}
 use Rattle.atoi_core.specs.Magnitude.{Class, wide64, wide128, Extent, prefix, rule_of, HasDigits, prefix_magnitude, narrow, whole, Rule, invalid, refusal, unless_refused, whole_magnitude, skipped_zeros, is_above, leaves_rest}
 use Rattle.atoi_core.specs.Reading.{IsSkipped, cap, answer_by_digits}
 use Rattle.atoi_core.specs.declared.window.Window.{Window}
@@ -14,7 +15,7 @@ use Rattle.atoi_core.proofs.lemmas.Calls.{refused_empty, is_empty, is_long, is_o
 use Rattle.atoi_core.proofs.lemmas.Runs.{prefix_len-take, prefix_len-drop, zeros-le, value-take-le, value-least, narrow_whole_is}
 use Rattle.atoi_core.proofs.lemmas.Windows.{within, below, short, short_below, all_decide, Shows, zeros_both, Shows-join, Shows-join_two, shows, Skipped}
 use Rattle.std.proofs.lemmas.Bool.Decides.{nat_tests}
-use Rattle.std.proofs.Math.Nat.{pow-le-pow_right}
+use Rattle.std.proofs.Math.Nat.{pow-le-pow_right, eq-zero-or-pos}
 use Rattle.atoi_core.specs.Window.{window_of}
 
 -- ---- Wide types
@@ -219,13 +220,6 @@ narrow_overflow t bound limit skip s at before now w after_skip few some over =
     rw (refused_overflow t narrow bound limit prefix skip s digits (not_too_long t skip limit s few) above)
     (rw (dropped_is t skip limit s at before now w after_skip) refl)
 
--- If zeros are skipped, and the first window is full and does not begin with a zero, the answer is
--- `Overflow`. The bound is at most `u32::MAX`, so it is below any number of 16 digits.
-pub narrow_full : (t : Table) (bound limit : ℕ) (s : List ℕ) (before now : ℕ) (w : Window) →
-    Skipped t true s 0 before now w → bound ≤ 4294967295 → 16 ≤ w.len → Err (overflow s) ≡ prefix_magnitude t narrow bound limit true s
-narrow_full t bound limit s before now w after_skip high full =
-    narrow_overflow t bound limit true s 0 before now w after_skip (λ no. absurd (cc no)) (omega arith) (omega (arith, least t s w after_skip.shown full (after_skip.last refl)))
-
 -- Let zeros be skipped, or let the run have at most 16 digits. If there is a digit, and the number
 -- of the last window is within the bound, the answer is `Ok`.
 narrow_ok : (t : Table) (bound limit : ℕ) (skip : Bool) (s : List ℕ) (at before now : ℕ) (w : Window) →
@@ -271,44 +265,26 @@ digit_after_16 t s full =
     let run_is : run_len t s ≡ 16 + run_len t (drop 16 s) = prefix_len-drop (is_digit t) 16 s (omega arith) in
     rw (take_rest s 16) (grind (arith, nat_tests))
 
--- How the answer to a narrow whole slice follows from the answer to its prefix with zeros skipped.
--- The error `Empty` stays the same, and any other error becomes `Overflow` with the whole slice. If
--- the number ends before the end of the slice, the answer is `Invalid64`; otherwise it is the
--- number.
-abbrev pub whole_of_prefix_answer : List ℕ → Result (ℕ × ℕ) Refusal → Result ℕ Refusal
-whole_of_prefix_answer s (Ok found) = if found.1 == length s then Ok found.0 else Err (invalid64 found.0 found.1 s)
-whole_of_prefix_answer s (Err reason) = Err (if rank reason == 0 then empty else overflow s)
-
--- A choice by three tests is the same as a choice by the first two, if `whole_of_prefix_answer`
--- then applies the third test to what these two have chosen, and puts `s` into the error
--- `Overflow`.
-last_of_three : (s rest : List ℕ) (a b : Bool) (v n : ℕ)
-    → unless_refused (if a then Some empty else (if b then Some (overflow s) else (if not (n == length s) then Some (invalid64 v n s) else None))) v
-    ≡ whole_of_prefix_answer s (unless_refused (if a then Some empty else (if b then Some (overflow rest) else None)) (v, n))
-last_of_three s rest true b v n = refl
-last_of_three s rest false true v n = refl
-last_of_three s rest false false v n =
-    elim (n == length s) as (λ d. unless_refused (if not d then Some (invalid64 v n s) else None) v ≡ (if d then Ok v else Err (invalid64 v n s)))
-    [ true ↦ refl | false ↦ refl ]
-
--- The answer to a narrow prefix with zeros skipped depends on the length and the value of the run.
-narrow_prefix_is : (t : Table) (bound limit : ℕ) (s : List ℕ)
-    → prefix_magnitude t narrow bound limit true s
-    ≡ unless_refused (if run_len t s == 0 then Some empty
-    else (if nat_lt bound (value t (run t s)) then Some (overflow (drop (rule_of narrow prefix true limit (run_len t s) (zeros t s)).dropped s)) else None))
-    (value t (run t s), run_len t s)
-unfolding refusal
-narrow_prefix_is t bound limit s = refl
-
--- The answer to a narrow whole slice, whether zeros are skipped or not, is the one that
--- `whole_of_prefix_answer` derives from the answer to its prefix with zeros skipped.
-pub narrow_whole_of : (t : Table) (bound limit : ℕ) (s : List ℕ) (skip : Bool) (of_prefix : Result (ℕ × ℕ) Refusal)
-    → of_prefix ≡ prefix_magnitude t narrow bound limit true s
-    → whole_of_prefix_answer s of_prefix ≡ whole_magnitude t narrow bound limit skip s
-narrow_whole_of t bound limit s skip of_prefix e =
-    ap (whole_of_prefix_answer s) (e ∙ narrow_prefix_is t bound limit s)
-    ∙ sym (last_of_three s _ (run_len t s == 0) (nat_lt bound (value t (run t s))) (value t (run t s)) (run_len t s))
-    ∙ sym (narrow_whole_is t bound limit skip s (run_len t s) (value t (run t s)) refl refl)
+-- The last window decides the answer to a narrow whole slice.
+pub narrow_decides : (t : Table) (s : List ℕ) (at before now : ℕ) (w : Window) (len : ℕ) → Skipped t true s at before now w →
+    len ≡ at + w.len → (bound : ℕ) → bound ≤ 4294967295 → narrow_decision bound len w.number s ≡ whole_magnitude t narrow bound 0 false s
+narrow_decides t s at before now w len after_skip len_is bound high =
+    elim (cases_lt bound w.number) [
+      | inl over ↦
+          let some : 0 < w.len = elim (eq-zero-or-pos w.len) [ inl e ↦ absurd (omega (arith, after_skip.shown.below, ap (λ (n : ℕ). 10 ^ n) e)) | inr h ↦ h ] in
+          let digits : 0 < run_len t s = omega (arith, after_skip.run_is, after_skip.shown.len_is) in
+          let above : bound < value t (run t s) = omega (arith, number_most t true s at before now w after_skip) in
+          rw (ne_eqb len 0 (omega arith), lt-ltb bound w.number over)
+          (sym (narrow_whole_is t bound 0 false s (run_len t s) (value t (run t s)) refl refl
+          ∙ rw (ne_eqb (run_len t s) 0 (omega arith), lt-ltb bound (value t (run t s)) above) refl))
+      | inr fits ↦
+          let rest : run_len t (drop at s) ≡ w.len = ends t true s at before now w after_skip (λ no. absurd (cc no)) (omega arith) in
+          let number : value t (run t s) ≡ w.number =
+          after_skip.value_is ∙ ap (λ (n : ℕ). value t (take n (drop at s))) rest ∙ sym after_skip.shown.number_is in
+          let all : run_len t s ≡ len = omega (arith, after_skip.run_is) in
+          sym (narrow_whole_is t bound 0 false s len w.number all (ap (λ (n : ℕ). value t (take n s)) (sym all) ∙ number)
+          ∙ grind (arith, nat_tests))
+    ]
 
 -- ---- Fewer than 16 digits
 -- A first window that is not full decides the answer. `short_run` says that the same tests decide

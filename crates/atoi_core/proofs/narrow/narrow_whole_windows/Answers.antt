@@ -1,33 +1,23 @@
--- If the first window is not full, it holds the whole run. If it is full and reports no zeros, its
--- number is above the bound.
-use Rattle.std.proofs.Common.{ℕ, ◌∙◌, true, nat_lt, if◌then◌else◌, Ok, Err, inl, inr, refl, ap, zero-add, arith}
-use Rattle.atoi_core.specs.Magnitude.{narrow}
-use Rattle.atoi_core.specs.Refusal.{empty, overflow}
-use Rattle.atoi_core.proofs.lemmas.LoopAnswers.{narrow_full, narrow_whole_of, short_none, short_some}
-use Rattle.atoi_core.proofs.lemmas.Windows.{Skipped-at_once, Skipped-first, Skipped-loads}
+-- The window of a short slice holds the whole run. For a long slice, the pair decides.
+use Rattle.std.proofs.Common.{◌<◌, true, ◌∙◌, arith}
+use Rattle.std.proofs.lemmas.List.Sums.{prefix_len-le-length}
+use Rattle.atoi_core.specs.Digit.{is_digit}
+use Rattle.atoi_core.proofs.lemmas.LoopAnswers.{narrow_decides}
+use Rattle.atoi_core.proofs.lemmas.Windows.{Skipped, Skipped-first, Skipped-loads, shows}
 use Rattle.atoi_core.proofs.narrow.narrow_whole_windows.Goals as goal
+use Rattle.atoi_core.proofs.narrow.narrow_whole_windows.Goals.{After-decide}
 
-pub whole_from_prefix-requires : goal.whole_from_prefix-requires
-whole_from_prefix-requires g c =
-    c.answer_at.ensures
-    ∙ ap (λ (n : ℕ). if nat_lt c.args.bound c.window-first.result.number then Err (overflow c.args.s.now) else Ok (c.window-first.result.number, n)) (zero-add c.window-first.result.len)
-    ∙ short_some g.E.Engine.table g.met.E.Engine.below_ten narrow c.args.bound 0 true c.args.s.now c.window-first.result c.window-first.ensures.window
-    c.if-first-lt16.true (inl refl) (omega arith)
+-- What holds after the window of a short slice.
+first : (g : _) (c : After-decide g)
+    → Skipped g.E.Engine.table true c.args.s.now 0 c.args.steps.now c.window-window.new.steps c.window-window.result
+first g c =
+    let e = c.window-window.ensures in
+    let few : c.window-window.result.len < 16 =
+    omega (arith, (shows _ g.met.E.Engine.below_ten 16 c.args.s.now c.window-window.result e.window).len_is, prefix_len-le-length (is_digit g.E.Engine.table) c.args.s.now, c.if-s-le8.true) in
+    Skipped-first g.E.Engine.table g.met.E.Engine.below_ten true c.args.s.now _ _ c.window-window.result e.window e.one_step few
 
-pub returns-then-first-eq0-clause-answer : goal.returns-then-first-eq0-clause-answer
-returns-then-first-eq0-clause-answer g c =
-    narrow_whole_of g.E.Engine.table c.args.bound 0 c.args.s.now _ (Err empty)
-    (short_none g.E.Engine.table g.met.E.Engine.below_ten narrow c.args.bound 0 true c.args.s.now c.window-first.result c.window-first.ensures.window
-    (omega arith) (inl refl) (omega arith))
+pub returns-then-s-le8-clause-answer : goal.returns-then-s-le8-clause-answer
+returns-then-s-le8-clause-answer g c = c.decide.ensures ∙ narrow_decides _ _ 0 _ _ _ _ (first g c) (omega arith) c.args.bound c.requires.high
 
-pub returns-then-first-lt16-clause-loads : goal.returns-then-first-lt16-clause-loads
-returns-then-first-lt16-clause-loads g c =
-    let after_skip = Skipped-first g.E.Engine.table g.met.E.Engine.below_ten true c.args.s.now _ _ c.window-first.result
-    c.window-first.ensures.window c.window-first.ensures.one_step c.if-first-lt16.true in
-    Skipped-loads after_skip 0 (omega arith) (omega arith) (omega arith)
-
-pub returns-else-first-gt0-clause-answer : goal.returns-else-first-gt0-clause-answer
-returns-else-first-gt0-clause-answer g c =
-    let after_skip = Skipped-at_once g.E.Engine.table g.met.E.Engine.below_ten true c.args.s.now _ _ c.window-first.result
-    c.window-first.ensures.window c.window-first.ensures.one_step (inr (refl, omega arith)) in
-    narrow_whole_of g.E.Engine.table c.args.bound 0 c.args.s.now _ _ (narrow_full _ _ 0 _ _ _ _ after_skip c.requires.high c.if-first-lt16.false)
+pub returns-then-s-le8-clause-loads : goal.returns-then-s-le8-clause-loads
+returns-then-s-le8-clause-loads g c = Skipped-loads (first g c) 0 (omega arith) (omega arith) (omega arith)
