@@ -8,6 +8,7 @@ ghost use Rattle.atoi_core.specs.Refusal.{answer_of};
 ghost use Rattle.atoi_core.specs.Run.{run_len, zeros};
 ghost use Rattle.atoi_core.specs.Window.{window_of};
 ghost use Rattle.atoi_core.specs.Words.{low_bytes, low_value, word_of};
+ghost use Rattle.std.specs.Int.Bits.{bit_and};
 ghost use Rattle.std.proofs.Common.{arith};
 ghost use Rattle.std.proofs.lemmas.Bool.Decides.{nat_tests};
 
@@ -225,7 +226,7 @@ fn join_words(s: &[u8], first: u64) -> Window
         }
     } else {
         let high = value_of(first, 8) * power_of_ten(more);
-        not_full(8 + more, high + number_in_word(next, more))
+        not_full(8 + more, high + value_of_fewer(next, more))
     }
 }
 
@@ -302,9 +303,7 @@ fn number_in_word(word: u64, len: u32) -> u64
     if len == 0 { 0 } else { value_of(word, len) }
 }
 
-// Returns the number that the first `len` bytes of the word spell; each of them is a digit, and
-// there is at least one. The result is that of `process_8`. Instead of applying a mask as
-// `process_8` does, this function subtracts 48 from each byte, as `digits_of` does too.
+// The number that the first `len` bytes of the word spell. They are digits, at least one.
 fn value_of(word: u64, len: u32) -> u64
     requires some { 1 ≤ len }
     requires few { len ≤ 8 }
@@ -312,10 +311,29 @@ fn value_of(word: u64, len: u32) -> u64
     ensures sum { result ≡ low_value (low_bytes len word) }
     ensures most { result ≤ 166666665 }
 {
-    let ones = word.wrapping_sub(ZEROS) << (64 - 8 * len);
-    let tens = (ones.wrapping_mul(0xA01) >> 8) & 0x00FF_00FF_00FF_00FF;
-    let hundreds = (tens.wrapping_mul(0x64_0001) >> 16) & 0x0000_FFFF_0000_FFFF;
-    hundreds.wrapping_mul(0x2710_0000_0001) >> 32
+    sum_of(word.wrapping_sub(ZEROS) << (64 - 8 * len))
+}
+
+// `value_of` for at most seven digits, or none: it shifts twice, as no shift is by 64 bits.
+fn value_of_fewer(word: u64, len: u32) -> u64
+    requires few { len < 8 }
+    requires digits { len ≤ run_len decimal_table (low_bytes 8 word) }
+    ensures sum { result ≡ low_value (low_bytes len word) }
+    ensures most { result ≤ 166666665 }
+{
+    sum_of((word.wrapping_sub(ZEROS) << (56 - 8 * len)) << 8)
+}
+
+// `process_8` for bytes below 16. The two sums of four digits are joined by one small product,
+// which needs no 64-bit constant.
+fn sum_of(digits: u64) -> u64
+    requires { bit_and digits 0x0F0F_0F0F_0F0F_0F0F ≡ digits }
+    ensures sum { result ≡ low_value (low_bytes 8 digits) }
+    ensures most { result ≤ 166666665 }
+{
+    let tens = (digits.wrapping_mul(0xA01) >> 8) & 0x00FF_00FF_00FF_00FF;
+    let hundreds = tens.wrapping_mul(0x64_0001);
+    ((hundreds >> 16) & 0xFFFF) * 10_000 + (hundreds >> 48)
 }
 
 // Returns what `check_len_8` returns, with fewer operations. A byte is no digit exactly if adding

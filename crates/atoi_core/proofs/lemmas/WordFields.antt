@@ -4,6 +4,7 @@
 -- multiplied by 10^k if k bytes follow it. If the bytes are decimal digits, the weighted sum is
 -- their value.
 use Rattle.std.proofs.Common.{◌≡◌, ℕ, zero, suc, ◌+◌, ◌-◌, ◌*◌, ◌/◌, ◌%◌, ◌^◌, ◌<◌, ◌≤◌, List, [], ◌∷◌, length, refl, sym, ap, ap₂, ◌∙◌, arith, lit<, map, inl, inr, cond, ◌==◌, mod-lt}
+use Rattle.std.proofs.lemmas.List.{length-map}
 use Rattle.std.proofs.Math.Nat.{add-mul-div_right, div-div-eq-div-mul, mul_comm, zero-mod, suc-mul, mul-le-mul_right, mul_assoc, pow-zero, pow-suc, suc-add, zero-add, mul-one, mod-eq_of_lt, pow-le-pow_right, div-one, add_comm, eq-zero-or-pos}
 use Rattle.std.proofs.Math.Pow.{mod-mod-pow, ones_lt, pow_mono}
 use Rattle.std.proofs.lemmas.Nat.{pow_pos, pow-add, mod-pow-add, field_of, and_mask, and_block, shr_split, div-mul-add, mod-mul-add, and_shr, and_mod, or_shr, or_mod, xor_shr, xor_mod}
@@ -251,15 +252,27 @@ low_value_of_lows (suc k) word =
 
 -- If a word is shifted left so far that its lowest `len` bytes become its highest, the weighted sum
 -- of the whole word is that of these bytes.
-pub shifted_sum : (k count len word : ℕ) → k ≡ (count - len) * 8 → len ≤ count
-    → number_in 10 (lows 4 count (word * 2 ^ k % 2 ^ (count * 8))) ≡ low_value (low_bytes len word)
+pub shifted_value : (k count len word : ℕ) → k ≡ (count - len) * 8 → len ≤ count
+    → low_value (low_bytes count (word * 2 ^ k % 2 ^ (count * 8))) ≡ low_value (low_bytes len word)
 unfolding low_bytes
-shifted_sum k count len word e le =
+shifted_value k count len word e le =
     let all : count - len + len ≡ count = omega arith in
-    low_value_of_lows count (word * 2 ^ k % 2 ^ (count * 8))
-    ∙ ap low_value (digits_cut 8 count (word * 2 ^ k))
+    ap low_value (digits_cut 8 count (word * 2 ^ k))
     ∙ ap₂ (λ n x. low_value (digits_l 256 n (word * 2 ^ x))) (sym all) e
     ∙ low_value_shifted (count - len) len word
+
+shifted_sum : (k count len word : ℕ) → k ≡ (count - len) * 8 → len ≤ count
+    → number_in 10 (lows 4 count (word * 2 ^ k % 2 ^ (count * 8))) ≡ low_value (low_bytes len word)
+unfolding low_bytes
+shifted_sum k count len word e le = low_value_of_lows count (word * 2 ^ k % 2 ^ (count * 8)) ∙ shifted_value k count len word e le
+
+-- The weighted sum does not change if each byte is masked to its lower half.
+pub low_value_halves : (bytes : List ℕ) → low_value (map (λ b. bit_and b 15) bytes) ≡ low_value bytes
+low_value_halves [] = refl
+low_value_halves (byte ∷ bytes) =
+    let half : bit_and byte 15 % 16 ≡ byte % 16 = omega (arith, and_mask byte 4) in
+    ap₂ (λ x n. x * 10 ^ n + low_value (map (λ b. bit_and b 15) bytes)) half (length-map bytes (λ b. bit_and b 15))
+    ∙ ap (λ v. (byte % 16) * 10 ^ length bytes + v) (low_value_halves bytes)
 
 -- ---- Weighted sums of eight and of sixteen bytes
 -- Eight bytes take three rounds, sixteen take four.
@@ -269,7 +282,19 @@ shifted_sum k count len word e le =
 one_field : (base half word : ℕ) → word < 2 ^ half → number_in base (lows half 1 word) ≡ word
 one_field base half word below = omega (arith, mod-eq_of_lt below, ap (λ p. word % 2 ^ half * p) (pow-zero base))
 
--- Three rounds compute the weighted sum of the lowest `len` bytes, if `len` is at most 8.
+-- Two rounds compute the weighted sum of the lowest `len` bytes, if `len` is at most 8: it is the
+-- number that two fields spell in base 10000.
+two_rounds : (val len : ℕ) → len ≤ 8
+    → let ones = val * 2 ^ (64 - 8 * len) % 2 ^ 64 in
+    let tens = bit_and ones 0x0F0F_0F0F_0F0F_0F0F * 0xA01 % 2 ^ 64 / 2 ^ 8 in
+    number_in 10000 (lows 16 2 (bit_and tens 0x00FF_00FF_00FF_00FF * 0x64_0001 % 2 ^ 64 / 2 ^ 16)) ≡ low_value (low_bytes len val)
+two_rounds val len most =
+    let ones = val * 2 ^ (64 - 8 * len) % 2 ^ 64 in
+    round_number 8 100 (lit< tt) 2 (bit_and ones 0x0F0F_0F0F_0F0F_0F0F * 0xA01 % 2 ^ 64 / 2 ^ 8)
+    ∙ round_number 4 10 (lit< tt) 4 ones
+    ∙ shifted_sum (64 - 8 * len) 8 len val (omega arith) most
+
+-- A third round joins the two fields.
 pub sum_8 : (val len : ℕ) → len ≤ 8
     → let ones = val * 2 ^ (64 - 8 * len) % 2 ^ 64 in
     let tens = bit_and ones 0x0F0F_0F0F_0F0F_0F0F * 0xA01 % 2 ^ 64 / 2 ^ 8 in
@@ -281,9 +306,24 @@ sum_8 val len most =
     let hundreds = bit_and tens 0x00FF_00FF_00FF_00FF * 0x64_0001 % 2 ^ 64 / 2 ^ 16 in
     sym (one_field 100000000 32 (bit_and hundreds 0x0000_FFFF_0000_FFFF * 0x2710_0000_0001 % 2 ^ 64 / 2 ^ 32) (omega arith))
     ∙ round_number 16 10000 (lit< tt) 1 hundreds
-    ∙ round_number 8 100 (lit< tt) 2 tens
-    ∙ round_number 4 10 (lit< tt) 4 ones
-    ∙ shifted_sum (64 - 8 * len) 8 len val (omega arith) most
+    ∙ two_rounds val len most
+
+-- Two fields of 16 bits, the higher of which is the rest of a word of 64 bits, spell this number.
+two_fields : (word : ℕ) → word < 2 ^ 64 → bit_and (word / 2 ^ 16) 0xFFFF * 10000 + word / 2 ^ 48 ≡ number_in 10000 (lows 16 2 (word / 2 ^ 16))
+two_fields word fits = omega (arith, and_mask (word / 2 ^ 16) 16)
+
+-- So does a sum of the two fields, for digits in bytes below 16.
+pub sum_of_fields : (digits : ℕ) → digits < 2 ^ 64 → bit_and digits 0x0F0F_0F0F_0F0F_0F0F ≡ digits
+    → let tens = digits * 0xA01 % 2 ^ 64 / 2 ^ 8 in
+    let hundreds = bit_and tens 0x00FF_00FF_00FF_00FF * 0x64_0001 % 2 ^ 64 in
+    bit_and (hundreds / 2 ^ 16) 0xFFFF * 10000 + hundreds / 2 ^ 48 ≡ low_value (low_bytes 8 digits)
+sum_of_fields digits fits halves =
+    let hundreds = bit_and (digits * 0xA01 % 2 ^ 64 / 2 ^ 8) 0x00FF_00FF_00FF_00FF * 0x64_0001 % 2 ^ 64 in
+    let whole : digits * 2 ^ (64 - 8 * 8) % 2 ^ 64 ≡ digits = omega arith in
+    let kept : bit_and (digits * 2 ^ (64 - 8 * 8) % 2 ^ 64) 0x0F0F_0F0F_0F0F_0F0F ≡ digits = ap (λ x. bit_and x 0x0F0F_0F0F_0F0F_0F0F) whole ∙ halves in
+    two_fields hundreds (omega arith)
+    ∙ ap (λ x. number_in 10000 (lows 16 2 (bit_and (x * 0xA01 % 2 ^ 64 / 2 ^ 8) 0x00FF_00FF_00FF_00FF * 0x64_0001 % 2 ^ 64 / 2 ^ 16))) (sym kept)
+    ∙ two_rounds digits 8 (omega arith)
 
 -- Four rounds compute the weighted sum of the lowest `len` bytes, if `len` is at most 16.
 pub sum_16 : (val len : ℕ) → len ≤ 16

@@ -3,19 +3,19 @@
 use Rattle.std.proofs.Common.{◌≡◌, ℕ, zero, suc, ◌+◌, ◌*◌, ◌/◌, ◌%◌, ◌^◌, ◌<◌, ◌≤◌, ◌-◌, Bool, true, false, cond, ◌==◌, List, [], ◌∷◌, map, refl, sym, ap, ap₂, ◌∙◌, arith, mod-lt, zero-lt-suc}
 use Rattle.std.proofs.Math.Dec.{lit<}
 use Rattle.std.proofs.lemmas.Bool.{agree_below_at}
-use Rattle.std.proofs.lemmas.Nat.{pow_pos, pow-add, mod-pow-add, and_mask, and_block, div-mul-add, mod-mul-add}
+use Rattle.std.proofs.lemmas.Nat.{pow_pos, pow-add, mod-pow-add, and_mask, and_block, and_assoc, div-mul-add, mod-mul-add, mul-mod_first}
 use Rattle.std.proofs.Math.Nat.{zero-add, suc-mul, suc-add, add_comm}
 use Rattle.std.proofs.Math.Pow.{mod-mod-pow}
 use Rattle.std.proofs.lemmas.Bool.Decides.{nat_tests}
 use Rattle.std.specs.List.{prefix_len}
-use Rattle.std.specs.Int.Bits.{bit_and, bit_or, bit_xor, and_zero_r}
+use Rattle.std.specs.Int.Bits.{bit_and, bit_or, bit_xor, and_zero_r, and_self}
 use Rattle.std.specs.Int.Count.{count_trailing_zeros}
 use Rattle.std.specs.Simd.Lanes.{digits_l, zip2}
 use Rattle.atoi_core.specs.Digit.{decimal_table, is_digit, is_zero}
 use Rattle.atoi_core.specs.Run.{run_len, zeros}
-use Rattle.atoi_core.specs.Words.{low_bytes}
+use Rattle.atoi_core.specs.Words.{low_bytes, low_value}
 use Rattle.atoi_core.proofs.lemmas.Calls.{digit_in_range}
-use Rattle.atoi_core.proofs.lemmas.WordFields.{trailing_bytes, repeated, or_bytes, and_repeated, xor_repeated, upper_halves, digits_cut}
+use Rattle.atoi_core.proofs.lemmas.WordFields.{trailing_bytes, repeated, or_bytes, and_repeated, xor_repeated, upper_halves, digits_cut, shifted_value, low_value_halves}
 
 -- `prefix_len p xs` is the length of the longest prefix whose elements pass the test `p`. Mapping a
 -- list with `f` and then testing with `p` gives the same length as testing each element `x` of the
@@ -287,3 +287,24 @@ lowered_at_top len word few digits =
     ∙ ap (λ x. x * 2 ^ (z * 8)) (mod-mod-pow lower (z * 8) (len * 8) ∙ kept)
     ∙ shifted_halves z len (word % 2 ^ (len * 8))
     ∙ ap₂ (λ x n. bit_and x (repeated 15 n)) (sym (cut word)) (add_comm z len ∙ all)
+
+-- So each byte of the shifted word is below 16, and the weighted sum of the word is that of the
+-- digits.
+pub lowered_value : (len word ones : ℕ) → len ≤ 8 → len ≤ run_len decimal_table (low_bytes 8 word) → ones ≡ (word + without_48 8) % 2 ^ 64 * 2 ^ (64 - 8 * len) % 2 ^ 64
+    → (bit_and ones (repeated 15 8) ≡ ones) × (low_value (low_bytes 8 ones) ≡ low_value (low_bytes len word))
+unfolding low_bytes
+lowered_value len word ones few digits is =
+    let at_top = word * 2 ^ (64 - 8 * len) % 2 ^ 64 in
+    let e = is ∙ lowered_at_top len word few digits in (
+      ap (λ x. bit_and x (repeated 15 8)) e ∙ and_assoc (repeated 15 8) at_top (repeated 15 8) ∙ ap (bit_and at_top) (and_self (repeated 15 8)) ∙ sym e,
+      ap (λ x. low_value (digits_l 256 8 x)) e ∙ ap low_value (and_repeated 15 (lit< tt) 8 at_top) ∙ low_value_halves (digits_l 256 8 at_top)
+          ∙ shifted_value (64 - 8 * len) 8 len word (omega arith) few,
+    )
+
+-- A shift in two steps, the second by one byte, is one shift.
+pub shifted_twice : (a len : ℕ) → len < 8 → a * 2 ^ (56 - 8 * len) % 2 ^ 64 * 2 ^ 8 % 2 ^ 64 ≡ a * 2 ^ (64 - 8 * len) % 2 ^ 64
+shifted_twice a len few =
+    let p = 2 ^ (56 - 8 * len) in
+    let whole : p * 2 ^ 8 ≡ 2 ^ (64 - 8 * len) = sym (pow-add 2 (56 - 8 * len) 8) ∙ ap (λ e. 2 ^ e) (omega arith) in
+    let regroup : a * p * 2 ^ 8 ≡ a * (p * 2 ^ 8) = omega arith in
+    mul-mod_first (a * p) (2 ^ 8) (2 ^ 64) ∙ ap (λ x. x % 2 ^ 64) (regroup ∙ ap (λ x. a * x) whole)

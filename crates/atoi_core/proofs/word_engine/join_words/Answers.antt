@@ -57,8 +57,8 @@ returns-else-more-eq8 c =
     let more_is : more ≡ run_len decimal_table (take 8 rest) = c.digits_of-more.ensures.len ∙ loaded_run rest following next c.load_from-next.ensures in
     let all_zeros = zeros decimal_table (take 8 s ++ take 8 rest) in
     c.not_full.ensures
-    ∙ ap (λ (p : ℕ). let w : Window = record { len = 8 + more; zeroes = 0; number = c.value_of-else-more-eq8.result * p + c.number_in_word.result } in w) c.power_of_ten-else-more-eq8.ensures.power
-    ∙ window_joined s more 0 c.value_of-else-more-eq8.result c.number_in_word.result full more_is
+    ∙ ap (λ (p : ℕ). let w : Window = record { len = 8 + more; zeroes = 0; number = c.value_of-else-more-eq8.result * p + c.value_of_fewer.result } in w) c.power_of_ten-else-more-eq8.ensures.power
+    ∙ window_joined s more 0 c.value_of-else-more-eq8.result c.value_of_fewer.result full more_is
     (sym (reported_none more 8 all_zeros c.if-more-eq8.false))
     (c.value_of-else-more-eq8.ensures.sum ∙ loaded_sum s fits first 8 c.requires.loaded (sym c.requires.full))
-    (c.number_in_word.ensures.sum ∙ loaded_sum rest following next more c.load_from-next.ensures c.digits_of-more.ensures.len)
+    (c.value_of_fewer.ensures.sum ∙ loaded_sum rest following next more c.load_from-next.ensures c.digits_of-more.ensures.len)
