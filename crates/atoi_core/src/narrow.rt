@@ -1,6 +1,4 @@
-//! Two parsers of integers of at most 32 bits: one for a whole slice, and one for the number at the
-//! start of a slice. They read windows with any engine. This module uses `engine`, `window`,
-//! `steps` and `error`.
+//! Parsers of integers of at most 32 bits, whose last window decides the answer.
 ghost use Rattle.std.specs.Prelude.{◌≡◌, ℕ, ◌+◌, ◌-◌, ◌<◌, ◌≤◌, ◌==◌, true, false, not, ◌&&◌, ◌||◌, nat_lt, if◌then◌else◌, Ok, Err, length, drop};
 ghost use Rattle.atoi_core.specs.Loads.{LoadsWithin, most_loads};
 ghost use Rattle.atoi_core.specs.Magnitude.{narrow, whole_magnitude, prefix_magnitude};
@@ -14,23 +12,12 @@ use crate::error::AtoiSimdError;
 use crate::steps::Steps;
 use crate::window::Window;
 
-/// Parses the integer of at most 32 bits at the start of `s`, which has no sign, and returns its
-/// value and the number of its bytes, including those of the leading zeros.
-///
-/// `bound` is the largest accepted value, and must be between 9 and `u32::MAX`. All digits at the
-/// start of `s` belong to the integer, and the first other byte ends it. Without `skip`, an integer
-/// of at most 16 digits is accepted, leading zeros included; one window is loaded, and a second if
-/// the first is full of digits. With `skip` any number of leading zeros is accepted; each load
-/// skips at most 16 of them.
+/// Parses the digits at the start of `s`, and returns their value, at most `bound`, and their number.
 ///
 /// # Errors
 ///
-/// Returns the first that applies:
-/// - `Empty` if `s` does not start with a digit.
-/// - `Size(17, s)` if there are more than 16 digits and `skip` is off.
-/// - `Overflow(digits)` if the value is above `bound`. Without `skip`, `digits` is `s`. With
-///   `skip`, it is `s` without the zeros that fill whole blocks of 16 bytes, and without any of its
-///   leading zeros if the 16 bytes after these blocks are digits.
+/// `Empty`, `Size(17, s)` for more than 16 digits without `skip`, or `Overflow` with `s`. With `skip`,
+/// this slice leaves out zeros in blocks of 16, and all of them if 16 digits follow these blocks.
 #[inline(always)]
 #[tactic(auto, using(crate::proofs::lemmas::LoopAnswers::narrow_size))]
 pub fn narrow_prefix<'a, E: Engine>(
@@ -59,8 +46,7 @@ pub fn narrow_prefix<'a, E: Engine>(
     }
 }
 
-// Says whether `s` has more than 16 digits at its start and zeros are not skipped. `window` is the
-// first window of `s`; a second one is loaded only if the first is full of digits.
+// A second window is loaded only if the first one, `window`, is full of digits.
 #[tactic(auto, using(crate::proofs::lemmas::LoopAnswers::digit_after_16))]
 fn is_too_long<E: Engine>(skip: bool, window: Window, s: &[u8], steps: &mut Steps) -> bool
     requires first_window { window ≡ window_of E.table 16 s.now }
@@ -71,7 +57,6 @@ fn is_too_long<E: Engine>(skip: bool, window: Window, s: &[u8], steps: &mut Step
     !skip && window.len == 16 && starts_with_digit::<E>(&s[16..], steps)
 }
 
-// Says whether `rest` starts with a digit.
 #[inline(always)]
 fn starts_with_digit<E: Engine>(rest: &[u8], steps: &mut Steps) -> bool
     ensures answer { result ≡ nat_lt 0 (run_len E.table rest.now) }
@@ -80,15 +65,11 @@ fn starts_with_digit<E: Engine>(rest: &[u8], steps: &mut Steps) -> bool
     E::window_8(rest, steps).len > 0
 }
 
-/// Parses all of `s`, which has no sign, as an integer of at most 32 bits, and returns its value.
-///
-/// `bound` is the largest accepted value, and must be between 9 and `u32::MAX`. Any number of
-/// leading zeros is accepted; each load skips at most 16 of them. The function is like
-/// `narrow_whole`, but with the digits of the engine `E`, and `steps` counts the loads.
+/// Parses all of `s` as digits, and returns their value, at most `bound`.
 ///
 /// # Errors
 ///
-/// Those of `narrow_whole`: `Empty`, `Overflow(s)` and `Invalid64(value, index, s)`.
+/// Those of `narrow_whole`, in the same order.
 #[inline(always)]
 pub fn narrow_whole_windows<'a, E: Engine>(
     bound: u64,
@@ -110,8 +91,8 @@ pub fn narrow_whole_windows<'a, E: Engine>(
     }
 }
 
-// Never inlined, so that short slices stay cheap. A pair comes back in registers. If the value does
-// not fit in 32 bits, both numbers may be smaller than those of the run.
+// The length and the value of the run, or too large a value if the run does not fit in 32 bits.
+// Never inlined: short slices need none of it, and a pair comes back in registers.
 #[inline(never)]
 fn digits_of_long<E: Engine>(s: &[u8], steps: &mut Steps) -> (usize, u64)
     ensures decides { (bound : ℕ) → bound ≤ 4294967295 →
@@ -128,7 +109,6 @@ fn digits_of_long<E: Engine>(s: &[u8], steps: &mut Steps) -> (usize, u64)
     (at + last.len as usize, last.number)
 }
 
-// The answer to a whole slice, by the number at its start.
 fn decide(bound: u64, len: usize, number: u64, s: &[u8]) -> Result<u64, AtoiSimdError<'_>>
     ensures { answer_of result ≡ narrow_decision bound len number s.now }
 {
@@ -143,9 +123,7 @@ fn decide(bound: u64, len: usize, number: u64, s: &[u8]) -> Result<u64, AtoiSimd
     }
 }
 
-// Calls `narrow_prefix_after_zeros`, which is never inlined, and matches its result.
-// The call and the match are kept in a separate function, which is itself inlined, so that the
-// stack slot of the result is cleared only on the path that makes the call.
+// The match keeps the result's stack slot from being cleared on the path without the call.
 #[inline(always)]
 fn narrow_prefix_cold<'a, E: Engine>(
     bound: u64,
@@ -167,9 +145,7 @@ fn narrow_prefix_cold<'a, E: Engine>(
     }
 }
 
-// Returns what `narrow_prefix` with `skip` returns. The caller has loaded the first window, which
-// reported `zeroes` leading zeros, at least one. This function skips these zeros and those after
-// them.
+// `narrow_prefix` with `skip`, after a first window that reported `zeroes` > 0.
 #[inline(never)]
 fn narrow_prefix_after_zeros<'a, E: Engine>(
     bound: u64,
@@ -189,9 +165,7 @@ fn narrow_prefix_after_zeros<'a, E: Engine>(
     answer_at(bound, at, window, s)
 }
 
-// Returns the number of `window` and the index after its digits, or `Overflow` if the number is
-// above `bound`. `window` starts at index `at` of `s`. In every call, `s` starts with a digit and
-// all bytes before `at` are skipped zeros.
+// The answer of the last window, at offset `at`.
 fn answer_at(
     bound: u64,
     at: usize,

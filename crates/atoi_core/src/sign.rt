@@ -1,7 +1,4 @@
-//! The sign at the start of a slice, and the parses that consume it. Each parse makes one *core
-//! call* for the *body*, which is the slice after its sign. A core call is a call of `whole_pos`,
-//! `whole_neg`, `prefix_pos` or `prefix_neg`. This module uses `core_calls` and `with_sign`, and
-//! the modules that its contracts name.
+//! Takes the sign and makes one core call for the body after it.
 ghost use Rattle.std.specs.Prelude.{◌≡◌, ◌+◌, ◌-◌, ◌≤◌, false, IfOk, length, drop};
 ghost use Rattle.atoi_core.specs.Answer.{typed_answer, typed_prefix_answer, text_answer, text_prefix_answer};
 ghost use Rattle.atoi_core.specs.Loads.{TypedLoads};
@@ -15,11 +12,8 @@ use crate::number::{Number, Signed};
 use crate::steps::Steps;
 use crate::with_sign::{prefix_with_sign, whole_with_sign};
 
-/// Consumes at most one sign at the start of `s`: a `+` if `skip_plus` is on, or a `-` if `signed`
-/// is on.
-///
-/// Returns whether the sign is a `-`, and the body after it. A sign has been consumed exactly if
-/// the body is shorter than `s`; it is then one byte shorter.
+/// Consumes a `+` if `skip_plus` is on, or a `-` if `signed` is on. Returns whether it was a `-`, and
+/// the body after it.
 #[inline(always)]
 pub fn take_sign(signed: bool, skip_plus: bool, s: &[u8]) -> (bool, &[u8])
     ensures minus { result.0 ≡ (sign_of signed skip_plus s.now).minus }
@@ -37,8 +31,8 @@ pub fn take_sign(signed: bool, skip_plus: bool, s: &[u8]) -> (bool, &[u8])
     (minus, &s[usize::from(minus)..])
 }
 
-// Never inlined, so that a `+` is a branch: with a select in its place, the address of the digits
-// would wait for the first byte.
+// Never inlined, so that a `+` is a branch: with a select, the digits' address would wait for the
+// first byte.
 #[inline(never)]
 fn without_first(s: &[u8]) -> &[u8]
     requires { 1 ≤ length s.now }
@@ -47,12 +41,8 @@ fn without_first(s: &[u8]) -> &[u8]
     &s[1..]
 }
 
-/// Parses all of `s` as an integer of the signed type `T`: at most one sign, then digits only.
-///
-/// The sign is a `-`, or a `+` if `skip_plus` is on. With `skip` any number of leading zeros is
-/// accepted; types of at most 32 bits always accept them. The digits are those of the engine `E`.
-/// `steps` counts the loads. Whatever the sign is, the body is parsed once, as the digits of a
-/// negative number, and the sign is applied to the result. This avoids a branch on the sign.
+/// Parses all of `s` as at most one sign and digits. The body is parsed once, as that of a negative
+/// number, and the sign is applied to the result, without a branch on a minus.
 ///
 /// # Errors
 ///
@@ -73,8 +63,7 @@ pub fn parse_signed<'a, E: Engine, T: Signed>(
     whole_with_sign::<E, T>(minus, skip, body, negative)
 }
 
-/// Parses all of `s` as an integer of the unsigned type `T`: an optional `+` if `skip_plus` is on,
-/// then digits only. `skip`, `steps` and the engine `E` are as for `parse_signed`.
+/// Parses all of `s` as an optional `+`, if `skip_plus` is on, and digits.
 ///
 /// # Errors
 ///
@@ -95,12 +84,8 @@ pub fn parse_unsigned<'a, E: Engine, T: Number>(
     whole_pos::<E, T>(skip, body, steps)
 }
 
-/// Parses the integer of the signed type `T` at the start of `s`, and returns it with the number of
-/// its bytes, including those of the sign and the zeros.
-///
-/// The sign, `skip` and `steps` are as for `parse_signed`, except that a type of at most 32 bits
-/// accepts more than 16 digits only with `skip`. All digits that follow the sign belong to the
-/// integer, and the first other byte ends it.
+/// Parses the number at the start of `s`, and returns it with the count of its bytes, the sign
+/// included.
 ///
 /// # Errors
 ///
@@ -124,10 +109,7 @@ pub fn parse_prefix_signed<'a, E: Engine, T: Signed>(
     Ok(count_sign(found, body, s))
 }
 
-/// Parses the integer of the unsigned type `T` at the start of `s`, and returns it with the number
-/// of its bytes, including those of a consumed `+` and of the zeros. A `+` is accepted if
-/// `skip_plus` is on, and a `-` is never accepted. In all other respects this function is like
-/// `parse_prefix_signed`.
+/// `parse_prefix_signed` for an unsigned type, which accepts no `-`.
 ///
 /// # Errors
 ///

@@ -16,6 +16,17 @@ pub struct Window {
 }
 
 impl Window {
+    /// A window that is not full, and so reports no zeros.
+    pub fn not_full(len: u32, number: u64) -> Window
+        ensures { result ≡ record { len = len; zeroes = 0; number = number } }
+    {
+        Window {
+            len,
+            zeroes: 0,
+            number,
+        }
+    }
+
     /// Returns the index after the zeros that this window reports. The window starts at index `at`
     /// of the slice.
     pub(crate) fn after_zeros(self, at: usize) -> usize

@@ -1,5 +1,4 @@
-//! The engine `Words`, which reads a window as one word of eight bytes, or as two. It uses `words`,
-//! `engine`, `wide_answer`, `window`, `steps` and `error`.
+//! The engine `Words`, which reads a window as one word of eight bytes, or as two.
 ghost use Rattle.std.specs.Prelude.{◌≡◌, ◌+◌, ◌-◌, ◌^◌, ◌<◌, ◌≤◌, ◌==◌, ◌++◌, true, if◌then◌else◌, length, take, drop, replicate};
 ghost use Rattle.atoi_core.specs.Digit.{decimal_table};
 ghost use Rattle.atoi_core.specs.Loads.{LoadsWithin, most_loads};
@@ -22,15 +21,12 @@ use crate::words::load_high;
 // Eight zeros, each the byte 48.
 const ZEROS: u64 = 0x3030_3030_3030_3030;
 
-/// The engine that reads eight bytes at once, as a word. Its digits are the decimal ones, `b'0'` to
-/// `b'9'`.
+/// The engine for decimal digits that reads eight bytes at once, as a word.
 pub struct Words;
 
 impl Engine for Words {
     ghost table = { decimal_table };
 
-    /// Returns the window of the first 16 bytes of `s`, or of all its bytes if there are fewer.
-    /// Adds one step.
     #[inline(always)]
     fn window(s: &[u8], steps: &mut Steps) -> Window {
         steps.tick();
@@ -42,12 +38,10 @@ impl Engine for Words {
         if len == 8 {
             join_words(s, first)
         } else {
-            not_full(len, number_in_word(first, len))
+            Window::not_full(len, number_in_word(first, len))
         }
     }
 
-    /// Returns the window of the first 8 bytes of `s`, or of all its bytes if there are fewer. Adds
-    /// one step.
     #[inline(always)]
     fn window_8(s: &[u8], steps: &mut Steps) -> Window {
         steps.tick();
@@ -57,7 +51,7 @@ impl Engine for Words {
         window_of_word(load_full(s))
     }
 
-    /// Returns what the provided body returns, but enters a loop only if there are zeros to skip.
+    /// Enters a loop only if there are zeros to skip.
     #[inline(always)]
     fn prefix_64<'a>(
         bound: u64,
@@ -84,10 +78,8 @@ impl Engine for Words {
     ghost below_ten = { λ byte. Prim.grind (arith, nat_tests) };
 }
 
-// An engine that reads the windows of `Words`, and has the provided parsers. `Words::prefix_64`
-// needs this engine for the loop `window_after_zeros`. If `prefix_64` ran this loop with the engine
-// `Words`, the checker would see a cycle of calls, because, as far as it can see, the loop may call
-// any method of its engine, and so also `prefix_64`.
+// `Words` with the provided parsers, for the loop of `Words::prefix_64`: with `Words` itself, the
+// checker would see a cycle, as the loop may call any method of its engine.
 struct WordWindows;
 
 impl Engine for WordWindows {
@@ -105,9 +97,7 @@ impl Engine for WordWindows {
     ghost below_ten = { λ byte. Prim.grind (arith, nat_tests) };
 }
 
-// Calls `prefix_64_after_zeros`, which is never inlined, and matches its result.
-// The call and the match are kept in a separate function, which is itself inlined, so that the
-// stack slot of the result is cleared only on the path that makes the call.
+// The match keeps the result's stack slot from being cleared on the path without the call.
 #[inline(always)]
 fn prefix_64_cold<'a>(
     bound: u64,
@@ -132,9 +122,7 @@ fn prefix_64_cold<'a>(
     }
 }
 
-// Returns what `prefix_64` with `skip` returns. The caller has loaded the first window, which
-// reported `zeroes` leading zeros, at least one. This function skips these zeros and those after
-// them.
+// `prefix_64` with `skip`, after a first window that reported `zeroes` > 0.
 #[inline(never)]
 fn prefix_64_after_zeros<'a>(
     bound: u64,
@@ -163,8 +151,6 @@ fn prefix_64_after_zeros<'a>(
     answer_64(bound, limit, at, 16 + back.len, number, s)
 }
 
-// Returns the window of the 8 bytes after the first 16, or of fewer if `s` ends before. Adds one
-// step.
 #[inline(always)]
 fn window_after_16(s: &[u8], steps: &mut Steps) -> Window
     requires { 16 ≤ length s.now }
@@ -175,32 +161,26 @@ fn window_after_16(s: &[u8], steps: &mut Steps) -> Window
     window_of_word(load_from(s, 16))
 }
 
-// Returns what a read of 16 bytes returns for a slice of at most 8 bytes, which is a window that is
-// not full. A slice of fewer than 8 bytes is read as if zeros preceded it, and the result leaves
-// these zeros out. So there are always eight bytes, and unless `s` is empty, no branch depends on
-// its length. For fewer than 8 bytes the windows of 8 and of 16 bytes are the same.
+// Fills a short slice to eight bytes with zeros before it, so that no branch depends on its length.
 fn short_window(s: &[u8]) -> Window
     requires { length s.now ≤ 8 }
     ensures of_16 { result ≡ window_of decimal_table 16 s.now }
     ensures of_8 { length s.now < 8 → result ≡ window_of decimal_table 8 s.now }
 {
     if s.is_empty() {
-        return not_full(0, 0);
+        return Window::not_full(0, 0);
     }
     let filled = load_high(s) + fill_of_zeros(s.len());
     let digits = digits_of(filled);
     if digits == 8 {
-        not_full(s.len() as u32, value_of(filled, 8))
+        Window::not_full(s.len() as u32, value_of(filled, 8))
     } else {
-        not_full(
-            digits - (8 - s.len() as u32),
-            number_in_word(filled, digits),
-        )
+        let len = digits - (8 - s.len() as u32);
+        Window::not_full(len, number_in_word(filled, digits))
     }
 }
 
-// Returns the word that has the byte 48, which is the digit zero, as each of its lowest `8 - len`
-// bytes. The bytes above them are 0.
+// The word of `8 - len` zeros.
 fn fill_of_zeros(len: usize) -> u64
     requires some { 0 < len }
     requires few { len ≤ 8 }
@@ -209,7 +189,7 @@ fn fill_of_zeros(len: usize) -> u64
     ZEROS - (ZEROS << (64 - 8 * len))
 }
 
-// Returns the window of 16 bytes, if the first 8 are digits. `first` is their word.
+// The window of 16 bytes, of which the first 8 are digits, with the word `first`.
 #[inline(always)]
 fn join_words(s: &[u8], first: u64) -> Window
     requires loaded { first ≡ word_of (take 8 s.now) }
@@ -226,25 +206,12 @@ fn join_words(s: &[u8], first: u64) -> Window
         }
     } else {
         let high = value_of(first, 8) * power_of_ten(more);
-        not_full(8 + more, high + value_of_fewer(next, more))
+        Window::not_full(8 + more, high + value_of_fewer(next, more))
     }
 }
 
-// Returns a window that is not full of digits, and so reports no zeros.
-fn not_full(len: u32, number: u64) -> Window
-    ensures { result ≡ record { len = len; zeroes = 0; number = number } }
-{
-    Window {
-        len,
-        zeroes: 0,
-        number,
-    }
-}
-
-// Returns the word of the first 8 bytes from index `at` on, or of all bytes from there on if there
-// are fewer. If there are fewer, they are taken from the last 8 bytes of `s` by a shift. If no byte
-// is left, the word has to be shifted by 64 bits. A single shift can be of at most 63 bits, so the
-// code shifts twice.
+// The word of at most 8 bytes from `at` on. Fewer than 8 are the highest of the last 8 bytes of `s`.
+// If none is left, these are shifted by 64 bits, and so in two shifts.
 #[inline(always)]
 fn load_from(s: &[u8], at: usize) -> u64
     requires enough { 8 ≤ length s.now }
@@ -261,9 +228,7 @@ fn load_from(s: &[u8], at: usize) -> u64
     }
 }
 
-// Returns the word of the first 8 bytes. Callers have checked the length. Unlike `load_8`, this
-// function has no code for shorter slices, because such code would enlarge each function that reads
-// a window.
+// `load_8` without code for shorter slices, which would enlarge each function that reads a window.
 #[tactic(auto, using(crate::proofs::lemmas::LoadedWords::word_of_first))]
 fn load_full(s: &[u8]) -> u64
     requires { 8 ≤ length s.now }
@@ -275,8 +240,7 @@ fn load_full(s: &[u8]) -> u64
     }
 }
 
-// Returns the window of a word of 8 bytes. If the slice had fewer bytes, the word has 0 in place of
-// each missing one, and 0 is no digit.
+// The window of 8 bytes. A missing byte is 0 in the word, which is no digit.
 #[inline(always)]
 fn window_of_word(word: u64) -> Window
     ensures len { result.len ≡ run_len decimal_table (low_bytes 8 word) }
@@ -292,8 +256,7 @@ fn window_of_word(word: u64) -> Window
     }
 }
 
-// Returns the number that the first `len` bytes of the word spell. They are all the digits that the
-// word starts with, and there may be none.
+// The number that the leading digits of the word spell; there may be none.
 fn number_in_word(word: u64, len: u32) -> u64
     requires few { len ≤ 8 }
     requires digits { len ≡ run_len decimal_table (low_bytes 8 word) }
@@ -336,10 +299,8 @@ fn sum_of(digits: u64) -> u64
     ((hundreds >> 16) & 0xFFFF) * 10_000 + (hundreds >> 48)
 }
 
-// Returns what `check_len_8` returns, with fewer operations. A byte is no digit exactly if adding
-// 70 to it or subtracting 48 from it gives a byte whose top bit is set. `marks` has these bits. A
-// carry or a borrow changes only bytes above the first byte that is no digit, and these bytes are
-// not counted.
+// `check_len_8` with fewer operations. A byte is no digit if adding 70 or subtracting 48 sets its top
+// bit. A carry or a borrow changes only bytes above the first that is no digit.
 fn digits_of(word: u64) -> u32
     ensures len { result ≡ run_len decimal_table (low_bytes 8 word) }
     ensures most { result ≤ 8 }
@@ -354,8 +315,7 @@ fn digits_of(word: u64) -> u32
     }
 }
 
-// Returns how many zeros the word starts with, as `len_zeroes` does. Like `digits_of` and
-// `value_of`, it subtracts 48 from each byte, so that a zero becomes the byte 0.
+// `len_zeroes`, with the same difference as in `digits_of` and `value_of`.
 fn zeroes_of(word: u64) -> u32
     ensures zeroes { result ≡ zeros decimal_table (low_bytes 8 word) }
     ensures most { result ≤ 8 }
@@ -363,7 +323,6 @@ fn zeroes_of(word: u64) -> u32
     word.wrapping_sub(ZEROS).trailing_zeros() / 8
 }
 
-// Returns how many zeros the bytes of `first`, followed by those of `next`, start with.
 fn zeroes_of_two(first: u64, next: u64) -> u32
     ensures { result ≡ zeros decimal_table (low_bytes 8 first ++ low_bytes 8 next) }
 {

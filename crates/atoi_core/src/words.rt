@@ -1,19 +1,10 @@
-//! Functions on words. A *word* is an integer that holds eight or sixteen bytes, of which the first
-//! is the lowest. The functions load a word from a slice, count the digits or the zeros that a word
-//! starts with, or return the number that its bytes spell.
-//!
-//! The parsers call only the two functions that load: `Words` and `Lanes` call `load_high`, and
-//! `Lanes` calls `load_8`. `Words` has shorter functions of its own, which count digits and zeros
-//! and compute the number; the functions of `Words` that compute the number require that the bytes
-//! are digits. The five public functions of this file that do not load are for callers that have
-//! words. This file uses no other module.
+//! Functions on words. A *word* is an integer that holds eight or sixteen bytes, the first one lowest.
 ghost use Rattle.std.specs.Prelude.{◌≡◌, ℕ, ◌-◌, ◌<◌, ◌≤◌, ◌++◌, length, take, drop, replicate};
 ghost use Rattle.atoi_core.specs.Digit.{decimal_table};
 ghost use Rattle.atoi_core.specs.Run.{run_len, zeros};
 ghost use Rattle.atoi_core.specs.Words.{low_bytes, word_of, low_value};
 
-/// Returns the first 8 bytes of `s`, or all if there are fewer, as a word. The first byte is the
-/// lowest, and a missing byte is 0.
+/// Returns the word of the first 8 bytes of `s`. A missing byte is 0.
 pub fn load_8(s: &[u8]) -> u64
     ensures { result ≡ word_of (take 8 s.now) }
 {
@@ -23,7 +14,6 @@ pub fn load_8(s: &[u8]) -> u64
     }
 }
 
-// Returns the word of fewer than 8 bytes.
 fn load_part(s: &[u8]) -> u64
     requires { length s.now < 8 }
     ensures { result ≡ word_of s.now }
@@ -35,9 +25,7 @@ fn load_part(s: &[u8]) -> u64
     }
 }
 
-/// Returns the word whose highest bytes are those of `s`, and whose other bytes are 0. The last
-/// byte of `s` is the highest. `s` has 1 to 8 bytes. The word is put together from overlapping
-/// parts of `s`, without a branch on the length of `s`.
+/// Returns the word whose highest bytes are those of `s`, without a branch on the length.
 #[inline(always)]
 pub fn load_high(s: &[u8]) -> u64
     requires some { 0 < length s.now }
@@ -49,9 +37,8 @@ pub fn load_high(s: &[u8]) -> u64
     (front << (64 - 8 * s.len())) | (last_four(s) << 32) | (last << 56)
 }
 
-// Returns the word of the first four bytes, or 0 if there are fewer. This function and the two
-// after it choose between two arrays, not between two numbers, because LLVM compiles a choice
-// between two arrays without a branch.
+// The word of the first four bytes, or 0 if there are fewer. Here and below, LLVM compiles a choice
+// between two arrays, not two numbers, without a branch.
 fn first_four(s: &[u8]) -> u64
     ensures enough { 4 ≤ length s.now → result ≡ word_of (take 4 s.now) }
     ensures few { length s.now < 4 → result ≡ 0 }
@@ -63,7 +50,6 @@ fn first_four(s: &[u8]) -> u64
     u64::from(u32::from_le_bytes(*bytes))
 }
 
-// Returns the word of the first two bytes, or 0 if there are fewer.
 fn first_two(s: &[u8]) -> u64
     ensures enough { 2 ≤ length s.now → result ≡ word_of (take 2 s.now) }
     ensures few { length s.now < 2 → result ≡ 0 }
@@ -75,7 +61,6 @@ fn first_two(s: &[u8]) -> u64
     u64::from(u16::from_le_bytes(*bytes))
 }
 
-// Returns the word of the last four bytes, or 0 if there are fewer.
 fn last_four(s: &[u8]) -> u64
     ensures enough { 4 ≤ length s.now → result ≡ word_of (drop (length s.now - 4) s.now) }
     ensures few { length s.now < 4 → result ≡ 0 }
@@ -87,43 +72,33 @@ fn last_four(s: &[u8]) -> u64
     u64::from(u32::from_le_bytes(*bytes))
 }
 
-/// Returns how many bytes of `val`, from the lowest on, are digits. The result is 0 to 8. The
-/// digits are the bytes 48 to 57. The count stops at the first byte that is no digit, and the bytes
-/// above that byte do not matter.
+/// Returns how many bytes of `val`, from the lowest on, are digits.
 pub fn check_len_8(val: u64) -> u32
     ensures len { result ≡ run_len decimal_table (low_bytes 8 val) }
     ensures most { result ≤ 8 }
 {
-    // A digit has 3 as its upper half, and keeps it when six is added. A byte whose sum carries is
-    // no digit, so the digits are counted only up to it, and wrong sums above it do not matter.
+    // A digit has 3 as its upper half, and keeps it when six is added. A byte that carries is none.
     let high = (val.wrapping_add(0x0606_0606_0606_0606) & 0xF0F0_F0F0_F0F0_F0F0) >> 4;
     let low = val & 0xF0F0_F0F0_F0F0_F0F0;
     ((high | low) ^ 0x3333_3333_3333_3333).trailing_zeros() / 8
 }
 
-/// Returns the number that the lowest `len` bytes of `val` spell. The lowest byte is the most
-/// significant digit. Each byte is taken modulo 16, whether it is a digit or not, and multiplied by
-/// its power of ten; the result is the sum of these products. `len` is 1 to 8, and the bytes above
-/// the lowest `len` do not matter. The largest result is 166666665, which is returned if `len` is 8
-/// and every bit is set.
+/// Returns the number that the lowest `len` bytes of `val` spell, the lowest byte first. Each byte
+/// counts modulo 16.
 pub fn process_8(val: u64, len: u32) -> u64
     requires low { 1 ≤ len }
     requires high { len ≤ 8 }
     ensures sum { result ≡ low_value (low_bytes len val) }
     ensures most { result ≤ 166666665 }
 {
-    // Each multiplication takes the word as fields of equal width, and adds to each field the one
-    // below it, multiplied by 10 for fields of 8 bits, by 100 for fields of 16 bits, and by 10,000
-    // for fields of 32 bits.
+    // Each product adds to a field the one below it: 10 times for 8 bits, 100 for 16, 10,000 for 32.
     let ones = (val << (64 - 8 * len)) & 0x0F0F_0F0F_0F0F_0F0F;
     let tens = (ones.wrapping_mul(0xA01) >> 8) & 0x00FF_00FF_00FF_00FF;
     let hundreds = (tens.wrapping_mul(0x64_0001) >> 16) & 0x0000_FFFF_0000_FFFF;
     hundreds.wrapping_mul(0x2710_0000_0001) >> 32
 }
 
-/// Returns what `process_8` returns, but for the lowest `len` bytes of a word of sixteen bytes.
-/// `len` is 1 to 16, and the bytes above the lowest `len` do not matter. The largest result is
-/// 16666666666666665, which is returned if `len` is 16 and every bit is set.
+/// `process_8` for a word of sixteen bytes.
 pub fn process_16(val: u128, len: u32) -> u64
     requires low { 1 ≤ len }
     requires high { len ≤ 16 }
@@ -138,8 +113,7 @@ pub fn process_16(val: u128, len: u32) -> u64
     (ten_thousands.wrapping_mul(0x5F5_E100_0000_0000_0000_0001) >> 64) as u64
 }
 
-/// Returns how many bytes of `val`, from the lowest on, are the digit zero, which is the byte 48.
-/// The count stops at the first other byte, and is 0 to 8.
+/// Returns how many bytes of `val`, from the lowest on, are the digit zero.
 pub fn len_zeroes(val: u64) -> u32
     ensures zeroes { result ≡ zeros decimal_table (low_bytes 8 val) }
     ensures most { result ≤ 8 }
@@ -147,8 +121,7 @@ pub fn len_zeroes(val: u64) -> u32
     (val ^ 0x3030_3030_3030_3030).trailing_zeros() / 8
 }
 
-/// Returns how many bytes of `val`, from the lowest on, are the digit zero, which is the byte 48.
-/// The count stops at the first other byte, and is 0 to 16.
+/// `len_zeroes` for a word of sixteen bytes.
 pub fn len_zeroes_128(val: u128) -> u32
     ensures zeroes { result ≡ zeros decimal_table (low_bytes 16 val) }
     ensures most { result ≤ 16 }

@@ -21,8 +21,8 @@ digits c =
     filled_digits c.args.s.now c.requires (λ i. (c.type_inv.s i).fits) c.load_high.result c.fill_of_zeros.result
     c.digits_of-digits.result c.load_high.ensures c.fill_of_zeros.ensures c.digits_of-digits.ensures.len
 
-pub overflow_sub-digits : goal.overflow_sub-digits
-overflow_sub-digits c = omega (arith, digits (goal.at.overflow_sub-digits c).After-digits_of-digits)
+pub overflow_sub-len-else-digits-eq8 : goal.overflow_sub-len-else-digits-eq8
+overflow_sub-len-else-digits-eq8 c = omega (arith, digits (goal.at.overflow_sub-len-else-digits-eq8 c).After-digits_of-digits)
 
 pub returns-then-digits-eq8-clause-of_16 : goal.returns-then-digits-eq8-clause-of_16
 returns-then-digits-eq8-clause-of_16 c =
