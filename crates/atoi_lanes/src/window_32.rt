@@ -9,7 +9,6 @@ ghost use Rattle.atoi_lanes.specs.Lanes.{padded_start};
 
 use crate::kernels::{len_lanes, load_lanes, sum_lanes, zeroes_lanes};
 use atoi_core::Steps;
-use atoi_core::reading::reading_decides;
 use atoi_core::wide_answer::append_digits;
 use std::simd::prelude::*;
 
@@ -40,9 +39,6 @@ pub(crate) fn window_32(s: &[u8], steps: &mut Steps) -> Window32
     ensures reading { Reading decimal_table 32 s.now result.len result.zeroes result.number }
     ensures one_step { steps.new ≡ steps.old + 1 }
 {
-    // By this law, if 16 bytes are all digits, then a read of them and a read of the next 16 bytes
-    // together make one read of 32 bytes. The call does nothing.
-    reading_decides();
     steps.tick();
     let first = load_lanes(s);
     let len = len_lanes(first);
