@@ -1,10 +1,10 @@
 -- What has been read at the start of a slice, and the answer that this decides. This file is for
 -- engines that read integers of 64 and of 128 bits with loops of their own.
-use Rattle.std.specs.Prelude.{◌≡◌, ◌⊎◌, ℕ, ◌+◌, ◌-◌, ◌*◌, ◌^◌, ◌<◌, ◌≤◌, min, Bool, true, false, ◌==◌, nat_lt, if◌then◌else◌, List, length, take, drop, Result, Ok, Err}
-use Rattle.atoi_core.specs.Digit.{Table, IsBelowTen}
+use Rattle.std.specs.Prelude.{◌≡◌, ℕ, ◌+◌, ◌-◌, ◌≤◌, min, Bool, true, false, ◌==◌, nat_lt, if◌then◌else◌, List, take, drop, Result, Ok, Err}
+use Rattle.atoi_core.specs.Digit.{Table}
 use Rattle.atoi_core.specs.Run.{run_len, run, zeros, value}
 use Rattle.atoi_core.specs.Refusal.{Refusal, empty, size, overflow}
-use Rattle.atoi_core.specs.Magnitude.{Class, prefix, rule_of, HasDigits, prefix_magnitude}
+use Rattle.atoi_core.specs.Magnitude.{Class, prefix, rule_of}
 
 -- A reading of the first `count` bytes of a slice, or of all its bytes if there are fewer. These
 -- bytes start with exactly `digits` digits and exactly `leading` zeros, and the digits spell

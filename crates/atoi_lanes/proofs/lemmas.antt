@@ -1,3 +1,4 @@
+pub mod Shuffles
 pub mod LaneSums
 pub mod LoadedLanes
 pub mod LaneWindows

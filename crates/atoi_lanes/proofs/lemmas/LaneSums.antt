@@ -11,7 +11,8 @@ use Rattle.std.proofs.lemmas.Bool.Decides.{nat_tests}
 use Rattle.std.proofs.lemmas.Simd.{zip2_splat, Each1-weaker, Each1-chunk, length-replicate, ones-mask_l}
 use Rattle.atoi_core.specs.Digit.{decimal_table, is_digit, digit_value}
 use Rattle.atoi_core.specs.Run.{run_len, value, run}
-use Rattle.atoi_lanes.specs.Lanes.{itself, paired}
+use Rattle.atoi_lanes.specs.Lanes.{itself, padded, paired}
+use Rattle.atoi_lanes.proofs.lemmas.Shuffles.{first_at_end}
 use lib.Lanes.{Each1, zip2, number_l, digits_l, dots, mask_l}
 use Rattle.std.specs.Int.Bits.{bit_and}
 use Rattle.std.specs.Int.{trailing_ones}
@@ -150,26 +151,25 @@ digits_value f makes (suc n) (x ∷ xs) h =
       | false ↦ λ is none. absurd (omega arith)
     ]) refl h
 
--- If the first `n` lanes hold digits and 48 is subtracted from each lane, the first `n` results
--- spell the value of these digits.
-pub values_sum : (n : ℕ) (v : List ℕ) → length v ≡ 16 → n ≤ run_len decimal_table v
-    → value itself (take n (zip2 (λ x y. (x + (2 ^ 8 - y)) % 2 ^ 8) v (replicate 16 48))) ≡ value decimal_table (take n v)
-values_sum n v long digits =
-    ap (λ digit_values. value itself (take n digit_values)) (zip2_splat (λ x y. (x + (2 ^ 8 - y)) % 2 ^ 8) v 16 48 long) ∙ (digits_value above_zero above_zero-digit n v digits).0
-
 -- If all numbers of a list are below ten, and zeros are put before the list, then all numbers of
 -- the longer list are below ten.
 pub below_after_zeros : (n : ℕ) (xs : List ℕ) → Each1 (λ x. x < 10) xs → Each1 (λ x. x < 10) (replicate n 0 ++ xs)
 below_after_zeros zero xs h = h
 below_after_zeros (suc n) xs h = (omega arith, below_after_zeros n xs h)
 
--- If the first `n` lanes hold digits, then zeros followed by the digit values of these lanes are
--- all below ten.
-pub values_below : (zeros n : ℕ) (v : List ℕ) → length v ≡ 16 → n ≤ run_len decimal_table v
-    → Each1 (λ x. x < 10) (replicate zeros 0 ++ take n (zip2 (λ x y. (x + (2 ^ 8 - y)) % 2 ^ 8) v (replicate 16 48)))
-values_below zeros n v long digits =
-    let digit_values = zip2_splat (λ x y. (x + (2 ^ 8 - y)) % 2 ^ 8) v 16 48 long in
-    below_after_zeros zeros _ (subst (λ l. Each1 (λ x. x < 10) (take n l)) (sym digit_values) (digits_value above_zero above_zero-digit n v digits).1)
+-- If 48 is subtracted from each lane and the first n lanes, which hold digits, are moved to the end,
+-- the lanes spell the value of these digits.
+pub moved_values : (n : ℕ) (v lanes : List ℕ) → n ≤ 16 → length v ≡ 16 → n ≤ run_len decimal_table v
+    → lanes ≡ take 16 (drop n (padded (zip2 (λ x y. (x + (2 ^ 8 - y)) % 2 ^ 8) v (replicate 16 48))))
+    → (value itself lanes ≡ value decimal_table (take n v)) × Each1 (λ x. x < 10) lanes
+moved_values n v lanes le long digits moved =
+    let values = map above_zero v in
+    let known = digits_value above_zero above_zero-digit n v digits in
+    let all : lanes ≡ replicate (16 - n) 0 ++ take n values =
+    moved ∙ ap (λ l. take 16 (drop n (padded l))) (zip2_splat (λ x y. (x + (2 ^ 8 - y)) % 2 ^ 8) v 16 48 long) ∙ first_at_end n values le (length-map v above_zero ∙ long) in (
+      ap (value itself) all ∙ value-after_zeros (16 - n) (take n values) ∙ known.0,
+      subst (Each1 (λ x. x < 10)) (sym all) (below_after_zeros (16 - n) _ known.1),
+    )
 
 -- ---- Joining the two halves of each field
 -- A *field* is a lane that holds two numbers, one in each half. A step on a field joins these two

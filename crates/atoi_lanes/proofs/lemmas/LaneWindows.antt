@@ -3,7 +3,7 @@
 -- `Lanes` and its parsers of integers of 64 and of 128 bits are proved with these lemmas.
 use Rattle.std.proofs.Common.{◌≡◌, ℕ, zero, suc, ◌+◌, ◌<◌, ◌==◌, Bool, true, false, cond, List, [], ◌∷◌, ◌++◌, length, take, replicate, refl, sym, ap, ap₂, ◌∙◌, arith, if◌then◌else◌, ◌-◌, ◌≤◌, drop, ◌⊎◌, ◌*◌, min, inl, inr, ◌^◌, eqb, subst, lit<}
 use Rattle.std.specs.List.{prefix_len}
-use Rattle.std.proofs.lemmas.List.{take_all, length-take, take-append-le, drop-drop, length-drop, take-replicate, take_rest}
+use Rattle.std.proofs.lemmas.List.{take_all, length-take, take-append-le, drop-drop, length-drop, take_rest}
 use Rattle.atoi_core.specs.Digit.{decimal_table, is_digit, is_zero}
 use Rattle.atoi_core.specs.Loads.{LoadsWithin}
 use Rattle.atoi_core.specs.Reading.{Reading, significant_digits, answer_by_digits}
@@ -13,7 +13,6 @@ use Rattle.atoi_core.specs.Run.{run_len, run, zeros, value}
 use Rattle.atoi_core.specs.Window.{window_of}
 use Rattle.atoi_core.specs.declared.window.Window.{Window}
 use Rattle.atoi_lanes.specs.Lanes.{lane_window, padded_start, ReadsAfterZeros}
-use Rattle.std.proofs.Math.Seq.{take-append-add}
 use Rattle.std.proofs.lemmas.Bool.{cases_lt, false≢true}
 use Rattle.atoi_core.specs.Magnitude.{wide64, wide128, prefix_magnitude}
 use Rattle.atoi_lanes.specs.declared.window_32.Window32.{Window32}
@@ -96,25 +95,6 @@ reading-of_lanes s lanes len number loaded digits writes =
 -- If the slice has at least 32 bytes, the 16 bytes after the first 16 fill a vector.
 pub after_all : (s : List ℕ) → 32 ≤ length s → take 16 (drop 16 s) ≡ padded_start 16 (drop 16 s)
 after_all s enough = sym (take-append-le 16 (drop 16 s) (replicate 16 0) (omega (arith, length-drop 16 s)))
-
--- If the slice has 16 to 31 bytes, the vector of its last 16 bytes ends with the bytes after the
--- first 16. Dropping the lanes before these bytes and appending zeros gives the padded vector of
--- these bytes.
-pub after_some : (s : List ℕ) → 16 ≤ length s → length s < 32
-    → drop (32 - length s) (take 16 (drop (length s - 16) s)) ++ replicate (32 - length s) 0 ≡ padded_start 16 (drop 16 s)
-after_some s enough short =
-    let end : ℕ = length s in
-    let last : List ℕ = take 16 (drop (end - 16) s) in
-    let following : List ℕ = drop 16 s in
-    let count : length following ≡ length s - 16 = length-drop 16 s in
-    let all : last ≡ drop (end - 16) s = take_all 16 (drop (end - 16) s) (omega (arith, length-drop (end - 16) s)) in
-    let offset : end - 16 + (32 - end) ≡ 16 = omega arith in
-    let fill : length following + (32 - end) ≡ 16 = omega arith in
-    ap (λ l. drop (32 - end) l ++ replicate (32 - end) 0) all
-    ∙ ap (λ l. l ++ replicate (32 - end) 0) (drop-drop (32 - end) (end - 16) s ∙ ap (λ k. drop k s) offset)
-    ∙ ap (λ l. following ++ l) (sym (take-replicate (32 - end) 16 0 (omega arith)))
-    ∙ sym (take-append-add following (replicate 16 0) (32 - end))
-    ∙ ap (λ n. take n (following ++ replicate 16 0)) fill
 
 -- The loop is not entered if zeros are not skipped, or if the first window begins with no zero or
 -- is not full of digits. So if the loop is not entered although zeros are skipped and the first

@@ -1,20 +1,15 @@
 -- Vectors that hold the bytes of a slice: how they are loaded, shifted and tested for digits. The
 -- kernels of this crate are proved with these lemmas.
-use Rattle.std.proofs.Common.{◌≡◌, ℕ, zero, suc, ◌+◌, ◌-◌, ◌*◌, ◌/◌, ◌%◌, ◌^◌, ◌<◌, Bool, true, false, cond, List, [], ◌∷◌, map, length, drop, Fits, w8, w64, refl, sym, ap, ap₂, ◌∙◌, arith, pow_pos, ◌≤◌, ◌||◌, ◌++◌, take, replicate, get_or, rules, inl, inr}
+use Rattle.std.proofs.Common.{◌≡◌, ℕ, zero, suc, ◌+◌, ◌-◌, ◌*◌, ◌/◌, ◌%◌, ◌^◌, ◌<◌, Bool, true, false, cond, List, [], ◌∷◌, map, length, drop, Fits, w8, w64, refl, sym, ap, ap₂, ◌∙◌, arith, pow_pos, ◌≤◌, ◌++◌, take, replicate, get_or, inl, inr}
 use Rattle.std.specs.Int.{trailing_ones, from_le_bytes, byte_worth, sum_through}
-use Rattle.std.specs.List.{prefix_len, range_with_len}
+use Rattle.std.specs.List.{prefix_len}
 use Rattle.std.proofs.Math.Nat.{pow-suc, pow-zero, zero-div, div-one, div-div-eq-div-mul, lt_of_lt_of_le, zero-mod}
-use Rattle.std.proofs.lemmas.Bool.{agree_below, agree_below_at, cond-false, cases_lt}
-use Rattle.std.proofs.lemmas.Simd.{map-map, mask_l-lt, mask_l-mod, swz_l, SwzOk, SwzOk-from_Each1, Each1-chunk, length-replicate, Each1-from_get_or}
-use Rattle.std.proofs.lemmas.List.{length-map, append-nil, length-take, length-drop, take_all, drop_more, drop-append-le, drop-replicate, take-take, take-replicate, take-append-drop, drop-drop, drop_all, length-take-le}
+use Rattle.std.proofs.lemmas.Bool.{agree_below, agree_below_at, cases_lt}
+use Rattle.std.proofs.lemmas.Simd.{map-map, mask_l-lt, mask_l-mod, Each1-from_get_or}
+use Rattle.std.proofs.lemmas.List.{length-map, take_all, take-append-drop, drop-drop, drop_all, length-take-le}
 use lib.Count.{count_trailing_zeros}
 use lib.Pow.{pow_mono}
 use lib.Lanes.{Each1, mask_l, top, number_l, digits_l}
-use Rattle.std.proofs.Math.Seq.{take-append-add}
-use Rattle.std.proofs.lemmas.Bool.Decides.{nat_tests}
-use Rattle.std.proofs.lemmas.List.FromFn.{length-range_with_len}
-use lib.Dec.{T, ltb, leb}
-use mir.Val.{zeroes}
 use Rattle.std.proofs.lemmas.Nat.{mod-mul-add, div-mul-add, pow-add}
 
 -- ---- Masks
@@ -81,113 +76,6 @@ mask-drop (suc k) (b ∷ bs) =
     let power : 2 ^ suc k ≡ 2 * 2 ^ k = omega (arith, pow-suc 2 k) in
     let others : all / 2 ≡ mask_l bs = elim b as (λ a. (cond a 1 zero + 2 * mask_l bs) / 2 ≡ mask_l bs) [ true ↦ omega arith | false ↦ omega arith ] in
     ap (λ p. all / p) power ∙ sym (div-div-eq-div-mul all 2 (2 ^ k)) ∙ ap (λ m. m / 2 ^ k) others ∙ mask-drop k bs
-
--- ---- Shuffles
--- The shuffles move the first lanes of a vector to its end, or its last lanes to its start.
-
--- The table `SHIFTS`: 16 entries that select no lane, and then 16 entries that select the lanes in
--- order.
-abbrev shifts : List ℕ
-shifts = replicate 16 128 ++ range_with_len 0 16
-
--- The first n of k consecutive indices are n consecutive indices.
-take-range : (n k a : ℕ) → n ≤ k → take n (range_with_len a k) ≡ range_with_len a n
-take-range zero k a le = refl
-take-range (suc n) zero a le = absurd (omega arith)
-take-range (suc n) (suc k) a le = ap (λ l. a ∷ l) (take-range n k (a + 1) (omega arith))
-
--- Of the 16 entries from index n on, the first 16 - n select no lane, and the others select the
--- first n lanes in order.
-entries_from : (n : ℕ) → n ≤ 16 → take 16 (take (32 - n) (drop n shifts)) ≡ replicate (16 - n) 128 ++ range_with_len 0 n
-entries_from n le =
-    let following : drop n shifts ≡ replicate (16 - n) 128 ++ range_with_len 0 16 =
-    drop-append-le n (replicate 16 128) (range_with_len 0 16) le ∙ ap (λ l. l ++ range_with_len 0 16) (drop-replicate n 16 128) in
-    let count : 16 ≡ length {A = ℕ} (replicate (16 - n) 128) + n = omega (arith, length-replicate {A = ℕ} (16 - n) 128) in
-    take-take 16 (32 - n) (drop n shifts) (omega arith)
-    ∙ ap₂ take count following
-    ∙ take-append-add (replicate (16 - n) 128) (range_with_len 0 16) n
-    ∙ ap (λ l. replicate (16 - n) 128 ++ l) (take-range n 16 0 le)
-
--- The entry 128 gives a lane of 0.
-no_lanes : (n i : ℕ) (xs js : List ℕ) → swz_l w8 16 xs i (replicate n 128 ++ js) ≡ replicate n 0 ++ swz_l w8 16 xs (i + n) js
-no_lanes zero i xs js = ap (λ k. swz_l w8 16 xs k js) (omega arith)
-no_lanes (suc n) i xs js = ap (λ l. 0 ∷ l) (no_lanes n (suc i) xs js ∙ ap (λ k. replicate n 0 ++ swz_l w8 16 xs k js) (omega arith))
-
--- Consecutive entries select consecutive lanes.
-lanes_from : (n i a : ℕ) (xs : List ℕ) → i + n ≤ 16 → a + n ≤ length xs → length xs ≤ 16 → swz_l w8 16 xs i (range_with_len a n) ≡ take n (drop a xs)
-lanes_from zero i a xs fits room few = refl
-lanes_from (suc n) i a xs fits room few =
-    let block : 16 * (i / 16) + a ≡ a = omega arith in
-    let named : leb 128 a ≡ false = grind (arith, nat_tests) in
-    ap₂ (λ l ls. l ∷ ls) (cond-false _ _ _ named ∙ ap (λ k. get_or xs k 0) block) (lanes_from n (suc i) (a + 1) xs (omega arith) (omega arith) few)
-    ∙ ap (take (suc n)) (sym (drop_more xs a 0 (omega arith)))
-
--- The shuffle with the 16 entries from index n on moves the first n lanes to the end, after lanes
--- of 0.
-pub shifted : (n : ℕ) (v : List ℕ) → n ≤ 16 → length v ≡ 16 → swz_l w8 16 v 0 (take 16 (take (32 - n) (drop n shifts))) ≡ replicate (16 - n) 0 ++ take n v
-shifted n v le long =
-    ap (swz_l w8 16 v 0) (entries_from n le)
-    ∙ no_lanes (16 - n) 0 v (range_with_len 0 n)
-    ∙ ap (λ l. replicate (16 - n) 0 ++ l) (lanes_from n (0 + (16 - n)) 0 v (omega arith) (omega arith) (omega arith))
-
--- The 16 entries of `SHIFTS` from index n on are valid in a shuffle.
-pub shift_ok : (n : ℕ) → n ≤ 16 → SwzOk w8 16 16 0 (take 16 (take (32 - n) (drop n shifts)))
-shift_ok n le =
-    let entries = take (32 - n) (drop n shifts) in
-    let each : Each1 (λ j. T (zeroes 16 w8 j || ltb j 16)) shifts = search rules in
-    SwzOk-from_Each1 w8 16 1 16 0 (take 16 entries) refl (omega (arith, length-take 16 entries))
-    (Each1-chunk _ 0 16 entries (Each1-chunk _ n (32 - n) shifts each))
-
--- The table `FROM`: 16 entries that select the lanes in order, and then 16 entries that select no
--- lane.
-abbrev from_entries : List ℕ
-from_entries = range_with_len 0 16 ++ replicate 16 128
-
--- Consecutive indices without the first k are consecutive indices.
-drop-range : (k n a b m : ℕ) → m ≡ k + n → b ≡ a + k → drop k (range_with_len a m) ≡ range_with_len b n
-drop-range zero n a b m all first = ap₂ range_with_len (omega arith) (omega arith)
-drop-range (suc k) n a b zero all first = absurd (omega arith)
-drop-range (suc k) n a b (suc m) all first = drop-range k n (a + 1) b m (omega arith) (omega arith)
-
--- Of the 16 entries from index k on, the first 16 - k select the lanes after the first k, and the
--- others select no lane.
-entries_after : (k : ℕ) → k ≤ 16 → take 16 (take (32 - k) (drop k from_entries)) ≡ range_with_len k (16 - k) ++ replicate k 128
-entries_after k le =
-    let rest : drop k (range_with_len 0 16) ≡ range_with_len k (16 - k) = drop-range k (16 - k) 0 k 16 (omega arith) (omega arith) in
-    let following : drop k from_entries ≡ range_with_len k (16 - k) ++ replicate 16 128 =
-    drop-append-le k (range_with_len 0 16) (replicate 16 128) le ∙ ap (λ l. l ++ replicate 16 128) rest in
-    let count : 16 ≡ length (range_with_len k (16 - k)) + k = omega (arith, length-range_with_len k (16 - k)) in
-    take-take 16 (32 - k) (drop k from_entries) (omega arith)
-    ∙ ap₂ take count following
-    ∙ take-append-add (range_with_len k (16 - k)) (replicate 16 128) k
-    ∙ ap (λ l. range_with_len k (16 - k) ++ l) (take-replicate k 16 128 le)
-
--- A shuffle with two lists of entries, one after the other, gives the lanes that the first list
--- selects, and then those that the second list selects.
-swz-append : (xs : List ℕ) (i : ℕ) (is js : List ℕ) → swz_l w8 16 xs i (is ++ js) ≡ swz_l w8 16 xs i is ++ swz_l w8 16 xs (i + length is) js
-swz-append xs i [] js = ap (λ k. swz_l w8 16 xs k js) (omega arith)
-swz-append xs i (l ∷ is) js =
-    ap (λ ls. swz_l w8 16 xs i (l ∷ []) ++ ls) (swz-append xs (suc i) is js ∙ ap (λ k. swz_l w8 16 xs (suc i) is ++ swz_l w8 16 xs k js) (omega arith))
-
--- The shuffle with the 16 entries from index k on drops the first k lanes and moves the others to
--- the start, before lanes of 0.
-pub moved_from : (k : ℕ) (v : List ℕ) → k ≤ 16 → length v ≡ 16 → swz_l w8 16 v 0 (take 16 (take (32 - k) (drop k from_entries))) ≡ drop k v ++ replicate k 0
-moved_from k v le long =
-    let count : length (range_with_len k (16 - k)) ≡ 16 - k = length-range_with_len k (16 - k) in
-    let lanes : swz_l w8 16 v 0 (range_with_len k (16 - k)) ≡ drop k v =
-    lanes_from (16 - k) 0 k v (omega arith) (omega arith) (omega arith) ∙ take_all (16 - k) (drop k v) (omega (arith, length-drop k v)) in
-    let none : swz_l w8 16 v (0 + length (range_with_len k (16 - k))) (replicate k 128) ≡ replicate k 0 =
-    ap (swz_l w8 16 v (0 + length (range_with_len k (16 - k)))) (sym (append-nil (replicate k 128)))
-    ∙ no_lanes k (0 + length (range_with_len k (16 - k))) v [] ∙ append-nil (replicate k 0) in
-    ap (swz_l w8 16 v 0) (entries_after k le) ∙ swz-append v 0 (range_with_len k (16 - k)) (replicate k 128) ∙ ap₂ (λ a b. a ++ b) lanes none
-
--- The 16 entries of `FROM` from index k on are valid in a shuffle.
-pub from_ok : (k : ℕ) → k ≤ 16 → SwzOk w8 16 16 0 (take 16 (take (32 - k) (drop k from_entries)))
-from_ok k le =
-    let entries = take (32 - k) (drop k from_entries) in
-    let each : Each1 (λ j. T (zeroes 16 w8 j || ltb j 16)) from_entries = search rules in
-    SwzOk-from_Each1 w8 16 1 16 0 (take 16 entries) refl (omega (arith, length-take 16 entries))
-    (Each1-chunk _ 0 16 entries (Each1-chunk _ k (32 - k) from_entries each))
 
 -- ---- Bytes as a number
 -- The bytes of a short slice are the digits of a number in base 256, the lowest first.
