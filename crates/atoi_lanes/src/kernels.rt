@@ -46,7 +46,7 @@ pub fn load_lanes(s: &[u8]) -> u8x16
 // have to be dropped. One shift of a word cannot do that, so there are two.
 fn load_after_8(s: &[u8]) -> u64
     requires { length s.now < LANES }
-    ensures { result ≡ word_of (drop 8 s.now) }
+    ensures { result ≡ word_of (take 8 (drop 8 s.now)) }
 {
     match s.last_chunk::<8>() {
         Some(bytes) => u64::from_le_bytes(*bytes) >> (8 * (LANES - 1 - s.len())) >> 8,

@@ -1,5 +1,5 @@
 use Rattle.std.proofs.Common.{◌∙◌}
-use Rattle.atoi_lanes.proofs.lemmas.LaneSums.{moved_values}
+use Rattle.atoi_lanes.proofs.lemmas.DigitLanes.{moved_values}
 use Rattle.atoi_lanes.proofs.kernels.sum_lanes.Goals as goal
 
 pub number_in_lanes-requires : goal.number_in_lanes-requires

@@ -1,6 +1,6 @@
 -- The 8 bytes after a window that is full of digits decide the answer with it.
 use Rattle.std.proofs.Common.{◌∙◌}
-use Rattle.atoi_lanes.proofs.lemmas.LaneWindows.{decided_full}
+use Rattle.atoi_lanes.proofs.lemmas.WideAnswers.{decided_full}
 use Rattle.atoi_lanes.proofs.wide_lanes.finish_128.Goals as goal
 
 pub answer_128-requires : goal.answer_128-requires

@@ -2,7 +2,7 @@
 use Rattle.std.proofs.Common.{arith}
 use Rattle.atoi_core.proofs.lemmas.Windows.{within}
 use Rattle.atoi_core.specs.Digit.{decimal_table}
-use Rattle.atoi_lanes.proofs.lemmas.LaneWindows.{first-ends, only_window, few_loads}
+use Rattle.atoi_lanes.proofs.lemmas.WideAnswers.{first-ends, only_window, few_loads}
 use Rattle.atoi_lanes.proofs.wide_lanes.prefix_128_lanes.Goals as goal
 
 pub finish_128-requires-clause-reached : goal.finish_128-requires-clause-reached

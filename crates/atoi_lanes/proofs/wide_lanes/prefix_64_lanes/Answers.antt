@@ -4,7 +4,8 @@ use Rattle.std.proofs.Common.{arith}
 use Rattle.std.proofs.lemmas.List.Sums.{prefix_len-le-length}
 use Rattle.atoi_core.proofs.lemmas.Windows.{within}
 use Rattle.atoi_core.specs.Digit.{decimal_table, is_zero}
-use Rattle.atoi_lanes.proofs.lemmas.LaneWindows.{first-ends, only_window, few_loads, reading-of_few}
+use Rattle.atoi_lanes.proofs.lemmas.WideAnswers.{first-ends, only_window, few_loads}
+use Rattle.atoi_lanes.proofs.lemmas.LaneWindows.{reading-of_few}
 use Rattle.atoi_lanes.proofs.wide_lanes.prefix_64_lanes.Goals as goal
 
 pub answer_short_64-requires-clause-reached : goal.answer_short_64-requires-clause-reached
