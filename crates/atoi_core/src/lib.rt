@@ -32,7 +32,6 @@ mod narrow;
 mod number;
 mod plain;
 mod prefix_128;
-pub mod reading;
 mod sign;
 mod steps;
 mod text;

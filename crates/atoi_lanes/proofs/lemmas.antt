@@ -1,3 +1,9 @@
-pub mod LaneSums
-pub mod LoadedLanes
+pub mod Shuffles
+pub mod Masks
+pub mod LaneBytes
+pub mod JoinedDigits
+pub mod DigitLanes
+pub mod Padding
+pub mod ShortLanes
 pub mod LaneWindows
+pub mod WideAnswers

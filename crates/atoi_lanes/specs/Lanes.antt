@@ -9,6 +9,10 @@ use Rattle.atoi_core.specs.declared.window.Window.{Window}
 abbrev pub padded_start : ℕ → List ℕ → List ℕ
 padded_start size s = take size (s ++ replicate size 0)
 
+-- A vector between lanes of 0.
+abbrev pub padded : List ℕ → List ℕ
+padded v = replicate 16 0 ++ (v ++ replicate 16 0)
+
 -- The window has the length and the value of the run that the lanes begin with. If the run has
 -- `size` digits, `zeroes` is the number of leading zeros of the lanes, otherwise it is 0.
 abbrev pub lane_window : ℕ → List ℕ → Window

@@ -8,7 +8,7 @@ ghost use Rattle.std.specs.Simd.Lanes.{Each1, mask_l, digits_l};
 ghost use Rattle.atoi_core.specs.Digit.{decimal_table, is_digit};
 ghost use Rattle.atoi_core.specs.Run.{run_len, run, zeros, value};
 ghost use Rattle.atoi_core.specs.Words.{word_of};
-ghost use Rattle.atoi_lanes.specs.Lanes.{itself, padded_start, paired};
+ghost use Rattle.atoi_lanes.specs.Lanes.{itself, padded, padded_start, paired};
 
 use atoi_core::words::{load_8, load_high};
 use std::simd::prelude::*;
@@ -16,12 +16,11 @@ use std::simd::prelude::*;
 // The number of bytes in a vector.
 const LANES: usize = 16;
 
-// The 16 entries from `SHIFTS[len]` on are the indices of a shuffle that moves the first `len`
-// lanes of a vector to its end. If an index is 128, it selects no lane, and the shuffle puts 0 into
-// the result instead.
-const SHIFTS: [u8; 32] = [
+// The indices of the shuffles. The index 128 selects no lane, and gives a lane of 0.
+const SHIFTS: [u8; 48] = [
     128, 128, 128, 128, 128, 128, 128, 128, 128, 128, 128, 128, 128, 128, 128, 128, 0, 1, 2, 3, 4,
-    5, 6, 7, 8, 9, 10, 11, 12, 13, 14, 15,
+    5, 6, 7, 8, 9, 10, 11, 12, 13, 14, 15, 128, 128, 128, 128, 128, 128, 128, 128, 128, 128, 128,
+    128, 128, 128, 128, 128,
 ];
 
 // With these weights `dot4` returns `100 * pair + next_pair` for the two pairs of digits in each
@@ -47,7 +46,7 @@ pub fn load_lanes(s: &[u8]) -> u8x16
 // have to be dropped. One shift of a word cannot do that, so there are two.
 fn load_after_8(s: &[u8]) -> u64
     requires { length s.now < LANES }
-    ensures { result ≡ word_of (drop 8 s.now) }
+    ensures { result ≡ word_of (take 8 (drop 8 s.now)) }
 {
     match s.last_chunk::<8>() {
         Some(bytes) => u64::from_le_bytes(*bytes) >> (8 * (LANES - 1 - s.len())) >> 8,
@@ -91,15 +90,15 @@ pub fn sum_lanes(v: u8x16, len: u32) -> u64
     let digit_values = v - u8x16::splat(b'0');
     // The same instructions serve every length. If lengths vary, a branch on the length would be
     // mispredicted.
-    number_in_lanes(moved_to_end(digit_values, len))
+    number_in_lanes(shuffle(digit_values, len as usize))
 }
 
-// Returns a vector with the first `len` lanes of `v` at its end, after lanes of 0.
-fn moved_to_end(v: u8x16, len: u32) -> u8x16
-    requires { len ≤ 16 }
-    ensures { result ≡ replicate (16 - len) 0 ++ take len v }
+// The 16 lanes from place `p` of 16 lanes of 0, those of `v`, and 16 more lanes of 0.
+pub(crate) fn shuffle(v: u8x16, p: usize) -> u8x16
+    requires { p ≤ 32 }
+    ensures { result ≡ take 16 (drop p (padded v)) }
 {
-    v.swizzle_dyn_within::<16>(u8x16::from_slice(&SHIFTS[len as usize..]))
+    v.swizzle_dyn_within::<16>(u8x16::from_slice(&SHIFTS[p..]))
 }
 
 /// Returns how many digits a slice of fewer than 8 bytes begins with, and the number that they

@@ -7,19 +7,10 @@ ghost use Rattle.atoi_core.specs.Reading.{Reading};
 ghost use Rattle.atoi_core.specs.Run.{run_len, zeros, value};
 ghost use Rattle.atoi_lanes.specs.Lanes.{padded_start};
 
-use crate::kernels::{len_lanes, load_lanes, sum_lanes, zeroes_lanes};
+use crate::kernels::{len_lanes, load_lanes, shuffle, sum_lanes, zeroes_lanes};
 use atoi_core::Steps;
-use atoi_core::reading::reading_decides;
 use atoi_core::wide_answer::append_digits;
 use std::simd::prelude::*;
-
-// The 16 entries from `FROM[n]` on are the indices of a shuffle that drops the first `n` lanes of a
-// vector and moves the others to its start. If an index is 128, it selects no lane, and the shuffle
-// puts 0 into the result instead.
-const FROM: [u8; 32] = [
-    0, 1, 2, 3, 4, 5, 6, 7, 8, 9, 10, 11, 12, 13, 14, 15, 128, 128, 128, 128, 128, 128, 128, 128,
-    128, 128, 128, 128, 128, 128, 128, 128,
-];
 
 /// The *window* of the first 32 bytes of a slice, or of all its bytes if there are fewer. A window
 /// is what one read reports about these bytes.
@@ -40,9 +31,6 @@ pub(crate) fn window_32(s: &[u8], steps: &mut Steps) -> Window32
     ensures reading { Reading decimal_table 32 s.now result.len result.zeroes result.number }
     ensures one_step { steps.new ≡ steps.old + 1 }
 {
-    // By this law, if 16 bytes are all digits, then a read of them and a read of the next 16 bytes
-    // together make one read of 32 bytes. The call does nothing.
-    reading_decides();
     steps.tick();
     let first = load_lanes(s);
     let len = len_lanes(first);
@@ -75,16 +63,7 @@ fn load_after_16(s: &[u8]) -> u8x16
     if s.len() >= 32 {
         return u8x16::from_slice(&s[16..]);
     }
-    moved_to_start(u8x16::from_slice(&s[s.len() - 16..]), 32 - s.len())
-}
-
-// Returns `v` without its first `from` lanes. The other lanes are moved to the start of the vector,
-// and its last `from` lanes are 0.
-fn moved_to_start(v: u8x16, from: usize) -> u8x16
-    requires { from ≤ 16 }
-    ensures { result ≡ drop from v ++ replicate from 0 }
-{
-    v.swizzle_dyn_within::<16>(u8x16::from_slice(&FROM[from..]))
+    shuffle(u8x16::from_slice(&s[s.len() - 16..]), 48 - s.len())
 }
 
 // Returns how many zeros the lanes of `first`, followed by those of `second`, begin with, from 0 to

@@ -93,7 +93,7 @@ overlap whole low high r k low_is high_is =
 
 -- If the word of a slice is shifted right by `k` bytes, the result is the word of the slice without
 -- its first `k` bytes.
-bytes_above : (k : ℕ) (s : List ℕ) → ((i : ℕ) → get_or s i 0 < 256) → word_of s / 2 ^ (k * 8) ≡ word_of (drop k s)
+pub bytes_above : (k : ℕ) (s : List ℕ) → ((i : ℕ) → get_or s i 0 < 256) → word_of s / 2 ^ (k * 8) ≡ word_of (drop k s)
 unfolding word_of
 bytes_above zero s fits = div-one (number_l 256 s)
 bytes_above (suc k) [] fits = zero-div (2 ^ (suc k * 8))
@@ -200,7 +200,7 @@ below_four (a ∷ b ∷ c ∷ d ∷ rest) two first_four last_four some few fits
 -- ---- Digits and zeros of a loaded word
 
 -- Dividing a word by 256 separates its lowest byte from the word of the bytes above it.
-low_and_high : (b word : ℕ) → b < 256 → ((b + 256 * word) % 256 ≡ b) × ((b + 256 * word) / 256 ≡ word)
+pub low_and_high : (b word : ℕ) → b < 256 → ((b + 256 * word) % 256 ≡ b) × ((b + 256 * word) / 256 ≡ word)
 low_and_high b word small = (omega arith, omega arith)
 
 -- Let a word be loaded from the first `k` bytes of a slice, and let the byte 0 not pass a test.

@@ -11,7 +11,7 @@ use Rattle.atoi_core.specs.Digit.{Table, IsBelowTen, is_digit, is_zero}
 use Rattle.atoi_core.specs.Run.{run_len, run, zeros, value}
 use Rattle.atoi_core.specs.Refusal.{Refusal, empty, size, overflow}
 use Rattle.atoi_core.specs.Magnitude.{Class, narrow, wide64, wide128, HasDigits, skipped_zeros, refusal, unless_refused, prefix_magnitude}
-use Rattle.atoi_core.specs.Reading.{Reading, IsSkipped, significant_digits, cap, answer_by_digits, ReadingDecides}
+use Rattle.atoi_core.specs.Reading.{Reading, IsSkipped, significant_digits, cap, answer_by_digits}
 use Rattle.atoi_core.proofs.lemmas.Runs.{prefix_len-take, prefix_len-drop, zeros-le, value-below, value-take-add, value-drop_zeros}
 use Rattle.atoi_core.specs.Window.{window_of}
 use Rattle.atoi_core.specs.declared.window.Window.{Window}
@@ -20,8 +20,7 @@ use Rattle.atoi_core.specs.Loads.{LoadsWithin, most_loads}
 
 -- ---- Readings decide the answers of wide types
 -- A reading is what was read of the first bytes of a slice: the number of their leading digits and
--- leading zeros, and the value of the digits. Wide types have 64 or 128 bits. The lemmas of this
--- section prove the law `ReadingDecides`.
+-- leading zeros, and the value of the digits. Wide types have 64 or 128 bits.
 
 -- After `offset` leading zeros are dropped, the next `count` bytes begin with the zeros that are
 -- left, or with `count` zeros if more are left.
@@ -234,10 +233,6 @@ all_decide t class bound limit less skip s offset digits leading number skipped 
     decided t class bound limit less skip s offset (cap class) digits leading number skipped reading enough
     ∙ ap (λ (n : ℕ). answer_by_digits class bound limit n (significant_digits skip digits leading) number s) at
     ∙ ap (λ (n : ℕ). answer_by_digits class bound limit offset n number s) significant
-
--- The law `ReadingDecides`, put together from its fields.
-pub reading_decides : ReadingDecides
-reading_decides = record { zeros_left = zeros_left; join_readings = join_readings; widened = widened; within = within; below = below; decided = decided; short = short; full = all_decide }
 
 -- ---- What a window says about its slice
 

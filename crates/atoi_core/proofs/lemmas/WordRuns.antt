@@ -258,7 +258,7 @@ shifted_halves (suc z) k word =
 
 -- Shifting a number by z bits and then cutting it to j + z bits is the same as cutting it to j bits
 -- and then shifting it by z bits.
-shift_cut : (a j z : ℕ) → a * 2 ^ z % 2 ^ (j + z) ≡ a % 2 ^ j * 2 ^ z
+pub shift_cut : (a j z : ℕ) → a * 2 ^ z % 2 ^ (j + z) ≡ a % 2 ^ j * 2 ^ z
 shift_cut a j z =
     let p = 2 ^ z in
     let none : a * p ≡ a * p + 0 = omega arith in

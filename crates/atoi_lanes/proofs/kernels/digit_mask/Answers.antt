@@ -1,7 +1,7 @@
 use Rattle.std.proofs.Common.{ℕ, leb, cond, bit_and, refl, arith}
 use Rattle.std.proofs.lemmas.Simd.{zip2_splat, zip2_splat_left, zip2_of_maps}
 use Rattle.atoi_core.specs.Digit.{decimal_table, is_digit}
-use Rattle.atoi_lanes.proofs.lemmas.LoadedLanes.{mask-of_lanes}
+use Rattle.atoi_lanes.proofs.lemmas.Masks.{mask-of_lanes}
 use Rattle.atoi_lanes.proofs.kernels.digit_mask.Goals as goal
 
 -- The lane that the comparison of `a` with `b` returns: all bits are set if `a` is at most `b`, and

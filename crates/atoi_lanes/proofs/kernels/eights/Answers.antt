@@ -1,4 +1,4 @@
-use Rattle.atoi_lanes.proofs.lemmas.LaneSums.{all_levels}
+use Rattle.atoi_lanes.proofs.lemmas.JoinedDigits.{all_levels}
 use Rattle.atoi_lanes.proofs.kernels.eights.Goals as goal
 
 pub returns : goal.returns

@@ -1,7 +1,7 @@
 use Rattle.std.proofs.Common.{◌∙◌, arith}
 use Rattle.std.proofs.lemmas.List.Sums.{prefix_len-le-length}
 use Rattle.atoi_core.specs.Digit.{decimal_table, is_digit}
-use Rattle.atoi_lanes.proofs.lemmas.LoadedLanes.{ones-of_mask}
+use Rattle.atoi_lanes.proofs.lemmas.Masks.{ones-of_mask}
 use Rattle.atoi_lanes.proofs.kernels.len_lanes.Goals as goal
 
 pub returns-clause-len : goal.returns-clause-len

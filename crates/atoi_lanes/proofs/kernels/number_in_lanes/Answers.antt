@@ -1,6 +1,6 @@
 -- The two groups of eight digits make up the value, which fits in 64 bits.
 use Rattle.std.proofs.Common.{arith}
-use Rattle.atoi_lanes.proofs.lemmas.LaneSums.{by_eights}
+use Rattle.atoi_lanes.proofs.lemmas.JoinedDigits.{by_eights}
 use Rattle.atoi_lanes.proofs.kernels.number_in_lanes.Goals as goal
 
 pub overflow_mul-result : goal.overflow_mul-result

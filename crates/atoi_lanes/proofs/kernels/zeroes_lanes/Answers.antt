@@ -2,7 +2,7 @@ use Rattle.std.proofs.Common.{◌<◌, length, eqb, cond, refl, ◌∙◌, arith
 use Rattle.std.proofs.lemmas.Simd.{zip2_splat}
 use Rattle.std.proofs.lemmas.List.Sums.{prefix_len-le-length}
 use Rattle.atoi_core.specs.Digit.{decimal_table, is_zero}
-use Rattle.atoi_lanes.proofs.lemmas.LoadedLanes.{mask-of_lanes, ones-of_mask}
+use Rattle.atoi_lanes.proofs.lemmas.Masks.{mask-of_lanes, ones-of_mask}
 use Rattle.atoi_lanes.proofs.kernels.zeroes_lanes.Goals as goal
 
 pub returns-clause-zeroes : goal.returns-clause-zeroes

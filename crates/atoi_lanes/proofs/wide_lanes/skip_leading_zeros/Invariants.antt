@@ -1,15 +1,16 @@
--- The loop has two invariants: `Skipping` holds, and the last window is a `Reading` of the first 32
--- bytes from its offset on.
-use Rattle.std.proofs.Common.{true, ◌-◌, length, drop}
+-- The zeros before `at` took one load for each 32, and one more if fewer than 32 came last. The
+-- load of the first window, before the call, is among these loads.
+use Rattle.std.proofs.Common.{◌≡◌, ◌+◌, ◌-◌, ◌*◌, ◌<◌, ◌≤◌, min, length}
 use Rattle.atoi_core.specs.Digit.{decimal_table}
-use Rattle.atoi_core.specs.Reading.{Reading}
-use Rattle.atoi_lanes.proofs.lemmas.LaneWindows.{Skipping}
+use Rattle.atoi_core.specs.Run.{zeros}
 use Rattle.atoi_lanes.proofs.wide_lanes.skip_leading_zeros.Given as goal
 
-abbrev pub invariant-loop-reached : goal.invariant-loop-reached
-invariant-loop-reached l =
-    Skipping true l.s l.reached.at l.fn.steps l.steps
-    × Reading decimal_table 32 (drop l.reached.at l.s) l.reached.window.len l.reached.window.zeroes l.reached.window.number
+abbrev pub invariant-loop-window : goal.invariant-loop-window
+invariant-loop-window l = record {
+  within : l.at ≤ length l.s;
+  loads : l.at + 32 * l.initial.steps ≡ min (zeros decimal_table l.s + 32 * l.initial.steps) (32 * (l.steps + 1));
+  zeros_left : 32 * l.steps < zeros decimal_table l.s + 32 * l.initial.steps;
+}
 
-abbrev pub decreases-loop-reached : goal.decreases-loop-reached
-decreases-loop-reached l = length l.s - l.reached.at
+abbrev pub decreases-loop-window : goal.decreases-loop-window
+decreases-loop-window l = length l.s - l.at

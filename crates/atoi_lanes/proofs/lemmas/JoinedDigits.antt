@@ -1,0 +1,184 @@
+-- Neighbouring digits of base t, joined to digits of base t * t, spell the same number. Three
+-- products over the lanes join sixteen digits to two of base 10^8.
+use Rattle.std.proofs.Common.{◌≡◌, ℕ, zero, suc, ◌+◌, ◌*◌, ◌/◌, ◌%◌, ◌^◌, ◌<◌, ◌≤◌, List, [], ◌∷◌, map, length, take, drop, get_or, refl, sym, ap, ap₂, subst, ◌∙◌, arith, Fits, w16}
+use Rattle.std.specs.Int.Bits.{bit_and}
+use Rattle.std.proofs.Math.Arith.{digits_lt}
+use Rattle.std.proofs.Math.Nat.{pow-zero, pow-suc, mul-le-mul_right, div-add-mod, div-lt_iff_lt-mul}
+use Rattle.std.proofs.lemmas.List.{length-drop, take-append-drop, take_all}
+use Rattle.std.proofs.lemmas.Nat.{mul-pow, pow-add, div-mul-add, mod-mul-add, and_mask}
+use Rattle.std.proofs.lemmas.Simd.{Each1-chunk, Each1-weaker}
+use Rattle.atoi_core.specs.Run.{value}
+use Rattle.atoi_core.proofs.lemmas.Runs.{value-append}
+use Rattle.atoi_lanes.specs.Lanes.{itself, paired}
+use lib.Lanes.{Each1, number_l, digits_l, dots}
+
+-- If all digits are below t, all joined digits are below t * t.
+pub paired-below : (t : ℕ) (xs : List ℕ) → Each1 (λ x. x < t) xs → Each1 (λ x. x < t * t) (paired t xs)
+paired-below t [] h = tt
+paired-below t (x ∷ []) h = tt
+paired-below t (x ∷ y ∷ rest) h = (digits_lt {q = x} {m = t} h.0 h.1.0, paired-below t rest h.1.1)
+
+-- If there are m + m digits, there are m joined digits.
+pub length-paired : (t m : ℕ) (xs : List ℕ) → length xs ≡ m + m → length (paired t xs) ≡ m
+length-paired t m [] long = omega arith
+length-paired t m (x ∷ []) long = absurd (omega arith)
+length-paired t zero (x ∷ y ∷ rest) long = absurd (omega arith)
+length-paired t (suc m) (x ∷ y ∷ rest) long = ap suc (length-paired t m rest (omega arith))
+
+-- The number that digits spell in base t, the highest first.
+abbrev in_base : ℕ → List ℕ → ℕ
+in_base t [] = 0
+in_base t (x ∷ xs) = x * t ^ length xs + in_base t xs
+
+-- In base ten, `in_base` returns the value that the specification defines.
+in_ten : (xs : List ℕ) → in_base 10 xs ≡ value itself xs
+in_ten [] = refl
+in_ten (x ∷ xs) = ap (λ n. x * 10 ^ length xs + n) (in_ten xs)
+
+-- If the number of digits is even, the joined digits spell in base t * t the number that the digits
+-- spell in base t.
+number-paired : (t m : ℕ) (xs : List ℕ) → length xs ≡ m + m → in_base (t * t) (paired t xs) ≡ in_base t xs
+number-paired t m [] long = refl
+number-paired t m (x ∷ []) long = absurd (omega arith)
+number-paired t zero (x ∷ y ∷ rest) long = absurd (omega arith)
+number-paired t (suc m) (x ∷ y ∷ rest) long =
+    let power : (t * t) ^ length (paired t rest) ≡ t ^ length rest =
+    ap (λ k. (t * t) ^ k) (length-paired t m rest (omega arith)) ∙ mul-pow t t m ∙ sym (pow-add t m m) ∙ ap (λ k. t ^ k) (omega arith) in
+    let next : t ^ suc (length rest) ≡ t ^ length rest * t = pow-suc t (length rest) in
+    omega (arith, ap (λ p. (x * t + y) * p) power, ap (λ p. x * p) next, number-paired t m rest (omega arith))
+
+-- The number that two digits of base t spell is the first digit times t, plus the second digit.
+-- Both digits are below t.
+number-two : (t : ℕ) (xs : List ℕ) → length xs ≡ 2 → Each1 (λ x. x < t) xs → (get_or xs 0 0 < t) × ((get_or xs 1 0 < t) × (get_or xs 0 0 * t + get_or xs 1 0 ≡ in_base t xs))
+number-two t [] long h = absurd (omega arith)
+number-two t (x ∷ []) long h = absurd (omega arith)
+number-two t (x ∷ y ∷ []) long h = (h.0, (h.1.0, omega (arith, pow-suc t 0, pow-zero t, ap (λ p. x * p) (pow-suc t 0), ap (λ p. y * p) (pow-zero t), ap (λ p. x * (p * t)) (pow-zero t))))
+number-two t (x ∷ y ∷ z ∷ rest) long h = absurd (omega arith)
+
+-- If 16 digits are joined to two numbers of eight digits, both numbers are below 10^8, and the
+-- first times 10^8 plus the second is the value of all 16 digits.
+pub by_eights : (digits : List ℕ) → length digits ≡ 16 → Each1 (λ x. x < 10) digits → (eights : List ℕ) → eights ≡ paired 10000 (paired 100 (paired 10 digits))
+    → (get_or eights 0 0 < 100000000) × ((get_or eights 1 0 < 100000000) × (get_or eights 0 0 * 100000000 + get_or eights 1 0 ≡ value itself digits))
+by_eights digits long below eights made =
+    let pairs = length-paired 10 8 digits long in
+    let fours = length-paired 100 4 (paired 10 digits) pairs in
+    let two = length-paired 10000 2 (paired 100 (paired 10 digits)) fours in
+    let small = paired-below 10000 _ (paired-below 100 _ (paired-below 10 digits below)) in
+    let number = number-two 100000000 eights (ap length made ∙ two) (subst (Each1 (λ x. x < 100000000)) (sym made) small) in
+    (number.0, (number.1.0, number.1.1 ∙ ap (in_base 100000000) made ∙ number-paired 10000 2 _ fours ∙ number-paired 100 4 _ pairs ∙ number-paired 10 8 digits long ∙ in_ten digits))
+
+-- Digits below ten spell a number below 10^n.
+value-digits : (xs : List ℕ) → Each1 (λ x. x < 10) xs → value itself xs < 10 ^ length xs
+value-digits [] h = omega arith
+value-digits (x ∷ xs) h = omega (arith, h.0, value-digits xs h.1, pow-suc 10 (length xs), mul-le-mul_right (10 ^ length xs) h.0)
+
+-- The first of the two numbers is the value of the first eight digits.
+pub by_first_eight : (digits : List ℕ) → length digits ≡ 16 → Each1 (λ x. x < 10) digits → (eights : List ℕ) → eights ≡ paired 10000 (paired 100 (paired 10 digits))
+    → get_or eights 0 0 ≡ value itself (take 8 digits)
+by_first_eight digits long below eights made =
+    let rest = drop 8 digits in
+    let all : take 8 rest ≡ rest = take_all 8 rest (omega (arith, length-drop 8 digits)) in
+    let last = value-digits rest (subst (Each1 (λ x. x < 10)) all (Each1-chunk _ 8 8 digits below)) in
+    let eight : length rest ≡ 8 = omega (arith, length-drop 8 digits) in
+    let power : 10 ^ length rest ≡ 10 ^ 8 = ap (λ n. 10 ^ n) eight in
+    let split = ap (value itself) (sym (take-append-drop 8 digits)) ∙ value-append itself (take 8 digits) rest in
+    omega (arith, by_eights digits long below eights made, last, power, split, ap (λ p. value itself (take 8 digits) * p) power)
+
+-- ---- Joining the two halves of each lane
+
+-- The number that n digits of base p spell is below p^n.
+pub number-lt : (p : ℕ) (xs : List ℕ) → Each1 (λ x. x < p) xs → number_l p xs < p ^ length xs
+number-lt p [] h = omega (arith, pow-zero p)
+number-lt p (x ∷ xs) h = omega (arith, h.0, pow-suc p (length xs), mul-le-mul_right p (number-lt p xs h.1))
+
+-- A number below p^n is spelled by its n digits.
+number-digits : (p n x : ℕ) → 0 < p → x < p ^ n → number_l p (digits_l p n x) ≡ x
+number-digits p zero x some lt = omega (arith, pow-zero p)
+number-digits p (suc n) x some lt =
+    let above : x / p < p ^ n = (div-lt_iff_lt-mul {k = p} some).1 (omega (arith, pow-suc p n)) in
+    ap (λ m. x % p + p * m) (number-digits p n (x / p) some above) ∙ omega (arith, div-add-mod x p)
+
+-- If a step on a field joins the two digits in this field to one, then applying this step to all
+-- fields joins all neighbouring digits. The first digit of a field is in its lower half.
+join_lanes : (p t : ℕ) (step : ℕ → ℕ) → t ≤ p → ((x y : ℕ) → x < t → y < t → step (y * p + x) ≡ x * t + y)
+    → (m : ℕ) (xs : List ℕ) → length xs ≡ m + m → Each1 (λ x. x < t) xs → map step (digits_l (p * p) m (number_l p xs)) ≡ paired t xs
+join_lanes p t step le joins zero [] long h = refl
+join_lanes p t step le joins zero (x ∷ xs) long h = absurd (omega arith)
+join_lanes p t step le joins (suc m) [] long h = absurd (omega arith)
+join_lanes p t step le joins (suc m) (x ∷ []) long h = absurd (omega arith)
+join_lanes p t step le joins (suc m) (x ∷ y ∷ rest) long h =
+    let n = number_l p rest in
+    let field : y * p + x < p * p = digits_lt {q = y} {m = p} (omega (arith, h.1.0)) (omega (arith, h.0)) in
+    let all : x + p * (y + p * n) ≡ n * (p * p) + (y * p + x) = omega arith in
+    ap₂ (λ d ds. d ∷ ds) (ap step (ap (λ k. k % (p * p)) all ∙ mod-mul-add n (p * p) (y * p + x) field) ∙ joins x y h.0 h.1.0)
+    (ap (λ k. map step (digits_l (p * p) m k)) (ap (λ k. k / (p * p)) all ∙ div-mul-add n (p * p) (y * p + x) field)
+    ∙ join_lanes p t step le joins m rest (omega arith) h.1.1)
+
+-- Suppose that p to the power of `length xs` is 256^n. If the number that the digits xs spell in
+-- base p is split into n bytes, then the bytes spell the same number in base 256.
+recast : (p n : ℕ) (xs : List ℕ) → p ^ length xs ≡ 256 ^ n → Each1 (λ x. x < p) xs → number_l 256 (digits_l 256 n (number_l p xs)) ≡ number_l p xs
+recast p n xs same h = number-digits 256 n (number_l p xs) (omega arith) (omega (arith, same, number-lt p xs h))
+
+-- What the third product computes in a lane of 64 bits: its lower half times 10,000, plus its upper
+-- half.
+abbrev eight : ℕ → ℕ
+eight field = (bit_and field 4294967295 * 10000 % 2 ^ 64 + field / 2 ^ 32) % 2 ^ 64
+
+eight-joins : (x y : ℕ) → x < 10000 → y < 10000 → eight (y * 2 ^ 32 + x) ≡ x * 10000 + y
+eight-joins x y a b = rw (and_mask (y * 2 ^ 32 + x) 32) (omega arith)
+
+-- The weights of the bytes in `m` groups of two lanes. Each lane has two bytes and holds a pair of
+-- digits in its upper byte. The upper bytes of a group have the weights 100 and 1, and the lower
+-- bytes have the weight 0. `four_each m` is the number of bytes in all `m` groups.
+abbrev hundreds : ℕ → List ℕ
+hundreds zero = []
+hundreds (suc m) = 0 ∷ 100 ∷ 0 ∷ 1 ∷ hundreds m
+
+abbrev four_each : ℕ → ℕ
+four_each zero = zero
+four_each (suc m) = suc (suc (suc (suc (four_each m))))
+
+-- The upper byte of a lane of 16 bits.
+abbrev upper : ℕ → ℕ
+upper lane = lane / 256
+
+-- `dots` adds up each group of four bytes, multiplied by their weights. With the weights
+-- `hundreds`, it joins neighbouring pairs to numbers of four digits.
+weighed : (m : ℕ) (xs : List ℕ) → length xs ≡ m + m → Each1 (Fits w16) xs
+    → dots (digits_l 256 (four_each m) (number_l 65536 xs)) (hundreds m) ≡ paired 100 (map upper xs)
+weighed zero [] long h = refl
+weighed zero (x ∷ xs) long h = absurd (omega arith)
+weighed (suc m) [] long h = absurd (omega arith)
+weighed (suc m) (x ∷ []) long h = absurd (omega arith)
+weighed (suc m) (x ∷ y ∷ rest) long h =
+    let n = number_l 65536 rest in
+    let all = x + 65536 * (y + 65536 * n) in
+    let low : x < 65536 = h.0.fits in
+    let high : y < 65536 = h.1.0.fits in
+    let first : all / 256 % 256 ≡ x / 256 = omega (arith, low) in
+    let second : all / 256 / 256 / 256 % 256 ≡ y / 256 = omega (arith, low, high) in
+    let following : all / 256 / 256 / 256 / 256 ≡ n = omega (arith, low, high) in
+    ap₂ (λ d ds. d ∷ ds) (omega (arith, first, second))
+    (ap (λ k. dots (digits_l 256 (four_each m) k) (hundreds m)) following ∙ weighed m rest (omega arith) h.1.1)
+
+-- A product modulo 2^16 fits in a lane of 16 bits.
+wrapped : (factor : ℕ) (xs : List ℕ) → Each1 (Fits w16) (map (λ field. field * factor % 65536) xs)
+wrapped factor [] = tt
+wrapped factor (x ∷ xs) = (record { fits = omega arith }, wrapped factor xs)
+
+-- The three products together.
+pub all_levels : (digits : List ℕ) → length digits ≡ 16 → Each1 (λ x. x < 10) digits
+    → map eight (digits_l (2 ^ 64) 2 (number_l 256 (digits_l 256 16 (number_l (2 ^ 32)
+    (dots (digits_l 256 16 (number_l 65536 (map (λ field. field * 2561 % 65536) (digits_l 65536 8 (number_l 256 digits))))) (hundreds 4))))))
+    ≡ paired 10000 (paired 100 (paired 10 digits))
+all_levels digits long below =
+    let lanes = map (λ field. field * 2561 % 65536) (digits_l 65536 8 (number_l 256 digits)) in
+    let pairs : map upper lanes ≡ paired 10 digits = join_lanes 256 10 (λ field. field * 2561 % 65536 / 256) (omega arith) (λ x y a b. omega arith) 8 digits long below in
+    let xs = paired 100 (paired 10 digits) in
+    let fours = weighed 4 lanes refl (wrapped 2561 (digits_l 65536 8 (number_l 256 digits))) ∙ ap (paired 100) pairs in
+    let small : Each1 (λ x. x < 10000) xs = paired-below 100 (paired 10 digits) (paired-below 10 digits below) in
+    let four : length xs ≡ 4 = length-paired 100 4 (paired 10 digits) (length-paired 10 8 digits long) in
+    let wide = Each1-weaker (λ x. x < 10000) (λ x. x < 2 ^ 32) (λ x lt. omega arith) xs small in
+    ap (λ l. map eight (digits_l (2 ^ 64) 2 (number_l 256 (digits_l 256 16 (number_l (2 ^ 32) l))))) fours
+    ∙ ap (λ k. map eight (digits_l (2 ^ 64) 2 k)) (recast (2 ^ 32) 16 xs (ap (λ k. (2 ^ 32) ^ k) four) wide)
+    ∙ join_lanes (2 ^ 32) 10000 eight (omega arith) eight-joins 2 xs four small

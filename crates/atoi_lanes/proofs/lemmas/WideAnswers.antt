@@ -1,0 +1,95 @@
+-- When the windows of 32 bytes that were read decide the answer, and how many loads that takes.
+use Rattle.std.proofs.Common.{◌≡◌, ℕ, ◌+◌, ◌<◌, Bool, true, false, cond, List, length, take, refl, sym, ap, ◌∙◌, arith, ◌-◌, ◌≤◌, drop, ◌⊎◌, ◌*◌, min, inl, inr, ◌^◌, eqb, subst, lit<}
+use Rattle.std.proofs.lemmas.List.{drop-drop, length-drop, take_rest}
+use Rattle.atoi_core.specs.Digit.{decimal_table}
+use Rattle.atoi_core.specs.Loads.{LoadsWithin}
+use Rattle.atoi_core.specs.Reading.{Reading, significant_digits, answer_by_digits}
+use Rattle.atoi_core.proofs.lemmas.Runs.{decimal_below_ten}
+use Rattle.atoi_core.proofs.lemmas.Windows.{zeros_left, join_readings, within, below, decided, all_decide}
+use Rattle.atoi_core.specs.Run.{zeros}
+use Rattle.atoi_core.specs.Window.{window_of}
+use Rattle.atoi_core.specs.declared.window.Window.{Window}
+use Rattle.atoi_lanes.specs.Lanes.{ReadsAfterZeros}
+use Rattle.std.proofs.lemmas.Bool.{cases_lt, false≢true}
+use Rattle.atoi_core.specs.Magnitude.{wide64, wide128, prefix_magnitude}
+use Rattle.atoi_lanes.specs.declared.window_32.Window32.{Window32}
+
+-- The loop is not entered if zeros are not skipped, or if the first window begins with no zero or
+-- is not full of digits. So if the loop is not entered although zeros are skipped and the first
+-- window is full of digits, then this window begins with no zero.
+pub first-ends : (skip : Bool) (len leading : ℕ) → len ≤ 32
+    → ((skip ≡ true) × (0 < leading) × (len ≡ 32 → ⊥)) ⊎ (((skip ≡ true) × (leading ≤ 0)) ⊎ (skip ≡ false))
+    → skip ≡ true → 32 ≤ len → leading ≡ 0
+first-ends skip len leading most ends on full =
+    elim ends [
+      | inl short ↦ absurd (short.2 (omega arith))
+      | inr rest ↦ (elim rest [ inl none ↦ omega (arith, none.1) | inr off ↦ absurd (false≢true (sym off ∙ on)) ])
+    ]
+
+-- A first window that is not full of digits, or begins with no zero that is skipped, is the last.
+-- The slice then begins with fewer than 32 zeros that are skipped.
+pub only_window : (skip : Bool) (s : List ℕ) (len leading number : ℕ) → Reading decimal_table 32 s len leading number
+    → (skip ≡ true → 32 ≤ len → leading ≡ 0) → ReadsAfterZeros skip s 0 len leading number × (skip ≡ true → zeros decimal_table s < 32)
+only_window skip s len leading number reading ends =
+    let reported : leading ≡ min 32 (zeros decimal_table s - 0) = reading.leading_are ∙ zeros_left decimal_table 32 s 0 (omega arith) in
+    let most = within decimal_table 32 s len leading number reading in (
+      record { skipped = record { zeros_only = omega arith; asked = λ _. refl }; reading = reading; within = omega (arith, most.1); ends = ends },
+      λ on. elim (cases_lt len 32) [ inl less ↦ omega (arith, most.0, reported) | inr more ↦ omega (arith, ends on more, reported) ],
+    )
+
+-- One load, or two, are within all bounds if fewer than 32 zeros are skipped.
+pub few_loads : (most unskipped : ℕ) (skip : Bool) (s : List ℕ) (before after : ℕ) → before < after → after ≤ before + unskipped → unskipped ≤ most
+    → (skip ≡ true → zeros decimal_table s < 32) → LoadsWithin most unskipped decimal_table skip s before after
+few_loads most unskipped skip s before after one few room zeros_few =
+    record { at_most = omega arith; at_most_unskipped = λ _. few; at_least = λ _. one; at_least_skipping = λ on. omega (arith, zeros_few on) }
+
+-- ---- Windows of 32 bytes decide the answers
+
+-- All digits of a window are significant, except the zeros at its start if zeros are skipped.
+significant_are : (skip : Bool) (len reported leading : ℕ) → reported ≤ len → ((skip ≡ true) × (leading ≡ reported)) ⊎ ((skip ≡ false) × (leading ≡ 0))
+    → (significant_digits skip len reported ≡ len - leading) × (len - significant_digits skip len reported ≡ leading)
+significant_are true len reported leading most is = elim is [ inl h ↦ (omega (arith, h), omega (arith, h)) | inr h ↦ absurd (false≢true (sym h.0)) ]
+significant_are false len reported leading most is = elim is [ inl h ↦ absurd (false≢true h.0) | inr h ↦ (omega (arith, h), omega (arith, h)) ]
+
+-- For 64 bits, the last window decides the answer.
+pub decided_64 : (bound limit : ℕ) (skip : Bool) (s : List ℕ) (at leading : ℕ) (w : Window32) → limit ≤ 20
+    → ReadsAfterZeros skip s at w.len w.zeroes w.number → ((skip ≡ true) × (leading ≡ w.zeroes)) ⊎ ((skip ≡ false) × (leading ≡ 0))
+    → answer_by_digits wide64 bound limit (at + leading) (w.len - leading) w.number s ≡ prefix_magnitude decimal_table wide64 bound limit skip s
+decided_64 bound limit skip s at leading w few front is =
+    let most = within decimal_table 32 (drop at s) w.len w.zeroes w.number front.reading in
+    let count = significant_are skip w.len w.zeroes leading most.0 is in
+    let enough : (w.len < 32) ⊎ (24 ≤ significant_digits skip w.len w.zeroes) =
+    elim (cases_lt w.len 32) [
+      | inl h ↦ inl h
+      | inr h ↦ inr (elim is [ inl k ↦ omega (arith, k, front.ends k.0 h, count.0) | inr k ↦ omega (arith, k, count.0) ])
+    ] in
+    sym (decided decimal_table wide64 bound limit (omega arith) skip s at 32 w.len w.zeroes w.number front.skipped front.reading enough
+    ∙ ap (λ (n : ℕ). answer_by_digits wide64 bound limit (at + n) (significant_digits skip w.len w.zeroes) w.number s) count.1
+    ∙ ap (λ (n : ℕ). answer_by_digits wide64 bound limit (at + leading) n w.number s) count.0)
+
+-- For 128 bits, a window that is full of digits and the 8 bytes after it decide the answer. The
+-- first three facts are conditions of `answer_128`.
+pub decided_full : (bound : ℕ) (skip : Bool) (s : List ℕ) (at : ℕ) (w : Window32) (back : Window)
+    → ReadsAfterZeros skip s at w.len w.zeroes w.number → 32 ≤ w.len
+    → back ≡ window_of decimal_table 8 (take (length s - (at + 32)) (drop (at + 32) s))
+    → (back.len ≤ 8) × (w.number * 10 ^ back.len + back.number < 10 ^ (32 + back.len)) × (at + (32 + back.len) ≤ length s) × (answer_by_digits wide128 bound 39 at (32 + back.len) (w.number * 10 ^ back.len + back.number) s ≡ prefix_magnitude decimal_table wide128 bound 39 skip s)
+decided_full bound skip s at w back after_skip full reported =
+    let t = decimal_table in
+    let e : back ≡ window_of t 8 (drop 32 (drop at s)) = reported ∙ ap (window_of t 8) (take_rest s (at + 32) ∙ sym (drop-drop 32 at s)) in
+    let body : List ℕ = drop at s in
+    let others : ℕ = zeros t (take 8 (drop 32 body)) in
+    let number : ℕ = w.number * 10 ^ back.len + back.number in
+    let most = within t 32 body w.len w.zeroes w.number after_skip.reading in
+    let len : w.len ≡ 32 = omega (arith, most.1) in
+    let front : Reading t 32 body 32 w.zeroes w.number = let P : ℕ → Type 0 = λ n. Reading t 32 body n w.zeroes w.number in subst P len after_skip.reading in
+    let following : Reading t 8 (drop 32 body) back.len others back.number =
+    record { digits_are = ap (λ v. v.len) e; leading_are = refl; number_is = ap (λ v. v.number) e } in
+    let few : back.len ≤ 8 = omega (arith, (within t 8 (drop 32 body) back.len others back.number following).1) in
+    let leading : ℕ = cond (eqb w.zeroes 32) (32 + others) w.zeroes in
+    let both : Reading t 40 body (32 + back.len) leading number = join_readings t 32 8 body w.zeroes w.number back.len others back.number front following in
+    let none : skip ≡ true → leading ≡ 0 = λ on. let first : w.zeroes ≡ 0 = after_skip.ends on full in rw first refl in (
+      few,
+      below t decimal_below_ten 40 body (32 + back.len) leading number both,
+      omega (arith, after_skip.within, within t 40 body (32 + back.len) leading number both, length-drop at s),
+      sym (all_decide t wide128 bound 39 (lit< tt) skip s at (32 + back.len) leading number after_skip.skipped both none),
+    )
