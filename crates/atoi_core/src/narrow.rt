@@ -8,10 +8,11 @@ ghost use Rattle.atoi_core.specs.Refusal.{answer_of, refusal_of, rank, empty, ov
 ghost use Rattle.atoi_core.specs.Run.{run_len};
 ghost use Rattle.atoi_core.specs.Window.{window_of};
 
-use crate::engine::{Engine, window_after_zeros};
+use crate::engine::Engine;
 use crate::error::AtoiSimdError;
 use crate::steps::Steps;
 use crate::window::Window;
+use crate::zero_loop::window_after_zeros;
 
 /// Parses the integer of at most 32 bits at the start of `s`, which has no sign, and returns its
 /// value and the number of its bytes, including those of the leading zeros.

@@ -9,8 +9,8 @@ ghost use Rattle.atoi_lanes.specs.Lanes.{padded_start};
 
 use crate::kernels::{len_lanes, load_lanes, sum_lanes, zeroes_lanes};
 use atoi_core::Steps;
+use atoi_core::powers::append_digits;
 use atoi_core::reading::reading_decides;
-use atoi_core::wide_answer::append_digits;
 use std::simd::prelude::*;
 
 // The 16 entries from `FROM[n]` on are the indices of a shuffle that drops the first `n` lanes of a
