@@ -54,7 +54,7 @@ pub trait Engine {
             if !skip || window.zeroes == 0 {
                 break window;
             }
-            at += window.zeroes as usize;
+            at += window.zeroes as usize; // At most 16 a turn.
         };
         if first.len < 16 {
             let len = at + first.len as usize;
