@@ -1,31 +1,36 @@
-//! The trait `Alphabet`, which says which bytes are digits, and the function `front_of`, which
-//! reads a window byte by byte with these digits. This module uses only `window`.
+//! Which bytes are digits, and windows that are read byte by byte.
 ghost use Rattle.std.specs.Prelude.{◌≡◌, ◌≤◌, length};
-ghost use Rattle.atoi_core.specs.Digit.{Table, IsBelowTen};
+ghost use Rattle.atoi_core.specs.Digit.{Table, IsBelowTen, decimal_table};
 ghost use Rattle.atoi_core.specs.Run.{run_len, run, value, zeros};
 ghost use Rattle.atoi_core.specs.Window.{window_of};
 
 use crate::window::Window;
 
-/// The digit value of each byte, as a function that code can call.
-///
-/// An `Engine` may have digits other than the decimal ones. If they are those of an `Alphabet`, the
-/// engine can read its windows with `front_of`, and then needs no proof about them.
+/// A table of digits that code can look up. An engine with these digits may read its windows with
+/// `front_of`.
 pub trait Alphabet {
-    /// The digit value of each byte that is a digit, and `None` for every other byte. Only
-    /// contracts can refer to this table.
     ghost table: { Table };
 
-    /// Returns the digit value of `byte`, or `None` if it is no digit.
+    /// Returns the digit value of `byte`, if it is a digit.
     fn digit_value(byte: u8) -> Option<u64>
         ensures { result ≡ table byte };
 
-    /// Each digit value is below ten.
     ghost below_ten: { IsBelowTen table };
 }
 
-/// Returns the window of the first `size` bytes of `s`, or of all its bytes if there are fewer,
-/// read byte by byte in the digits of `A`. `size` is at most 16.
+// The subtraction wraps, so a byte below `b'0'` becomes a number above nine.
+pub(crate) fn digit(byte: u8) -> Option<u64>
+    ensures { result ≡ decimal_table byte }
+{
+    let digit_value = u64::from(byte).wrapping_sub(48);
+    if digit_value <= 9 {
+        Some(digit_value)
+    } else {
+        None
+    }
+}
+
+/// Returns the window of the first `size` bytes of `s`, at most 16.
 ///
 /// `front_of::<Plain>(8, b"00000012x")` has `len` 8, `zeroes` 6 and `number` 12.
 pub fn front_of<A: Alphabet>(size: usize, s: &[u8]) -> Window
@@ -46,7 +51,7 @@ pub fn front_of<A: Alphabet>(size: usize, s: &[u8]) -> Window
     }
 }
 
-// Returns how many digits `s` starts with, and the value that they spell.
+// Returns how many digits `s` starts with, and their value.
 #[inline(always)]
 fn read_run<A: Alphabet>(s: &[u8]) -> (u32, u64)
     requires { length s.now ≤ 16 }
@@ -62,7 +67,6 @@ fn read_run<A: Alphabet>(s: &[u8]) -> (u32, u64)
     (s.len() as u32, number)
 }
 
-// Returns how many zeros `s` starts with.
 fn count_zeros<A: Alphabet>(s: &[u8]) -> u32
     requires { length s.now ≤ 16 }
     ensures { result ≡ zeros A.table s.now }

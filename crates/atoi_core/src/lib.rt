@@ -1,24 +1,5 @@
-//! The parsers that `atoi_simd` and `atoi_lanes` call. They read the digits at the start of a byte
-//! slice as an integer. The crate also has the definitions that say what the parsers return. It
-//! uses only std. Of the items of this crate, only `AtoiSimdError` is public in the Rust crate
-//! `atoi_simd`.
-//!
-//! The comments of this crate use these words:
-//!
-//! - *digit value*: the number, 0 to 9, that a byte has as a digit. The engine says which bytes are
-//!   digits.
-//! - *run*: the longest prefix of a slice that consists of digits.
-//! - *window*: what one read of the first 8 or 16 bytes of a slice returns. It has the length and
-//!   the value of the run of these bytes. If all 8 or 16 bytes are there and are digits, it also
-//!   has the number of their leading zeros.
-//! - *load*: one read of a window, counted on `Steps`.
-//! - *engine*: an implementation of these reads, such as `Plain` and `Words`.
-//! - *body*: a slice after its sign.
-//! - *magnitude*: a value without its sign.
-//! - *significant digits*: the digits after the skipped leading zeros, or all digits if zeros are
-//!   not skipped.
-//! - *narrow*: of at most 32 bits. The *wide* types have 64 or 128 bits.
-//! - *core call*: a call of `whole_pos`, `whole_neg`, `prefix_pos` or `prefix_neg`.
+//! The parsers that `atoi_simd` and `atoi_lanes` share, over any engine, and the definitions of what
+//! they return. `AtoiSimdError` alone is public in the Rust crate `atoi_simd` too.
 #![tactic(auto)]
 
 mod alphabet;
@@ -31,6 +12,7 @@ pub mod laws;
 mod narrow;
 mod number;
 mod plain;
+pub mod powers;
 mod prefix_128;
 mod sign;
 mod steps;
@@ -41,6 +23,7 @@ mod window;
 mod with_sign;
 mod word_engine;
 pub mod words;
+mod zero_loop;
 
 pub use crate::alphabet::{Alphabet, front_of};
 pub use crate::core_calls::{prefix_neg, prefix_pos, whole_neg, whole_pos};

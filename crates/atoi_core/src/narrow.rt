@@ -7,10 +7,11 @@ ghost use Rattle.atoi_core.specs.Refusal.{answer_of, overflow};
 ghost use Rattle.atoi_core.specs.Run.{run_len};
 ghost use Rattle.atoi_core.specs.Window.{window_of};
 
-use crate::engine::{Engine, window_after_zeros};
+use crate::engine::Engine;
 use crate::error::AtoiSimdError;
 use crate::steps::Steps;
 use crate::window::Window;
+use crate::zero_loop::window_after_zeros;
 
 /// Parses the digits at the start of `s`, and returns their value, at most `bound`, and their number.
 ///

@@ -1,75 +1,73 @@
-//! The integer types that a parse can return. This file uses no other module. All that a parse
-//! needs to know of a type are the constants and conversions here.
-ghost use Rattle.std.specs.Prelude.{◌≡◌, ◌+◌, ◌≤◌, ◌<ℤ◌, ◌↔◌, ℕ, ℤ, pos, Bool, true, false, IsTrue, refl};
+//! What a parse needs to know of an integer type.
+ghost use Rattle.std.specs.Prelude.{◌≡◌, ◌+◌, ◌^◌, ◌<◌, ◌≤◌, ◌<ℤ◌, ◌↔◌, ℕ, ℤ, pos, Bool, true, false, IsTrue, refl};
 ghost use Rattle.std.proofs.Common.{inl, inr};
-ghost use Rattle.atoi_core.specs.IntType.{IntType, IsSized, IsTypeOf, bound_of, u8_type, i8_type, u16_type, i16_type, u32_type, i32_type, u64_type, i64_type, u128_type, i128_type, usize_type, isize_type};
+ghost use Rattle.atoi_core.specs.IntType.{IntType, IsSized, IsTypeOf, bound_of, limit_of, u8_type, i8_type, u16_type, i16_type, u32_type, i32_type, u64_type, i64_type, u128_type, i128_type, usize_type, isize_type};
+ghost use Rattle.atoi_core.specs.Magnitude.{HasDigits};
 ghost use Rattle.atoi_core.specs.Sign.{with_sign};
 
-/// An integer type that a parse can return.
-///
-/// Types of at most 32 `BITS` are called *narrow*. The narrow types, the types of 64 bits and the
-/// types of 128 bits each have parsers of their own.
+/// An integer type that a parse can return: a *narrow* one of at most 32 bits, or a *wide* one of 64
+/// or 128.
 pub trait Number: Copy {
     /// The number of bits: 8, 16, 32, 64 or 128.
     const BITS: u32;
 
     ghost BITS: { ℕ };
 
-    /// Whether the type has negative values.
     const SIGNED: bool;
 
     ghost SIGNED: { Bool };
 
-    /// The largest value: `2^BITS - 1`, or `2^(BITS - 1) - 1` if the type is signed.
+    /// The largest value.
     const GREATEST: u128;
 
     ghost GREATEST: { ℕ };
 
-    /// The three constants in one record, which contracts use to refer to the type.
     ghost int_type: { IntType };
 
-    /// The integer that a value means.
     ghost number: { Self → ℤ };
 
-    /// Returns `value`, which is at most `GREATEST`, as a value of the type.
     fn from_pos(value: u128) -> Self
         requires { value ≤ GREATEST }
         ensures { number result ≡ pos value };
 
-    /// Returns whether the value is negative, and its magnitude, which is the value without its
-    /// sign. The magnitude is at most `GREATEST`, or at most `GREATEST + 1` if the value is
-    /// negative. So every value is in the range that the constants give.
+    /// Returns whether the value is negative, and its *magnitude*, the value without its sign.
     fn parts(self) -> (bool, u128)
         ensures number { with_sign result.0 result.1 ≡ number self }
         ensures negative { IsTrue result.0 ↔ (number self <ℤ pos 0) }
         ensures in_range { result.1 ≤ bound_of int_type result.0 };
 
-    /// The record `int_type` has the three constants.
     ghost type_is: { IsTypeOf int_type BITS SIGNED GREATEST };
 
-    /// The constants agree: `BITS` is one of the five sizes, and `GREATEST` is the largest value of
-    /// a type of that size, which is signed or unsigned as `SIGNED` says.
     ghost sized: { IsSized int_type };
 }
 
 /// An integer type with negative values.
 pub trait Signed: Number {
-    /// The magnitude of the smallest value, which is that value without its minus: one more than
-    /// `GREATEST`.
+    /// The magnitude of the smallest value.
     const LEAST_MAGNITUDE: u128;
 
     ghost LEAST_MAGNITUDE: { ℕ };
 
-    /// Returns minus `magnitude`, which is at most `LEAST_MAGNITUDE`, as a value of the type.
+    /// Returns minus `magnitude`.
     fn from_neg(magnitude: u128) -> Self
         requires { magnitude ≤ LEAST_MAGNITUDE }
         ensures { Self.number result ≡ with_sign true magnitude };
 
-    /// The type has negative values.
     ghost signed: { Self.SIGNED ≡ true };
 
-    /// The smallest value is one further from 0 than the largest.
     ghost least: { LEAST_MAGNITUDE ≡ Self.GREATEST + 1 };
+}
+
+// Returns the magnitude of `T::MIN` if `minus` is set, otherwise `T::MAX`.
+pub(crate) fn greatest_magnitude<T: Number>(minus: bool) -> u128
+    requires signed { minus ≡ true → T.SIGNED ≡ true }
+    ensures value { result ≡ bound_of T.int_type minus }
+    ensures narrow_low { T.BITS ≤ 32 → 9 ≤ result }
+    ensures narrow_high { T.BITS ≤ 32 → result ≤ 4294967295 }
+    ensures fits_64 { T.BITS ≡ 64 → result < 2 ^ 64 }
+    ensures digits { 32 < T.BITS → HasDigits (limit_of T.int_type) result }
+{
+    T::GREATEST + u128::from(minus)
 }
 
 impl Number for u8 {

@@ -1,16 +1,14 @@
-//! The engine that reads a window byte by byte. It is the reference for the faster ones. It uses
-//! `alphabet`, `engine`, `steps`, `window` and the decimal digits of `digit_loop`.
+//! The reference for the faster engines.
 ghost use Rattle.atoi_core.specs.Digit.{decimal_table};
 ghost use Rattle.std.proofs.Common.{arith};
 ghost use Rattle.std.proofs.lemmas.Bool.Decides.{nat_tests};
 
-use crate::alphabet::{Alphabet, front_of};
-use crate::digit_loop::digit;
+use crate::alphabet::{Alphabet, digit, front_of};
 use crate::engine::Engine;
 use crate::steps::Steps;
 use crate::window::Window;
 
-/// The engine that reads byte by byte. Its digits are the decimal ones, `b'0'` to `b'9'`.
+/// The engine that reads decimal digits byte by byte.
 pub struct Plain;
 
 impl Alphabet for Plain {

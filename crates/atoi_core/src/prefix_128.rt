@@ -1,6 +1,4 @@
-//! The parse of an integer of 128 bits at the start of a slice. Inlined code finds the answer for
-//! every run of fewer than 16 digits, and for most runs of 16 to 31 digits. For all other runs the
-//! engine is called. This module uses `engine`, `window`, `wide_answer`, `steps` and `error`.
+//! The parse of 128 bits at the start of a slice: two windows inlined, then the engine.
 ghost use Rattle.std.specs.Prelude.{◌≡◌, ◌+◌, ◌-◌, ◌<◌, ◌≤◌, ℕ, false, IsTrue, None, IfSome, Ok};
 ghost use Rattle.atoi_core.specs.Loads.{LoadsWithin, most_loads};
 ghost use Rattle.atoi_core.specs.Magnitude.{HasDigits, wide128, prefix_magnitude};
@@ -10,26 +8,20 @@ ghost use Rattle.atoi_core.specs.Window.{window_of};
 
 use crate::engine::Engine;
 use crate::error::AtoiSimdError;
+use crate::powers::append_digits;
 use crate::steps::Steps;
-use crate::wide_answer::append_digits;
 use crate::window::Window;
 
-/// Returns what `Engine::prefix_128` returns, but reads the first two windows in inlined code. A
-/// number of fewer than 32 digits is never above the bound, which has 39 digits. `whole` says
-/// whether the caller accepts `s` only if all its bytes are digits.
-///
-/// The engine is called, and loads again what was read, in three cases: there are 32 digits or
-/// more; the first window is full and starts with zeros that are to be skipped; or it is full,
-/// `whole` is set and `s` has at least 32 bytes.
+/// As `Engine::prefix_128`. If `WHOLE` is set, all of `s` has to be digits, so the engine is called
+/// at once for 32 bytes or more. It loads again what was read here.
 ///
 /// # Errors
 ///
-/// Those of `Engine::prefix_128`.
+/// `Empty`, `Size` and `Overflow`.
 #[inline(always)]
-pub(crate) fn prefix_128_inline<'a, E: Engine>(
+pub(crate) fn prefix_128_inline<'a, E: Engine, const WHOLE: bool>(
     bound: u128,
     skip: bool,
-    whole: bool,
     s: &'a [u8],
     steps: &mut Steps,
 ) -> Result<(u128, usize), AtoiSimdError<'a>>
@@ -38,15 +30,13 @@ pub(crate) fn prefix_128_inline<'a, E: Engine>(
     ensures loads { LoadsWithin (most_loads E.table wide128 s.now) 5 E.table skip s.now
         steps.old steps.new }
 {
-    match first_two_windows::<E>(skip, whole, s, steps) {
+    match first_two_windows::<E, WHOLE>(skip, s, steps) {
         Some(answer) => answer,
         None => prefix_128_cold::<E>(bound, skip, s, steps),
     }
 }
 
-// Calls `E::prefix_128` and matches its result. The call and the match are kept in a separate
-// function, which is itself inlined, so that the stack slot of the result is cleared only on the
-// path that makes the call.
+// Cold: see DECISIONS.
 #[inline(always)]
 fn prefix_128_cold<'a, E: Engine>(
     bound: u128,
@@ -65,11 +55,10 @@ fn prefix_128_cold<'a, E: Engine>(
     }
 }
 
-// Returns the answer of the first two windows, or `None` if the engine is to be called.
+// Returns `None` if the engine is to be called.
 #[inline(always)]
-fn first_two_windows<'a, E: Engine>(
+fn first_two_windows<'a, E: Engine, const WHOLE: bool>(
     skip: bool,
-    whole: bool,
     s: &'a [u8],
     steps: &mut Steps,
 ) -> Option<Result<(u128, usize), AtoiSimdError<'a>>>
@@ -77,12 +66,12 @@ fn first_two_windows<'a, E: Engine>(
         → answer_of answer ≡ prefix_magnitude E.table wide128 bound 39 skip s.now) }
     ensures loads { IfSome result (λ answer.
         LoadsWithin (most_loads E.table wide128 s.now) 2 E.table skip s.now steps.old steps.new) }
-    ensures none_only_from_32 { result ≡ None → skip ≡ false → whole ≡ false → 32 ≤ run_len E.table s.now }
+    ensures none_only_from_32 { result ≡ None → skip ≡ false → WHOLE ≡ false → 32 ≤ run_len E.table s.now }
     ensures fewest { steps.old < steps.new }
     ensures most { steps.new ≤ steps.old + 2 }
 {
     let first = E::window(s, steps);
-    if first.len == 16 && whole && s.len() >= 32 {
+    if WHOLE && first.len == 16 && s.len() >= 32 {
         None
     } else if first.len == 0 {
         Some(Err(AtoiSimdError::Empty))
@@ -96,9 +85,8 @@ fn first_two_windows<'a, E: Engine>(
     }
 }
 
-// Returns the value and the length of a run of 16 to 31 digits, when the first window is full.
-// Returns `None` if there are 32 digits or more, or if the run starts with zeros that are to be
-// skipped.
+// Returns the answer after a full first window, or `None` if there are zeros to skip or at least 32
+// digits.
 #[inline(always)]
 fn second_window<E: Engine>(
     skip: bool,

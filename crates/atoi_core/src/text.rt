@@ -1,11 +1,98 @@
-//! Functions that write bytes, hexadecimal numbers and decimal numbers into a slice. This file uses
-//! no other module.
-ghost use Rattle.std.specs.Prelude.{◌≡◌, ◌+◌, ◌-◌, ◌*◌, ◌^◌, ◌<◌, ◌≤◌, ◌∷◌, [], ◌++◌, true, length, take, decimal, IsAscii};
+//! The text of an error, and the decimal and hexadecimal numbers in it, written into a slice.
+ghost use Rattle.std.specs.Prelude.{◌≡◌, ◌+◌, ◌-◌, ◌*◌, ◌^◌, ◌<◌, ◌≤◌, ◌∷◌, [], ◌++◌, true, Some, length, take, codes, decimal, IsAscii};
 ghost use Rattle.std.specs.Fmt.{digit_glyph};
-ghost use Rattle.atoi_core.specs.ErrorText.{hex_text, hex_list};
+ghost use Rattle.atoi_core.specs.ErrorText.{hex_text, hex_list, input_text, error_text};
+ghost use Rattle.atoi_core.specs.Refusal.{refusal_of};
 
-/// Writes the decimal digits of `value` to the start of `out`, and returns how many there are, from
-/// 1 to 39. There are no leading zeros, and zero is one digit. The rest of `out` is unspecified.
+use crate::error::AtoiSimdError;
+use std::fmt;
+use std::str::from_utf8;
+
+impl AtoiSimdError<'_> {
+    /// Writes what `Display` prints to the start of `out`, and returns its length. It shows at most
+    /// 48 bytes of the slice, in hexadecimal.
+    pub fn text(&self, out: &mut [u8; 400]) -> usize
+        ensures text { take result out.new ≡ error_text (refusal_of self.now) }
+        ensures fits { result ≤ 332 }
+        ensures ascii { IsAscii (error_text (refusal_of self.now)) }
+    {
+        match *self {
+            AtoiSimdError::Empty => put_bytes(b"atoi_simd string is empty", out, 0),
+            AtoiSimdError::Size(length, input) => {
+                let end = put_bytes(b"atoi_simd wrong size: ", out, 0);
+                let end = put_decimal(length as u128, out, end);
+                let end = put_bytes(b" input: ", out, end);
+                put_input(input, out, end)
+            }
+            AtoiSimdError::Overflow(input) => {
+                let end = put_bytes(b"atoi_simd overflow, input: ", out, 0);
+                put_input(input, out, end)
+            }
+            AtoiSimdError::Invalid64(number, index, input) => {
+                let end = put_invalid(number as u128, index, out);
+                let end = put_bytes(b"  input: ", out, end);
+                put_input(input, out, end)
+            }
+            AtoiSimdError::Invalid128(number, index, input) => {
+                let end = put_invalid(number, index, out);
+                let end = put_bytes(b" input: ", out, end);
+                put_input(input, out, end)
+            }
+        }
+    }
+}
+
+// The width, fill and alignment of the caller's format are ignored.
+impl fmt::Display for AtoiSimdError<'_> {
+    ghost output = { λ error. Some (error_text (refusal_of error)) };
+
+    ghost styled_output = { λ error _. Some (error_text (refusal_of error)) };
+
+    fn fmt<W: fmt::Write>(&self, f: &mut fmt::Formatter<W>) -> fmt::Result {
+        let mut out = [0; 400];
+        let length = self.text(&mut out);
+        f.write_str(from_utf8(&out[..length]).unwrap())
+    }
+}
+
+const SHOWN_BYTES: usize = 48;
+
+#[tactic(auto, using(std::proofs::lemmas::List::take_min))]
+fn shown(input: &[u8]) -> &[u8]
+    ensures front { result.now ≡ take SHOWN_BYTES input.now }
+    ensures fits { length result.now ≤ SHOWN_BYTES }
+{
+    &input[..SHOWN_BYTES.min(input.len())]
+}
+
+// Writes the shown bytes of `input` in brackets.
+fn put_input(input: &[u8], out: &mut [u8], at: usize) -> usize
+    requires { at + 192 ≤ length out.old }
+    ensures written { take result out.new ≡ take at out.old ++ input_text input.now }
+    ensures fits { result ≤ at + 192 }
+    ensures ascii { IsAscii (input_text input.now) }
+{
+    let end = put_bytes(b"[", out, at);
+    let end = put_hex_list(shown(input), out, end);
+    put_bytes(b"]", out, end)
+}
+
+// Writes what the texts of `Invalid64` and `Invalid128` start with.
+fn put_invalid(number: u128, index: usize, out: &mut [u8; 400]) -> usize
+    ensures written { take result out.new
+        ≡ codes "atoi_simd invalid at index: " ++ decimal index
+        ++ codes " it must contain only digits, starting with: " ++ decimal number }
+    ensures fits { result ≤ 132 }
+    ensures fits_of_64_bits { number < 2 ^ 64 → result ≤ 113 }
+{
+    let end = put_bytes(b"atoi_simd invalid at index: ", out, 0);
+    let end = put_decimal(index as u128, out, end);
+    let end = put_bytes(b" it must contain only digits, starting with: ", out, end);
+    put_decimal(number, out, end)
+}
+
+/// Writes the decimal digits of `value`, without leading zeros, to the start of `out`. Returns how
+/// many there are.
 pub fn decimal(value: u128, out: &mut [u8; 39]) -> usize
     ensures digits { take result out.new ≡ decimal value }
     ensures length { result ≡ length (decimal value) }
@@ -15,10 +102,9 @@ pub fn decimal(value: u128, out: &mut [u8; 39]) -> usize
     put_decimal(value, out, 0)
 }
 
-// Writes `bytes` into `out` from index `at` on, and returns the index after them. The bytes of
-// `out` before index `at` are kept; the rest of `out` is unspecified. The other `put_` functions
-// here do the same with what they write.
-pub(crate) fn put_bytes(bytes: &[u8], out: &mut [u8], at: usize) -> usize
+// Writes `bytes` into `out` from offset `at` on, and returns the offset after them, as the other
+// `put_` functions do with what they write.
+fn put_bytes(bytes: &[u8], out: &mut [u8], at: usize) -> usize
     requires { at + length bytes.now ≤ length out.old }
     ensures written { take result out.new ≡ take at out.old ++ bytes.now }
     ensures place { result ≡ at + length bytes.now }
@@ -37,9 +123,8 @@ fn put_byte(byte: u8, out: &mut [u8], at: usize) -> usize
     at + 1
 }
 
-// Writes `value` in decimal, without leading zeros.
 #[tactic(auto, using(std::proofs::lemmas::Fmt::decimal_digit))]
-pub(crate) fn put_decimal(value: u128, out: &mut [u8], at: usize) -> usize
+fn put_decimal(value: u128, out: &mut [u8], at: usize) -> usize
     requires { at + 39 ≤ length out.old }
     ensures written { take result out.new ≡ take at out.old ++ decimal value }
     ensures place { result ≡ at + length (decimal value) }
@@ -55,7 +140,6 @@ pub(crate) fn put_decimal(value: u128, out: &mut [u8], at: usize) -> usize
     put_byte(last, out, end)
 }
 
-// Writes `byte` in hexadecimal capitals, without a leading zero.
 #[tactic(auto, using(crate::proofs::lemmas::Errors::hex_text_of_one_digit))]
 fn put_hex(byte: u8, out: &mut [u8], at: usize) -> usize
     requires { at + 2 ≤ length out.old }
@@ -81,10 +165,7 @@ fn hex_digit(digit: u8) -> u8
     }
 }
 
-// Writes the bytes in hexadecimal, separated by a comma and a space. Each byte takes at most four
-// bytes of `out`, including the comma and the space after it. The last byte has neither after it,
-// and takes at most two.
-pub(crate) fn put_hex_list(bytes: &[u8], out: &mut [u8], at: usize) -> usize
+fn put_hex_list(bytes: &[u8], out: &mut [u8], at: usize) -> usize
     requires { at + (4 * length bytes.now - 2) ≤ length out.old }
     ensures written { take result out.new ≡ take at out.old ++ hex_list bytes.now }
     ensures fits { result ≤ at + (4 * length bytes.now - 2) }

@@ -1,5 +1,4 @@
-//! The parses of a whole slice into integers of 64 and of 128 bits, with any engine. This module
-//! uses `prefix_128`, `engine`, `steps` and `error`.
+//! The parses of a whole slice for the wide types: a prefix that must be all of it.
 ghost use Rattle.std.specs.Prelude.{◌≡◌, ◌≤◌};
 ghost use Rattle.atoi_core.specs.Loads.{LoadsWithin, most_loads};
 ghost use Rattle.atoi_core.specs.Magnitude.{HasDigits, wide64, wide128, whole_magnitude};
@@ -10,16 +9,11 @@ use crate::error::AtoiSimdError;
 use crate::prefix_128::prefix_128_inline;
 use crate::steps::Steps;
 
-/// Parses all of `s`, which has no sign, as an integer of 64 bits, and returns its value.
-///
-/// `bound` is the largest value that is accepted, and has exactly `limit` digits; `limit` is 17 to
-/// 20. With `skip`, leading zeros do not count towards `limit`. `steps` counts the loads.
+/// As `Engine::prefix_64`, for all of `s`.
 ///
 /// # Errors
 ///
-/// Those of `Engine::prefix_64`. If none of them applies and another byte follows the digits, the
-/// error is `Invalid64(value, index, s)`. `value` is what the digits spell, and `index` is the
-/// position of that byte in `s`.
+/// `Empty`, `Size`, `Overflow` and `Invalid64`.
 #[inline(always)]
 pub fn whole_64<'a, E: Engine>(
     bound: u64,
@@ -43,17 +37,11 @@ pub fn whole_64<'a, E: Engine>(
     }
 }
 
-/// Parses all of `s`, which has no sign, as an integer of 128 bits, and returns its value.
-///
-/// `bound` is the largest value that is accepted, and has exactly 39 digits, which is the limit of
-/// significant digits. With `skip`, leading zeros do not count towards this limit. `steps` counts
-/// the loads.
+/// As `Engine::prefix_128`, for all of `s`.
 ///
 /// # Errors
 ///
-/// Those of `Engine::prefix_128`. If none of them applies and another byte follows the digits, the
-/// error is `Invalid128(value, index, s)`. `value` is what the digits spell, and `index` is the
-/// position of that byte in `s`.
+/// `Empty`, `Size`, `Overflow` and `Invalid128`.
 #[inline(always)]
 pub fn whole_128<'a, E: Engine>(
     bound: u128,
@@ -66,7 +54,7 @@ pub fn whole_128<'a, E: Engine>(
     ensures loads { LoadsWithin (most_loads E.table wide128 s.now) 5 E.table skip s.now
         steps.old steps.new }
 {
-    let (number, len) = prefix_128_inline::<E>(bound, skip, true, s, steps)?;
+    let (number, len) = prefix_128_inline::<E, true>(bound, skip, s, steps)?;
     if len == s.len() {
         Ok(number)
     } else {

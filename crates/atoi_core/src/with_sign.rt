@@ -1,11 +1,6 @@
-//! The answer for either sign, from one parse. A *magnitude* is a value without its sign.
-//! `parse_signed` and `parse_prefix_signed` always parse the body as the digits of a negative
-//! number, so the largest magnitude that this parse accepts is that of `T::MIN`. The functions here
-//! derive the answer for the actual sign from the answer of this parse. Of the magnitudes that the
-//! parse accepts, only that of `T::MIN` is out of range without a minus. The magnitude of `T::MIN`
-//! has a known number of digits, and all digits before these are leading zeros. So the number of
-//! all digits is enough to find where the slice in the error `Overflow` begins. The file uses
-//! `error`, `engine` and `number`.
+//! The answer for either sign from that for a minus. Only the magnitude of `T::MIN` differs: without
+//! a minus it is out of range, and since its digits are known, the count of all digits says how
+//! many zeros lead.
 ghost use Rattle.std.specs.Prelude.{List, ◌≡◌, ◌<◌, ◌≤◌, ℕ, true, not, nat_lt, if◌then◌else◌, Some, None, length, drop};
 ghost use Rattle.std.specs.Option.{option_map};
 ghost use Rattle.atoi_core.specs.Answer.{typed_answer, typed_prefix_answer, whole_answer, prefix_answer};
@@ -17,10 +12,9 @@ ghost use Rattle.atoi_core.specs.Sign.{with_sign};
 
 use crate::engine::Engine;
 use crate::error::AtoiSimdError;
-use crate::number::Signed;
+use crate::number::{Signed, greatest_magnitude};
 
-/// Returns the answer for all of `s` as the digits of a number, which is negative if `minus` is
-/// set. `negative` is the answer for `s` as the digits of a negative number.
+/// Returns the answer for all of `s` as digits after a minus, or after none, from that after a minus.
 #[inline(always)]
 pub(crate) fn whole_with_sign<'a, E: Engine, T: Signed>(
     minus: bool,
@@ -45,7 +39,7 @@ pub(crate) fn whole_with_sign<'a, E: Engine, T: Signed>(
     }
 }
 
-/// As `whole_with_sign`, for the number at the start of `s` and the count of its digits.
+/// As `whole_with_sign`, for the number at the start of `s`.
 #[inline(always)]
 pub(crate) fn prefix_with_sign<'a, E: Engine, T: Signed>(
     minus: bool,
@@ -67,22 +61,19 @@ pub(crate) fn prefix_with_sign<'a, E: Engine, T: Signed>(
     }
 }
 
-// Returns `negative` itself if `minus` is set. Otherwise returns its magnitude as a `T`, or `None`
-// if that magnitude is out of range. Except in the rare case that the comment below names, no
-// branch depends on the sign, which only selects one of two numbers.
+// Returns `negative` with its minus only if `minus` is set, or `None` if that is out of range.
 fn checked_with_sign<T: Signed>(minus: bool, negative: T) -> Option<T>
     ensures { (magnitude : ℕ) → T.number negative ≡ with_sign true magnitude
         → option_map T.number result ≡ (if nat_lt (bound_of T.int_type minus) magnitude then None
         else Some (with_sign minus magnitude)) }
 {
     let (_, magnitude) = negative.parts();
-    // For types of at most 64 bits, one is added to a magnitude without a minus, so that one
-    // comparison serves both signs. With 128 bits that addition costs more than it saves, so this
-    // check looks at the sign only if the magnitude is above `T::MAX`.
+    // No branch on the sign, which a random sign would mispredict; with 128 bits there is one for
+    // `T::MIN` alone, since the addition costs more.
     let is_above = if T::BITS <= 64 {
         magnitude as u64 + u64::from(!minus) > T::LEAST_MAGNITUDE as u64
     } else {
-        magnitude > T::GREATEST && has_no_minus_cold(minus)
+        magnitude > T::GREATEST && not_inlined(minus)
     };
     if is_above {
         None
@@ -93,24 +84,21 @@ fn checked_with_sign<T: Signed>(minus: bool, negative: T) -> Option<T>
     }
 }
 
-// Never inlined: otherwise the compiler would branch on the sign first, for every number, and with
-// mixed signs that branch is mispredicted.
+// Never inlined: the compiler would test the sign first, for every number.
 #[inline(never)]
-fn has_no_minus_cold(minus: bool) -> bool
+fn not_inlined(minus: bool) -> bool
     ensures { result ≡ not minus }
 {
     !minus
 }
 
-// If `error` is `Invalid64` or `Invalid128` and the value in it is out of range, returns the index
-// in it, which is the number of digits. Otherwise returns `None`. The largest value in range is the
-// magnitude of `T::MIN` if `minus` is set, otherwise `T::MAX`.
+// Returns the number of digits if `error` holds a value that is out of range with this sign.
 fn digits_if_above<T: Signed>(minus: bool, error: AtoiSimdError<'_>) -> Option<usize>
     ensures { let reason = refusal_of error.entry in
         result ≡ (if nat_lt (bound_of T.int_type minus) (number_in reason) then Some (index_in reason)
         else None) }
 {
-    let bound = T::GREATEST + u128::from(minus);
+    let bound = greatest_magnitude::<T>(minus);
     match error {
         AtoiSimdError::Invalid64(number, index, _) if u128::from(number) > bound => Some(index),
         AtoiSimdError::Invalid128(number, index, _) if number > bound => Some(index),
@@ -118,8 +106,7 @@ fn digits_if_above<T: Signed>(minus: bool, error: AtoiSimdError<'_>) -> Option<u
     }
 }
 
-// Returns the slice in the error `Overflow` for all of `s`, which starts with `count` digits that
-// spell the magnitude of `T::MIN`.
+// Returns the slice of `Overflow` if the `count` digits of `s` spell the magnitude of `T::MIN`.
 #[tactic(auto, using(crate::proofs::lemmas::Bounds::dropped_whole, crate::proofs::lemmas::Bounds::run_within))]
 fn whole_overflow<'a, E: Engine, T: Signed>(skip: bool, count: usize, s: &'a [u8]) -> &'a [u8]
     requires digits { count ≡ run_len E.table s.now }
@@ -134,9 +121,7 @@ fn whole_overflow<'a, E: Engine, T: Signed>(skip: bool, count: usize, s: &'a [u8
     }
 }
 
-// As `whole_overflow`, for the number at the start of `s`. With `skip`, for types of at most 32
-// bits, the slice leaves out the zeros that fill whole blocks of 16 bytes, and all leading zeros if
-// the 16 bytes after these blocks are digits.
+// As `whole_overflow`, for the number at the start of `s`.
 #[tactic(auto, using(crate::proofs::lemmas::Bounds::dropped_prefix, crate::proofs::lemmas::Bounds::run_within))]
 fn prefix_overflow<'a, E: Engine, T: Signed>(skip: bool, count: usize, s: &'a [u8]) -> &'a [u8]
     requires digits { count ≡ run_len E.table s.now }
@@ -152,9 +137,7 @@ fn prefix_overflow<'a, E: Engine, T: Signed>(skip: bool, count: usize, s: &'a [u
     }
 }
 
-// Returns how many leading zeros are skipped among `count` digits that spell the magnitude of
-// `T::MIN`. With `skip` these are all digits except those of the magnitude itself; without `skip`
-// there are none.
+// Returns how many zeros are skipped among `count` digits that spell the magnitude of `T::MIN`.
 #[tactic(auto, using(crate::proofs::lemmas::Bounds::leading_zeros))]
 fn leading_zeros<E: Engine, T: Signed>(skip: bool, count: usize) -> usize
     ensures zeros { (s : List ℕ) → count ≡ run_len E.table s
@@ -168,7 +151,6 @@ fn leading_zeros<E: Engine, T: Signed>(skip: bool, count: usize) -> usize
     }
 }
 
-// Returns how many digits the magnitude of `T::MIN` has.
 fn digits_of_min<T: Signed>() -> usize
     ensures { HasDigits result T.LEAST_MAGNITUDE }
 {

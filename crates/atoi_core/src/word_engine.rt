@@ -11,12 +11,14 @@ ghost use Rattle.std.specs.Int.Bits.{bit_and};
 ghost use Rattle.std.proofs.Common.{arith};
 ghost use Rattle.std.proofs.lemmas.Bool.Decides.{nat_tests};
 
-use crate::engine::{Engine, window_after_zeros};
+use crate::engine::Engine;
 use crate::error::AtoiSimdError;
+use crate::powers::{append_digits, power_of_ten};
 use crate::steps::Steps;
-use crate::wide_answer::{answer_64, append_digits, power_of_ten};
+use crate::wide_answer::answer_64;
 use crate::window::Window;
 use crate::words::load_high;
+use crate::zero_loop::window_after_zeros;
 
 // Eight zeros, each the byte 48.
 const ZEROS: u64 = 0x3030_3030_3030_3030;

@@ -1,7 +1,4 @@
-//! The trait `ParsePos`, whose methods parse digits without a sign as a number that is not
-//! negative, and its implementations for the twelve integer types. Each method makes one call of
-//! `whole_pos` or `prefix_pos` of `atoi_core`, with the *engine* of this crate. An engine is an
-//! implementation of the reads that these parsers make.
+//! Parses of digits without a sign, by the engine of this crate.
 ghost use Rattle.std.specs.Prelude.{◌≡◌, ◌≤◌, false, IfOk, length};
 ghost use Rattle.atoi_core.specs.Answer.{typed_answer, typed_prefix_answer, whole_answer, prefix_answer};
 ghost use Rattle.atoi_core.specs.Digit.{decimal_table};
@@ -9,37 +6,22 @@ ghost use Rattle.atoi_core.specs.Digit.{decimal_table};
 use crate::default_engine::DefaultEngine;
 use atoi_core::{AtoiSimdError, Number, Steps, prefix_pos, whole_pos};
 
-/// An integer type that can be parsed from digits without a sign.
-///
-/// This trait is implemented for the twelve integer types, and no other crate can name it. Mirrors
-/// `ParsePos` of the Rust crate, whose methods have the flag as a const parameter.
+/// An integer type that is parsed from digits without a sign.
 pub trait ParsePos: Number {
-    /// Parses all of `s`, digits without a sign, as the function `parse_pos` does.
-    ///
-    /// `skip_zeroes` is the flag `SKIP_ZEROES` of that function.
-    ///
-    /// `u8::atoi_simd_parse_pos(b"255", false)` returns `Ok(255)`. Mirrors
-    /// `ParsePos::atoi_simd_parse_pos` of the Rust crate.
+    /// The function `parse_pos`, with its flag as an argument.
     ///
     /// # Errors
     ///
-    /// Returns the errors of `parse_pos`.
+    /// Those of `parse`.
     fn atoi_simd_parse_pos(s: &[u8], skip_zeroes: bool) -> Result<Self, AtoiSimdError<'_>>
         ensures answer { typed_answer Self.number result
             ≡ whole_answer decimal_table Self.int_type false skip_zeroes s.now };
 
-    /// Parses the number at the start of `s`, without a sign, as the function `parse_prefix_pos`
-    /// does, and returns it with its length in bytes.
-    ///
-    /// `skip_zeroes` is the flag `SKIP_ZEROES` of that function. The length includes leading zeros.
-    ///
-    /// `u16::atoi_simd_parse_prefix_pos(b"80/tcp", false)` returns `Ok((80, 2))`. Mirrors
-    /// `ParsePos::atoi_simd_parse_prefix_pos` of the Rust crate, except for some numbers of more
-    /// than 16 digits: see `parse_prefix`.
+    /// The function `parse_prefix_pos`, with its flag as an argument.
     ///
     /// # Errors
     ///
-    /// Returns the errors of `parse_prefix_pos`.
+    /// Those of `parse_prefix`.
     fn atoi_simd_parse_prefix_pos(
         s: &[u8],
         skip_zeroes: bool,

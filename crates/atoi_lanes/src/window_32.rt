@@ -9,7 +9,7 @@ ghost use Rattle.atoi_lanes.specs.Lanes.{padded_start};
 
 use crate::kernels::{len_lanes, load_lanes, shuffle, sum_lanes, zeroes_lanes};
 use atoi_core::Steps;
-use atoi_core::wide_answer::append_digits;
+use atoi_core::powers::append_digits;
 use std::simd::prelude::*;
 
 /// The *window* of the first 32 bytes of a slice, or of all its bytes if there are fewer. A window

@@ -1,7 +1,4 @@
-//! The trait `ParseNeg`, whose methods parse the digits of a negative number without its minus, and
-//! its implementations for the six signed integer types. Each method makes one call of `whole_neg`
-//! or `prefix_neg` of `atoi_core`, with the *engine* of this crate. An engine is an implementation
-//! of the reads that these parsers make.
+//! Parses of the digits of a negative number, by the engine of this crate.
 ghost use Rattle.std.specs.Prelude.{◌≡◌, ◌≤◌, true, IfOk, length};
 ghost use Rattle.atoi_core.specs.Answer.{typed_answer, typed_prefix_answer, whole_answer, prefix_answer};
 ghost use Rattle.atoi_core.specs.Digit.{decimal_table};
@@ -9,40 +6,22 @@ ghost use Rattle.atoi_core.specs.Digit.{decimal_table};
 use crate::default_engine::DefaultEngine;
 use atoi_core::{AtoiSimdError, Signed, Steps, prefix_neg, whole_neg};
 
-/// A signed type that can be parsed from the digits of a negative number, without its minus.
-///
-/// This trait is implemented for the six signed integer types. A type of another crate can
-/// implement it too; that crate must then prove the clauses of both methods. Mirrors `ParseNeg` of
-/// the Rust crate, whose methods have the flag as a const parameter.
+/// A signed type that is parsed from the digits of a negative number.
 pub trait ParseNeg: Signed {
-    /// Parses all of `s`, the digits of a negative number without its minus, as the function
-    /// `parse_neg` does.
-    ///
-    /// `skip_zeroes` is the flag `SKIP_ZEROES` of that function.
-    ///
-    /// `i8::atoi_simd_parse_neg(b"128", false)` returns `Ok(-128)`. Mirrors
-    /// `ParseNeg::atoi_simd_parse_neg` of the Rust crate.
+    /// The function `parse_neg`, with its flag as an argument.
     ///
     /// # Errors
     ///
-    /// Returns the errors of `parse_neg`.
+    /// Those of `parse`.
     fn atoi_simd_parse_neg(s: &[u8], skip_zeroes: bool) -> Result<Self, AtoiSimdError<'_>>
         ensures answer { typed_answer Self.number result
             ≡ whole_answer decimal_table Self.int_type true skip_zeroes s.now };
 
-    /// Parses the digits of a negative number at the start of `s`, without its minus, as the
-    /// function `parse_prefix_neg` does, and returns the number with the length of its digits in
-    /// bytes.
-    ///
-    /// `skip_zeroes` is the flag `SKIP_ZEROES` of that function. The length includes leading zeros.
-    ///
-    /// `i32::atoi_simd_parse_prefix_neg(b"12a", false)` returns `Ok((-12, 2))`. Mirrors
-    /// `ParseNeg::atoi_simd_parse_prefix_neg` of the Rust crate, except for some numbers of more
-    /// than 16 digits: see `parse_prefix`.
+    /// The function `parse_prefix_neg`, with its flag as an argument.
     ///
     /// # Errors
     ///
-    /// Returns the errors of `parse_prefix_neg`.
+    /// Those of `parse_prefix`.
     fn atoi_simd_parse_prefix_neg(
         s: &[u8],
         skip_zeroes: bool,

@@ -1,6 +1,4 @@
-//! The trait `Parse`, whose methods parse numbers that may have a sign, and its implementations for
-//! the twelve integer types. Each method makes one call of a parser of `atoi_core`, with the
-//! *engine* of this crate. An engine is an implementation of the reads that these parsers make.
+//! Parses with a sign, by the engine of this crate.
 ghost use Rattle.std.specs.Prelude.{◌≡◌, ◌≤◌, IfOk, length};
 ghost use Rattle.atoi_core.specs.Answer.{typed_answer, typed_prefix_answer, parse_answer, parse_prefix_answer};
 
@@ -10,22 +8,14 @@ use atoi_core::{
     AtoiSimdError, Steps, parse_prefix_signed, parse_prefix_unsigned, parse_signed, parse_unsigned,
 };
 
-/// An integer type that can be parsed from text with or without a sign.
-///
-/// This trait is implemented for the twelve integer types. No other crate can implement it, since
-/// no other crate can name its supertrait `ParsePos`. Mirrors `Parse` of the Rust crate, whose
-/// methods have the flags as const parameters.
+/// An integer type that is parsed with a sign. No other crate can implement it, since none can name
+/// `ParsePos`.
 pub trait Parse: ParsePos {
-    /// Parses all of `s`, with at most one sign, as the function `parse` does.
-    ///
-    /// `skip_zeroes` and `skip_plus` are the flags `SKIP_ZEROES` and `SKIP_PLUS` of that function.
-    ///
-    /// `i64::atoi_simd_parse(b"-2345", false, false)` returns `Ok(-2345)`. Mirrors
-    /// `Parse::atoi_simd_parse` of the Rust crate.
+    /// The function `parse`, with its flags as arguments.
     ///
     /// # Errors
     ///
-    /// Returns the errors of `parse`.
+    /// Those of `parse`.
     fn atoi_simd_parse(
         s: &[u8],
         skip_zeroes: bool,
@@ -34,19 +24,11 @@ pub trait Parse: ParsePos {
         ensures answer { typed_answer Self.number result
             ≡ parse_answer Self.int_type skip_zeroes skip_plus s.now };
 
-    /// Parses the number at the start of `s`, with at most one sign, as the function `parse_prefix`
-    /// does, and returns it with its length in bytes.
-    ///
-    /// `skip_zeroes` and `skip_plus` are the flags `SKIP_ZEROES` and `SKIP_PLUS` of that function.
-    /// The length includes the sign and leading zeros.
-    ///
-    /// `i32::atoi_simd_parse_prefix(b"+12a", false, true)` returns `Ok((12, 3))`. Mirrors
-    /// `Parse::atoi_simd_parse_prefix` of the Rust crate, with the differences described at
-    /// `parse_prefix`. For instance, the Rust crate does not count the `+`.
+    /// The function `parse_prefix`, with its flags as arguments.
     ///
     /// # Errors
     ///
-    /// Returns the errors of `parse_prefix`.
+    /// Those of `parse_prefix`.
     fn atoi_simd_parse_prefix(
         s: &[u8],
         skip_zeroes: bool,

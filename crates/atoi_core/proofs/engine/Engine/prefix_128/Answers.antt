@@ -9,52 +9,52 @@ use Rattle.atoi_core.proofs.lemmas.LoopAnswers.{answers_empty, answers_short, an
 use Rattle.atoi_core.proofs.engine.Engine.prefix_128.Goals as goal
 use Rattle.atoi_core.proofs.engine.Engine.prefix_128.Goals.{After-window-second, After-window_8-third}
 
-pub loop-next-init : goal.loop-next-init
-loop-next-init g c = Skipping-none _ c.args.skip c.args.s.now c.args.steps.now
+pub loop-window-init : goal.loop-window-init
+loop-window-init g c = Skipping-none _ c.args.skip c.args.s.now c.args.steps.now
 
 pub slice_bounds-window-count : goal.slice_bounds-window-count
-slice_bounds-window-count g c = c.loop-next.invariant.within
+slice_bounds-window-count g c = c.loop-window.invariant.within
 
-pub loop-next-preserved : goal.loop-next-preserved
-loop-next-preserved g c =
-    Skipping-more _ g.met.Self.Engine.below_ten _ _ _ _ _ _ _ c.window-next.result
-    c.loop-next.invariant c.window-next.ensures.window c.window-next.ensures.one_step
-    c.if-not-skip.false (omega arith) c.after_zeros-at.ensures.dropped
+pub loop-window-preserved : goal.loop-window-preserved
+loop-window-preserved g c =
+    Skipping-more _ g.met.Self.Engine.below_ten _ _ _ _ _ _ _ c.window-window.result
+    c.loop-window.invariant c.window-window.ensures.window c.window-window.ensures.one_step
+    c.if-not-skip.false (omega arith) refl
 
 pub returns-then-len-eq0-clause-answer : goal.returns-then-len-eq0-clause-answer
 returns-then-len-eq0-clause-answer g c =
-    let after_skip = Skipped-end _ g.met.Self.Engine.below_ten _ _ _ _ _ _ c.window-next.result
-    c.loop-next.invariant c.window-next.ensures.window c.window-next.ensures.one_step c.then-not-skip.either in
+    let after_skip = Skipped-end _ g.met.Self.Engine.below_ten _ _ _ _ _ _ c.window-window.result
+    c.loop-window.invariant c.window-window.ensures.window c.window-window.ensures.one_step c.then-not-skip.either in
     answers_empty _ _ _ _ _ _ _ _ _ _ after_skip c.if-len-eq0.true
 
 pub returns-else-len-eq0-clause-answer : goal.returns-else-len-eq0-clause-answer
 returns-else-len-eq0-clause-answer g c =
-    let after_skip = Skipped-end _ g.met.Self.Engine.below_ten _ _ _ _ _ _ c.window-next.result
-    c.loop-next.invariant c.window-next.ensures.window c.window-next.ensures.one_step c.then-not-skip.either in
+    let after_skip = Skipped-end _ g.met.Self.Engine.below_ten _ _ _ _ _ _ c.window-window.result
+    c.loop-window.invariant c.window-window.ensures.window c.window-window.ensures.one_step c.then-not-skip.either in
     answers_short _ _ _ _ _ _ _ _ _ _ _ _ (lit< tt) after_skip c.if-first-lt16.true (omega arith) (lit< tt) c.requires.digits c.from.ensures refl
 
 pub returns-else-len-eq0-clause-loads : goal.returns-else-len-eq0-clause-loads
 returns-else-len-eq0-clause-loads g c =
-    let after_skip = Skipped-end _ g.met.Self.Engine.below_ten _ _ _ _ _ _ c.window-next.result
-    c.loop-next.invariant c.window-next.ensures.window c.window-next.ensures.one_step c.then-not-skip.either in
+    let after_skip = Skipped-end _ g.met.Self.Engine.below_ten _ _ _ _ _ _ c.window-window.result
+    c.loop-window.invariant c.window-window.ensures.window c.window-window.ensures.one_step c.then-not-skip.either in
     Skipped-loads after_skip 0 (omega arith) (omega arith) (omega arith)
 
 -- What holds when the loop has ended at a full window.
 ended : (g : _) (c : After-window-second g)
-    → Skipped g.Self.Engine.table c.args.skip c.args.s.now c.loop-next.at c.args.steps.now c.window-next.new.steps c.window-next.result
+    → Skipped g.Self.Engine.table c.args.skip c.args.s.now c.loop-window.at c.args.steps.now c.window-window.new.steps c.window-window.result
 ended g c =
-    Skipped-end _ g.met.Self.Engine.below_ten _ _ _ _ _ _ c.window-next.result
-    c.loop-next.invariant c.window-next.ensures.window c.window-next.ensures.one_step c.then-not-skip.either
+    Skipped-end _ g.met.Self.Engine.below_ten _ _ _ _ _ _ c.window-window.result
+    c.loop-window.invariant c.window-window.ensures.window c.window-window.ensures.one_step c.then-not-skip.either
 
 -- The window of 16 bytes after that full window.
-middle : (g : _) (c : After-window-second g) → Shows g.Self.Engine.table 16 (drop 16 (drop c.loop-next.at c.args.s.now)) c.window-second.result
+middle : (g : _) (c : After-window-second g) → Shows g.Self.Engine.table 16 (drop 16 (drop c.loop-window.at c.args.s.now)) c.window-second.result
 middle g c =
-    shows_following g.Self.Engine.table g.met.Self.Engine.below_ten 16 16 c.args.s.now c.loop-next.at c.window-second.result c.window-second.ensures.window
+    shows_following g.Self.Engine.table g.met.Self.Engine.below_ten 16 16 c.args.s.now c.loop-window.at c.window-second.result c.window-second.ensures.window
 
 -- The window of 8 bytes after these two windows.
-third : (g : _) (c : After-window_8-third g) → Shows g.Self.Engine.table 8 (drop 32 (drop c.loop-next.at c.args.s.now)) c.window_8-third.result
+third : (g : _) (c : After-window_8-third g) → Shows g.Self.Engine.table 8 (drop 32 (drop c.loop-window.at c.args.s.now)) c.window_8-third.result
 third g c =
-    shows_following g.Self.Engine.table g.met.Self.Engine.below_ten 8 32 c.args.s.now c.loop-next.at c.window_8-third.result c.window_8-third.ensures.window
+    shows_following g.Self.Engine.table g.met.Self.Engine.below_ten 8 32 c.args.s.now c.loop-window.at c.window_8-third.result c.window_8-third.ensures.window
 
 pub returns-then-second-lt16-clause-answer : goal.returns-then-second-lt16-clause-answer
 returns-then-second-lt16-clause-answer g c =
@@ -67,21 +67,21 @@ returns-then-second-lt16-clause-loads g c =
     1 (omega (arith, c.window-second.ensures.one_step)) (omega arith) (omega arith)
 
 -- If both windows are full, the slice has at least 32 bytes from the first of them on.
-two_long : (g : _) (c : After-window-second g) → 16 ≤ c.window-second.result.len → 32 ≤ length (drop c.loop-next.at c.args.s.now)
+two_long : (g : _) (c : After-window-second g) → 16 ≤ c.window-second.result.len → 32 ≤ length (drop c.loop-window.at c.args.s.now)
 two_long g c more =
-    let body = drop c.loop-next.at c.args.s.now in
+    let body = drop c.loop-window.at c.args.s.now in
     let first = prefix_len-drop (is_digit g.Self.Engine.table) 16 body (omega (arith, c.if-first-lt16.false, (ended g c).shown.len_is)) in
     omega (arith, first, (middle g c).len_is, prefix_len-le-length (is_digit g.Self.Engine.table) body)
 
 pub slice_bounds-window_8-count : goal.slice_bounds-window_8-count
 slice_bounds-window_8-count g c =
     let long = two_long g (goal.at.slice_bounds-window_8-count g c).After-window-second c.if-second-lt16.false in
-    omega (arith, ap length (take_rest c.args.s.now c.loop-next.at), long)
+    omega (arith, ap length (take_rest c.args.s.now c.loop-window.at), long)
 
 pub slice_bounds-window_8-start : goal.slice_bounds-window_8-start
 slice_bounds-window_8-start g c =
     let long = two_long g (goal.at.slice_bounds-window_8-start g c).After-window-second c.if-second-lt16.false in
-    rw (take_rest c.args.s.now c.loop-next.at) long
+    rw (take_rest c.args.s.now c.loop-window.at) long
 
 pub answer_128-requires : goal.answer_128-requires
 answer_128-requires g c =

@@ -5,7 +5,7 @@ use Rattle.atoi_core.specs.Reading.{answer_by_digits}
 use Rattle.atoi_core.proofs.lemmas.Windows.{Shows, Skipping-none, Skipping-more, Skipped, Skipped-end, Skipped-loads, shows_following}
 use Rattle.atoi_core.proofs.lemmas.LoopAnswers.{answers_empty, answers_short, answers_64}
 use Rattle.atoi_core.proofs.engine.Engine.prefix_64.Goals as goal
-use Rattle.atoi_core.proofs.engine.Engine.prefix_64.Goals.{After-window_8-back}
+use Rattle.atoi_core.proofs.engine.Engine.prefix_64.Goals.{After-window_8-second}
 
 pub loop-window-init : goal.loop-window-init
 loop-window-init g c = Skipping-none _ c.args.skip c.args.s.now c.args.steps.now
@@ -17,7 +17,7 @@ pub loop-window-preserved : goal.loop-window-preserved
 loop-window-preserved g c =
     Skipping-more _ g.met.Self.Engine.below_ten _ _ _ _ _ _ _ c.window-window.result
     c.loop-window.invariant c.window-window.ensures.window c.window-window.ensures.one_step
-    c.if-not-skip.false (omega arith) c.after_zeros-at.ensures.dropped
+    c.if-not-skip.false (omega arith) refl
 
 pub returns-then-len-eq0-clause-answer : goal.returns-then-len-eq0-clause-answer
 returns-then-len-eq0-clause-answer g c =
@@ -38,37 +38,37 @@ returns-else-len-eq0-clause-loads g c =
     Skipped-loads after_skip 0 (omega arith) (omega arith) (omega arith)
 
 -- What holds when the loop has ended at a full window.
-ended : (g : _) (c : After-window_8-back g)
+ended : (g : _) (c : After-window_8-second g)
     → Skipped g.Self.Engine.table c.args.skip c.args.s.now c.loop-window.at c.args.steps.now c.window-window.new.steps c.window-window.result
 ended g c =
     Skipped-end _ g.met.Self.Engine.below_ten _ _ _ _ _ _ c.window-window.result
     c.loop-window.invariant c.window-window.ensures.window c.window-window.ensures.one_step c.then-not-skip.either
 
 -- The window of 8 bytes after that full window.
-following : (g : _) (c : After-window_8-back g) → Shows g.Self.Engine.table 8 (drop 16 (drop c.loop-window.at c.args.s.now)) c.window_8-back.result
+following : (g : _) (c : After-window_8-second g) → Shows g.Self.Engine.table 8 (drop 16 (drop c.loop-window.at c.args.s.now)) c.window_8-second.result
 following g c =
-    shows_following g.Self.Engine.table g.met.Self.Engine.below_ten 8 16 c.args.s.now c.loop-window.at c.window_8-back.result c.window_8-back.ensures.window
+    shows_following g.Self.Engine.table g.met.Self.Engine.below_ten 8 16 c.args.s.now c.loop-window.at c.window_8-second.result c.window_8-second.ensures.window
 
 -- The two windows together decide the answer.
-decided : (g : _) (c : After-window_8-back g) →
-    (c.loop-window.at + (16 + c.window_8-back.result.len) ≤ length c.args.s.now)
-    × (answer_by_digits wide64 c.args.bound c.args.limit c.loop-window.at (16 + c.window_8-back.result.len) (c.window-window.result.number * 10 ^ c.window_8-back.result.len + c.window_8-back.result.number) c.args.s.now
+decided : (g : _) (c : After-window_8-second g) →
+    (c.loop-window.at + (16 + c.window_8-second.result.len) ≤ length c.args.s.now)
+    × (answer_by_digits wide64 c.args.bound c.args.limit c.loop-window.at (16 + c.window_8-second.result.len) (c.window-window.result.number * 10 ^ c.window_8-second.result.len + c.window_8-second.result.number) c.args.s.now
     ≡ prefix_magnitude g.Self.Engine.table wide64 c.args.bound c.args.limit c.args.skip c.args.s.now)
 decided g c = answers_64 _ c.args.bound c.args.limit _ _ _ _ _ _ _ (omega arith) (ended g c) c.if-first-lt16.false (following g c)
 
 pub append_digits-number-requires : goal.append_digits-number-requires
-append_digits-number-requires g c = omega (arith, (following g (goal.at.append_digits-number-requires g c).After-window_8-back).len_is)
+append_digits-number-requires g c = omega (arith, (following g (goal.at.append_digits-number-requires g c).After-window_8-second).len_is)
 
-pub overflow_add-back : goal.overflow_add-back
-overflow_add-back g c = omega (arith, (following g (goal.at.overflow_add-back g c).After-window_8-back).len_is)
+pub overflow_add-second : goal.overflow_add-second
+overflow_add-second g c = omega (arith, (following g (goal.at.overflow_add-second g c).After-window_8-second).len_is)
 
 pub answer_64-requires : goal.answer_64-requires
-answer_64-requires g c = record { inside = (decided g (goal.at.answer_64-requires g c).After-window_8-back).0 }
+answer_64-requires g c = record { inside = (decided g (goal.at.answer_64-requires g c).After-window_8-second).0 }
 
 pub returns-clause-answer : goal.returns-clause-answer
 returns-clause-answer g c =
-    rw c.append_digits-number.ensures at c.answer_64.ensures ∙ (decided g (goal.at.returns-clause-answer g c).After-window_8-back).1
+    rw c.append_digits-number.ensures at c.answer_64.ensures ∙ (decided g (goal.at.returns-clause-answer g c).After-window_8-second).1
 
 pub returns-clause-loads : goal.returns-clause-loads
 returns-clause-loads g c =
-    Skipped-loads (ended g (goal.at.returns-clause-loads g c).After-window_8-back) 1 (omega (arith, c.window_8-back.ensures.one_step)) (omega arith) (omega arith)
+    Skipped-loads (ended g (goal.at.returns-clause-loads g c).After-window_8-second) 1 (omega (arith, c.window_8-second.ensures.one_step)) (omega arith) (omega arith)

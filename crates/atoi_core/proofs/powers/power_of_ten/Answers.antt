@@ -2,8 +2,8 @@
 use Rattle.std.proofs.Common.{ℕ, ◌^◌, ◌≤◌, ◌==◌, true, refl, lit<, arith, slice_index_or}
 use Rattle.std.proofs.Math.Nat.{pow-le-pow_right}
 use Rattle.std.proofs.lemmas.Bool.{eqb-true, agree_below_at}
-use Rattle.atoi_core.specs.declared.wide_answer.TheConstants.{POWERS}
-use Rattle.atoi_core.proofs.wide_answer.power_of_ten.Goals as goal
+use Rattle.atoi_core.specs.declared.powers.TheConstants.{POWERS}
+use Rattle.atoi_core.proofs.powers.power_of_ten.Goals as goal
 
 pub returns-clause-power : goal.returns-clause-power
 returns-clause-power c =

@@ -3,7 +3,7 @@
 use Rattle.std.proofs.Common.{◌+◌, true, inr, refl, sym, arith}
 use Rattle.atoi_core.proofs.lemmas.Windows.{Skipping-first_window, Skipping-more, Skipped-end}
 use Rattle.atoi_core.proofs.lemmas.LoopAnswers.{dropped_is}
-use Rattle.atoi_core.proofs.engine.window_after_zeros.Goals as goal
+use Rattle.atoi_core.proofs.zero_loop.window_after_zeros.Goals as goal
 
 pub loop-window-init : goal.loop-window-init
 loop-window-init g c =
@@ -12,7 +12,7 @@ loop-window-init g c =
 pub loop-window-preserved : goal.loop-window-preserved
 loop-window-preserved g c = (
   Skipping-more _ g.met.E.Engine.below_ten true c.args.s.now _ _ _ _ (c.window-window.new.steps + 1) c.window-window.result
-      c.loop-window.invariant.0 c.window-window.ensures.window (omega arith) refl (omega arith) c.after_zeros-at.ensures.dropped,
+      c.loop-window.invariant.0 c.window-window.ensures.window (omega arith) refl (omega arith) refl,
   omega (arith, c.loop-window.invariant.1),
 )
 

@@ -1,6 +1,6 @@
 use Rattle.std.proofs.Common.{IsAscii, subst, sym, rules}
 use Rattle.std.proofs.lemmas.Str.{IsUtf8-from_ascii}
-use Rattle.atoi_core.proofs.error.AtoiSimdErrorDisplay.fmt.Goals as goal
+use Rattle.atoi_core.proofs.text.AtoiSimdErrorDisplay.fmt.Goals as goal
 
 -- The text is ASCII, so it is valid UTF-8.
 pub unwrap-requires : goal.unwrap-requires
