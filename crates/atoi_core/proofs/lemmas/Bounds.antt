@@ -10,7 +10,7 @@ use Rattle.atoi_core.specs.Magnitude.{Class, narrow, wide64, wide128, whole, pre
 use Rattle.atoi_core.specs.IntType.{IntType, IsSized, greatest_of, class_of, bound_of, limit_of}
 use Rattle.atoi_core.specs.Laws.{HasLimitOfWhole}
 use Rattle.atoi_core.proofs.lemmas.Runs.{value-ge, prefix_len-drop, zeros-le, value-below, value-drop_zeros}
-use Rattle.atoi_core.proofs.lemmas.Calls.{limit_at, significant_digits, first_of, refusal-is, is_empty, is_long, is_followed, too_long, over, followed, accepted, refusal-none, refused_overflow, refusal-cases, counted_number, map_unless_ok, map_unless_err, whole_is_run}
+use Rattle.atoi_core.proofs.lemmas.Calls.{limit_at, significant_len, first_of, refusal-is, is_empty, is_long, is_followed, too_long, over, followed, accepted, refusal-none, refused_overflow, refusal-cases, counted_number, map_unless_ok, map_unless_err, whole_is_run}
 use Rattle.std.proofs.Math.IntN.{ℤ}
 use Rattle.atoi_core.specs.Refusal.{Refusal, empty, overflow, number_in, index_in}
 use Rattle.atoi_core.specs.Sign.{with_sign}
@@ -128,7 +128,7 @@ places-le table s limit h =
 -- digits.
 pub in_range_short : (table : Table) (int : IntType) → IsSized int → (minus : Bool) (s : List ℕ)
     → value table (run table s) ≤ bound_of int minus
-    → is_above (limit_at (class_of int) whole true (limit_of int)) (significant_digits table true s) ≡ false
+    → is_above (limit_at (class_of int) whole true (limit_of int)) (significant_len table true s) ≡ false
 in_range_short table int sized minus s le =
     elim (bound-limit int sized minus) [
       | inl e ↦ rw e refl

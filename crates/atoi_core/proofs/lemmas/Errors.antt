@@ -15,7 +15,7 @@ use Rattle.atoi_core.specs.IntType.{IntType, class_of, bound_of, limit_of}
 use Rattle.atoi_core.specs.Sign.{with_sign}
 use Rattle.atoi_core.specs.Answer.{prefix_answer, with_more}
 use Rattle.atoi_core.specs.Laws.{SignForm, sign_in, whole_call, prefix_call, IsSuffix, OrderAndSuffix, IsAbove, HasSomeDigits, IsFollowed, Explains, ErrorsInOrder}
-use Rattle.atoi_core.proofs.lemmas.Calls.{refusal-input, limit_at, significant_digits, refusal-cases, drop-taken, counted_number, map_unless_err, whole_call-is, prefix_call-is}
+use Rattle.atoi_core.proofs.lemmas.Calls.{refusal-input, limit_at, significant_len, refusal-cases, drop-taken, counted_number, map_unless_err, whole_call-is, prefix_call-is}
 use Rattle.std.proofs.lemmas.Bool.{eqb-false, not-true, cases_lt}
 use Rattle.std.proofs.lemmas.List.Sums.{prefix_len-le-length}
 use Rattle.atoi_core.specs.Run.{run_len, run, value}
@@ -149,11 +149,11 @@ module _ (int : IntType) (extent : Extent) (is_negative skip : Bool) (body : Lis
   -- If neither of the first two tests of `refusal` holds, the body begins with a digit and does not
   -- have too many significant digits.
   begins : eqb (run_len decimal_table body) 0 ≡ false
-      → is_above (limit_at (class_of int) extent skip (limit_of int)) (significant_digits decimal_table skip body) ≡ false
+      → is_above (limit_at (class_of int) extent skip (limit_of int)) (significant_len decimal_table skip body) ≡ false
       → HasSomeDigits int extent skip body
   begins some short = record {
     some = omega (arith, eqb-false (run_len decimal_table body) 0 some);
-    short = not_above (limit_at (class_of int) extent skip (limit_of int)) (significant_digits decimal_table skip body) short;
+    short = not_above (limit_at (class_of int) extent skip (limit_of int)) (significant_len decimal_table skip body) short;
   }
 
   -- If a body is refused, `Explains` holds for its error.
@@ -165,7 +165,7 @@ module _ (int : IntType) (extent : Extent) (is_negative skip : Bool) (body : Lis
       refusal-cases decimal_table (class_of int) (bound_of int is_negative) (limit_of int) extent skip body
       (Explains int extent is_negative skip body)
       (λ e. eqb-true digits 0 e)
-      (λ e l. (omega (arith, eqb-false digits 0 e), above (limit_at (class_of int) extent skip (limit_of int)) (significant_digits decimal_table skip body) l))
+      (λ e l. (omega (arith, eqb-false digits 0 e), above (limit_at (class_of int) extent skip (limit_of int)) (significant_len decimal_table skip body) l))
       (λ e l o. (begins e l, ltb-true (bound_of int is_negative) number o))
       (λ e l o f. invalid_explained (class_of int) number digits (record {
         begins = begins e l;

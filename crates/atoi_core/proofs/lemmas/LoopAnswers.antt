@@ -10,7 +10,7 @@ use Rattle.atoi_core.specs.Refusal.{empty, Refusal, invalid64, invalid128, rank,
 use Rattle.atoi_core.specs.Magnitude.{Class, wide64, wide128, Extent, prefix, rule_of, HasDigits, prefix_magnitude, narrow, whole, Rule, invalid, refusal, unless_refused, whole_magnitude, skipped_zeros, is_above, leaves_rest}
 use Rattle.atoi_core.specs.Reading.{IsSkipped, cap, answer_by_digits}
 use Rattle.atoi_core.specs.declared.window.Window.{Window}
-use Rattle.atoi_core.proofs.lemmas.Calls.{refused_empty, is_empty, is_long, is_over, too_long, over, limit_at, significant_digits, IsAccepted, refusal-none, refused_size, refused_overflow, first_of, refusal-is}
+use Rattle.atoi_core.proofs.lemmas.Calls.{refused_empty, is_empty, is_long, is_over, too_long, over, limit_at, significant_len, IsAccepted, refusal-none, refused_size, refused_overflow, first_of, refusal-is}
 use Rattle.atoi_core.proofs.lemmas.Runs.{prefix_len-take, prefix_len-drop, zeros-le, value-take-le, value-least, narrow_whole_is}
 use Rattle.atoi_core.proofs.lemmas.Windows.{within, below, short, short_below, all_decide, Shows, zeros_both, Shows-join, Shows-join_two, shows, Skipped}
 use Rattle.std.proofs.lemmas.Bool.Decides.{nat_tests}
@@ -192,9 +192,9 @@ least t s w seen full none =
 
 -- There are not too many digits if there are at most 16, or if zeros are skipped.
 not_too_long : (t : Table) (skip : Bool) (limit : ℕ) (s : List ℕ) → (skip ≡ false → run_len t s ≤ 16)
-    → is_above (limit_at narrow prefix skip limit) (significant_digits t skip s) ≡ false
+    → is_above (limit_at narrow prefix skip limit) (significant_len t skip s) ≡ false
 not_too_long t true limit s few = refl
-not_too_long t false limit s few = le-ltb 16 (significant_digits t false s) (omega (arith, few refl))
+not_too_long t false limit s few = le-ltb 16 (significant_len t false s) (omega (arith, few refl))
 
 -- Let zeros be skipped, or let the run have at most 16 digits. If the number of the last window
 -- fits in 32 bits, then the window holds the rest of the run.
@@ -258,8 +258,8 @@ pub narrow_size : (t : Table) (bound limit : ℕ) (skip : Bool) (s : List ℕ) �
 narrow_size t bound limit true s long = absurd (cc long)
 narrow_size t bound limit false s long =
     let many : 16 < run_len t s = ltb-true 16 (run_len t s) (sym long) in
-    let too_long = lt-ltb 16 (significant_digits t false s) (omega arith) in
-    let reported : 0 + min (significant_digits t false s) 17 ≡ 17 = omega arith in
+    let too_long = lt-ltb 16 (significant_len t false s) (omega arith) in
+    let reported : 0 + min (significant_len t false s) 17 ≡ 17 = omega arith in
     rw (refused_size t narrow bound limit prefix false s (omega arith) too_long) (rw reported refl)
 
 -- Let the first 16 bytes be digits. Then the bytes after them begin with a digit exactly if the run
@@ -371,7 +371,7 @@ short_run t class bound limit extent skip s room few below =
     let within = skipped_most t skip s in
     refusal-is t class bound limit extent skip s
     ∙ ap (λ b. first_of (eqb digits 0) b (ltb bound number) (leaves_rest extent digits (length s)) empty (too_long t class bound limit extent skip s) (over t class bound limit extent skip s) (invalid class number digits s))
-    (short_enough class extent skip bound limit (significant_digits t skip s) room (omega arith))
+    (short_enough class extent skip bound limit (significant_len t skip s) room (omega arith))
     ∙ ap (λ (x : Option Refusal). cond (eqb digits 0) (Some empty) x)
     (whole_slice class extent skip bound limit digits (skipped_zeros t skip s) number s some_left room few within below)
 
