@@ -1,5 +1,4 @@
--- Errors: how they are ordered, which slices they hold, what they say about the body, and how their
--- texts are built.
+-- Errors: their order, their slices, what they say about the body, and their texts.
 use Rattle.std.proofs.Common.{◌≡◌, ◌↔◌, refl, ℕ, ◌+◌, Bool, List, ◌++◌, take, drop, Some, Result, Ok, Err, ℤ, sym, ap, ◌∙◌, take-append-drop, drop-drop, ◌<◌, ◌≤◌, true, false, eqb, length, Option, None, arith, eqb-true, ltb-true, ltb-false, ◌/◌, ◌%◌, ◌^◌, [], ◌∷◌, decimal, length-append, ◌⊎◌, inl, inr, suc, codes, get_or, IsAscii, rules}
 use Rattle.std.specs.declared.cmp.Ordering.{Ordering}
 use Rattle.std.specs.declared.cmp.Ordering.TheVariants.{Less, Equal, Greater}
@@ -30,54 +29,33 @@ use Rattle.std.proofs.lemmas.Str.Ascii.{IsAscii-nil, IsAscii-cons}
 
 -- ---- The order of errors
 
--- If two comparisons in a row give `Equal` together, then each of the two gives `Equal`.
-then_first : (first rest : Ordering) → ordering_then first rest ≡ Equal → first ≡ Equal
-then_first Less rest equal = cc
-then_first Equal rest equal = refl
-then_first Greater rest equal = cc
+then_both : (first rest : Ordering) → ordering_then first rest ≡ Equal → (first ≡ Equal) × (rest ≡ Equal)
+then_both Equal rest equal = (refl, equal)
+then_both first rest equal = absurd (cc equal)
 
-then_rest : (first rest : Ordering) → ordering_then first rest ≡ Equal → rest ≡ Equal
-then_rest Less rest equal = cc
-then_rest Equal rest equal = equal
-then_rest Greater rest equal = cc
-
--- The order of errors is total.
 pub refusal_cmp-total : IsTotalOrder refusal_cmp
 refusal_cmp-total =
     then_total (on_total rank nat_cmp_total)
     (then_total (on_total numbers nat_list_cmp_total) (on_total input_of nat_list_cmp_total))
 
--- Errors that compare as equal hold the same numbers.
-same_numbers : (a b : Refusal) → refusal_cmp a b ≡ Equal → numbers a ≡ numbers b
-same_numbers a b equal = exact_bytes _ _ (then_first _ _ (then_rest (nat_cmp (rank a) (rank b)) _ equal))
+-- Errors that compare as equal hold the same numbers and the same slice.
+same_fields : (a b : Refusal) → refusal_cmp a b ≡ Equal → (numbers a ≡ numbers b) × (input_of a ≡ input_of b)
+same_fields a b equal =
+    let e = then_both (slice_cmp nat_cmp (numbers a) (numbers b)) _ (then_both (nat_cmp (rank a) (rank b)) _ equal).1 in
+    (exact_bytes _ _ e.0, exact_bytes _ _ e.1)
 
--- Errors that compare as equal hold the same slice.
-same_input : (a b : Refusal) → refusal_cmp a b ≡ Equal → input_of a ≡ input_of b
-same_input a b equal =
-    exact_bytes _ _ (then_rest (slice_cmp nat_cmp (numbers a) (numbers b)) _ (then_rest (nat_cmp (rank a) (rank b)) _ equal))
-
--- Errors that compare as equal are the same.
 same-refusal_cmp : (a b : Refusal) → refusal_cmp a b ≡ Equal → a ≡ b
 same-refusal_cmp empty empty equal = refl
-same-refusal_cmp (size m s) (size n t) equal =
-    let e = same_numbers (size m s) (size n t) equal in
-    let f = same_input (size m s) (size n t) equal in cc
-same-refusal_cmp (overflow s) (overflow t) equal =
-    let f = same_input (overflow s) (overflow t) equal in cc
-same-refusal_cmp (invalid64 m i s) (invalid64 n j t) equal =
-    let e = same_numbers (invalid64 m i s) (invalid64 n j t) equal in
-    let f = same_input (invalid64 m i s) (invalid64 n j t) equal in cc
-same-refusal_cmp (invalid128 m i s) (invalid128 n j t) equal =
-    let e = same_numbers (invalid128 m i s) (invalid128 n j t) equal in
-    let f = same_input (invalid128 m i s) (invalid128 n j t) equal in cc
+same-refusal_cmp (size m s) (size n t) equal = let e = same_fields (size m s) (size n t) equal in cc
+same-refusal_cmp (overflow s) (overflow t) equal = let e = same_fields (overflow s) (overflow t) equal in cc
+same-refusal_cmp (invalid64 m i s) (invalid64 n j t) equal = let e = same_fields (invalid64 m i s) (invalid64 n j t) equal in cc
+same-refusal_cmp (invalid128 m i s) (invalid128 n j t) equal = let e = same_fields (invalid128 m i s) (invalid128 n j t) equal in cc
 same-refusal_cmp a b equal = cc
 
--- Two errors compare as equal exactly if they are the same.
 pub refusal_cmp-Equal : (a b : Refusal) → (refusal_cmp a b ≡ Equal) ↔ (a ≡ b)
 refusal_cmp-Equal a b = (same-refusal_cmp a b, λ same. rw (← same) (tied_itself refusal_cmp-total a))
 
 -- ---- Slices in errors
--- Each slice in an error is a suffix of the slice that was parsed.
 
 -- A suffix of the body is a suffix of the slice.
 suffix_of_body : (int : IntType) (form : SignForm) (s t : List ℕ) → (n : ℕ) × (t ≡ drop n (sign_in int form s).body) → IsSuffix t s
@@ -86,43 +64,38 @@ suffix_of_body int form s t end =
     let at : t ≡ drop (taken + end.0) s = end.1 ∙ ap (drop end.0) (sym (drop-taken int form s)) ∙ drop-drop end.0 taken s in
     (take (taken + end.0) s, sym (take-append-drop (taken + end.0) s) ∙ ap (λ rest. take (taken + end.0) s ++ rest) (sym at))
 
--- Adding to the count of an answer does not change an error.
 with_more_err : (more : ℕ) (r : Result (ℤ × ℕ) Refusal) (reason : Refusal) → with_more more r ≡ Err reason → r ≡ Err reason
 with_more_err more (Ok found) reason h = absurd (cc h)
 with_more_err more (Err other) reason h = cc
 
--- The error of a whole call is the refusal of its body.
-pub whole_refused : (int : IntType) (form : SignForm) (skip : Bool) (s : List ℕ) (reason : Refusal) → whole_call int form skip s ≡ Err reason
-    → refusal decimal_table (class_of int) (bound_of int (sign_in int form s).minus) (limit_of int) whole skip (sign_in int form s).body ≡ Some reason
-whole_refused int form skip s reason h =
-    map_unless_err (with_sign (sign_in int form s).minus) _ _ reason (sym (whole_call-is int form skip s) ∙ h)
+module _ (int : IntType) (form : SignForm) (skip : Bool) (s : List ℕ) where
+  -- Why the body is refused.
+  abbrev refused : Extent → Option Refusal
+  refused extent = refusal decimal_table (class_of int) (bound_of int (sign_in int form s).minus) (limit_of int) extent skip (sign_in int form s).body
 
--- The error of a prefix call is the refusal of its body.
-pub prefix_refused : (int : IntType) (form : SignForm) (skip : Bool) (s : List ℕ) (reason : Refusal) → prefix_call int form skip s ≡ Err reason
-    → refusal decimal_table (class_of int) (bound_of int (sign_in int form s).minus) (limit_of int) prefix skip (sign_in int form s).body ≡ Some reason
-prefix_refused int form skip s reason h =
-    let g = sign_in int form s in
-    map_unless_err (counted_number g.minus) _ _ reason
-    (with_more_err g.taken (prefix_answer decimal_table int g.minus skip g.body) reason (sym (prefix_call-is int form skip s) ∙ h))
+  whole_refused : (reason : Refusal) → whole_call int form skip s ≡ Err reason → refused whole ≡ Some reason
+  whole_refused reason h = map_unless_err (with_sign (sign_in int form s).minus) _ _ reason (sym (whole_call-is int form skip s) ∙ h)
 
--- The law `OrderAndSuffix`: two errors compare as equal exactly if they are the same, and the slice
--- in an error is a suffix of the slice that was parsed.
+  prefix_refused : (reason : Refusal) → prefix_call int form skip s ≡ Err reason → refused prefix ≡ Some reason
+  prefix_refused reason h =
+      let g = sign_in int form s in
+      map_unless_err (counted_number g.minus) _ _ reason
+      (with_more_err g.taken (prefix_answer decimal_table int g.minus skip g.body) reason (sym (prefix_call-is int form skip s) ∙ h))
+
+  suffix_in : (extent : Extent) (reason : Refusal) → refused extent ≡ Some reason → IsSuffix (input_of reason) s
+  suffix_in extent reason h =
+      suffix_of_body int form s (input_of reason)
+      (refusal-input decimal_table (class_of int) (bound_of int (sign_in int form s).minus) (limit_of int) extent skip (sign_in int form s).body reason h)
+
 pub order_and_suffix : (int : IntType) → OrderAndSuffix int
 order_and_suffix int = record {
   order = refusal_cmp-Equal;
-  whole = λ form skip s reason h.
-      let g = sign_in int form s in
-      suffix_of_body int form s (input_of reason)
-      (refusal-input decimal_table (class_of int) (bound_of int g.minus) (limit_of int) whole skip g.body reason (whole_refused int form skip s reason h));
-  prefix = λ form skip s reason h.
-      let g = sign_in int form s in
-      suffix_of_body int form s (input_of reason)
-      (refusal-input decimal_table (class_of int) (bound_of int g.minus) (limit_of int) prefix skip g.body reason (prefix_refused int form skip s reason h));
+  whole = λ form skip s reason h. suffix_in int form skip s whole reason (whole_refused int form skip s reason h);
+  prefix = λ form skip s reason h. suffix_in int form skip s prefix reason (prefix_refused int form skip s reason h);
 }
 
 -- ---- What an error says about the body
 
--- If the test `is_above` holds, there is a limit, and `count` is larger than the limit.
 above : (limit : Option ℕ) (count : ℕ) → is_above limit count ≡ true → IsAbove limit count
 above None count h = absurd (cc h)
 above (Some limit) count h = ltb-true limit count h
@@ -131,23 +104,16 @@ not_above : (limit : Option ℕ) (count : ℕ) → is_above limit count ≡ fals
 not_above None count h = λ p. p
 not_above (Some limit) count h = λ p. absurd (omega (arith, ltb-false limit count h))
 
--- Only a whole slice is refused for bytes after its digits, and then it has fewer digits than
--- bytes.
 rest_left : (extent : Extent) (digits length : ℕ) → digits ≤ length → leaves_rest extent digits length ≡ true → digits < length
 rest_left whole digits length le h = omega (arith, eqb-false digits length (not-true (eqb digits length) h))
 rest_left prefix digits length le h = absurd (cc h)
 
 module _ (int : IntType) (extent : Extent) (is_negative skip : Bool) (body : List ℕ) where
-  -- If `IsFollowed` holds for a value and an index, then `Explains` holds for the `invalid` error
-  -- that holds these two, whatever the class.
   invalid_explained : (class : Class) (number index : ℕ) → IsFollowed int extent is_negative skip body number index
       → Explains int extent is_negative skip body (invalid class number index body)
   invalid_explained narrow number index h = h
-  invalid_explained wide64 number index h = h
-  invalid_explained wide128 number index h = h
+  invalid_explained class number index h = h
 
-  -- If neither of the first two tests of `refusal` holds, the body begins with a digit and does not
-  -- have too many significant digits.
   begins : eqb (run_len decimal_table body) 0 ≡ false
       → is_above (limit_at (class_of int) extent skip (limit_of int)) (significant_len decimal_table skip body) ≡ false
       → HasSomeDigits int extent skip body
@@ -156,7 +122,6 @@ module _ (int : IntType) (extent : Extent) (is_negative skip : Bool) (body : Lis
     short = not_above (limit_at (class_of int) extent skip (limit_of int)) (significant_len decimal_table skip body) short;
   }
 
-  -- If a body is refused, `Explains` holds for its error.
   explained : (reason : Refusal) → refusal decimal_table (class_of int) (bound_of int is_negative) (limit_of int) extent skip body ≡ Some reason
       → Explains int extent is_negative skip body reason
   explained reason h =
@@ -183,80 +148,55 @@ not_followed table class bound limit skip body reason h =
     refusal-cases table class bound limit prefix skip body (λ r. rank r ≤ 2)
     (λ e. omega arith) (λ e l. omega arith) (λ e l o. omega arith) (λ e l o f. absurd (cc f)) reason h
 
--- The law `ErrorsInOrder`: the error is the first that applies.
 pub errors_in_order : (int : IntType) → ErrorsInOrder int
 errors_in_order int = record {
-  whole = λ form skip s reason h.
-      explained int whole (sign_in int form s).minus skip (sign_in int form s).body reason (whole_refused int form skip s reason h);
-  prefix = λ form skip s reason h.
-      explained int prefix (sign_in int form s).minus skip (sign_in int form s).body reason (prefix_refused int form skip s reason h);
+  whole = λ form skip s reason h. let g = sign_in int form s in explained int whole g.minus skip g.body reason (whole_refused int form skip s reason h);
+  prefix = λ form skip s reason h. let g = sign_in int form s in explained int prefix g.minus skip g.body reason (prefix_refused int form skip s reason h);
   never_followed = λ form skip s reason h.
-      not_followed decimal_table (class_of int) (bound_of int (sign_in int form s).minus) (limit_of int) skip (sign_in int form s).body reason
-      (prefix_refused int form skip s reason h);
+      let g = sign_in int form s in
+      not_followed decimal_table (class_of int) (bound_of int g.minus) (limit_of int) skip g.body reason (prefix_refused int form skip s reason h);
 }
 
 -- ---- Texts of numbers
--- Numbers of up to 128 bits are written in decimal, and bytes in hexadecimal.
 
--- The text of a number of two or more digits is the text of the number without its last digit,
--- followed by that digit.
+-- The last digit follows the text of the others.
 pub decimal_more : (n : ℕ) → 10 ≤ n → n < 2 ^ 128 → decimal n ≡ decimal (n / 10) ++ (48 + n % 10) ∷ []
 decimal_more n low high = decimal_step_wide n low (omega arith)
 
--- The text of a number of two or more digits is one byte longer than the text of the number without
--- its last digit.
 pub length_decimal_more : (n : ℕ) → 10 ≤ n → n < 2 ^ 128 → length (decimal n) ≡ length (decimal (n / 10)) + 1
-length_decimal_more n low high =
-    omega (arith, ap length (decimal_more n low high), length-append (decimal (n / 10)) ((48 + n % 10) ∷ []))
+length_decimal_more n low high = rw (decimal_more n low high) (omega (arith, length-append (decimal (n / 10)) ((48 + n % 10) ∷ [])))
 
--- The text of a 128-bit number has at most 39 digits.
 pub length_decimal_of_128_bits : (n : ℕ) → n < 2 ^ 128 → length (decimal n) ≤ 39
 length_decimal_of_128_bits n small = length-decimal-le_wide 39 n (omega arith) (omega arith) (omega arith)
 
--- The text of a 64-bit number has at most 20 digits.
 pub length_decimal_of_64_bits : (n : ℕ) → n < 2 ^ 64 → length (decimal n) ≤ 20
 length_decimal_of_64_bits n small = length-decimal-le_wide 20 n (omega arith) (omega arith) (omega arith)
 
--- A byte below 16 has one hexadecimal digit.
 pub hex_text_of_one_digit : (byte : ℕ) → byte < 16 → hex_text byte ≡ digit_glyph true byte ∷ []
 hex_text_of_one_digit byte small = hex_one_digit true byte small
 
--- A byte from 16 on has two hexadecimal digits.
 pub hex_text_of_two_digits : (byte : ℕ) → 16 ≤ byte → byte < 256 → hex_text byte ≡ digit_glyph true (byte / 16) ∷ digit_glyph true (byte % 16) ∷ []
 hex_text_of_two_digits byte low small = hex_two_digits true byte low small
 
 -- ---- Error texts are ASCII
 
--- A text is ASCII if each of its bytes passes the test `is_ascii`.
 pub IsAscii-literal : (bytes : List ℕ) → list_all is_ascii bytes ≡ true → IsAscii bytes
 IsAscii-literal [] passes = IsAscii-nil
 IsAscii-literal (byte ∷ bytes) passes =
-    let small : byte < 128 = grind (arith, nat_tests) in
-    let rest : list_all is_ascii bytes ≡ true = grind (arith, nat_tests) in
-    IsAscii-cons byte bytes small (IsAscii-literal bytes rest)
+    IsAscii-cons byte bytes (grind (arith, nat_tests)) (IsAscii-literal bytes (grind (arith, nat_tests)))
 
 -- A hexadecimal digit is ASCII.
-digit_glyph-lt : (digit : ℕ) → digit < 16 → digit_glyph true digit < 128
-digit_glyph-lt digit small = grind (arith, nat_tests)
+IsAscii-glyph : (digit : ℕ) (bytes : List ℕ) → digit < 16 → IsAscii bytes → IsAscii (digit_glyph true digit ∷ bytes)
+IsAscii-glyph digit bytes small rest = IsAscii-cons (digit_glyph true digit) bytes (grind (arith, nat_tests)) rest
 
--- The hexadecimal text of a byte is ASCII.
 IsAscii-hex_text : (byte : ℕ) → byte < 256 → IsAscii (hex_text byte)
-IsAscii-hex_text byte small = by_digits (cases_lt byte 16)
-  where
-    high : byte / 16 < 16
-    high = omega arith
-
-    low : byte % 16 < 16
-    low = omega arith
-
-    by_digits : (byte < 16) ⊎ (16 ≤ byte) → IsAscii (hex_text byte)
-    by_digits (inl short) =
-        rw (hex_text_of_one_digit byte short)
-        (IsAscii-cons (digit_glyph true byte) [] (digit_glyph-lt byte short) IsAscii-nil)
-    by_digits (inr long) =
-        rw (hex_text_of_two_digits byte long small)
-        (IsAscii-cons (digit_glyph true (byte / 16)) (digit_glyph true (byte % 16) ∷ []) (digit_glyph-lt (byte / 16) high)
-        (IsAscii-cons (digit_glyph true (byte % 16)) [] (digit_glyph-lt (byte % 16) low) IsAscii-nil))
+IsAscii-hex_text byte small =
+    elim (cases_lt byte 16) [
+      | inl short ↦ rw (hex_text_of_one_digit byte short) (IsAscii-glyph byte [] short IsAscii-nil)
+      | inr long ↦
+          rw (hex_text_of_two_digits byte long small)
+          (IsAscii-glyph (byte / 16) (digit_glyph true (byte % 16) ∷ []) (omega arith) (IsAscii-glyph (byte % 16) [] (omega arith) IsAscii-nil))
+    ]
 
 -- The bytes after the first, in hexadecimal, each with a comma and a space before it.
 abbrev hex_rest : List ℕ → List ℕ
@@ -269,21 +209,19 @@ IsAscii-hex_rest (byte ∷ bytes) small =
     (IsAscii-append (codes ", ") (hex_text byte) (IsAscii-literal (codes ", ") refl) (IsAscii-hex_text byte (small 0)))
     (IsAscii-hex_rest bytes (λ k. small (suc k)))
 
--- The list of bytes in hexadecimal is ASCII.
 pub IsAscii-hex_list : (bytes : List ℕ) → ((k : ℕ) → get_or bytes k 0 < 256) → IsAscii (hex_list bytes)
 IsAscii-hex_list [] small = IsAscii-nil
 IsAscii-hex_list (byte ∷ bytes) small =
     IsAscii-append (hex_text byte) (hex_rest bytes) (IsAscii-hex_text byte (small 0)) (IsAscii-hex_rest bytes (λ k. small (suc k)))
 
--- The text of the error `Size` is ASCII if the text of its number and that of its slice are.
 pub IsAscii-size_text : (length : ℕ) (input : List ℕ) → IsAscii (decimal length) → IsAscii (input_text input) → IsAscii (error_text (size length input))
-IsAscii-size_text length input number shown = search (rules, IsAscii-append, IsAscii-literal, number, shown)
+IsAscii-size_text length input number slice = search (rules, IsAscii-append, IsAscii-literal, number, slice)
 
 pub IsAscii-overflow_text : (input : List ℕ) → IsAscii (input_text input) → IsAscii (error_text (overflow input))
-IsAscii-overflow_text input shown = search (rules, IsAscii-append, IsAscii-literal, shown)
+IsAscii-overflow_text input slice = search (rules, IsAscii-append, IsAscii-literal, slice)
 
 pub IsAscii-invalid64_text : (number index : ℕ) (input : List ℕ) → IsAscii (decimal number) → IsAscii (decimal index) → IsAscii (input_text input) → IsAscii (error_text (invalid64 number index input))
-IsAscii-invalid64_text number index input value place shown = search (rules, IsAscii-append, IsAscii-literal, value, place, shown) depth 8
+IsAscii-invalid64_text number index input value place slice = search (rules, IsAscii-append, IsAscii-literal, value, place, slice) depth 8
 
 pub IsAscii-invalid128_text : (number index : ℕ) (input : List ℕ) → IsAscii (decimal number) → IsAscii (decimal index) → IsAscii (input_text input) → IsAscii (error_text (invalid128 number index input))
-IsAscii-invalid128_text number index input value place shown = search (rules, IsAscii-append, IsAscii-literal, value, place, shown) depth 8
+IsAscii-invalid128_text number index input value place slice = search (rules, IsAscii-append, IsAscii-literal, value, place, slice) depth 8
