@@ -19,9 +19,7 @@ use Rattle.atoi_core.specs.Magnitude.{narrow, refusal, unless_refused, whole_mag
 pub prefix_len-take : (p : ℕ → Bool) (n : ℕ) (s : List ℕ) → prefix_len p (take n s) ≡ min n (prefix_len p s)
 prefix_len-take p zero s = omega arith
 prefix_len-take p (suc n) [] = omega arith
-prefix_len-take p (suc n) (b ∷ bs) =
-    elim (p b) as (λ v. cond v (1 + prefix_len p (take n bs)) 0 ≡ min (suc n) (cond v (1 + prefix_len p bs) 0))
-    [ true ↦ omega (arith, prefix_len-take p n bs) | false ↦ omega arith ]
+prefix_len-take p (suc n) (b ∷ bs) = grind (arith, nat_tests, prefix_len-take p n bs)
 
 pub prefix_len-drop : (p : ℕ → Bool) (n : ℕ) (s : List ℕ) → n ≤ prefix_len p s → prefix_len p s ≡ n + prefix_len p (drop n s)
 prefix_len-drop p zero s = λ _. omega arith
@@ -32,12 +30,7 @@ prefix_len-drop p (suc n) (b ∷ bs) =
 
 pub zeros-le : (t : Table) (s : List ℕ) → zeros t s ≤ run_len t s
 zeros-le t [] = omega arith
-zeros-le t (b ∷ bs) =
-    elim (is_digit t b) as (λ v. cond (v && (digit_value t b == 0)) (1 + zeros t bs) 0 ≤ cond v (1 + run_len t bs) 0) [
-      | true ↦ elim (digit_value t b == 0) as (λ v. cond v (1 + zeros t bs) 0 ≤ 1 + run_len t bs)
-          [ true ↦ omega (arith, zeros-le t bs) | false ↦ omega arith ]
-      | false ↦ omega arith
-    ]
+zeros-le t (b ∷ bs) = grind (arith, nat_tests, zeros-le t bs)
 
 -- ---- Values of digits
 
@@ -88,20 +81,12 @@ value-drop_zeros t n s h =
 -- n + 1 digits that begin with no zero spell at least 10^n.
 pub value-least : (t : Table) (n : ℕ) (s : List ℕ) → suc n ≤ run_len t s → zeros t s ≡ 0 → 10 ^ n ≤ value t (take (suc n) s)
 value-least t n [] = λ h z. absurd (omega arith)
-value-least t n (b ∷ bs) =
-    elim (is_digit t b) as (λ v. suc n ≤ cond v (1 + run_len t bs) 0 → cond (v && (digit_value t b == 0)) (1 + zeros t bs) 0 ≡ 0 → 10 ^ n ≤ digit_value t b * 10 ^ length (take n bs) + value t (take n bs)) [
-      | true ↦
-          λ h.
-          (elim (digit_value t b == 0) as (λ v. (digit_value t b == 0) ≡ v → cond v (1 + zeros t bs) 0 ≡ 0 → 10 ^ n ≤ digit_value t b * 10 ^ length (take n bs) + value t (take n bs)) [
-            | true ↦ λ e z. absurd (omega arith)
-            | false ↦ λ e z.
-                let some : 1 ≤ digit_value t b = omega (arith, eqb-false _ _ e) in
-                let len : length (take n bs) ≡ n = length-take-le n bs (omega (arith, prefix_len-le-length (is_digit t) bs)) in
-                let least : 1 * 10 ^ length (take n bs) ≤ digit_value t b * 10 ^ length (take n bs) = mul-le-mul_right (10 ^ length (take n bs)) some in
-                omega (arith, ap (λ (m : ℕ). 10 ^ m) len)
-          ]) refl
-      | false ↦ λ h z. absurd (omega arith)
-    ]
+value-least t n (b ∷ bs) = λ h z.
+    let some : 1 ≤ digit_value t b = grind (arith, nat_tests) in
+    let few : n ≤ run_len t bs = grind (arith, nat_tests) in
+    let len : length (take n bs) ≡ n = length-take-le n bs (omega (arith, prefix_len-le-length (is_digit t) bs)) in
+    let least : 1 * 10 ^ length (take n bs) ≤ digit_value t b * 10 ^ length (take n bs) = mul-le-mul_right (10 ^ length (take n bs)) some in
+    omega (arith, ap (λ (m : ℕ). 10 ^ m) len)
 
 -- ---- Runs that are cut or joined
 
