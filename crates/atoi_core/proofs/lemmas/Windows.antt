@@ -308,7 +308,7 @@ Skipping-more t below skip s at after before now next w after_skip e one on some
 -- The state after the loop, whose last window was loaded at offset `at`. If zeros are skipped and
 -- the window is full, it begins at the first significant digit.
 pub record Skipped (t : Table) (skip : Bool) (s : List ℕ) (at before now : ℕ) (w : Window) : Type 0 where
-  pub shown : Shows t 16 (drop at s) w
+  pub window : Shows t 16 (drop at s) w
   pub within : at ≤ length s
   pub off : skip ≡ false → at ≡ 0
   pub run_is : run_len t s ≡ at + run_len t (drop at s)
@@ -335,7 +335,7 @@ Skipped-end t below skip s at before now next w after_skip e one stops =
     let full : skip ≡ true → w.len ≡ 16 → at ≡ zeros t s = λ h k. omega (arith, last h, seen.zeroes_of k) in
     let short : w.len < 16 → zeros t (drop at s) < 16 = λ h. omega (arith, seen.len_is) in
     record {
-      shown = seen;
+      window = seen;
       within = after_skip.within;
       off = after_skip.off;
       run_is = run_is;

@@ -70,7 +70,7 @@ returns-then-second-lt16-clause-loads g c =
 two_long : (g : _) (c : After-window-second g) → 16 ≤ c.window-second.result.len → 32 ≤ length (drop c.loop-next.at c.args.s.now)
 two_long g c more =
     let body = drop c.loop-next.at c.args.s.now in
-    let first = prefix_len-drop (is_digit g.Self.Engine.table) 16 body (omega (arith, c.if-first-lt16.false, (ended g c).shown.len_is)) in
+    let first = prefix_len-drop (is_digit g.Self.Engine.table) 16 body (omega (arith, c.if-first-lt16.false, (ended g c).window.len_is)) in
     omega (arith, first, (middle g c).len_is, prefix_len-le-length (is_digit g.Self.Engine.table) body)
 
 pub slice_bounds-window_8-count : goal.slice_bounds-window_8-count
