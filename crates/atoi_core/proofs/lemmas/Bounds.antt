@@ -2,16 +2,16 @@
 -- under the negative bound, which is the magnitude of `T::MIN`.
 use Rattle.std.proofs.Common.{◌≡◌, ◌⊎◌, ℕ, ◌+◌, ◌-◌, ◌^◌, ◌<◌, ◌≤◌, Bool, true, false, cond, eqb, List, Option, Some, None, refl, arith, inl, inr, lt_of_le_of_lt, le-ltb, ltb-false, ◌*◌, ◌/◌, ltb, leb, not, ◌&&◌, length, drop, Ok, Err, sym, ap, ap₂, ◌∙◌, subst, lit<}
 use Rattle.std.proofs.Math.Nat.{pow-le-pow_right}
-use Rattle.std.proofs.lemmas.Bool.{eqb-true, cases_lt, lt-leb, lt-ltb, ltb-true, eqb-false}
+use Rattle.std.proofs.lemmas.Bool.{eqb-true, cases_lt, lt-leb, ltb-true, eqb-false}
 use Rattle.atoi_core.specs.Digit.{Table, IsBelowTen, is_digit}
 use Rattle.atoi_core.specs.Run.{run_len, run, zeros, value}
 use Rattle.atoi_core.specs.Magnitude.{Class, narrow, wide64, wide128, whole, prefix, is_above, Extent, invalid, refusal, rule_of, skipped_zeros, HasDigits}
 use Rattle.atoi_core.specs.IntType.{IntType, IsSized, greatest_of, class_of, bound_of, limit_of}
 use Rattle.atoi_core.specs.Laws.{HasLimitOfWhole}
 use Rattle.atoi_core.proofs.lemmas.Runs.{value-ge, prefix_len-drop, zeros-le, value-below, value-drop_zeros}
-use Rattle.atoi_core.proofs.lemmas.Calls.{limit_at, significant_len, first_of, refusal-is, accepted, refusal-none, refused_empty, refused_size, refused_overflow, refused_followed, refusal-cases, counted_number, map_unless_ok, map_unless_err, whole_is_run}
+use Rattle.atoi_core.proofs.lemmas.Calls.{limit_at, significant_len, accepted, refusal-none, refused_empty, refused_size, refused_overflow, refused_followed, refusal-cases, counted_number, map_unless_ok, map_unless_err, whole_is_run}
 use Rattle.std.proofs.Math.IntN.{ℤ}
-use Rattle.atoi_core.specs.Refusal.{Refusal, empty, overflow, number_in, index_in}
+use Rattle.atoi_core.specs.Refusal.{Refusal, overflow, number_in, index_in}
 use Rattle.atoi_core.specs.Sign.{with_sign}
 use Rattle.atoi_core.specs.Answer.{whole_answer, prefix_answer}
 use Rattle.std.proofs.lemmas.List.{length-take-le}
@@ -223,13 +223,13 @@ module _ (t : Table) (int : IntType) (minus : Bool) (extent : Extent) (skip : Bo
       (λ r. bound_of int minus < number_in r → IsLeast × (index_in r ≡ run_len t s))
       (λ _ above. absurd (omega arith)) (λ _ _ above. absurd (omega arith)) (λ _ _ _ above. absurd (omega arith))
       (λ e l o f above.
-        let more : bound_of int minus < value t (run t s) = omega (arith, number_in-invalid (class_of int) (value t (run t s)) (run_len t s) s) in (
-          record {
-            least = only_least int minus (value t (run t s)) (ltb-false _ _ o) more;
-            refused_is = refused_overflow t (class_of int) (bound_of int minus) (limit_of int) extent skip s (omega (arith, eqb-false (run_len t s) 0 e)) l more;
-          },
-          index_in-invalid (class_of int) _ _ s,
-        ))
+      let more : bound_of int minus < value t (run t s) = omega (arith, number_in-invalid (class_of int) (value t (run t s)) (run_len t s) s) in (
+        record {
+          least = only_least int minus (value t (run t s)) (ltb-false _ _ o) more;
+          refused_is = refused_overflow t (class_of int) (bound_of int minus) (limit_of int) extent skip s (omega (arith, eqb-false (run_len t s) 0 e)) l more;
+        },
+        index_in-invalid (class_of int) _ _ s,
+      ))
       reason h
 
 chosen : (above : Bool) (y z : ℤ) → Some y ≡ cond above None (Some z) → (above ≡ false) × (y ≡ z)

@@ -1,7 +1,7 @@
 -- Errors: their order, their slices, what they say about the body, and their texts.
-use Rattle.std.proofs.Common.{◌≡◌, ◌↔◌, refl, ℕ, ◌+◌, Bool, List, ◌++◌, take, drop, Some, Result, Ok, Err, ℤ, sym, ap, ◌∙◌, take-append-drop, drop-drop, ◌<◌, ◌≤◌, true, false, eqb, length, Option, None, arith, eqb-true, ltb-true, ltb-false, ◌/◌, ◌%◌, ◌^◌, [], ◌∷◌, decimal, length-append, ◌⊎◌, inl, inr, suc, codes, get_or, IsAscii, rules}
+use Rattle.std.proofs.Common.{◌≡◌, ◌↔◌, refl, ℕ, ◌+◌, Bool, List, ◌++◌, take, drop, Some, Result, Ok, Err, ℤ, sym, ap, ◌∙◌, take-append-drop, drop-drop, ◌<◌, ◌≤◌, true, false, eqb, length, Option, None, arith, eqb-true, ltb-true, ltb-false, ◌/◌, ◌%◌, ◌^◌, [], ◌∷◌, decimal, length-append, inl, inr, suc, codes, get_or, IsAscii, rules}
 use Rattle.std.specs.declared.cmp.Ordering.{Ordering}
-use Rattle.std.specs.declared.cmp.Ordering.TheVariants.{Less, Equal, Greater}
+use Rattle.std.specs.declared.cmp.Ordering.TheVariants.{Equal}
 use Rattle.std.specs.Ordering.{nat_cmp, ordering_then}
 use Rattle.std.specs.Cmp.Lexicographic.{slice_cmp}
 use Rattle.std.specs.Cmp.{IsTotalOrder}
@@ -9,7 +9,7 @@ use Rattle.std.proofs.lemmas.Cmp.{nat_cmp_total, nat_list_cmp_total, on_total, t
 use Rattle.std.proofs.lemmas.Map.Lookups.{exact_bytes}
 use Rattle.atoi_core.specs.Refusal.{Refusal, empty, size, overflow, invalid64, invalid128, rank, numbers, input_of, refusal_cmp}
 use Rattle.atoi_core.specs.Digit.{decimal_table, Table, is_digit}
-use Rattle.atoi_core.specs.Magnitude.{whole, prefix, refusal, Class, narrow, wide64, wide128, Extent, is_above, leaves_rest, invalid}
+use Rattle.atoi_core.specs.Magnitude.{whole, prefix, refusal, Class, narrow, Extent, is_above, leaves_rest, invalid}
 use Rattle.atoi_core.specs.IntType.{IntType, class_of, bound_of, limit_of}
 use Rattle.atoi_core.specs.Sign.{with_sign}
 use Rattle.atoi_core.specs.Answer.{prefix_answer, with_more}

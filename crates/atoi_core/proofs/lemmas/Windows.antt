@@ -2,13 +2,13 @@
 -- window by window.
 use Rattle.std.proofs.Common.{◌≡◌, ◌⊎◌, ℕ, ◌+◌, ◌-◌, ◌*◌, ◌^◌, ◌<◌, ◌≤◌, min, Bool, true, false, cond, eqb, ltb, List, length, take, drop, Some, None, Ok, Err, refl, sym, ap, ◌∙◌, subst, inl, inr, arith, ne_eqb, le-ltb, lit<, ◌==◌, ◌/◌, ◌||◌, nat_lt, if◌then◌else◌}
 use Rattle.std.proofs.Math.Nat.{pow-le-pow_right}
-use Rattle.std.proofs.lemmas.Bool.{cases_lt, eqb-true, eqb-false, lt-ltb, false≢true}
+use Rattle.std.proofs.lemmas.Bool.{cases_lt, lt-ltb, false≢true}
 use Rattle.std.proofs.lemmas.List.{take-take, length-take, length-take-le, take_rest}
 use Rattle.std.proofs.lemmas.List.Sums.{prefix_len-le-length}
 use Rattle.atoi_core.specs.Digit.{Table, IsBelowTen, is_digit, is_zero}
 use Rattle.atoi_core.specs.Run.{run_len, run, zeros, value}
 use Rattle.atoi_core.specs.Refusal.{Refusal, empty, size, overflow}
-use Rattle.atoi_core.specs.Magnitude.{Class, narrow, wide64, wide128, HasDigits, skipped_zeros, refusal, unless_refused, prefix_magnitude}
+use Rattle.atoi_core.specs.Magnitude.{Class, narrow, HasDigits, skipped_zeros, refusal, unless_refused, prefix_magnitude}
 use Rattle.atoi_core.specs.Reading.{Reading, IsSkipped, significant_digits, cap, answer_by_digits, ReadingDecides}
 use Rattle.atoi_core.proofs.lemmas.Runs.{prefix_len-take, prefix_len-drop, zeros-le, value-below, value-take-add, value-drop_zeros}
 use Rattle.atoi_core.specs.Window.{window_of}

@@ -1,10 +1,9 @@
--- The recursive call writes all digits except the last one, and the text grows by that digit.
+-- The recursive call writes all digits but the last.
 use Rattle.std.proofs.Common.{arith, append_assoc}
 use Rattle.std.proofs.lemmas.Fmt.{IsAscii-decimal_wide}
 use Rattle.atoi_core.proofs.lemmas.Errors.{decimal_more, length_decimal_more, length_decimal_of_128_bits, length_decimal_of_64_bits}
 use Rattle.atoi_core.proofs.text.+put_decimal.Goals as goal
 
--- The text without the last digit is one byte shorter, so there is room for this digit.
 pub put_byte-requires-2 : goal.put_byte-requires-2
 put_byte-requires-2 t c =
     omega (arith, length_decimal_more c.args.value (omega arith) (omega arith), length_decimal_of_128_bits c.args.value (omega arith))

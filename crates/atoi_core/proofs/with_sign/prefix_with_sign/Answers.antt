@@ -1,5 +1,4 @@
--- In each case, the answer for the actual sign follows from the answer for the digits of a negative
--- number.
+-- Each answer follows from the one for the digits of a negative number.
 use Rattle.std.proofs.Common.{◌∙◌, sym, ap, arith}
 use Rattle.atoi_core.specs.Answer.{typed_prefix_answer}
 use Rattle.atoi_core.proofs.lemmas.Bounds.{prefix_number, prefix_least, prefix_error, prefix_overflows}

@@ -1,5 +1,4 @@
--- In each case, the answer for the actual sign follows from the answer for the digits of a negative
--- number.
+-- Each answer follows from the one for the digits of a negative number.
 use Rattle.std.proofs.Common.{◌∙◌, length, sym, ap, arith}
 use Rattle.atoi_core.specs.Answer.{typed_answer}
 use Rattle.atoi_core.proofs.lemmas.Bounds.{whole_number, whole_least, whole_error, whole_error_least, whole_overflows}

@@ -1,4 +1,4 @@
--- When the loop ends, `Skipped` holds. The answers and the number of loads follow from it.
+-- When the loop ends, `Skipped` holds, and the answers and the loads follow from it.
 use Rattle.std.proofs.Common.{◌≤◌, ◌∙◌, ap, refl, arith, lit<, length, drop}
 use Rattle.std.proofs.lemmas.List.{take_rest}
 use Rattle.std.proofs.lemmas.List.Sums.{prefix_len-le-length}
@@ -39,19 +39,17 @@ returns-else-len-eq0-clause-loads g c =
     c.loop-next.invariant c.window-next.ensures.window c.window-next.ensures.one_step c.then-not-skip.either in
     Skipped-loads after_skip 0 (omega arith) (omega arith) (omega arith)
 
--- What holds when the loop has ended at a full window.
+-- The loop has ended at a full window.
 ended : (g : _) (c : After-window-second g)
     → Skipped g.Self.Engine.table c.args.skip c.args.s.now c.loop-next.at c.args.steps.now c.window-next.new.steps c.window-next.result
 ended g c =
     Skipped-end _ g.met.Self.Engine.below_ten _ _ _ _ _ _ c.window-next.result
     c.loop-next.invariant c.window-next.ensures.window c.window-next.ensures.one_step c.then-not-skip.either
 
--- The window of 16 bytes after that full window.
 middle : (g : _) (c : After-window-second g) → Shows g.Self.Engine.table 16 (drop 16 (drop c.loop-next.at c.args.s.now)) c.window-second.result
 middle g c =
     shows_following g.Self.Engine.table g.met.Self.Engine.below_ten 16 16 c.args.s.now c.loop-next.at c.window-second.result c.window-second.ensures.window
 
--- The window of 8 bytes after these two windows.
 third : (g : _) (c : After-window_8-third g) → Shows g.Self.Engine.table 8 (drop 32 (drop c.loop-next.at c.args.s.now)) c.window_8-third.result
 third g c =
     shows_following g.Self.Engine.table g.met.Self.Engine.below_ten 8 32 c.args.s.now c.loop-next.at c.window_8-third.result c.window_8-third.ensures.window
@@ -66,7 +64,7 @@ returns-then-second-lt16-clause-loads g c =
     Skipped-loads (ended g (goal.at.returns-then-second-lt16-clause-loads g c).After-window-second)
     1 (omega (arith, c.window-second.ensures.one_step)) (omega arith) (omega arith)
 
--- If both windows are full, the slice has at least 32 bytes from the first of them on.
+-- Two full windows are 32 bytes.
 two_long : (g : _) (c : After-window-second g) → 16 ≤ c.window-second.result.len → 32 ≤ length (drop c.loop-next.at c.args.s.now)
 two_long g c more =
     let body = drop c.loop-next.at c.args.s.now in

@@ -1,4 +1,4 @@
--- When the loop ends, `Skipped` holds. The answers and the number of loads follow from it.
+-- When the loop ends, `Skipped` holds, and the answers and the loads follow from it.
 use Rattle.std.proofs.Common.{◌≡◌, ◌+◌, ◌*◌, ◌^◌, ◌≤◌, ◌∙◌, refl, arith, length, drop}
 use Rattle.atoi_core.specs.Magnitude.{wide64, prefix_magnitude}
 use Rattle.atoi_core.specs.Reading.{answer_by_digits}
@@ -37,19 +37,17 @@ returns-else-len-eq0-clause-loads g c =
     c.loop-window.invariant c.window-window.ensures.window c.window-window.ensures.one_step c.then-not-skip.either in
     Skipped-loads after_skip 0 (omega arith) (omega arith) (omega arith)
 
--- What holds when the loop has ended at a full window.
+-- The loop has ended at a full window.
 ended : (g : _) (c : After-window_8-back g)
     → Skipped g.Self.Engine.table c.args.skip c.args.s.now c.loop-window.at c.args.steps.now c.window-window.new.steps c.window-window.result
 ended g c =
     Skipped-end _ g.met.Self.Engine.below_ten _ _ _ _ _ _ c.window-window.result
     c.loop-window.invariant c.window-window.ensures.window c.window-window.ensures.one_step c.then-not-skip.either
 
--- The window of 8 bytes after that full window.
 following : (g : _) (c : After-window_8-back g) → Shows g.Self.Engine.table 8 (drop 16 (drop c.loop-window.at c.args.s.now)) c.window_8-back.result
 following g c =
     shows_following g.Self.Engine.table g.met.Self.Engine.below_ten 8 16 c.args.s.now c.loop-window.at c.window_8-back.result c.window_8-back.ensures.window
 
--- The two windows together decide the answer.
 decided : (g : _) (c : After-window_8-back g) →
     (c.loop-window.at + (16 + c.window_8-back.result.len) ≤ length c.args.s.now)
     × (answer_by_digits wide64 c.args.bound c.args.limit c.loop-window.at (16 + c.window_8-back.result.len) (c.window-window.result.number * 10 ^ c.window_8-back.result.len + c.window_8-back.result.number) c.args.s.now
