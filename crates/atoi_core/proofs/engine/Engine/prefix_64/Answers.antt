@@ -25,17 +25,14 @@ returns-then-len-eq0-clause-answer g c =
     c.loop-window.invariant c.window-window.ensures.window c.window-window.ensures.one_step c.then-not-skip.either in
     answers_empty _ _ _ _ _ _ _ _ _ _ after_skip c.if-len-eq0.true
 
-pub returns-else-len-eq0-clause-answer : goal.returns-else-len-eq0-clause-answer
-returns-else-len-eq0-clause-answer g c =
+pub returns-else-len-eq0 : goal.returns-else-len-eq0
+returns-else-len-eq0 g c =
     let after_skip = Skipped-end _ g.met.Self.Engine.below_ten _ _ _ _ _ _ c.window-window.result
     c.loop-window.invariant c.window-window.ensures.window c.window-window.ensures.one_step c.then-not-skip.either in
-    answers_short _ _ _ _ _ _ _ _ _ _ _ _ (omega arith) after_skip c.if-first-lt16.true (omega arith) (omega arith) c.requires.digits refl refl
-
-pub returns-else-len-eq0-clause-loads : goal.returns-else-len-eq0-clause-loads
-returns-else-len-eq0-clause-loads g c =
-    let after_skip = Skipped-end _ g.met.Self.Engine.below_ten _ _ _ _ _ _ c.window-window.result
-    c.loop-window.invariant c.window-window.ensures.window c.window-window.ensures.one_step c.then-not-skip.either in
-    Skipped-loads after_skip 0 (omega arith) (omega arith) (omega arith)
+    record {
+      answer = answers_short _ _ _ _ _ _ _ _ _ _ _ _ (omega arith) after_skip c.if-first-lt16.true (omega arith) (omega arith) c.requires.digits refl refl;
+      loads = Skipped-loads after_skip 0 (omega arith) (omega arith) (omega arith);
+    }
 
 -- The loop has ended at a full window.
 ended : (g : _) (c : After-window_8-back g)
@@ -63,10 +60,10 @@ overflow_add-back g c = omega (arith, (following g (goal.at.overflow_add-back g 
 pub answer_64-requires : goal.answer_64-requires
 answer_64-requires g c = record { inside = (decided g (goal.at.answer_64-requires g c).After-window_8-back).0 }
 
-pub returns-clause-answer : goal.returns-clause-answer
-returns-clause-answer g c =
-    rw c.append_digits-number.ensures at c.answer_64.ensures ∙ (decided g (goal.at.returns-clause-answer g c).After-window_8-back).1
-
-pub returns-clause-loads : goal.returns-clause-loads
-returns-clause-loads g c =
-    Skipped-loads (ended g (goal.at.returns-clause-loads g c).After-window_8-back) 1 (omega (arith, c.window_8-back.ensures.one_step)) (omega arith) (omega arith)
+pub returns : goal.returns
+returns g c =
+    let two = (goal.at.returns g c).After-window_8-back in
+    record {
+      answer = rw c.append_digits-number.ensures at c.answer_64.ensures ∙ (decided g two).1;
+      loads = Skipped-loads (ended g two) 1 (omega (arith, c.window_8-back.ensures.one_step)) (omega arith) (omega arith);
+    }
