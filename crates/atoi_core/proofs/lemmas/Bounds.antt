@@ -5,11 +5,11 @@ use Rattle.std.proofs.Math.Nat.{pow-le-pow_right}
 use Rattle.std.proofs.lemmas.Bool.{eqb-true, cases_lt, lt-leb, ltb-true, eqb-false}
 use Rattle.atoi_core.specs.Digit.{Table, IsBelowTen, is_digit}
 use Rattle.atoi_core.specs.Run.{run_len, run, zeros, value}
-use Rattle.atoi_core.specs.Magnitude.{Class, narrow, wide64, wide128, whole, prefix, is_above, Extent, invalid, refusal, rule_of, skipped_zeros, HasDigits}
+use Rattle.atoi_core.specs.Magnitude.{Class, narrow, wide64, wide128, whole, prefix, is_above, Extent, invalid, rule_of, skipped_zeros, HasDigits}
 use Rattle.atoi_core.specs.IntType.{IntType, IsSized, greatest_of, class_of, bound_of, limit_of}
 use Rattle.atoi_core.specs.Laws.{HasLimitOfWhole}
 use Rattle.atoi_core.proofs.lemmas.Runs.{value-ge, prefix_len-drop, zeros-le, value-below, value-drop_zeros}
-use Rattle.atoi_core.proofs.lemmas.Calls.{limit_at, significant_len, accepted, refusal-none, refused_empty, refused_size, refused_overflow, refused_followed, refusal-cases, counted_number, map_unless_ok, map_unless_err, whole_is_run}
+use Rattle.atoi_core.proofs.lemmas.Calls.{refused, limit_at, significant_len, accepted, refusal-none, refused_empty, refused_size, refused_overflow, refused_followed, refusal-cases, counted_number, map_unless_ok, map_unless_err, whole_is_run}
 use Rattle.std.proofs.Math.IntN.{ℤ}
 use Rattle.atoi_core.specs.Refusal.{Refusal, overflow, number_in, index_in}
 use Rattle.atoi_core.specs.Sign.{with_sign}
@@ -176,10 +176,6 @@ bound-true int true = omega arith
 bound-true int false = omega arith
 
 module _ (t : Table) (int : IntType) (minus : Bool) (extent : Extent) (skip : Bool) (s : List ℕ) where
-  -- The refusal of the body under the bound of a sign.
-  abbrev pub refused : Bool → Option Refusal
-  refused sign = refusal t (class_of int) (bound_of int sign) (limit_of int) extent skip s
-
   -- The error `Overflow` for this body.
   abbrev pub overflows : Refusal
   overflows = overflow (drop (rule_of (class_of int) extent skip (limit_of int) (run_len t s) (skipped_zeros t skip s)).dropped s)
@@ -188,14 +184,14 @@ module _ (t : Table) (int : IntType) (minus : Bool) (extent : Extent) (skip : Bo
   -- `Overflow`.
   pub record IsLeast : Type 0 where
     pub least : value t (run t s) ≡ int.greatest + 1
-    pub refused_is : refused minus ≡ Some overflows
+    pub refused_is : refused t int minus extent skip s ≡ Some overflows
 
-  accepted_too : refused true ≡ None → value t (run t s) ≤ bound_of int minus → refused minus ≡ None
+  accepted_too : refused t int true extent skip s ≡ None → value t (run t s) ≤ bound_of int minus → refused t int minus extent skip s ≡ None
   accepted_too h within =
       let fact = accepted t (class_of int) (bound_of int true) (limit_of int) extent skip s h in
       refusal-none t (class_of int) (bound_of int minus) (limit_of int) extent skip s (record { some = fact.some; short = fact.short; in_range = within; ends = fact.ends })
 
-  accepted_least : refused true ≡ None → bound_of int minus < value t (run t s) → IsLeast
+  accepted_least : refused t int true extent skip s ≡ None → bound_of int minus < value t (run t s) → IsLeast
   accepted_least h above =
       let fact = accepted t (class_of int) (bound_of int true) (limit_of int) extent skip s h in
       record {
@@ -204,9 +200,9 @@ module _ (t : Table) (int : IntType) (minus : Bool) (extent : Extent) (skip : Bo
       }
 
   -- An error whose number is within the bound for `minus` is the error under that bound too.
-  refused_too : (reason : Refusal) → refused true ≡ Some reason → number_in reason ≤ bound_of int minus → refused minus ≡ Some reason
+  refused_too : (reason : Refusal) → refused t int true extent skip s ≡ Some reason → number_in reason ≤ bound_of int minus → refused t int minus extent skip s ≡ Some reason
   refused_too reason h =
-      refusal-cases t (class_of int) (bound_of int true) (limit_of int) extent skip s (λ r. number_in r ≤ bound_of int minus → refused minus ≡ Some r)
+      refusal-cases t (class_of int) (bound_of int true) (limit_of int) extent skip s (λ r. number_in r ≤ bound_of int minus → refused t int minus extent skip s ≡ Some r)
       (λ e _. refused_empty t (class_of int) (bound_of int minus) (limit_of int) extent skip s (eqb-true _ _ e))
       (λ e l _. refused_size t (class_of int) (bound_of int minus) (limit_of int) extent skip s (some e) l)
       (λ e l o _. refused_overflow t (class_of int) (bound_of int minus) (limit_of int) extent skip s (some e) l (omega (arith, ltb-true _ _ o, bound-true int minus)))
@@ -217,7 +213,7 @@ module _ (t : Table) (int : IntType) (minus : Bool) (extent : Extent) (skip : Bo
       some e = omega (arith, eqb-false (run_len t s) 0 e)
 
   -- An error whose number is above that bound is `invalid` for the digits of `T::MIN`.
-  refused_least : (reason : Refusal) → refused true ≡ Some reason → bound_of int minus < number_in reason → IsLeast × (index_in reason ≡ run_len t s)
+  refused_least : (reason : Refusal) → refused t int true extent skip s ≡ Some reason → bound_of int minus < number_in reason → IsLeast × (index_in reason ≡ run_len t s)
   refused_least reason h =
       refusal-cases t (class_of int) (bound_of int true) (limit_of int) extent skip s
       (λ r. bound_of int minus < number_in r → IsLeast × (index_in r ≡ run_len t s))

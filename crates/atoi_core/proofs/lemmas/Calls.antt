@@ -148,6 +148,10 @@ module _ (table : Table) (class : Class) (bound limit : ℕ) (extent : Extent) (
       ap (option_map rank) refusal-is ∙ first_map is_empty is_long is_over is_followed empty too_long over followed
       ∙ ap (first_of is_empty is_long is_over is_followed 0 1 2) (rank-invalid class _ _ body)
 
+-- Why a body of an integer type is refused.
+abbrev pub refused : Table → IntType → (minus : Bool) → Extent → Bool → List ℕ → Option Refusal
+refused table int minus extent skip body = refusal table (class_of int) (bound_of int minus) (limit_of int) extent skip body
+
 -- ---- The sign at the start of a slice
 
 one_of_three : (a b : Bool) (x y z : Sign) (P : Sign → Type 0) → (a ≡ true → P x) → (a ≡ false → b ≡ true → P y) → P z → P (cond a x (cond b y z))

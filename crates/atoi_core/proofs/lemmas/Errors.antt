@@ -14,7 +14,7 @@ use Rattle.atoi_core.specs.IntType.{IntType, class_of, bound_of, limit_of}
 use Rattle.atoi_core.specs.Sign.{with_sign}
 use Rattle.atoi_core.specs.Answer.{prefix_answer, with_more}
 use Rattle.atoi_core.specs.Laws.{SignForm, sign_in, whole_call, prefix_call, IsSuffix, OrderAndSuffix, IsAbove, HasSomeDigits, IsFollowed, Explains, ErrorsInOrder}
-use Rattle.atoi_core.proofs.lemmas.Calls.{refusal-input, limit_at, significant_len, refusal-cases, drop-taken, counted_number, map_unless_err, whole_call-is, prefix_call-is}
+use Rattle.atoi_core.proofs.lemmas.Calls.{refused, refusal-input, limit_at, significant_len, refusal-cases, drop-taken, counted_number, map_unless_err, whole_call-is, prefix_call-is}
 use Rattle.std.proofs.lemmas.Bool.{eqb-false, not-true, cases_lt}
 use Rattle.std.proofs.lemmas.List.Sums.{prefix_len-le-length}
 use Rattle.atoi_core.specs.Run.{run_len, run, value}
@@ -69,20 +69,19 @@ with_more_err more (Ok found) reason h = absurd (cc h)
 with_more_err more (Err other) reason h = cc
 
 module _ (int : IntType) (form : SignForm) (skip : Bool) (s : List ℕ) where
-  -- Why the body is refused.
-  abbrev refused : Extent → Option Refusal
-  refused extent = refusal decimal_table (class_of int) (bound_of int (sign_in int form s).minus) (limit_of int) extent skip (sign_in int form s).body
+  abbrev body_refused : Extent → Option Refusal
+  body_refused extent = refused decimal_table int (sign_in int form s).minus extent skip (sign_in int form s).body
 
-  whole_refused : (reason : Refusal) → whole_call int form skip s ≡ Err reason → refused whole ≡ Some reason
+  whole_refused : (reason : Refusal) → whole_call int form skip s ≡ Err reason → body_refused whole ≡ Some reason
   whole_refused reason h = map_unless_err (with_sign (sign_in int form s).minus) _ _ reason (sym (whole_call-is int form skip s) ∙ h)
 
-  prefix_refused : (reason : Refusal) → prefix_call int form skip s ≡ Err reason → refused prefix ≡ Some reason
+  prefix_refused : (reason : Refusal) → prefix_call int form skip s ≡ Err reason → body_refused prefix ≡ Some reason
   prefix_refused reason h =
       let g = sign_in int form s in
       map_unless_err (counted_number g.minus) _ _ reason
       (with_more_err g.taken (prefix_answer decimal_table int g.minus skip g.body) reason (sym (prefix_call-is int form skip s) ∙ h))
 
-  suffix_in : (extent : Extent) (reason : Refusal) → refused extent ≡ Some reason → IsSuffix (input_of reason) s
+  suffix_in : (extent : Extent) (reason : Refusal) → body_refused extent ≡ Some reason → IsSuffix (input_of reason) s
   suffix_in extent reason h =
       suffix_of_body int form s (input_of reason)
       (refusal-input decimal_table (class_of int) (bound_of int (sign_in int form s).minus) (limit_of int) extent skip (sign_in int form s).body reason h)
@@ -122,7 +121,7 @@ module _ (int : IntType) (extent : Extent) (is_negative skip : Bool) (body : Lis
     short = not_above (limit_at (class_of int) extent skip (limit_of int)) (significant_len decimal_table skip body) short;
   }
 
-  explained : (reason : Refusal) → refusal decimal_table (class_of int) (bound_of int is_negative) (limit_of int) extent skip body ≡ Some reason
+  explained : (reason : Refusal) → refused decimal_table int is_negative extent skip body ≡ Some reason
       → Explains int extent is_negative skip body reason
   explained reason h =
       let number = value decimal_table (run decimal_table body) in
