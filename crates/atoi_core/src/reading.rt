@@ -18,7 +18,7 @@ ghost use Rattle.atoi_core.specs.Reading.{ReadingDecides};
 /// two cases: the digits end within the bytes that were read, or at least `cap` significant digits
 /// were read. `cap` is the largest number of significant digits that the error `Size` counts.
 /// Calling this function does nothing.
-#[tactic(auto, using(crate::proofs::lemmas::Windows::reading_decides))]
+#[tactic(auto, using(crate::proofs::lemmas::Readings::reading_decides))]
 pub fn reading_decides()
     ensures { ReadingDecides }
 {}

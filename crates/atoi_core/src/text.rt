@@ -56,7 +56,7 @@ pub(crate) fn put_decimal(value: u128, out: &mut [u8], at: usize) -> usize
 }
 
 // Writes `byte` in hexadecimal capitals, without a leading zero.
-#[tactic(auto, using(crate::proofs::lemmas::Errors::hex_text_of_one_digit))]
+#[tactic(auto, using(crate::proofs::lemmas::ErrorTexts::hex_text_of_one_digit))]
 fn put_hex(byte: u8, out: &mut [u8], at: usize) -> usize
     requires { at + 2 ≤ length out.old }
     ensures written { take result out.new ≡ take at out.old ++ hex_text byte }

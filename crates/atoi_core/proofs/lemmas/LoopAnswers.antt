@@ -12,7 +12,8 @@ use Rattle.atoi_core.specs.Reading.{IsSkipped, cap, answer_by_digits}
 use Rattle.atoi_core.specs.declared.window.Window.{Window}
 use Rattle.atoi_core.proofs.lemmas.Calls.{refused_empty, is_empty, is_long, is_over, too_long, over, limit_at, significant_len, IsAccepted, refusal-none, refused_size, refused_overflow, first_of, refusal-is}
 use Rattle.atoi_core.proofs.lemmas.Runs.{prefix_len-take, prefix_len-drop, zeros-le, value-take-le, value-least, narrow_whole_is}
-use Rattle.atoi_core.proofs.lemmas.Windows.{within, below, short, short_below, all_decide, Shows, zeros_both, Shows-join, Shows-join_two, shows, Skipped}
+use Rattle.atoi_core.proofs.lemmas.Readings.{within, below, short, short_below, all_decide}
+use Rattle.atoi_core.proofs.lemmas.Windows.{Shows, zeros_both, Shows-join, Shows-join_two, shows, Skipped}
 use Rattle.std.proofs.lemmas.Bool.Decides.{nat_tests}
 use Rattle.std.proofs.Math.Nat.{pow-le-pow_right}
 use Rattle.atoi_core.specs.Window.{window_of}

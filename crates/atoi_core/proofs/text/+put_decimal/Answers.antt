@@ -1,7 +1,7 @@
 -- The recursive call writes all digits but the last.
 use Rattle.std.proofs.Common.{arith, append_assoc}
 use Rattle.std.proofs.lemmas.Fmt.{IsAscii-decimal_wide}
-use Rattle.atoi_core.proofs.lemmas.Errors.{decimal_more, length_decimal_more, length_decimal_of_128_bits, length_decimal_of_64_bits}
+use Rattle.atoi_core.proofs.lemmas.ErrorTexts.{decimal_more, length_decimal_more, length_decimal_of_128_bits, length_decimal_of_64_bits}
 use Rattle.atoi_core.proofs.text.+put_decimal.Goals as goal
 
 pub put_byte-requires-2 : goal.put_byte-requires-2
