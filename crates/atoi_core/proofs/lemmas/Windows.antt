@@ -30,26 +30,6 @@ pub record Shows (t : Table) (c : ℕ) (s : List ℕ) (w : Window) : Type 0 wher
 zeroes_cases : (n c z k : ℕ) → z ≡ min c k → (cond (n == c) z 0 ≤ k) × (0 < cond (n == c) z 0 → n ≡ c) × (n ≡ c → cond (n == c) z 0 ≡ min c k)
 zeroes_cases n c z k e = (grind (arith, nat_tests), λ some. grind (arith, nat_tests), λ full. grind (arith, nat_tests))
 
-shows_of : (t : Table) → IsBelowTen t → (c : ℕ) (s : List ℕ) → Shows t c s (window_of t c s)
-shows_of t ten c s =
-    let n : ℕ = run_len t (take c s) in
-    let len : n ≡ min c (run_len t s) = prefix_len-take (is_digit t) c s in
-    let reading : Reading t c s n (zeros t (take c s)) (value t (take n (take c s))) =
-    record { digits_are = refl; leading_are = refl; number_is = refl } in
-    let seen = zeroes_cases n c (zeros t (take c s)) (zeros t s) (prefix_len-take (is_zero t) c s) in
-    record {
-      reading = reading;
-      len_is = len;
-      number_is = ap (value t) (take-take n c s (omega arith));
-      below = below t ten c s n _ _ reading;
-      zeroes = seen.0;
-      full = seen.1;
-      zeroes_of = seen.2;
-    }
-
-pub shows : (t : Table) → IsBelowTen t → (c : ℕ) (s : List ℕ) (w : Window) → w ≡ window_of t c s → Shows t c s w
-shows t ten c s w e = let P : Window → Type 0 = λ v. Shows t c s v in subst P (sym e) (shows_of t ten c s)
-
 -- The leading zeros of two readings in a row.
 abbrev pub zeros_both : (c leading others : ℕ) → ℕ
 zeros_both c leading others = cond (eqb leading c) (c + others) leading
@@ -71,6 +51,43 @@ pub Shows-join_two : (t : Table) (s : List ℕ) (first_window middle back : Wind
 Shows-join_two t s first_window middle back first full second more third =
     join_readings t 32 8 s _ _ _ _ _ (join_readings t 16 16 s _ _ _ _ _ (Shows-full t 16 s first_window first full) (Shows-full t 16 (drop 16 s) middle second more)) third.reading
 
+module _ (t : Table) (ten : IsBelowTen t) where
+  shows_of : (c : ℕ) (s : List ℕ) → Shows t c s (window_of t c s)
+  shows_of c s =
+      let n : ℕ = run_len t (take c s) in
+      let len : n ≡ min c (run_len t s) = prefix_len-take (is_digit t) c s in
+      let reading : Reading t c s n (zeros t (take c s)) (value t (take n (take c s))) =
+      record { digits_are = refl; leading_are = refl; number_is = refl } in
+      let seen = zeroes_cases n c (zeros t (take c s)) (zeros t s) (prefix_len-take (is_zero t) c s) in
+      record {
+        reading = reading;
+        len_is = len;
+        number_is = ap (value t) (take-take n c s (omega arith));
+        below = below t ten c s n _ _ reading;
+        zeroes = seen.0;
+        full = seen.1;
+        zeroes_of = seen.2;
+      }
+
+  pub shows : (c : ℕ) (s : List ℕ) (w : Window) → w ≡ window_of t c s → Shows t c s w
+  shows c s w e = let P : Window → Type 0 = λ v. Shows t c s v in subst P (sym e) (shows_of c s)
+
+  pub shows_rest : (c : ℕ) (s : List ℕ) (at : ℕ) (w : Window) →
+      w ≡ window_of t c (take (length s - at) (drop at s)) → Shows t c (drop at s) w
+  shows_rest c s at w e = shows c (drop at s) w (e ∙ ap (window_of t c) (take_rest s at))
+
+  pub two_full : (s : List ℕ) (first second : Window) → first ≡ window_of t 16 s → first.len ≡ 16
+      → second ≡ window_of t 16 (take (length s - 16) (drop 16 s)) → 16 ≤ second.len → 32 ≤ run_len t s
+  two_full s first second is full next more =
+      omega (arith, prefix_len-drop (is_digit t) 16 s (omega (arith, full, (shows 16 s first is).len_is)), (shows_rest 16 s 16 second next).len_is)
+
+  pub shows_following : (c k : ℕ) (s : List ℕ) (at : ℕ) (w : Window) →
+      w ≡ window_of t c (take (length (take (length s - at) (drop at s)) - k) (drop k (take (length s - at) (drop at s)))) →
+      Shows t c (drop k (drop at s)) w
+  shows_following c k s at w e =
+      shows_rest c (drop at s) k w
+      (e ∙ ap (λ (r : List ℕ). window_of t c (take (length r - k) (drop k r))) (take_rest s at))
+
 -- ---- The loop that skips zeros
 
 -- The state of the loop before it loads a window at offset `at`: one load for each 16 of the zeros
@@ -83,50 +100,8 @@ pub record Skipping (t : Table) (skip : Bool) (s : List ℕ) (at before now : �
   pub least : at + 16 * before ≤ 16 * now
   pub offset_is : (16 * now ≡ 16 * before + at) ⊎ ((at ≡ zeros t s) × (zeros t s / 16 < run_len t s / 16))
 
-pub shows_rest : (t : Table) → IsBelowTen t → (c : ℕ) (s : List ℕ) (at : ℕ) (w : Window) →
-    w ≡ window_of t c (take (length s - at) (drop at s)) → Shows t c (drop at s) w
-shows_rest t below c s at w e = shows t below c (drop at s) w (e ∙ ap (window_of t c) (take_rest s at))
-
-pub two_full : (t : Table) → IsBelowTen t → (s : List ℕ) (first second : Window) → first ≡ window_of t 16 s → first.len ≡ 16
-    → second ≡ window_of t 16 (take (length s - 16) (drop 16 s)) → 16 ≤ second.len → 32 ≤ run_len t s
-two_full t below s first second is full next more =
-    omega (arith, prefix_len-drop (is_digit t) 16 s (omega (arith, full, (shows t below 16 s first is).len_is)), (shows_rest t below 16 s 16 second next).len_is)
-
-pub shows_following : (t : Table) → IsBelowTen t → (c k : ℕ) (s : List ℕ) (at : ℕ) (w : Window) →
-    w ≡ window_of t c (take (length (take (length s - at) (drop at s)) - k) (drop k (take (length s - at) (drop at s)))) →
-    Shows t c (drop k (drop at s)) w
-shows_following t below c k s at w e =
-    shows_rest t below c (drop at s) k w
-    (e ∙ ap (λ (r : List ℕ). window_of t c (take (length r - k) (drop k r))) (take_rest s at))
-
 pub Skipping-none : (t : Table) (skip : Bool) (s : List ℕ) (n : ℕ) → Skipping t skip s 0 n n
 Skipping-none t skip s n = record { bounded = omega arith; within = omega arith; off = λ _. refl; most = omega arith; least = omega arith; offset_is = inl (omega arith) }
-
-pub Skipping-more : (t : Table) → IsBelowTen t → (skip : Bool) (s : List ℕ) (at after before now next : ℕ) (w : Window) →
-    Skipping t skip s at before now → w ≡ window_of t 16 (take (length s - at) (drop at s)) → next ≡ now + 1 →
-    skip ≡ true → 0 < w.zeroes → after ≡ at + w.zeroes → Skipping t skip s after before next
-Skipping-more t below skip s at after before now next w after_skip e one on some dropped =
-    let seen : Shows t 16 (drop at s) w = shows_rest t below 16 s at w e in
-    let zeros_are : zeros t s ≡ at + zeros t (drop at s) = prefix_len-drop (is_zero t) at s after_skip.bounded in
-    let run_is : run_len t s ≡ at + run_len t (drop at s) = prefix_len-drop (is_digit t) at s (omega (arith, after_skip.bounded, zeros-le t s)) in
-    let run_most : run_len t s ≤ length s = prefix_len-le-length (is_digit t) s in
-    let zero_most : zeros t s ≤ run_len t s = zeros-le t s in
-    let reported : w.zeroes ≡ min 16 (zeros t (drop at s)) = seen.zeroes_of (seen.full some) in
-    let full : w.len ≡ 16 = seen.full some in
-    let run_more : w.len ≤ run_len t (drop at s) = omega (arith, seen.len_is) in
-    let exact : 16 * now ≡ 16 * before + at =
-    elim after_skip.offset_is [ inl h ↦ h | inr h ↦ absurd (omega (arith, h.0)) ] in
-    record {
-      bounded = omega arith;
-      within = omega arith;
-      off = λ h. absurd (false≢true (sym h ∙ on));
-      most = omega arith;
-      least = omega arith;
-      offset_is = elim (cases_lt w.zeroes 16) [
-        | inl h ↦ inr (omega arith, omega arith)
-        | inr h ↦ inl (omega arith)
-      ];
-    }
 
 -- The state after the loop, whose last window was loaded at offset `at`. If zeros are skipped and
 -- the window is full, it begins at the first significant digit.
@@ -144,59 +119,6 @@ pub record Skipped (t : Table) (skip : Bool) (s : List ℕ) (at before now : ℕ
   pub unskipped : skip ≡ false → now ≤ before + 1
   pub least : skip ≡ true → zeros t s + 16 * before ≤ 16 * now
   pub offset_is : skip ≡ true → (at ≡ 16 * (zeros t s / 16)) ⊎ ((at ≡ zeros t s) × (zeros t s / 16 < run_len t s / 16))
-
-pub Skipped-end : (t : Table) → IsBelowTen t → (skip : Bool) (s : List ℕ) (at before now next : ℕ) (w : Window) →
-    Skipping t skip s at before now → w ≡ window_of t 16 (take (length s - at) (drop at s)) → next ≡ now + 1 →
-    (skip ≡ false) ⊎ ((skip ≡ true) × (w.zeroes ≡ 0)) → Skipped t skip s at before next w
-Skipped-end t below skip s at before now next w after_skip e one stops =
-    let last : skip ≡ true → w.zeroes ≡ 0 =
-    λ h. elim stops [ inl k ↦ absurd (false≢true (sym k ∙ h)) | inr k ↦ k.1 ] in
-    let seen : Shows t 16 (drop at s) w = shows_rest t below 16 s at w e in
-    let zeros_are : zeros t s ≡ at + zeros t (drop at s) = prefix_len-drop (is_zero t) at s after_skip.bounded in
-    let run_is : run_len t s ≡ at + run_len t (drop at s) = prefix_len-drop (is_digit t) at s (omega (arith, after_skip.bounded, zeros-le t s)) in
-    let zero_most : zeros t (drop at s) ≤ run_len t (drop at s) = zeros-le t (drop at s) in
-    let full : skip ≡ true → w.len ≡ 16 → at ≡ zeros t s = λ h k. omega (arith, last h, seen.zeroes_of k) in
-    let short : w.len < 16 → zeros t (drop at s) < 16 = λ h. omega (arith, seen.len_is) in
-    record {
-      window = seen;
-      within = after_skip.within;
-      off = after_skip.off;
-      run_is = run_is;
-      zeros_are = zeros_are;
-      value_is = value-drop_zeros t at s after_skip.bounded;
-      full = full;
-      last = last;
-      more = omega (arith, after_skip.least);
-      most = omega (arith, after_skip.most, after_skip.bounded);
-      unskipped = λ h. omega (arith, after_skip.off h, after_skip.most);
-      least = λ h. elim (cases_lt w.len 16) [
-        | inl k ↦ omega (arith, short k, after_skip.least)
-        | inr k ↦ omega (arith, full h (omega (arith, seen.len_is)), after_skip.least)
-      ];
-      offset_is = λ h. elim after_skip.offset_is [
-        | inr k ↦ inr k
-        | inl k ↦ (elim (cases_lt w.len 16) [
-          | inl m ↦ inl (omega (arith, short m))
-          | inr m ↦ inl (omega (arith, full h (omega (arith, seen.len_is))))
-        ])
-      ];
-    }
-
--- After `window_after_zeros`; one load more, for the window before that call.
-pub Skipped-after_zeros : (t : Table) → IsBelowTen t → (s : List ℕ) (at before now : ℕ) (w : Window) →
-    at ≡ (if nat_lt (zeros t s / 16) (run_len t s / 16) then zeros t s else 16 * (zeros t s / 16)) →
-    w ≡ window_of t 16 (drop at s) → w.zeroes ≡ 0 → now ≡ before + (at + 15) / 16 → Skipped t true s at before (now + 1) w
-Skipped-after_zeros t below s at before now w offset e none loads =
-    let skipping : Skipping t true s at before now =
-    record {
-      bounded = grind (arith, nat_tests);
-      within = grind (arith, nat_tests, zeros-le t s, prefix_len-le-length (is_digit t) s);
-      off = λ h. absurd (cc h);
-      most = omega arith;
-      least = omega arith;
-      offset_is = grind (arith, nat_tests);
-    } in
-    Skipped-end t below true s at before now (now + 1) w skipping (e ∙ ap (window_of t 16) (sym (take_rest s at))) refl (inr (refl, none))
 
 -- After the loop, `more` windows are loaded.
 pub Skipped-loads : {t : Table} {skip : Bool} {s : List ℕ} {at before now last most unskipped : ℕ} {w : Window} →
@@ -225,24 +147,104 @@ Skipped-one t false s at before now last after_skip one counted = record {
   at_least_skipping = λ on. absurd (cc on);
 }
 
-pub Skipping-first_window : (t : Table) → IsBelowTen t → (s : List ℕ) (n zeroes : ℕ) → zeroes ≡ (window_of t 16 s).zeroes → 0 < zeroes →
-    Skipping t true s zeroes n (n + 1)
-Skipping-first_window t below s n zeroes e some =
-    let w : Window = window_of t 16 s in
-    Skipping-more t below true s 0 zeroes n n (n + 1) w (Skipping-none t true s n) (ap (window_of t 16) (sym (take_rest s 0))) refl refl
-    (omega arith) (omega arith)
+module _ (t : Table) (ten : IsBelowTen t) where
+  pub Skipping-more : (skip : Bool) (s : List ℕ) (at after before now next : ℕ) (w : Window) →
+      Skipping t skip s at before now → w ≡ window_of t 16 (take (length s - at) (drop at s)) → next ≡ now + 1 →
+      skip ≡ true → 0 < w.zeroes → after ≡ at + w.zeroes → Skipping t skip s after before next
+  Skipping-more skip s at after before now next w after_skip e one on some dropped =
+      let seen : Shows t 16 (drop at s) w = shows_rest t ten 16 s at w e in
+      let zeros_are : zeros t s ≡ at + zeros t (drop at s) = prefix_len-drop (is_zero t) at s after_skip.bounded in
+      let run_is : run_len t s ≡ at + run_len t (drop at s) = prefix_len-drop (is_digit t) at s (omega (arith, after_skip.bounded, zeros-le t s)) in
+      let run_most : run_len t s ≤ length s = prefix_len-le-length (is_digit t) s in
+      let zero_most : zeros t s ≤ run_len t s = zeros-le t s in
+      let reported : w.zeroes ≡ min 16 (zeros t (drop at s)) = seen.zeroes_of (seen.full some) in
+      let full : w.len ≡ 16 = seen.full some in
+      let run_more : w.len ≤ run_len t (drop at s) = omega (arith, seen.len_is) in
+      let exact : 16 * now ≡ 16 * before + at =
+      elim after_skip.offset_is [ inl h ↦ h | inr h ↦ absurd (omega (arith, h.0)) ] in
+      record {
+        bounded = omega arith;
+        within = omega arith;
+        off = λ h. absurd (false≢true (sym h ∙ on));
+        most = omega arith;
+        least = omega arith;
+        offset_is = elim (cases_lt w.zeroes 16) [
+          | inl h ↦ inr (omega arith, omega arith)
+          | inr h ↦ inl (omega arith)
+        ];
+      }
 
-pub Skipped-at_once : (t : Table) → IsBelowTen t → (skip : Bool) (s : List ℕ) (before next : ℕ) (w : Window) →
-    w ≡ window_of t 16 s → next ≡ before + 1 → (skip ≡ false) ⊎ ((skip ≡ true) × (w.zeroes ≡ 0)) → Skipped t skip s 0 before next w
-Skipped-at_once t below skip s before next w e one stops =
-    Skipped-end t below skip s 0 before before next w (Skipping-none t skip s before)
-    (e ∙ ap (window_of t 16) (sym (take_rest s 0))) one stops
+  pub Skipped-end : (skip : Bool) (s : List ℕ) (at before now next : ℕ) (w : Window) →
+      Skipping t skip s at before now → w ≡ window_of t 16 (take (length s - at) (drop at s)) → next ≡ now + 1 →
+      (skip ≡ false) ⊎ ((skip ≡ true) × (w.zeroes ≡ 0)) → Skipped t skip s at before next w
+  Skipped-end skip s at before now next w after_skip e one stops =
+      let last : skip ≡ true → w.zeroes ≡ 0 =
+      λ h. elim stops [ inl k ↦ absurd (false≢true (sym k ∙ h)) | inr k ↦ k.1 ] in
+      let seen : Shows t 16 (drop at s) w = shows_rest t ten 16 s at w e in
+      let zeros_are : zeros t s ≡ at + zeros t (drop at s) = prefix_len-drop (is_zero t) at s after_skip.bounded in
+      let run_is : run_len t s ≡ at + run_len t (drop at s) = prefix_len-drop (is_digit t) at s (omega (arith, after_skip.bounded, zeros-le t s)) in
+      let zero_most : zeros t (drop at s) ≤ run_len t (drop at s) = zeros-le t (drop at s) in
+      let full : skip ≡ true → w.len ≡ 16 → at ≡ zeros t s = λ h k. omega (arith, last h, seen.zeroes_of k) in
+      let short : w.len < 16 → zeros t (drop at s) < 16 = λ h. omega (arith, seen.len_is) in
+      record {
+        window = seen;
+        within = after_skip.within;
+        off = after_skip.off;
+        run_is = run_is;
+        zeros_are = zeros_are;
+        value_is = value-drop_zeros t at s after_skip.bounded;
+        full = full;
+        last = last;
+        more = omega (arith, after_skip.least);
+        most = omega (arith, after_skip.most, after_skip.bounded);
+        unskipped = λ h. omega (arith, after_skip.off h, after_skip.most);
+        least = λ h. elim (cases_lt w.len 16) [
+          | inl k ↦ omega (arith, short k, after_skip.least)
+          | inr k ↦ omega (arith, full h (omega (arith, seen.len_is)), after_skip.least)
+        ];
+        offset_is = λ h. elim after_skip.offset_is [
+          | inr k ↦ inr k
+          | inl k ↦ (elim (cases_lt w.len 16) [
+            | inl m ↦ inl (omega (arith, short m))
+            | inr m ↦ inl (omega (arith, full h (omega (arith, seen.len_is))))
+          ])
+        ];
+      }
 
--- A first window that is not full reports no zeros.
-pub Skipped-first : (t : Table) → IsBelowTen t → (skip : Bool) (s : List ℕ) (before next : ℕ) (w : Window) →
-    w ≡ window_of t 16 s → next ≡ before + 1 → w.len < 16 → Skipped t skip s 0 before next w
-Skipped-first t below skip s before next w e one short =
-    let seen : Shows t 16 s w = shows t below 16 s w e in
-    let none : w.zeroes ≡ 0 = elim (cases_lt 0 w.zeroes) [ inl h ↦ absurd (omega (arith, seen.full h)) | inr h ↦ omega arith ] in
-    let stops = elim skip as (λ b. (b ≡ false) ⊎ ((b ≡ true) × (w.zeroes ≡ 0))) [ true ↦ inr (refl, none) | false ↦ inl refl ] in
-    Skipped-at_once t below skip s before next w e one stops
+  -- After `window_after_zeros`; one load more, for the window before that call.
+  pub Skipped-after_zeros : (s : List ℕ) (at before now : ℕ) (w : Window) →
+      at ≡ (if nat_lt (zeros t s / 16) (run_len t s / 16) then zeros t s else 16 * (zeros t s / 16)) →
+      w ≡ window_of t 16 (drop at s) → w.zeroes ≡ 0 → now ≡ before + (at + 15) / 16 → Skipped t true s at before (now + 1) w
+  Skipped-after_zeros s at before now w offset e none loads =
+      let skipping : Skipping t true s at before now =
+      record {
+        bounded = grind (arith, nat_tests);
+        within = grind (arith, nat_tests, zeros-le t s, prefix_len-le-length (is_digit t) s);
+        off = λ h. absurd (cc h);
+        most = omega arith;
+        least = omega arith;
+        offset_is = grind (arith, nat_tests);
+      } in
+      Skipped-end true s at before now (now + 1) w skipping (e ∙ ap (window_of t 16) (sym (take_rest s at))) refl (inr (refl, none))
+
+  pub Skipping-first_window : (s : List ℕ) (n zeroes : ℕ) → zeroes ≡ (window_of t 16 s).zeroes → 0 < zeroes →
+      Skipping t true s zeroes n (n + 1)
+  Skipping-first_window s n zeroes e some =
+      let w : Window = window_of t 16 s in
+      Skipping-more true s 0 zeroes n n (n + 1) w (Skipping-none t true s n) (ap (window_of t 16) (sym (take_rest s 0))) refl refl
+      (omega arith) (omega arith)
+
+  pub Skipped-at_once : (skip : Bool) (s : List ℕ) (before next : ℕ) (w : Window) →
+      w ≡ window_of t 16 s → next ≡ before + 1 → (skip ≡ false) ⊎ ((skip ≡ true) × (w.zeroes ≡ 0)) → Skipped t skip s 0 before next w
+  Skipped-at_once skip s before next w e one stops =
+      Skipped-end skip s 0 before before next w (Skipping-none t skip s before)
+      (e ∙ ap (window_of t 16) (sym (take_rest s 0))) one stops
+
+  -- A first window that is not full reports no zeros.
+  pub Skipped-first : (skip : Bool) (s : List ℕ) (before next : ℕ) (w : Window) →
+      w ≡ window_of t 16 s → next ≡ before + 1 → w.len < 16 → Skipped t skip s 0 before next w
+  Skipped-first skip s before next w e one short =
+      let seen : Shows t 16 s w = shows t ten 16 s w e in
+      let none : w.zeroes ≡ 0 = elim (cases_lt 0 w.zeroes) [ inl h ↦ absurd (omega (arith, seen.full h)) | inr h ↦ omega arith ] in
+      let stops = elim skip as (λ b. (b ≡ false) ⊎ ((b ≡ true) × (w.zeroes ≡ 0))) [ true ↦ inr (refl, none) | false ↦ inl refl ] in
+      Skipped-at_once skip s before next w e one stops
