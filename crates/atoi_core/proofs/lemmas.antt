@@ -1,6 +1,8 @@
 pub mod Runs
 pub mod Errors
+pub mod ErrorTexts
 pub mod Calls
+pub mod Readings
 pub mod Windows
 pub mod WordFields
 pub mod WordRuns

@@ -1,5 +1,4 @@
--- The number that digits spell, as one sum over their positions. The proofs are written out in
--- full, without automatic steps such as `omega`.
+-- The number that digits spell, as one sum over their positions.
 use Rattle.std.specs.Prelude.{◌≡◌, ℕ, zero, suc, ◌+◌, ◌-◌, ◌*◌, ◌^◌, List, [], ◌∷◌, length, slice_index, refl}
 use Rattle.std.proofs.Common.{sym, ap, ◌∙◌, add_assoc, zero-add, add-zero}
 use Rattle.std.proofs.Math.Nat.{suc-sub-suc, sub-zero, sub-add-eq}
@@ -7,31 +6,27 @@ use Rattle.std.proofs.Math.Numerals.{one-add}
 use Rattle.atoi_core.specs.Digit.{Table, digit_value}
 use Rattle.atoi_core.specs.Run.{value}
 
--- This is f(0) + .. + f(n - 1).
+-- f(0) + .. + f(n - 1).
 abbrev pub sum_below : ℕ → (ℕ → ℕ) → ℕ
 sum_below zero f = 0
 sum_below (suc n) f = sum_below n f + f n
 
--- The sum of the digit values of all digits, each multiplied by `10 ^ k` if `k` digits follow it.
+-- The sum of the digit values, each times `10 ^ k` if `k` digits follow it.
 abbrev pub closed_value : Table → List ℕ → ℕ
 closed_value table s = sum_below (length s) (λ i. digit_value table (slice_index s i) * 10 ^ (length s - 1 - i))
 
--- Sums of equal terms are equal.
 sum_below-equal : (n : ℕ) (f g : ℕ → ℕ) → ((i : ℕ) → f i ≡ g i) → sum_below n f ≡ sum_below n g
 sum_below-equal zero f g same = refl
 sum_below-equal (suc n) f g same =
     ap (λ (k : ℕ). k + f n) (sum_below-equal n f g same) ∙ ap (λ (k : ℕ). sum_below n g + k) (same n)
 
--- A sum is its first term plus the sum of the others.
 sum_below-suc : (n : ℕ) (f : ℕ → ℕ) → sum_below (suc n) f ≡ f 0 + sum_below n (λ i. f (suc i))
 sum_below-suc zero f = zero-add (f 0) ∙ sym (add-zero (f 0))
 sum_below-suc (suc n) f =
     ap (λ (k : ℕ). k + f (suc n)) (sum_below-suc n f)
     ∙ add_assoc (f 0) (sum_below n (λ i. f (suc i))) (f (suc n))
 
--- The next two lemmas count the digits that follow one of `n + 1` digits. The first digit is
--- followed by `n` others. If the first digit is dropped, the digit at index `i + 1` gets the index
--- `i`, and the number of digits that follow it stays the same.
+-- How many digits follow the first of `n + 1`, and the one at index `i + 1`.
 following_first : (n : ℕ) → suc n - 1 - 0 ≡ n
 following_first n = sub-zero (suc n - 1) ∙ suc-sub-suc n 0 ∙ sub-zero n
 

@@ -1,26 +1,24 @@
 -- Which bytes are digits, and their digit values.
 use Rattle.std.specs.Prelude.{ℕ, ◌-◌, ◌<◌, ◌&&◌, Bool, Option, Some, None, nat_le, ◌==◌, unwrap_or, is_some, if◌then◌else◌}
 
--- A table gives the digit value of each byte, or `None` if the byte is no digit.
+-- The digit value of each byte, or `None` if the byte is no digit.
 abbrev pub Table : Type 0
 Table = ℕ → Option ℕ
 
--- A digit is a byte that has a digit value.
 abbrev pub is_digit : Table → ℕ → Bool
 is_digit table byte = is_some (table byte)
 
--- The digit value of a byte, or 0 if the byte is no digit.
+-- 0 if the byte is no digit.
 abbrev pub digit_value : Table → ℕ → ℕ
 digit_value table byte = unwrap_or (table byte) 0
 
--- A zero is a digit whose digit value is 0.
+-- A digit whose digit value is 0.
 abbrev pub is_zero : Table → ℕ → Bool
 is_zero table byte = is_digit table byte && digit_value table byte == 0
 
--- Every digit value is below ten.
 abbrev pub IsBelowTen : Table → Type 0
 IsBelowTen table = (byte : ℕ) → digit_value table byte < 10
 
--- The decimal digits are the bytes 48 to 57, `0` to `9`, with the digit values 0 to 9.
+-- The bytes 48 to 57, `0` to `9`, with the digit values 0 to 9.
 abbrev pub decimal_table : Table
 decimal_table byte = if nat_le 48 byte && nat_le byte 57 then Some (byte - 48) else None

@@ -4,20 +4,20 @@ use Rattle.std.specs.List.{flat_map}
 use Rattle.std.specs.Fmt.{digits}
 use Rattle.atoi_core.specs.Refusal.{Refusal, empty, size, overflow, invalid64, invalid128}
 
--- This is a byte in hexadecimal capitals without leading zeros.
+-- A byte in hexadecimal capitals, no leading zeros.
 abbrev pub hex_text : ℕ → List ℕ
 hex_text byte = digits 16 true byte
 
--- These are the bytes in hexadecimal, joined by comma and space.
+-- Bytes in hexadecimal, joined by comma and space.
 abbrev pub hex_list : List ℕ → List ℕ
 hex_list [] = []
 hex_list (byte ∷ bytes) = hex_text byte ++ flat_map (λ b. codes ", " ++ hex_text b) bytes
 
--- An error shows at most the first 48 bytes of its slice, in brackets.
+-- At most the first 48 bytes of the slice, in brackets.
 abbrev pub input_text : List ℕ → List ℕ
 input_text input = codes "[" ++ hex_list (take 48 input) ++ codes "]"
 
--- This is the text of an error. `invalid64` has two spaces before `input:`, `invalid128` has one.
+-- `invalid64` has two spaces before `input:`, `invalid128` has one.
 abbrev pub error_text : Refusal → List ℕ
 error_text empty = codes "atoi_simd string is empty"
 error_text (size length input) =

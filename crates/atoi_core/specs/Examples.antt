@@ -1,5 +1,4 @@
--- Worked examples: answers, the texts and the order of errors, signs and limits. The check computes
--- each example from the definitions, and fails if they give anything else.
+-- Worked examples, each computed from the definitions by the check.
 use Rattle.std.specs.Fmt.{digits}
 use Rattle.std.specs.Prelude.{◌≡◌, [], true, false, ◌∷◌, length, replicate, decimal, pos, negsuc, codes, Ok, Err, refl}
 use Rattle.atoi_core.specs.Digit.{decimal_table}
@@ -11,7 +10,7 @@ use Rattle.atoi_core.specs.Answer.{parse_answer, parse_prefix_answer, whole_answ
 use Rattle.atoi_core.specs.Sign.{sign_of}
 use Rattle.std.specs.declared.cmp.Ordering.TheVariants.{Less}
 
--- A plus and any number of leading zeros are accepted if both flags are on.
+-- A plus and any number of zeros are accepted if both flags are on.
 pub plus_and_zeros : parse_answer u64_type true true (codes "+000000000000000000001234") ≡ Ok (pos 1234)
 unfolding refusal
 plus_and_zeros = refl
@@ -26,7 +25,7 @@ pub minus : parse_answer i64_type false false (codes "-2345") ≡ Ok (negsuc 234
 unfolding refusal
 minus = refl
 
--- A call for negative numbers reads the digits without a minus, and returns the negative number.
+-- A call for negative numbers reads digits without a minus.
 pub negative_body : whole_answer decimal_table i64_type true false (codes "2345") ≡ Ok (negsuc 2344)
 unfolding refusal
 negative_body = refl
@@ -36,13 +35,12 @@ pub prefix_stops : parse_prefix_answer u64_type false false (codes "123something
 unfolding refusal
 prefix_stops = refl
 
--- If the value is above the bound and another byte follows the digits, the error is `overflow`, not
--- `invalid64`.
+-- A value above the bound is `overflow`, whatever follows the digits.
 pub overflow_first : parse_answer u8_type false false (codes "256x") ≡ Err (overflow (codes "256x"))
 unfolding refusal
 overflow_first = refl
 
--- If a byte follows the digits, the error holds the value of the digits and the index of this byte.
+-- If a byte follows the digits, the error holds their value and its index.
 pub invalid_after_value : parse_answer u8_type false false (codes "255x") ≡ Err (invalid64 255 3 (codes "255x"))
 unfolding refusal
 invalid_after_value = refl
@@ -52,17 +50,17 @@ pub least_value : parse_answer i8_type false false (codes "-128") ≡ Ok (negsuc
 unfolding refusal
 least_value = refl
 
--- The smallest value minus one is out of range, and the slice in the error has no sign.
+-- The value below it is not, and the slice in the error has no sign.
 pub below_least : parse_answer i8_type false false (codes "-129") ≡ Err (overflow (codes "129"))
 unfolding refusal
 below_least = refl
 
--- If zeros are not skipped and the type has at most 32 bits, a prefix may have at most 16 digits.
+-- A narrow prefix that skips no zeros may have at most 16 digits.
 pub seventeen_digits_of_u8 : parse_prefix_answer u8_type false false (codes "00000000000000007") ≡ Err (size 17 (codes "00000000000000007"))
 unfolding refusal
 seventeen_digits_of_u8 = refl
 
--- 16 digits are accepted, and a byte after them that is no digit does not matter.
+-- 16 digits are accepted, and a byte after them does not matter.
 pub sixteen_digits_of_u8 : parse_prefix_answer u8_type false false (codes "0000000000000000x") ≡ Ok (pos 0, 16)
 unfolding refusal
 sixteen_digits_of_u8 = refl
@@ -72,19 +70,17 @@ pub sixteen_digits_of_i32 : parse_prefix_answer i32_type false false (codes "-00
 unfolding refusal
 sixteen_digits_of_i32 = refl
 
--- The slice in the error does not contain the sign.
+-- The slice in the error has no sign.
 pub seventeen_digits_of_i8 : parse_prefix_answer i8_type false false (codes "-00000000000000000") ≡ Err (size 17 (codes "00000000000000000"))
 unfolding refusal
 seventeen_digits_of_i8 = refl
 
--- The number of digits is checked before the range. For a prefix of a type of at most 32 bits, the
--- error `size` counts at most 17 digits.
+-- The number of digits is checked before the range, and `size` counts at most 17.
 pub size_before_range : parse_prefix_answer u8_type false false (codes "00000000000000255999") ≡ Err (size 17 (codes "00000000000000255999"))
 unfolding refusal
 size_before_range = refl
 
--- The number of digits is checked first even if the first 16 digits already spell a value above the
--- bound.
+-- Even if the first 16 digits already pass the bound.
 pub size_of_seventeen_ones : parse_prefix_answer u32_type false false (codes "11111111111111111") ≡ Err (size 17 (codes "11111111111111111"))
 unfolding refusal
 size_of_seventeen_ones = refl
@@ -94,19 +90,17 @@ pub range_of_sixteen_ones : parse_prefix_answer u32_type false false (codes "111
 unfolding refusal
 range_of_sixteen_ones = refl
 
--- If zeros are skipped and the type has at most 32 bits, a prefix may have any number of digits.
+-- A narrow prefix that skips zeros may have any number of digits.
 pub narrow_prefix_skips : parse_prefix_answer u8_type true false (codes "00000000000000007") ≡ Ok (pos 7, 17)
 unfolding refusal
 narrow_prefix_skips = refl
 
--- Digits that are all zeros spell zero, however many there are.
+-- Zeros alone spell zero.
 pub zeros_alone : parse_prefix_answer u8_type true false (codes "0000000000000000") ≡ Ok (pos 0, 16)
 unfolding refusal
 zeros_alone = refl
 
--- For a prefix of a type of at most 32 bits, the rule looks at the body in blocks of 16 bytes. The
--- slice in `overflow` leaves out the skipped zeros if the block in which they end is full of
--- digits.
+-- A narrow prefix drops its zeros if the block of 16 bytes in which they end is full of digits.
 pub overflow_without_zeros : parse_prefix_answer u8_type true false (codes "00000000000000255999") ≡ Err (overflow (codes "255999"))
 unfolding refusal
 overflow_without_zeros = refl
@@ -121,7 +115,7 @@ pub overflow_keeps_twelve : parse_prefix_answer u8_type true false (codes "00000
 unfolding refusal
 overflow_keeps_twelve = refl
 
--- Zeros that are not skipped count towards the limit of a type of 64 bits.
+-- Zeros that are not skipped count towards the limit.
 pub zeros_count_as_digits : parse_answer u64_type false false (codes "000000000000000000000") ≡ Err (size 21 (codes "000000000000000000000"))
 unfolding refusal
 zeros_count_as_digits = refl
@@ -136,25 +130,22 @@ pub greatest_u64 : parse_answer u64_type false false (codes "1844674407370955161
 unfolding refusal
 greatest_u64 = refl
 
--- The largest value of 64 bits plus one is out of range.
+-- The value above it is not.
 pub above_greatest_u64 : parse_answer u64_type false false (codes "18446744073709551616") ≡ Err (overflow (codes "18446744073709551616"))
 unfolding refusal
 above_greatest_u64 = refl
 
--- If zeros are not skipped, 20 digits are too many for a signed type of 64 bits, even if the first
--- one is a zero.
+-- 20 digits are too many for a signed type of 64 bits, even if the first is a zero.
 pub twenty_digits_of_i64 : parse_answer i64_type false false (codes "09223372036854775807") ≡ Err (size 20 (codes "09223372036854775807"))
 unfolding refusal
 twenty_digits_of_i64 = refl
 
--- For a type of 64 bits, the error `size` counts the skipped zeros and at most 24 of the digits
--- after them. Its slice starts after these zeros.
+-- `size` counts the skipped zeros and at most 24 digits; its slice starts after these zeros.
 pub size_is_capped : parse_prefix_answer u64_type true false (codes "0001111111111111111111111111") ≡ Err (size 27 (codes "1111111111111111111111111"))
 unfolding refusal
 size_is_capped = refl
 
--- If a call for negative numbers reads the magnitude of the smallest value, and a byte follows it,
--- the error holds that magnitude.
+-- The error of a call for negative numbers can hold the magnitude of the smallest value.
 pub magnitude_of_least : whole_answer decimal_table i64_type true false (codes "9223372036854775808x") ≡ Err (invalid64 9223372036854775808 19 (codes "9223372036854775808x"))
 unfolding refusal
 magnitude_of_least = refl
@@ -169,7 +160,7 @@ pub greatest_u128 : parse_answer u128_type false false (codes "34028236692093846
 unfolding refusal
 greatest_u128 = refl
 
--- The largest value of 128 bits plus one is out of range.
+-- The value above it is not.
 pub above_greatest_u128 : parse_answer u128_type false false (codes "340282366920938463463374607431768211456") ≡ Err (overflow (codes "340282366920938463463374607431768211456"))
 unfolding refusal
 above_greatest_u128 = refl
@@ -179,7 +170,7 @@ pub thirty_nine_zeros : parse_answer u128_type false false (codes "0000000000000
 unfolding refusal
 thirty_nine_zeros = refl
 
--- 41 zeros that are not skipped are too many, and the error `size` counts at most 40.
+-- 41 zeros are too many, and `size` counts at most 40.
 pub forty_one_zeros : parse_answer u128_type false false (codes "00000000000000000000000000000000000000000") ≡ Err (size 40 (codes "00000000000000000000000000000000000000000"))
 unfolding refusal
 forty_one_zeros = refl
@@ -209,12 +200,12 @@ pub no_minus_unsigned : parse_answer u8_type false true (codes "-5") ≡ Err emp
 unfolding refusal
 no_minus_unsigned = refl
 
--- If a byte follows the digits, its index counts the skipped zeros too, and the slice keeps them.
+-- The index of an invalid byte counts the skipped zeros, and the slice keeps them.
 pub rest_after_zeros : parse_answer u64_type true false (codes "0000000000000000000000007x") ≡ Err (invalid64 7 25 (codes "0000000000000000000000007x"))
 unfolding refusal
 rest_after_zeros = refl
 
--- If a byte follows the digits, the error for a type of 128 bits has a variant of its own.
+-- For 128 bits, the error of an invalid byte has a variant of its own.
 pub wide_error : parse_answer u128_type true false (codes "0000012x") ≡ Err (invalid128 12 7 (codes "0000012x"))
 unfolding refusal
 wide_error = refl
@@ -234,17 +225,17 @@ pub text_of_size : error_text (size 27 (codes "11")) ≡ codes "atoi_simd wrong 
 unfolding digits
 text_of_size = refl
 
--- An empty slice is shown as brackets.
+-- An empty slice is a pair of brackets.
 pub text_of_no_input : error_text (overflow (codes "")) ≡ codes "atoi_simd overflow, input: []"
 unfolding digits
 text_of_no_input = refl
 
--- Bytes are shown in hexadecimal capitals, without leading zeros.
+-- Bytes are in hexadecimal capitals, without leading zeros.
 pub text_of_small_bytes : error_text (overflow (0 ∷ 10 ∷ 13 ∷ 255 ∷ [])) ≡ codes "atoi_simd overflow, input: [0, A, D, FF]"
 unfolding digits
 text_of_small_bytes = refl
 
--- At most 48 bytes are shown.
+-- At most 48 bytes are printed.
 pub text_of_fifty : error_text (overflow (replicate 50 10)) ≡ error_text (overflow (replicate 48 10))
 unfolding digits
 text_of_fifty = refl
@@ -265,8 +256,7 @@ left_number_first = refl
 pub second_sign_stays : sign_of true true (codes "+-5") ≡ record { minus = false; taken = 1; body = codes "-5" }
 second_sign_stays = refl
 
--- The limit of each type of 64 and 128 bits is the number of digits of its largest magnitude, with
--- a minus or without.
+-- The limit of each wide type is the number of digits of its largest magnitude.
 pub limit_u64 : limit_of u64_type ≡ length (decimal (bound_of u64_type false))
 unfolding digits
 limit_u64 = refl

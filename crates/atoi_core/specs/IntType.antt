@@ -11,20 +11,17 @@ pub record IntType : Type 0 where
 abbrev pub int_type : ℕ → Bool → ℕ → IntType
 int_type bits signed greatest = record { bits = bits; signed = signed; greatest = greatest }
 
--- The largest value of a type with `bits` bits. If the type is signed, one of its bits is for the
--- sign.
+-- The largest value of a type with `bits` bits, one of them for the sign if it is signed.
 abbrev pub greatest_of : ℕ → Bool → ℕ
 greatest_of bits true = 2 ^ (bits - 1) - 1
 greatest_of bits false = 2 ^ bits - 1
 
--- The type has one of the five sizes, 8, 16, 32, 64 and 128 bits, and its largest value is the one
--- that `greatest_of` gives.
+-- The type has one of the five sizes, and the largest value of that size.
 pub record IsSized (int : IntType) : Type 0 where
   pub bits : (int.bits ≡ 8) ⊎ ((int.bits ≡ 16) ⊎ ((int.bits ≡ 32) ⊎ ((int.bits ≡ 64) ⊎ (int.bits ≡ 128))))
   pub greatest : int.greatest ≡ greatest_of int.bits int.signed
 
--- The fields of `int` are these three constants of a type: its number of bits, whether it is signed,
--- and its largest value.
+-- The fields of `int` are these constants of a type.
 pub record IsTypeOf (int : IntType) (bits : ℕ) (signed : Bool) (greatest : ℕ) : Type 0 where
   pub bits_are : int.bits ≡ bits
   pub sign_is : int.signed ≡ signed
@@ -34,14 +31,12 @@ pub record IsTypeOf (int : IntType) (bits : ℕ) (signed : Bool) (greatest : ℕ
 abbrev pub class_of : IntType → Class
 class_of int = if nat_le int.bits 32 then narrow else (if int.bits == 64 then wide64 else wide128)
 
--- The largest magnitude in range; a magnitude is a value without its sign. Without a minus, this is
--- the largest value. With a minus, which only a signed type has, it is one more: the magnitude of
--- the smallest value.
+-- The largest magnitude in range: the largest value, or one more with a minus, which only a signed
+-- type has.
 abbrev pub bound_of : IntType → Bool → ℕ
 bound_of int minus = if minus then int.greatest + 1 else int.greatest
 
--- How many digits the largest magnitude of a type of 64 or 128 bits has. This number is the same
--- with a minus and without.
+-- How many digits the largest magnitude of a type of 64 or 128 bits has, with a minus or without.
 abbrev pub limit_of : IntType → ℕ
 limit_of int = if int.bits == 64 then (if int.signed then 19 else 20) else 39
 

@@ -1,17 +1,17 @@
--- The answer to a body. The *body* is what follows the sign in a slice. The answer is the magnitude
--- of the number, which is its value without the sign, or the first reason to refuse the body.
+-- The answer to a *body*, the slice after its sign: the *magnitude* of the number, which is its value
+-- without the sign, or the first reason to refuse the body.
 use Rattle.std.specs.Prelude.{ℕ, ◌+◌, ◌-◌, ◌*◌, ◌/◌, ◌^◌, ◌<◌, ◌≤◌, min, Bool, true, false, not, ◌==◌, nat_lt, if◌then◌else◌, List, length, drop, Option, Some, None, Result, Ok, Err}
 use Rattle.atoi_core.specs.Digit.{Table}
 use Rattle.atoi_core.specs.Run.{run_len, run, zeros, value}
 use Rattle.atoi_core.specs.Refusal.{Refusal, empty, size, overflow, invalid64, invalid128}
 
--- The three width classes of integer types: at most 32 bits, 64 bits, and 128 bits.
+-- The width classes of integer types: at most 32 bits, 64 bits, 128 bits.
 pub data Class : Type 0 where
   narrow : Class
   wide64 : Class
   wide128 : Class
 
--- What is parsed: the whole slice, or the number at its start.
+-- What is parsed: the whole slice or the number at its start.
 pub data Extent : Type 0 where
   whole : Extent
   prefix : Extent
@@ -20,23 +20,19 @@ pub data Extent : Type 0 where
 abbrev pub HasDigits : ℕ → ℕ → Type 0
 HasDigits limit number = (10 ^ (limit - 1) ≤ number) × (number < 10 ^ limit)
 
--- How many leading zeros are skipped: all of them if `skip` is on, otherwise none.
+-- How many leading zeros are skipped: all or none.
 abbrev pub skipped_zeros : Table → Bool → List ℕ → ℕ
 skipped_zeros table skip body = if skip then zeros table body else 0
 
--- *Significant* digits are those after the skipped zeros. `limit` is how many of them are accepted;
--- it is `None` if there is no limit. If there are more, then the error `size` counts at most `cap`
--- of them. `dropped` is how many zeros the slice of `overflow` leaves out.
+-- *Significant* digits are those after the skipped zeros; `limit` of them are accepted, and `size`
+-- counts at most `cap`. `dropped` zeros are left out of the slice of `overflow`.
 pub record Rule : Type 0 where
   pub limit : Option ℕ
   pub cap : ℕ
   pub dropped : ℕ
 
--- The rule for each class, extent and flag. The limit for 64 and 128 bits is an argument. For a
--- prefix of a narrow type with zeros skipped, the rule looks at the body in blocks of 16 bytes. If
--- all digits together, leading zeros included, fill more blocks than the leading zeros do, then the
--- slice of `overflow` leaves out all leading zeros. Otherwise it leaves out only the zeros that
--- fill whole blocks.
+-- The rule for each class, extent and flag. A narrow prefix that skips zeros drops all of them if
+-- all digits fill more blocks of 16 bytes than the zeros do, otherwise those that fill blocks.
 abbrev pub rule_of : Class → Extent → Bool → (limit digits skipped : ℕ) → Rule
 rule_of narrow whole skip limit digits skipped = record { limit = None; cap = 0; dropped = 0 }
 rule_of narrow prefix false limit digits skipped = record { limit = Some 16; cap = 17; dropped = 0 }
@@ -45,25 +41,24 @@ rule_of narrow prefix true limit digits skipped =
 rule_of wide64 extent skip limit digits skipped = record { limit = Some limit; cap = 24; dropped = skipped }
 rule_of wide128 extent skip limit digits skipped = record { limit = Some limit; cap = 40; dropped = skipped }
 
--- There is a limit, and more digits are significant than it allows.
+-- There is a limit, and it is passed.
 abbrev pub is_above : Option ℕ → ℕ → Bool
 is_above None significant = false
 is_above (Some limit) significant = nat_lt limit significant
 
--- The body is parsed as a whole, and another byte follows its digits.
+-- A whole body has another byte after its digits.
 abbrev pub leaves_rest : Extent → ℕ → ℕ → Bool
 leaves_rest whole digits length = not (digits == length)
 leaves_rest prefix digits length = false
 
--- The error of a byte that is no digit: `invalid128` for 128 bits, otherwise `invalid64`.
+-- The error of a byte that is no digit.
 abbrev pub invalid : Class → ℕ → ℕ → List ℕ → Refusal
 invalid narrow number index body = invalid64 number index body
 invalid wide64 number index body = invalid64 number index body
 invalid wide128 number index body = invalid128 number index body
 
--- The first reason to refuse the body, if there is one: it does not start with a digit; it has too
--- many significant digits; its value is above the bound; or it is parsed as a whole, and another
--- byte follows the digits.
+-- The first reason to refuse the body: no digit, too many significant digits, a value above the
+-- bound, or another byte after the digits of a whole.
 unfoldable pub refusal : Table → Class → (bound limit : ℕ) → Extent → Bool → List ℕ → Option Refusal
 refusal table class bound limit extent skip body =
     let digits = run_len table body in
@@ -77,18 +72,16 @@ refusal table class bound limit extent skip body =
     else (if leaves_rest extent digits (length body) then Some (invalid class number digits body)
     else None)))
 
--- The answer if there is no reason to refuse, otherwise the reason.
 abbrev pub unless_refused : {A : Type 0} → Option Refusal → A → Result A Refusal
 unless_refused None answer = Ok answer
 unless_refused (Some reason) answer = Err reason
 
--- If a whole body is not refused, the answer to it is the value of its digits.
+-- The answer to a whole body is the value of its digits.
 abbrev pub whole_magnitude : Table → Class → (bound limit : ℕ) → Bool → List ℕ → Result ℕ Refusal
 whole_magnitude table class bound limit skip body =
     unless_refused (refusal table class bound limit whole skip body) (value table (run table body))
 
--- If the number at the start of a body is not refused, the answer to it is the value of its digits
--- and how many digits it has.
+-- The answer to the number at the start of a body is the value of its digits and their number.
 abbrev pub prefix_magnitude : Table → Class → (bound limit : ℕ) → Bool → List ℕ → Result (ℕ × ℕ) Refusal
 prefix_magnitude table class bound limit skip body =
     unless_refused (refusal table class bound limit prefix skip body) (value table (run table body), run_len table body)

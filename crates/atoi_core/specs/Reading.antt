@@ -6,33 +6,28 @@ use Rattle.atoi_core.specs.Run.{run_len, run, zeros, value}
 use Rattle.atoi_core.specs.Refusal.{Refusal, empty, size, overflow}
 use Rattle.atoi_core.specs.Magnitude.{Class, prefix, rule_of}
 
--- A reading of the first `count` bytes of a slice, or of all its bytes if there are fewer. These
--- bytes start with exactly `digits` digits and exactly `leading` zeros, and the digits spell
--- `number`.
+-- The first `count` bytes, or all if there are fewer, start with exactly `digits` digits and
+-- `leading` zeros, and the digits spell `number`.
 pub record Reading (table : Table) (count : ℕ) (s : List ℕ) (digits leading number : ℕ) : Type 0 where
   pub digits_are : digits ≡ run_len table (take count s)
   pub leading_are : leading ≡ zeros table (take count s)
   pub number_is : number ≡ value table (run table (take count s))
 
--- All bytes before index `offset` are zeros that are skipped. If zeros are not skipped, `offset` is
--- 0.
+-- All bytes before index `offset` are zeros that are skipped.
 pub record IsSkipped (table : Table) (skip : Bool) (s : List ℕ) (offset : ℕ) : Type 0 where
   pub zeros_only : offset ≤ zeros table s
   pub asked : skip ≡ false → offset ≡ 0
 
--- How many of the digits that were read are significant: all, except for the leading zeros if these
--- are skipped.
+-- How many of the digits that were read are significant.
 abbrev pub significant_digits : Bool → (digits leading : ℕ) → ℕ
 significant_digits true digits leading = digits - leading
 significant_digits false digits leading = digits
 
--- The largest number of significant digits that the error `size` of a wide class counts. The wide
--- classes are those of 64 and of 128 bits.
+-- The most significant digits that the error `size` of a wide class counts.
 abbrev pub cap : Class → ℕ
 cap class = (rule_of class prefix true 0 0 0).cap
 
--- The answer of a wide class to a slice that begins with `skipped` skipped zeros and then has
--- `significant` digits that spell `number`.
+-- The answer of a wide class to `skipped` zeros and then `significant` digits that spell `number`.
 abbrev pub answer_by_digits : Class → (bound limit skipped significant number : ℕ) → List ℕ → Result (ℕ × ℕ) Refusal
 answer_by_digits class bound limit skipped significant number s =
     if skipped + significant == 0 then Err empty

@@ -1,5 +1,4 @@
--- The errors of parses as contracts see them. A *reason* is an error with its slice as a list of
--- bytes.
+-- The errors as contracts see them: a *reason* is an error with its slice as a list of bytes.
 use Rattle.std.specs.Prelude.{ℕ, List, [], ◌∷◌, Result, Ok, Err}
 use Rattle.std.specs.Ordering.{nat_cmp, ordering_then}
 use Rattle.std.specs.Cmp.Lexicographic.{slice_cmp}
@@ -7,8 +6,7 @@ use Rattle.std.specs.declared.cmp.Ordering.{Ordering}
 use Rattle.atoi_core.specs.declared.error.AtoiSimdError.{AtoiSimdError}
 use Rattle.atoi_core.specs.declared.error.AtoiSimdError.TheVariants.{Empty, Size, Overflow, Invalid64, Invalid128}
 
--- The five reasons. Each corresponds to the variant of `AtoiSimdError` with the same name, and
--- holds its numbers and its slice.
+-- One reason for each variant of `AtoiSimdError`.
 pub data Refusal : Type 0 where
   empty : Refusal
   size : ℕ → List ℕ → Refusal
@@ -16,7 +14,6 @@ pub data Refusal : Type 0 where
   invalid64 : ℕ → ℕ → List ℕ → Refusal
   invalid128 : ℕ → ℕ → List ℕ → Refusal
 
--- The reason that an error means.
 abbrev pub refusal_of : AtoiSimdError → Refusal
 refusal_of Empty = empty
 refusal_of (Size length input) = size length input.now
@@ -24,7 +21,7 @@ refusal_of (Overflow input) = overflow input.now
 refusal_of (Invalid64 number index input) = invalid64 number index input.now
 refusal_of (Invalid128 number index input) = invalid128 number index input.now
 
--- The answer that a Rust `Result` means: a reason replaces the error.
+-- A `Result` with the reason in place of the error.
 abbrev pub answer_of : {A : Type 0} → Result A AtoiSimdError → Result A Refusal
 answer_of (Ok value) = Ok value
 answer_of (Err error) = Err (refusal_of error)
@@ -45,8 +42,7 @@ numbers (overflow input) = []
 numbers (invalid64 number index input) = number ∷ index ∷ []
 numbers (invalid128 number index input) = number ∷ index ∷ []
 
--- The number that `invalid64` or `invalid128` holds. The digits before the invalid byte spell this
--- number. It is 0 for the other reasons.
+-- The number of the digits before an invalid byte; 0 for the other reasons.
 abbrev pub number_in : Refusal → ℕ
 number_in empty = 0
 number_in (size length input) = 0
@@ -54,7 +50,7 @@ number_in (overflow input) = 0
 number_in (invalid64 number index input) = number
 number_in (invalid128 number index input) = number
 
--- The index of the invalid byte in `invalid64` or `invalid128`. It is 0 for the other reasons.
+-- The index of an invalid byte; 0 for the other reasons.
 abbrev pub index_in : Refusal → ℕ
 index_in empty = 0
 index_in (size length input) = 0
@@ -62,7 +58,7 @@ index_in (overflow input) = 0
 index_in (invalid64 number index input) = index
 index_in (invalid128 number index input) = index
 
--- The slice that a reason holds; the empty list for `empty`, which holds none.
+-- The slice that a reason holds; `empty` holds none.
 abbrev pub input_of : Refusal → List ℕ
 input_of empty = []
 input_of (size length input) = input
@@ -70,9 +66,7 @@ input_of (overflow input) = input
 input_of (invalid64 number index input) = input
 input_of (invalid128 number index input) = input
 
--- Errors are ordered by their position among the five, then by their numbers, then by their slices.
--- Of two lists the first element that differs decides, and a proper prefix is less than the longer
--- list.
+-- Errors are ordered by rank, then by their numbers, then by their slices.
 abbrev pub refusal_cmp : Refusal → Refusal → Ordering
 refusal_cmp a b =
     ordering_then (nat_cmp (rank a) (rank b))

@@ -1,18 +1,15 @@
 -- The sign at the start of a slice.
 use Rattle.std.specs.Prelude.{ℕ, Bool, true, false, ◌&&◌, ◌==◌, if◌then◌else◌, List, [], ◌∷◌, ℤ, pos, neg_ℤ}
 
--- Whether the sign is a minus, how many bytes of the slice were consumed as a sign, and the body,
--- which is the rest of the slice.
+-- Whether the sign is a minus, how many bytes it took, and the body, which is the rest.
 pub record Sign : Type 0 where
   pub minus : Bool
   pub taken : ℕ
   pub body : List ℕ
 
--- The byte `+`.
 abbrev pub plus_sign : ℕ
 plus_sign = 43
 
--- The byte `-`.
 abbrev pub minus_sign : ℕ
 minus_sign = 45
 
@@ -24,6 +21,6 @@ sign_of signed plus (byte ∷ bytes) =
     else (if signed && byte == minus_sign then record { minus = true; taken = 1; body = bytes }
     else record { minus = false; taken = 0; body = byte ∷ bytes })
 
--- A magnitude as an integer, negated if there is a minus.
+-- A magnitude, negated if there is a minus.
 abbrev pub with_sign : Bool → ℕ → ℤ
 with_sign minus magnitude = if minus then neg_ℤ (pos magnitude) else pos magnitude

@@ -4,9 +4,8 @@ use Rattle.atoi_core.specs.Digit.{Table}
 use Rattle.atoi_core.specs.Run.{run_len, run, zeros, value}
 use Rattle.atoi_core.specs.declared.window.Window.{Window}
 
--- The window of the first `size` bytes, or of all bytes if the slice has fewer. It has the length
--- and the value of their run. If there are `size` bytes and all are digits, `zeroes` is the number
--- of their leading zeros, otherwise it is 0.
+-- The window of the first `size` bytes, or of all if there are fewer: the length and the value of
+-- their run, and the leading zeros if there are `size` digits.
 abbrev pub window_of : Table → ℕ → List ℕ → Window
 window_of table size s =
     let bytes = take size s in

@@ -140,7 +140,7 @@ fn put_decimal(value: u128, out: &mut [u8], at: usize) -> usize
     put_byte(last, out, end)
 }
 
-#[tactic(auto, using(crate::proofs::lemmas::Errors::hex_text_of_one_digit))]
+#[tactic(auto, using(crate::proofs::lemmas::ErrorTexts::hex_text_of_one_digit))]
 fn put_hex(byte: u8, out: &mut [u8], at: usize) -> usize
     requires { at + 2 ≤ length out.old }
     ensures written { take result out.new ≡ take at out.old ++ hex_text byte }

@@ -1,13 +1,11 @@
--- Answers of calls: when a body (the slice after its sign) is refused, which sign is consumed
--- before it, and what the answer is for an integer type. The proofs of the laws and of the core
--- calls use these lemmas.
+-- Answers of calls: when a body is refused, which sign comes before it, and what an `Ok` means.
 use Rattle.std.proofs.Common.{◌≡◌, ℕ, ◌+◌, ◌-◌, ◌<◌, ◌≤◌, min, Bool, true, false, cond, eqb, ltb, List, [], length, drop, subst, Option, Some, None, option_map, refl, sym, ap, ◌∙◌, arith, ltb-false, le-ltb, ne_eqb, ◌&&◌, ◌∷◌, ◌++◌, take, Result, Ok, Err, ℤ, add-zero, eqb-true, eq-eqb}
 use Rattle.std.proofs.lemmas.Bool.{eqb-false, lt-ltb, and_right, not-false}
 use Rattle.std.proofs.Math.Seq.{drop-length}
 use Rattle.atoi_core.specs.Digit.{Table, decimal_table, is_digit}
 use Rattle.atoi_core.specs.Run.{run_len, run, value}
 use Rattle.atoi_core.specs.Refusal.{Refusal, empty, size, overflow, rank, input_of}
-use Rattle.atoi_core.specs.Magnitude.{Class, narrow, wide64, wide128, Extent, whole, prefix, skipped_zeros, Rule, rule_of, is_above, leaves_rest, invalid, refusal, unless_refused, whole_magnitude, prefix_magnitude}
+use Rattle.atoi_core.specs.Magnitude.{Class, narrow, Extent, whole, prefix, skipped_zeros, Rule, rule_of, is_above, leaves_rest, invalid, refusal, unless_refused, whole_magnitude, prefix_magnitude}
 use Rattle.std.proofs.lemmas.Bool.Decides.{nat_tests}
 use Rattle.atoi_core.specs.IntType.{IntType, class_of, bound_of, limit_of}
 use Rattle.atoi_core.specs.Sign.{Sign, sign_of, plus_sign, minus_sign, with_sign}
@@ -16,24 +14,17 @@ use Rattle.atoi_core.specs.Answer.{map_answer, whole_answer, prefix_answer, with
 use Rattle.std.proofs.lemmas.List.Sums.{prefix_len-le-length}
 
 -- ---- When a body is refused
--- The definition `refusal` tests four conditions in a row. These lemmas state each case as a fact
--- of its own.
 
--- The first of four results whose test holds, or `None` if no test holds.
+-- The first of four results whose test holds.
 abbrev pub first_of : {A : Type 0} → (a b c d : Bool) → (p q r s : A) → Option A
 first_of a b c d p q r s = cond a (Some p) (cond b (Some q) (cond c (Some r) (cond d (Some s) None)))
 
--- If there is no result, none of the four tests holds.
 first_none : (a b c d : Bool) (p q r s : Refusal) → first_of a b c d p q r s ≡ None
     → (a ≡ false) × (b ≡ false) × (c ≡ false) × (d ≡ false)
-first_none true b c d p q r s h = absurd (cc h)
-first_none false true c d p q r s h = absurd (cc h)
-first_none false false true d p q r s h = absurd (cc h)
-first_none false false false true p q r s h = absurd (cc h)
 first_none false false false false p q r s h = (refl, refl, refl, refl)
+first_none a b c d p q r s h = absurd (cc h)
 
--- If a property holds for each result under the condition that its test is the first to hold, it
--- holds for the result that is chosen.
+-- A property of each result whose test is the first to hold is one of the chosen result.
 first_cases : (P : Refusal → Type 0) (a b c d : Bool) (p q r s : Refusal)
     → (a ≡ true → P p) → (a ≡ false → b ≡ true → P q) → (a ≡ false → b ≡ false → c ≡ true → P r)
     → (a ≡ false → b ≡ false → c ≡ false → d ≡ true → P s)
@@ -44,135 +35,97 @@ first_cases P false false true d p q r s hp hq hr hs reason h = let e : r ≡ re
 first_cases P false false false true p q r s hp hq hr hs reason h = let e : s ≡ reason = cc h in subst P e (hs refl refl refl refl)
 first_cases P false false false false p q r s hp hq hr hs reason h = absurd (cc h)
 
--- The rank of the chosen error is the one that the same tests choose among the four ranks.
 first_map : (a b c d : Bool) (p q r s : Refusal)
     → option_map rank (first_of a b c d p q r s) ≡ first_of a b c d (rank p) (rank q) (rank r) (rank s)
-first_map true b c d p q r s = refl
-first_map false true c d p q r s = refl
-first_map false false true d p q r s = refl
-first_map false false false true p q r s = refl
 first_map false false false false p q r s = refl
+first_map a b c d p q r s = refl
 
--- The limit on digits for a class, extent and flag. It does not depend on the digits.
+-- The limit on digits, which does not depend on the digits.
 abbrev pub limit_at : Class → Extent → Bool → ℕ → Option ℕ
 limit_at class extent skip limit = (rule_of class extent skip limit 0 0).limit
 
--- The limit in each rule is the one that `limit_at` gives.
 limit-is : (class : Class) (extent : Extent) (skip : Bool) (limit digits skipped : ℕ) → (rule_of class extent skip limit digits skipped).limit ≡ limit_at class extent skip limit
-limit-is narrow whole skip limit digits skipped = refl
 limit-is narrow prefix true limit digits skipped = refl
-limit-is narrow prefix false limit digits skipped = refl
-limit-is wide64 extent skip limit digits skipped = refl
-limit-is wide128 extent skip limit digits skipped = refl
+limit-is class extent skip limit digits skipped = refl
 
--- How many digits of a body are significant: those of its run after the skipped zeros.
-abbrev pub significant_digits : Table → Bool → List ℕ → ℕ
-significant_digits table skip body = run_len table body - skipped_zeros table skip body
+-- How many digits of the run are significant.
+abbrev pub significant_len : Table → Bool → List ℕ → ℕ
+significant_len table skip body = run_len table body - skipped_zeros table skip body
 
 -- The body is accepted: no test refuses it.
 pub record IsAccepted (table : Table) (class : Class) (bound limit : ℕ) (extent : Extent) (skip : Bool) (body : List ℕ) : Type 0 where
   pub some : 0 < run_len table body
-  pub short : is_above (limit_at class extent skip limit) (significant_digits table skip body) ≡ false
+  pub short : is_above (limit_at class extent skip limit) (significant_len table skip body) ≡ false
   pub in_range : value table (run table body) ≤ bound
   pub ends : leaves_rest extent (run_len table body) (length body) ≡ false
 
--- The rank of an `invalid` error depends on the class only.
 rank-invalid : (class : Class) (number index : ℕ) (body : List ℕ) → rank (invalid class number index body) ≡ rank (invalid class 0 0 [])
 rank-invalid narrow number index body = refl
-rank-invalid wide64 number index body = refl
-rank-invalid wide128 number index body = refl
+rank-invalid class number index body = refl
 
--- The slice in an `invalid` error is the whole body.
 input-invalid : (class : Class) (number index : ℕ) (body : List ℕ) → input_of (invalid class number index body) ≡ body
 input-invalid narrow number index body = refl
-input-invalid wide64 number index body = refl
-input-invalid wide128 number index body = refl
+input-invalid class number index body = refl
 
 module _ (table : Table) (class : Class) (bound limit : ℕ) (extent : Extent) (skip : Bool) (body : List ℕ) where
-  -- The first test: the body does not begin with a digit.
+  -- The four tests, in their order, and their errors.
   abbrev pub is_empty : Bool
   is_empty = eqb (run_len table body) 0
 
-  -- The second test: there are more significant digits than the limit.
   abbrev pub is_long : Bool
-  is_long = is_above (limit_at class extent skip limit) (significant_digits table skip body)
+  is_long = is_above (limit_at class extent skip limit) (significant_len table skip body)
 
-  -- The third test: the value is larger than the bound.
   abbrev pub is_over : Bool
   is_over = ltb bound (value table (run table body))
 
-  -- The fourth test: the digits of a whole slice are followed by another byte.
   abbrev pub is_followed : Bool
   is_followed = leaves_rest extent (run_len table body) (length body)
 
-  -- The rule that sets the limit and the contents of the errors.
   abbrev pub rule : Rule
   rule = rule_of class extent skip limit (run_len table body) (skipped_zeros table skip body)
 
-  -- The error for too many digits, with the number of digits that it reports.
   abbrev pub too_long : Refusal
-  too_long = size (skipped_zeros table skip body + min (significant_digits table skip body) rule.cap) (drop (skipped_zeros table skip body) body)
+  too_long = size (skipped_zeros table skip body + min (significant_len table skip body) rule.cap) (drop (skipped_zeros table skip body) body)
 
-  -- The error for a value above the bound.
   abbrev pub over : Refusal
   over = overflow (drop rule.dropped body)
 
-  -- The error for a byte that follows the digits.
   abbrev pub followed : Refusal
   followed = invalid class (value table (run table body)) (run_len table body) body
 
-  -- The refusal is the error of the first test that holds.
   pub refusal-is : refusal table class bound limit extent skip body
       ≡ first_of is_empty is_long is_over is_followed empty too_long over followed
   unfolding refusal
   refusal-is =
-      ap (λ most. first_of is_empty (is_above most (significant_digits table skip body)) is_over is_followed empty too_long over followed)
+      ap (λ most. first_of is_empty (is_above most (significant_len table skip body)) is_over is_followed empty too_long over followed)
       (limit-is class extent skip limit (run_len table body) (skipped_zeros table skip body))
 
-  -- If the body does not begin with a digit, the error is `Empty`.
   pub refused_empty : run_len table body ≡ 0 → refusal table class bound limit extent skip body ≡ Some empty
-  refused_empty none =
-      let e : is_empty ≡ true = eq-eqb (run_len table body) 0 none in
-      refusal-is ∙ rw e refl
+  refused_empty none = refusal-is ∙ rw (eq-eqb (run_len table body) 0 none) refl
 
-  -- If too many digits are significant, the error is `Size`.
   pub refused_size : 0 < run_len table body → is_long ≡ true → refusal table class bound limit extent skip body ≡ Some too_long
-  refused_size some long =
-      let e : is_empty ≡ false = ne_eqb (run_len table body) 0 (omega arith) in
-      refusal-is ∙ rw (e, long) refl
+  refused_size some long = refusal-is ∙ rw (ne_eqb (run_len table body) 0 (omega arith), long) refl
 
-  -- If there are not too many significant digits, and the value is larger than the bound, the error
-  -- is `Overflow`.
-  pub refused_overflow : 0 < run_len table body → is_long ≡ false
-      → bound < value table (run table body)
+  pub refused_overflow : 0 < run_len table body → is_long ≡ false → bound < value table (run table body)
       → refusal table class bound limit extent skip body ≡ Some over
   refused_overflow some short above =
-      let e : is_empty ≡ false = ne_eqb (run_len table body) 0 (omega arith) in
-      let o : is_over ≡ true = lt-ltb bound (value table (run table body)) above in
-      refusal-is ∙ rw (e, short, o) refl
+      refusal-is ∙ rw (ne_eqb (run_len table body) 0 (omega arith), short, lt-ltb bound (value table (run table body)) above) refl
 
-  -- An accepted body is not refused.
+  pub refused_followed : 0 < run_len table body → is_long ≡ false → value table (run table body) ≤ bound → is_followed ≡ true
+      → refusal table class bound limit extent skip body ≡ Some followed
+  refused_followed some short in_range ends =
+      refusal-is ∙ rw (ne_eqb (run_len table body) 0 (omega arith), short, le-ltb bound (value table (run table body)) in_range, ends) refl
+
   pub refusal-none : IsAccepted table class bound limit extent skip body → refusal table class bound limit extent skip body ≡ None
   refusal-none h =
-      let e : is_empty ≡ false = ne_eqb (run_len table body) 0 (omega arith) in
-      let l : is_long ≡ false = h.short in
-      let o : is_over ≡ false = le-ltb bound (value table (run table body)) h.in_range in
-      let f : is_followed ≡ false = h.ends in
-      refusal-is ∙ rw (e, l, o, f) refl
+      refusal-is ∙ rw (ne_eqb (run_len table body) 0 (omega arith), h.short, le-ltb bound (value table (run table body)) h.in_range, h.ends) refl
 
-  -- A body that is not refused is accepted.
   pub accepted : refusal table class bound limit extent skip body ≡ None → IsAccepted table class bound limit extent skip body
   accepted h =
       let tests = first_none is_empty is_long is_over is_followed empty too_long over followed (sym refusal-is ∙ h) in
-      record {
-        some = omega (arith, eqb-false (run_len table body) 0 tests.0);
-        short = tests.1;
-        in_range = ltb-false _ _ tests.2;
-        ends = tests.3;
-      }
+      record { some = omega (arith, eqb-false (run_len table body) 0 tests.0); short = tests.1; in_range = ltb-false _ _ tests.2; ends = tests.3 }
 
-  -- If a property holds for each error under the condition that its test is the first to hold, it
-  -- holds for the error of the refusal.
+  -- A property of each error whose test is the first to hold is one of the refusal.
   pub refusal-cases : (P : Refusal → Type 0)
       → (is_empty ≡ true → P empty)
       → (is_empty ≡ false → is_long ≡ true → P too_long)
@@ -182,7 +135,6 @@ module _ (table : Table) (class : Class) (bound limit : ℕ) (extent : Extent) (
   refusal-cases P p q r s reason h =
       first_cases P is_empty is_long is_over is_followed empty too_long over followed p q r s reason (sym refusal-is ∙ h)
 
-  -- The slice in an error is a suffix of the body.
   pub refusal-input : (reason : Refusal) → refusal table class bound limit extent skip body ≡ Some reason
       → (n : ℕ) × (input_of reason ≡ drop n body)
   refusal-input reason h =
@@ -190,76 +142,60 @@ module _ (table : Table) (class : Class) (bound limit : ℕ) (extent : Extent) (
       (λ e. (length body, sym (drop-length body))) (λ e l. (skipped_zeros table skip body, refl)) (λ e l o. (rule.dropped, refl))
       (λ e l o f. (0, input-invalid class _ _ body)) reason h
 
-  -- The four tests decide the rank of the error.
   pub refusal-rank : option_map rank (refusal table class bound limit extent skip body)
       ≡ first_of is_empty is_long is_over is_followed 0 1 2 (rank (invalid class 0 0 []))
   refusal-rank =
       ap (option_map rank) refusal-is ∙ first_map is_empty is_long is_over is_followed empty too_long over followed
       ∙ ap (first_of is_empty is_long is_over is_followed 0 1 2) (rank-invalid class _ _ body)
 
--- ---- The sign at the start of a slice
--- These lemmas say what remains after it, and when the same sign is consumed again.
+-- Why a body of an integer type is refused.
+abbrev pub refused : Table → IntType → (minus : Bool) → Extent → Bool → List ℕ → Option Refusal
+refused table int minus extent skip body = refusal table (class_of int) (bound_of int minus) (limit_of int) extent skip body
 
--- Two tests choose one of three signs. If a property holds for the third sign, and for each of the
--- other two if its test is the first to hold, then it holds for the sign that is chosen.
-one_of_three : (a b : Bool) (x y z : Sign) (P : Sign → Type 0)
-    → (a ≡ true → P x) → (a ≡ false → b ≡ true → P y) → P z
-    → P (cond a x (cond b y z))
+-- ---- The sign at the start of a slice
+
+one_of_three : (a b : Bool) (x y z : Sign) (P : Sign → Type 0) → (a ≡ true → P x) → (a ≡ false → b ≡ true → P y) → P z → P (cond a x (cond b y z))
 one_of_three true b x y z P p q r = p refl
 one_of_three false true x y z P p q r = q refl refl
 one_of_three false false x y z P p q r = r
 
--- For a slice that is not empty there are three cases: a plus is consumed, a minus is consumed, or
--- no sign is consumed. If a property holds in each case, it holds for the sign of the slice.
+-- A slice with a first byte has a plus consumed, or a minus, or nothing.
 pub sign_cases : (signed plus : Bool) (byte : ℕ) (bytes : List ℕ) (P : Sign → Type 0)
     → ((plus && eqb byte plus_sign) ≡ true → P (record { minus = false; taken = 1; body = bytes }))
     → ((plus && eqb byte plus_sign) ≡ false → (signed && eqb byte minus_sign) ≡ true → P (record { minus = true; taken = 1; body = bytes }))
     → P (record { minus = false; taken = 0; body = byte ∷ bytes })
     → P (sign_of signed plus (byte ∷ bytes))
 sign_cases signed plus byte bytes P p q r =
-    one_of_three (plus && eqb byte plus_sign) (signed && eqb byte minus_sign)
-    (record { minus = false; taken = 1; body = bytes })
-    (record { minus = true; taken = 1; body = bytes })
-    (record { minus = false; taken = 0; body = byte ∷ bytes }) P p q r
+    one_of_three (plus && eqb byte plus_sign) (signed && eqb byte minus_sign) _ _ _ P p q r
 
--- The body is the slice without the bytes of its sign.
 pub drop-taken : (int : IntType) (form : SignForm) (s : List ℕ) → drop (sign_in int form s).taken s ≡ (sign_in int form s).body
 drop-taken int (looked_for plus) [] = refl
 drop-taken int (looked_for plus) (byte ∷ bytes) =
     sign_cases int.signed plus byte bytes (λ g. drop g.taken (byte ∷ bytes) ≡ g.body) (λ e. refl) (λ p e. refl) refl
 drop-taken int (given is_negative) s = refl
 
--- The slice is as long as its sign and its body together.
 pub length-taken : (int : IntType) (form : SignForm) (s : List ℕ) → (sign_in int form s).taken + length (sign_in int form s).body ≡ length s
 length-taken int (looked_for plus) [] = omega arith
 length-taken int (looked_for plus) (byte ∷ bytes) =
     sign_cases int.signed plus byte bytes (λ g. g.taken + length g.body ≡ length (byte ∷ bytes)) (λ e. omega arith) (λ p e. omega arith) (omega arith)
 length-taken int (given is_negative) s = omega arith
 
--- A decimal digit is a byte from 48 to 57.
 pub digit_in_range : (byte : ℕ) → is_digit decimal_table byte ≡ true → (48 ≤ byte) × (byte ≤ 57)
 digit_in_range byte h = (grind (arith, nat_tests), grind (arith, nat_tests))
-
--- If the run is not empty, the first byte is a digit.
-first_digit : (byte : ℕ) (bytes : List ℕ) → 0 < run_len decimal_table (byte ∷ bytes) → is_digit decimal_table byte ≡ true
-first_digit byte bytes h = first (is_digit decimal_table byte) h
-  where
-    first : (b : Bool) → 0 < cond b (1 + run_len decimal_table bytes) 0 → b ≡ true
-    first true lt = refl
-    first false lt = absurd (omega arith)
 
 -- No sign is consumed from a slice that begins with a digit.
 pub sign_of_digits : (signed plus : Bool) (s : List ℕ) → 0 < run_len decimal_table s
     → sign_of signed plus s ≡ record { minus = false; taken = 0; body = s }
 sign_of_digits signed plus [] h = absurd (omega arith)
 sign_of_digits signed plus (byte ∷ bytes) h =
-    let r = digit_in_range byte (first_digit byte bytes h) in
-    let no_plus : eqb byte 43 ≡ false = ne_eqb byte 43 (omega arith) in
-    let no_minus : eqb byte 45 ≡ false = ne_eqb byte 45 (omega arith) in
-    rw (and_right plus (eqb byte 43) no_plus, and_right signed (eqb byte 45) no_minus) refl
+    let r = digit_in_range byte (first (is_digit decimal_table byte) h) in
+    rw (and_right plus (eqb byte 43) (ne_eqb byte 43 (omega arith)), and_right signed (eqb byte 45) (ne_eqb byte 45 (omega arith))) refl
+  where
+    first : (b : Bool) → 0 < cond b (1 + run_len decimal_table bytes) 0 → b ≡ true
+    first true lt = refl
+    first false lt = absurd (omega arith)
 
--- If the body after a sign is replaced by another body that begins with a digit, the same sign is
--- consumed.
+-- Before another body that begins with a digit, the same sign is consumed.
 pub sign_again : (int : IntType) (form : SignForm) (s t : List ℕ) → 0 < run_len decimal_table t
     → sign_in int form (take (sign_in int form s).taken s ++ t)
     ≡ record { minus = (sign_in int form s).minus; taken = (sign_in int form s).taken; body = t }
@@ -271,22 +207,16 @@ sign_again int (looked_for plus) (byte ∷ bytes) t h =
 sign_again int (given is_negative) s t h = refl
 
 -- ---- Calls and their results
--- These lemmas say how the answer of a call follows from its sign and its body, and what follows
--- from an `Ok`.
 
--- Adding 0 to the count of an answer does not change it.
 pub with_more-zero : (r : Result (ℤ × ℕ) Refusal) → with_more 0 r ≡ r
 with_more-zero (Ok found) = rw add-zero refl
 with_more-zero (Err reason) = refl
 
--- The answer of a whole parse is the answer for its body, with the sign that the call uses.
 pub whole_call-is : (int : IntType) (form : SignForm) (skip : Bool) (s : List ℕ)
     → whole_call int form skip s ≡ whole_answer decimal_table int (sign_in int form s).minus skip (sign_in int form s).body
 whole_call-is int (looked_for plus) skip s = refl
 whole_call-is int (given is_negative) skip s = refl
 
--- The answer of a prefix parse is the answer for the prefix of its body, with the sign that the
--- call uses. But the count also includes the byte of the sign, if a sign is consumed.
 pub prefix_call-is : (int : IntType) (form : SignForm) (skip : Bool) (s : List ℕ)
     → prefix_call int form skip s
     ≡ with_more (sign_in int form s).taken (prefix_answer decimal_table int (sign_in int form s).minus skip (sign_in int form s).body)
@@ -297,32 +227,22 @@ prefix_call-is int (given is_negative) skip s = sym (with_more-zero (prefix_answ
 abbrev pub counted_number : Bool → ℕ × ℕ → ℤ × ℕ
 counted_number minus found = (with_sign minus found.0, found.1)
 
--- If the answer is `Ok`, there is no refusal, and the value is `f x`.
 pub map_unless_ok : {A B : Type 0} (f : A → B) (r : Option Refusal) (x : A) (y : B)
     → map_answer f (unless_refused r x) ≡ Ok y → (r ≡ None) × (y ≡ f x)
 map_unless_ok f None x y h = (refl, cc)
 map_unless_ok f (Some reason) x y h = absurd (cc h)
 
--- If the answer is an error, it is the refusal.
 pub map_unless_err : {A B : Type 0} (f : A → B) (r : Option Refusal) (x : A) (reason : Refusal)
     → map_answer f (unless_refused r x) ≡ Err reason → r ≡ Some reason
 map_unless_err f None x reason h = absurd (cc h)
 map_unless_err f (Some other) x reason h = cc
 
--- If nothing is refused, the answer is `Ok` of the value.
 map_unless_none : {A B : Type 0} (f : A → B) (r : Option Refusal) (x : A) → r ≡ None → map_answer f (unless_refused r x) ≡ Ok (f x)
 map_unless_none f r x h = rw h refl
 
--- A whole slice that leaves no rest consists of digits only.
 pub whole_is_run : (digits length : ℕ) → leaves_rest whole digits length ≡ false → digits ≡ length
 whole_is_run digits length h = eqb-true digits length (not-false (eqb digits length) h)
 
--- A whole slice that consists of digits only leaves no rest.
-pub run_is_whole : (digits length : ℕ) → digits ≡ length → leaves_rest whole digits length ≡ false
-run_is_whole digits length h = rw (eq-eqb digits length h) refl
-
--- If an answer is `Ok` after `with_more` has added `more` to its count, it was `Ok` before, with
--- the same value and a count that is smaller by `more`.
 with_more_ok : (more : ℕ) (r : Result (ℤ × ℕ) Refusal) (v : ℤ) (count : ℕ) → with_more more r ≡ Ok (v, count)
     → (read : ℕ) × (r ≡ Ok (v, read)) × (count ≡ read + more)
 with_more_ok more (Ok found) v count h =
@@ -331,58 +251,45 @@ with_more_ok more (Ok found) v count h =
 with_more_ok more (Err reason) v count h = absurd (cc h)
 
 module _ (int : IntType) (minus skip : Bool) (body : List ℕ) where
-  -- The body is accepted as a whole slice.
-  abbrev pub IsWhole : Type 0
-  IsWhole = IsAccepted decimal_table (class_of int) (bound_of int minus) (limit_of int) whole skip body
+  abbrev pub AcceptedAs : Extent → Type 0
+  AcceptedAs extent = IsAccepted decimal_table (class_of int) (bound_of int minus) (limit_of int) extent skip body
 
-  -- The body is accepted as a slice that begins with a number.
-  abbrev pub IsPrefix : Type 0
-  IsPrefix = IsAccepted decimal_table (class_of int) (bound_of int minus) (limit_of int) prefix skip body
+  -- The value of the run, with the sign.
+  abbrev pub signed_value : ℤ
+  signed_value = with_sign minus (value decimal_table (run decimal_table body))
 
-  -- If a whole body is answered `Ok`, it is accepted, and the answer is its value with the sign.
-  pub from_whole : (v : ℤ) → whole_answer decimal_table int minus skip body ≡ Ok v
-      → IsWhole × (v ≡ with_sign minus (value decimal_table (run decimal_table body)))
+  pub from_whole : (v : ℤ) → whole_answer decimal_table int minus skip body ≡ Ok v → AcceptedAs whole × (v ≡ signed_value)
   from_whole v h =
       let found = map_unless_ok (with_sign minus) _ _ v h in
       (accepted decimal_table (class_of int) (bound_of int minus) (limit_of int) whole skip body found.0, found.1)
 
-  -- If a body is accepted as a whole slice, the answer is its value with the sign.
-  pub to_whole : IsWhole → whole_answer decimal_table int minus skip body ≡ Ok (with_sign minus (value decimal_table (run decimal_table body)))
-  to_whole h =
-      map_unless_none (with_sign minus) _ _ (refusal-none decimal_table (class_of int) (bound_of int minus) (limit_of int) whole skip body h)
+  pub to_whole : AcceptedAs whole → whole_answer decimal_table int minus skip body ≡ Ok signed_value
+  to_whole h = map_unless_none (with_sign minus) _ _ (refusal-none decimal_table (class_of int) (bound_of int minus) (limit_of int) whole skip body h)
 
-  -- If a prefix is answered `Ok`, the body is accepted, and the answer is the value of its run with
-  -- the sign, and the length of its run.
   pub from_prefix : (v : ℤ) (count : ℕ) → prefix_answer decimal_table int minus skip body ≡ Ok (v, count)
-      → IsPrefix × (v ≡ with_sign minus (value decimal_table (run decimal_table body))) × (count ≡ run_len decimal_table body)
+      → AcceptedAs prefix × (v ≡ signed_value) × (count ≡ run_len decimal_table body)
   from_prefix v count h =
       let found = map_unless_ok (counted_number minus) _ _ (v, count) h in
       (accepted decimal_table (class_of int) (bound_of int minus) (limit_of int) prefix skip body found.0, ap (λ (p : ℤ × ℕ). p.0) found.1, ap (λ (p : ℤ × ℕ). p.1) found.1)
 
-  -- If a body is accepted as a slice that begins with a number, the answer is the value of its run
-  -- with the sign, and the length of its run.
-  pub to_prefix : IsPrefix → prefix_answer decimal_table int minus skip body ≡ Ok (with_sign minus (value decimal_table (run decimal_table body)), run_len decimal_table body)
+  pub to_prefix : AcceptedAs prefix → prefix_answer decimal_table int minus skip body ≡ Ok (signed_value, run_len decimal_table body)
   to_prefix h =
       map_unless_none (counted_number minus) _ _ (refusal-none decimal_table (class_of int) (bound_of int minus) (limit_of int) prefix skip body h)
 
-  -- A body is accepted as a whole slice if it consists of one or more digits and nothing else, does
-  -- not have too many significant digits, and has a value within the bound.
   pub is_whole : 0 < run_len decimal_table body
-      → is_above (limit_at (class_of int) whole skip (limit_of int)) (significant_digits decimal_table skip body) ≡ false
+      → is_above (limit_at (class_of int) whole skip (limit_of int)) (significant_len decimal_table skip body) ≡ false
       → value decimal_table (run decimal_table body) ≤ bound_of int minus
       → run_len decimal_table body ≡ length body
-      → IsWhole
+      → AcceptedAs whole
   is_whole some short in_range all =
-      record { some = some; short = short; in_range = in_range; ends = run_is_whole (run_len decimal_table body) (length body) all }
+      record { some = some; short = short; in_range = in_range; ends = rw (eq-eqb (run_len decimal_table body) (length body) all) refl }
 
--- What an `Ok` of a prefix parse means: the body is accepted, `v` is the value of its run with the
--- sign, and `count` is the number of bytes of the run and of the sign together.
+-- What an `Ok` of a prefix parse means; `count` is that of the run and the sign.
 pub record IsFound (int : IntType) (g : Sign) (skip : Bool) (v : ℤ) (count : ℕ) : Type 0 where
-  pub is_prefix : IsPrefix int g.minus skip g.body
-  pub number : v ≡ with_sign g.minus (value decimal_table (run decimal_table g.body))
+  pub is_prefix : AcceptedAs int g.minus skip g.body prefix
+  pub number : v ≡ signed_value int g.minus skip g.body
   pub count_is : count ≡ run_len decimal_table g.body + g.taken
 
--- If a prefix call returns `Ok`, then `IsFound` holds for its value and its count.
 pub found_prefix : (int : IntType) (form : SignForm) (skip : Bool) (s : List ℕ) (v : ℤ) (count : ℕ)
     → prefix_call int form skip s ≡ Ok (v, count) → IsFound int (sign_in int form s) skip v count
 found_prefix int form skip s v count h =
@@ -391,7 +298,6 @@ found_prefix int form skip s v count h =
     let found = from_prefix int g.minus skip g.body v count_is.0 count_is.1 in
     record { is_prefix = found.0; number = found.1; count_is = rw (← found.2) count_is.2 }
 
--- If `IsFound` holds for a value and a count, then the prefix call returns `Ok` with these two.
 pub ok_prefix : (int : IntType) (form : SignForm) (skip : Bool) (s : List ℕ) (v : ℤ) (count : ℕ)
     → IsFound int (sign_in int form s) skip v count → prefix_call int form skip s ≡ Ok (v, count)
 ok_prefix int form skip s v count h =
@@ -401,42 +307,37 @@ ok_prefix int form skip s v count h =
     ∙ rw (h.number, h.count_is) refl
 
 -- ---- Answers to a body, with a bound and a limit
--- These lemmas say how the answers are related to bounds, limits and counts.
 
--- A prefix that is answered `Ok` has a value within the bound.
-pub prefix_in_bounds : (table : Table) (class : Class) (bound limit : ℕ) (skip : Bool) (s : List ℕ) (number len : ℕ)
-    → Ok (number, len) ≡ prefix_magnitude table class bound limit skip s → number ≤ bound
-prefix_in_bounds table class bound limit skip s number len found =
-    let both = map_unless_ok (λ x. x) _ _ _ (ap (map_answer (λ x. x)) (sym found)) in
-    let P : ℕ → Type 0 = λ n. n ≤ bound in
-    subst P (ap (λ (pair : ℕ × ℕ). pair.0) (sym both.1)) (accepted table class bound limit prefix skip s both.0).in_range
+module _ (table : Table) (class : Class) (bound limit : ℕ) (skip : Bool) (s : List ℕ) where
+  -- What an `Ok` of a prefix says: the value is within the bound, and the count within the slice.
+  prefix_found : (number len : ℕ) → Ok (number, len) ≡ prefix_magnitude table class bound limit skip s → (number ≤ bound) × (len ≤ length s)
+  prefix_found number len found =
+      let both = map_unless_ok {A = ℕ × ℕ} {B = ℕ × ℕ} (λ x. x) (refusal table class bound limit prefix skip s)
+      (value table (run table s), run_len table s) (number, len) (ap (map_answer {A = ℕ × ℕ} {B = ℕ × ℕ} (λ x. x)) (sym found)) in
+      let number_is : number ≡ value table (run table s) = ap (λ (pair : ℕ × ℕ). pair.0) both.1 in
+      let count : len ≡ run_len table s = ap (λ (pair : ℕ × ℕ). pair.1) both.1 in
+      (omega (arith, (accepted table class bound limit prefix skip s both.0).in_range), omega (arith, prefix_len-le-length (is_digit table) s))
 
--- A whole slice that is answered `Ok` has a value within the bound.
-pub whole_in_bounds : (table : Table) (class : Class) (bound limit : ℕ) (skip : Bool) (s : List ℕ) (number : ℕ)
-    → Ok number ≡ whole_magnitude table class bound limit skip s → number ≤ bound
-whole_in_bounds table class bound limit skip s number found =
-    let both = map_unless_ok (λ x. x) _ _ _ (ap (map_answer (λ x. x)) (sym found)) in
-    let P : ℕ → Type 0 = λ n. n ≤ bound in
-    subst P (sym both.1) (accepted table class bound limit whole skip s both.0).in_range
+  pub prefix_in_bounds : (number len : ℕ) → Ok (number, len) ≡ prefix_magnitude table class bound limit skip s → number ≤ bound
+  prefix_in_bounds number len found = (prefix_found number len found).0
 
--- A narrow prefix has a limit of 16 digits, or no limit if zeros are skipped. So the limit that is
--- passed in does not matter.
+  pub prefix_within : (number len : ℕ) → Ok (number, len) ≡ prefix_magnitude table class bound limit skip s → len ≤ length s
+  prefix_within number len found = (prefix_found number len found).1
+
+  pub whole_in_bounds : (number : ℕ) → Ok number ≡ whole_magnitude table class bound limit skip s → number ≤ bound
+  whole_in_bounds number found =
+      let both = map_unless_ok {A = ℕ} {B = ℕ} (λ x. x) (refusal table class bound limit whole skip s) _ number (ap (map_answer {A = ℕ} {B = ℕ} (λ x. x)) (sym found)) in
+      omega (arith, both.1, (accepted table class bound limit whole skip s both.0).in_range)
+
+-- For narrow prefixes the limit does not matter.
 pub narrow_prefix_limit : (table : Table) (bound limit : ℕ) (skip : Bool) (s : List ℕ)
     → refusal table narrow bound limit prefix skip s ≡ refusal table narrow bound 0 prefix skip s
 unfolding refusal
 narrow_prefix_limit table bound limit true s = refl
 narrow_prefix_limit table bound limit false s = refl
 
--- For a narrow whole slice, neither the limit nor the flag that skips zeros matters.
+-- For narrow whole slices neither the limit nor the flag matters.
 pub narrow_whole_limit : (table : Table) (bound limit : ℕ) (skip : Bool) (s : List ℕ)
     → refusal table narrow bound limit whole skip s ≡ refusal table narrow bound 0 whole false s
 unfolding refusal
 narrow_whole_limit table bound limit skip s = refl
-
--- The count of a prefix is at most the length of the slice.
-pub prefix_within : (table : Table) (class : Class) (bound limit : ℕ) (skip : Bool) (s : List ℕ) (number len : ℕ)
-    → Ok (number, len) ≡ prefix_magnitude table class bound limit skip s → len ≤ length s
-prefix_within table class bound limit skip s number len found =
-    let both = map_unless_ok (λ x. x) _ _ _ (ap (map_answer (λ x. x)) (sym found)) in
-    let count : len ≡ run_len table s = ap (λ (pair : ℕ × ℕ). pair.1) both.1 in
-    omega (arith, prefix_len-le-length (is_digit table) s)

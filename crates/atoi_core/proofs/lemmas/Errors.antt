@@ -1,8 +1,7 @@
--- Errors: how they are ordered, which slices they hold, what they say about the body, and how their
--- texts are built.
-use Rattle.std.proofs.Common.{◌≡◌, ◌↔◌, refl, ℕ, ◌+◌, Bool, List, ◌++◌, take, drop, Some, Result, Ok, Err, ℤ, sym, ap, ◌∙◌, take-append-drop, drop-drop, ◌<◌, ◌≤◌, true, false, eqb, length, Option, None, arith, eqb-true, ltb-true, ltb-false, ◌/◌, ◌%◌, ◌^◌, [], ◌∷◌, decimal, length-append, ◌⊎◌, inl, inr, suc, codes, get_or, IsAscii, rules}
+-- Errors: their order, their slices, and what they say about the body.
+use Rattle.std.proofs.Common.{◌≡◌, ◌↔◌, refl, ℕ, ◌+◌, Bool, List, ◌++◌, take, drop, Some, Result, Ok, Err, ℤ, sym, ap, ◌∙◌, take-append-drop, drop-drop, ◌<◌, ◌≤◌, true, false, eqb, length, Option, None, arith, eqb-true, ltb-true, ltb-false}
 use Rattle.std.specs.declared.cmp.Ordering.{Ordering}
-use Rattle.std.specs.declared.cmp.Ordering.TheVariants.{Less, Equal, Greater}
+use Rattle.std.specs.declared.cmp.Ordering.TheVariants.{Equal}
 use Rattle.std.specs.Ordering.{nat_cmp, ordering_then}
 use Rattle.std.specs.Cmp.Lexicographic.{slice_cmp}
 use Rattle.std.specs.Cmp.{IsTotalOrder}
@@ -10,74 +9,45 @@ use Rattle.std.proofs.lemmas.Cmp.{nat_cmp_total, nat_list_cmp_total, on_total, t
 use Rattle.std.proofs.lemmas.Map.Lookups.{exact_bytes}
 use Rattle.atoi_core.specs.Refusal.{Refusal, empty, size, overflow, invalid64, invalid128, rank, numbers, input_of, refusal_cmp}
 use Rattle.atoi_core.specs.Digit.{decimal_table, Table, is_digit}
-use Rattle.atoi_core.specs.Magnitude.{whole, prefix, refusal, Class, narrow, wide64, wide128, Extent, is_above, leaves_rest, invalid}
+use Rattle.atoi_core.specs.Magnitude.{whole, prefix, refusal, Class, narrow, Extent, is_above, leaves_rest, invalid}
 use Rattle.atoi_core.specs.IntType.{IntType, class_of, bound_of, limit_of}
 use Rattle.atoi_core.specs.Sign.{with_sign}
 use Rattle.atoi_core.specs.Answer.{prefix_answer, with_more}
 use Rattle.atoi_core.specs.Laws.{SignForm, sign_in, whole_call, prefix_call, IsSuffix, OrderAndSuffix, IsAbove, HasSomeDigits, IsFollowed, Explains, ErrorsInOrder}
-use Rattle.atoi_core.proofs.lemmas.Calls.{refusal-input, limit_at, significant_digits, refusal-cases, drop-taken, counted_number, map_unless_err, whole_call-is, prefix_call-is}
-use Rattle.std.proofs.lemmas.Bool.{eqb-false, not-true, cases_lt}
+use Rattle.atoi_core.proofs.lemmas.Calls.{refused, refusal-input, limit_at, significant_len, refusal-cases, drop-taken, counted_number, map_unless_err, whole_call-is, prefix_call-is}
+use Rattle.std.proofs.lemmas.Bool.{eqb-false, not-true}
 use Rattle.std.proofs.lemmas.List.Sums.{prefix_len-le-length}
 use Rattle.atoi_core.specs.Run.{run_len, run, value}
-use Rattle.std.specs.Fmt.{digit_glyph}
-use Rattle.std.proofs.lemmas.Fmt.{decimal_step_wide, length-decimal-le_wide, hex_one_digit, hex_two_digits}
-use Rattle.atoi_core.specs.ErrorText.{hex_text, hex_list, input_text, error_text}
-use Rattle.std.specs.List.{list_all, flat_map}
-use Rattle.std.specs.Char.{is_ascii}
-use Rattle.std.proofs.lemmas.Bool.Decides.{nat_tests}
-use Rattle.std.proofs.lemmas.Str.{IsAscii-append}
-use Rattle.std.proofs.lemmas.Str.Ascii.{IsAscii-nil, IsAscii-cons}
 
 -- ---- The order of errors
 
--- If two comparisons in a row give `Equal` together, then each of the two gives `Equal`.
-then_first : (first rest : Ordering) → ordering_then first rest ≡ Equal → first ≡ Equal
-then_first Less rest equal = cc
-then_first Equal rest equal = refl
-then_first Greater rest equal = cc
+then_both : (first rest : Ordering) → ordering_then first rest ≡ Equal → (first ≡ Equal) × (rest ≡ Equal)
+then_both Equal rest equal = (refl, equal)
+then_both first rest equal = absurd (cc equal)
 
-then_rest : (first rest : Ordering) → ordering_then first rest ≡ Equal → rest ≡ Equal
-then_rest Less rest equal = cc
-then_rest Equal rest equal = equal
-then_rest Greater rest equal = cc
-
--- The order of errors is total.
 pub refusal_cmp-total : IsTotalOrder refusal_cmp
 refusal_cmp-total =
     then_total (on_total rank nat_cmp_total)
     (then_total (on_total numbers nat_list_cmp_total) (on_total input_of nat_list_cmp_total))
 
--- Errors that compare as equal hold the same numbers.
-same_numbers : (a b : Refusal) → refusal_cmp a b ≡ Equal → numbers a ≡ numbers b
-same_numbers a b equal = exact_bytes _ _ (then_first _ _ (then_rest (nat_cmp (rank a) (rank b)) _ equal))
+-- Errors that compare as equal hold the same numbers and the same slice.
+same_fields : (a b : Refusal) → refusal_cmp a b ≡ Equal → (numbers a ≡ numbers b) × (input_of a ≡ input_of b)
+same_fields a b equal =
+    let e = then_both (slice_cmp nat_cmp (numbers a) (numbers b)) _ (then_both (nat_cmp (rank a) (rank b)) _ equal).1 in
+    (exact_bytes _ _ e.0, exact_bytes _ _ e.1)
 
--- Errors that compare as equal hold the same slice.
-same_input : (a b : Refusal) → refusal_cmp a b ≡ Equal → input_of a ≡ input_of b
-same_input a b equal =
-    exact_bytes _ _ (then_rest (slice_cmp nat_cmp (numbers a) (numbers b)) _ (then_rest (nat_cmp (rank a) (rank b)) _ equal))
-
--- Errors that compare as equal are the same.
 same-refusal_cmp : (a b : Refusal) → refusal_cmp a b ≡ Equal → a ≡ b
 same-refusal_cmp empty empty equal = refl
-same-refusal_cmp (size m s) (size n t) equal =
-    let e = same_numbers (size m s) (size n t) equal in
-    let f = same_input (size m s) (size n t) equal in cc
-same-refusal_cmp (overflow s) (overflow t) equal =
-    let f = same_input (overflow s) (overflow t) equal in cc
-same-refusal_cmp (invalid64 m i s) (invalid64 n j t) equal =
-    let e = same_numbers (invalid64 m i s) (invalid64 n j t) equal in
-    let f = same_input (invalid64 m i s) (invalid64 n j t) equal in cc
-same-refusal_cmp (invalid128 m i s) (invalid128 n j t) equal =
-    let e = same_numbers (invalid128 m i s) (invalid128 n j t) equal in
-    let f = same_input (invalid128 m i s) (invalid128 n j t) equal in cc
+same-refusal_cmp (size m s) (size n t) equal = let e = same_fields (size m s) (size n t) equal in cc
+same-refusal_cmp (overflow s) (overflow t) equal = let e = same_fields (overflow s) (overflow t) equal in cc
+same-refusal_cmp (invalid64 m i s) (invalid64 n j t) equal = let e = same_fields (invalid64 m i s) (invalid64 n j t) equal in cc
+same-refusal_cmp (invalid128 m i s) (invalid128 n j t) equal = let e = same_fields (invalid128 m i s) (invalid128 n j t) equal in cc
 same-refusal_cmp a b equal = cc
 
--- Two errors compare as equal exactly if they are the same.
 pub refusal_cmp-Equal : (a b : Refusal) → (refusal_cmp a b ≡ Equal) ↔ (a ≡ b)
 refusal_cmp-Equal a b = (same-refusal_cmp a b, λ same. rw (← same) (tied_itself refusal_cmp-total a))
 
 -- ---- Slices in errors
--- Each slice in an error is a suffix of the slice that was parsed.
 
 -- A suffix of the body is a suffix of the slice.
 suffix_of_body : (int : IntType) (form : SignForm) (s t : List ℕ) → (n : ℕ) × (t ≡ drop n (sign_in int form s).body) → IsSuffix t s
@@ -86,43 +56,37 @@ suffix_of_body int form s t end =
     let at : t ≡ drop (taken + end.0) s = end.1 ∙ ap (drop end.0) (sym (drop-taken int form s)) ∙ drop-drop end.0 taken s in
     (take (taken + end.0) s, sym (take-append-drop (taken + end.0) s) ∙ ap (λ rest. take (taken + end.0) s ++ rest) (sym at))
 
--- Adding to the count of an answer does not change an error.
 with_more_err : (more : ℕ) (r : Result (ℤ × ℕ) Refusal) (reason : Refusal) → with_more more r ≡ Err reason → r ≡ Err reason
 with_more_err more (Ok found) reason h = absurd (cc h)
 with_more_err more (Err other) reason h = cc
 
--- The error of a whole call is the refusal of its body.
-pub whole_refused : (int : IntType) (form : SignForm) (skip : Bool) (s : List ℕ) (reason : Refusal) → whole_call int form skip s ≡ Err reason
-    → refusal decimal_table (class_of int) (bound_of int (sign_in int form s).minus) (limit_of int) whole skip (sign_in int form s).body ≡ Some reason
-whole_refused int form skip s reason h =
-    map_unless_err (with_sign (sign_in int form s).minus) _ _ reason (sym (whole_call-is int form skip s) ∙ h)
+module _ (int : IntType) (form : SignForm) (skip : Bool) (s : List ℕ) where
+  abbrev body_refused : Extent → Option Refusal
+  body_refused extent = refused decimal_table int (sign_in int form s).minus extent skip (sign_in int form s).body
 
--- The error of a prefix call is the refusal of its body.
-pub prefix_refused : (int : IntType) (form : SignForm) (skip : Bool) (s : List ℕ) (reason : Refusal) → prefix_call int form skip s ≡ Err reason
-    → refusal decimal_table (class_of int) (bound_of int (sign_in int form s).minus) (limit_of int) prefix skip (sign_in int form s).body ≡ Some reason
-prefix_refused int form skip s reason h =
-    let g = sign_in int form s in
-    map_unless_err (counted_number g.minus) _ _ reason
-    (with_more_err g.taken (prefix_answer decimal_table int g.minus skip g.body) reason (sym (prefix_call-is int form skip s) ∙ h))
+  whole_refused : (reason : Refusal) → whole_call int form skip s ≡ Err reason → body_refused whole ≡ Some reason
+  whole_refused reason h = map_unless_err (with_sign (sign_in int form s).minus) _ _ reason (sym (whole_call-is int form skip s) ∙ h)
 
--- The law `OrderAndSuffix`: two errors compare as equal exactly if they are the same, and the slice
--- in an error is a suffix of the slice that was parsed.
+  prefix_refused : (reason : Refusal) → prefix_call int form skip s ≡ Err reason → body_refused prefix ≡ Some reason
+  prefix_refused reason h =
+      let g = sign_in int form s in
+      map_unless_err (counted_number g.minus) _ _ reason
+      (with_more_err g.taken (prefix_answer decimal_table int g.minus skip g.body) reason (sym (prefix_call-is int form skip s) ∙ h))
+
+  suffix_in : (extent : Extent) (reason : Refusal) → body_refused extent ≡ Some reason → IsSuffix (input_of reason) s
+  suffix_in extent reason h =
+      suffix_of_body int form s (input_of reason)
+      (refusal-input decimal_table (class_of int) (bound_of int (sign_in int form s).minus) (limit_of int) extent skip (sign_in int form s).body reason h)
+
 pub order_and_suffix : (int : IntType) → OrderAndSuffix int
 order_and_suffix int = record {
   order = refusal_cmp-Equal;
-  whole = λ form skip s reason h.
-      let g = sign_in int form s in
-      suffix_of_body int form s (input_of reason)
-      (refusal-input decimal_table (class_of int) (bound_of int g.minus) (limit_of int) whole skip g.body reason (whole_refused int form skip s reason h));
-  prefix = λ form skip s reason h.
-      let g = sign_in int form s in
-      suffix_of_body int form s (input_of reason)
-      (refusal-input decimal_table (class_of int) (bound_of int g.minus) (limit_of int) prefix skip g.body reason (prefix_refused int form skip s reason h));
+  whole = λ form skip s reason h. suffix_in int form skip s whole reason (whole_refused int form skip s reason h);
+  prefix = λ form skip s reason h. suffix_in int form skip s prefix reason (prefix_refused int form skip s reason h);
 }
 
 -- ---- What an error says about the body
 
--- If the test `is_above` holds, there is a limit, and `count` is larger than the limit.
 above : (limit : Option ℕ) (count : ℕ) → is_above limit count ≡ true → IsAbove limit count
 above None count h = absurd (cc h)
 above (Some limit) count h = ltb-true limit count h
@@ -131,33 +95,25 @@ not_above : (limit : Option ℕ) (count : ℕ) → is_above limit count ≡ fals
 not_above None count h = λ p. p
 not_above (Some limit) count h = λ p. absurd (omega (arith, ltb-false limit count h))
 
--- Only a whole slice is refused for bytes after its digits, and then it has fewer digits than
--- bytes.
 rest_left : (extent : Extent) (digits length : ℕ) → digits ≤ length → leaves_rest extent digits length ≡ true → digits < length
 rest_left whole digits length le h = omega (arith, eqb-false digits length (not-true (eqb digits length) h))
 rest_left prefix digits length le h = absurd (cc h)
 
 module _ (int : IntType) (extent : Extent) (is_negative skip : Bool) (body : List ℕ) where
-  -- If `IsFollowed` holds for a value and an index, then `Explains` holds for the `invalid` error
-  -- that holds these two, whatever the class.
   invalid_explained : (class : Class) (number index : ℕ) → IsFollowed int extent is_negative skip body number index
       → Explains int extent is_negative skip body (invalid class number index body)
   invalid_explained narrow number index h = h
-  invalid_explained wide64 number index h = h
-  invalid_explained wide128 number index h = h
+  invalid_explained class number index h = h
 
-  -- If neither of the first two tests of `refusal` holds, the body begins with a digit and does not
-  -- have too many significant digits.
   begins : eqb (run_len decimal_table body) 0 ≡ false
-      → is_above (limit_at (class_of int) extent skip (limit_of int)) (significant_digits decimal_table skip body) ≡ false
+      → is_above (limit_at (class_of int) extent skip (limit_of int)) (significant_len decimal_table skip body) ≡ false
       → HasSomeDigits int extent skip body
   begins some short = record {
     some = omega (arith, eqb-false (run_len decimal_table body) 0 some);
-    short = not_above (limit_at (class_of int) extent skip (limit_of int)) (significant_digits decimal_table skip body) short;
+    short = not_above (limit_at (class_of int) extent skip (limit_of int)) (significant_len decimal_table skip body) short;
   }
 
-  -- If a body is refused, `Explains` holds for its error.
-  explained : (reason : Refusal) → refusal decimal_table (class_of int) (bound_of int is_negative) (limit_of int) extent skip body ≡ Some reason
+  explained : (reason : Refusal) → refused decimal_table int is_negative extent skip body ≡ Some reason
       → Explains int extent is_negative skip body reason
   explained reason h =
       let number = value decimal_table (run decimal_table body) in
@@ -165,7 +121,7 @@ module _ (int : IntType) (extent : Extent) (is_negative skip : Bool) (body : Lis
       refusal-cases decimal_table (class_of int) (bound_of int is_negative) (limit_of int) extent skip body
       (Explains int extent is_negative skip body)
       (λ e. eqb-true digits 0 e)
-      (λ e l. (omega (arith, eqb-false digits 0 e), above (limit_at (class_of int) extent skip (limit_of int)) (significant_digits decimal_table skip body) l))
+      (λ e l. (omega (arith, eqb-false digits 0 e), above (limit_at (class_of int) extent skip (limit_of int)) (significant_len decimal_table skip body) l))
       (λ e l o. (begins e l, ltb-true (bound_of int is_negative) number o))
       (λ e l o f. invalid_explained (class_of int) number digits (record {
         begins = begins e l;
@@ -183,107 +139,11 @@ not_followed table class bound limit skip body reason h =
     refusal-cases table class bound limit prefix skip body (λ r. rank r ≤ 2)
     (λ e. omega arith) (λ e l. omega arith) (λ e l o. omega arith) (λ e l o f. absurd (cc f)) reason h
 
--- The law `ErrorsInOrder`: the error is the first that applies.
 pub errors_in_order : (int : IntType) → ErrorsInOrder int
 errors_in_order int = record {
-  whole = λ form skip s reason h.
-      explained int whole (sign_in int form s).minus skip (sign_in int form s).body reason (whole_refused int form skip s reason h);
-  prefix = λ form skip s reason h.
-      explained int prefix (sign_in int form s).minus skip (sign_in int form s).body reason (prefix_refused int form skip s reason h);
+  whole = λ form skip s reason h. let g = sign_in int form s in explained int whole g.minus skip g.body reason (whole_refused int form skip s reason h);
+  prefix = λ form skip s reason h. let g = sign_in int form s in explained int prefix g.minus skip g.body reason (prefix_refused int form skip s reason h);
   never_followed = λ form skip s reason h.
-      not_followed decimal_table (class_of int) (bound_of int (sign_in int form s).minus) (limit_of int) skip (sign_in int form s).body reason
-      (prefix_refused int form skip s reason h);
+      let g = sign_in int form s in
+      not_followed decimal_table (class_of int) (bound_of int g.minus) (limit_of int) skip g.body reason (prefix_refused int form skip s reason h);
 }
-
--- ---- Texts of numbers
--- Numbers of up to 128 bits are written in decimal, and bytes in hexadecimal.
-
--- The text of a number of two or more digits is the text of the number without its last digit,
--- followed by that digit.
-pub decimal_more : (n : ℕ) → 10 ≤ n → n < 2 ^ 128 → decimal n ≡ decimal (n / 10) ++ (48 + n % 10) ∷ []
-decimal_more n low high = decimal_step_wide n low (omega arith)
-
--- The text of a number of two or more digits is one byte longer than the text of the number without
--- its last digit.
-pub length_decimal_more : (n : ℕ) → 10 ≤ n → n < 2 ^ 128 → length (decimal n) ≡ length (decimal (n / 10)) + 1
-length_decimal_more n low high =
-    omega (arith, ap length (decimal_more n low high), length-append (decimal (n / 10)) ((48 + n % 10) ∷ []))
-
--- The text of a 128-bit number has at most 39 digits.
-pub length_decimal_of_128_bits : (n : ℕ) → n < 2 ^ 128 → length (decimal n) ≤ 39
-length_decimal_of_128_bits n small = length-decimal-le_wide 39 n (omega arith) (omega arith) (omega arith)
-
--- The text of a 64-bit number has at most 20 digits.
-pub length_decimal_of_64_bits : (n : ℕ) → n < 2 ^ 64 → length (decimal n) ≤ 20
-length_decimal_of_64_bits n small = length-decimal-le_wide 20 n (omega arith) (omega arith) (omega arith)
-
--- A byte below 16 has one hexadecimal digit.
-pub hex_text_of_one_digit : (byte : ℕ) → byte < 16 → hex_text byte ≡ digit_glyph true byte ∷ []
-hex_text_of_one_digit byte small = hex_one_digit true byte small
-
--- A byte from 16 on has two hexadecimal digits.
-pub hex_text_of_two_digits : (byte : ℕ) → 16 ≤ byte → byte < 256 → hex_text byte ≡ digit_glyph true (byte / 16) ∷ digit_glyph true (byte % 16) ∷ []
-hex_text_of_two_digits byte low small = hex_two_digits true byte low small
-
--- ---- Error texts are ASCII
-
--- A text is ASCII if each of its bytes passes the test `is_ascii`.
-pub IsAscii-literal : (bytes : List ℕ) → list_all is_ascii bytes ≡ true → IsAscii bytes
-IsAscii-literal [] passes = IsAscii-nil
-IsAscii-literal (byte ∷ bytes) passes =
-    let small : byte < 128 = grind (arith, nat_tests) in
-    let rest : list_all is_ascii bytes ≡ true = grind (arith, nat_tests) in
-    IsAscii-cons byte bytes small (IsAscii-literal bytes rest)
-
--- A hexadecimal digit is ASCII.
-digit_glyph-lt : (digit : ℕ) → digit < 16 → digit_glyph true digit < 128
-digit_glyph-lt digit small = grind (arith, nat_tests)
-
--- The hexadecimal text of a byte is ASCII.
-IsAscii-hex_text : (byte : ℕ) → byte < 256 → IsAscii (hex_text byte)
-IsAscii-hex_text byte small = by_digits (cases_lt byte 16)
-  where
-    high : byte / 16 < 16
-    high = omega arith
-
-    low : byte % 16 < 16
-    low = omega arith
-
-    by_digits : (byte < 16) ⊎ (16 ≤ byte) → IsAscii (hex_text byte)
-    by_digits (inl short) =
-        rw (hex_text_of_one_digit byte short)
-        (IsAscii-cons (digit_glyph true byte) [] (digit_glyph-lt byte short) IsAscii-nil)
-    by_digits (inr long) =
-        rw (hex_text_of_two_digits byte long small)
-        (IsAscii-cons (digit_glyph true (byte / 16)) (digit_glyph true (byte % 16) ∷ []) (digit_glyph-lt (byte / 16) high)
-        (IsAscii-cons (digit_glyph true (byte % 16)) [] (digit_glyph-lt (byte % 16) low) IsAscii-nil))
-
--- The bytes after the first, in hexadecimal, each with a comma and a space before it.
-abbrev hex_rest : List ℕ → List ℕ
-hex_rest bytes = flat_map (λ b. codes ", " ++ hex_text b) bytes
-
-IsAscii-hex_rest : (bytes : List ℕ) → ((k : ℕ) → get_or bytes k 0 < 256) → IsAscii (hex_rest bytes)
-IsAscii-hex_rest [] small = IsAscii-nil
-IsAscii-hex_rest (byte ∷ bytes) small =
-    IsAscii-append (codes ", " ++ hex_text byte) (hex_rest bytes)
-    (IsAscii-append (codes ", ") (hex_text byte) (IsAscii-literal (codes ", ") refl) (IsAscii-hex_text byte (small 0)))
-    (IsAscii-hex_rest bytes (λ k. small (suc k)))
-
--- The list of bytes in hexadecimal is ASCII.
-pub IsAscii-hex_list : (bytes : List ℕ) → ((k : ℕ) → get_or bytes k 0 < 256) → IsAscii (hex_list bytes)
-IsAscii-hex_list [] small = IsAscii-nil
-IsAscii-hex_list (byte ∷ bytes) small =
-    IsAscii-append (hex_text byte) (hex_rest bytes) (IsAscii-hex_text byte (small 0)) (IsAscii-hex_rest bytes (λ k. small (suc k)))
-
--- The text of the error `Size` is ASCII if the text of its number and that of its slice are.
-pub IsAscii-size_text : (length : ℕ) (input : List ℕ) → IsAscii (decimal length) → IsAscii (input_text input) → IsAscii (error_text (size length input))
-IsAscii-size_text length input number shown = search (rules, IsAscii-append, IsAscii-literal, number, shown)
-
-pub IsAscii-overflow_text : (input : List ℕ) → IsAscii (input_text input) → IsAscii (error_text (overflow input))
-IsAscii-overflow_text input shown = search (rules, IsAscii-append, IsAscii-literal, shown)
-
-pub IsAscii-invalid64_text : (number index : ℕ) (input : List ℕ) → IsAscii (decimal number) → IsAscii (decimal index) → IsAscii (input_text input) → IsAscii (error_text (invalid64 number index input))
-IsAscii-invalid64_text number index input value place shown = search (rules, IsAscii-append, IsAscii-literal, value, place, shown) depth 8
-
-pub IsAscii-invalid128_text : (number index : ℕ) (input : List ℕ) → IsAscii (decimal number) → IsAscii (decimal index) → IsAscii (input_text input) → IsAscii (error_text (invalid128 number index input))
-IsAscii-invalid128_text number index input value place shown = search (rules, IsAscii-append, IsAscii-literal, value, place, shown) depth 8

@@ -11,9 +11,10 @@ use Rattle.atoi_core.specs.Refusal.{empty, Refusal, invalid64, invalid128, size,
 use Rattle.atoi_core.specs.Magnitude.{Class, wide64, wide128, Extent, prefix, rule_of, HasDigits, prefix_magnitude, narrow, whole, Rule, invalid, refusal, unless_refused, whole_magnitude, skipped_zeros, is_above, leaves_rest}
 use Rattle.atoi_core.specs.Reading.{IsSkipped, cap, answer_by_digits}
 use Rattle.atoi_core.specs.declared.window.Window.{Window}
-use Rattle.atoi_core.proofs.lemmas.Calls.{refused_empty, is_empty, is_long, is_over, too_long, over, limit_at, significant_digits, IsAccepted, refusal-none, refused_size, refused_overflow, first_of, refusal-is}
+use Rattle.atoi_core.proofs.lemmas.Calls.{refused_empty, is_empty, is_long, is_over, too_long, over, limit_at, significant_len, IsAccepted, refusal-none, refused_size, refused_overflow, first_of, refusal-is}
 use Rattle.atoi_core.proofs.lemmas.Runs.{prefix_len-take, prefix_len-drop, zeros-le, value-take-le, value-least, narrow_whole_is}
-use Rattle.atoi_core.proofs.lemmas.Windows.{within, below, short, short_below, all_decide, Shows, zeros_both, Shows-join, Shows-join_two, shows, Skipped}
+use Rattle.atoi_core.proofs.lemmas.Readings.{within, below, short, short_below, all_decide}
+use Rattle.atoi_core.proofs.lemmas.Windows.{Shows, zeros_both, Shows-join, Shows-join_two, shows, Skipped}
 use Rattle.std.proofs.lemmas.Bool.Decides.{nat_tests}
 use Rattle.std.proofs.Math.Nat.{pow-le-pow_right, eq-zero-or-pos}
 use Rattle.atoi_core.specs.Window.{window_of}
@@ -44,13 +45,13 @@ is_skipped after_skip = record { zeros_only = omega (arith, after_skip.zeros_are
 none_left : (t : Table) (skip : Bool) (s : List ℕ) (at before now : ℕ) (w : Window) → Skipped t skip s at before now w → 16 ≤ w.len
     → skip ≡ true → zeros t (take 16 (drop at s)) ≡ 0
 none_left t skip s at before now w after_skip full on =
-    omega (arith, after_skip.full on (omega (arith, after_skip.shown.len_is)), after_skip.zeros_are, prefix_len-take (is_zero t) 16 (drop at s))
+    omega (arith, after_skip.full on (omega (arith, after_skip.window.len_is)), after_skip.zeros_are, prefix_len-take (is_zero t) 16 (drop at s))
 
 -- If there is no digit at all, the answer is `Empty`, whatever the class.
 pub answers_empty : (t : Table) (class : Class) (bound limit : ℕ) (skip : Bool) (s : List ℕ) (at before now : ℕ) (w : Window) →
     Skipped t skip s at before now w → at + w.len ≡ 0 → Err empty ≡ prefix_magnitude t class bound limit skip s
 answers_empty t class bound limit skip s at before now w after_skip none =
-    rw (refused_empty t class bound limit prefix skip s (omega (arith, after_skip.run_is, after_skip.shown.len_is))) refl
+    rw (refused_empty t class bound limit prefix skip s (omega (arith, after_skip.run_is, after_skip.window.len_is))) refl
 
 -- Let the bound have exactly `limit` digits, which are more than 16. If there is a digit, and the
 -- last window is not full, then this window holds the rest of the run, whose value is within the
@@ -59,7 +60,7 @@ pub answers_short : (t : Table) (class : Class) (bound limit : ℕ) (skip : Bool
     limit < cap class → Skipped t skip s at before now w → w.len < 16 → 0 < at + w.len → 16 < limit → HasDigits limit bound →
     number ≡ w.number → len ≡ at + w.len → Ok (number, len) ≡ prefix_magnitude t class bound limit skip s
 answers_short t class bound limit skip s at before now w number len less after_skip few some long digits number_is len_is =
-    let decides = short_below t class bound limit less digits skip s at 16 w.len _ w.number (is_skipped after_skip) after_skip.shown.reading few (omega arith) after_skip.shown.below in
+    let decides = short_below t class bound limit less digits skip s at 16 w.len _ w.number (is_skipped after_skip) after_skip.window.reading few (omega arith) after_skip.window.below in
     ap₂ (λ n l. Ok (n, l)) number_is len_is ∙ sym (decides.1 ∙ rw (ne_eqb (at + w.len) 0 (omega arith)) refl)
 
 -- If a full window is followed by one that is not full, the two hold the rest of the run, whose
@@ -69,7 +70,7 @@ pub answers_two : (t : Table) → IsBelowTen t → (bound : ℕ) (skip : Bool) (
     number ≡ first.number * 10 ^ second.len + second.number → len ≡ at + (16 + second.len) →
     Ok (number, len) ≡ prefix_magnitude t wide128 bound 39 skip s
 answers_two t ten bound skip s at before now first second number len after_skip full following few digits number_is len_is =
-    let both = Shows-join t 16 (drop at s) first second after_skip.shown full following in
+    let both = Shows-join t 16 (drop at s) first second after_skip.window full following in
     let decides = short t ten wide128 bound 39 (lit< tt) digits skip s at 32 (16 + second.len) _ _ (is_skipped after_skip) both (omega arith) (omega arith) in
     ap₂ (λ n l. Ok (n, l)) number_is len_is ∙ sym (decides.1 ∙ rw (ne_eqb (at + (16 + second.len)) 0 (omega arith)) refl)
 
@@ -78,7 +79,7 @@ pub answers_64 : (t : Table) (bound limit : ℕ) (skip : Bool) (s : List ℕ) (a
     limit < 24 → Skipped t skip s at before now first_window → 16 ≤ first_window.len → Shows t 8 (drop 16 (drop at s)) back →
     (at + (16 + back.len) ≤ length s) × (answer_by_digits wide64 bound limit at (16 + back.len) (first_window.number * 10 ^ back.len + back.number) s ≡ prefix_magnitude t wide64 bound limit skip s)
 answers_64 t bound limit skip s at before now first_window back less after_skip full following =
-    let both = Shows-join t 8 (drop at s) first_window back after_skip.shown full following in
+    let both = Shows-join t 8 (drop at s) first_window back after_skip.window full following in
     let none : skip ≡ true → zeros_both 16 (zeros t (take 16 (drop at s))) (zeros t (take 8 (drop 16 (drop at s)))) ≡ 0 =
     λ on. rw (none_left t skip s at before now first_window after_skip full on) refl in (
       omega (arith, after_skip.within, within t 24 (drop at s) _ _ _ both, length-drop at s),
@@ -91,7 +92,7 @@ pub answers_128 : (t : Table) → IsBelowTen t → (bound : ℕ) (skip : Bool) (
     let number = (first_window.number * 10 ^ 16 + middle.number) * 10 ^ back.len + back.number in
     (number < 10 ^ (32 + back.len)) × (at + (32 + back.len) ≤ length s) × (answer_by_digits wide128 bound 39 at (32 + back.len) number s ≡ prefix_magnitude t wide128 bound 39 skip s)
 answers_128 t ten bound skip s at before now first_window middle back after_skip full next more following =
-    let all = Shows-join_two t (drop at s) first_window middle back after_skip.shown full next more following in
+    let all = Shows-join_two t (drop at s) first_window middle back after_skip.window full next more following in
     let others : ℕ = zeros t (take 16 (drop 16 (drop at s))) in
     let none : skip ≡ true → zeros_both 32 (zeros_both 16 (zeros t (take 16 (drop at s))) others) (zeros t (take 8 (drop 32 (drop at s)))) ≡ 0 =
     λ on. rw (none_left t skip s at before now first_window after_skip full on) refl in (
@@ -168,7 +169,7 @@ dropped_is t true limit s at before now w after_skip =
           rw (lt-ltb _ _ h)
           (elim (after_skip.offset_is refl) [
             | inr k ↦ sym k.0
-            | inl k ↦ sym (after_skip.full refl (omega (arith, after_skip.run_is, after_skip.shown.len_is)))
+            | inl k ↦ sym (after_skip.full refl (omega (arith, after_skip.run_is, after_skip.window.len_is)))
           ])
       | inr h ↦
           rw (le-ltb _ _ h)
@@ -182,7 +183,7 @@ dropped_is t true limit s at before now w after_skip =
 number_most : (t : Table) (skip : Bool) (s : List ℕ) (at before now : ℕ) (w : Window) →
     Skipped t skip s at before now w → w.number ≤ value t (run t s)
 number_most t skip s at before now w after_skip =
-    omega (arith, after_skip.value_is, after_skip.shown.number_is, value-take-le t (drop at s) w.len (run_len t (drop at s)) (omega (arith, after_skip.shown.len_is)))
+    omega (arith, after_skip.value_is, after_skip.window.number_is, value-take-le t (drop at s) w.len (run_len t (drop at s)) (omega (arith, after_skip.window.len_is)))
 
 -- If a full window does not begin with a zero, its number is at least 10^15.
 least : (t : Table) (s : List ℕ) (w : Window) → Shows t 16 s w → 16 ≤ w.len → w.zeroes ≡ 0 → 10 ^ 15 ≤ w.number
@@ -193,20 +194,20 @@ least t s w seen full none =
 
 -- There are not too many digits if there are at most 16, or if zeros are skipped.
 not_too_long : (t : Table) (skip : Bool) (limit : ℕ) (s : List ℕ) → (skip ≡ false → run_len t s ≤ 16)
-    → is_above (limit_at narrow prefix skip limit) (significant_digits t skip s) ≡ false
+    → is_above (limit_at narrow prefix skip limit) (significant_len t skip s) ≡ false
 not_too_long t true limit s few = refl
-not_too_long t false limit s few = le-ltb 16 (significant_digits t false s) (omega (arith, few refl))
+not_too_long t false limit s few = le-ltb 16 (significant_len t false s) (omega (arith, few refl))
 
 -- Let zeros be skipped, or let the run have at most 16 digits. If the number of the last window
 -- fits in 32 bits, then the window holds the rest of the run.
 ends : (t : Table) (skip : Bool) (s : List ℕ) (at before now : ℕ) (w : Window) →
     Skipped t skip s at before now w → (skip ≡ false → run_len t s ≤ 16) → w.number ≤ 4294967295 → run_len t (drop at s) ≡ w.len
-ends t false s at before now w after_skip few small = omega (arith, few refl, after_skip.off refl, after_skip.run_is, after_skip.shown.len_is)
+ends t false s at before now w after_skip few small = omega (arith, few refl, after_skip.off refl, after_skip.run_is, after_skip.window.len_is)
 ends t true s at before now w after_skip few small =
     elim (cases_lt w.len 16) [
-      | inl h ↦ omega (arith, after_skip.shown.len_is)
+      | inl h ↦ omega (arith, after_skip.window.len_is)
       | inr h ↦
-          absurd (omega (arith, least t (drop at s) w after_skip.shown h (after_skip.last refl)))
+          absurd (omega (arith, least t (drop at s) w after_skip.window h (after_skip.last refl)))
     ]
 
 -- Let zeros be skipped, or let the run have at most 16 digits. If the number of the last window is
@@ -215,7 +216,7 @@ narrow_overflow : (t : Table) (bound limit : ℕ) (skip : Bool) (s : List ℕ) (
     Skipped t skip s at before now w → (skip ≡ false → run_len t s ≤ 16) → 0 < at + w.len → bound < w.number →
     Err (overflow (drop at s)) ≡ prefix_magnitude t narrow bound limit skip s
 narrow_overflow t bound limit skip s at before now w after_skip few some over =
-    let digits : 0 < run_len t s = omega (arith, after_skip.run_is, after_skip.shown.len_is) in
+    let digits : 0 < run_len t s = omega (arith, after_skip.run_is, after_skip.window.len_is) in
     let above : bound < value t (run t s) = omega (arith, number_most t skip s at before now w after_skip) in
     rw (refused_overflow t narrow bound limit prefix skip s digits (not_too_long t skip limit s few) above)
     (rw (dropped_is t skip limit s at before now w after_skip) refl)
@@ -228,7 +229,7 @@ narrow_ok : (t : Table) (bound limit : ℕ) (skip : Bool) (s : List ℕ) (at bef
 narrow_ok t bound limit skip s at before now w after_skip high few some within =
     let rest : run_len t (drop at s) ≡ w.len = ends t skip s at before now w after_skip few (omega arith) in
     let number : value t (run t s) ≡ w.number =
-    after_skip.value_is ∙ ap (λ (n : ℕ). value t (take n (drop at s))) rest ∙ sym after_skip.shown.number_is in
+    after_skip.value_is ∙ ap (λ (n : ℕ). value t (take n (drop at s))) rest ∙ sym after_skip.window.number_is in
     let len : run_len t s ≡ at + w.len = omega (arith, after_skip.run_is) in
     let accepted : IsAccepted t narrow bound limit prefix skip s =
     record { some = omega arith; short = not_too_long t skip limit s few; in_range = omega arith; ends = refl } in
@@ -252,8 +253,8 @@ pub narrow_size : (t : Table) (bound limit : ℕ) (skip : Bool) (s : List ℕ) �
 narrow_size t bound limit true s long = absurd (cc long)
 narrow_size t bound limit false s long =
     let many : 16 < run_len t s = ltb-true 16 (run_len t s) (sym long) in
-    let too_long = lt-ltb 16 (significant_digits t false s) (omega arith) in
-    let reported : 0 + min (significant_digits t false s) 17 ≡ 17 = omega arith in
+    let too_long = lt-ltb 16 (significant_len t false s) (omega arith) in
+    let reported : 0 + min (significant_len t false s) 17 ≡ 17 = omega arith in
     rw (refused_size t narrow bound limit prefix false s (omega arith) too_long) (rw reported refl)
 
 -- Let the first 16 bytes be digits. Then the bytes after them begin with a digit exactly if the run
@@ -271,8 +272,8 @@ pub narrow_decides : (t : Table) (s : List ℕ) (at before now : ℕ) (w : Windo
 narrow_decides t s at before now w len after_skip len_is bound high =
     elim (cases_lt bound w.number) [
       | inl over ↦
-          let some : 0 < w.len = elim (eq-zero-or-pos w.len) [ inl e ↦ absurd (omega (arith, after_skip.shown.below, ap (λ (n : ℕ). 10 ^ n) e)) | inr h ↦ h ] in
-          let digits : 0 < run_len t s = omega (arith, after_skip.run_is, after_skip.shown.len_is) in
+          let some : 0 < w.len = elim (eq-zero-or-pos w.len) [ inl e ↦ absurd (omega (arith, after_skip.window.below, ap (λ (n : ℕ). 10 ^ n) e)) | inr h ↦ h ] in
+          let digits : 0 < run_len t s = omega (arith, after_skip.run_is, after_skip.window.len_is) in
           let above : bound < value t (run t s) = omega (arith, number_most t true s at before now w after_skip) in
           rw (ne_eqb len 0 (omega arith), lt-ltb bound w.number over)
           (sym (narrow_whole_is t bound 0 false s (run_len t s) (value t (run t s)) refl refl
@@ -280,7 +281,7 @@ narrow_decides t s at before now w len after_skip len_is bound high =
       | inr fits ↦
           let rest : run_len t (drop at s) ≡ w.len = ends t true s at before now w after_skip (λ no. absurd (cc no)) (omega arith) in
           let number : value t (run t s) ≡ w.number =
-          after_skip.value_is ∙ ap (λ (n : ℕ). value t (take n (drop at s))) rest ∙ sym after_skip.shown.number_is in
+          after_skip.value_is ∙ ap (λ (n : ℕ). value t (take n (drop at s))) rest ∙ sym after_skip.window.number_is in
           let all : run_len t s ≡ len = omega (arith, after_skip.run_is) in
           sym (narrow_whole_is t bound 0 false s len w.number all (ap (λ (n : ℕ). value t (take n s)) (sym all) ∙ number)
           ∙ grind (arith, nat_tests))
@@ -347,7 +348,7 @@ short_run t class bound limit extent skip s room few below =
     let within = skipped_most t skip s in
     refusal-is t class bound limit extent skip s
     ∙ ap (λ b. first_of (eqb digits 0) b (ltb bound number) (leaves_rest extent digits (length s)) empty (too_long t class bound limit extent skip s) (over t class bound limit extent skip s) (invalid class number digits s))
-    (short_enough class extent skip bound limit (significant_digits t skip s) room (omega arith))
+    (short_enough class extent skip bound limit (significant_len t skip s) room (omega arith))
     ∙ ap (λ (x : Option Refusal). cond (eqb digits 0) (Some empty) x)
     (whole_slice class extent skip bound limit digits (skipped_zeros t skip s) number s some_left room few within below)
 

@@ -10,7 +10,7 @@ use Rattle.atoi_core.specs.IntType.{IntType, class_of, limit_of, IsSized, bound_
 use Rattle.atoi_core.specs.Sign.{Sign, sign_of}
 use Rattle.atoi_core.specs.Laws.{SignForm, sign_in, whole_call, prefix_call, HasLimitOfWhole, PrefixIsWhole, PrefixOfCut, PrefixStopsAtRest, looked_for, given, Writes, AcceptedPrefixes, PrefixesAndRests, AcceptedNumbers, AcceptedTexts, WholeResults, PrefixResults}
 use Rattle.atoi_core.proofs.lemmas.Runs.{length-run, run_len-run, zeros-run, run_all}
-use Rattle.atoi_core.proofs.lemmas.Calls.{drop-taken, length-taken, sign_again, digit_in_range, whole_call-is, from_whole, to_whole, is_whole, whole_is_run, IsFound, found_prefix, ok_prefix, significant_digits}
+use Rattle.atoi_core.proofs.lemmas.Calls.{drop-taken, length-taken, sign_again, digit_in_range, whole_call-is, from_whole, to_whole, is_whole, whole_is_run, IsFound, found_prefix, ok_prefix, significant_len}
 use Rattle.atoi_core.proofs.lemmas.Bounds.{long_as_whole, limit_of_prefix, in_range_short}
 use Rattle.std.proofs.Math.Seq.{take-append_seam}
 use Rattle.std.proofs.lemmas.List.{length-take-le, take-append-drop}
@@ -51,7 +51,7 @@ whole_of_prefix int form skip s v h =
     let g = sign_in int form s in
     let prefix_is = found.is_prefix in
     let to_end : run_len decimal_table g.body ≡ length g.body = omega (arith, found.count_is, length-taken int form s) in
-    let short = long_as_whole (class_of int) skip (limit_of int) (significant_digits decimal_table skip g.body) prefix_is.short in
+    let short = long_as_whole (class_of int) skip (limit_of int) (significant_len decimal_table skip g.body) prefix_is.short in
     let body_is = is_whole int g.minus skip g.body prefix_is.some short prefix_is.in_range to_end in
     whole_call-is int form skip s ∙ to_whole int g.minus skip g.body body_is ∙ ap Ok (sym found.number)
 

@@ -1,13 +1,10 @@
--- The run of a slice, which is its longest prefix of digits: how long it is, how it changes when
--- the slice is cut, and which value its digits spell. Most of the other files in this folder use
--- these lemmas.
-use Rattle.std.proofs.Common.{◌≡◌, ℕ, zero, suc, ◌+◌, ◌≤◌, min, Bool, true, false, cond, List, [], ◌∷◌, take, drop, arith, ◌&&◌, ◌==◌, ◌*◌, ◌^◌, ◌<◌, ◌++◌, length, refl, ap, ◌∙◌, ◌-◌, replicate, All, IsTrue, subst, Option, lit<, lit≤, get_or, Some, None, is_some, unwrap_or, sym, Ok, Err, if◌then◌else◌, nat_lt, not}
+-- The run of a slice: its length, how a cut changes it, and the value of its digits.
+use Rattle.std.proofs.Common.{◌≡◌, ℕ, zero, suc, ◌+◌, ◌≤◌, min, Bool, true, false, cond, List, [], ◌∷◌, take, drop, arith, ◌==◌, ◌*◌, ◌^◌, ◌<◌, ◌++◌, length, refl, ap, ◌∙◌, ◌-◌, replicate, All, IsTrue, subst, Option, lit<, lit≤, get_or, Some, None, is_some, unwrap_or, sym, Ok, Err, if◌then◌else◌, nat_lt, not}
 use Rattle.std.specs.List.{prefix_len}
 use Rattle.atoi_core.specs.Digit.{Table, is_digit, digit_value, IsBelowTen, is_zero, decimal_table}
 use Rattle.atoi_core.specs.Run.{run_len, zeros, run, value}
 use Rattle.std.proofs.Math.Nat.{pow-succ', mul-le-mul_right, mul-le-mul_left, one-le-pow, pow-le-pow_right}
 use Rattle.std.proofs.Math.Seq.{take-add}
-use Rattle.std.proofs.lemmas.Bool.{eqb-true, eqb-false}
 use Rattle.std.proofs.lemmas.List.{length-append, length-take-le, length-drop, take_all, take_more, take-take, take-append-drop}
 use Rattle.std.proofs.lemmas.List.Sums.{prefix_len-le-length, prefix_len_passes, prefix_len-drop_yes, prefix_len-drop_no, prefix_len-drop_all}
 use Rattle.std.proofs.lemmas.Nat.{pow-add}
@@ -16,20 +13,13 @@ use Rattle.std.proofs.lemmas.List.Folds.{length-prefix_len}
 use Rattle.atoi_core.specs.Refusal.{empty, overflow, invalid64}
 use Rattle.atoi_core.specs.Magnitude.{narrow, refusal, unless_refused, whole_magnitude}
 
--- ---- How the prefix whose elements pass a test changes when the slice is cut
--- `prefix_len p s` is the length of the longest prefix of `s` whose elements all pass the test `p`.
+-- ---- Slices that are cut
 
--- If a slice is cut to its first n elements, its `prefix_len` becomes n if it was larger than n,
--- and otherwise it does not change.
 pub prefix_len-take : (p : ℕ → Bool) (n : ℕ) (s : List ℕ) → prefix_len p (take n s) ≡ min n (prefix_len p s)
 prefix_len-take p zero s = omega arith
 prefix_len-take p (suc n) [] = omega arith
-prefix_len-take p (suc n) (b ∷ bs) =
-    elim (p b) as (λ v. cond v (1 + prefix_len p (take n bs)) 0 ≡ min (suc n) (cond v (1 + prefix_len p bs) 0))
-    [ true ↦ omega (arith, prefix_len-take p n bs) | false ↦ omega arith ]
+prefix_len-take p (suc n) (b ∷ bs) = grind (arith, nat_tests, prefix_len-take p n bs)
 
--- Let the first n elements of a slice pass the test. If they are dropped, the `prefix_len` of the
--- slice becomes smaller by n.
 pub prefix_len-drop : (p : ℕ → Bool) (n : ℕ) (s : List ℕ) → n ≤ prefix_len p s → prefix_len p s ≡ n + prefix_len p (drop n s)
 prefix_len-drop p zero s = λ _. omega arith
 prefix_len-drop p (suc n) [] = λ h. absurd (omega arith)
@@ -37,21 +27,12 @@ prefix_len-drop p (suc n) (b ∷ bs) =
     elim (p b) as (λ v. suc n ≤ cond v (1 + prefix_len p bs) 0 → cond v (1 + prefix_len p bs) 0 ≡ suc n + prefix_len p (drop n bs))
     [ true ↦ λ h. omega (arith, prefix_len-drop p n bs (omega arith)) | false ↦ λ h. absurd (omega arith) ]
 
--- A slice has at most as many leading zeros as leading digits.
 pub zeros-le : (t : Table) (s : List ℕ) → zeros t s ≤ run_len t s
 zeros-le t [] = omega arith
-zeros-le t (b ∷ bs) =
-    elim (is_digit t b) as (λ v. cond (v && (digit_value t b == 0)) (1 + zeros t bs) 0 ≤ cond v (1 + run_len t bs) 0) [
-      | true ↦ elim (digit_value t b == 0) as (λ v. cond v (1 + zeros t bs) 0 ≤ 1 + run_len t bs)
-          [ true ↦ omega (arith, zeros-le t bs) | false ↦ omega arith ]
-      | false ↦ omega arith
-    ]
+zeros-le t (b ∷ bs) = grind (arith, nat_tests, zeros-le t bs)
 
 -- ---- Values of digits
--- These lemmas say what the value is when digits are cut or begin with zeros.
 
--- The value of `xs ++ ys` is the value of `xs`, multiplied by ten for each digit of `ys`, plus the
--- value of `ys`.
 pub value-append : (t : Table) (xs ys : List ℕ) → value t (xs ++ ys) ≡ value t xs * 10 ^ length ys + value t ys
 value-append t [] ys = omega arith
 value-append t (x ∷ xs) ys =
@@ -60,7 +41,6 @@ value-append t (x ∷ xs) ys =
     ∙ ap (λ (e : ℕ). digit_value t x * e) (pow-add 10 (length xs) (length ys)) in
     omega (arith, power, value-append t xs ys)
 
--- If each digit value is below ten, the value is below ten to the power of the number of digits.
 pub value-below : (t : Table) → IsBelowTen t → (xs : List ℕ) → value t xs < 10 ^ length xs
 value-below t below [] = omega arith
 value-below t below (x ∷ xs) =
@@ -68,8 +48,6 @@ value-below t below (x ∷ xs) =
     mul-le-mul_right (10 ^ length xs) (omega (arith, below x)) in
     rw pow-succ' (omega (arith, value-below t below xs))
 
--- The value of the first n + k bytes is the value of the first n, multiplied by 10^k, plus the
--- value of the k bytes after them.
 pub value-take-add : (t : Table) (n k : ℕ) (s : List ℕ) → n + k ≤ length s →
     value t (take (n + k) s) ≡ value t (take n s) * 10 ^ k + value t (take k (drop n s))
 value-take-add t n k s h =
@@ -78,21 +56,19 @@ value-take-add t n k s h =
     ∙ value-append t (take n s) (take k (drop n s))
     ∙ ap (λ (e : ℕ). value t (take n s) * 10 ^ e + value t (take k (drop n s))) len
 
--- The value of leading zeros is 0.
+-- The digit value of a zero is 0.
+value_of_zero : (t : Table) (byte : ℕ) → is_zero t byte ≡ true → digit_value t byte ≡ 0
+value_of_zero t byte h = grind (arith, eqb_tells)
+
 pub value-zeros : (t : Table) (n : ℕ) (s : List ℕ) → n ≤ zeros t s → value t (take n s) ≡ 0
 value-zeros t zero s = λ _. refl
 value-zeros t (suc n) [] = λ h. absurd (omega arith)
 value-zeros t (suc n) (b ∷ bs) =
-    elim (is_digit t b) as (λ v. suc n ≤ cond (v && (digit_value t b == 0)) (1 + zeros t bs) 0 → digit_value t b * 10 ^ length (take n bs) + value t (take n bs) ≡ 0) [
-      | true ↦
-          (elim (digit_value t b == 0) as (λ v. (digit_value t b == 0) ≡ v → suc n ≤ cond v (1 + zeros t bs) 0 → digit_value t b * 10 ^ length (take n bs) + value t (take n bs) ≡ 0) [
-            | true ↦ λ e h. rw (eqb-true _ _ e, value-zeros t n bs (omega arith)) (omega arith)
-            | false ↦ λ e h. absurd (omega arith)
-          ]) refl
-      | false ↦ λ h. absurd (omega arith)
-    ]
+    (elim (is_zero t b) as (λ v. is_zero t b ≡ v → suc n ≤ cond v (1 + zeros t bs) 0 → digit_value t b * 10 ^ length (take n bs) + value t (take n bs) ≡ 0) [
+      | true ↦ λ e h. rw (value_of_zero t b e, value-zeros t n bs (omega arith)) (omega arith)
+      | false ↦ λ e h. absurd (omega arith)
+    ]) refl
 
--- Dropping leading zeros does not change the value of the run.
 pub value-drop_zeros : (t : Table) (n : ℕ) (s : List ℕ) → n ≤ zeros t s → value t (run t s) ≡ value t (run t (drop n s))
 value-drop_zeros t n s h =
     let parts : run_len t s ≡ n + run_len t (drop n s) = prefix_len-drop (is_digit t) n s (omega (arith, zeros-le t s)) in
@@ -101,29 +77,18 @@ value-drop_zeros t n s h =
     ∙ value-take-add t n (run_len t (drop n s)) s (omega arith)
     ∙ omega (arith, ap (λ (e : ℕ). e * 10 ^ run_len t (drop n s)) (value-zeros t n s h))
 
--- If the first digit is not zero, the value of n + 1 digits is at least 10^n.
+-- n + 1 digits that begin with no zero spell at least 10^n.
 pub value-least : (t : Table) (n : ℕ) (s : List ℕ) → suc n ≤ run_len t s → zeros t s ≡ 0 → 10 ^ n ≤ value t (take (suc n) s)
 value-least t n [] = λ h z. absurd (omega arith)
-value-least t n (b ∷ bs) =
-    elim (is_digit t b) as (λ v. suc n ≤ cond v (1 + run_len t bs) 0 → cond (v && (digit_value t b == 0)) (1 + zeros t bs) 0 ≡ 0 → 10 ^ n ≤ digit_value t b * 10 ^ length (take n bs) + value t (take n bs)) [
-      | true ↦
-          λ h.
-          (elim (digit_value t b == 0) as (λ v. (digit_value t b == 0) ≡ v → cond v (1 + zeros t bs) 0 ≡ 0 → 10 ^ n ≤ digit_value t b * 10 ^ length (take n bs) + value t (take n bs)) [
-            | true ↦ λ e z. absurd (omega arith)
-            | false ↦ λ e z.
-                let some : 1 ≤ digit_value t b = omega (arith, eqb-false _ _ e) in
-                let len : length (take n bs) ≡ n = length-take-le n bs (omega (arith, prefix_len-le-length (is_digit t) bs)) in
-                let least : 1 * 10 ^ length (take n bs) ≤ digit_value t b * 10 ^ length (take n bs) = mul-le-mul_right (10 ^ length (take n bs)) some in
-                omega (arith, ap (λ (m : ℕ). 10 ^ m) len)
-          ]) refl
-      | false ↦ λ h z. absurd (omega arith)
-    ]
+value-least t n (b ∷ bs) = λ h z.
+    let some : 1 ≤ digit_value t b = grind (arith, nat_tests) in
+    let few : n ≤ run_len t bs = grind (arith, nat_tests) in
+    let len : length (take n bs) ≡ n = length-take-le n bs (omega (arith, prefix_len-le-length (is_digit t) bs)) in
+    let least : 1 * 10 ^ length (take n bs) ≤ digit_value t b * 10 ^ length (take n bs) = mul-le-mul_right (10 ^ length (take n bs)) some in
+    omega (arith, ap (λ (m : ℕ). 10 ^ m) len)
 
--- ---- Runs, zeros and values of slices that are cut or joined
--- These lemmas say how `take`, `++` and zeros that are put before a slice change them.
+-- ---- Runs that are cut or joined
 
--- If n copies of an element that passes the test `p` are put before a list, the `prefix_len` of the
--- list becomes larger by n.
 pub prefix_len-replicate_append : {X : Type 0} (p : X → Bool) (x : X) → p x ≡ true → (n : ℕ) (xs : List X)
     → prefix_len p (replicate n x ++ xs) ≡ n + prefix_len p xs
 prefix_len-replicate_append p x h zero xs = omega arith
@@ -131,40 +96,25 @@ prefix_len-replicate_append p x h (suc n) xs =
     rw h (omega (arith, prefix_len-replicate_append p x h n xs))
 
 module _ (table : Table) where
-  -- The run has as many bytes as `run_len` says.
   pub length-run : (s : List ℕ) → length (run table s) ≡ run_len table s
   length-run s = length-prefix_len (is_digit table) s
 
-  -- If the run is as long as the slice, each byte of the slice is a digit.
   pub digits_all : (s : List ℕ) → run_len table s ≡ length s → All (λ byte. IsTrue (is_digit table byte)) s
   digits_all s h = λ i d lt. prefix_len_passes (is_digit table) s i d (omega arith)
 
-  -- If the run is as long as the slice, it is the slice.
   pub run_all : (s : List ℕ) → run_len table s ≡ length s → run table s ≡ s
   run_all s h = take_all (run_len table s) s (omega arith)
 
-  -- If a slice is cut within its run, what is left has digits only.
   pub run_len-take : (n : ℕ) (s : List ℕ) → n ≤ run_len table s → run_len table (take n s) ≡ n
   run_len-take n s h = omega (arith, prefix_len-take (is_digit table) n s)
 
-  -- A slice that is cut to n bytes keeps its leading zeros, but at most n of them.
-  pub zeros-take : (n : ℕ) (s : List ℕ) → zeros table (take n s) ≡ min n (zeros table s)
-  zeros-take n s = prefix_len-take (is_zero table) n s
-
-  -- The run of a run is as long as the run itself.
   pub run_len-run : (s : List ℕ) → run_len table (run table s) ≡ run_len table s
   run_len-run s = run_len-take (run_len table s) s (omega arith)
 
-  -- A run begins with as many zeros as its slice.
   pub zeros-run : (s : List ℕ) → zeros table (run table s) ≡ zeros table s
-  zeros-run s = omega (arith, zeros-take (run_len table s) s, zeros-le table s)
+  zeros-run s = omega (arith, prefix_len-take (is_zero table) (run_len table s) s, zeros-le table s)
 
-  -- The digit value of a zero is 0.
-  value_of_zero : (byte : ℕ) → is_zero table byte ≡ true → digit_value table byte ≡ 0
-  value_of_zero byte h = grind (arith, eqb_tells)
-
-  -- If n digits of a run follow its leading zeros, and n is at least 1, then the value of the run
-  -- is at least 10^(n - 1).
+  -- n digits after the leading zeros spell at least 10^(n - 1).
   pub value-ge : (s : List ℕ) → zeros table s < run_len table s
       → 10 ^ (run_len table s - zeros table s - 1) ≤ value table (run table s)
   value-ge s h =
@@ -177,73 +127,59 @@ module _ (table : Table) where
       (subst (λ (m : ℕ). 10 ^ (run_len table s - z - 1) ≤ value table (take m rest)) places
       (value-least table (run_len table s - z - 1) rest (omega arith) (omega arith)))
 
-  -- Zeros put before a slice do not change its value.
   pub value-replicate : (zero_digit : ℕ) → is_zero table zero_digit ≡ true → (n : ℕ) (s : List ℕ)
       → value table (replicate n zero_digit ++ s) ≡ value table s
   value-replicate z h zero s = refl
-  value-replicate z h (suc n) s = rw (value_of_zero z h) (omega (arith, value-replicate z h n s))
+  value-replicate z h (suc n) s = rw (value_of_zero table z h) (omega (arith, value-replicate z h n s))
 
 -- ---- Digit by digit
--- These lemmas say how the run and its value grow from one byte to the next.
 
--- One more digit multiplies the value by ten and adds the digit value.
 pub value_more : (t : Table) (s : List ℕ) (i w : ℕ) → i < length s → t (get_or s i 0) ≡ Some w → value t (take (i + 1) s) ≡ value t (take i s) * 10 + w
 value_more t s i w here digit =
     let e : digit_value t (get_or s i 0) ≡ w = ap (λ (o : Option ℕ). unwrap_or o 0) digit in
     rw (take_more s i 0 here, value-append t (take i s) (get_or s i 0 ∷ []), ← e) (grind arith)
 
--- More digits after a number never make its value smaller.
 pub value-append-le : (t : Table) (xs ys : List ℕ) → value t xs ≤ value t (xs ++ ys)
 value-append-le t xs ys =
     let power : 1 ≤ 10 ^ length ys = one-le-pow (length ys) 10 (lit< tt) in
     omega (arith, value-append t xs ys, mul-le-mul_left (value t xs) power)
 
--- A longer prefix never has a smaller value.
 pub value-take-le : (t : Table) (s : List ℕ) (i j : ℕ) → i ≤ j → value t (take i s) ≤ value t (take j s)
 value-take-le t s i j le =
     rw (← take-append-drop i (take j s), take-take i j s le)
     (value-append-le t (take i s) (drop i (take j s)))
 
--- If the first i bytes of a slice belong to its run, and the next byte is a digit, then this byte
--- belongs to the run too.
+-- A digit after i bytes of the run belongs to it too.
 pub run_more : (t : Table) (s : List ℕ) (i w : ℕ) → i < length s → t (get_or s i 0) ≡ Some w → i + run_len t (drop i s) ≡ run_len t s → i + 1 + run_len t (drop (i + 1) s) ≡ run_len t s
 run_more t s i w here digit so_far =
     let yes = prefix_len-drop_yes (is_digit t) s i 0 here (ap is_some digit) in
     omega (arith, yes, so_far)
 
--- If the first i bytes of a slice belong to its run, and the next byte is no digit, then the run
--- has i digits.
 pub run_ends : (t : Table) (s : List ℕ) (i : ℕ) → i < length s → t (get_or s i 0) ≡ None → i + run_len t (drop i s) ≡ run_len t s → run_len t s ≡ i
 run_ends t s i here none so_far =
     let no = prefix_len-drop_no (is_digit t) s i 0 here (ap is_some none) in
     omega (arith, no, so_far)
 
--- A decimal digit value is below ten.
 pub decimal_below_ten : IsBelowTen decimal_table
 decimal_below_ten byte = grind (arith, nat_tests)
 
--- If a number is below 10^len, it is below 10^(len + 1) after one more digit.
 pub digit_joins : (len number w : ℕ) → number < 10 ^ len → w < 10 → number * 10 + w < 10 ^ (len + 1)
 digit_joins len number w small digit = rw (pow-add 10 len 1) (grind arith)
 
--- A number of at most 16 digits fits in 64 bits.
 pub sixteen_digits : (len number : ℕ) → len ≤ 16 → number < 10 ^ len → number < 2 ^ 64
 sixteen_digits len number short small =
     let most : 10 ^ len ≤ 10 ^ 16 = pow-le-pow_right {n = 10} (lit< tt) short in
     let fits : 10 ^ 16 ≤ 2 ^ 64 = lit≤ tt in
     omega (arith, most, fits)
 
--- If all digit values of a table are below ten, so is the one that the table gives for this byte.
 pub digit_value_of : (t : Table) → IsBelowTen t → (byte w : ℕ) → t byte ≡ Some w → w < 10
 digit_value_of t small byte w digit =
     let P : ℕ → Type 0 = λ n. n < 10 in
     subst P (ap (λ (o : Option ℕ). unwrap_or o 0) digit) (small byte)
 
 -- ---- Answers of narrow whole parses
--- There is a lemma for each case that the loop over single bytes distinguishes.
 
--- The answer to a narrow whole slice follows from the slice, the bound, and the length n and the
--- value of its run. Neither the limit nor the flag that skips zeros matters.
+-- The run decides the answer, whatever the limit and the flag.
 pub narrow_whole_is : (t : Table) (bound limit : ℕ) (skip : Bool) (s : List ℕ) (n number : ℕ) → run_len t s ≡ n → value t (take n s) ≡ number
     → whole_magnitude t narrow bound limit skip s ≡ unless_refused (if n == 0 then Some empty
     else (if nat_lt bound number then Some (overflow s)
@@ -251,8 +187,7 @@ pub narrow_whole_is : (t : Table) (bound limit : ℕ) (skip : Bool) (s : List �
 unfolding refusal
 narrow_whole_is t bound limit skip s n number at_n is_number = rw (at_n, is_number) refl
 
--- If a run of i digits, whose value is within the bound, is followed by another byte, the answer is
--- `Empty` for i = 0, and otherwise `Invalid64`.
+-- Another byte follows i digits.
 pub narrow_whole_rest : (t : Table) (bound limit : ℕ) (skip : Bool) (s : List ℕ) (i number : ℕ) → i < length s → t (get_or s i 0) ≡ None
     → i + run_len t (drop i s) ≡ run_len t s → number ≡ value t (take i s) → number ≤ bound
     → whole_magnitude t narrow bound limit skip s ≡ Err (if i == 0 then empty else invalid64 number i s)
@@ -260,7 +195,7 @@ narrow_whole_rest t bound limit skip s i number here none so_far is_number fits 
     narrow_whole_is t bound limit skip s i number (run_ends t s i here none so_far) (sym is_number)
     ∙ grind (arith, nat_tests)
 
--- If one more digit makes the value larger than the bound, the answer is `Overflow`.
+-- One more digit passes the bound.
 pub narrow_whole_over : (t : Table) (bound limit : ℕ) (skip : Bool) (s : List ℕ) (i w : ℕ) → i < length s → t (get_or s i 0) ≡ Some w
     → i + run_len t (drop i s) ≡ run_len t s → bound < value t (take i s) * 10 + w
     → whole_magnitude t narrow bound limit skip s ≡ Err (overflow s)
@@ -270,8 +205,7 @@ narrow_whole_over t bound limit skip s i w here digit so_far over =
     narrow_whole_is t bound limit skip s (run_len t s) (value t (take (run_len t s) s)) refl refl
     ∙ grind (arith, nat_tests)
 
--- If all bytes are digits and their value is within the bound, the answer is `Ok`, or `Empty` if
--- there are no bytes.
+-- All bytes are digits.
 pub narrow_whole_end : (t : Table) (bound limit : ℕ) (skip : Bool) (s : List ℕ) (i number : ℕ) → i ≤ length s → length s ≤ i
     → i + run_len t (drop i s) ≡ run_len t s → number ≡ value t (take i s) → number ≤ bound
     → whole_magnitude t narrow bound limit skip s ≡ (if length s == 0 then Err empty else Ok number)

@@ -16,7 +16,7 @@ use Rattle.atoi_core.specs.Sign.{Sign, with_sign}
 use Rattle.atoi_core.specs.Answer.{map_answer, whole_answer, prefix_answer, with_more}
 use Rattle.atoi_core.specs.Laws.{SignForm, sign_in, with_zeros, zero_byte, HaveSameOutcome, RestChangesNothing, ZerosChangeNothing}
 use Rattle.atoi_core.proofs.lemmas.Runs.{length-run, zeros-run, value-replicate, prefix_len-replicate_append}
-use Rattle.atoi_core.proofs.lemmas.Calls.{refusal-rank, first_of, limit_at, significant_digits, sign_again, whole_call-is, prefix_call-is, counted_number, with_more-zero}
+use Rattle.atoi_core.proofs.lemmas.Calls.{refusal-rank, first_of, limit_at, significant_len, sign_again, whole_call-is, prefix_call-is, counted_number, with_more-zero}
 
 -- Two whole answers have the same outcome if their values are equal, and if both are refused for
 -- reasons of the same rank or neither is refused. The rank is the position of a reason among the
@@ -58,7 +58,7 @@ number_at g = value decimal_table (run decimal_table g.body)
 record IsAlike (int : IntType) (skip : Bool) (extent : Extent) (g h : Sign) : Type 0 where
   bound : bound_of int g.minus ≡ bound_of int h.minus
   is_empty : eqb (run_len decimal_table g.body) 0 ≡ eqb (run_len decimal_table h.body) 0
-  counts : significant_digits decimal_table skip g.body ≡ significant_digits decimal_table skip h.body
+  counts : significant_len decimal_table skip g.body ≡ significant_len decimal_table skip h.body
   number : number_at g ≡ number_at h
   followed : leaves_rest extent (run_len decimal_table g.body) (length g.body) ≡ leaves_rest extent (run_len decimal_table h.body) (length h.body)
 

@@ -14,7 +14,7 @@ use Rattle.atoi_core.specs.Sign.{Sign, sign_of, with_sign, plus_sign, minus_sign
 use Rattle.atoi_core.specs.Answer.{whole_answer, parse_answer}
 use Rattle.atoi_core.specs.Laws.{sign_in, least_of, TextOfValue, SkippingAgrees, DecimalDigits, SignForm, looked_for, given, whole_call, Writes, DecimalTexts}
 use Rattle.atoi_core.proofs.lemmas.Runs.{run_all, digits_all, decimal_below_ten, value-below}
-use Rattle.atoi_core.proofs.lemmas.Calls.{sign_of_digits, digit_in_range, sign_cases, whole_call-is, from_whole, to_whole, is_whole, whole_is_run, limit_at, significant_digits}
+use Rattle.atoi_core.proofs.lemmas.Calls.{sign_of_digits, digit_in_range, sign_cases, whole_call-is, from_whole, to_whole, is_whole, whole_is_run, limit_at, significant_len}
 use Rattle.atoi_core.proofs.lemmas.Bounds.{shorter, short_enough, limit_of_whole, bound-limit, bound_below-64}
 use Rattle.std.proofs.lemmas.Bool.{and_parts, ne_eqb, eqb-false}
 use Rattle.atoi_core.specs.Text.{SignMark, no_sign, plus, minus, sign_bytes, is_minus, is_plus, DigitsWrite, TextWrites, BeginsWithDigit, has_needless_zero}
@@ -34,7 +34,7 @@ whole_skipping int is_negative body v h =
     let old = found.0 in
     let n = run_len decimal_table body in
     let limit = limit_of_whole (class_of int) true (limit_of int) in
-    let fewer : significant_digits decimal_table true body ≤ significant_digits decimal_table false body = omega arith in
+    let fewer : significant_len decimal_table true body ≤ significant_len decimal_table false body = omega arith in
     let short = shorter (limit_at (class_of int) whole true (limit_of int)) _ _ fewer (rw limit old.short) in
     to_whole int is_negative true body
     (is_whole int is_negative true body old.some short old.in_range (whole_is_run n (length body) old.ends))
@@ -110,8 +110,8 @@ counting_text int sized is_negative n le =
     let text = decimal_text n (lt_of_le_of_lt le (bound_below-64 int sized is_negative)) in
     let is_run = run_all decimal_table (decimal n) text.all in
     let some : 0 < run_len decimal_table (decimal n) = omega (arith, text.all, text.some) in
-    let count : significant_digits decimal_table false (decimal n) ≡ length (decimal n) = omega (arith, text.all) in
-    let short : is_above (limit_at (class_of int) whole false (limit_of int)) (significant_digits decimal_table false (decimal n)) ≡ false =
+    let count : significant_len decimal_table false (decimal n) ≡ length (decimal n) = omega (arith, text.all) in
+    let short : is_above (limit_at (class_of int) whole false (limit_of int)) (significant_len decimal_table false (decimal n)) ≡ false =
     rw count (decimal_short int sized is_negative n le)
     in
     let in_range : value decimal_table (run decimal_table (decimal n)) ≤ bound_of int is_negative = rw (is_run, text.is) le in

@@ -5,7 +5,7 @@ use Rattle.atoi_core.specs.Digit.{decimal_table}
 use Rattle.atoi_core.specs.Loads.{LoadsWithin}
 use Rattle.atoi_core.specs.Reading.{Reading, significant_digits, answer_by_digits}
 use Rattle.atoi_core.proofs.lemmas.Runs.{decimal_below_ten}
-use Rattle.atoi_core.proofs.lemmas.Windows.{zeros_left, join_readings, within, below, decided, all_decide}
+use Rattle.atoi_core.proofs.lemmas.Readings.{zeros_left, join_readings, within, below, decided, all_decide}
 use Rattle.atoi_core.specs.Run.{zeros}
 use Rattle.atoi_core.specs.Window.{window_of}
 use Rattle.atoi_core.specs.declared.window.Window.{Window}

@@ -1,4 +1,4 @@
--- The loop invariant: all bytes read so far are zeros.
+-- All bytes read so far are zeros.
 use Rattle.std.proofs.Common.{◌≡◌, ◌+◌, drop}
 use Rattle.atoi_core.specs.Run.{zeros}
 use Rattle.atoi_core.proofs.alphabet.count_zeros.Given as goal

@@ -1,4 +1,4 @@
--- One more digit keeps the loop invariant, and the number still fits in 64 bits.
+-- One more digit keeps the invariant, and the number still fits in 64 bits.
 use Rattle.std.proofs.Common.{◌≡◌, ◌<◌, ◌+◌, ◌*◌, ◌^◌, ap, ◌∙◌, sym, Some, get_or, arith}
 use Rattle.atoi_core.proofs.lemmas.Runs.{value_more, run_more, digit_value_of, digit_joins, sixteen_digits}
 use Rattle.atoi_core.proofs.alphabet.read_run.Goals as goal

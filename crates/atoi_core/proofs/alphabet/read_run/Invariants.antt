@@ -1,4 +1,4 @@
--- The loop invariant: all bytes read so far are digits, and `number` is their value.
+-- All bytes read so far are digits that spell `number`.
 use Rattle.std.proofs.Common.{◌≡◌, ◌<◌, ◌+◌, ◌^◌, take, drop}
 use Rattle.atoi_core.specs.Run.{run_len, value}
 use Rattle.atoi_core.proofs.alphabet.read_run.Given as goal

@@ -1,5 +1,4 @@
--- The invariant is kept, and the answer at each exit is right. The loop reads the bytes after the
--- first one.
+-- The loop reads the bytes after the first one.
 use Rattle.std.proofs.Common.{◌≡◌, ℕ, List, length, drop, Ok, Err, if◌then◌else◌, ◌<◌, ◌≤◌, ◌+◌, ◌-◌, ◌*◌, ap, ◌∙◌, sym, refl, Option, Some, None, get_or, take, false, arith}
 use Rattle.std.proofs.lemmas.Bool.{eq-eqb, ne_eqb}
 use Rattle.std.proofs.lemmas.List.{take_rest, length-drop, get_or-drop}
@@ -9,13 +8,11 @@ use Rattle.atoi_core.specs.Refusal.{empty, invalid64}
 use Rattle.atoi_core.proofs.lemmas.Runs.{value_more, run_more, digit_value_of, decimal_below_ten, narrow_whole_rest, narrow_whole_over, narrow_whole_end}
 use Rattle.atoi_core.proofs.digit_loop.narrow_whole.Goals as goal
 
--- Byte i after the first byte is byte i + 1 of the slice.
 rest_byte : (s : List ℕ) (i : ℕ) → get_or (take (length s - 1) (drop 1 s)) i 0 ≡ get_or s (i + 1) 0
 rest_byte s i =
     let place : 1 + i ≡ i + 1 = omega arith in
     ap (λ (r : List ℕ). get_or r i 0) (take_rest s 1) ∙ get_or-drop 1 s i 0 ∙ ap (λ (k : ℕ). get_or s k 0) place
 
--- The rest after the first byte has `length s - 1` bytes.
 rest_length : (s : List ℕ) → length (take (length s - 1) (drop 1 s)) ≡ length s - 1
 rest_length s = ap length (take_rest s 1) ∙ length-drop 1 s
 
@@ -49,8 +46,6 @@ loop-at-init c =
       bound = omega (arith, small);
     }
 
--- If the table gives `found` for byte i after the first byte, it gives `found` for byte i + 1 of
--- the slice.
 byte_after : (s : List ℕ) (i : ℕ) (read found : Option ℕ) → read ≡ decimal_table (get_or (take (length s - 1) (drop 1 s)) i 0) → read ≡ found
     → decimal_table (get_or s (i + 1) 0) ≡ found
 byte_after s i read found is reported = ap decimal_table (sym (rest_byte s i)) ∙ sym is ∙ reported

@@ -1,5 +1,4 @@
--- The loop invariant: all bytes read so far are digits, and `number` is their value, which is
--- within the bound.
+-- All bytes read so far are digits that spell `number`, which is within the bound.
 use Rattle.std.proofs.Common.{◌≡◌, ◌≤◌, ◌+◌, take, drop}
 use Rattle.atoi_core.specs.Digit.{decimal_table}
 use Rattle.atoi_core.specs.Run.{run_len, value}

@@ -1,4 +1,4 @@
--- Each entry of the table `POWERS` is compared with its power of ten.
+-- Each entry of `POWERS` is compared with its power of ten.
 use Rattle.std.proofs.Common.{ℕ, ◌^◌, ◌≤◌, ◌==◌, true, refl, lit<, arith, slice_index_or}
 use Rattle.std.proofs.Math.Nat.{pow-le-pow_right}
 use Rattle.std.proofs.lemmas.Bool.{eqb-true, agree_below_at}

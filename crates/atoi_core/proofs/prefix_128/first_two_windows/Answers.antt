@@ -1,4 +1,4 @@
--- A first window that is not full holds the whole run, and no zeros are skipped before it.
+-- A first window that is not full holds the whole run.
 use Rattle.std.proofs.Common.{ℕ, Ok, ap, ◌∙◌, arith, lit≤}
 use Rattle.atoi_core.specs.Magnitude.{wide128}
 use Rattle.atoi_core.proofs.lemmas.LoopAnswers.{short_empty, short_wide}

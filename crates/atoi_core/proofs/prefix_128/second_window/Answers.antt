@@ -1,6 +1,4 @@
--- The first window is full, and the second one describes the bytes after it. If the second window
--- is not full, the two together decide the answer. Otherwise the slice begins with at least 32
--- digits.
+-- Two windows decide the answer, unless both are full.
 use Rattle.std.proofs.Common.{refl, arith}
 use Rattle.std.proofs.lemmas.List.Sums.{prefix_len-le-length}
 use Rattle.atoi_core.specs.Digit.{is_digit}

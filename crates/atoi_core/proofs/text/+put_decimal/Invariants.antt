@@ -1,4 +1,3 @@
--- The recursive call is made for a smaller number.
 use Rattle.atoi_core.proofs.text.+put_decimal.Given as goal
 
 abbrev pub decreases-put_decimal : goal.decreases-put_decimal

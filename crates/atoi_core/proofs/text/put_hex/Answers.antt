@@ -1,6 +1,6 @@
--- A byte from 16 on is written as two hexadecimal digits.
+-- A byte from 16 on has two hexadecimal digits.
 use Rattle.std.proofs.Common.{arith, append_assoc}
-use Rattle.atoi_core.proofs.lemmas.Errors.{hex_text_of_two_digits}
+use Rattle.atoi_core.proofs.lemmas.ErrorTexts.{hex_text_of_two_digits}
 use Rattle.atoi_core.proofs.text.put_hex.Goals as goal
 
 pub returns-clause-written : goal.returns-clause-written

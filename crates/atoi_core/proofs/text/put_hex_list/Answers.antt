@@ -1,6 +1,5 @@
--- The text of the list is ASCII.
 use Rattle.std.proofs.Common.{arith}
-use Rattle.atoi_core.proofs.lemmas.Errors.{IsAscii-hex_list}
+use Rattle.atoi_core.proofs.lemmas.ErrorTexts.{IsAscii-hex_list}
 use Rattle.atoi_core.proofs.text.put_hex_list.Goals as goal
 
 pub returns-clause-ascii : goal.returns-clause-ascii

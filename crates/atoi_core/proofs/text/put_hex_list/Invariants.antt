@@ -1,5 +1,4 @@
--- The loop invariant: of the bytes after the first one, all that were read so far are written, each
--- with a comma and a space before it. The text has grown by at most four bytes for each of them.
+-- Each byte read so far is written after a comma and a space, in at most four bytes.
 use Rattle.std.proofs.Common.{◌≡◌, ◌+◌, ◌*◌, ◌≤◌, ◌++◌, take, codes}
 use Rattle.std.specs.List.{flat_map}
 use Rattle.atoi_core.specs.ErrorText.{hex_text}

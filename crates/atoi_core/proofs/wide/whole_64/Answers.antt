@@ -1,5 +1,4 @@
--- An error of the prefix is returned as it is. Otherwise the length of the number is compared with
--- that of the slice.
+-- Each answer follows from the one to the prefix.
 use Rattle.std.proofs.lemmas.Result.{err_from_is_err_and}
 use Rattle.atoi_core.proofs.lemmas.LoopAnswers.{wide_64, whole_err, whole_ok, whole_invalid}
 use Rattle.atoi_core.proofs.wide.whole_64.Goals as goal

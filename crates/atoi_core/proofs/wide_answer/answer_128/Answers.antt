@@ -1,11 +1,10 @@
--- A number of fewer than 39 digits is smaller than a bound of 39 digits.
+-- Fewer than 39 digits spell less than a bound of 39 digits.
 use Rattle.std.proofs.Common.{◌≡◌, ◌+◌, ◌*◌, ◌^◌, ◌<◌, ℕ, refl, ◌∙◌, arith}
 use Rattle.std.proofs.lemmas.Bool.Decides.{nat_tests}
 use Rattle.atoi_core.specs.Magnitude.{HasDigits}
-use Rattle.atoi_core.proofs.lemmas.Windows.{below_bound}
+use Rattle.atoi_core.proofs.lemmas.Readings.{below_bound}
 use Rattle.atoi_core.proofs.wide_answer.answer_128.Goals as goal
 
--- As above, with the power of ten that the code multiplies with.
 fewer : (bound high more low power : ℕ) → HasDigits 39 bound → high * 10 ^ more + low < 10 ^ (32 + more) → power ≡ 10 ^ more → more < 7
     → (high * power + low < bound) × (high * power ≡ high * 10 ^ more)
 fewer bound high more low power digits below is few = (rw is (below_bound 39 bound (32 + more) _ digits (omega arith) below), rw is refl)

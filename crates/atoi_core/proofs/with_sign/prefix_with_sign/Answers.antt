@@ -1,5 +1,4 @@
--- In each case, the answer for the actual sign follows from the answer for the digits of a negative
--- number.
+-- Each answer follows from the one for the digits of a negative number.
 use Rattle.std.proofs.Common.{◌∙◌, sym, ap, arith}
 use Rattle.atoi_core.specs.Answer.{typed_prefix_answer}
 use Rattle.atoi_core.proofs.lemmas.Bounds.{prefix_number, prefix_least, prefix_error, prefix_overflows}
@@ -14,8 +13,7 @@ prefix_overflow-requires-clause-least g c =
 pub returns-in-Some : goal.returns-in-Some
 returns-in-Some g c =
     record {
-      answer =
-          prefix_number g.E.Engine.table g.T.Number.int_type c.args.minus c.args.skip c.args.s.now _ _ _
+      answer = prefix_number g.E.Engine.table g.T.Number.int_type c.args.minus c.args.skip c.args.s.now _ _ _
           (ap (typed_prefix_answer g.T.Number.number) (sym c.in-Ok.is) ∙ c.requires.negative) c.in-Some.ensures;
     }
 
@@ -24,15 +22,12 @@ returns-in-None g c =
     let found = prefix_least g.E.Engine.table g.T.Number.int_type c.args.minus c.args.skip c.args.s.now _ _
     (ap (typed_prefix_answer g.T.Number.number) (sym c.in-Ok.is) ∙ c.requires.negative) c.in-None.ensures in
     record {
-      answer =
-          prefix_overflows g.E.Engine.table g.T.Number.int_type c.args.minus c.args.skip c.args.s.now
-          _ _ found.0 found.1 c.prefix_overflow.ensures;
+      answer = prefix_overflows g.E.Engine.table g.T.Number.int_type c.args.minus c.args.skip c.args.s.now _ _ found.0 found.1 c.prefix_overflow.ensures;
     }
 
 pub returns-in-Err : goal.returns-in-Err
 returns-in-Err g c =
     record {
-      answer =
-          prefix_error g.E.Engine.table g.T.Number.int_type c.args.minus c.args.skip c.args.s.now _
+      answer = prefix_error g.E.Engine.table g.T.Number.int_type c.args.minus c.args.skip c.args.s.now _
           (ap (typed_prefix_answer g.T.Number.number) (sym c.in-Err.is) ∙ c.requires.negative);
     }

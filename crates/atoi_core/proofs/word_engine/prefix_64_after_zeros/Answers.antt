@@ -27,7 +27,7 @@ window_after_16-back-requires c =
     let after_skip = ended (goal.at.window_after_16-back-requires c).After-window_after_zeros-at in
     let at : ℕ = c.window_after_zeros-at.result.0 in
     rw (take_rest c.args.s.now at, length-drop at c.args.s.now)
-    (omega (arith, after_skip.shown.len_is, prefix_len-le-length (is_digit decimal_table) (drop at c.args.s.now), length-drop at c.args.s.now))
+    (omega (arith, after_skip.window.len_is, prefix_len-le-length (is_digit decimal_table) (drop at c.args.s.now), length-drop at c.args.s.now))
 
 -- The window of the eight bytes after the last window of the loop.
 following : (c : After-window_after_16-back) → Shows decimal_table 8 (drop 16 (drop c.window_after_zeros-at.result.0 c.args.s.now)) c.window_after_16-back.result

@@ -1,5 +1,4 @@
--- The loop goes on after the zeros of the first window. The offset that is returned follows from
--- where the loop ends.
+-- The loop goes on after the zeros of the first window.
 use Rattle.std.proofs.Common.{◌+◌, true, inr, refl, sym, arith}
 use Rattle.atoi_core.proofs.lemmas.Windows.{Skipping-first_window, Skipping-more, Skipped-end}
 use Rattle.atoi_core.proofs.lemmas.LoopAnswers.{dropped_is}

@@ -1,4 +1,4 @@
--- The window that reported `zeroes` before the call is counted with those of the loop.
+-- The window before the call is counted with those of the loop.
 use Rattle.std.proofs.Common.{length, ◌-◌, ◌+◌, ◌<◌, true}
 use Rattle.atoi_core.proofs.lemmas.Windows.{Skipping}
 use Rattle.atoi_core.proofs.zero_loop.window_after_zeros.Given as goal

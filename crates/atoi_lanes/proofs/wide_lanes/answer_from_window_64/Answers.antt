@@ -1,6 +1,6 @@
 -- The last window decides the answer.
 use Rattle.std.proofs.Common.{◌≡◌, ◌⊎◌, true, false, ◌∙◌, inl, inr, arith}
-use Rattle.atoi_core.proofs.lemmas.Windows.{within}
+use Rattle.atoi_core.proofs.lemmas.Readings.{within}
 use Rattle.atoi_core.specs.Digit.{decimal_table}
 use Rattle.atoi_lanes.proofs.lemmas.WideAnswers.{decided_64}
 use Rattle.atoi_lanes.proofs.wide_lanes.answer_from_window_64.Goals as goal

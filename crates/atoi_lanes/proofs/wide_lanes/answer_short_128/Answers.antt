@@ -2,7 +2,7 @@
 use Rattle.std.proofs.Common.{sym, ◌∙◌, arith, lit<}
 use Rattle.std.proofs.lemmas.Bool.Decides.{nat_tests}
 use Rattle.atoi_core.proofs.lemmas.Runs.{decimal_below_ten}
-use Rattle.atoi_core.proofs.lemmas.Windows.{short}
+use Rattle.atoi_core.proofs.lemmas.Readings.{short}
 use Rattle.atoi_core.specs.Digit.{decimal_table}
 use Rattle.atoi_core.specs.Magnitude.{wide128}
 use Rattle.atoi_lanes.proofs.wide_lanes.answer_short_128.Goals as goal

@@ -4,7 +4,7 @@ use Rattle.std.proofs.lemmas.Bool.Decides.{nat_tests}
 use Rattle.atoi_core.specs.Digit.{decimal_table}
 use Rattle.atoi_core.specs.Magnitude.{wide64}
 use Rattle.atoi_core.proofs.lemmas.Runs.{decimal_below_ten}
-use Rattle.atoi_core.proofs.lemmas.Windows.{short}
+use Rattle.atoi_core.proofs.lemmas.Readings.{short}
 use Rattle.atoi_lanes.proofs.wide_lanes.answer_short_64.Goals as goal
 
 pub returns-then-len-eq0 : goal.returns-then-len-eq0

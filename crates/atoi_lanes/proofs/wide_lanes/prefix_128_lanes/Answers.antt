@@ -1,6 +1,6 @@
 -- If no zeros are skipped, the first window of 32 bytes is also the last one.
 use Rattle.std.proofs.Common.{arith}
-use Rattle.atoi_core.proofs.lemmas.Windows.{within}
+use Rattle.atoi_core.proofs.lemmas.Readings.{within}
 use Rattle.atoi_core.specs.Digit.{decimal_table}
 use Rattle.atoi_lanes.proofs.lemmas.WideAnswers.{first-ends, only_window, few_loads}
 use Rattle.atoi_lanes.proofs.wide_lanes.prefix_128_lanes.Goals as goal

@@ -2,7 +2,7 @@
 -- one window. If no zeros are skipped, the first window is the last one too.
 use Rattle.std.proofs.Common.{arith}
 use Rattle.std.proofs.lemmas.List.Sums.{prefix_len-le-length}
-use Rattle.atoi_core.proofs.lemmas.Windows.{within}
+use Rattle.atoi_core.proofs.lemmas.Readings.{within}
 use Rattle.atoi_core.specs.Digit.{decimal_table, is_zero}
 use Rattle.atoi_lanes.proofs.lemmas.WideAnswers.{first-ends, only_window, few_loads}
 use Rattle.atoi_lanes.proofs.lemmas.LaneWindows.{reading-of_few}

@@ -1,7 +1,7 @@
 -- The digits and zeros that are counted in the lanes, and the number that the digits spell, are a
 -- reading of the first 32 bytes.
 use Rattle.std.proofs.Common.{refl, ◌∙◌, arith}
-use Rattle.atoi_core.proofs.lemmas.Windows.{widened, join_readings}
+use Rattle.atoi_core.proofs.lemmas.Readings.{widened, join_readings}
 use Rattle.atoi_core.specs.Digit.{decimal_table}
 use Rattle.atoi_lanes.proofs.lemmas.LaneWindows.{reading-of_lanes}
 use Rattle.atoi_lanes.proofs.window_32.window_32.Goals as goal

@@ -1,4 +1,4 @@
--- When the loop ends, `Skipped` holds. The answers and the number of loads follow from it.
+-- When the loop ends, `Skipped` holds, and the answers and the loads follow from it.
 use Rattle.std.proofs.Common.{◌≤◌, ◌∙◌, ap, refl, arith, lit<, length, drop}
 use Rattle.std.proofs.lemmas.List.{take_rest}
 use Rattle.std.proofs.lemmas.List.Sums.{prefix_len-le-length}
@@ -27,50 +27,43 @@ returns-then-len-eq0-clause-answer g c =
     c.loop-window.invariant c.window-window.ensures.window c.window-window.ensures.one_step c.then-not-skip.either in
     answers_empty _ _ _ _ _ _ _ _ _ _ after_skip c.if-len-eq0.true
 
-pub returns-else-len-eq0-clause-answer : goal.returns-else-len-eq0-clause-answer
-returns-else-len-eq0-clause-answer g c =
+pub returns-else-len-eq0 : goal.returns-else-len-eq0
+returns-else-len-eq0 g c =
     let after_skip = Skipped-end _ g.met.Self.Engine.below_ten _ _ _ _ _ _ c.window-window.result
     c.loop-window.invariant c.window-window.ensures.window c.window-window.ensures.one_step c.then-not-skip.either in
-    answers_short _ _ _ _ _ _ _ _ _ _ _ _ (lit< tt) after_skip c.if-first-lt16.true (omega arith) (lit< tt) c.requires.digits c.from.ensures refl
+    record {
+      answer = answers_short _ _ _ _ _ _ _ _ _ _ _ _ (lit< tt) after_skip c.if-first-lt16.true (omega arith) (lit< tt) c.requires.digits c.from.ensures refl;
+      loads = Skipped-loads after_skip 0 (omega arith) (omega arith) (omega arith);
+    }
 
-pub returns-else-len-eq0-clause-loads : goal.returns-else-len-eq0-clause-loads
-returns-else-len-eq0-clause-loads g c =
-    let after_skip = Skipped-end _ g.met.Self.Engine.below_ten _ _ _ _ _ _ c.window-window.result
-    c.loop-window.invariant c.window-window.ensures.window c.window-window.ensures.one_step c.then-not-skip.either in
-    Skipped-loads after_skip 0 (omega arith) (omega arith) (omega arith)
-
--- What holds when the loop has ended at a full window.
+-- The loop has ended at a full window.
 ended : (g : _) (c : After-window-second g)
     → Skipped g.Self.Engine.table c.args.skip c.args.s.now c.loop-window.at c.args.steps.now c.window-window.new.steps c.window-window.result
 ended g c =
     Skipped-end _ g.met.Self.Engine.below_ten _ _ _ _ _ _ c.window-window.result
     c.loop-window.invariant c.window-window.ensures.window c.window-window.ensures.one_step c.then-not-skip.either
 
--- The window of 16 bytes after that full window.
 middle : (g : _) (c : After-window-second g) → Shows g.Self.Engine.table 16 (drop 16 (drop c.loop-window.at c.args.s.now)) c.window-second.result
 middle g c =
     shows_following g.Self.Engine.table g.met.Self.Engine.below_ten 16 16 c.args.s.now c.loop-window.at c.window-second.result c.window-second.ensures.window
 
--- The window of 8 bytes after these two windows.
 third : (g : _) (c : After-window_8-third g) → Shows g.Self.Engine.table 8 (drop 32 (drop c.loop-window.at c.args.s.now)) c.window_8-third.result
 third g c =
     shows_following g.Self.Engine.table g.met.Self.Engine.below_ten 8 32 c.args.s.now c.loop-window.at c.window_8-third.result c.window_8-third.ensures.window
 
-pub returns-then-second-lt16-clause-answer : goal.returns-then-second-lt16-clause-answer
-returns-then-second-lt16-clause-answer g c =
-    let two = (goal.at.returns-then-second-lt16-clause-answer g c).After-window-second in
-    answers_two _ g.met.Self.Engine.below_ten _ _ _ _ _ _ _ _ _ _ (ended g two) c.if-first-lt16.false (middle g two) c.if-second-lt16.true c.requires.digits (cc) (omega arith)
+pub returns-then-second-lt16 : goal.returns-then-second-lt16
+returns-then-second-lt16 g c =
+    let two = (goal.at.returns-then-second-lt16 g c).After-window-second in
+    record {
+      answer = answers_two _ g.met.Self.Engine.below_ten _ _ _ _ _ _ _ _ _ _ (ended g two) c.if-first-lt16.false (middle g two) c.if-second-lt16.true c.requires.digits (cc) (omega arith);
+      loads = Skipped-loads (ended g two) 1 (omega (arith, c.window-second.ensures.one_step)) (omega arith) (omega arith);
+    }
 
-pub returns-then-second-lt16-clause-loads : goal.returns-then-second-lt16-clause-loads
-returns-then-second-lt16-clause-loads g c =
-    Skipped-loads (ended g (goal.at.returns-then-second-lt16-clause-loads g c).After-window-second)
-    1 (omega (arith, c.window-second.ensures.one_step)) (omega arith) (omega arith)
-
--- If both windows are full, the slice has at least 32 bytes from the first of them on.
+-- Two full windows are 32 bytes.
 two_long : (g : _) (c : After-window-second g) → 16 ≤ c.window-second.result.len → 32 ≤ length (drop c.loop-window.at c.args.s.now)
 two_long g c more =
     let body = drop c.loop-window.at c.args.s.now in
-    let first = prefix_len-drop (is_digit g.Self.Engine.table) 16 body (omega (arith, c.if-first-lt16.false, (ended g c).shown.len_is)) in
+    let first = prefix_len-drop (is_digit g.Self.Engine.table) 16 body (omega (arith, c.if-first-lt16.false, (ended g c).window.len_is)) in
     omega (arith, first, (middle g c).len_is, prefix_len-le-length (is_digit g.Self.Engine.table) body)
 
 pub slice_bounds-window_8-count : goal.slice_bounds-window_8-count
@@ -96,15 +89,13 @@ answer_128-requires g c =
       inside = all.1;
     }
 
-pub returns-clause-answer : goal.returns-clause-answer
-returns-clause-answer g c =
-    let at = goal.at.returns-clause-answer g c in
+pub returns : goal.returns
+returns g c =
+    let at = goal.at.returns g c in
     let two = at.After-window-second in
     let back = third g at.After-window_8-third in
-    rw c.append_digits-high.ensures at c.answer_128.ensures
-    ∙ (answers_128 _ g.met.Self.Engine.below_ten c.args.bound _ _ _ _ _ _ _ _ (ended g two) c.if-first-lt16.false (middle g two) c.if-second-lt16.false back).2
-
-pub returns-clause-loads : goal.returns-clause-loads
-returns-clause-loads g c =
-    Skipped-loads (ended g (goal.at.returns-clause-loads g c).After-window-second)
-    2 (omega (arith, c.window-second.ensures.one_step, c.window_8-third.ensures.one_step)) (omega arith) (omega arith)
+    record {
+      answer = rw c.append_digits-high.ensures at c.answer_128.ensures
+          ∙ (answers_128 _ g.met.Self.Engine.below_ten c.args.bound _ _ _ _ _ _ _ _ (ended g two) c.if-first-lt16.false (middle g two) c.if-second-lt16.false back).2;
+      loads = Skipped-loads (ended g two) 2 (omega (arith, c.window-second.ensures.one_step, c.window_8-third.ensures.one_step)) (omega arith) (omega arith);
+    }

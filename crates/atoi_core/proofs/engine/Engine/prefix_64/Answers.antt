@@ -1,4 +1,4 @@
--- When the loop ends, `Skipped` holds. The answers and the number of loads follow from it.
+-- When the loop ends, `Skipped` holds, and the answers and the loads follow from it.
 use Rattle.std.proofs.Common.{◌≡◌, ◌+◌, ◌*◌, ◌^◌, ◌≤◌, ◌∙◌, refl, arith, length, drop}
 use Rattle.atoi_core.specs.Magnitude.{wide64, prefix_magnitude}
 use Rattle.atoi_core.specs.Reading.{answer_by_digits}
@@ -25,31 +25,26 @@ returns-then-len-eq0-clause-answer g c =
     c.loop-window.invariant c.window-window.ensures.window c.window-window.ensures.one_step c.then-not-skip.either in
     answers_empty _ _ _ _ _ _ _ _ _ _ after_skip c.if-len-eq0.true
 
-pub returns-else-len-eq0-clause-answer : goal.returns-else-len-eq0-clause-answer
-returns-else-len-eq0-clause-answer g c =
+pub returns-else-len-eq0 : goal.returns-else-len-eq0
+returns-else-len-eq0 g c =
     let after_skip = Skipped-end _ g.met.Self.Engine.below_ten _ _ _ _ _ _ c.window-window.result
     c.loop-window.invariant c.window-window.ensures.window c.window-window.ensures.one_step c.then-not-skip.either in
-    answers_short _ _ _ _ _ _ _ _ _ _ _ _ (omega arith) after_skip c.if-first-lt16.true (omega arith) (omega arith) c.requires.digits refl refl
+    record {
+      answer = answers_short _ _ _ _ _ _ _ _ _ _ _ _ (omega arith) after_skip c.if-first-lt16.true (omega arith) (omega arith) c.requires.digits refl refl;
+      loads = Skipped-loads after_skip 0 (omega arith) (omega arith) (omega arith);
+    }
 
-pub returns-else-len-eq0-clause-loads : goal.returns-else-len-eq0-clause-loads
-returns-else-len-eq0-clause-loads g c =
-    let after_skip = Skipped-end _ g.met.Self.Engine.below_ten _ _ _ _ _ _ c.window-window.result
-    c.loop-window.invariant c.window-window.ensures.window c.window-window.ensures.one_step c.then-not-skip.either in
-    Skipped-loads after_skip 0 (omega arith) (omega arith) (omega arith)
-
--- What holds when the loop has ended at a full window.
+-- The loop has ended at a full window.
 ended : (g : _) (c : After-window_8-second g)
     → Skipped g.Self.Engine.table c.args.skip c.args.s.now c.loop-window.at c.args.steps.now c.window-window.new.steps c.window-window.result
 ended g c =
     Skipped-end _ g.met.Self.Engine.below_ten _ _ _ _ _ _ c.window-window.result
     c.loop-window.invariant c.window-window.ensures.window c.window-window.ensures.one_step c.then-not-skip.either
 
--- The window of 8 bytes after that full window.
 following : (g : _) (c : After-window_8-second g) → Shows g.Self.Engine.table 8 (drop 16 (drop c.loop-window.at c.args.s.now)) c.window_8-second.result
 following g c =
     shows_following g.Self.Engine.table g.met.Self.Engine.below_ten 8 16 c.args.s.now c.loop-window.at c.window_8-second.result c.window_8-second.ensures.window
 
--- The two windows together decide the answer.
 decided : (g : _) (c : After-window_8-second g) →
     (c.loop-window.at + (16 + c.window_8-second.result.len) ≤ length c.args.s.now)
     × (answer_by_digits wide64 c.args.bound c.args.limit c.loop-window.at (16 + c.window_8-second.result.len) (c.window-window.result.number * 10 ^ c.window_8-second.result.len + c.window_8-second.result.number) c.args.s.now
@@ -65,10 +60,10 @@ overflow_add-second g c = omega (arith, (following g (goal.at.overflow_add-secon
 pub answer_64-requires : goal.answer_64-requires
 answer_64-requires g c = record { inside = (decided g (goal.at.answer_64-requires g c).After-window_8-second).0 }
 
-pub returns-clause-answer : goal.returns-clause-answer
-returns-clause-answer g c =
-    rw c.append_digits-number.ensures at c.answer_64.ensures ∙ (decided g (goal.at.returns-clause-answer g c).After-window_8-second).1
-
-pub returns-clause-loads : goal.returns-clause-loads
-returns-clause-loads g c =
-    Skipped-loads (ended g (goal.at.returns-clause-loads g c).After-window_8-second) 1 (omega (arith, c.window_8-second.ensures.one_step)) (omega arith) (omega arith)
+pub returns : goal.returns
+returns g c =
+    let two = (goal.at.returns g c).After-window_8-second in
+    record {
+      answer = rw c.append_digits-number.ensures at c.answer_64.ensures ∙ (decided g two).1;
+      loads = Skipped-loads (ended g two) 1 (omega (arith, c.window_8-second.ensures.one_step)) (omega arith) (omega arith);
+    }

@@ -1,4 +1,3 @@
--- The loop that skips leading zeros keeps `Skipping`.
 use Rattle.std.proofs.Common.{length, ◌-◌}
 use Rattle.atoi_core.proofs.lemmas.Windows.{Skipping}
 use Rattle.atoi_core.proofs.engine.Engine.prefix_64.Given as goal

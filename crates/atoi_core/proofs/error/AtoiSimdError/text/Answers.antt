@@ -1,7 +1,7 @@
--- The text of each error is ASCII, because its numbers and its slice are shown in ASCII.
+-- The text of an error is ASCII, because the texts of its numbers and its slice are.
 use Rattle.std.proofs.Common.{arith}
 use Rattle.std.proofs.lemmas.Fmt.{IsAscii-decimal_wide}
-use Rattle.atoi_core.proofs.lemmas.Errors.{IsAscii-size_text, IsAscii-overflow_text, IsAscii-invalid64_text, IsAscii-invalid128_text}
+use Rattle.atoi_core.proofs.lemmas.ErrorTexts.{IsAscii-size_text, IsAscii-overflow_text, IsAscii-invalid64_text, IsAscii-invalid128_text}
 use Rattle.atoi_core.proofs.error.AtoiSimdError.text.Goals as goal
 
 pub returns-in-Size-clause-ascii : goal.returns-in-Size-clause-ascii

@@ -1,5 +1,4 @@
--- `Steps` has no bytes at run time. For the result, the proof chooses fields that the `view` of
--- `Steps` reads as 0.
+-- `Steps` has no bytes: the proof chooses fields that the `view` reads as 0.
 use Rattle.std.proofs.Common.{[], ◌∷◌, refl}
 use Rattle.std.proofs.raw_atomic.Walks.{proved}
 use mir.Val.{Val, vstruct, vcons, vnil}

@@ -1,5 +1,5 @@
--- The body of `tick` is empty. The proof opens the borrow and closes it with fields that the `view`
--- of `Steps` reads as one more than before.
+-- The body of `tick` is empty: the proof closes the borrow with fields that the `view` reads as one
+-- more.
 use Rattle.std.proofs.Common.{◌≡◌, ℕ, ◌+◌, List, [], ◌∷◌, refl, ap}
 use Rattle.std.proofs.raw_atomic.Walks.{proved}
 use mir.Syntax.{named}

@@ -35,7 +35,7 @@ returns-then-first-lt16-clause-loads c =
 pub window_after_16-back-requires : goal.window_after_16-back-requires
 window_after_16-back-requires c =
     let after_skip = last (goal.at.window_after_16-back-requires c).After-window-first c.else-skip.either in
-    omega (arith, c.if-first-lt16.false, after_skip.shown.len_is, prefix_len-le-length (is_digit decimal_table) c.args.s.now)
+    omega (arith, c.if-first-lt16.false, after_skip.window.len_is, prefix_len-le-length (is_digit decimal_table) c.args.s.now)
 
 -- The window of 8 bytes after the first one.
 following : (c : After-window_after_16-back) → Shows decimal_table 8 (drop 16 c.args.s.now) c.window_after_16-back.result
