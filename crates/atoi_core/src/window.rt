@@ -1,4 +1,5 @@
 //! What a load reports.
+ghost use Rattle.std.specs.Prelude.{◌≡◌};
 
 /// What is read of the first 8 or 16 bytes of a slice, or of all its bytes if there are fewer.
 #[derive(Clone, Copy, PartialEq, Eq)]

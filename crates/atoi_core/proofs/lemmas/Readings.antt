@@ -105,57 +105,72 @@ counting_most : (skip : Bool) (digits leading : ℕ) → significant_digits skip
 counting_most true digits leading = omega arith
 counting_most false digits leading = omega arith
 
-pub decided : (t : Table) (class : Class) (bound limit : ℕ) → limit < cap class
-    → (skip : Bool) (s : List ℕ) (offset count digits leading number : ℕ) → IsSkipped t skip s offset
-    → Reading t count (drop offset s) digits leading number
-    → (digits < count) ⊎ (cap class ≤ significant_digits skip digits leading)
-    → prefix_magnitude t class bound limit skip s
-    ≡ answer_by_digits class bound limit (offset + (digits - significant_digits skip digits leading)) (significant_digits skip digits leading) number s
-decided t class bound limit less skip s offset count digits leading number skipped reading enough =
-    let body : List ℕ = drop offset s in
-    let run_is : run_len t s ≡ offset + run_len t body = prefix_len-drop (is_digit t) offset s (omega (arith, skipped.zeros_only, zeros-le t s)) in
-    let zeros_are : zeros t s ≡ offset + zeros t body = prefix_len-drop (is_zero t) offset s skipped.zeros_only in
-    let zeros_most : zeros t body ≤ run_len t body = zeros-le t body in
-    let parts = parts_of t count body digits leading number reading in
-    let significant : ℕ = significant_digits skip digits leading in
-    let most : significant ≤ digits = counting_most skip digits leading in
-    let all_zeros : skip ≡ true → zeros t s ≡ offset + leading =
-    λ on. elim enough [ inl ends ↦ omega (arith, parts.0, parts.1) | inr many ↦ omega (arith, parts.0, parts.1, many, ap (λ b. significant_digits b digits leading) on) ] in
-    let front : ℕ = offset + (digits - significant) in
-    let skipped_are : skipped_zeros t skip s ≡ front = skipped_is skip (zeros t s) offset digits leading (omega (arith, parts.0, parts.1)) skipped.asked all_zeros in
-    elim enough [
-      | inl ends ↦
-          let all : run_len t body ≡ digits = omega (arith, parts.0) in
-          let number_is : value t (run t s) ≡ number =
-          value-drop_zeros t offset s skipped.zeros_only ∙ ap (λ (n : ℕ). value t (take n body)) all ∙ sym parts.2 in
-          by_all_digits t class bound limit skip s front significant less skipped_are (omega arith)
-          ∙ ap (λ (n : ℕ). answer_by_digits class bound limit front significant n s) number_is
-      | inr many ↦
-          let rest : ℕ = run_len t s - front in
-          by_all_digits t class bound limit skip s front rest less skipped_are (omega (arith, parts.0))
-          ∙ by_many_digits class bound limit front rest (value t (run t s)) s less (omega (arith, parts.0))
-          ∙ sym (by_many_digits class bound limit front significant number s less many)
-    ]
-
 pub below_bound : (limit bound digits number : ℕ) → HasDigits limit bound → digits < limit → number < 10 ^ digits → number < bound
 below_bound limit bound digits number bounds few small =
     let most : 10 ^ digits ≤ 10 ^ (limit - 1) = pow-le-pow_right (lit< tt) (omega arith) in
     omega (arith, bounds.0)
 
--- Fewer digits than the limit spell a number within the bound.
-pub short_below : (t : Table) (class : Class) (bound limit : ℕ) → limit < cap class → HasDigits limit bound
-    → (skip : Bool) (s : List ℕ) (offset count digits leading number : ℕ) → IsSkipped t skip s offset
-    → Reading t count (drop offset s) digits leading number → digits < count → digits < limit → number < 10 ^ digits
-    → (number ≤ bound) × (prefix_magnitude t class bound limit skip s ≡ cond (eqb (offset + digits) 0) (Err empty) (Ok (number, offset + digits)))
-short_below t class bound limit less bounds skip s offset count digits leading number skipped reading ends few small =
-    let significant : ℕ = significant_digits skip digits leading in
-    let most : significant ≤ digits = counting_most skip digits leading in
-    let within : number < bound = below_bound limit bound digits number bounds few small in
-    let total : offset + (digits - significant) + significant ≡ offset + digits = omega arith in (
-      omega arith,
-      decided t class bound limit less skip s offset count digits leading number skipped reading (inl ends)
-          ∙ rw (le-ltb limit significant (omega arith), le-ltb bound number (omega arith), total) refl,
-    )
+all_count : (skip : Bool) (digits leading : ℕ) → (skip ≡ true → leading ≡ 0) → significant_digits skip digits leading ≡ digits
+all_count true digits leading none = omega (arith, none refl)
+all_count false digits leading none = refl
+
+module _ (t : Table) (class : Class) (bound limit : ℕ) (less : limit < cap class) where
+  pub decided : (skip : Bool) (s : List ℕ) (offset count digits leading number : ℕ) → IsSkipped t skip s offset
+      → Reading t count (drop offset s) digits leading number
+      → (digits < count) ⊎ (cap class ≤ significant_digits skip digits leading)
+      → prefix_magnitude t class bound limit skip s
+      ≡ answer_by_digits class bound limit (offset + (digits - significant_digits skip digits leading)) (significant_digits skip digits leading) number s
+  decided skip s offset count digits leading number skipped reading enough =
+      let body : List ℕ = drop offset s in
+      let run_is : run_len t s ≡ offset + run_len t body = prefix_len-drop (is_digit t) offset s (omega (arith, skipped.zeros_only, zeros-le t s)) in
+      let zeros_are : zeros t s ≡ offset + zeros t body = prefix_len-drop (is_zero t) offset s skipped.zeros_only in
+      let zeros_most : zeros t body ≤ run_len t body = zeros-le t body in
+      let parts = parts_of t count body digits leading number reading in
+      let significant : ℕ = significant_digits skip digits leading in
+      let most : significant ≤ digits = counting_most skip digits leading in
+      let all_zeros : skip ≡ true → zeros t s ≡ offset + leading =
+      λ on. elim enough [ inl ends ↦ omega (arith, parts.0, parts.1) | inr many ↦ omega (arith, parts.0, parts.1, many, ap (λ b. significant_digits b digits leading) on) ] in
+      let front : ℕ = offset + (digits - significant) in
+      let skipped_are : skipped_zeros t skip s ≡ front = skipped_is skip (zeros t s) offset digits leading (omega (arith, parts.0, parts.1)) skipped.asked all_zeros in
+      elim enough [
+        | inl ends ↦
+            let all : run_len t body ≡ digits = omega (arith, parts.0) in
+            let number_is : value t (run t s) ≡ number =
+            value-drop_zeros t offset s skipped.zeros_only ∙ ap (λ (n : ℕ). value t (take n body)) all ∙ sym parts.2 in
+            by_all_digits t class bound limit skip s front significant less skipped_are (omega arith)
+            ∙ ap (λ (n : ℕ). answer_by_digits class bound limit front significant n s) number_is
+        | inr many ↦
+            let rest : ℕ = run_len t s - front in
+            by_all_digits t class bound limit skip s front rest less skipped_are (omega (arith, parts.0))
+            ∙ by_many_digits class bound limit front rest (value t (run t s)) s less (omega (arith, parts.0))
+            ∙ sym (by_many_digits class bound limit front significant number s less many)
+      ]
+
+  -- Fewer digits than the limit spell a number within the bound.
+  pub short_below : HasDigits limit bound → (skip : Bool) (s : List ℕ) (offset count digits leading number : ℕ) → IsSkipped t skip s offset
+      → Reading t count (drop offset s) digits leading number → digits < count → digits < limit → number < 10 ^ digits
+      → (number ≤ bound) × (prefix_magnitude t class bound limit skip s ≡ cond (eqb (offset + digits) 0) (Err empty) (Ok (number, offset + digits)))
+  short_below bounds skip s offset count digits leading number skipped reading ends few small =
+      let significant : ℕ = significant_digits skip digits leading in
+      let most : significant ≤ digits = counting_most skip digits leading in
+      let within : number < bound = below_bound limit bound digits number bounds few small in
+      let total : offset + (digits - significant) + significant ≡ offset + digits = omega arith in (
+        omega arith,
+        decided skip s offset count digits leading number skipped reading (inl ends)
+            ∙ rw (le-ltb limit significant (omega arith), le-ltb bound number (omega arith), total) refl,
+      )
+
+  pub all_decide : (skip : Bool) (s : List ℕ) (offset digits leading number : ℕ) → IsSkipped t skip s offset
+      → Reading t (cap class) (drop offset s) digits leading number → (skip ≡ true → leading ≡ 0)
+      → prefix_magnitude t class bound limit skip s ≡ answer_by_digits class bound limit offset digits number s
+  all_decide skip s offset digits leading number skipped reading none =
+      let significant : significant_digits skip digits leading ≡ digits = all_count skip digits leading none in
+      let enough : (digits < cap class) ⊎ (cap class ≤ significant_digits skip digits leading) =
+      elim (cases_lt digits (cap class)) [ inl h ↦ inl h | inr h ↦ inr (omega (arith, significant)) ] in
+      let at : offset + (digits - significant_digits skip digits leading) ≡ offset = omega (arith, significant) in
+      decided skip s offset (cap class) digits leading number skipped reading enough
+      ∙ ap (λ (n : ℕ). answer_by_digits class bound limit n (significant_digits skip digits leading) number s) at
+      ∙ ap (λ (n : ℕ). answer_by_digits class bound limit offset n number s) significant
 
 pub short : (t : Table) → IsBelowTen t → (class : Class) (bound limit : ℕ) → limit < cap class → HasDigits limit bound
     → (skip : Bool) (s : List ℕ) (offset count digits leading number : ℕ) → IsSkipped t skip s offset
@@ -164,20 +179,3 @@ pub short : (t : Table) → IsBelowTen t → (class : Class) (bound limit : ℕ)
 short t ten class bound limit less bounds skip s offset count digits leading number skipped reading ends few =
     short_below t class bound limit less bounds skip s offset count digits leading number skipped reading ends few
     (below t ten count (drop offset s) digits leading number reading)
-
-all_count : (skip : Bool) (digits leading : ℕ) → (skip ≡ true → leading ≡ 0) → significant_digits skip digits leading ≡ digits
-all_count true digits leading none = omega (arith, none refl)
-all_count false digits leading none = refl
-
-pub all_decide : (t : Table) (class : Class) (bound limit : ℕ) → limit < cap class
-    → (skip : Bool) (s : List ℕ) (offset digits leading number : ℕ) → IsSkipped t skip s offset
-    → Reading t (cap class) (drop offset s) digits leading number → (skip ≡ true → leading ≡ 0)
-    → prefix_magnitude t class bound limit skip s ≡ answer_by_digits class bound limit offset digits number s
-all_decide t class bound limit less skip s offset digits leading number skipped reading none =
-    let significant : significant_digits skip digits leading ≡ digits = all_count skip digits leading none in
-    let enough : (digits < cap class) ⊎ (cap class ≤ significant_digits skip digits leading) =
-    elim (cases_lt digits (cap class)) [ inl h ↦ inl h | inr h ↦ inr (omega (arith, significant)) ] in
-    let at : offset + (digits - significant_digits skip digits leading) ≡ offset = omega (arith, significant) in
-    decided t class bound limit less skip s offset (cap class) digits leading number skipped reading enough
-    ∙ ap (λ (n : ℕ). answer_by_digits class bound limit n (significant_digits skip digits leading) number s) at
-    ∙ ap (λ (n : ℕ). answer_by_digits class bound limit offset n number s) significant

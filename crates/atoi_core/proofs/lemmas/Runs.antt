@@ -179,37 +179,38 @@ digit_value_of t small byte w digit =
 
 -- ---- Answers of narrow whole parses
 
--- The run decides the answer, whatever the limit and the flag.
-pub narrow_whole_is : (t : Table) (bound limit : ℕ) (skip : Bool) (s : List ℕ) (n number : ℕ) → run_len t s ≡ n → value t (take n s) ≡ number
-    → whole_magnitude t narrow bound limit skip s ≡ unless_refused (if n == 0 then Some empty
-    else (if nat_lt bound number then Some (overflow s)
-    else (if not (n == length s) then Some (invalid64 number n s) else None))) number
-unfolding refusal
-narrow_whole_is t bound limit skip s n number at_n is_number = rw (at_n, is_number) refl
+module _ (t : Table) (bound limit : ℕ) (skip : Bool) (s : List ℕ) where
+  -- The run decides the answer, whatever the limit and the flag.
+  pub narrow_whole_is : (n number : ℕ) → run_len t s ≡ n → value t (take n s) ≡ number
+      → whole_magnitude t narrow bound limit skip s ≡ unless_refused (if n == 0 then Some empty
+      else (if nat_lt bound number then Some (overflow s)
+      else (if not (n == length s) then Some (invalid64 number n s) else None))) number
+  unfolding refusal
+  narrow_whole_is n number at_n is_number = rw (at_n, is_number) refl
 
--- Another byte follows i digits.
-pub narrow_whole_rest : (t : Table) (bound limit : ℕ) (skip : Bool) (s : List ℕ) (i number : ℕ) → i < length s → t (get_or s i 0) ≡ None
-    → i + run_len t (drop i s) ≡ run_len t s → number ≡ value t (take i s) → number ≤ bound
-    → whole_magnitude t narrow bound limit skip s ≡ Err (if i == 0 then empty else invalid64 number i s)
-narrow_whole_rest t bound limit skip s i number here none so_far is_number fits =
-    narrow_whole_is t bound limit skip s i number (run_ends t s i here none so_far) (sym is_number)
-    ∙ grind (arith, nat_tests)
+  -- Another byte follows i digits.
+  pub narrow_whole_rest : (i number : ℕ) → i < length s → t (get_or s i 0) ≡ None
+      → i + run_len t (drop i s) ≡ run_len t s → number ≡ value t (take i s) → number ≤ bound
+      → whole_magnitude t narrow bound limit skip s ≡ Err (if i == 0 then empty else invalid64 number i s)
+  narrow_whole_rest i number here none so_far is_number fits =
+      narrow_whole_is i number (run_ends t s i here none so_far) (sym is_number)
+      ∙ grind (arith, nat_tests)
 
--- One more digit passes the bound.
-pub narrow_whole_over : (t : Table) (bound limit : ℕ) (skip : Bool) (s : List ℕ) (i w : ℕ) → i < length s → t (get_or s i 0) ≡ Some w
-    → i + run_len t (drop i s) ≡ run_len t s → bound < value t (take i s) * 10 + w
-    → whole_magnitude t narrow bound limit skip s ≡ Err (overflow s)
-narrow_whole_over t bound limit skip s i w here digit so_far over =
-    let longer : i + 1 ≤ run_len t s = omega (arith, run_more t s i w here digit so_far) in
-    let above : bound < value t (take (run_len t s) s) = omega (arith, value_more t s i w here digit, value-take-le t s (i + 1) (run_len t s) longer) in
-    narrow_whole_is t bound limit skip s (run_len t s) (value t (take (run_len t s) s)) refl refl
-    ∙ grind (arith, nat_tests)
+  -- One more digit passes the bound.
+  pub narrow_whole_over : (i w : ℕ) → i < length s → t (get_or s i 0) ≡ Some w
+      → i + run_len t (drop i s) ≡ run_len t s → bound < value t (take i s) * 10 + w
+      → whole_magnitude t narrow bound limit skip s ≡ Err (overflow s)
+  narrow_whole_over i w here digit so_far over =
+      let longer : i + 1 ≤ run_len t s = omega (arith, run_more t s i w here digit so_far) in
+      let above : bound < value t (take (run_len t s) s) = omega (arith, value_more t s i w here digit, value-take-le t s (i + 1) (run_len t s) longer) in
+      narrow_whole_is (run_len t s) (value t (take (run_len t s) s)) refl refl
+      ∙ grind (arith, nat_tests)
 
--- All bytes are digits.
-pub narrow_whole_end : (t : Table) (bound limit : ℕ) (skip : Bool) (s : List ℕ) (i number : ℕ) → i ≤ length s → length s ≤ i
-    → i + run_len t (drop i s) ≡ run_len t s → number ≡ value t (take i s) → number ≤ bound
-    → whole_magnitude t narrow bound limit skip s ≡ (if length s == 0 then Err empty else Ok number)
-narrow_whole_end t bound limit skip s i number within all so_far is_number fits =
-    let no_more : run_len t (drop i s) ≡ 0 = prefix_len-drop_all (is_digit t) s i all in
-    narrow_whole_is t bound limit skip s i number (omega arith) (sym is_number)
-    ∙ grind (arith, nat_tests)
+  -- All bytes are digits.
+  pub narrow_whole_end : (i number : ℕ) → i ≤ length s → length s ≤ i
+      → i + run_len t (drop i s) ≡ run_len t s → number ≡ value t (take i s) → number ≤ bound
+      → whole_magnitude t narrow bound limit skip s ≡ (if length s == 0 then Err empty else Ok number)
+  narrow_whole_end i number within all so_far is_number fits =
+      let no_more : run_len t (drop i s) ≡ 0 = prefix_len-drop_all (is_digit t) s i all in
+      narrow_whole_is i number (omega arith) (sym is_number)
+      ∙ grind (arith, nat_tests)
