@@ -1,5 +1,5 @@
 //! The four *core calls*: each parses digits without a sign as an integer of any type, with the
-//! parser for its size.
+//! parser for its size. A `match` in the place of `?` costs fewer instructions here.
 ghost use Rattle.std.specs.Prelude.{◌≡◌, ◌≤◌, true, false, IfOk, length};
 ghost use Rattle.atoi_core.specs.Answer.{typed_answer, typed_prefix_answer, whole_answer, prefix_answer};
 ghost use Rattle.atoi_core.specs.IntType.{class_of, bound_of, limit_of};
@@ -31,8 +31,10 @@ pub fn whole_pos<'a, E: Engine, T: Number>(
     ensures answer { typed_answer T.number result ≡ whole_answer E.table T.int_type false skip s.now }
     ensures loads { TypedLoads E.table T.int_type whole skip s.now steps.old steps.new }
 {
-    let magnitude = whole_by_size::<E, T>(false, skip, s, steps)?;
-    Ok(T::from_pos(magnitude))
+    match whole_by_size::<E, T>(false, skip, s, steps) {
+        Ok(magnitude) => Ok(T::from_pos(magnitude)),
+        Err(error) => Err(error),
+    }
 }
 
 /// As `whole_pos`, for the digits of a negative number.
@@ -50,8 +52,10 @@ pub fn whole_neg<'a, E: Engine, T: Signed>(
     ensures answer { typed_answer T.number result ≡ whole_answer E.table T.int_type true skip s.now }
     ensures loads { TypedLoads E.table T.int_type whole skip s.now steps.old steps.new }
 {
-    let magnitude = whole_by_size::<E, T>(true, skip, s, steps)?;
-    Ok(T::from_neg(magnitude))
+    match whole_by_size::<E, T>(true, skip, s, steps) {
+        Ok(magnitude) => Ok(T::from_neg(magnitude)),
+        Err(error) => Err(error),
+    }
 }
 
 /// As `whole_pos`, for the digits at the start of `s`. Returns how many they are too.
@@ -71,8 +75,10 @@ pub fn prefix_pos<'a, E: Engine, T: Number>(
     ensures within { IfOk result (λ found. found.1 ≤ length s.now) }
     ensures loads { TypedLoads E.table T.int_type prefix skip s.now steps.old steps.new }
 {
-    let (magnitude, len) = prefix_by_size::<E, T>(false, skip, s, steps)?;
-    Ok((T::from_pos(magnitude), len))
+    match prefix_by_size::<E, T>(false, skip, s, steps) {
+        Ok((magnitude, len)) => Ok((T::from_pos(magnitude), len)),
+        Err(error) => Err(error),
+    }
 }
 
 /// As `prefix_pos`, for the digits of a negative number.
@@ -92,8 +98,10 @@ pub fn prefix_neg<'a, E: Engine, T: Signed>(
     ensures within { IfOk result (λ found. found.1 ≤ length s.now) }
     ensures loads { TypedLoads E.table T.int_type prefix skip s.now steps.old steps.new }
 {
-    let (magnitude, len) = prefix_by_size::<E, T>(true, skip, s, steps)?;
-    Ok((T::from_neg(magnitude), len))
+    match prefix_by_size::<E, T>(true, skip, s, steps) {
+        Ok((magnitude, len)) => Ok((T::from_neg(magnitude), len)),
+        Err(error) => Err(error),
+    }
 }
 
 // Returns the magnitude, up to that of `T::MIN` if `minus` is set.
@@ -138,12 +146,16 @@ fn prefix_by_size<'a, E: Engine, T: Number>(
 {
     let bound = greatest_magnitude::<T>(minus);
     if T::BITS <= 32 {
-        let (number, len) = narrow_prefix::<E>(bound as u64, skip, s, steps)?;
-        Ok((u128::from(number), len))
+        match narrow_prefix::<E>(bound as u64, skip, s, steps) {
+            Ok((number, len)) => Ok((u128::from(number), len)),
+            Err(error) => Err(error),
+        }
     } else if T::BITS == 64 {
         let limit = if T::SIGNED { 19 } else { 20 };
-        let (number, len) = E::prefix_64(bound as u64, limit, skip, s, steps)?;
-        Ok((u128::from(number), len))
+        match E::prefix_64(bound as u64, limit, skip, s, steps) {
+            Ok((number, len)) => Ok((u128::from(number), len)),
+            Err(error) => Err(error),
+        }
     } else {
         prefix_128_inline::<E, false>(bound, skip, s, steps)
     }

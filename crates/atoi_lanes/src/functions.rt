@@ -9,24 +9,19 @@ use crate::parse_trait::Parse;
 use atoi_core::AtoiSimdError;
 use atoi_core::laws::{accepted_texts, prefix_results, whole_results};
 
-/// Parses all of `s`: a `-` if `T` is signed, or a `+` with `SKIP_PLUS`, then digits only.
-///
-/// At most 20 digits are accepted for `u64` and `usize`, 19 for `i64` and `isize`, 39 for types of
-/// 128 bits, and any number for narrower types. With `SKIP_ZEROES`, leading zeros do not count. With
-/// both flags, the accepted texts are those of `str::parse`, as compared by tests.
+/// Parses all of `s`: a `-` if `T` is signed, or a `+` with `SKIP_PLUS`, then digits only. With
+/// `SKIP_ZEROES`, leading zeros do not count towards the limit of digits. With both flags, the
+/// accepted texts are those of `str::parse`, as compared by tests.
 ///
 /// `parse::<i64, false, false>(b"-2345")` returns `Ok(-2345)`.
 ///
 /// # Errors
 ///
-/// The first that applies. The slices in them are suffixes of `s` without its sign.
+/// The first that applies; `AtoiSimdError` says what each holds.
 /// - `Empty` if no digit follows the sign.
-/// - `Size(count, slice)` if there are too many digits. `count` counts at most 24 digits, 40 for types
-///   of 128 bits, besides the skipped zeros, and `slice` starts after these.
-/// - `Overflow(slice)` if the value does not fit in `T`. For types of 64 and 128 bits, `slice` starts
-///   after the skipped zeros.
-/// - `Invalid64(value, index, slice)`, or `Invalid128` for types of 128 bits, if another byte follows
-///   the digits. `value` is that of the digits, and `index` that of the byte in `slice`.
+/// - `Size` if there are too many digits for a type of 64 or 128 bits.
+/// - `Overflow` if the value does not fit in `T`.
+/// - `Invalid64`, or `Invalid128` for types of 128 bits, if another byte follows the digits.
 #[inline(always)]
 pub fn parse<T: Parse, const SKIP_ZEROES: bool, const SKIP_PLUS: bool>(
     s: &[u8],
@@ -89,10 +84,8 @@ pub fn parse_neg<T: ParseNeg, const SKIP_ZEROES: bool>(s: &[u8]) -> Result<T, At
 ///
 /// # Errors
 ///
-/// `Empty`, `Size` and `Overflow` of `parse`. For types of at most 32 bits there are two differences:
-/// - Without `SKIP_ZEROES`, at most 16 digits are accepted, and `Size` counts 17.
-/// - With `SKIP_ZEROES`, the slice of `Overflow` starts at the block of 16 bytes that has the first
-///   digit other than a zero, or at that digit if this block is full of digits.
+/// `Empty`, `Size` and `Overflow`, as for `parse`. Without `SKIP_ZEROES`, `Size` is returned for more
+/// than 16 digits of a type of at most 32 bits too.
 #[inline(always)]
 pub fn parse_prefix<T: Parse, const SKIP_ZEROES: bool, const SKIP_PLUS: bool>(
     s: &[u8],

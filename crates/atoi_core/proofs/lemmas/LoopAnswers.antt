@@ -155,6 +155,14 @@ module _ (t : Table) (class : Class) (bound limit : ℕ) (skip : Bool) (s : List
       ap (λ b. if b then Ok number else Err (invalid class number len s)) (sym (ne_eqb len (length s) rest))
       ∙ ap (whole_from_prefix (invalid class) s) of_prefix ∙ sym (whole_is t class bound limit skip s wide)
 
+pub whole_invalid64 : (t : Table) (bound limit : ℕ) (skip : Bool) (s : List ℕ) (number len : ℕ) → Ok (number, len) ≡ prefix_magnitude t wide64 bound limit skip s → len ≢ length s
+    → Err (invalid64 number len s) ≡ whole_magnitude t wide64 bound limit skip s
+whole_invalid64 t bound limit skip s = whole_invalid t wide64 bound limit skip s wide_64
+
+pub whole_invalid128 : (t : Table) (bound limit : ℕ) (skip : Bool) (s : List ℕ) (number len : ℕ) → Ok (number, len) ≡ prefix_magnitude t wide128 bound limit skip s → len ≢ length s
+    → Err (invalid128 number len s) ≡ whole_magnitude t wide128 bound limit skip s
+whole_invalid128 t bound limit skip s = whole_invalid t wide128 bound limit skip s wide_128
+
 -- ---- Narrow types
 -- For types of up to 32 bits, the last window after the skipped zeros decides the answer to a
 -- prefix. The answer to a whole slice follows from the answer to its prefix with zeros skipped.
