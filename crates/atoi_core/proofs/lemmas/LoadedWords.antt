@@ -1,11 +1,7 @@
--- Words that hold the bytes of a slice: how a word is loaded, and why the digits and zeros that are
--- counted in a word, and the value that is computed from it, are those of the slice. The word
--- engine and the functions of `words` that load a word are proved with these lemmas. To compute the
--- weighted sum of bytes (`low_value`), the lower half of each byte is multiplied by 10^k if k bytes
--- follow it, and these products are added.
+-- Words that hold the bytes of a slice: their digits, zeros and values are those of the slice.
 use Rattle.std.proofs.Common.{◌≡◌, ℕ, zero, suc, ◌+◌, ◌-◌, ◌*◌, ◌/◌, ◌%◌, ◌^◌, ◌<◌, ◌≤◌, List, [], ◌∷◌, ◌++◌, length, take, drop, replicate, get_or, take-take, refl, sym, ap, ap₂, ◌∙◌, arith, ◌≢◌, min, Bool, true, false, cond, ◌==◌, if◌then◌else◌}
 use Rattle.std.proofs.Math.Nat.{mod-lt, div-one, zero-div, suc-mul, div-div-eq-div-mul, zero-add, suc-add, pow-suc}
-use Rattle.std.proofs.lemmas.List.{take_all, length-drop, get_or-drop, drop-drop, length-take, length-take-le}
+use Rattle.std.proofs.lemmas.List.{take_all, length-append, length-drop, length-replicate, get_or-drop, drop-drop, length-take, length-take-le}
 use Rattle.std.proofs.lemmas.Nat.{pow_pos, pow-add, mod-pow-add, or_block, shr_split, div-mul-add}
 use Rattle.std.specs.Int.{from_le_bytes, w16, w32, w64}
 use Rattle.std.specs.Int.Bits.{bit_or, or_self, or_zero_r}
@@ -23,11 +19,11 @@ use Rattle.atoi_core.specs.Window.{window_of}
 use Rattle.atoi_core.specs.declared.window.Window.{Window}
 use Rattle.atoi_core.proofs.lemmas.Runs.{prefix_len-take, prefix_len-drop, value-take-add}
 use Rattle.atoi_core.proofs.lemmas.WordFields.{length-digits}
+use Rattle.atoi_core.proofs.lemmas.WordRuns.{first_passes}
 
 -- ---- Loading a word from a slice
 
--- The first eight bytes, read as a little-endian number, are the word of these bytes. Missing bytes
--- are 0 in both.
+-- Eight bytes, read as a little-endian number, are their word. A missing byte is 0 in both.
 pub word_from_bytes : (s : List ℕ) → from_le_bytes w64 s ≡ word_of (take 8 s)
 unfolding word_of
 word_from_bytes [] = omega arith
@@ -40,7 +36,7 @@ word_from_bytes (a ∷ b ∷ c ∷ d ∷ e ∷ f ∷ []) = omega arith
 word_from_bytes (a ∷ b ∷ c ∷ d ∷ e ∷ f ∷ g ∷ []) = omega arith
 word_from_bytes (a ∷ b ∷ c ∷ d ∷ e ∷ f ∷ g ∷ h ∷ rest) = omega arith
 
--- As above, if the first eight bytes are given as an array.
+-- The same for eight bytes in an array.
 pub word_of_first : (s bytes : List ℕ) → bytes ≡ take 8 s → from_le_bytes w64 bytes ≡ word_of (take 8 s)
 word_of_first s bytes e = ap (from_le_bytes w64) e ∙ word_from_bytes (take 8 s) ∙ ap word_of (take-take 8 8 s (omega arith))
 
@@ -50,8 +46,7 @@ unfolding word_of
 word_of_none [] none = refl
 word_of_none (a ∷ s) none = absurd (omega arith)
 
--- A slice of at most four bytes, read as a little-endian number, is the word of these bytes. The
--- lemma after this one says the same of a slice of at most two bytes.
+-- At most four bytes, or two, read as a little-endian number, are their word.
 pub word_from_four : (s : List ℕ) → length s ≤ 4 → from_le_bytes w32 s ≡ word_of s
 unfolding word_of
 word_from_four [] few = omega arith
@@ -68,7 +63,7 @@ word_from_two (a ∷ []) few = omega arith
 word_from_two (a ∷ b ∷ []) few = omega arith
 word_from_two (a ∷ b ∷ c ∷ rest) few = absurd (omega arith)
 
--- A number does not change if its own lowest `r` bits are joined to it by `|`.
+-- Joining its own lowest `r` bits to a number changes nothing.
 with_low_bits : (a r : ℕ) → bit_or (a % 2 ^ r) a ≡ a
 with_low_bits a r =
     let low = a % 2 ^ r in
@@ -79,9 +74,7 @@ with_low_bits a r =
     ∙ ap (λ x. a / 2 ^ r * 2 ^ r + x) (or_self low)
     ∙ shr_split a r
 
--- Let `low` be the lowest `r + k` bits of a number, and let `high` be the number with its lowest
--- `k` bits set to 0. Then `low | high` is the number. The two parts may overlap: both have the `r`
--- bits from bit `k` on.
+-- The lowest `r + k` bits of a number, and its bits from `k` on, join to the number.
 overlap : (whole low high r k : ℕ) → low ≡ whole % 2 ^ (r + k) → high ≡ whole / 2 ^ k * 2 ^ k → bit_or low high ≡ whole
 overlap whole low high r k low_is high_is =
     let q = whole / 2 ^ k in
@@ -91,8 +84,7 @@ overlap whole low high r k low_is high_is =
     ∙ ap₂ (λ x y. x * 2 ^ k + y) (with_low_bits q r) (or_zero_r rest)
     ∙ shr_split whole k
 
--- If the word of a slice is shifted right by `k` bytes, the result is the word of the slice without
--- its first `k` bytes.
+-- A shift right by `k` bytes drops the first `k` bytes of the slice.
 pub bytes_above : (k : ℕ) (s : List ℕ) → ((i : ℕ) → get_or s i 0 < 256) → word_of s / 2 ^ (k * 8) ≡ word_of (drop k s)
 unfolding word_of
 bytes_above zero s fits = div-one (number_l 256 s)
@@ -104,9 +96,8 @@ bytes_above (suc k) (b ∷ bs) fits =
     ap (λ p. (b + 256 * word) / p) up ∙ sym (div-div-eq-div-mul (b + 256 * word) 256 (2 ^ (k * 8)))
     ∙ ap (λ w. w / 2 ^ (k * 8)) rest ∙ bytes_above k bs (λ i. fits (suc i))
 
--- Let a slice have at least eight bytes, but fewer than eight from offset `at` on. The bytes from
--- `at` on are then the highest ones in the word of the last eight bytes. Two right shifts of this
--- word, the second by one byte, leave the word of the bytes from `at` on.
+-- Fewer than eight bytes from `at` on are the highest of the last eight. Two shifts, the second by
+-- one byte, leave their word.
 pub last_bytes : (s last : List ℕ) (at : ℕ) → 8 ≤ length s → at ≤ length s → length s < at + 8 → ((i : ℕ) → get_or s i 0 < 256) → last ≡ drop (length s - 8) s
     → from_le_bytes w64 last / 2 ^ (8 * (at + 7 - length s)) / 2 ^ 8 ≡ word_of (take 8 (drop at s))
 last_bytes s last at enough inside few fits is =
@@ -122,10 +113,8 @@ last_bytes s last at enough inside few fits is =
     ∙ bytes_above missing back (λ i. rw get_or-drop (fits (length s - 8 + i)))
     ∙ ap word_of (drop-drop missing (length s - 8) s ∙ ap (λ n. drop n s) above ∙ sym rest)
 
--- How `load_high` builds the word of one to eight bytes. It joins four parts: the first two bytes,
--- the first four bytes, the last four bytes, and the last byte. Each part is shifted to its
--- position in the word. If there are fewer than four bytes, both parts of four bytes are 0. If
--- there is only one byte, the part of two bytes is 0 too.
+-- How `load_high` joins the first two, the first four, the last four bytes and the last byte. A
+-- part is 0 if the slice is shorter.
 module _ (whole two first_four last_four last n r : ℕ) where
   of_four : two ≡ first_four % 2 ^ 16 → first_four * 2 ^ n % 2 ^ 64 ≡ whole % 2 ^ (r + 32) → last_four * 2 ^ 32 % 2 ^ 64 ≡ whole / 2 ^ 32 * 2 ^ 32
       → last * 2 ^ 56 % 2 ^ 64 ≡ whole / 2 ^ 56 * 2 ^ 56 → whole < 2 ^ 64
@@ -199,13 +188,11 @@ below_four (a ∷ b ∷ c ∷ d ∷ rest) two first_four last_four some few fits
 
 -- ---- Digits and zeros of a loaded word
 
--- Dividing a word by 256 separates its lowest byte from the word of the bytes above it.
+-- The lowest byte of a word, and the bytes above it.
 pub low_and_high : (b word : ℕ) → b < 256 → ((b + 256 * word) % 256 ≡ b) × ((b + 256 * word) / 256 ≡ word)
 low_and_high b word small = (omega arith, omega arith)
 
--- Let a word be loaded from the first `k` bytes of a slice, and let the byte 0 not pass a test.
--- Then these bytes of the slice and the `k` bytes of the word begin with the same number of bytes
--- that pass the test. A byte that the slice does not have is 0 in the word.
+-- If 0 does not pass a test, as many leading bytes pass it in the word as in the slice.
 loaded_start : (p : ℕ → Bool) → p 0 ≡ false → (k : ℕ) (s : List ℕ) → ((i : ℕ) → get_or s i 0 < 256)
     → prefix_len p (digits_l 256 k (number_l 256 (take k s))) ≡ prefix_len p (take k s)
 loaded_start p stops zero s fits = refl
@@ -216,8 +203,7 @@ loaded_start p stops (suc k) (b ∷ bs) fits =
     ap₂ (λ x y. cond (p x) (1 + prefix_len p (digits_l 256 k y)) 0) parts.0 parts.1
     ∙ ap (λ n. cond (p b) (1 + n) 0) (loaded_start p stops k bs (λ i. fits (suc i)))
 
--- If the slice has at least `k` bytes, the `k` bytes of the loaded word are the first `k` bytes of
--- the slice.
+-- The bytes of a full word are those of the slice.
 loaded_whole : (k : ℕ) (s : List ℕ) → k ≤ length s → ((i : ℕ) → get_or s i 0 < 256) → digits_l 256 k (number_l 256 (take k s)) ≡ take k s
 loaded_whole zero s enough fits = refl
 loaded_whole (suc k) [] enough fits = absurd (omega arith)
@@ -229,12 +215,6 @@ loaded_whole (suc k) (b ∷ bs) enough fits =
 -- The lower half of a digit's byte is its digit value.
 half_is_value : (b : ℕ) → is_digit decimal_table b ≡ true → b % 16 ≡ digit_value decimal_table b
 half_is_value b digit = grind (arith, nat_tests)
-
--- If a list begins with at least n + 1 elements that pass a test, then the first element passes it,
--- and at least n passing elements follow the first.
-first_passes : (t : Bool) (n m : ℕ) → suc n ≤ cond t (1 + m) 0 → (t ≡ true) × (n ≤ m)
-first_passes true n m h = (refl, omega arith)
-first_passes false n m h = absurd (omega arith)
 
 -- The weighted sum of leading digits is their value.
 loaded_value : (n k : ℕ) (s : List ℕ) → ((i : ℕ) → get_or s i 0 < 256) → n ≤ run_len decimal_table (take k s)
@@ -253,28 +233,22 @@ loaded_value (suc n) (suc k) (b ∷ bs) fits digits =
     ∙ ap (λ v. digit_value decimal_table b * 10 ^ length (take n (take k bs)) + v) (loaded_value n k bs (λ i. fits (suc i)) passes.1)
 
 -- ---- Stated for words of eight bytes
--- These lemmas are stated with `low_bytes`, `word_of` and `low_value`, as the contracts of the
--- functions on words are.
 
--- The loaded word begins with as many digits as the first eight bytes.
 pub loaded_run : (s : List ℕ) → ((i : ℕ) → get_or s i 0 < 256) → (word : ℕ) → word ≡ word_of (take 8 s)
     → run_len decimal_table (low_bytes 8 word) ≡ run_len decimal_table (take 8 s)
 unfolding low_bytes word_of
 loaded_run s fits word is = ap (λ w. run_len decimal_table (low_bytes 8 w)) is ∙ loaded_start (is_digit decimal_table) refl 8 s fits
 
--- The loaded word begins with as many zeros as the first eight bytes.
 pub loaded_zeros : (s : List ℕ) → ((i : ℕ) → get_or s i 0 < 256) → (word : ℕ) → word ≡ word_of (take 8 s)
     → zeros decimal_table (low_bytes 8 word) ≡ zeros decimal_table (take 8 s)
 unfolding low_bytes word_of
 loaded_zeros s fits word is = ap (λ w. zeros decimal_table (low_bytes 8 w)) is ∙ loaded_start (is_zero decimal_table) refl 8 s fits
 
--- If the slice has at least eight bytes, the bytes of the loaded word are the first eight.
 pub loaded_bytes : (s : List ℕ) → ((i : ℕ) → get_or s i 0 < 256) → (word : ℕ) → word ≡ word_of (take 8 s) → 8 ≤ length s
     → low_bytes 8 word ≡ take 8 s
 unfolding low_bytes word_of
 loaded_bytes s fits word is enough = ap (low_bytes 8) is ∙ loaded_whole 8 s enough fits
 
--- The elements of the slice after its first eight are bytes too.
 pub fits_after : (s : List ℕ) → ((i : ℕ) → get_or s i 0 < 256) → (i : ℕ) → get_or (drop 8 s) i 0 < 256
 fits_after s fits i = rw get_or-drop (fits (8 + i))
 
@@ -292,8 +266,7 @@ pub sum_of_none : (word len : ℕ) → len ≡ 0 → 0 ≡ low_value (low_bytes 
 unfolding low_bytes
 sum_of_none word len e = ap (λ l. low_value (low_bytes l word)) (sym e)
 
--- The leading zeros of two words in a row are those of the first word. Those of the second word are
--- added only if the first word consists of zeros.
+-- Zeros of a second word follow only if the first word consists of zeros.
 pub zeros_of_two : (first next : ℕ) → zeros decimal_table (low_bytes 8 first ++ low_bytes 8 next)
     ≡ (if zeros decimal_table (low_bytes 8 first) == 8 then 8 + zeros decimal_table (low_bytes 8 next) else zeros decimal_table (low_bytes 8 first))
 unfolding low_bytes
@@ -309,8 +282,7 @@ reported_full n c z e = ap (λ t. cond t z 0) (eq-eqb n c e)
 pub reported_none : (n c z : ℕ) → n ≢ c → (if n == c then z else 0) ≡ 0
 reported_none n c z ne = ap (λ t. cond t z 0) (ne_eqb n c ne)
 
--- If three numbers are the length of the run of the first `c` bytes, the zeros that a window of
--- these bytes reports, and the value of that run, then they make up this window.
+-- A window of `c` bytes, by its three numbers.
 pub window_from : (c : ℕ) (s : List ℕ) (len leading number : ℕ)
     → len ≡ run_len decimal_table (take c s)
     → leading ≡ (if len == c then zeros decimal_table (take c s) else 0)
@@ -324,9 +296,7 @@ window_from c s len leading number len_is leading_is number_is =
     number_is ∙ ap (value decimal_table) (sym (take-take len c s (omega arith)) ∙ ap (λ n. take n (take c s)) len_is) in
     λ i. record { len = len_is i; zeroes = same_leading i; number = same_number i }
 
--- Let `w.len` be the number of digits at the start of a loaded word, and let `w.number` be the
--- weighted sum of these digits. Let `w.zeroes` be the number of zeros at the start of the word if
--- `w.len` is 8, and otherwise 0. Then `w` is the window of the first eight bytes of the slice.
+-- The window of eight bytes, by what is counted and summed in their word.
 pub loaded_window : (s : List ℕ) → ((i : ℕ) → get_or s i 0 < 256) → (word : ℕ) (w : Window) → word ≡ word_of (take 8 s)
     → w.len ≡ run_len decimal_table (low_bytes 8 word)
     → w.zeroes ≡ (if w.len == 8 then zeros decimal_table (low_bytes 8 word) else 0)
@@ -338,8 +308,7 @@ loaded_window s fits word w is len_is zeroes_are number_is =
     (zeroes_are ∙ ap (λ z. if w.len == 8 then z else 0) (loaded_zeros s fits word is))
     (number_is ∙ loaded_sum s fits word w.len is len_is)
 
--- If a slice does not begin with eight digits, its first eight bytes determine the window of 16
--- bytes.
+-- If a slice does not begin with eight digits, its first eight bytes determine the window of 16.
 pub window_short : (s : List ℕ) (len number : ℕ) → len ≡ run_len decimal_table (take 8 s) → len ≢ 8
     → number ≡ value decimal_table (take len s)
     → ◌≡◌ {A = Window} (record { len = len; zeroes = 0; number = number }) (window_of decimal_table 16 s)
@@ -348,7 +317,7 @@ window_short s len number len_is short number_is =
     let more : run_len decimal_table (take 16 s) ≡ min 16 (run_len decimal_table s) = prefix_len-take (is_digit decimal_table) 16 s in
     window_from 16 s len 0 number (omega arith) (sym (reported_none len 16 (zeros decimal_table (take 16 s)) (omega arith))) number_is
 
--- For fewer than eight bytes, the window of 8 bytes is the same as that of 16.
+-- For fewer than eight bytes, the windows of 8 and of 16 bytes are the same.
 pub few_in_both : (s : List ℕ) → length s < 8 → window_of decimal_table 16 s ≡ window_of decimal_table 8 s
 few_in_both s few =
     let within : run_len decimal_table s ≤ length s = prefix_len-le-length (is_digit decimal_table) s in
@@ -360,13 +329,11 @@ few_in_both s few =
     ∙ ap (λ (z : ℕ). let w : Window = record { len = run_len decimal_table s; zeroes = z; number = value decimal_table (run decimal_table s) } in w) none
     ∙ ap (λ (r : List ℕ). let w : Window = record { len = run_len decimal_table r; zeroes = if run_len decimal_table r == 8 then zeros decimal_table r else 0; number = value decimal_table (run decimal_table r) } in w) eight
 
--- If the first eight bytes of a slice are digits, it has at least eight bytes.
 pub enough_bytes : (s : List ℕ) → run_len decimal_table (take 8 s) ≡ 8 → 8 ≤ length s
 enough_bytes s full = omega (arith, prefix_len-le-length (is_digit decimal_table) (take 8 s), length-take 8 s)
 
--- If a slice begins with eight digits, the window of 16 bytes follows from these eight digits and
--- from the eight bytes after them. Its number is the value of the eight digits, multiplied by ten
--- for each digit that follows them, plus the value of the digits that follow.
+-- After eight digits, the window of 16 bytes follows from the number of the eight and the bytes
+-- after them.
 pub window_joined : (s : List ℕ) (more leading first next : ℕ)
     → run_len decimal_table (take 8 s) ≡ 8
     → more ≡ run_len decimal_table (take 8 (drop 8 s))
@@ -389,10 +356,9 @@ window_joined s more leading first next full more_is leading_is first_is next_is
     window_from 16 s (8 + more) leading (first * 10 ^ more + next) (omega arith) same_leading same_number
 
 -- ---- Short slices in the highest bytes of a word
--- A slice of at most eight bytes is in the highest bytes of a word. The bytes below it are 0, or
--- they are filled with zeros, which are the byte 48.
+-- A short slice is in the highest bytes of a word, above bytes of 0 or, once filled, above zeros.
 
--- If m bytes that are 0 are put before a slice, the word of the slice is shifted left by m bytes.
+-- m bytes of 0 before a slice shift its word left by m bytes.
 pub word_shifted : (m : ℕ) (s : List ℕ) → word_of (replicate m 0 ++ s) ≡ word_of s * 2 ^ (m * 8)
 unfolding word_of
 word_shifted zero s = omega arith
@@ -401,8 +367,7 @@ word_shifted (suc m) s =
     let up : 2 ^ (suc m * 8) ≡ 2 ^ (m * 8) * 256 = ap (λ e. 2 ^ e) (suc-mul m 8) ∙ pow-add 2 (m * 8) 8 in
     omega (arith, ap (λ p. number_l 256 s * p) up)
 
--- If a slice of at most eight bytes is in the highest bytes of a word, shifting that word right
--- gives the word of the slice.
+-- A shift right gives the word of the slice back.
 pub shifted_back : (s : List ℕ) → length s ≤ 8 → word_of (replicate (8 - length s) 0 ++ s) / 2 ^ (64 - 8 * length s) ≡ word_of s
 shifted_back s few =
     let places : 64 - 8 * length s ≡ (8 - length s) * 8 = omega arith in
@@ -411,7 +376,7 @@ shifted_back s few =
     ∙ ap (λ x. x / up) (omega arith)
     ∙ div-mul-add (word_of s) up 0 (pow_pos ((8 - length s) * 8))
 
--- If the lowest m bytes of a word are 0, adding the word of m zeros fills these bytes with zeros.
+-- Adding the word of m zeros fills m lowest bytes of 0 with zeros.
 pub word_filled : (m : ℕ) (s : List ℕ) → word_of (replicate m 0 ++ s) + word_of (replicate m 48) ≡ word_of (replicate m 48 ++ s)
 unfolding word_of
 word_filled zero s = omega arith
@@ -432,15 +397,14 @@ filled_fit (suc m) s fits zero = omega arith
 filled_fit (suc m) s fits (suc i) = filled_fit m s fits i
 
 filled_length : (m : ℕ) (s : List ℕ) → length (replicate m 48 ++ s) ≡ m + length s
-filled_length zero s = omega arith
-filled_length (suc m) s = omega (arith, filled_length m s)
+filled_length m s = length-append (replicate m 48) s ∙ ap (λ n. n + length s) (length-replicate m 48)
 
--- If m zeros are put before a slice, its run becomes longer by m.
+-- m zeros before a slice make its run longer by m.
 filled_run : (m : ℕ) (s : List ℕ) → run_len decimal_table (replicate m 48 ++ s) ≡ m + run_len decimal_table s
 filled_run zero s = omega arith
 filled_run (suc m) s = omega (arith, filled_run m s)
 
--- The filled word of at most eight bytes fits in 64 bits.
+-- The filled word fits in 64 bits.
 pub filled_fits : (s : List ℕ) → length s ≤ 8 → ((i : ℕ) → get_or s i 0 < 256)
     → word_of (replicate (8 - length s) 0 ++ s) + word_of (replicate (8 - length s) 48) < 2 ^ 64
 filled_fits s few fits =
@@ -450,8 +414,7 @@ filled_fits s few fits =
     let power : 256 ^ length (replicate m 48 ++ s) ≡ 256 ^ 8 = ap (λ n. 256 ^ n) eight in
     omega (arith, word_filled m s)
 
--- The number of digits at the start of the filled word is the number of the zeros that fill it plus
--- the length of the run of the slice.
+-- The filled word begins with the zeros that fill it, and then with the run of the slice.
 pub filled_digits : (s : List ℕ) → length s ≤ 8 → ((i : ℕ) → get_or s i 0 < 256) → (word filling digits : ℕ)
     → word ≡ word_of (replicate (8 - length s) 0 ++ s) → filling ≡ word_of (replicate (8 - length s) 48)
     → digits ≡ run_len decimal_table (low_bytes 8 (word + filling))
@@ -479,9 +442,8 @@ low_value_filled (suc z) k s =
     ∙ omega arith
     ∙ low_value_filled z k s
 
--- The window of a slice of at most eight bytes follows from the filled word. The `len` of the
--- window is the number of leading digits of the word, without the zeros that fill it. The `number`
--- of the window is the weighted sum of the leading digits of the word.
+-- The window of a short slice, by the leading digits of the filled word, less the zeros that fill
+-- it.
 pub filled_window : (s : List ℕ) → length s ≤ 8 → ((i : ℕ) → get_or s i 0 < 256) → (filled digits found number : ℕ)
     → filled ≡ word_of (replicate (8 - length s) 48 ++ s)
     → digits ≡ 8 - length s + run_len decimal_table s

@@ -1,6 +1,4 @@
--- Answers of the loops over windows, for each size of type. A loop loads windows of 16 bytes, skips
--- their leading zeros, and ends with a last window at offset `at`. These lemmas say which answer
--- follows from that window, or for a wide type from that window and the bytes after it.
+-- The answers that follow from the last window of a loop that skips zeros, at offset `at`.
 use Rattle.std.proofs.Common.{◌≡◌, ℕ, ◌+◌, ◌*◌, ◌^◌, ◌<◌, ◌≤◌, Bool, true, List, length, take, drop, Some, Ok, Err, refl, sym, ap₂, ◌∙◌, lit<, arith, ◌≢◌, ◌==◌, false, not, None, Result, ap, if◌then◌else◌, ◌-◌, ◌/◌, min, nat_lt, ltb-true, ◌&&◌, inl, inr, ◌⊎◌, cond, eqb, ltb, Option, le-ltb, ne_eqb}
 use Rattle.std.proofs.lemmas.Bool.{eq-eqb, cases_lt, lt-ltb}
 use Rattle.std.proofs.lemmas.List.{length-drop, take_rest}
@@ -13,17 +11,16 @@ use Rattle.atoi_core.specs.Reading.{IsSkipped, cap, answer_by_digits}
 use Rattle.atoi_core.specs.declared.window.Window.{Window}
 use Rattle.atoi_core.proofs.lemmas.Calls.{refused_empty, is_empty, is_long, is_over, too_long, over, limit_at, significant_len, IsAccepted, refusal-none, refused_size, refused_overflow, first_of, refusal-is}
 use Rattle.atoi_core.proofs.lemmas.Runs.{prefix_len-take, prefix_len-drop, zeros-le, value-take-le, value-least, narrow_whole_is}
-use Rattle.atoi_core.proofs.lemmas.Readings.{within, below, short, short_below, all_decide}
+use Rattle.atoi_core.proofs.lemmas.Readings.{first_refusal, within, below, short, short_below, all_decide}
 use Rattle.atoi_core.proofs.lemmas.Windows.{Shows, zeros_both, Shows-join, Shows-join_two, shows, Skipped}
 use Rattle.std.proofs.lemmas.Bool.Decides.{nat_tests}
 use Rattle.std.proofs.Math.Nat.{pow-le-pow_right, eq-zero-or-pos}
 use Rattle.atoi_core.specs.Window.{window_of}
 
 -- ---- Wide types
--- The windows after the skipped zeros decide the answers for 64 and 128 bits.
 
--- What the two wide classes have in common: the limit is passed in and applies to the significant
--- digits, and the slice of an overflow begins with these.
+-- What the wide classes share: the limit is passed in, and an overflow leaves out the skipped
+-- zeros.
 pub record IsWide (class : Class) : Type 0 where
   pub rule : (extent : Extent) (skip : Bool) (limit digits skipped : ℕ)
       → rule_of class extent skip limit digits skipped ≡ record { limit = Some limit; cap = cap class; dropped = skipped }
@@ -40,22 +37,20 @@ wide_128 = record { rule = λ extent skip limit digits skipped. refl }
 is_skipped : {t : Table} {skip : Bool} {s : List ℕ} {at before now : ℕ} {w : Window} → Skipped t skip s at before now w → IsSkipped t skip s at
 is_skipped after_skip = record { zeros_only = omega (arith, after_skip.zeros_are); asked = after_skip.off }
 
--- If zeros are skipped and the last window is full of digits, this window does not begin with a
--- zero.
+-- A last window that is full does not begin with a skipped zero.
 none_left : (t : Table) (skip : Bool) (s : List ℕ) (at before now : ℕ) (w : Window) → Skipped t skip s at before now w → 16 ≤ w.len
     → skip ≡ true → zeros t (take 16 (drop at s)) ≡ 0
 none_left t skip s at before now w after_skip full on =
     omega (arith, after_skip.full on (omega (arith, after_skip.window.len_is)), after_skip.zeros_are, prefix_len-take (is_zero t) 16 (drop at s))
 
--- If there is no digit at all, the answer is `Empty`, whatever the class.
+-- Without a digit, the answer is `Empty`.
 pub answers_empty : (t : Table) (class : Class) (bound limit : ℕ) (skip : Bool) (s : List ℕ) (at before now : ℕ) (w : Window) →
     Skipped t skip s at before now w → at + w.len ≡ 0 → Err empty ≡ prefix_magnitude t class bound limit skip s
 answers_empty t class bound limit skip s at before now w after_skip none =
     rw (refused_empty t class bound limit prefix skip s (omega (arith, after_skip.run_is, after_skip.window.len_is))) refl
 
--- Let the bound have exactly `limit` digits, which are more than 16. If there is a digit, and the
--- last window is not full, then this window holds the rest of the run, whose value is within the
--- bound. So the answer is `Ok`.
+-- A last window that is not full holds the rest of the run, so for a bound of more than 16 digits
+-- the answer is `Ok`.
 pub answers_short : (t : Table) (class : Class) (bound limit : ℕ) (skip : Bool) (s : List ℕ) (at before now : ℕ) (w : Window) (number len : ℕ) →
     limit < cap class → Skipped t skip s at before now w → w.len < 16 → 0 < at + w.len → 16 < limit → HasDigits limit bound →
     number ≡ w.number → len ≡ at + w.len → Ok (number, len) ≡ prefix_magnitude t class bound limit skip s
@@ -63,8 +58,7 @@ answers_short t class bound limit skip s at before now w number len less after_s
     let decides = short_below t class bound limit less digits skip s at 16 w.len _ w.number (is_skipped after_skip) after_skip.window.reading few (omega arith) after_skip.window.below in
     ap₂ (λ n l. Ok (n, l)) number_is len_is ∙ sym (decides.1 ∙ rw (ne_eqb (at + w.len) 0 (omega arith)) refl)
 
--- If a full window is followed by one that is not full, the two hold the rest of the run, whose
--- value is within a bound of 39 digits. So the answer for 128 bits is `Ok`.
+-- A full window and one that is not full hold the rest of the run: `Ok` for 128 bits.
 pub answers_two : (t : Table) → IsBelowTen t → (bound : ℕ) (skip : Bool) (s : List ℕ) (at before now : ℕ) (first second : Window) (number len : ℕ) →
     Skipped t skip s at before now first → 16 ≤ first.len → Shows t 16 (drop 16 (drop at s)) second → second.len < 16 → HasDigits 39 bound →
     number ≡ first.number * 10 ^ second.len + second.number → len ≡ at + (16 + second.len) →
@@ -74,7 +68,7 @@ answers_two t ten bound skip s at before now first second number len after_skip 
     let decides = short t ten wide128 bound 39 (lit< tt) digits skip s at 32 (16 + second.len) _ _ (is_skipped after_skip) both (omega arith) (omega arith) in
     ap₂ (λ n l. Ok (n, l)) number_is len_is ∙ sym (decides.1 ∙ rw (ne_eqb (at + (16 + second.len)) 0 (omega arith)) refl)
 
--- For 64 bits, a full window and the 8 bytes after it decide the answer.
+-- For 64 bits, a full window and the 8 bytes after it decide.
 pub answers_64 : (t : Table) (bound limit : ℕ) (skip : Bool) (s : List ℕ) (at before now : ℕ) (first_window back : Window) →
     limit < 24 → Skipped t skip s at before now first_window → 16 ≤ first_window.len → Shows t 8 (drop 16 (drop at s)) back →
     (at + (16 + back.len) ≤ length s) × (answer_by_digits wide64 bound limit at (16 + back.len) (first_window.number * 10 ^ back.len + back.number) s ≡ prefix_magnitude t wide64 bound limit skip s)
@@ -86,7 +80,7 @@ answers_64 t bound limit skip s at before now first_window back less after_skip 
       sym (all_decide t wide64 bound limit less skip s at _ _ _ (is_skipped after_skip) both none),
     )
 
--- For 128 bits, two full windows and the 8 bytes after them decide the answer.
+-- For 128 bits, two full windows and the 8 bytes after them decide.
 pub answers_128 : (t : Table) → IsBelowTen t → (bound : ℕ) (skip : Bool) (s : List ℕ) (at before now : ℕ) (first_window middle back : Window) →
     Skipped t skip s at before now first_window → 16 ≤ first_window.len → Shows t 16 (drop 16 (drop at s)) middle → 16 ≤ middle.len → Shows t 8 (drop 32 (drop at s)) back →
     let number = (first_window.number * 10 ^ 16 + middle.number) * 10 ^ back.len + back.number in
@@ -102,16 +96,13 @@ answers_128 t ten bound skip s at before now first_window middle back after_skip
     )
 
 -- ---- From prefix to whole slice
--- The answer to a whole slice of a wide type follows from the answer to its prefix.
 
--- An error of the prefix is also the error of the whole slice. If the number ends before the end of
--- the slice, the answer is the error that `invalid` makes. Otherwise the answer is the number.
+-- The answer to a whole slice, by the answer to its prefix.
 abbrev whole_from_prefix : (ℕ → ℕ → List ℕ → Refusal) → List ℕ → Result (ℕ × ℕ) Refusal → Result ℕ Refusal
 whole_from_prefix invalid s (Err reason) = Err reason
 whole_from_prefix invalid s (Ok found) = if found.1 == length s then Ok found.0 else Err (invalid found.0 found.1 s)
 
--- A choice by four tests is the same as a choice by the first three, if `whole_from_prefix` then
--- applies the fourth test to what these three have chosen.
+-- The last of four tests may be applied after the first three.
 last_reason : (invalid : ℕ → ℕ → List ℕ → Refusal) (s : List ℕ) (a b c : Bool) (none long above : Refusal) (v n : ℕ) →
     unless_refused (if a then Some none else (if b then Some long else (if c then Some above
     else (if not (n == length s) then Some (invalid v n s) else None)))) v
@@ -123,7 +114,6 @@ last_reason invalid s false false false none long above v n =
     elim (n == length s) as (λ d. unless_refused (if not d then Some (invalid v n s) else None) v ≡ (if d then Ok v else Err (invalid v n s)))
     [ true ↦ refl | false ↦ refl ]
 
--- The answer to a whole slice is the one derived from its prefix.
 whole_is : (t : Table) (class : Class) (bound limit : ℕ) (skip : Bool) (s : List ℕ) → IsWide class
     → whole_magnitude t class bound limit skip s ≡ whole_from_prefix (invalid class) s (prefix_magnitude t class bound limit skip s)
 unfolding refusal
@@ -136,19 +126,18 @@ whole_is t wide128 bound limit skip s wide =
     empty (too_long t wide128 bound limit prefix skip s) (over t wide128 bound limit prefix skip s) (value t (run t s)) (run_len t s)
 
 module _ (t : Table) (class : Class) (bound limit : ℕ) (skip : Bool) (s : List ℕ) (wide : IsWide class) where
-  -- If the prefix is refused, the whole slice is refused with the same error.
+  -- A refused prefix is a refused whole slice.
   pub whole_err : (reason : Refusal) → Err reason ≡ prefix_magnitude t class bound limit skip s → Err reason ≡ whole_magnitude t class bound limit skip s
   whole_err reason of_prefix = ap (whole_from_prefix (invalid class) s) of_prefix ∙ sym (whole_is t class bound limit skip s wide)
 
-  -- If the number ends at the end of the slice, it is the answer to the whole slice.
+  -- A number that ends with the slice is the answer.
   pub whole_ok : (number len : ℕ) → Ok (number, len) ≡ prefix_magnitude t class bound limit skip s → len ≡ length s
       → Ok number ≡ whole_magnitude t class bound limit skip s
   whole_ok number len of_prefix all =
       ap (λ b. if b then Ok number else Err (invalid class number len s)) (sym (eq-eqb len (length s) all))
       ∙ ap (whole_from_prefix (invalid class) s) of_prefix ∙ sym (whole_is t class bound limit skip s wide)
 
-  -- If the number ends before the end of the slice, the answer to the whole slice is the error
-  -- `invalid`.
+  -- A number that ends before the slice does is `invalid`.
   pub whole_invalid : (number len : ℕ) → Ok (number, len) ≡ prefix_magnitude t class bound limit skip s → len ≢ length s
       → Err (invalid class number len s) ≡ whole_magnitude t class bound limit skip s
   whole_invalid number len of_prefix rest =
@@ -164,10 +153,8 @@ pub whole_invalid128 : (t : Table) (bound limit : ℕ) (skip : Bool) (s : List �
 whole_invalid128 t bound limit skip s = whole_invalid t wide128 bound limit skip s wide_128
 
 -- ---- Narrow types
--- For types of up to 32 bits, the last window after the skipped zeros decides the answer to a
--- prefix. The answer to a whole slice follows from the answer to its prefix with zeros skipped.
 
--- The slice of an overflow leaves out exactly the zeros before the last window.
+-- The slice of an overflow leaves out the zeros before the last window.
 pub dropped_is : (t : Table) (skip : Bool) (limit : ℕ) (s : List ℕ) (at before now : ℕ) (w : Window) →
     Skipped t skip s at before now w → (rule_of narrow prefix skip limit (run_len t s) (skipped_zeros t skip s)).dropped ≡ at
 dropped_is t false limit s at before now w after_skip = sym (after_skip.off refl)
@@ -193,21 +180,20 @@ number_most : (t : Table) (skip : Bool) (s : List ℕ) (at before now : ℕ) (w 
 number_most t skip s at before now w after_skip =
     omega (arith, after_skip.value_is, after_skip.window.number_is, value-take-le t (drop at s) w.len (run_len t (drop at s)) (omega (arith, after_skip.window.len_is)))
 
--- If a full window does not begin with a zero, its number is at least 10^15.
+-- The number of a full window without a leading zero is at least 10^15.
 least : (t : Table) (s : List ℕ) (w : Window) → Shows t 16 s w → 16 ≤ w.len → w.zeroes ≡ 0 → 10 ^ 15 ≤ w.number
 least t s w seen full none =
     let len : w.len ≡ 16 = omega (arith, seen.len_is) in
     let some : zeros t s ≡ 0 = omega (arith, seen.zeroes_of len) in
     omega (arith, value-least t 15 s (omega (arith, seen.len_is)) some, seen.number_is ∙ ap (λ (n : ℕ). value t (take n s)) len)
 
--- There are not too many digits if there are at most 16, or if zeros are skipped.
+-- At most 16 digits are not too many; nor is any number where zeros are skipped.
 not_too_long : (t : Table) (skip : Bool) (limit : ℕ) (s : List ℕ) → (skip ≡ false → run_len t s ≤ 16)
     → is_above (limit_at narrow prefix skip limit) (significant_len t skip s) ≡ false
 not_too_long t true limit s few = refl
 not_too_long t false limit s few = le-ltb 16 (significant_len t false s) (omega (arith, few refl))
 
--- Let zeros be skipped, or let the run have at most 16 digits. If the number of the last window
--- fits in 32 bits, then the window holds the rest of the run.
+-- If its number fits in 32 bits, the last window holds the rest of the run.
 ends : (t : Table) (skip : Bool) (s : List ℕ) (at before now : ℕ) (w : Window) →
     Skipped t skip s at before now w → (skip ≡ false → run_len t s ≤ 16) → w.number ≤ 4294967295 → run_len t (drop at s) ≡ w.len
 ends t false s at before now w after_skip few small = omega (arith, few refl, after_skip.off refl, after_skip.run_is, after_skip.window.len_is)
@@ -218,8 +204,7 @@ ends t true s at before now w after_skip few small =
           absurd (omega (arith, least t (drop at s) w after_skip.window h (after_skip.last refl)))
     ]
 
--- Let zeros be skipped, or let the run have at most 16 digits. If the number of the last window is
--- larger than the bound, the answer is `Overflow`.
+-- If the number of the last window is above the bound, the answer is `Overflow`.
 narrow_overflow : (t : Table) (bound limit : ℕ) (skip : Bool) (s : List ℕ) (at before now : ℕ) (w : Window) →
     Skipped t skip s at before now w → (skip ≡ false → run_len t s ≤ 16) → 0 < at + w.len → bound < w.number →
     Err (overflow (drop at s)) ≡ prefix_magnitude t narrow bound limit skip s
@@ -229,8 +214,7 @@ narrow_overflow t bound limit skip s at before now w after_skip few some over =
     rw (refused_overflow t narrow bound limit prefix skip s digits (not_too_long t skip limit s few) above)
     (rw (dropped_is t skip limit s at before now w after_skip) refl)
 
--- Let zeros be skipped, or let the run have at most 16 digits. If there is a digit, and the number
--- of the last window is within the bound, the answer is `Ok`.
+-- If there is a digit, and the number of the last window is within the bound, the answer is `Ok`.
 narrow_ok : (t : Table) (bound limit : ℕ) (skip : Bool) (s : List ℕ) (at before now : ℕ) (w : Window) →
     Skipped t skip s at before now w → bound ≤ 4294967295 → (skip ≡ false → run_len t s ≤ 16) → 0 < at + w.len → w.number ≤ bound →
     Ok (w.number, at + w.len) ≡ prefix_magnitude t narrow bound limit skip s
@@ -243,8 +227,7 @@ narrow_ok t bound limit skip s at before now w after_skip high few some within =
     record { some = omega arith; short = not_too_long t skip limit s few; in_range = omega arith; ends = refl } in
     rw (refusal-none t narrow bound limit prefix skip s accepted, number, len) refl
 
--- Let zeros be skipped, or let the run have at most 16 digits. If there is a digit, the number of
--- the last window decides between `Ok` and `Overflow`.
+-- If there is a digit, the last window decides between `Ok` and `Overflow`.
 pub narrow_after_skip : (t : Table) (bound limit : ℕ) (skip : Bool) (s : List ℕ) (at before now : ℕ) (w : Window) →
     Skipped t skip s at before now w → bound ≤ 4294967295 → (skip ≡ false → run_len t s ≤ 16) → 0 < at + w.len →
     (if nat_lt bound w.number then Err (overflow (drop at s)) else Ok (w.number, at + w.len)) ≡ prefix_magnitude t narrow bound limit skip s
@@ -254,8 +237,7 @@ narrow_after_skip t bound limit skip s at before now w after_skip high few some 
       | inr fits ↦ rw (le-ltb bound w.number fits) (narrow_ok t bound limit skip s at before now w after_skip high few some fits)
     ]
 
--- If zeros are not skipped and there are more than 16 digits, the answer is the error `Size`, which
--- reports 17 digits.
+-- More than 16 digits without skipping are the error `Size` of 17.
 pub narrow_size : (t : Table) (bound limit : ℕ) (skip : Bool) (s : List ℕ) → true ≡ (not skip && nat_lt 16 (run_len t s)) →
     Err (size 17 s) ≡ prefix_magnitude t narrow bound limit skip s
 narrow_size t bound limit true s long = absurd (cc long)
@@ -265,8 +247,7 @@ narrow_size t bound limit false s long =
     let reported : 0 + min (significant_len t false s) 17 ≡ 17 = omega arith in
     rw (refused_size t narrow bound limit prefix false s (omega arith) too_long) (rw reported refl)
 
--- Let the first 16 bytes be digits. Then the bytes after them begin with a digit exactly if the run
--- has more than 16 digits.
+-- After 16 digits, another digit follows exactly if the run has more than 16.
 pub digit_after_16 : (t : Table) (s : List ℕ) → run_len t (take 16 s) ≡ 16 →
     nat_lt 0 (run_len t (take (length s - 16) (drop 16 s))) ≡ nat_lt 16 (run_len t s)
 digit_after_16 t s full =
@@ -296,31 +277,28 @@ narrow_decides t s at before now w len after_skip len_is bound high =
     ]
 
 -- ---- Fewer than 16 digits
--- A first window that is not full decides the answer. `short_run` says that the same tests decide
--- the refusal for each class and flag. Only the variant of `invalid` depends on the class, and only
--- a whole slice is refused for a byte after the digits.
+-- A first window that is not full decides the answer, by the same tests for each class and flag.
 
--- The class is narrow, or the limit is at least 16 digits and the bound is at least 10^15.
+-- A narrow class, or at least 16 digits and a bound of at least 10^15.
 abbrev pub HasRoom : Class → (bound limit : ℕ) → Type 0
 HasRoom class bound limit = (class ≡ narrow) ⊎ ((16 ≤ limit) × (10 ^ 15 ≤ bound))
 
--- `HasRoom` holds if the bound has exactly `limit` digits and `limit` is at least 17, as for a wide
--- class.
+-- A wide class has room.
 pub wide_room : (class : Class) (bound limit : ℕ) → 17 ≤ limit → HasDigits limit bound → HasRoom class bound limit
 wide_room class bound limit long digits =
     let least : 10 ^ 15 ≤ 10 ^ (limit - 1) = pow-le-pow_right {n = 10} (lit< tt) {i = 15} {j = limit - 1} (omega arith) in
     inr (omega arith, omega (arith, digits.0))
 
--- If `HasRoom` holds, fewer than 16 significant digits are not too many.
-short_enough : (class : Class) (extent : Extent) (skip : Bool) (bound limit significant : ℕ) → HasRoom class bound limit → significant < 16
+-- With room, fewer than 16 significant digits are not too many.
+few_significant : (class : Class) (extent : Extent) (skip : Bool) (bound limit significant : ℕ) → HasRoom class bound limit → significant < 16
     → is_above (limit_at class extent skip limit) significant ≡ false
-short_enough narrow whole skip bound limit significant room few = refl
-short_enough narrow prefix true bound limit significant room few = refl
-short_enough narrow prefix false bound limit significant room few = le-ltb 16 significant (omega arith)
-short_enough wide64 extent skip bound limit significant room few = elim room [ inl e ↦ absurd (cc e) | inr h ↦ le-ltb limit significant (omega (arith, h.0)) ]
-short_enough wide128 extent skip bound limit significant room few = elim room [ inl e ↦ absurd (cc e) | inr h ↦ le-ltb limit significant (omega (arith, h.0)) ]
+few_significant narrow whole skip bound limit significant room few = refl
+few_significant narrow prefix true bound limit significant room few = refl
+few_significant narrow prefix false bound limit significant room few = le-ltb 16 significant (omega arith)
+few_significant wide64 extent skip bound limit significant room few = elim room [ inl e ↦ absurd (cc e) | inr h ↦ le-ltb limit significant (omega (arith, h.0)) ]
+few_significant wide128 extent skip bound limit significant room few = elim room [ inl e ↦ absurd (cc e) | inr h ↦ le-ltb limit significant (omega (arith, h.0)) ]
 
--- With fewer than 16 digits, the slice of an overflow leaves out no zeros.
+-- With fewer than 16 digits, an overflow leaves out no zeros.
 whole_slice : (class : Class) (extent : Extent) (skip : Bool) (bound limit digits skipped number : ℕ) (s : List ℕ) (next : Option Refusal)
     → HasRoom class bound limit → digits < 16 → skipped ≤ digits → number < 10 ^ 15
     → cond (ltb bound number) (Some (overflow (drop (rule_of class extent skip limit digits skipped).dropped s))) next ≡ cond (ltb bound number) (Some (overflow s)) next
@@ -335,15 +313,12 @@ whole_slice wide64 extent skip bound limit digits skipped number s next room few
 whole_slice wide128 extent skip bound limit digits skipped number s next room few within below =
     elim room [ inl e ↦ absurd (cc e) | inr h ↦ rw (le-ltb bound number (omega (arith, h.1))) refl ]
 
--- The number of skipped zeros is at most the number of digits.
+-- No more zeros are skipped than there are digits.
 skipped_most : (t : Table) (skip : Bool) (s : List ℕ) → skipped_zeros t skip s ≤ run_len t s
 skipped_most t true s = zeros-le t s
 skipped_most t false s = omega arith
 
--- With fewer than 16 digits, the refusal is the first of these errors that applies: `Empty` if
--- there is no digit, `Overflow` with all of `s` if the value is larger than the bound, and
--- `invalid` if the parse is of a whole slice and another byte follows the digits. If none applies,
--- there is no refusal.
+-- With fewer than 16 digits, the refusal is `Empty`, `Overflow` with all of `s`, or `invalid`.
 pub short_run : (t : Table) (class : Class) (bound limit : ℕ) (extent : Extent) (skip : Bool) (s : List ℕ) → HasRoom class bound limit
     → run_len t s < 16 → value t (run t s) < 10 ^ 15
     → refusal t class bound limit extent skip s
@@ -356,25 +331,16 @@ short_run t class bound limit extent skip s room few below =
     let within = skipped_most t skip s in
     refusal-is t class bound limit extent skip s
     ∙ ap (λ b. first_of (eqb digits 0) b (ltb bound number) (leaves_rest extent digits (length s)) empty (too_long t class bound limit extent skip s) (over t class bound limit extent skip s) (invalid class number digits s))
-    (short_enough class extent skip bound limit (significant_len t skip s) room (omega arith))
+    (few_significant class extent skip bound limit (significant_len t skip s) room (omega arith))
     ∙ ap (λ (x : Option Refusal). cond (eqb digits 0) (Some empty) x)
     (whole_slice class extent skip bound limit digits (skipped_zeros t skip s) number s some_left room few within below)
 
--- Let two tests choose between two refusals and `None`, and let `unless_refused` be applied to what
--- they choose. The result is the same as if the two tests chose between two errors and a value
--- directly.
-picked : {A : Type 0} (a b : Bool) (p q : Refusal) (v : A) → cond a (Err p) (cond b (Err q) (Ok v)) ≡ unless_refused (cond a (Some p) (cond b (Some q) None)) v
-picked true b p q v = refl
-picked false true p q v = refl
-picked false false p q v = refl
-
 module _ (t : Table) (ten : IsBelowTen t) (class : Class) (bound limit : ℕ) (skip : Bool) (s : List ℕ) (w : Window)
     (is : w ≡ window_of t 16 s) (short : w.len < 16) (room : HasRoom class bound limit) where
-  -- The window is a reading of the first 16 bytes of the slice (`Shows`).
   reported : Shows t 16 s w
   reported = shows t ten 16 s w is
 
-  -- The number of a window that is not full has at most 15 digits.
+  -- The window has at most 15 digits.
   pub short_number : w.number < 10 ^ 15
   short_number =
       let most : 10 ^ w.len ≤ 10 ^ 15 = pow-le-pow_right {n = 10} (lit< tt) {i = w.len} {j = 15} (omega arith) in
@@ -386,7 +352,7 @@ module _ (t : Table) (ten : IsBelowTen t) (class : Class) (bound limit : ℕ) (s
       let len : run_len t s ≡ w.len = omega (arith, reported.len_is) in
       let number : value t (run t s) ≡ w.number = ap (λ (n : ℕ). value t (take n s)) len ∙ sym reported.number_is in
       let small : value t (run t s) < 10 ^ 15 = omega (arith, short_number) in
-      picked (eqb w.len 0) (ltb bound w.number) empty (overflow s) (w.number, w.len)
+      sym (first_refusal (eqb w.len 0) (ltb bound w.number) false empty (overflow s) empty (w.number, w.len))
       ∙ sym (ap₂ (λ (n m : ℕ). unless_refused (cond (eqb m 0) (Some empty) (cond (ltb bound n) (Some (overflow s)) None)) (n, m)) number len)
       ∙ sym (ap (λ (r : Option Refusal). unless_refused r (value t (run t s), run_len t s)) (short_run t class bound limit prefix skip s room (omega arith) small))
 
@@ -394,17 +360,15 @@ module _ (t : Table) (ten : IsBelowTen t) (class : Class) (bound limit : ℕ) (s
   pub short_none : w.len ≡ 0 → Err empty ≡ prefix_magnitude t class bound limit skip s
   short_none none = sym (ap (λ b. cond b (Err empty) (cond (ltb bound w.number) (Err (overflow s)) (Ok (w.number, w.len)))) (eq-eqb w.len 0 none)) ∙ short_prefix
 
-  -- If the window has a digit, its number decides between `Overflow` and `Ok`.
+  -- With a digit, the number decides between `Overflow` and `Ok`.
   pub short_some : 0 < w.len → cond (ltb bound w.number) (Err (overflow s)) (Ok (w.number, w.len)) ≡ prefix_magnitude t class bound limit skip s
   short_some some = sym (ap (λ b. cond b (Err empty) (cond (ltb bound w.number) (Err (overflow s)) (Ok (w.number, w.len)))) (ne_eqb w.len 0 (omega arith))) ∙ short_prefix
 
-  -- If the window has a digit, and its number is within the bound, the answer is `Ok`.
+  -- With a digit and a number within the bound, the answer is `Ok`.
   pub short_ok : 0 < w.len → w.number ≤ bound → Ok (w.number, w.len) ≡ prefix_magnitude t class bound limit skip s
   short_ok some within = sym (ap (λ b. cond b (Err (overflow s)) (Ok (w.number, w.len))) (le-ltb bound w.number within)) ∙ short_some some
 
--- Let the bound have exactly `limit` digits, at least 17, as for a wide class. If the window is not
--- full and has a digit, the answer is `Ok`, because the number of the window is then within the
--- bound.
+-- For a wide class, a window that is not full and has a digit is within the bound.
 pub short_wide : (t : Table) → IsBelowTen t → (class : Class) (bound limit : ℕ) (skip : Bool) (s : List ℕ) (w : Window) →
     w ≡ window_of t 16 s → w.len < 16 → 17 ≤ limit → HasDigits limit bound → 0 < w.len → Ok (w.number, w.len) ≡ prefix_magnitude t class bound limit skip s
 short_wide t ten class bound limit skip s w is short long digits some =
@@ -412,8 +376,7 @@ short_wide t ten class bound limit skip s w is short long digits some =
     let least : 10 ^ 15 ≤ 10 ^ (limit - 1) = pow-le-pow_right {n = 10} (lit< tt) {i = 15} {j = limit - 1} (omega arith) in
     short_ok t ten class bound limit skip s w is short room some (omega (arith, short_number t ten class bound limit skip s w is short room, digits.0))
 
--- If the bound has exactly `limit` digits, at least 17, and the window has no digit, the answer is
--- `Empty`.
+-- For a wide class, a window without a digit is `Empty`.
 pub short_empty : (t : Table) → IsBelowTen t → (class : Class) (bound limit : ℕ) (skip : Bool) (s : List ℕ) (w : Window) →
     w ≡ window_of t 16 s → 17 ≤ limit → HasDigits limit bound → w.len ≡ 0 → Err empty ≡ prefix_magnitude t class bound limit skip s
 short_empty t ten class bound limit skip s w is long digits none =

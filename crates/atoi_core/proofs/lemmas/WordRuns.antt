@@ -1,5 +1,4 @@
--- How many digits and how many zeros a word begins with, counted from its lowest byte. The lemmas
--- show that the kernels and the word engine count them correctly.
+-- How many digits and zeros a word begins with, counted from its lowest byte.
 use Rattle.std.proofs.Common.{◌≡◌, ℕ, zero, suc, ◌+◌, ◌*◌, ◌/◌, ◌%◌, ◌^◌, ◌<◌, ◌≤◌, ◌-◌, Bool, true, false, cond, ◌==◌, List, [], ◌∷◌, map, refl, sym, ap, ap₂, ◌∙◌, arith, mod-lt, zero-lt-suc}
 use Rattle.std.proofs.Math.Dec.{lit<}
 use Rattle.std.proofs.lemmas.Bool.{agree_below_at}
@@ -17,27 +16,24 @@ use Rattle.atoi_core.specs.Words.{low_bytes, low_value}
 use Rattle.atoi_core.proofs.lemmas.Calls.{digit_in_range}
 use Rattle.atoi_core.proofs.lemmas.WordFields.{trailing_bytes, repeated, or_bytes, and_repeated, xor_repeated, upper_halves, digits_cut, shifted_value, low_value_halves}
 
--- `prefix_len p xs` is the length of the longest prefix whose elements pass the test `p`. Mapping a
--- list with `f` and then testing with `p` gives the same length as testing each element `x` of the
--- list with `p (f x)`.
+-- A test of mapped elements.
 prefix_len-map : (p : ℕ → Bool) (f : ℕ → ℕ) (xs : List ℕ) → prefix_len p (map f xs) ≡ prefix_len (λ x. p (f x)) xs
 prefix_len-map p f [] = refl
 prefix_len-map p f (x ∷ xs) = ap (λ n. cond (p (f x)) (1 + n) 0) (prefix_len-map p f xs)
 
 -- ---- Counting zeros
 
--- A byte xor 48 is 0 exactly if the byte is the digit zero.
+-- A byte xor 48 is 0 exactly for the digit zero.
 combined_is_zero : (b : ℕ) → b < 256 → (bit_xor b 48 == 0) ≡ is_zero decimal_table b
 combined_is_zero b h = agree_below_at (λ x. bit_xor x 48 == 0) (is_zero decimal_table) 256 b refl h
 
--- If two tests agree on each byte, the same number of leading bytes of a word passes each of them.
+-- Two tests that agree on each byte pass as many leading bytes.
 prefix_len-agree : (p q : ℕ → Bool) → ((b : ℕ) → b < 256 → p b ≡ q b) → (k word : ℕ) → prefix_len p (digits_l 256 k word) ≡ prefix_len q (digits_l 256 k word)
 prefix_len-agree p q agree zero word = refl
 prefix_len-agree p q agree (suc k) word =
     ap₂ (λ b n. cond b (1 + n) 0) (agree (word % 256) (mod-lt word (zero-lt-suc 255))) (prefix_len-agree p q agree k (word / 256))
 
--- If each byte of a word is xored with 48, the number of trailing zero bits of the result, divided
--- by 8, is the number of zeros that the word begins with.
+-- Trailing zero bits after a xor with 48, divided by 8, count the zeros.
 pub zeros_counted : (k word : ℕ) → count_trailing_zeros (k * 8) (bit_xor word (repeated 48 k)) / 8 ≡ zeros decimal_table (low_bytes k word)
 unfolding low_bytes
 zeros_counted k word =
@@ -48,27 +44,25 @@ zeros_counted k word =
 
 -- ---- Counting digits
 
--- Let two lengths be 0 unless a test passes. If they are equal in the case that the test passes,
--- then they are equal in both cases.
+-- Lengths that are 0 unless a test passes are equal if they are equal where it passes.
 run_goes_on : (t : Bool) (m n : ℕ) → (t ≡ true → m ≡ n) → cond t (1 + m) 0 ≡ cond t (1 + n) 0
 run_goes_on true m n e = ap (λ x. 1 + x) (e refl)
 run_goes_on false m n e = refl
 
--- Mapping a function over the results of a pairwise operation is one pairwise operation.
+-- Mapping the results of a pairwise operation is one pairwise operation.
 marked : (h : ℕ → ℕ) (op : ℕ → ℕ → ℕ) (xs ys : List ℕ) → map h (zip2 op xs ys) ≡ zip2 (λ x y. h (op x y)) xs ys
 marked h op [] ys = refl
 marked h op (x ∷ xs) [] = refl
 marked h op (x ∷ xs) (y ∷ ys) = ap (λ zs. h (op x y) ∷ zs) (marked h op xs ys)
 
--- Mapping both lists first and then combining them pairwise is one pairwise operation too.
+-- So is mapping both lists first.
 changed : (f g : ℕ → ℕ) (op : ℕ → ℕ → ℕ) (xs ys : List ℕ) → zip2 op (map f xs) (map g ys) ≡ zip2 (λ x y. op (f x) (g y)) xs ys
 changed f g op [] ys = refl
 changed f g op (x ∷ xs) [] = refl
 changed f g op (x ∷ xs) (y ∷ ys) = ap (λ zs. op (f x) (g y) ∷ zs) (changed f g op xs ys)
 
--- How an addition or subtraction acts on the bytes of a word. A constant is added to each byte, or
--- subtracted from it, in one operation on the whole word. The lowest byte then changes as a byte on
--- its own would (`low`). If it is a digit, nothing is carried to the bytes above it (`rest`).
+-- An addition to each byte in one operation on the word. The lowest byte changes as it would alone
+-- (`low`), and a digit carries nothing to the bytes above it (`rest`).
 record Change : Type 0 where
   of_word : ℕ → ℕ → ℕ
   of_byte : ℕ → ℕ
@@ -79,7 +73,7 @@ record Change : Type 0 where
 abbrev unchanged : Change
 unchanged = record { of_word = λ k word. word; of_byte = λ b. b; low = λ k word. refl; rest = λ k word e. refl }
 
--- The change that adds c to each byte. With c below 199, no digit carries.
+-- The change that adds c to each byte; below 199, no digit carries.
 abbrev added : (c : ℕ) → c < 199 → Change
 added c h =
     record {
@@ -89,7 +83,7 @@ added c h =
       rest = λ k word e. let digit = digit_in_range (word % 256) e in omega arith;
     }
 
--- A wrapping addition of this constant to a word of k bytes subtracts 48 from each byte.
+-- Adding this constant, with wrap, subtracts 48 from each of k bytes.
 abbrev pub without_48 : ℕ → ℕ
 without_48 zero = 1
 without_48 (suc k) = 256 * without_48 k - 48
@@ -111,9 +105,8 @@ lowered =
           omega arith;
     }
 
--- Two changed words are combined to a mark for each byte. Up to the first byte that is no digit,
--- each mark is what the byte on its own gives. So if the mark is 0 exactly for digits, the number
--- of leading marks of 0 is the number of leading digits.
+-- Two changed words make a mark for each byte. If it is 0 exactly for digits, the leading marks of
+-- 0 count the digits: they are right up to the first byte that is no digit.
 module _ (first second : Change) (mark : ℕ → ℕ → ℕ)
     (digit_byte : (b : ℕ) → b < 256 → (mark (first.of_byte b) (second.of_byte b) == 0) ≡ is_digit decimal_table b) where
   carried_run : (k word : ℕ)
@@ -137,7 +130,7 @@ kernel_mark raised byte = bit_xor (bit_or (raised / 16) (bit_and byte 240)) 51
 kernel_byte : (b : ℕ) → b < 256 → (kernel_mark ((b + 6) % 256) b == 0) ≡ is_digit decimal_table b
 kernel_byte b h = agree_below_at (λ x. kernel_mark ((x + 6) % 256) x == 0) (is_digit decimal_table) 256 b refl h
 
--- The trailing zero bits of these marks, divided by 8, are the number of leading digits.
+-- Trailing zero bits of these marks, divided by 8, count the digits.
 pub digits_counted : (k word : ℕ)
     → count_trailing_zeros (k * 8) (bit_xor (bit_or (bit_and ((word + repeated 6 k) % 2 ^ (k * 8) / 16) (repeated 15 k)) (bit_and word (repeated 240 k))) (repeated 51 k)) / 8
     ≡ run_len decimal_table (low_bytes k word)
@@ -167,7 +160,7 @@ engine_byte : (b : ℕ) → b < 256 → (engine_mark ((b + 70) % 256) ((b + 208)
 engine_byte b h =
     agree_below_at (λ x. engine_mark ((x + 70) % 256) ((x + 208) % 256) == 0) (is_digit decimal_table) 256 b refl h
 
--- The trailing zero bits of the engine's marks, divided by 8, are the number of leading digits.
+-- Trailing zero bits of the engine's marks, divided by 8, count the digits.
 pub marks_counted : (k word : ℕ)
     → count_trailing_zeros (k * 8) (bit_and (bit_or ((word + repeated 70 k) % 2 ^ (k * 8)) ((word + without_48 k) % 2 ^ (k * 8))) (repeated 128 k)) / 8
     ≡ run_len decimal_table (low_bytes k word)
@@ -185,7 +178,7 @@ marks_counted k word =
 
 -- ---- The word with 48 subtracted from each byte
 
--- A byte minus 48 is 0 exactly if the byte is the digit zero.
+-- A byte minus 48 is 0 exactly for the digit zero.
 lowered_zero : (b : ℕ) → b < 256 → ((b + 208) % 256 == 0) ≡ is_zero decimal_table b
 lowered_zero b h = agree_below_at (λ x. (x + 208) % 256 == 0) (is_zero decimal_table) 256 b refl h
 
@@ -193,8 +186,7 @@ lowered_zero b h = agree_below_at (λ x. (x + 208) % 256 == 0) (is_zero decimal_
 zero_is_digit : (b : ℕ) → b < 256 → is_zero decimal_table b ≡ true → is_digit decimal_table b ≡ true
 zero_is_digit b h e = grind (arith, nat_tests)
 
--- The number of zeros that a word begins with is the number of bytes of 0 that it begins with after
--- the subtraction.
+-- After the subtraction, leading bytes of 0 count the zeros.
 lowered_zeros : (k word : ℕ) → prefix_len (λ b. b == 0) (digits_l 256 k (word + without_48 k)) ≡ prefix_len (is_zero decimal_table) (digits_l 256 k word)
 lowered_zeros zero word = refl
 lowered_zeros (suc k) word =
@@ -206,7 +198,7 @@ lowered_zeros (suc k) word =
     ∙ run_goes_on (is_zero decimal_table byte) now (prefix_len (is_zero decimal_table) (digits_l 256 k (word / 256)))
     (λ e. ap (λ x. prefix_len (λ b. b == 0) (digits_l 256 k x)) (lowered.rest k word (zero_is_digit byte fits e)) ∙ lowered_zeros k (word / 256))
 
--- The trailing zero bits of the difference, divided by 8, are the number of leading zeros.
+-- Trailing zero bits of the difference, divided by 8, count the zeros.
 pub lowered_zeros_counted : (k word : ℕ) → count_trailing_zeros (k * 8) ((word + without_48 k) % 2 ^ (k * 8)) / 8 ≡ zeros decimal_table (low_bytes k word)
 unfolding low_bytes
 lowered_zeros_counted k word =
@@ -214,23 +206,22 @@ lowered_zeros_counted k word =
     ∙ ap (prefix_len (λ b. b == 0)) (digits_cut 8 k (word + without_48 k))
     ∙ lowered_zeros k word
 
--- If a list begins with at least n + 1 elements that pass a test, the first one passes, and at
--- least n more that pass follow it.
-first_digit : (t : Bool) (n m : ℕ) → suc n ≤ cond t (1 + m) 0 → (t ≡ true) × (n ≤ m)
-first_digit true n m h = (refl, omega arith)
-first_digit false n m h = absurd (omega arith)
+-- If n + 1 leading elements pass a test, the first does, and n after it.
+pub first_passes : (t : Bool) (n m : ℕ) → suc n ≤ cond t (1 + m) 0 → (t ≡ true) × (n ≤ m)
+first_passes true n m h = (refl, omega arith)
+first_passes false n m h = absurd (omega arith)
 
 -- The lower half of a digit's byte is the byte minus 48.
 lower_half : (b : ℕ) → is_digit decimal_table b ≡ true → bit_and b 15 ≡ (b + 208) % 256
 lower_half b digit = and_mask b 4 ∙ (let range = digit_in_range b digit in omega arith)
 
--- If the lowest k bytes are digits, subtracting 48 from each leaves their lower halves.
+-- If the lowest k bytes are digits, subtracting 48 leaves their lower halves.
 lowered_digits : (j k word : ℕ) → k ≤ prefix_len (is_digit decimal_table) (digits_l 256 (k + j) word)
     → (word + without_48 (k + j)) % 2 ^ (k * 8) ≡ bit_and (word % 2 ^ (k * 8)) (repeated 15 k)
 lowered_digits j zero word digits = omega (arith, and_zero_r (word % 2 ^ (zero * 8)))
 lowered_digits j (suc k) word digits =
     let byte = word % 256 in
-    let passes = first_digit (is_digit decimal_table byte) k (prefix_len (is_digit decimal_table) (digits_l 256 (k + j) (word / 256))) (rw (suc-add k j) at digits) in
+    let passes = first_passes (is_digit decimal_table byte) k (prefix_len (is_digit decimal_table) (digits_l 256 (k + j) (word / 256))) (rw (suc-add k j) at digits) in
     let bits : suc k * 8 ≡ k * 8 + 8 = suc-mul k 8 in
     let lower = word + without_48 (suc (k + j)) in
     ap (λ n. (word + without_48 n) % 2 ^ (suc k * 8)) (suc-add k j)
@@ -242,8 +233,7 @@ lowered_digits j (suc k) word digits =
     ∙ ap (λ x. bit_and x (repeated 15 (suc k))) (sym (mod-pow-add word (k * 8) 8))
     ∙ ap (λ e. bit_and (word % 2 ^ e) (repeated 15 (suc k))) (sym bits)
 
--- The mask that keeps the lower halves and the shift up by whole bytes can be applied in either
--- order.
+-- The mask of the lower halves and a shift by whole bytes can be applied in either order.
 shifted_halves : (z k word : ℕ) → bit_and word (repeated 15 k) * 2 ^ (z * 8) ≡ bit_and (word * 2 ^ (z * 8)) (repeated 15 (z + k))
 shifted_halves zero k word =
     let one : bit_and word (repeated 15 k) * 2 ^ (zero * 8) ≡ bit_and word (repeated 15 k) = omega arith in
@@ -256,8 +246,7 @@ shifted_halves (suc z) k word =
     ∙ omega (arith, shifted_halves z k word, and_block 8 (word * 2 ^ (z * 8)) (repeated 15 (z + k)) 0 15 (lit< tt) (lit< tt))
     ∙ ap₂ (λ x n. bit_and x (repeated 15 n)) (sym next) (sym (suc-add z k))
 
--- Shifting a number by z bits and then cutting it to j + z bits is the same as cutting it to j bits
--- and then shifting it by z bits.
+-- A cut to j + z bits after a shift by z bits is a cut to j bits before it.
 pub shift_cut : (a j z : ℕ) → a * 2 ^ z % 2 ^ (j + z) ≡ a % 2 ^ j * 2 ^ z
 shift_cut a j z =
     let p = 2 ^ z in
@@ -266,9 +255,8 @@ shift_cut a j z =
     let low : a * p % p ≡ 0 = ap (λ x. x % p) none ∙ mod-mul-add a p 0 (pow_pos z) in
     mod-pow-add (a * p) j z ∙ ap₂ (λ x y. x % 2 ^ j * p + y) high low ∙ omega arith
 
--- If the lowest `len` bytes of an 8-byte word are digits, shifting them to the top of the word
--- gives the same result whether 48 is subtracted from each or each is masked to its lower half. So
--- the engine may use the subtraction instead of the mask.
+-- For digits that are shifted to the top of the word, subtracting 48 from each is masking each to
+-- its lower half.
 pub lowered_at_top : (len word : ℕ) → len ≤ 8 → len ≤ run_len decimal_table (low_bytes 8 word)
     → (word + without_48 8) % 2 ^ 64 * 2 ^ (64 - 8 * len) % 2 ^ 64 ≡ bit_and (word * 2 ^ (64 - 8 * len) % 2 ^ 64) (repeated 15 8)
 unfolding low_bytes
@@ -288,8 +276,7 @@ lowered_at_top len word few digits =
     ∙ shifted_halves z len (word % 2 ^ (len * 8))
     ∙ ap₂ (λ x n. bit_and x (repeated 15 n)) (sym (cut word)) (add_comm z len ∙ all)
 
--- So each byte of the shifted word is below 16, and the weighted sum of the word is that of the
--- digits.
+-- So each byte of the shifted word is below 16, and its weighted sum is that of the digits.
 pub lowered_value : (len word ones : ℕ) → len ≤ 8 → len ≤ run_len decimal_table (low_bytes 8 word) → ones ≡ (word + without_48 8) % 2 ^ 64 * 2 ^ (64 - 8 * len) % 2 ^ 64
     → (bit_and ones (repeated 15 8) ≡ ones) × (low_value (low_bytes 8 ones) ≡ low_value (low_bytes len word))
 unfolding low_bytes
@@ -301,7 +288,7 @@ lowered_value len word ones few digits is =
           ∙ shifted_value (64 - 8 * len) 8 len word (omega arith) few,
     )
 
--- A shift in two steps, the second by one byte, is one shift.
+-- A shift in two steps is one shift.
 pub shifted_twice : (a len : ℕ) → len < 8 → a * 2 ^ (56 - 8 * len) % 2 ^ 64 * 2 ^ 8 % 2 ^ 64 ≡ a * 2 ^ (64 - 8 * len) % 2 ^ 64
 shifted_twice a len few =
     let p = 2 ^ (56 - 8 * len) in

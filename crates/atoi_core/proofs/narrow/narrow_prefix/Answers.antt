@@ -1,6 +1,4 @@
--- If zeros are not skipped, or the first window reports none, `Skipped` holds after the first
--- window, just as after a loop that loads only this one. If the body is not too long, the first
--- window then decides the answer.
+-- A first window that reports no zeros to skip is the last one, and decides.
 use Rattle.std.proofs.Common.{◌≡◌, ◌≤◌, ℕ, Bool, false, not, ◌&&◌, nat_lt, inl, inr, sym, ◌∙◌, ltb-false, arith}
 use Rattle.atoi_core.proofs.lemmas.Windows.{Skipped, Skipped-at_once, Skipped-first, Skipped-one}
 use Rattle.atoi_core.proofs.lemmas.LoopAnswers.{narrow_after_skip, answers_empty}
@@ -17,8 +15,7 @@ returns-then-window-eq0-clause-answer g c =
 few : (skip : Bool) (digits : ℕ) → false ≡ (not skip && nat_lt 16 digits) → skip ≡ false → digits ≤ 16
 few skip digits short counts = ltb-false 16 digits (rw counts at (sym short))
 
--- If the first window reports no zeros, or zeros are not skipped, `Skipped` holds after this
--- window.
+-- What holds after the window.
 last : (g : _) (c : After-answer_at g)
     → Skipped g.E.Engine.table c.args.skip c.args.s.now 0 c.args.steps.now c.window-window.new.steps c.window-window.result
 last g c =

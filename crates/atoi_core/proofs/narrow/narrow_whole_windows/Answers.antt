@@ -1,4 +1,4 @@
--- The window of a short slice holds the whole run. For a long slice, the pair decides.
+-- The window of a short slice holds the whole run.
 use Rattle.std.proofs.Common.{◌<◌, true, ◌∙◌, arith}
 use Rattle.std.proofs.lemmas.List.Sums.{prefix_len-le-length}
 use Rattle.atoi_core.specs.Digit.{is_digit}

@@ -1,5 +1,4 @@
--- If no byte is marked, all eight are digits. Otherwise the bytes before the first mark are
--- counted.
+-- The bytes before the first mark are counted.
 use Rattle.std.proofs.Common.{◌/◌, sym, ap, ◌∙◌}
 use Rattle.std.specs.Int.Count.{count_trailing_zeros}
 use Rattle.atoi_core.proofs.lemmas.WordRuns.{marks_counted}

@@ -1,5 +1,4 @@
--- One word holds the first 8 bytes. The other one holds the next 8, or those that are left if there
--- are fewer. Together the two words give the window of 16 bytes.
+-- Two words, of which the first is full, give the window of 16 bytes.
 use Rattle.std.proofs.Common.{◌≡◌, ℕ, ◌+◌, ◌*◌, ◌^◌, ◌<◌, ◌∙◌, ap, ap₂, sym, drop, take, ◌++◌, get_or, arith}
 use Rattle.atoi_core.specs.Digit.{decimal_table}
 use Rattle.atoi_core.specs.Run.{run_len, zeros}

@@ -1,5 +1,4 @@
--- If fewer than eight bytes are left from index `at` on, they are the highest bytes of the word of
--- the last eight.
+-- Fewer than eight bytes are the highest of the last eight.
 use Rattle.std.proofs.Common.{◌∙◌, ap, ◌+◌, ◌/◌, ◌-◌, ◌*◌, ◌^◌, length}
 use Rattle.atoi_core.proofs.lemmas.LoadedWords.{last_bytes}
 use Rattle.atoi_core.proofs.word_engine.load_from.Goals as goal

@@ -1,5 +1,4 @@
--- If a short slice is not empty, the code makes a word of its bytes, with as many zeros before them
--- as fill the word to 8 bytes. The window of the slice follows from this word.
+-- The window follows from the word that is filled with zeros.
 use Rattle.std.proofs.Common.{◌≡◌, ◌+◌, ◌-◌, ◌++◌, ◌∙◌, refl, sym, ap₂, length, replicate, arith}
 use Rattle.atoi_core.specs.Digit.{decimal_table}
 use Rattle.atoi_core.specs.Run.{run_len}

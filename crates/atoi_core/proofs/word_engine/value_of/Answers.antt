@@ -1,4 +1,4 @@
--- Subtracting 48 from a digit gives the same byte as masking it to its lower half.
+-- Subtracting 48 from a digit is masking it to its lower half.
 use Rattle.std.proofs.Common.{refl, ◌∙◌}
 use Rattle.atoi_core.proofs.lemmas.WordRuns.{lowered_value}
 use Rattle.atoi_core.proofs.word_engine.value_of.Goals as goal

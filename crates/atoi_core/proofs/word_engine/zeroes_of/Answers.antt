@@ -1,5 +1,4 @@
--- The code subtracts 48 from each byte. The result begins with as many bytes of 0 as the word
--- begins with zeros.
+-- The subtraction makes a zero the byte 0.
 use Rattle.atoi_core.proofs.lemmas.WordRuns.{lowered_zeros_counted}
 use Rattle.atoi_core.proofs.word_engine.zeroes_of.Goals as goal
 

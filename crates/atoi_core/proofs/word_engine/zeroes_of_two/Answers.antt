@@ -1,4 +1,4 @@
--- The zeros of the second word are added only if the first consists of zeros.
+-- Zeros of the second word follow only if the first consists of zeros.
 use Rattle.std.proofs.Common.{◌+◌, ◌∙◌, ap, sym}
 use Rattle.std.proofs.lemmas.Bool.{eq-eqb, ne_eqb}
 use Rattle.atoi_core.proofs.lemmas.LoadedWords.{zeros_of_two}

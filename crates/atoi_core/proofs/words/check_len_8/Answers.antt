@@ -1,5 +1,4 @@
--- It makes no difference whether the sum is masked before the shift or after it. The rest is the
--- lemma `digits_counted` for eight bytes.
+-- The mask may be applied before the shift or after it.
 use Rattle.std.proofs.Common.{◌+◌, ◌/◌, ◌%◌, ◌^◌, ap, ◌∙◌}
 use Rattle.std.proofs.lemmas.Nat.{and_shr}
 use Rattle.std.specs.Int.Bits.{bit_and, bit_or, bit_xor}

@@ -1,4 +1,4 @@
--- The result is the word of the first two bytes, or 0 if the slice has fewer.
+-- The word of the bytes, or 0.
 use Rattle.std.proofs.Common.{◌∙◌, ap, take, arith}
 use Rattle.std.proofs.lemmas.List.{length-take}
 use Rattle.std.specs.Int.{from_le_bytes, w16}

@@ -1,4 +1,4 @@
--- Both branches return the word of the first eight bytes, or of all bytes if there are fewer.
+-- Both branches return the word of at most eight bytes.
 use Rattle.std.proofs.Common.{◌∙◌, ap, sym, arith}
 use Rattle.std.proofs.lemmas.List.{take_all}
 use Rattle.atoi_core.specs.Words.{word_of}

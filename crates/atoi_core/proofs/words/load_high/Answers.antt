@@ -1,4 +1,4 @@
--- The overlapping parts together make the word whose highest bytes are those of the slice.
+-- The overlapping parts make the word.
 use Rattle.std.proofs.Common.{◌-◌, ◌*◌, ◌%◌, ◌^◌, ◌<◌, ◌∙◌, ap, inl, inr, length, take, get_or, ℕ, arith}
 use Rattle.std.proofs.lemmas.Bool.{cases_lt}
 use Rattle.std.specs.Int.Bits.{bit_or}

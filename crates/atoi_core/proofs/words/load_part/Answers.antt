@@ -1,4 +1,4 @@
--- The shift drops the bytes of 0 that are below those of the slice.
+-- The shift drops the bytes of 0 below the slice.
 use Rattle.std.proofs.Common.{◌-◌, ◌*◌, ◌/◌, ◌^◌, ◌∙◌, ap, length, arith}
 use Rattle.std.proofs.lemmas.Bool.Decides.{nat_tests}
 use Rattle.atoi_core.proofs.lemmas.LoadedWords.{word_of_none, shifted_back}

@@ -1,5 +1,4 @@
--- Four rounds compute the weighted sum of the bytes that the shift leaves. The sum is bounded,
--- because there are at most 16 of these bytes.
+-- Four rounds compute the weighted sum.
 use Rattle.std.proofs.Common.{arith}
 use Rattle.atoi_core.proofs.lemmas.WordFields.{sum_16, sum_most}
 use Rattle.atoi_core.proofs.words.process_16.Goals as goal

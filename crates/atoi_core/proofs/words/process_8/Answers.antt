@@ -1,5 +1,4 @@
--- Three rounds compute the weighted sum of the bytes that the shift leaves. The sum is bounded,
--- because there are at most 8 of these bytes.
+-- Three rounds compute the weighted sum.
 use Rattle.std.proofs.Common.{arith}
 use Rattle.atoi_core.proofs.lemmas.WordFields.{sum_8, sum_most}
 use Rattle.atoi_core.proofs.words.process_8.Goals as goal

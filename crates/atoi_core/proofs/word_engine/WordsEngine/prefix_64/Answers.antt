@@ -1,6 +1,5 @@
--- If there are no zeros to skip, `Skipped` holds after the first window, just as after a loop that
--- loads only this one. The answers follow from that, and if the first window is full, also from the
--- window of the 8 bytes after it.
+-- A first window that reports no zeros to skip is the last one. If it is full, it decides with the
+-- 8 bytes after it.
 use Rattle.std.proofs.Common.{◌≡◌, ◌⊎◌, ◌≤◌, true, false, inl, inr, refl, ◌∙◌, arith, drop}
 use Rattle.std.proofs.lemmas.List.Sums.{prefix_len-le-length}
 use Rattle.atoi_core.specs.Digit.{decimal_table, is_digit}

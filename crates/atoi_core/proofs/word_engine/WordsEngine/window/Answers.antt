@@ -1,4 +1,4 @@
--- If the run ends within the first eight bytes, these determine the window of 16 bytes.
+-- A run that ends within eight bytes determines the window of 16.
 use Rattle.std.proofs.Common.{ℕ, ◌<◌, ◌∙◌, get_or}
 use Rattle.atoi_core.proofs.lemmas.LoadedWords.{loaded_run, loaded_sum, window_short}
 use Rattle.atoi_core.proofs.word_engine.WordsEngine.window.Goals as goal

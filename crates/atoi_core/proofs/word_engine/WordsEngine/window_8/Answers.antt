@@ -1,4 +1,4 @@
--- The window of the loaded word is the window of the bytes that were loaded.
+-- The window of the word is that of its bytes.
 use Rattle.atoi_core.proofs.lemmas.LoadedWords.{loaded_window}
 use Rattle.atoi_core.proofs.word_engine.WordsEngine.window_8.Goals as goal
 
