@@ -1,5 +1,3 @@
-//! This file names the *engine* of this crate. An engine is an implementation of the reads that the
-//! parsers make, and this one reads into the lanes of vectors of `std::simd`. The traits name only
-//! `DefaultEngine`, so the engine is chosen here.
+//! The engine that the traits name.
 
 pub(crate) type DefaultEngine = crate::lanes::Lanes;

@@ -1,7 +1,4 @@
-//! The engine `Lanes`, which reads sixteen bytes at once into vector lanes. An *engine* is an
-//! implementation of the reads that a parse makes. The file uses `kernels`, and `wide_lanes` for
-//! types of 64 and 128 bits. From `atoi_core` it uses `Engine`, `Window`, `Steps` and
-//! `AtoiSimdError`.
+//! The engine `Lanes`, which reads sixteen bytes at once into vector lanes.
 ghost use Rattle.std.specs.Prelude.{◌≡◌, ◌+◌};
 ghost use Rattle.std.proofs.Common.{arith};
 ghost use Rattle.std.proofs.lemmas.Bool.Decides.{nat_tests};
@@ -14,20 +11,15 @@ use crate::wide_lanes::{prefix_64_lanes, prefix_128_lanes};
 use atoi_core::{AtoiSimdError, Engine, Steps, Window};
 use std::simd::prelude::*;
 
-/// The engine that reads sixteen bytes at once, into the lanes of a vector. An *engine* is an
-/// implementation of the reads that a parse makes. For types of 64 and 128 bits, `Lanes` also reads
-/// 32 bytes at once, into two vectors. Its digits are the decimal ones, `b'0'` to `b'9'`.
+/// The engine that reads sixteen bytes at once into the lanes of a vector, and 32 for types of 64
+/// and 128 bits. Its digits are `b'0'` to `b'9'`.
 pub struct Lanes;
 
-// Returns the window of the bytes in `lanes`. A *window* says how many digits its bytes begin with,
-// what number these digits spell, and how many zeros the bytes begin with. If the number of digits
-// is not `size`, the window reports 0 zeros. The callers load at most `size` bytes, and the other
-// lanes are 0, which is no digit.
+// The window of `size` bytes, from lanes that hold at most these; the other lanes are 0.
 fn lane_window(lanes: u8x16, size: u32) -> Window
     ensures { result ≡ lane_window size lanes }
 {
     let len = len_lanes(lanes);
-    // Zeros are counted only if all `size` bytes are there and are digits, as `Window` documents.
     let number = sum_lanes(lanes, len);
     let zeroes = if len == size { zeroes_lanes(lanes) } else { 0 };
     Window {
@@ -40,10 +32,7 @@ fn lane_window(lanes: u8x16, size: u32) -> Window
 impl Engine for Lanes {
     ghost table = { decimal_table };
 
-    /// Returns the window of the first 16 bytes of `s`, or of all its bytes if there are fewer. The
-    /// window says how many digits these bytes begin with and what number the digits spell. If all
-    /// 16 bytes are there and are digits, the field `zeroes` of the window is the number of leading
-    /// zeros. Otherwise this field is 0. Adds one step.
+    /// The window of 16 bytes.
     #[inline(always)]
     fn window(s: &[u8], steps: &mut Steps) -> Window {
         steps.tick();
@@ -58,8 +47,7 @@ impl Engine for Lanes {
         lane_window(load_lanes(s), 16)
     }
 
-    /// Returns the window of the first 8 bytes of `s`, or of all its bytes if there are fewer.
-    /// Leading zeros are counted only if all 8 bytes are there and are digits. Adds one step.
+    /// The window of 8 bytes.
     #[inline(always)]
     fn window_8(s: &[u8], steps: &mut Steps) -> Window {
         steps.tick();

@@ -1,14 +1,5 @@
-//! The ten functions of `atoi_simd`, computed with vectors of sixteen bytes from `std::simd`. The
-//! functions have the same names, signatures and results as those of `atoi_simd`.
-//!
-//! Callers find this crate as the module `lanes` of `atoi_simd`, for instance in the call
-//! `atoi_simd::lanes::parse::<u64, false, false>(b"8080")`. The page of `atoi_simd` says what the
-//! ten functions do, and when to use this module.
-//!
-//! An *engine* is an implementation of the reads that the parsers of `atoi_core` need. The engine
-//! of this crate is `Lanes`, which can be passed to those parsers as their type parameter `E`.
-//! `Lanes` is made of the module `kernels` and the functions `prefix_64_lanes` and
-//! `prefix_128_lanes`. The crate uses `atoi_core`.
+//! The ten functions of `atoi_simd`, with the same results, computed with vectors of sixteen bytes.
+//! Callers find them in the module `lanes` of `atoi_simd`.
 #![tactic(auto)]
 
 mod default_engine;

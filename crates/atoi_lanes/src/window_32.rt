@@ -1,6 +1,4 @@
-//! Windows of 32 bytes, which are read into two vectors of sixteen bytes each. The file uses
-//! `std::simd` and `kernels`. From `atoi_core` it uses `Steps`, `append_digits` and the law
-//! `reading_decides`.
+//! Windows of 32 bytes, in two vectors of sixteen.
 ghost use Rattle.std.specs.Prelude.{◌≡◌, ◌+◌, ◌*◌, ◌^◌, ◌≤◌, ◌==◌, ◌++◌, if◌then◌else◌, take, drop, replicate};
 ghost use Rattle.atoi_core.specs.Digit.{decimal_table};
 ghost use Rattle.atoi_core.specs.Reading.{Reading};
@@ -12,20 +10,18 @@ use atoi_core::Steps;
 use atoi_core::powers::append_digits;
 use std::simd::prelude::*;
 
-/// The *window* of the first 32 bytes of a slice, or of all its bytes if there are fewer. A window
-/// is what one read reports about these bytes.
+/// What one read reports about the first 32 bytes of a slice, or about all if there are fewer.
 #[derive(Clone, Copy)]
 pub(crate) struct Window32 {
     /// How many digits the bytes begin with.
     pub(crate) len: u32,
     /// How many zeros the bytes begin with.
     pub(crate) zeroes: u32,
-    /// The number that the first `len` bytes, which are digits, spell.
+    /// The number that these digits spell.
     pub(crate) number: u128,
 }
 
-/// Returns the window of the first 32 bytes of `s`, or of all its bytes if there are fewer. Adds
-/// one step.
+/// The window of 32 bytes.
 #[inline(always)]
 pub(crate) fn window_32(s: &[u8], steps: &mut Steps) -> Window32
     ensures reading { Reading decimal_table 32 s.now result.len result.zeroes result.number }
@@ -50,10 +46,8 @@ pub(crate) fn window_32(s: &[u8], steps: &mut Steps) -> Window32
     }
 }
 
-// Returns the 16 bytes after the first 16 of `s` as lanes, or all bytes after the first 16 if there
-// are fewer. A lane whose byte is missing is 0. If `s` has 16 to 31 bytes, its last 16 bytes
-// contain all bytes after the first 16. A shuffle then moves the bytes after the first 16 to the
-// start of the vector. One shuffle serves all these lengths, without a branch on the length.
+// The 16 bytes after the first 16, as `load_lanes` has them. The last 16 of 16 to 31 bytes contain
+// them, and one shuffle, without a branch on the length, moves them to the start.
 fn load_after_16(s: &[u8]) -> u8x16
     ensures { result ≡ padded_start 16 (drop 16 s.now) }
 {
@@ -66,9 +60,8 @@ fn load_after_16(s: &[u8]) -> u8x16
     shuffle(u8x16::from_slice(&s[s.len() - 16..]), 48 - s.len())
 }
 
-// Returns how many zeros the lanes of `first`, followed by those of `second`, begin with, from 0 to
-// 32. A zero is the byte 48. Most slices begin with no zero, so the first lane is tested before the
-// others.
+// How many zeros the lanes of both begin with. Most slices begin with none, so the first lane is
+// tested first.
 fn zeroes_of_two(first: u8x16, second: u8x16) -> u32
     ensures { result ≡ (if zeros decimal_table first == 16 then 16 + zeros decimal_table second
         else zeros decimal_table first) }
@@ -84,8 +77,7 @@ fn zeroes_of_two(first: u8x16, second: u8x16) -> u32
     }
 }
 
-// Returns the number that the lanes of `first`, followed by the first `more` lanes of `second`,
-// spell in decimal. All these lanes must be digits.
+// The number that the lanes of `first` and then the first `more` of `second` spell.
 #[inline(always)]
 fn number_in_two(first: u8x16, second: u8x16, more: u32) -> u128
     requires within { more ≤ 16 }

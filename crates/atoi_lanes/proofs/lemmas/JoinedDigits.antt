@@ -1,14 +1,14 @@
 -- Neighbouring digits of base t, joined to digits of base t * t, spell the same number. Three
 -- products over the lanes join sixteen digits to two of base 10^8.
-use Rattle.std.proofs.Common.{◌≡◌, ℕ, zero, suc, ◌+◌, ◌*◌, ◌/◌, ◌%◌, ◌^◌, ◌<◌, ◌≤◌, List, [], ◌∷◌, map, length, take, drop, get_or, refl, sym, ap, ap₂, subst, ◌∙◌, arith, Fits, w16}
+use Rattle.std.proofs.Common.{◌≡◌, ℕ, zero, suc, ◌+◌, ◌*◌, ◌/◌, ◌%◌, ◌^◌, ◌<◌, ◌≤◌, List, [], ◌∷◌, map, length, take, get_or, refl, sym, ap, ap₂, subst, ◌∙◌, arith, Fits, w16}
+use Rattle.std.specs.List.{range_with_len}
 use Rattle.std.specs.Int.Bits.{bit_and}
 use Rattle.std.proofs.Math.Arith.{digits_lt}
 use Rattle.std.proofs.Math.Nat.{pow-zero, pow-suc, mul-le-mul_right, div-add-mod, div-lt_iff_lt-mul}
-use Rattle.std.proofs.lemmas.List.{length-drop, take-append-drop, take_all}
-use Rattle.std.proofs.lemmas.Nat.{mul-pow, pow-add, div-mul-add, mod-mul-add, and_mask}
-use Rattle.std.proofs.lemmas.Simd.{Each1-chunk, Each1-weaker}
+use Rattle.std.proofs.lemmas.Nat.{div-mul-add, mod-mul-add, and_mask}
+use Rattle.std.proofs.lemmas.Simd.{Each1-weaker}
 use Rattle.atoi_core.specs.Run.{value}
-use Rattle.atoi_core.proofs.lemmas.Runs.{value-append}
+use Rattle.atoi_lanes.proofs.lemmas.Shuffles.{listed}
 use Rattle.atoi_lanes.specs.Lanes.{itself, paired}
 use lib.Lanes.{Each1, number_l, digits_l, dots}
 
@@ -25,69 +25,24 @@ length-paired t m (x ∷ []) long = absurd (omega arith)
 length-paired t zero (x ∷ y ∷ rest) long = absurd (omega arith)
 length-paired t (suc m) (x ∷ y ∷ rest) long = ap suc (length-paired t m rest (omega arith))
 
--- The number that digits spell in base t, the highest first.
-abbrev in_base : ℕ → List ℕ → ℕ
-in_base t [] = 0
-in_base t (x ∷ xs) = x * t ^ length xs + in_base t xs
+-- Sixteen digits, joined three times, are two numbers of eight digits. The first is the value of
+-- the first eight digits, and both together are the value of all.
+abbrev Spelled : List ℕ → Type 0
+Spelled xs =
+    let eights = paired 10000 (paired 100 (paired 10 xs)) in
+    Each1 (λ x. x < 10) xs → (get_or eights 0 0 ≡ value itself (take 8 xs)) × (get_or eights 0 0 < 100000000) × (get_or eights 1 0 < 100000000)
+    × (get_or eights 0 0 * 100000000 + get_or eights 1 0 ≡ value itself xs)
 
--- In base ten, `in_base` returns the value that the specification defines.
-in_ten : (xs : List ℕ) → in_base 10 xs ≡ value itself xs
-in_ten [] = refl
-in_ten (x ∷ xs) = ap (λ n. x * 10 ^ length xs + n) (in_ten xs)
+spelled_16 : (f : ℕ → ℕ) → Spelled (map f (range_with_len 0 16))
+spelled_16 f below = (omega arith, omega arith, omega arith, omega arith)
 
--- If the number of digits is even, the joined digits spell in base t * t the number that the digits
--- spell in base t.
-number-paired : (t m : ℕ) (xs : List ℕ) → length xs ≡ m + m → in_base (t * t) (paired t xs) ≡ in_base t xs
-number-paired t m [] long = refl
-number-paired t m (x ∷ []) long = absurd (omega arith)
-number-paired t zero (x ∷ y ∷ rest) long = absurd (omega arith)
-number-paired t (suc m) (x ∷ y ∷ rest) long =
-    let power : (t * t) ^ length (paired t rest) ≡ t ^ length rest =
-    ap (λ k. (t * t) ^ k) (length-paired t m rest (omega arith)) ∙ mul-pow t t m ∙ sym (pow-add t m m) ∙ ap (λ k. t ^ k) (omega arith) in
-    let next : t ^ suc (length rest) ≡ t ^ length rest * t = pow-suc t (length rest) in
-    omega (arith, ap (λ p. (x * t + y) * p) power, ap (λ p. x * p) next, number-paired t m rest (omega arith))
-
--- The number that two digits of base t spell is the first digit times t, plus the second digit.
--- Both digits are below t.
-number-two : (t : ℕ) (xs : List ℕ) → length xs ≡ 2 → Each1 (λ x. x < t) xs → (get_or xs 0 0 < t) × ((get_or xs 1 0 < t) × (get_or xs 0 0 * t + get_or xs 1 0 ≡ in_base t xs))
-number-two t [] long h = absurd (omega arith)
-number-two t (x ∷ []) long h = absurd (omega arith)
-number-two t (x ∷ y ∷ []) long h = (h.0, (h.1.0, omega (arith, pow-suc t 0, pow-zero t, ap (λ p. x * p) (pow-suc t 0), ap (λ p. y * p) (pow-zero t), ap (λ p. x * (p * t)) (pow-zero t))))
-number-two t (x ∷ y ∷ z ∷ rest) long h = absurd (omega arith)
-
--- If 16 digits are joined to two numbers of eight digits, both numbers are below 10^8, and the
--- first times 10^8 plus the second is the value of all 16 digits.
-pub by_eights : (digits : List ℕ) → length digits ≡ 16 → Each1 (λ x. x < 10) digits → (eights : List ℕ) → eights ≡ paired 10000 (paired 100 (paired 10 digits))
-    → (get_or eights 0 0 < 100000000) × ((get_or eights 1 0 < 100000000) × (get_or eights 0 0 * 100000000 + get_or eights 1 0 ≡ value itself digits))
-by_eights digits long below eights made =
-    let pairs = length-paired 10 8 digits long in
-    let fours = length-paired 100 4 (paired 10 digits) pairs in
-    let two = length-paired 10000 2 (paired 100 (paired 10 digits)) fours in
-    let small = paired-below 10000 _ (paired-below 100 _ (paired-below 10 digits below)) in
-    let number = number-two 100000000 eights (ap length made ∙ two) (subst (Each1 (λ x. x < 100000000)) (sym made) small) in
-    (number.0, (number.1.0, number.1.1 ∙ ap (in_base 100000000) made ∙ number-paired 10000 2 _ fours ∙ number-paired 100 4 _ pairs ∙ number-paired 10 8 digits long ∙ in_ten digits))
-
--- Digits below ten spell a number below 10^n.
-value-digits : (xs : List ℕ) → Each1 (λ x. x < 10) xs → value itself xs < 10 ^ length xs
-value-digits [] h = omega arith
-value-digits (x ∷ xs) h = omega (arith, h.0, value-digits xs h.1, pow-suc 10 (length xs), mul-le-mul_right (10 ^ length xs) h.0)
-
--- The first of the two numbers is the value of the first eight digits.
-pub by_first_eight : (digits : List ℕ) → length digits ≡ 16 → Each1 (λ x. x < 10) digits → (eights : List ℕ) → eights ≡ paired 10000 (paired 100 (paired 10 digits))
-    → get_or eights 0 0 ≡ value itself (take 8 digits)
-by_first_eight digits long below eights made =
-    let rest = drop 8 digits in
-    let all : take 8 rest ≡ rest = take_all 8 rest (omega (arith, length-drop 8 digits)) in
-    let last = value-digits rest (subst (Each1 (λ x. x < 10)) all (Each1-chunk _ 8 8 digits below)) in
-    let eight : length rest ≡ 8 = omega (arith, length-drop 8 digits) in
-    let power : 10 ^ length rest ≡ 10 ^ 8 = ap (λ n. 10 ^ n) eight in
-    let split = ap (value itself) (sym (take-append-drop 8 digits)) ∙ value-append itself (take 8 digits) rest in
-    omega (arith, by_eights digits long below eights made, last, power, split, ap (λ p. value itself (take 8 digits) * p) power)
+pub spelled : (xs : List ℕ) → length xs ≡ 16 → Spelled xs
+spelled xs long = subst Spelled (listed 16 0 xs (sym long)) (spelled_16 (λ i. get_or xs i 0))
 
 -- ---- Joining the two halves of each lane
 
 -- The number that n digits of base p spell is below p^n.
-pub number-lt : (p : ℕ) (xs : List ℕ) → Each1 (λ x. x < p) xs → number_l p xs < p ^ length xs
+number-lt : (p : ℕ) (xs : List ℕ) → Each1 (λ x. x < p) xs → number_l p xs < p ^ length xs
 number-lt p [] h = omega (arith, pow-zero p)
 number-lt p (x ∷ xs) h = omega (arith, h.0, pow-suc p (length xs), mul-le-mul_right p (number-lt p xs h.1))
 

@@ -1,9 +1,7 @@
 -- The shuffles: the lanes from a place of a vector between lanes of 0.
-use Rattle.std.proofs.Common.{◌≡◌, ℕ, zero, suc, ◌+◌, ◌-◌, ◌*◌, ◌/◌, ◌<◌, ◌≤◌, ◌||◌, false, cond, List, [], ◌∷◌, ◌++◌, map, length, take, drop, replicate, get_or, refl, sym, ap, ap₂, ◌∙◌, arith, rules, w8}
+use Rattle.std.proofs.Common.{◌≡◌, ℕ, zero, suc, ◌+◌, ◌-◌, ◌*◌, ◌/◌, ◌<◌, ◌≤◌, ◌||◌, cond, List, [], ◌∷◌, ◌++◌, map, length, take, drop, replicate, get_or, refl, sym, ap, ap₂, ◌∙◌, arith, rules, w8}
 use Rattle.std.specs.List.{range_with_len}
 use Rattle.std.proofs.Math.Seq.{drop-append-add, take-append-add}
-use Rattle.std.proofs.lemmas.Bool.{cond-false}
-use Rattle.std.proofs.lemmas.Bool.Decides.{nat_tests}
 use Rattle.std.proofs.lemmas.List.{drop-append-le, drop_all, drop-drop, drop-map, drop-replicate, drop_more, length-drop, length-take, take-append-le, take-map, take-take, take_all}
 use Rattle.std.proofs.lemmas.Simd.{Each1-chunk, SwzOk, SwzOk-from_Each1, length-replicate, swz_l}
 use Rattle.atoi_lanes.specs.Lanes.{padded, padded_start}
@@ -26,16 +24,14 @@ swz-map v i (j ∷ js) few =
     let block : 16 * (i / 16) + j ≡ j = omega arith in
     ap₂ (λ l ls. l ∷ ls) (ap (λ k. cond (leb 128 j) 0 (get_or v k 0)) block) (swz-map v (suc i) js (omega arith))
 
--- Indices in order select all lanes.
-selected-range : (n a : ℕ) (v : List ℕ) → a + n ≡ length v → length v ≤ 16 → map (selected v) (range_with_len a n) ≡ drop a v
-selected-range zero a v all few = sym (drop_all a v (omega arith))
-selected-range (suc n) a v all few =
-    let named : leb 128 a ≡ false = grind (arith, nat_tests) in
-    ap₂ (λ l ls. l ∷ ls) (cond-false _ _ _ named) (selected-range n (a + 1) v (omega arith) few) ∙ sym (drop_more v a 0 (omega arith))
+-- The elements of a list, by their indices.
+pub listed : (n a : ℕ) (v : List ℕ) → a + n ≡ length v → map (λ i. get_or v i 0) (range_with_len a n) ≡ drop a v
+listed zero a v all = sym (drop_all a v (omega arith))
+listed (suc n) a v all = ap (λ ls. get_or v a 0 ∷ ls) (listed n (a + 1) v (omega arith)) ∙ sym (drop_more v a 0 (omega arith))
 
 -- So the whole table selects the vector between lanes of 0.
 selected-shifts : (v : List ℕ) → length v ≡ 16 → map (selected v) shifts ≡ padded v
-selected-shifts v long = ap (λ l. replicate 16 0 ++ (l ++ replicate 16 0)) (selected-range 16 0 v (sym long) (omega arith))
+selected-shifts v long = ap (λ l. replicate 16 0 ++ (l ++ replicate 16 0)) (listed 16 0 v (sym long))
 
 -- The 16 entries of `SHIFTS` from place p on.
 pub shuffled : (p : ℕ) (v : List ℕ) → p ≤ 32 → length v ≡ 16 → swz_l w8 16 v 0 (take 16 (take (48 - p) (drop p shifts))) ≡ take 16 (drop p (padded v))
