@@ -188,16 +188,16 @@ PrefixBegins int =
     (form : SignForm) (skip : Bool) (s : List ℕ) (found : ℤ × ℕ)
     → prefix_call int form skip s ≡ Ok found → BeginsWithDigit (sign_in int form s).body
 
--- The error of a prefix parse is `empty` exactly if the body does not start with a digit. If zeros
--- are skipped, every other error means that all digits at the start of the body are a number that
--- is too large for the type. A slice has only one split into digits and a rest that does not start
--- with a digit.
+-- The error of a prefix parse is `empty` exactly if the body starts with no digits (`none`). If zeros
+-- are skipped, every other error means that all digits at its start are a number too large for the
+-- type. A slice has one split into digits and a rest that does not start with a digit.
 pub record NoneOrTooLarge (int : IntType) : Type 0 where
   pub none : (form : SignForm) (skip : Bool) (s : List ℕ) (reason : Refusal) → prefix_call int form skip s ≡ Err reason
       → (reason ≡ empty) ↔ (run_len decimal_table (sign_in int form s).body ≡ 0)
   pub too_large : (form : SignForm) (s : List ℕ) (reason : Refusal) → prefix_call int form true s ≡ Err reason
       → 0 < run_len decimal_table (sign_in int form s).body
       → IsTooLarge int (sign_in int form s).minus (sign_in int form s).body (run_len decimal_table (sign_in int form s).body)
+  pub begins : (s : List ℕ) → BeginsWithDigit s ↔ (0 < run_len decimal_table s)
   pub one_split : (digits other rest more : List ℕ) → digits ++ rest ≡ other ++ more → AllDigits 10 digits → AllDigits 10 other
       → ¬ BeginsWithDigit rest → ¬ BeginsWithDigit more → (digits ≡ other) × (rest ≡ more)
 

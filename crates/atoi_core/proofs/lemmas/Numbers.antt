@@ -87,6 +87,10 @@ begins_of_run [] some = absurd (omega arith)
 begins_of_run (byte ∷ bytes) some =
     elim (cases_Bool (is_digit decimal_table byte)) [ inl is ↦ digit_in_range byte is | inr not ↦ absurd (omega (arith, rw not at some)) ]
 
+run_of_begins : (s : List ℕ) → BeginsWithDigit s → 0 < run_len decimal_table s
+run_of_begins [] digit = absurd digit
+run_of_begins (byte ∷ bytes) digit = rw (digit_is byte digit.0 digit.1) (omega arith)
+
 -- The law `PrefixBegins`.
 pub prefix_begins : (int : IntType) → PrefixBegins int
 prefix_begins int form skip s found h =
@@ -157,5 +161,6 @@ pub none_or_too_large : (int : IntType) → IsSized int → NoneOrTooLarge int
 none_or_too_large int sized = record {
   none = λ form skip s. is_none int sized form s skip;
   too_large = λ form s reason h some. run_too_large int (sign_in int form s).minus (sign_in int form s).body some (is_above_bound int sized form s reason h some);
+  begins = λ s. (run_of_begins s, begins_of_run s);
   one_split = split_once;
 }
