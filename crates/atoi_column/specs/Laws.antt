@@ -103,13 +103,15 @@ pub record HaveRead (items : List (Result ℤ Flaw)) (numbers : List ℤ) (left 
   pub parts : items ≡ map Ok numbers ++ left
   pub count : length items ≡ length numbers + length left
 
--- How the invariant `HaveRead` is kept when items are read one after another. It holds before the
--- first item, and each value adds one number. If no item is left, all items are numbers. Nothing
--- follows an error, so at an error the items are the numbers read so far and then the error.
+-- How the invariant `HaveRead` is kept: it holds before the first item, and values that are read,
+-- one (`more`) or several at once (`more_values`), are added to the numbers. If no item is left, all
+-- items are numbers. Nothing follows an error.
 pub record ItemsInTurn : Type 0 where
   pub start : (items : List (Result ℤ Flaw)) → HaveRead items [] items
   pub more : (items left after : List (Result ℤ Flaw)) (numbers : List ℤ) (number : ℤ) → HaveRead items numbers left
       → left ≡ Ok number ∷ after → HaveRead items (numbers ++ number ∷ []) after
+  pub more_values : (items left after : List (Result ℤ Flaw)) (numbers values : List ℤ) → HaveRead items numbers left
+      → left ≡ map Ok values ++ after → HaveRead items (numbers ++ values) after
   pub all : (items left : List (Result ℤ Flaw)) (numbers : List ℤ) → HaveRead items numbers left
       → left ≡ [] → items ≡ map Ok numbers
   pub after_error : (int : IntType) (separator : ℕ) (input : List ℕ) (numbers : List ℤ) (flaw : Flaw) (after : List (Result ℤ Flaw))

@@ -10,5 +10,6 @@ pub mod LoopAnswers
 pub mod Bounds
 pub mod Texts
 pub mod Prefixes
+pub mod Numbers
 pub mod SameOutcomes
 pub mod LoadedWords

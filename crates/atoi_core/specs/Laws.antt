@@ -1,6 +1,6 @@
 -- Laws about what the parses return. Each is a statement about the definitions only, and does not
 -- mention how a parse works. A law that speaks of a slice speaks of every slice.
-use Rattle.std.specs.Prelude.{◌≡◌, ◌≢◌, ◌⊎◌, ◌↔◌, ℕ, ◌+◌, ◌-◌, ◌^◌, ◌<◌, ◌≤◌, Bool, true, false, if◌then◌else◌, IsTrue, IsFalse, List, ◌++◌, length, take, drop, replicate, slice_index, All, Option, Some, None, ℤ, pos, neg_ℤ, ◌≤ℤ◌, Result, Ok, Err, IsOk, IfOk, OnErr}
+use Rattle.std.specs.Prelude.{◌≡◌, ◌≢◌, ◌⊎◌, ◌↔◌, ℕ, ◌+◌, ◌-◌, ◌^◌, ◌<◌, ◌≤◌, Bool, true, false, if◌then◌else◌, IsTrue, IsFalse, List, ◌∷◌, ◌++◌, length, take, drop, replicate, slice_index, All, Option, Some, None, ℤ, pos, neg_ℤ, ◌≤ℤ◌, Result, Ok, Err, IsOk, IfOk, OnErr}
 use Rattle.std.specs.Fmt.{decimal, signed_decimal}
 use Rattle.std.specs.Char.{IsAsciiDigit}
 use Rattle.std.specs.Str.Parse.{AllDigits, digits_value}
@@ -13,7 +13,7 @@ use Rattle.atoi_core.specs.declared.error.AtoiSimdError.{AtoiSimdError}
 use Rattle.atoi_core.specs.IntType.{IntType, class_of, bound_of, limit_of}
 use Rattle.atoi_core.specs.Sign.{Sign, sign_of, with_sign}
 use Rattle.atoi_core.specs.Answer.{typed_answer, typed_prefix_answer, whole_answer, prefix_answer, with_more, parse_answer, parse_prefix_answer}
-use Rattle.atoi_core.specs.Text.{IsText, is_minus, DigitsWrite, TextWrites, BeginsWithDigit, PrefixWrites, has_needless_zero}
+use Rattle.atoi_core.specs.Text.{IsText, is_minus, DigitsWrite, TextWrites, BeginsWithDigit, PrefixWrites, IsNumberThen, IsTooLarge, has_needless_zero}
 
 -- How a call gets its sign. Either it looks for a sign at the start of its slice, and accepts a
 -- plus only if `plus` is on. Or it looks for none, and `is_negative` says whether its digits are
@@ -160,6 +160,46 @@ pub record PrefixesAndRests (int : IntType) : Type 0 where
       → s ≡ prefix_bytes ++ rest → Writes int form prefix_bytes number → ¬ BeginsWithDigit rest
       → PrefixWrites (Writes int form) s other count
       → (number ≡ other) × ((take count s ≡ prefix_bytes) × (drop count s ≡ rest))
+
+-- For a byte that is no digit, a slice is a number, that byte and a rest exactly if a prefix writes
+-- the number and the byte and the rest follow it (`exact`). No other prefix writes a number (`cut`),
+-- so there is one number and one rest (`only`).
+pub record NumberThenByte (int : IntType) : Type 0 where
+  pub exact : (form : SignForm) (s : List ℕ) (number : ℤ) (byte : ℕ) (rest : List ℕ) → IsFalse (is_digit decimal_table byte)
+      → IsNumberThen (Writes int form) s number byte rest
+      ↔ ((count : ℕ) × (PrefixWrites (Writes int form) s number count × (drop count s ≡ byte ∷ rest)))
+  pub cut : (form : SignForm) (s : List ℕ) (number other : ℤ) (byte : ℕ) (rest : List ℕ) (count : ℕ) → IsFalse (is_digit decimal_table byte)
+      → IsNumberThen (Writes int form) s number byte rest → PrefixWrites (Writes int form) s other count
+      → (number ≡ other) × (drop count s ≡ byte ∷ rest)
+  pub only : (form : SignForm) (s : List ℕ) (number other : ℤ) (byte : ℕ) (rest more : List ℕ) → IsFalse (is_digit decimal_table byte)
+      → IsNumberThen (Writes int form) s number byte rest → IsNumberThen (Writes int form) s other byte more
+      → (number ≡ other) × (rest ≡ more)
+
+-- A slice writes at most one number.
+abbrev pub OneNumber : IntType → Type 0
+OneNumber int =
+    (form : SignForm) (s : List ℕ) (number other : ℤ)
+    → Writes int form s number → Writes int form s other → number ≡ other
+
+-- If a prefix parse returns a number, its slice begins with a digit, or with the sign that the call
+-- consumes and then a digit.
+abbrev pub PrefixBegins : IntType → Type 0
+PrefixBegins int =
+    (form : SignForm) (skip : Bool) (s : List ℕ) (found : ℤ × ℕ)
+    → prefix_call int form skip s ≡ Ok found → BeginsWithDigit (sign_in int form s).body
+
+-- The error of a prefix parse is `empty` exactly if the body starts with no digits (`none`). If zeros
+-- are skipped, every other error means that all digits at its start are a number too large for the
+-- type. A slice has one split into digits and a rest that does not start with a digit.
+pub record NoneOrTooLarge (int : IntType) : Type 0 where
+  pub none : (form : SignForm) (skip : Bool) (s : List ℕ) (reason : Refusal) → prefix_call int form skip s ≡ Err reason
+      → (reason ≡ empty) ↔ (run_len decimal_table (sign_in int form s).body ≡ 0)
+  pub too_large : (form : SignForm) (s : List ℕ) (reason : Refusal) → prefix_call int form true s ≡ Err reason
+      → 0 < run_len decimal_table (sign_in int form s).body
+      → IsTooLarge int (sign_in int form s).minus (sign_in int form s).body (run_len decimal_table (sign_in int form s).body)
+  pub begins : (s : List ℕ) → BeginsWithDigit s ↔ (0 < run_len decimal_table s)
+  pub one_split : (digits other rest more : List ℕ) → digits ++ rest ≡ other ++ more → AllDigits 10 digits → AllDigits 10 other
+      → ¬ BeginsWithDigit rest → ¬ BeginsWithDigit more → (digits ≡ other) × (rest ≡ more)
 
 -- If a prefix parse succeeds and its count is the length of the slice, the whole parse succeeds
 -- with the same value. The converse holds if zeros are skipped, or if the type has more than 32

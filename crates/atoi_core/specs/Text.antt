@@ -63,6 +63,20 @@ pub record PrefixWrites (Writes : List ℕ → ℤ → Type 0) (s : List ℕ) (n
   pub within : count ≤ length s
   pub ends : ¬ BeginsWithDigit (drop count s)
 
+-- The slice is bytes that write the number, in the sense of `Writes`, then `byte`, then `rest`.
+pub record IsNumberThen (Writes : List ℕ → ℤ → Type 0) (s : List ℕ) (number : ℤ) (byte : ℕ) (rest : List ℕ) : Type 0 where
+  pub bytes : List ℕ
+  pub parts : s ≡ bytes ++ byte ∷ rest
+  pub written : Writes bytes number
+
+-- The first `count` bytes are all digits that the slice begins with. There is at least one, and
+-- their value is out of the range of the type.
+pub record IsTooLarge (int : IntType) (is_negative : Bool) (s : List ℕ) (count : ℕ) : Type 0 where
+  pub numeral : IsNumeral 10 (take count s)
+  pub above : bound_of int is_negative < digits_value 10 (take count s)
+  pub within : count ≤ length s
+  pub ends : ¬ BeginsWithDigit (drop count s)
+
 -- The digits start with a zero and at least one more digit follows, so the number could be written
 -- without this zero.
 abbrev pub has_needless_zero : List ℕ → Bool

@@ -8,7 +8,7 @@
 //! it must be in the range of the type. A call for negative numbers accepts no sign, and for such a
 //! call the bytes write the negated value of the digits.
 ghost use Rattle.atoi_core.specs.IntType.{int_type};
-ghost use Rattle.atoi_core.specs.Laws.{TextOfValue, AcceptedTexts, AcceptedNumbers, WholeResults, AcceptedPrefixes, PrefixResults, PrefixesAndRests, DecimalDigits, DecimalTexts, ErrorsInOrder, PrefixIsWhole, PrefixOfCut, PrefixStopsAtRest, RestChangesNothing, SkippingAgrees, OrderAndSuffix, ZerosChangeNothing};
+ghost use Rattle.atoi_core.specs.Laws.{TextOfValue, AcceptedTexts, AcceptedNumbers, WholeResults, AcceptedPrefixes, PrefixResults, PrefixesAndRests, NumberThenByte, OneNumber, PrefixBegins, NoneOrTooLarge, DecimalDigits, DecimalTexts, ErrorsInOrder, PrefixIsWhole, PrefixOfCut, PrefixStopsAtRest, RestChangesNothing, SkippingAgrees, OrderAndSuffix, ZerosChangeNothing};
 
 use crate::number::Number;
 
@@ -65,6 +65,31 @@ pub fn prefix_results<T: Number, const SKIP_ZEROES: bool>()
 #[tactic(auto, using(crate::proofs::lemmas::Prefixes::prefixes_and_rests))]
 pub fn prefixes_and_rests<T: Number>()
     ensures { PrefixesAndRests T.int_type }
+{}
+
+/// A number and a byte that is no digit: one way to read them, which is that of a prefix parse.
+#[tactic(auto, using(crate::proofs::lemmas::Numbers::number_then_byte))]
+pub fn number_then_byte<T: Number>()
+    ensures { NumberThenByte T.int_type }
+{}
+
+/// A slice writes at most one number.
+#[tactic(auto, using(crate::proofs::lemmas::Numbers::one_number))]
+pub fn one_number<T: Number>()
+    ensures { OneNumber T.int_type }
+{}
+
+/// A number that a prefix parse returns begins with its sign or a digit.
+#[tactic(auto, using(crate::proofs::lemmas::Numbers::prefix_begins))]
+pub fn prefix_begins<T: Number>()
+    ensures { PrefixBegins T.int_type }
+{}
+
+/// An error of a prefix parse that skips zeros means no digit, or digits of a number that is too
+/// large; `count_digits` says how many.
+#[tactic(auto, using(crate::proofs::lemmas::Numbers::none_or_too_large))]
+pub fn none_or_too_large<T: Number>()
+    ensures { NoneOrTooLarge T.int_type }
 {}
 
 /// If a prefix parse succeeds and its count is the length of the slice, the whole parse succeeds

@@ -7,3 +7,6 @@ pub mod Versions
 pub mod SignedTotals
 pub mod Addresses
 pub mod Headers
+pub mod StatusLines
+pub mod Points
+pub mod Durations

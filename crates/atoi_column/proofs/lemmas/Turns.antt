@@ -1,7 +1,7 @@
 -- Reading the items of a column one after the other: nothing follows an error. These lemmas prove
 -- the law `ItemsInTurn`.
 use Rattle.std.proofs.Common.{◌≡◌, ℕ, ◌+◌, true, List, [], ◌∷◌, ◌++◌, length, drop, map, ℤ, Result, Ok, Err, refl, sym, ap, ◌∙◌, arith, append_assoc, append-nil, length-append}
-use Rattle.std.proofs.lemmas.List.{map-append}
+use Rattle.std.proofs.lemmas.List.{map-append, length-map}
 use Rattle.atoi_core.specs.Refusal.{Refusal}
 use Rattle.atoi_core.specs.IntType.{IntType}
 use Rattle.atoi_core.specs.Answer.{parse_answer, parse_prefix_answer}
@@ -43,20 +43,22 @@ unfolding items_left
 after_error int separator input numbers flaw after same =
     following_error (parse_answer int true true) (parse_prefix_answer int true true) flaw after 0 0 input (fields_of separator input) numbers same
 
-one_more : (items left after : List (Result ℤ Flaw)) (numbers : List ℤ) (number : ℤ) → HaveRead items numbers left
-    → left ≡ Ok number ∷ after → HaveRead items (numbers ++ number ∷ []) after
-one_more items left after numbers number read next = record {
-  parts = read.parts ∙ (ap (λ rest. map Ok numbers ++ rest) next
-      ∙ (sym (append_assoc (map Ok numbers) (Ok number ∷ []) after)
-      ∙ ap (λ values. values ++ after) (sym (map-append Ok numbers (number ∷ [])))));
-  count = omega (arith, read.count, ap length next, length-append numbers (number ∷ []));
-}
+more_values : (items left after : List (Result ℤ Flaw)) (numbers values : List ℤ) → HaveRead items numbers left
+    → left ≡ map Ok values ++ after → HaveRead items (numbers ++ values) after
+more_values items left after numbers values read next =
+    let ok : ℤ → Result ℤ Flaw = λ value. Ok value in
+    record {
+      parts = read.parts ∙ (ap (λ rest. map Ok numbers ++ rest) next
+          ∙ (sym (append_assoc (map Ok numbers) (map Ok values) after) ∙ ap (λ values. values ++ after) (sym (map-append Ok numbers values))));
+      count = omega (arith, read.count, ap length next, length-map values ok, length-append (map ok values) after, length-append numbers values);
+    }
 
 -- The law `ItemsInTurn`.
 pub items_in_turn : ItemsInTurn
 items_in_turn = record {
   start = λ items. record { parts = refl; count = omega arith };
-  more = one_more;
+  more = λ items left after numbers number. more_values items left after numbers (number ∷ []);
+  more_values = more_values;
   all = λ items left numbers read none. read.parts ∙ (ap (λ rest. map Ok numbers ++ rest) none ∙ append-nil (map Ok numbers));
   after_error = after_error;
   at_error = λ int separator input numbers left after flaw read next.

@@ -138,7 +138,7 @@ stops (byte ∷ bytes) ends =
     elim (cases_Bool (is_digit decimal_table byte)) [ inl e ↦ absurd (ends (digit_in_range byte e)) | inr e ↦ rw e refl ]
 
 -- If a rest is empty, or its first byte is no digit, then `BeginsWithDigit` does not hold for it.
-no_digit : (rest : List ℕ) → (0 < length rest → IsFalse (is_digit decimal_table (get_or rest 0 0))) → ¬ BeginsWithDigit rest
+pub no_digit : (rest : List ℕ) → (0 < length rest → IsFalse (is_digit decimal_table (get_or rest 0 0))) → ¬ BeginsWithDigit rest
 no_digit [] h = λ digit. digit
 no_digit (byte ∷ bytes) h = λ digit.
     let stops = h (omega arith) in
@@ -147,12 +147,12 @@ no_digit (byte ∷ bytes) h = λ digit.
 
 module _ (digits rest : List ℕ) (all : AllDigits 10 digits) (ends : ¬ BeginsWithDigit rest) where
   -- If no digit follows the digits, they are the run of the slice.
-  run_len_before : run_len decimal_table (digits ++ rest) ≡ length digits
+  pub run_len_before : run_len decimal_table (digits ++ rest) ≡ length digits
   run_len_before =
       prefix_len-append (is_digit decimal_table) digits rest
       ∙ rw (eq-eqb (run_len decimal_table digits) (length digits) (run_of_digits digits all)) (omega (arith, stops rest ends))
 
-  run_before : run decimal_table (digits ++ rest) ≡ digits
+  pub run_before : run decimal_table (digits ++ rest) ≡ digits
   run_before = ap (λ (n : ℕ). take n (digits ++ rest)) run_len_before ∙ take-append_seam digits rest
 
 -- If a body consists of digits that write a number and of a rest that does not begin with a digit,

@@ -1,0 +1,166 @@
+-- What follows a number, and what an error says about the digits at the start of a body.
+use Rattle.std.proofs.Common.{◌≡◌, ◌↔◌, ℕ, ◌<◌, ◌≤◌, Bool, true, false, IsFalse, List, [], ◌∷◌, ◌++◌, length, take, drop, get_or, get_or-drop, length-drop, Option, Some, None, Ok, Err, ℤ, refl, sym, ap, ◌∙◌, subst, arith, inl, inr}
+use Rattle.std.proofs.lemmas.Bool.{cases_lt, cases_Bool}
+use Rattle.std.proofs.lemmas.List.{take-append-drop}
+use Rattle.std.proofs.lemmas.List.Prefix.{front_rest}
+use Rattle.std.proofs.lemmas.List.Sums.{prefix_len-le-length, prefix_len_stops}
+use Rattle.std.proofs.lemmas.Bool.{lt-ltb}
+use Rattle.std.specs.Str.Parse.{AllDigits, IsNumeral, digits_value}
+use Rattle.std.specs.Char.{IsAsciiDigit}
+use Rattle.atoi_core.specs.Digit.{decimal_table, is_digit}
+use Rattle.atoi_core.specs.Run.{run_len, run, value}
+use Rattle.atoi_core.specs.Refusal.{Refusal, empty, size, overflow, invalid64, invalid128}
+use Rattle.atoi_core.specs.Magnitude.{prefix, is_above}
+use Rattle.atoi_core.specs.IntType.{IntType, IsSized, class_of, bound_of, limit_of}
+use Rattle.atoi_core.specs.Laws.{SignForm, sign_in, whole_call, prefix_call, Writes, NumberThenByte, OneNumber, PrefixBegins, NoneOrTooLarge, IsAbove, IsTooLong}
+use Rattle.atoi_core.specs.Text.{BeginsWithDigit, PrefixWrites, IsNumberThen, IsTooLarge}
+use Rattle.atoi_core.proofs.lemmas.Calls.{digit_in_range, found_prefix, limit_at, significant_digits}
+use Rattle.atoi_core.proofs.lemmas.Bounds.{limit_of_prefix, in_range_short}
+use Rattle.atoi_core.proofs.lemmas.Texts.{digit_is, own, to_std}
+use Rattle.atoi_core.proofs.lemmas.Prefixes.{prefixes_and_rests, accepted_numbers, run_len_before, run_before, no_digit}
+use Rattle.atoi_core.proofs.lemmas.Errors.{errors_in_order}
+use Rattle.atoi_core.proofs.lemmas.Runs.{length-run, run_len-run, digits_all}
+
+-- ---- A number and what follows it
+
+not_digit : (byte : ℕ) (rest : List ℕ) → IsFalse (is_digit decimal_table byte) → ¬ BeginsWithDigit (byte ∷ rest)
+not_digit byte rest not = no_digit (byte ∷ rest) (λ some. not)
+
+module _ (int : IntType) (sized : IsSized int) (form : SignForm) (s : List ℕ) (number : ℤ) (byte : ℕ) (rest : List ℕ) (not : IsFalse (is_digit decimal_table byte)) where
+  to_prefix : IsNumberThen (Writes int form) s number byte rest
+      → (count : ℕ) × (PrefixWrites (Writes int form) s number count × (drop count s ≡ byte ∷ rest))
+  to_prefix h = (
+    length h.bytes,
+    (
+      (prefixes_and_rests int sized).of_parts form s h.bytes (byte ∷ rest) number h.parts h.written (not_digit byte rest not),
+      front_rest s h.bytes (byte ∷ rest) h.parts,
+    ),
+  )
+
+  from_prefix : ((count : ℕ) × (PrefixWrites (Writes int form) s number count × (drop count s ≡ byte ∷ rest)))
+      → IsNumberThen (Writes int form) s number byte rest
+  from_prefix h =
+      record { bytes = take h.0 s; parts = sym (take-append-drop h.0 s) ∙ ap (λ t. take h.0 s ++ t) h.1.1; written = h.1.0.written }
+
+  cut_is : (other : ℤ) (count : ℕ) → IsNumberThen (Writes int form) s number byte rest → PrefixWrites (Writes int form) s other count
+      → (number ≡ other) × (drop count s ≡ byte ∷ rest)
+  cut_is other count h found =
+      let parts = (prefixes_and_rests int sized).cut form s h.bytes (byte ∷ rest) number other count h.parts h.written (not_digit byte rest not) found in
+      (parts.0, parts.1.1)
+
+  one_way : (other : ℤ) (more : List ℕ) → IsNumberThen (Writes int form) s number byte rest → IsNumberThen (Writes int form) s other byte more
+      → (number ≡ other) × (rest ≡ more)
+  one_way other more h k =
+      let found = to_prefix_of other more k in
+      let same = cut_is other found.0 h found.1.0 in
+      let both : byte ∷ rest ≡ byte ∷ more = sym same.1 ∙ found.1.1 in
+      (same.0, cc)
+    where
+      to_prefix_of : (other : ℤ) (more : List ℕ) → IsNumberThen (Writes int form) s other byte more
+          → (count : ℕ) × (PrefixWrites (Writes int form) s other count × (drop count s ≡ byte ∷ more))
+      to_prefix_of other more k = (
+        length k.bytes,
+        (
+          (prefixes_and_rests int sized).of_parts form s k.bytes (byte ∷ more) other k.parts k.written (not_digit byte more not),
+          front_rest s k.bytes (byte ∷ more) k.parts,
+        ),
+      )
+
+-- The law `NumberThenByte`.
+pub number_then_byte : (int : IntType) → IsSized int → NumberThenByte int
+number_then_byte int sized = record {
+  exact = λ form s number byte rest not. (to_prefix int sized form s number byte rest not, from_prefix int sized form s number byte rest not);
+  cut = λ form s number other byte rest count not. cut_is int sized form s number byte rest not other count;
+  only = λ form s number other byte rest more not. one_way int sized form s number byte rest not other more;
+}
+
+-- The law `OneNumber`: a whole parse that skips zeros returns each number that the slice writes.
+pub one_number : (int : IntType) → IsSized int → OneNumber int
+one_number int sized form s number other h k =
+    let found = (accepted_numbers int sized).accepted in
+    let same = sym (found form s number h) ∙ found form s other k in cc
+
+-- ---- What a prefix parse says about the start of the body
+
+begins_of_run : (s : List ℕ) → 0 < run_len decimal_table s → BeginsWithDigit s
+begins_of_run [] some = absurd (omega arith)
+begins_of_run (byte ∷ bytes) some =
+    elim (cases_Bool (is_digit decimal_table byte)) [ inl is ↦ digit_in_range byte is | inr not ↦ absurd (omega (arith, rw not at some)) ]
+
+run_of_begins : (s : List ℕ) → BeginsWithDigit s → 0 < run_len decimal_table s
+run_of_begins [] digit = absurd digit
+run_of_begins (byte ∷ bytes) digit = rw (digit_is byte digit.0 digit.1) (omega arith)
+
+-- The law `PrefixBegins`.
+pub prefix_begins : (int : IntType) → PrefixBegins int
+prefix_begins int form skip s found h =
+    begins_of_run (sign_in int form s).body (found_prefix int form skip s found.0 found.1 h).is_prefix.some
+
+not_above : (limit : Option ℕ) (count : ℕ) → IsAbove limit count → is_above limit count ≡ false → ⊥
+not_above None count above not = above
+not_above (Some limit) count above not = let is = lt-ltb limit count above in cc
+
+-- If a number is in range, it does not have too many digits.
+long_is_above : (int : IntType) → IsSized int → (is_negative : Bool) (body : List ℕ) → IsTooLong int prefix true body
+    → bound_of int is_negative < value decimal_table (run decimal_table body)
+long_is_above int sized is_negative body long =
+    elim (cases_lt (bound_of int is_negative) (value decimal_table (run decimal_table body))) [
+      | inl lt ↦ lt
+      | inr le ↦
+          absurd (not_above (limit_at (class_of int) prefix true (limit_of int)) (significant_digits decimal_table true body) long
+          (rw (limit_of_prefix int true (limit_of int) (inl refl)) (in_range_short decimal_table int sized is_negative body le)))
+    ]
+
+module _ (int : IntType) (sized : IsSized int) (form : SignForm) (s : List ℕ) where
+  is_none : (skip : Bool) (reason : Refusal) → prefix_call int form skip s ≡ Err reason
+      → (reason ≡ empty) ↔ (run_len decimal_table (sign_in int form s).body ≡ 0)
+  is_none skip empty h = (λ same. (errors_in_order int).prefix form skip s empty h, λ not. refl)
+  is_none skip (size count rest) h =
+      (λ same. absurd (cc same), λ not. absurd (omega (arith, not, ((errors_in_order int).prefix form skip s (size count rest) h).0)))
+  is_none skip (overflow rest) h =
+      (λ same. absurd (cc same), λ not. absurd (omega (arith, not, ((errors_in_order int).prefix form skip s (overflow rest) h).0.some)))
+  is_none skip (invalid64 number index input) h = absurd (omega (arith, (errors_in_order int).never_followed form skip s (invalid64 number index input) h))
+  is_none skip (invalid128 number index input) h = absurd (omega (arith, (errors_in_order int).never_followed form skip s (invalid128 number index input) h))
+
+  is_above_bound : (reason : Refusal) → prefix_call int form true s ≡ Err reason → 0 < run_len decimal_table (sign_in int form s).body
+      → bound_of int (sign_in int form s).minus < value decimal_table (run decimal_table (sign_in int form s).body)
+  is_above_bound empty h some = absurd (omega (arith, some, (errors_in_order int).prefix form true s empty h))
+  is_above_bound (size count rest) h some =
+      long_is_above int sized (sign_in int form s).minus (sign_in int form s).body ((errors_in_order int).prefix form true s (size count rest) h).1
+  is_above_bound (overflow rest) h some = ((errors_in_order int).prefix form true s (overflow rest) h).1
+  is_above_bound (invalid64 number index input) h some = absurd (omega (arith, (errors_in_order int).never_followed form true s (invalid64 number index input) h))
+  is_above_bound (invalid128 number index input) h some = absurd (omega (arith, (errors_in_order int).never_followed form true s (invalid128 number index input) h))
+
+-- All digits at the start of a slice, of which there are some, are a numeral that no digit follows.
+run_too_large : (int : IntType) (is_negative : Bool) (body : List ℕ) → 0 < run_len decimal_table body
+    → bound_of int is_negative < value decimal_table (run decimal_table body)
+    → IsTooLarge int is_negative body (run_len decimal_table body)
+run_too_large int is_negative body some above =
+    let count = run_len decimal_table body in
+    let digits = run decimal_table body in
+    let all = to_std digits (digits_all decimal_table digits (run_len-run decimal_table body ∙ sym (length-run decimal_table body))) in
+    record {
+      numeral = (omega (arith, length-run decimal_table body), all);
+      above = rw (own.same digits all) at above;
+      within = prefix_len-le-length (is_digit decimal_table) body;
+      ends = no_digit (drop count body) (λ lt.
+          let at : get_or (drop count body) 0 0 ≡ get_or body count 0 = get_or-drop count body 0 0 ∙ ap (λ (i : ℕ). get_or body i 0) (omega arith) in
+          rw at (prefix_len_stops (is_digit decimal_table) body 0 (omega (arith, length-drop count body))));
+    }
+
+split_once : (digits other rest more : List ℕ) → digits ++ rest ≡ other ++ more → AllDigits 10 digits → AllDigits 10 other
+    → ¬ BeginsWithDigit rest → ¬ BeginsWithDigit more → (digits ≡ other) × (rest ≡ more)
+split_once digits other rest more same all all_other ends ends_other =
+    let front : digits ≡ other = sym (run_before digits rest all ends) ∙ ap (run decimal_table) same ∙ run_before other more all_other ends_other in (
+      front,
+      sym (front_rest (digits ++ rest) digits rest refl) ∙ (λ i. drop (length (front i)) (same i)) ∙ front_rest (other ++ more) other more refl,
+    )
+
+-- The law `NoneOrTooLarge`.
+pub none_or_too_large : (int : IntType) → IsSized int → NoneOrTooLarge int
+none_or_too_large int sized = record {
+  none = λ form skip s. is_none int sized form s skip;
+  too_large = λ form s reason h some. run_too_large int (sign_in int form s).minus (sign_in int form s).body some (is_above_bound int sized form s reason h some);
+  begins = λ s. (run_of_begins s, begins_of_run s);
+  one_split = split_once;
+}

@@ -1,0 +1,12 @@
+-- The status lines of HTTP.
+use Rattle.std.specs.Prelude.{◌≡◌, ℕ, false, List, [], ◌∷◌, ◌++◌, codes, pos}
+use Rattle.atoi_simd.specs.IntType.{u16_type}
+use Rattle.atoi_simd.specs.Text.{DigitsWrite}
+
+-- The line is `HTTP/1.1`, three digits that write the code, and a reason, with a space before each.
+pub record IsStatusLine (line : List ℕ) (code : ℕ) (reason : List ℕ) : Type 0 where
+  pub first : ℕ
+  pub second : ℕ
+  pub third : ℕ
+  pub parts : line ≡ codes "HTTP/1.1 " ++ first ∷ second ∷ third ∷ codes " " ++ reason
+  pub written : DigitsWrite u16_type false (first ∷ second ∷ third ∷ []) (pos code)
