@@ -1,5 +1,5 @@
 pub mod Fields
 pub mod Items
-pub mod Places
+pub mod Position
 pub mod Laws
 pub mod ErrorText

@@ -1,16 +1,12 @@
-//! Tests of columns: worked inputs, long ones, and the calls that Rust's iterators have.
-//! The expected items are counted by hand. The file uses `answers`, `atoi_column`, and the error of
-//! `atoi_simd`.
+//! Columns: worked inputs, long ones, and the calls of Rust's iterators.
 
 use crate::checks::{gives, printed};
-use atoi_column::laws::{items_decide, items_in_turn, texts_and_items};
 use atoi_column::{Column, ColumnError, is_separator};
 use atoi_simd::AtoiSimdError;
 use std::alloc::{AllocError, Global};
 use std::test::Fail;
 
-// The item for a field that begins at the offset `place`, and begins with neither a digit nor a
-// sign.
+// The item for a field at the offset `place` that begins with no number.
 fn empty<'a>(index: usize, place: usize) -> Result<u8, ColumnError<'a>> {
     let cause = AtoiSimdError::Empty;
     Err(ColumnError::Field {
@@ -25,10 +21,6 @@ fn digits_and_signs_separate_nothing(rt: HostRuntime) {
     for byte in b"0123456789+-" {
         assert!(rt; !is_separator(*byte));
     }
-}
-
-#[test]
-fn the_bytes_beside_them_do(rt: HostRuntime) {
     for byte in b"/:*,. ;\t\n\0\xFF" {
         assert!(rt; is_separator(*byte));
     }
@@ -42,9 +34,9 @@ fn a_last_field_may_lack_its_separator(rt: HostRuntime) {
     gives(&rt, column.next(), None);
     gives(&rt, column.next(), None);
     let mut column = Column::<u8>::new(b"1\n2", b'\n');
-    gives(&rt, column.next(), Some(Ok(1)));
-    gives(&rt, column.next(), Some(Ok(2)));
+    gives(&rt, column.nth(1), Some(Ok(2)));
     gives(&rt, column.next(), None);
+    gives(&rt, Column::<u8>::new(b"", b'\n').next(), None);
 }
 
 #[test]
@@ -70,20 +62,14 @@ fn a_byte_after_a_number_is_reported_by_its_offset(rt: HostRuntime) {
 }
 
 #[test]
-fn an_error_has_the_number_and_the_place_of_its_field(rt: HostRuntime) {
-    items_decide::<i8>();
-    items_in_turn();
+fn an_error_has_the_index_and_the_place_of_its_field(rt: HostRuntime) {
     let trailing = ColumnError::Trailing { index: 1, place: 7 };
-    gives(
-        &rt,
-        Column::<i8>::new(b"-128,12a", b',').nth(1),
-        Some(Err(trailing)),
-    );
     gives(&rt, (trailing.index(), trailing.place()), (1, 7));
+    let cause = AtoiSimdError::Empty;
     let field = ColumnError::Field {
         index: 2,
         place: 5,
-        cause: AtoiSimdError::Empty,
+        cause,
     };
     gives(
         &rt,
@@ -91,6 +77,7 @@ fn an_error_has_the_number_and_the_place_of_its_field(rt: HostRuntime) {
         Some(Err(field)),
     );
     gives(&rt, (field.index(), field.place()), (2, 5));
+    gives(&rt, field.is_same_as(&trailing), false);
 }
 
 #[test]
@@ -111,32 +98,21 @@ fn an_error_prints_its_index_place_and_cause(rt: HostRuntime) -> Result<(), Fail
         printed(rt.alloc(), &field)?.as_str(),
         "field 2 at byte 5 is no number: atoi_simd overflow, input: [32, 35, 36]",
     );
-    Ok(())
-}
-
-#[test]
-fn the_longest_error_prints_all_of_its_text(rt: HostRuntime) -> Result<(), Fail> {
-    let field = ColumnError::Field {
+    let longest = ColumnError::Field {
         index: usize::MAX,
         place: usize::MAX,
         cause: AtoiSimdError::Invalid128(u128::MAX, usize::MAX, &[255; 48]),
     };
     gives(
         &rt,
-        printed(rt.alloc(), &field)?.as_str(),
+        printed(rt.alloc(), &longest)?.as_str(),
         "field 18446744073709551615 at byte 18446744073709551615 is no number: atoi_simd invalid at index: 18446744073709551615 it must contain only digits, starting with: 340282366920938463463374607431768211455 input: [FF, FF, FF, FF, FF, FF, FF, FF, FF, FF, FF, FF, FF, FF, FF, FF, FF, FF, FF, FF, FF, FF, FF, FF, FF, FF, FF, FF, FF, FF, FF, FF, FF, FF, FF, FF, FF, FF, FF, FF, FF, FF, FF, FF, FF, FF, FF, FF]",
     );
     Ok(())
 }
 
 #[test]
-fn an_empty_input_has_no_field(rt: HostRuntime) {
-    gives(&rt, Column::<u8>::new(b"", b'\n').next(), None);
-}
-
-#[test]
 fn the_slice_of_a_cause_reaches_to_the_end(rt: HostRuntime) {
-    texts_and_items::<u8>();
     let input = b"256,1";
     let mut column = Column::<u8>::new(input, b',');
     let cause = AtoiSimdError::Overflow(input);
@@ -149,7 +125,6 @@ fn the_slice_of_a_cause_reaches_to_the_end(rt: HostRuntime) {
     gives(&rt, column.next(), None);
 }
 
-// Adds up the values in a `for` loop.
 fn sum(column: Column<'_, u8>) -> u64 {
     let mut sum = 0u64;
     for item in column {
@@ -189,15 +164,6 @@ fn a_million_fields_and_a_bad_last_one(rt: HostRuntime) -> Result<(), Fail> {
     let mut column = Column::<u8>::new(&input, b',');
     gives(&rt, column.nth(999_999), Some(Ok(7)));
     gives(&rt, column.next(), Some(empty(1_000_000, 2_000_000)));
-    gives(&rt, column.next(), None);
-    Ok(())
-}
-
-#[test]
-fn a_million_separators_alone(rt: HostRuntime) -> Result<(), Fail> {
-    let input = vec![in rt.alloc(); b','; 1_000_000]?;
-    let mut column = Column::<u8>::new(&input, b',');
-    gives(&rt, column.next(), Some(empty(0, 0)));
     gives(&rt, column.next(), None);
     Ok(())
 }

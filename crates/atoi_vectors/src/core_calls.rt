@@ -1,6 +1,4 @@
-//! Checks that each call over an engine returns what `plain_rules` says. An engine is an
-//! implementation that reads digits from a slice. The file uses `plain_rules`, `answers`, the calls
-//! of `atoi_core` and the engine `Lanes`.
+//! Compares each call over an engine with the plain rules.
 ghost use Rattle.std.specs.Prelude.{◌<◌};
 
 use crate::checks::gives;

@@ -1,11 +1,8 @@
-//! Checks the decimal texts that `decimal` writes: `parse` returns the value of every u8 and every
-//! i8 from its text, with each of the four choices of flags. It uses `answers`, `decimal` of
-//! `atoi_core` and the public calls of `atoi_simd`.
-ghost use Rattle.std.specs.Prelude.{◌≤◌};
+//! Every `u8` and every `i8`: `parse` returns the value of the text that std prints for it.
 
 use crate::checks::both_give;
-use atoi_core::decimal;
 use atoi_simd::{lanes, parse};
+use std::alloc::AllocError;
 use std::fmt::Debug;
 use std::process::Abort;
 
@@ -26,43 +23,19 @@ fn check<T: atoi_simd::Parse + lanes::Parse + Debug + PartialEq>(
 }
 
 #[test]
-fn of_zero_and_of_the_largest_value(rt: HostRuntime) {
-    let mut out = [b'?'; 39];
-    let length = decimal(0, &mut out);
-    assert_eq!(rt; &out[..length], b"0".as_slice());
-    let length = decimal(u128::MAX, &mut out);
-    assert_eq!(rt;
-        &out[..length],
-        b"340282366920938463463374607431768211455".as_slice()
-    );
-}
-
-#[test]
-fn every_u8(rt: HostRuntime) {
+fn every_u8(rt: HostRuntime) -> Result<(), AllocError> {
     for value in 0..=255u8 {
-        let mut digits = [b'?'; 39];
-        let length = decimal(u128::from(value), &mut digits);
-        check(&rt, &digits[..length], value);
+        let text = format!(in rt.alloc(); "{value}")?;
+        check(&rt, text.as_bytes(), value);
     }
-}
-
-// Writes the decimal text of the magnitude of `value` to `out`, after the first byte, and returns
-// the length of the text.
-fn put_magnitude(value: i8, out: &mut [u8; 40]) -> usize
-    ensures { result ≤ 39 }
-{
-    let mut digits = [b'?'; 39];
-    let length = decimal(u128::from(value.unsigned_abs()), &mut digits);
-    out[1..=length].copy_from_slice(&digits[..length]);
-    length
+    Ok(())
 }
 
 #[test]
-fn every_i8(rt: HostRuntime) {
+fn every_i8(rt: HostRuntime) -> Result<(), AllocError> {
     for value in -128..=127i8 {
-        let mut text = [b'-'; 40];
-        let length = put_magnitude(value, &mut text);
-        let start = if value < 0 { 0 } else { 1 };
-        check(&rt, &text[start..=length], value);
+        let text = format!(in rt.alloc(); "{value}")?;
+        check(&rt, text.as_bytes(), value);
     }
+    Ok(())
 }

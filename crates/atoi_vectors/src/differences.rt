@@ -1,7 +1,5 @@
-//! Rows as the tool reads them, to which the original (the Rust crate `atoi_simd` 0.18.1) and this
-//! port give different answers. Both answers to each row are here too. There is one list of rows
-//! for each of the two rules that differ. This file uses no other module. The README.md of this
-//! crate says how the answers of the original were made.
+//! Rows to which the Rust crate `atoi_simd` 0.18.1 and this port give different answers, with both.
+//! README.md of this crate says how they were made.
 
 /// The first rule: `parse_prefix` counts a plus that it consumes. These are the rows of the call
 /// `prefix`, one on each line, that have SKIP_PLUS and a text that begins with a plus and digits,

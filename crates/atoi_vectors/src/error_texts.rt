@@ -1,14 +1,9 @@
-//! Compares what `Display` writes for an error with texts written by hand, and errors with each
-//! other. No clause says that `Display` returns `Ok`, so the tests print each variant, with the
-//! shortest and the longest slices and numbers. It uses `answers`, and `parse` and the error of
-//! `atoi_simd`.
+//! What `Display` writes for errors, and how errors compare. No clause says that `Display` returns `Ok`.
 
-use crate::checks::gives;
+use crate::checks::{gives, printed};
 use atoi_simd::AtoiSimdError::{self, Empty, Invalid64, Invalid128, Overflow, Size};
-use atoi_simd::parse;
 use std::alloc::{AllocError, Global};
 use std::cmp::Ordering;
-use std::error::Error;
 use std::process::Abort;
 
 fn displays(
@@ -17,8 +12,7 @@ fn displays(
     error: AtoiSimdError<'_>,
     text: &str,
 ) -> Result<(), AllocError> {
-    let written = format!(in alloc; "{error}")?;
-    assert_eq!(rt; written.as_str(), text);
+    gives(rt, printed(alloc, &error)?.as_str(), text);
     Ok(())
 }
 
@@ -40,15 +34,6 @@ fn short_texts(rt: HostRuntime) -> Result<(), AllocError> {
             Invalid128(12, 2, b"12a"),
             "atoi_simd invalid at index: 2 it must contain only digits, starting with: 12 input: [31, 32, 61]",
         ),
-    ] {
-        displays(&rt, rt.alloc(), error, text)?;
-    }
-    Ok(())
-}
-
-#[test]
-fn the_shortest_slices_and_the_smallest_numbers(rt: HostRuntime) -> Result<(), AllocError> {
-    for (error, text) in [
         (Size(0, b""), "atoi_simd wrong size: 0 input: []"),
         (Overflow(b""), "atoi_simd overflow, input: []"),
         (
@@ -91,16 +76,13 @@ fn the_longest_slices_and_the_largest_numbers(rt: HostRuntime) -> Result<(), All
 }
 
 #[test]
-fn bytes_in_their_order(rt: HostRuntime) -> Result<(), AllocError> {
-    let bytes = [
-        0, 1, 2, 3, 4, 5, 6, 7, 8, 9, 10, 11, 12, 13, 14, 15, 16, 17, 18, 19, 20, 21, 22, 23, 24,
-        25, 26, 27, 28, 29, 30, 31, 32, 33, 34, 35, 36, 37, 38, 39, 40, 41, 42, 43, 44, 45, 46, 47,
-        48,
-    ];
+fn bytes_in_hexadecimal(rt: HostRuntime) -> Result<(), AllocError> {
+    let bytes =
+        b"\x00\x01\x02\x03\x04\x05\x06\x07\x08\x09\x0A\x0B\x0C\x0D\x0E\x0F\x10\x7F\x80\xA9\xFE";
     for (error, text) in [
         (
-            Overflow(&bytes),
-            "atoi_simd overflow, input: [0, 1, 2, 3, 4, 5, 6, 7, 8, 9, A, B, C, D, E, F, 10, 11, 12, 13, 14, 15, 16, 17, 18, 19, 1A, 1B, 1C, 1D, 1E, 1F, 20, 21, 22, 23, 24, 25, 26, 27, 28, 29, 2A, 2B, 2C, 2D, 2E, 2F]",
+            Overflow(bytes),
+            "atoi_simd overflow, input: [0, 1, 2, 3, 4, 5, 6, 7, 8, 9, A, B, C, D, E, F, 10, 7F, 80, A9, FE]",
         ),
         (
             Overflow(&[10; 50]),
@@ -109,41 +91,6 @@ fn bytes_in_their_order(rt: HostRuntime) -> Result<(), AllocError> {
     ] {
         displays(&rt, rt.alloc(), error, text)?;
     }
-    Ok(())
-}
-
-#[test]
-fn errors_of_long_texts(rt: HostRuntime) -> Result<(), AllocError> {
-    let overflow = parse::<u8, false, false>(&[b'9'; 50]);
-    let size = parse::<u128, false, false>(&[b'0'; 41]);
-    for (error, text) in [
-        (
-            overflow.err(),
-            "atoi_simd overflow, input: [39, 39, 39, 39, 39, 39, 39, 39, 39, 39, 39, 39, 39, 39, 39, 39, 39, 39, 39, 39, 39, 39, 39, 39, 39, 39, 39, 39, 39, 39, 39, 39, 39, 39, 39, 39, 39, 39, 39, 39, 39, 39, 39, 39, 39, 39, 39, 39]",
-        ),
-        (
-            size.err(),
-            "atoi_simd wrong size: 40 input: [30, 30, 30, 30, 30, 30, 30, 30, 30, 30, 30, 30, 30, 30, 30, 30, 30, 30, 30, 30, 30, 30, 30, 30, 30, 30, 30, 30, 30, 30, 30, 30, 30, 30, 30, 30, 30, 30, 30, 30, 30]",
-        ),
-    ] {
-        displays(&rt, rt.alloc(), error.unwrap_or(Empty), text)?;
-    }
-    Ok(())
-}
-
-// Returns what an error prints, for any type that implements the trait `Error`.
-fn printed<E: Error>(alloc: Global, error: &E) -> Result<String, AllocError> {
-    format!(in alloc; "{error}")
-}
-
-#[test]
-fn the_text_of_an_error_of_std(rt: HostRuntime) -> Result<(), AllocError> {
-    let text = printed(rt.alloc(), &Size(27, b"11"))?;
-    gives(
-        &rt,
-        text.as_str(),
-        "atoi_simd wrong size: 27 input: [31, 31]",
-    );
     Ok(())
 }
 

@@ -1,8 +1,4 @@
-//! Checks kernels, which are public functions on a word or a vector of bytes. Those that count
-//! digits or zeros, or compute a number, are called with every byte at every offset. Those that
-//! load a word or a vector are called with short and long slices. (`load_high` and `read_short` are
-//! not called here; the windows call them.) The file uses `plain_rules`, `answers` and the kernels
-//! of `atoi_core` and `atoi_lanes`.
+//! The public functions on words and vectors. The windows call `load_high` and `read_short`.
 ghost use Rattle.std.specs.Prelude.{◌<◌};
 
 use crate::checks::gives;
@@ -12,8 +8,7 @@ use atoi_simd::lanes::kernels::{len_lanes, load_lanes, sum_lanes, zeroes_lanes};
 use std::process::Abort;
 use std::simd::prelude::*;
 
-// Checks the kernels on lanes. They return what a window of 16 bytes holds, except that leading
-// zeros are also counted if not all 16 bytes are digits.
+// A window of these 16 bytes has the same digits, but counts zeros only if all are digits.
 fn check_lanes(rt: &impl Abort, bytes: [u8; 16]) {
     let lanes = u8x16::from_array(bytes);
     let (len, _, number) = plain_rules::window(16, &bytes);
@@ -28,8 +23,6 @@ fn check_lanes(rt: &impl Abort, bytes: [u8; 16]) {
     gives(rt, sum_lanes(lanes, 0), 0);
 }
 
-// Checks 16 bytes. The one at the offset `place` has each of the 256 values of a byte in turn, and
-// all others are `fill`.
 fn check_lanes_at(rt: &impl Abort, fill: u8, place: usize)
     requires { place < 16 }
 {
@@ -49,7 +42,6 @@ fn every_byte_in_every_lane(rt: HostRuntime) {
     }
 }
 
-// Checks the kernels on words of 8 bytes in the same way as `check_lanes` checks those on lanes.
 fn check_word(rt: &impl Abort, bytes: [u8; 8]) {
     let word = u64::from_le_bytes(bytes);
     let (len, _, number) = plain_rules::window(8, &bytes);
@@ -65,8 +57,6 @@ fn check_word(rt: &impl Abort, bytes: [u8; 8]) {
     }
 }
 
-// Checks 8 bytes. The one at the offset `place` has each of the 256 values of a byte in turn, and
-// all others are `fill`.
 fn check_word_at(rt: &impl Abort, fill: u8, place: usize)
     requires { place < 8 }
 {
@@ -86,7 +76,6 @@ fn every_byte_in_a_word(rt: HostRuntime) {
     }
 }
 
-// Checks the kernels on words of 16 bytes in the same way as `check_lanes` checks those on lanes.
 fn check_long_word(rt: &impl Abort, bytes: [u8; 16]) {
     let word = u128::from_le_bytes(bytes);
     let (len, _, number) = plain_rules::window(16, &bytes);
@@ -95,8 +84,7 @@ fn check_long_word(rt: &impl Abort, bytes: [u8; 16]) {
         len_zeroes_128(word) as usize,
         plain_rules::count_zeros(&bytes),
     );
-    // A kernel on lanes counts the digits here, because no kernel on words counts the digits of 16
-    // bytes.
+    // No kernel on words counts the digits of 16 bytes.
     let reported = len_lanes(u8x16::from_array(bytes));
     gives(rt, reported as usize, len);
     if reported > 0 {
@@ -104,8 +92,6 @@ fn check_long_word(rt: &impl Abort, bytes: [u8; 16]) {
     }
 }
 
-// Checks 16 bytes. The one at the offset `place` has each of the 256 values of a byte in turn, and
-// all others are `fill`.
 fn check_long_word_at(rt: &impl Abort, fill: u8, place: usize)
     requires { place < 16 }
 {
@@ -124,7 +110,7 @@ fn every_byte_in_a_long_word(rt: HostRuntime) {
     }
 }
 
-// Returns the first `N` bytes of `text`. If `text` has fewer, bytes with the value 0 follow them.
+// The first `N` bytes of `text`, with zero bytes after them if it has fewer.
 fn padded<const N: usize>(text: &[u8]) -> [u8; N] {
     let mut bytes = [0; N];
     for (byte, loaded) in text.iter().zip(&mut bytes) {
@@ -134,7 +120,7 @@ fn padded<const N: usize>(text: &[u8]) -> [u8; N] {
 }
 
 #[test]
-fn loads_of_every_kind_of_length(rt: HostRuntime) {
+fn loads_of_short_and_long_slices(rt: HostRuntime) {
     let text = *b"1\xB23456789\xFF12345678901\x8034567890123";
     for len in [0, 1, 3, 4, 7, 8, 9, 15, 16, 17, 31, 32, 33] {
         let prefix = &text[..len];

@@ -1,6 +1,4 @@
-//! Two engines whose digits are letters, and tests of the calls over them. The calls are generic
-//! over engines, so they work with any table of digits. The file uses `Alphabet` and `front_of` of
-//! `atoi_core`.
+//! Two engines whose digits are letters, since the calls work with any table of digits.
 ghost use Rattle.std.proofs.Common.{arith};
 ghost use Rattle.std.proofs.lemmas.Bool.Decides.{nat_tests};
 ghost use Rattle.std.specs.Prelude.{◌-◌, ◌&&◌, nat_le, Some, None, if◌then◌else◌};

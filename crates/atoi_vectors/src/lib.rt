@@ -1,7 +1,4 @@
-//! Tests of the ten functions and of the calls that they make, for both forms of the library and
-//! for the three engines. They compare results with those of the Rust crate, and with the rules
-//! written once more in plain code. There are also tests of columns and of the example callers. The
-//! crate has only tests.
+//! Tests over all libraries, which have none of their own: a crate with tests is proved twice.
 #![tactic(auto)]
 
 #[cfg(test)]
@@ -36,6 +33,8 @@ mod original;
 mod plain_rules;
 #[cfg(test)]
 mod row_texts;
+#[cfg(test)]
+mod runs;
 #[cfg(test)]
 mod samples;
 #[cfg(test)]

@@ -1,6 +1,4 @@
-//! Worked examples of `narrow_whole`, which reads digit by digit, and of the loops that the ten
-//! functions call, over each of the three engines. The file uses `answers`, `atoi_core` and
-//! `Lanes`.
+//! Worked examples of the loops that the ten functions call, over each engine, and of `narrow_whole`.
 
 use crate::checks::{each_gives, gives};
 use atoi_core::AtoiSimdError::{self, Empty, Invalid64, Invalid128, Overflow, Size};
@@ -15,7 +13,14 @@ use std::test::Fail;
 // `u8::MAX` as a bound.
 const GREATEST_U8: u64 = 255;
 
-// Calls each function of examples with each engine, and with a text if one is given.
+// Each row is a call and its answer.
+macro_rules! give {
+    ($rt:expr; $($call:expr => $answer:expr;)*) => {
+        $( gives($rt, $call, $answer); )*
+    };
+}
+
+// Calls each function with each engine, and with the text if there is one.
 macro_rules! on_each_engine {
     ($rt:expr; $($rows:ident $(($text:expr))?),*) => {
         $(
@@ -30,30 +35,12 @@ fn narrow_prefixes<E: Engine>(rt: &impl Abort) {
     let mut steps = Steps::new();
     let seven = b"00000000000000007";
     let zeros = b"00000000000000000000000000000000x";
-    gives(
-        rt,
-        narrow_prefix::<E>(GREATEST_U8, false, seven, &mut steps),
-        Err(Size(17, seven)),
-    );
-    gives(
-        rt,
-        narrow_prefix::<E>(GREATEST_U8, false, &seven[..16], &mut steps),
-        Ok((0, 16)),
-    );
-    gives(
-        rt,
-        narrow_prefix::<E>(GREATEST_U8, true, seven, &mut steps),
-        Ok((7, 17)),
-    );
-    gives(
-        rt,
-        narrow_prefix::<E>(GREATEST_U8, true, &seven[..16], &mut steps),
-        Ok((0, 16)),
-    );
-    gives(
-        rt,
-        narrow_prefix::<E>(GREATEST_U8, true, zeros, &mut steps),
-        Ok((0, 32)),
+    give!(rt;
+        narrow_prefix::<E>(GREATEST_U8, false, seven, &mut steps) => Err(Size(17, seven));
+        narrow_prefix::<E>(GREATEST_U8, false, &seven[..16], &mut steps) => Ok((0, 16));
+        narrow_prefix::<E>(GREATEST_U8, true, seven, &mut steps) => Ok((7, 17));
+        narrow_prefix::<E>(GREATEST_U8, true, &seven[..16], &mut steps) => Ok((0, 16));
+        narrow_prefix::<E>(GREATEST_U8, true, zeros, &mut steps) => Ok((0, 32));
     );
 }
 
@@ -62,30 +49,15 @@ fn narrow_overflows<E: Engine>(rt: &impl Abort) {
     let above = b"00000000000000255999";
     let cut = b"0000000000000999x";
     let short = &cut[1..];
-    gives(
-        rt,
-        narrow_prefix::<E>(GREATEST_U8, false, above, &mut steps),
-        Err(Size(17, above)),
-    );
-    gives(
-        rt,
-        narrow_prefix::<E>(GREATEST_U8, true, above, &mut steps),
-        Err(Overflow(b"255999")),
-    );
-    gives(
-        rt,
-        narrow_prefix::<E>(GREATEST_U8, true, cut, &mut steps),
-        Err(Overflow(b"999x")),
-    );
-    gives(
-        rt,
-        narrow_prefix::<E>(GREATEST_U8, true, short, &mut steps),
-        Err(Overflow(short)),
+    give!(rt;
+        narrow_prefix::<E>(GREATEST_U8, false, above, &mut steps) => Err(Size(17, above));
+        narrow_prefix::<E>(GREATEST_U8, true, above, &mut steps) => Err(Overflow(b"255999"));
+        narrow_prefix::<E>(GREATEST_U8, true, cut, &mut steps) => Err(Overflow(b"999x"));
+        narrow_prefix::<E>(GREATEST_U8, true, short, &mut steps) => Err(Overflow(short));
     );
 }
 
-// Checks that a parse of the whole slice returns `expected`, over each engine and with
-// `narrow_whole`.
+// A whole parse over each engine, and `narrow_whole`.
 fn check_narrow_whole(rt: &impl Abort, text: &[u8], expected: Result<u64, AtoiSimdError<'_>>) {
     let mut steps = Steps::new();
     let plain = narrow_whole_windows::<Plain>(GREATEST_U8, text, &mut steps);
@@ -116,15 +88,21 @@ fn narrow_wholes(rt: HostRuntime) {
 }
 
 #[test]
+fn a_hundred_zeros_before_a_narrow_number(rt: HostRuntime) -> Result<(), Fail> {
+    let mut text = vec![in rt.alloc(); b'0'; 100]?;
+    text.extend_from_slice(b"255")?;
+    check_narrow_whole(&rt, &text, Ok(255));
+    Ok(())
+}
+
+#[test]
 fn narrow(rt: HostRuntime) {
     on_each_engine!(rt; narrow_prefixes, narrow_overflows);
 }
 
 fn long_narrow_prefix<E: Engine>(rt: &impl Abort, text: &[u8]) {
-    gives(
-        rt,
-        narrow_prefix::<E>(GREATEST_U8, true, text, &mut Steps::new()),
-        Ok((7, 1_000_001)),
+    give!(rt;
+        narrow_prefix::<E>(GREATEST_U8, true, text, &mut Steps::new()) => Ok((7, 1_000_001));
     );
 }
 
@@ -140,25 +118,11 @@ fn sizes_of_64_bits<E: Engine>(rt: &impl Abort) {
     let mut steps = Steps::new();
     let ones = b"1111111111111111111111111";
     let padded = b"0001111111111111111111111111";
-    gives(
-        rt,
-        E::prefix_64(u64::MAX, 20, false, &ones[4..], &mut steps),
-        Err(Size(21, &ones[4..])),
-    );
-    gives(
-        rt,
-        E::prefix_64(u64::MAX, 20, false, &ones[1..], &mut steps),
-        Err(Size(24, &ones[1..])),
-    );
-    gives(
-        rt,
-        E::prefix_64(u64::MAX, 20, false, ones, &mut steps),
-        Err(Size(24, ones)),
-    );
-    gives(
-        rt,
-        E::prefix_64(u64::MAX, 20, true, padded, &mut steps),
-        Err(Size(27, ones)),
+    give!(rt;
+        E::prefix_64(u64::MAX, 20, false, &ones[4..], &mut steps) => Err(Size(21, &ones[4..]));
+        E::prefix_64(u64::MAX, 20, false, &ones[1..], &mut steps) => Err(Size(24, &ones[1..]));
+        E::prefix_64(u64::MAX, 20, false, ones, &mut steps) => Err(Size(24, ones));
+        E::prefix_64(u64::MAX, 20, true, padded, &mut steps) => Err(Size(27, ones));
     );
 }
 
@@ -166,15 +130,9 @@ fn limits_of_17_digits<E: Engine>(rt: &impl Abort) {
     let mut steps = Steps::new();
     let above = b"50000000000000001";
     let padded = b"0100000000000000000";
-    gives(
-        rt,
-        E::prefix_64(50000000000000000, 17, false, above, &mut steps),
-        Err(Overflow(above)),
-    );
-    gives(
-        rt,
-        E::prefix_64(99999999999999999, 17, true, padded, &mut steps),
-        Err(Size(19, &padded[1..])),
+    give!(rt;
+        E::prefix_64(50000000000000000, 17, false, above, &mut steps) => Err(Overflow(above));
+        E::prefix_64(99999999999999999, 17, true, padded, &mut steps) => Err(Size(19, &padded[1..]));
     );
 }
 
@@ -183,30 +141,12 @@ fn zeros_of_64_bits<E: Engine>(rt: &impl Abort) {
     let zeros = b"000000000000000000000";
     let greatest = b"09223372036854775807";
     let bound = i64::MAX.unsigned_abs();
-    gives(
-        rt,
-        whole_64::<E>(u64::MAX, 20, false, zeros, &mut steps),
-        Err(Size(21, zeros)),
-    );
-    gives(
-        rt,
-        whole_64::<E>(u64::MAX, 20, true, zeros, &mut steps),
-        Ok(0),
-    );
-    gives(
-        rt,
-        E::prefix_64(u64::MAX, 20, true, zeros, &mut steps),
-        Ok((0, 21)),
-    );
-    gives(
-        rt,
-        whole_64::<E>(bound, 19, false, greatest, &mut steps),
-        Err(Size(20, greatest)),
-    );
-    gives(
-        rt,
-        whole_64::<E>(bound, 19, true, greatest, &mut steps),
-        Ok(bound),
+    give!(rt;
+        whole_64::<E>(u64::MAX, 20, false, zeros, &mut steps) => Err(Size(21, zeros));
+        whole_64::<E>(u64::MAX, 20, true, zeros, &mut steps) => Ok(0);
+        E::prefix_64(u64::MAX, 20, true, zeros, &mut steps) => Ok((0, 21));
+        whole_64::<E>(bound, 19, false, greatest, &mut steps) => Err(Size(20, greatest));
+        whole_64::<E>(bound, 19, true, greatest, &mut steps) => Ok(bound);
     );
 }
 
@@ -216,25 +156,11 @@ fn ends_of_64_bits<E: Engine>(rt: &impl Abort) {
     let above = b"18446744073709551616";
     let least = b"9223372036854775808x";
     let bound = i64::MIN.unsigned_abs();
-    gives(
-        rt,
-        whole_64::<E>(u64::MAX, 20, false, greatest, &mut steps),
-        Ok(u64::MAX),
-    );
-    gives(
-        rt,
-        whole_64::<E>(u64::MAX, 20, false, above, &mut steps),
-        Err(Overflow(above)),
-    );
-    gives(
-        rt,
-        whole_64::<E>(bound, 19, false, least, &mut steps),
-        Err(Invalid64(bound, 19, least)),
-    );
-    gives(
-        rt,
-        whole_64::<E>(bound, 19, false, &least[..19], &mut steps),
-        Ok(bound),
+    give!(rt;
+        whole_64::<E>(u64::MAX, 20, false, greatest, &mut steps) => Ok(u64::MAX);
+        whole_64::<E>(u64::MAX, 20, false, above, &mut steps) => Err(Overflow(above));
+        whole_64::<E>(bound, 19, false, least, &mut steps) => Err(Invalid64(bound, 19, least));
+        whole_64::<E>(bound, 19, false, &least[..19], &mut steps) => Ok(bound);
     );
 }
 
@@ -242,15 +168,9 @@ fn rests_of_64_bits<E: Engine>(rt: &impl Abort) {
     let mut steps = Steps::new();
     let short = b"007x";
     let long = b"0000000000000000000000007x";
-    gives(
-        rt,
-        whole_64::<E>(u64::MAX, 20, true, short, &mut steps),
-        Err(Invalid64(7, 3, short)),
-    );
-    gives(
-        rt,
-        whole_64::<E>(u64::MAX, 20, true, long, &mut steps),
-        Err(Invalid64(7, 25, long)),
+    give!(rt;
+        whole_64::<E>(u64::MAX, 20, true, short, &mut steps) => Err(Invalid64(7, 3, short));
+        whole_64::<E>(u64::MAX, 20, true, long, &mut steps) => Err(Invalid64(7, 25, long));
     );
 }
 
@@ -260,10 +180,8 @@ fn of_64_bits(rt: HostRuntime) {
 }
 
 fn long_prefix_64<E: Engine>(rt: &impl Abort, text: &[u8]) {
-    gives(
-        rt,
-        E::prefix_64(u64::MAX, 20, true, text, &mut Steps::new()),
-        Ok((7, 101)),
+    give!(rt;
+        E::prefix_64(u64::MAX, 20, true, text, &mut Steps::new()) => Ok((7, 101));
     );
 }
 
@@ -280,25 +198,11 @@ fn sizes_of_128_bits<E: Engine>(rt: &impl Abort) {
     let padded = b"0000111111111111111111111111111111111111111111111";
     let ones = &padded[4..];
     let zeros = b"00000000000000000000000000000000000000000";
-    gives(
-        rt,
-        E::prefix_128(u128::MAX, false, ones, &mut steps),
-        Err(Size(40, ones)),
-    );
-    gives(
-        rt,
-        E::prefix_128(u128::MAX, true, padded, &mut steps),
-        Err(Size(44, ones)),
-    );
-    gives(
-        rt,
-        whole_128::<E>(u128::MAX, false, &zeros[..39], &mut steps),
-        Ok(0),
-    );
-    gives(
-        rt,
-        whole_128::<E>(u128::MAX, false, zeros, &mut steps),
-        Err(Size(40, zeros)),
+    give!(rt;
+        E::prefix_128(u128::MAX, false, ones, &mut steps) => Err(Size(40, ones));
+        E::prefix_128(u128::MAX, true, padded, &mut steps) => Err(Size(44, ones));
+        whole_128::<E>(u128::MAX, false, &zeros[..39], &mut steps) => Ok(0);
+        whole_128::<E>(u128::MAX, false, zeros, &mut steps) => Err(Size(40, zeros));
     );
 }
 
@@ -307,45 +211,25 @@ fn ends_of_128_bits<E: Engine>(rt: &impl Abort) {
     let greatest = b"340282366920938463463374607431768211455";
     let above = b"340282366920938463463374607431768211456";
     let padded = b"0000012x";
-    gives(
-        rt,
-        whole_128::<E>(u128::MAX, false, greatest, &mut steps),
-        Ok(u128::MAX),
-    );
-    gives(
-        rt,
-        whole_128::<E>(u128::MAX, false, above, &mut steps),
-        Err(Overflow(above)),
-    );
-    gives(
-        rt,
-        whole_128::<E>(u128::MAX, true, padded, &mut steps),
-        Err(Invalid128(12, 7, padded)),
+    give!(rt;
+        whole_128::<E>(u128::MAX, false, greatest, &mut steps) => Ok(u128::MAX);
+        whole_128::<E>(u128::MAX, false, above, &mut steps) => Err(Overflow(above));
+        whole_128::<E>(u128::MAX, true, padded, &mut steps) => Err(Invalid128(12, 7, padded));
     );
 }
 
-fn runs_of_32_digits<E: Engine>(rt: &impl Abort) {
+fn runs_of_up_to_33_digits<E: Engine>(rt: &impl Abort) {
     let mut steps = Steps::new();
     let cut = b"12345678901234567890123456789012s";
     let digits = b"123456789012345678901234567890123";
-    gives(
-        rt,
-        E::prefix_128(u128::MAX, true, cut, &mut steps),
-        Ok((12345678901234567890123456789012, 32)),
-    );
-    gives(
-        rt,
-        whole_128::<E>(u128::MAX, true, digits, &mut steps),
-        Ok(123456789012345678901234567890123),
-    );
-    gives(
-        rt,
-        whole_128::<E>(u128::MAX, true, &digits[..32], &mut steps),
-        Ok(12345678901234567890123456789012),
+    give!(rt;
+        E::prefix_128(u128::MAX, true, cut, &mut steps) => Ok((12345678901234567890123456789012, 32));
+        whole_128::<E>(u128::MAX, true, digits, &mut steps) => Ok(123456789012345678901234567890123);
+        whole_128::<E>(u128::MAX, true, &digits[..32], &mut steps) => Ok(12345678901234567890123456789012);
     );
 }
 
 #[test]
 fn of_128_bits(rt: HostRuntime) {
-    on_each_engine!(rt; sizes_of_128_bits, ends_of_128_bits, runs_of_32_digits);
+    on_each_engine!(rt; sizes_of_128_bits, ends_of_128_bits, runs_of_up_to_33_digits);
 }

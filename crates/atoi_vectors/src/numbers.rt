@@ -1,5 +1,4 @@
-//! Compares the constants, the largest and the smallest values of the twelve types with those of
-//! std. It uses `Number` and `Signed` of `atoi_core`.
+//! The constants and the ends of the twelve types beside those of std.
 
 use crate::checks::gives;
 use atoi_core::{Number, Signed};

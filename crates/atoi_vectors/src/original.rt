@@ -1,7 +1,5 @@
-//! Two lists: rows as the tool reads them, and the answers that the original (the Rust crate
-//! `atoi_simd` 0.18.1) gave to them. This port gives the same answers. The rows to which it gives
-//! another answer are in `differences`. The README.md of this crate says how all answers were made.
-//! This file uses no other module.
+//! Rows as the tool reads them, and the answers of the Rust crate `atoi_simd` 0.18.1, which this
+//! port gives too. README.md of this crate says how they were made.
 
 /// The rows, one on each line: `ENGINE CALL TYPE FLAGS TEXT`. All name the engine `w`. The answers
 /// of the engine `l` are the same, so each row serves both.

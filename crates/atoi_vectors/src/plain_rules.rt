@@ -1,5 +1,4 @@
-//! The rules of `docs/SPECIFICATION.md` once more, as code that counts digit by digit. The tests
-//! compare each call with it. It uses the error type, but no engine and no loop of the libraries.
+//! The rules of `docs/SPECIFICATION.md` once more, as code that counts digit by digit.
 ghost use Rattle.std.specs.Prelude.{◌≤◌, length};
 
 use atoi_simd::AtoiSimdError::{self, Empty, Invalid64, Invalid128, Overflow, Size};

@@ -1,6 +1,4 @@
-//! Checks that each call over each engine returns what the plain rules say, on slices of worked
-//! examples and on the texts of the rows with answers of the Rust crate. It uses `core_calls` and
-//! these rows.
+//! Worked slices and the texts of all rows: every engine answers as the plain rules.
 
 use crate::core_calls::check_all;
 use crate::differences::{LONG_ROWS, PLUS_ROWS};

@@ -1,8 +1,5 @@
-//! Checks the largest value of each of the twelve types, the smallest of each signed type, and the
-//! number one past each of these. Positive numbers are parsed without a sign and with a plus;
-//! negative numbers are parsed with a minus. Each number is parsed with and without leading zeros,
-//! with and without another byte after it, as a whole and as a prefix, and with and without
-//! SKIP_ZEROES. The file uses `plain_rules`, `answers` and the public calls of `atoi_simd`.
+//! The largest and the smallest value of each type, and the number one past each, with and without
+//! signs, leading zeros, another byte after them, and SKIP_ZEROES.
 
 use crate::checks::both_give;
 use crate::plain_rules::{Body, Class};

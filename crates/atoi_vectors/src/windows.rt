@@ -1,5 +1,4 @@
-//! Checks what a window holds, for each of the three engines. A window describes the digits that
-//! the first 8 or 16 bytes begin with. The file uses the engines, and `front_of` of `atoi_core`.
+//! Worked examples of windows, over each engine: the digits that the first 8 or 16 bytes begin with.
 
 use atoi_core::{Engine, Plain, Steps, Window, Words, front_of};
 use atoi_simd::lanes::Lanes;

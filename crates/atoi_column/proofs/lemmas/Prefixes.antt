@@ -3,7 +3,8 @@
 use Rattle.std.proofs.Common.{◌≡◌, ℕ, ◌+◌, ◌==◌, ◌&&◌, ◌||◌, not, Bool, true, false, cond, if◌then◌else◌, List, [], ◌∷◌, ◌++◌, length, take, get_or, Result, Ok, Err, refl, sym, ap, ◌∙◌, subst, inl, inr, arith}
 use Rattle.std.proofs.lemmas.Bool.{eqb-true}
 use Rattle.std.specs.List.{prefix_len, position_or_len, before_first, after_first}
-use Rattle.std.proofs.lemmas.List.{take-append-le, take_all, length-take-le}
+use Rattle.std.proofs.lemmas.List.{take-append-le, take_all}
+use Rattle.std.proofs.lemmas.List.Folds.{length-prefix_len}
 use Rattle.std.proofs.lemmas.List.Sums.{prefix_len-le-length, split_at_first, passes_at_first}
 use Rattle.std.proofs.lemmas.Bool.Decides.{leb_tells}
 use Rattle.atoi_core.specs.Digit.{decimal_table, is_digit}
@@ -26,9 +27,6 @@ prefix-stops : (p : ℕ → Bool) (b : ℕ) (ys : List ℕ) → p b ≡ false �
     → take (prefix_len p xs) xs ≡ take (prefix_len p (xs ++ b ∷ ys)) (xs ++ b ∷ ys)
 prefix-stops p b ys fails xs =
     rw (prefix_len-stops p b ys fails xs) (sym (take-append-le (prefix_len p xs) xs (b ∷ ys) (prefix_len-le-length p xs)))
-
-pub length-before_first : (p : ℕ → Bool) (xs : List ℕ) → length (before_first p xs) ≡ position_or_len p xs
-length-before_first p xs = length-take-le (position_or_len p xs) xs (prefix_len-le-length (λ x. not (p x)) xs)
 
 -- The sign that is consumed from a slice with the first byte `x`. `is_plus` says whether this byte
 -- is a plus that is accepted, and `is_minus` says whether it is a minus that is accepted.
@@ -122,7 +120,7 @@ pub fields_are_prefixes : (int : IntType) → PrefixIsWhole int → PrefixOfCut 
 fields_are_prefixes int is_whole of_cut rest_changes separator is rest =
     let p : ℕ → Bool = λ byte. byte == separator in
     let text : List ℕ = before_first p rest in
-    let ends : length text ≡ position_or_len p rest = length-before_first p rest in
+    let ends : length text ≡ position_or_len p rest = length-prefix_len (λ byte. not (p byte)) rest in
     let same = rest_changes (looked_for true) true text rest (same_run_of_field int separator is rest) in
     record {
       to_prefix = λ value h.

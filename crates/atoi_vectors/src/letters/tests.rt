@@ -1,6 +1,4 @@
-//! Checks each call on long runs of letters. The expected answers follow from the parts that each
-//! run is made of. There are also worked examples. The file uses `core_calls`, `plain_rules`,
-//! `answers` and the engines of `letters`.
+//! Each call on runs of letters, with answers that follow from the parts of each run.
 
 use super::{BothCases, Letters};
 use crate::checks::gives;

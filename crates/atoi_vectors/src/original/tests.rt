@@ -1,5 +1,4 @@
-//! Checks that the root and `lanes` give the expected answer to each row of the original crate. It
-//! uses the public calls of `atoi_simd`, and the texts of numbers and errors of `atoi_core`.
+//! The root and `lanes` give the expected answer to each row.
 
 use super::{ANSWERS, ROWS};
 use crate::differences::{

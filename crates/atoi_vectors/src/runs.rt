@@ -1,0 +1,48 @@
+//! Runs of every length: every engine answers as the plain rules.
+ghost use Rattle.std.specs.Prelude.{◌≤◌};
+
+use crate::core_calls::check;
+use std::process::Abort;
+
+// Zeros, ones, zeros before a seven, and all digits in turn.
+fn check_runs(rt: &impl Abort, len: usize)
+    requires { len ≤ 48 }
+{
+    check(rt, &[b'0'; 48][..len]);
+    check(rt, &[b'1'; 48][..len]);
+    check(
+        rt,
+        &b"0000000000000000000000000000000000000000000000007"[48 - len..],
+    );
+    check(
+        rt,
+        &b"123456789012345678901234567890123456789012345678"[..len],
+    );
+}
+
+#[test]
+fn of_every_length(rt: HostRuntime) {
+    for len in 0..=48 {
+        check_runs(&rt, len);
+    }
+}
+
+// A run of `len` ones, then a byte that carries into the next one when a constant is added to a
+// word, then eight nines.
+fn check_carry(rt: &impl Abort, len: usize)
+    requires { len ≤ 16 }
+{
+    for byte in 0xFA..=0xFFu8 {
+        let mut text = [b'1'; 25];
+        text[len] = byte;
+        text[len + 1..len + 9].copy_from_slice(b"99999999");
+        check(rt, &text[..len + 9]);
+    }
+}
+
+#[test]
+fn before_a_byte_that_carries(rt: HostRuntime) {
+    for len in 0..=16 {
+        check_carry(&rt, len);
+    }
+}
