@@ -14,7 +14,7 @@ use Rattle.atoi_core.specs.Magnitude.{prefix, is_above}
 use Rattle.atoi_core.specs.IntType.{IntType, IsSized, class_of, bound_of, limit_of}
 use Rattle.atoi_core.specs.Laws.{SignForm, sign_in, whole_call, prefix_call, Writes, NumberThenByte, OneNumber, PrefixBegins, NoneOrTooLarge, IsAbove, IsTooLong}
 use Rattle.atoi_core.specs.Text.{BeginsWithDigit, PrefixWrites, IsNumberThen, IsTooLarge}
-use Rattle.atoi_core.proofs.lemmas.Calls.{digit_in_range, found_prefix, limit_at, significant_digits}
+use Rattle.atoi_core.proofs.lemmas.Calls.{digit_in_range, found_prefix, limit_at, significant_len}
 use Rattle.atoi_core.proofs.lemmas.Bounds.{limit_of_prefix, in_range_short}
 use Rattle.atoi_core.proofs.lemmas.Texts.{digit_is, own, to_std}
 use Rattle.atoi_core.proofs.lemmas.Prefixes.{prefixes_and_rests, accepted_numbers, run_len_before, run_before, no_digit}
@@ -107,7 +107,7 @@ long_is_above int sized is_negative body long =
     elim (cases_lt (bound_of int is_negative) (value decimal_table (run decimal_table body))) [
       | inl lt ↦ lt
       | inr le ↦
-          absurd (not_above (limit_at (class_of int) prefix true (limit_of int)) (significant_digits decimal_table true body) long
+          absurd (not_above (limit_at (class_of int) prefix true (limit_of int)) (significant_len decimal_table true body) long
           (rw (limit_of_prefix int true (limit_of int) (inl refl)) (in_range_short decimal_table int sized is_negative body le)))
     ]
 
