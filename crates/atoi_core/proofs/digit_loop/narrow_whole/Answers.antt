@@ -5,7 +5,7 @@ use Rattle.std.proofs.lemmas.List.{take_rest, length-drop, get_or-drop}
 use Rattle.atoi_core.specs.Digit.{decimal_table}
 use Rattle.atoi_core.specs.Run.{value}
 use Rattle.atoi_core.specs.Refusal.{empty, invalid64}
-use Rattle.atoi_core.proofs.lemmas.Runs.{value_more, run_more, digit_value_of, decimal_below_ten, narrow_whole_rest, narrow_whole_over, narrow_whole_end}
+use Rattle.atoi_core.proofs.lemmas.Runs.{value_more, run_more, digit_is_below_ten, decimal_below_ten, narrow_whole_rest, narrow_whole_over, narrow_whole_end}
 use Rattle.atoi_core.proofs.digit_loop.narrow_whole.Goals as goal
 
 rest_byte : (s : List ℕ) (i : ℕ) → get_or (take (length s - 1) (drop 1 s)) i 0 ≡ get_or s (i + 1) 0
@@ -38,7 +38,7 @@ loop-at-init c =
     let s = c.args.s.now in
     let here : 0 < length s = omega (arith, c.in-len1-up.len_at_least) in
     let digit : decimal_table (get_or s 0 0) ≡ Some c.in-Some.number = sym c.digit.ensures ∙ c.in-Some.is in
-    let small : c.in-Some.number < 10 = digit_value_of decimal_table decimal_below_ten (get_or s 0 0) c.in-Some.number digit in
+    let small : c.in-Some.number < 10 = digit_is_below_ten decimal_table decimal_below_ten (get_or s 0 0) c.in-Some.number digit in
     let number : value decimal_table (take (0 + 1) s) ≡ 0 * 10 + c.in-Some.number = value_more decimal_table s 0 c.in-Some.number here digit in
     record {
       digits = run_more decimal_table s 0 c.in-Some.number here digit (omega arith);
