@@ -21,13 +21,6 @@ sum_below-suc : (n : ℕ) (f : ℕ → ℕ) → sum_below (suc n) f ≡ f 0 + su
 sum_below-suc zero f = omega arith
 sum_below-suc (suc n) f = omega (arith, sum_below-suc n f)
 
--- How many digits follow the first of `n + 1`, and the one at index `i + 1`.
-following_first : (n : ℕ) → suc n - 1 - 0 ≡ n
-following_first n = omega arith
-
-following_next : (n i : ℕ) → suc n - 1 - suc i ≡ n - 1 - i
-following_next n i = omega arith
-
 -- The value of digits is the sum `closed_value`.
 pub value_is_closed : (table : Table) (s : List ℕ) → value table s ≡ closed_value table s
 value_is_closed table [] = refl
@@ -35,9 +28,9 @@ value_is_closed table (digit ∷ digits) =
     let n : ℕ = length digits in
     let term : ℕ → ℕ = λ i. digit_value table (slice_index (digit ∷ digits) i) * 10 ^ (suc n - 1 - i) in
     let rest : ℕ → ℕ = λ i. digit_value table (slice_index digits i) * 10 ^ (n - 1 - i) in
-    ap (λ (k : ℕ). digit_value table digit * 10 ^ k + value table digits) (sym (following_first n))
-    ∙ ap (λ (k : ℕ). term 0 + k)
-    (value_is_closed table digits
-    ∙ sym (sum_below-equal n (λ i. term (suc i)) rest
-    (λ i. ap (λ (k : ℕ). digit_value table (slice_index digits i) * 10 ^ k) (following_next n i))))
+    let first : n ≡ suc n - 1 - 0 = omega arith in
+    let next : (i : ℕ) → n - 1 - i ≡ suc n - 1 - suc i = λ i. omega arith in
+    ap (λ (k : ℕ). digit_value table digit * 10 ^ k + value table digits) first
+    ∙ ap (λ (k : ℕ). term 0 + k) (value_is_closed table digits
+    ∙ sum_below-equal n rest (λ i. term (suc i)) (λ i. ap (λ (k : ℕ). digit_value table (slice_index digits i) * 10 ^ k) (next i)))
     ∙ sym (sum_below-suc n term)

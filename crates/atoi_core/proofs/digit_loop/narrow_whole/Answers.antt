@@ -29,9 +29,7 @@ pub returns-in_default-digit : goal.returns-in_default-digit
 returns-in_default-digit c =
     let s = c.args.s.now in
     let none : decimal_table (get_or s 0 0) ≡ None = sym c.digit.ensures ∙ c.in_default-digit.is in
-    record {
-      answer = sym (narrow_whole_rest decimal_table c.args.bound 0 false s 0 0 (omega (arith, c.in-len1-up.len_at_least)) none (omega arith) refl (omega arith));
-    }
+    record { answer = sym (narrow_whole_rest decimal_table c.args.bound 0 false s 0 0 (omega (arith, c.in-len1-up.len_at_least)) none (omega arith) refl (omega arith)) }
 
 pub loop-at-init : goal.loop-at-init
 loop-at-init c =
@@ -81,9 +79,7 @@ returns-then-next-bound c =
     let i = c.loop-at.at + 1 in
     let here : i < length s = omega (arith, c.loop-at-test.true, rest_length s) in
     let over : c.args.bound < value decimal_table (take i s) * 10 + c.in-Some-digit.digit_value = rw (← c.loop-at.invariant.number) c.if-next-bound.true in
-    record {
-      answer = sym (narrow_whole_over decimal_table c.args.bound 0 false s i c.in-Some-digit.digit_value here digit c.loop-at.invariant.digits over);
-    }
+    record { answer = sym (narrow_whole_over decimal_table c.args.bound 0 false s i c.in-Some-digit.digit_value here digit c.loop-at.invariant.digits over) }
 
 pub returns : goal.returns
 returns c =
