@@ -1,8 +1,6 @@
 -- The number that digits spell, as one sum over their positions.
 use Rattle.std.specs.Prelude.{◌≡◌, ℕ, zero, suc, ◌+◌, ◌-◌, ◌*◌, ◌^◌, List, [], ◌∷◌, length, slice_index, refl}
-use Rattle.std.proofs.Common.{sym, ap, ◌∙◌, add_assoc, zero-add, add-zero}
-use Rattle.std.proofs.Math.Nat.{suc-sub-suc, sub-zero, sub-add-eq}
-use Rattle.std.proofs.Math.Numerals.{one-add}
+use Rattle.std.proofs.Common.{sym, ap, ap₂, ◌∙◌, arith}
 use Rattle.atoi_core.specs.Digit.{Table, digit_value}
 use Rattle.atoi_core.specs.Run.{value}
 
@@ -17,24 +15,11 @@ closed_value table s = sum_below (length s) (λ i. digit_value table (slice_inde
 
 sum_below-equal : (n : ℕ) (f g : ℕ → ℕ) → ((i : ℕ) → f i ≡ g i) → sum_below n f ≡ sum_below n g
 sum_below-equal zero f g same = refl
-sum_below-equal (suc n) f g same =
-    ap (λ (k : ℕ). k + f n) (sum_below-equal n f g same) ∙ ap (λ (k : ℕ). sum_below n g + k) (same n)
+sum_below-equal (suc n) f g same = ap₂ (λ (x y : ℕ). x + y) (sum_below-equal n f g same) (same n)
 
 sum_below-suc : (n : ℕ) (f : ℕ → ℕ) → sum_below (suc n) f ≡ f 0 + sum_below n (λ i. f (suc i))
-sum_below-suc zero f = zero-add (f 0) ∙ sym (add-zero (f 0))
-sum_below-suc (suc n) f =
-    ap (λ (k : ℕ). k + f (suc n)) (sum_below-suc n f)
-    ∙ add_assoc (f 0) (sum_below n (λ i. f (suc i))) (f (suc n))
-
--- How many digits follow the first of `n + 1`, and the one at index `i + 1`.
-following_first : (n : ℕ) → suc n - 1 - 0 ≡ n
-following_first n = sub-zero (suc n - 1) ∙ suc-sub-suc n 0 ∙ sub-zero n
-
-following_next : (n i : ℕ) → suc n - 1 - suc i ≡ n - 1 - i
-following_next n i =
-    ap (λ (k : ℕ). k - suc i) (suc-sub-suc n 0 ∙ sub-zero n)
-    ∙ ap (λ (k : ℕ). n - k) (sym (one-add i))
-    ∙ sub-add-eq n 1 i
+sum_below-suc zero f = omega arith
+sum_below-suc (suc n) f = omega (arith, sum_below-suc n f)
 
 -- The value of digits is the sum `closed_value`.
 pub value_is_closed : (table : Table) (s : List ℕ) → value table s ≡ closed_value table s
@@ -43,9 +28,9 @@ value_is_closed table (digit ∷ digits) =
     let n : ℕ = length digits in
     let term : ℕ → ℕ = λ i. digit_value table (slice_index (digit ∷ digits) i) * 10 ^ (suc n - 1 - i) in
     let rest : ℕ → ℕ = λ i. digit_value table (slice_index digits i) * 10 ^ (n - 1 - i) in
-    ap (λ (k : ℕ). digit_value table digit * 10 ^ k + value table digits) (sym (following_first n))
-    ∙ ap (λ (k : ℕ). term 0 + k)
-    (value_is_closed table digits
-    ∙ sym (sum_below-equal n (λ i. term (suc i)) rest
-    (λ i. ap (λ (k : ℕ). digit_value table (slice_index digits i) * 10 ^ k) (following_next n i))))
+    let first : n ≡ suc n - 1 - 0 = omega arith in
+    let next : (i : ℕ) → n - 1 - i ≡ suc n - 1 - suc i = λ i. omega arith in
+    ap (λ (k : ℕ). digit_value table digit * 10 ^ k + value table digits) first
+    ∙ ap (λ (k : ℕ). term 0 + k) (value_is_closed table digits
+    ∙ sum_below-equal n rest (λ i. term (suc i)) (λ i. ap (λ (k : ℕ). digit_value table (slice_index digits i) * 10 ^ k) (next i)))
     ∙ sym (sum_below-suc n term)

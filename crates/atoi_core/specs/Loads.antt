@@ -2,7 +2,7 @@
 use Rattle.std.specs.Prelude.{◌≡◌, ℕ, ◌+◌, ◌*◌, ◌/◌, ◌<◌, ◌≤◌, Bool, true, false, IsTrue, List, length}
 use Rattle.atoi_core.specs.Digit.{Table}
 use Rattle.atoi_core.specs.Run.{zeros}
-use Rattle.atoi_core.specs.Magnitude.{Class, Extent, narrow, wide64, wide128, whole, prefix}
+use Rattle.atoi_core.specs.Magnitude.{Class, Extent, narrow, wide64, wide128, whole}
 use Rattle.atoi_core.specs.IntType.{IntType, class_of}
 
 -- The loads that the upper bound allows for each 16 leading zeros, a *turn*. A loop makes one.
@@ -24,9 +24,7 @@ most_unskipped wide128 = 5
 -- Whether a call skips zeros: as its flag says, but always for a narrow whole slice.
 abbrev pub skips_zeros : Class → Extent → Bool → Bool
 skips_zeros narrow whole skip = true
-skips_zeros narrow prefix skip = skip
-skips_zeros wide64 extent skip = skip
-skips_zeros wide128 extent skip = skip
+skips_zeros class extent skip = skip
 
 -- `before` and `after` count the loads before a call and after it.
 pub record LoadsWithin (most unskipped : ℕ) (table : Table) (skip : Bool) (s : List ℕ) (before after : ℕ) : Type 0 where

@@ -53,9 +53,8 @@ leaves_rest prefix digits length = false
 
 -- The error of a byte that is no digit.
 abbrev pub invalid : Class → ℕ → ℕ → List ℕ → Refusal
-invalid narrow number index body = invalid64 number index body
-invalid wide64 number index body = invalid64 number index body
 invalid wide128 number index body = invalid128 number index body
+invalid class number index body = invalid64 number index body
 
 -- The first reason to refuse the body: no digit, too many significant digits, a value above the
 -- bound, or another byte after the digits of a whole.

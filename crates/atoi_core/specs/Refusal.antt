@@ -36,27 +36,22 @@ rank (invalid128 number index input) = 4
 
 -- The numbers that a reason holds, from left to right.
 abbrev pub numbers : Refusal → List ℕ
-numbers empty = []
 numbers (size length input) = length ∷ []
-numbers (overflow input) = []
 numbers (invalid64 number index input) = number ∷ index ∷ []
 numbers (invalid128 number index input) = number ∷ index ∷ []
+numbers reason = []
 
 -- The number of the digits before an invalid byte; 0 for the other reasons.
 abbrev pub number_in : Refusal → ℕ
-number_in empty = 0
-number_in (size length input) = 0
-number_in (overflow input) = 0
 number_in (invalid64 number index input) = number
 number_in (invalid128 number index input) = number
+number_in reason = 0
 
 -- The index of an invalid byte; 0 for the other reasons.
 abbrev pub index_in : Refusal → ℕ
-index_in empty = 0
-index_in (size length input) = 0
-index_in (overflow input) = 0
 index_in (invalid64 number index input) = index
 index_in (invalid128 number index input) = index
+index_in reason = 0
 
 -- The slice that a reason holds; `empty` holds none.
 abbrev pub input_of : Refusal → List ℕ

@@ -74,19 +74,12 @@ bound-limit int sized minus =
       | inr (inr (inr (inr e))) ↦ inr (rw (sized.greatest, e) (magnitude_below 39 128 int.signed minus (omega arith) (omega arith)))
     ]
 
-below-64 : (bits : ℕ) (signed minus : Bool) → ((bits ≡ 8) ⊎ ((bits ≡ 16) ⊎ ((bits ≡ 32) ⊎ ((bits ≡ 64) ⊎ (bits ≡ 128)))))
-    → cond minus (greatest_of bits signed + 1) (greatest_of bits signed) < 10 ^ 64
-below-64 bits signed minus h =
-    elim h [
-      | inl e ↦ rw e (magnitude_below 64 8 signed minus (omega arith) (omega arith))
-      | inr (inl e) ↦ rw e (magnitude_below 64 16 signed minus (omega arith) (omega arith))
-      | inr (inr (inl e)) ↦ rw e (magnitude_below 64 32 signed minus (omega arith) (omega arith))
-      | inr (inr (inr (inl e))) ↦ rw e (magnitude_below 64 64 signed minus (omega arith) (omega arith))
-      | inr (inr (inr (inr e))) ↦ rw e (magnitude_below 64 128 signed minus (omega arith) (omega arith))
-    ]
-
 pub bound_below-64 : (int : IntType) → IsSized int → (minus : Bool) → bound_of int minus < 10 ^ 64
-bound_below-64 int sized minus = rw sized.greatest (below-64 int.bits int.signed minus sized.bits)
+bound_below-64 int sized minus =
+    let power : (bits : ℕ) → bits ≤ 128 → 2 ^ bits ≤ 2 ^ 128 = λ bits le. pow-le-pow_right (lit< tt) le in
+    let most : int.bits ≤ 128 = omega (arith, sized.bits) in
+    rw sized.greatest
+    (magnitude_below 64 int.bits int.signed minus (omega (arith, power (int.bits - 1) (omega arith))) (omega (arith, power int.bits most)))
 
 pub places-le : (table : Table) (s : List ℕ) (limit : ℕ) → value table (run table s) < 10 ^ limit → run_len table s - zeros table s ≤ limit
 places-le table s limit h =

@@ -24,7 +24,7 @@ first_none : (a b c d : Bool) (p q r s : Refusal) → first_of a b c d p q r s �
 first_none false false false false p q r s h = (refl, refl, refl, refl)
 first_none a b c d p q r s h = absurd (cc h)
 
--- A property of each result whose test is the first to hold is one of the chosen result.
+-- What holds of each result whose test is the first to hold, holds of the chosen one.
 first_cases : (P : Refusal → Type 0) (a b c d : Bool) (p q r s : Refusal)
     → (a ≡ true → P p) → (a ≡ false → b ≡ true → P q) → (a ≡ false → b ≡ false → c ≡ true → P r)
     → (a ≡ false → b ≡ false → c ≡ false → d ≡ true → P s)
@@ -125,7 +125,7 @@ module _ (table : Table) (class : Class) (bound limit : ℕ) (extent : Extent) (
       let tests = first_none is_empty is_long is_over is_followed empty too_long over followed (sym refusal-is ∙ h) in
       record { some = omega (arith, eqb-false (run_len table body) 0 tests.0); short = tests.1; in_range = ltb-false _ _ tests.2; ends = tests.3 }
 
-  -- A property of each error whose test is the first to hold is one of the refusal.
+  -- What holds of each error whose test is the first to hold, holds of the reason.
   pub refusal-cases : (P : Refusal → Type 0)
       → (is_empty ≡ true → P empty)
       → (is_empty ≡ false → is_long ≡ true → P too_long)

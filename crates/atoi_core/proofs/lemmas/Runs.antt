@@ -1,15 +1,15 @@
 -- The run of a slice: its length, how a cut changes it, and the value of its digits.
-use Rattle.std.proofs.Common.{◌≡◌, ℕ, zero, suc, ◌+◌, ◌≤◌, min, Bool, true, false, cond, List, [], ◌∷◌, take, drop, arith, ◌==◌, ◌*◌, ◌^◌, ◌<◌, ◌++◌, length, refl, ap, ◌∙◌, ◌-◌, replicate, All, IsTrue, subst, Option, lit<, lit≤, get_or, Some, None, is_some, unwrap_or, sym, Ok, Err, if◌then◌else◌, nat_lt, not}
+use Rattle.std.proofs.Common.{◌≡◌, ℕ, zero, suc, ◌+◌, ◌≤◌, min, Bool, true, false, cond, List, [], ◌∷◌, take, drop, arith, ◌==◌, ◌*◌, ◌^◌, ◌<◌, ◌++◌, length, refl, ap, ◌∙◌, ◌-◌, replicate, All, IsTrue, subst, Option, lit<, lit≤, get_or, Some, None, is_some, unwrap_or, sym, Ok, Err, if◌then◌else◌, nat_lt, not, eq-eqb}
 use Rattle.std.specs.List.{prefix_len}
 use Rattle.atoi_core.specs.Digit.{Table, is_digit, digit_value, IsBelowTen, is_zero, decimal_table}
 use Rattle.atoi_core.specs.Run.{run_len, zeros, run, value}
 use Rattle.std.proofs.Math.Nat.{pow-succ', mul-le-mul_right, mul-le-mul_left, one-le-pow, pow-le-pow_right}
 use Rattle.std.proofs.Math.Seq.{take-add}
-use Rattle.std.proofs.lemmas.List.{length-append, length-take-le, length-drop, take_all, take_more, take-take, take-append-drop}
+use Rattle.std.proofs.lemmas.List.{length-append, length-replicate, length-take-le, length-drop, take_all, take_more, take-take, take-append-drop}
 use Rattle.std.proofs.lemmas.List.Sums.{prefix_len-le-length, prefix_len_passes, prefix_len-drop_yes, prefix_len-drop_no, prefix_len-drop_all}
 use Rattle.std.proofs.lemmas.Nat.{pow-add}
 use Rattle.std.proofs.lemmas.Bool.Decides.{eqb_tells, nat_tests}
-use Rattle.std.proofs.lemmas.List.Folds.{length-prefix_len}
+use Rattle.std.proofs.lemmas.List.Folds.{length-prefix_len, prefix_len-append, prefix_len-replicate}
 use Rattle.atoi_core.specs.Refusal.{empty, overflow, invalid64}
 use Rattle.atoi_core.specs.Magnitude.{narrow, refusal, unless_refused, whole_magnitude}
 
@@ -91,9 +91,8 @@ value-least t n (b ∷ bs) = λ h z.
 
 pub prefix_len-replicate_append : {X : Type 0} (p : X → Bool) (x : X) → p x ≡ true → (n : ℕ) (xs : List X)
     → prefix_len p (replicate n x ++ xs) ≡ n + prefix_len p xs
-prefix_len-replicate_append p x h zero xs = omega arith
-prefix_len-replicate_append p x h (suc n) xs =
-    rw h (omega (arith, prefix_len-replicate_append p x h n xs))
+prefix_len-replicate_append p x h n xs =
+    rw (prefix_len-append p (replicate n x) xs, prefix_len-replicate p n x h, length-replicate n x, eq-eqb n n refl) refl
 
 module _ (table : Table) where
   pub length-run : (s : List ℕ) → length (run table s) ≡ run_len table s
@@ -172,8 +171,8 @@ sixteen_digits len number short small =
     let fits : 10 ^ 16 ≤ 2 ^ 64 = lit≤ tt in
     omega (arith, most, fits)
 
-pub digit_value_of : (t : Table) → IsBelowTen t → (byte w : ℕ) → t byte ≡ Some w → w < 10
-digit_value_of t small byte w digit =
+pub digit_is_below_ten : (t : Table) → IsBelowTen t → (byte w : ℕ) → t byte ≡ Some w → w < 10
+digit_is_below_ten t small byte w digit =
     let P : ℕ → Type 0 = λ n. n < 10 in
     subst P (ap (λ (o : Option ℕ). unwrap_or o 0) digit) (small byte)
 

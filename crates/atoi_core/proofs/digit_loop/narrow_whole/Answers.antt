@@ -5,7 +5,7 @@ use Rattle.std.proofs.lemmas.List.{take_rest, length-drop, get_or-drop}
 use Rattle.atoi_core.specs.Digit.{decimal_table}
 use Rattle.atoi_core.specs.Run.{value}
 use Rattle.atoi_core.specs.Refusal.{empty, invalid64}
-use Rattle.atoi_core.proofs.lemmas.Runs.{value_more, run_more, digit_value_of, decimal_below_ten, narrow_whole_rest, narrow_whole_over, narrow_whole_end}
+use Rattle.atoi_core.proofs.lemmas.Runs.{value_more, run_more, digit_is_below_ten, decimal_below_ten, narrow_whole_rest, narrow_whole_over, narrow_whole_end}
 use Rattle.atoi_core.proofs.digit_loop.narrow_whole.Goals as goal
 
 rest_byte : (s : List ℕ) (i : ℕ) → get_or (take (length s - 1) (drop 1 s)) i 0 ≡ get_or s (i + 1) 0
@@ -29,16 +29,14 @@ pub returns-in_default-digit : goal.returns-in_default-digit
 returns-in_default-digit c =
     let s = c.args.s.now in
     let none : decimal_table (get_or s 0 0) ≡ None = sym c.digit.ensures ∙ c.in_default-digit.is in
-    record {
-      answer = sym (narrow_whole_rest decimal_table c.args.bound 0 false s 0 0 (omega (arith, c.in-len1-up.len_at_least)) none (omega arith) refl (omega arith));
-    }
+    record { answer = sym (narrow_whole_rest decimal_table c.args.bound 0 false s 0 0 (omega (arith, c.in-len1-up.len_at_least)) none (omega arith) refl (omega arith)) }
 
 pub loop-at-init : goal.loop-at-init
 loop-at-init c =
     let s = c.args.s.now in
     let here : 0 < length s = omega (arith, c.in-len1-up.len_at_least) in
     let digit : decimal_table (get_or s 0 0) ≡ Some c.in-Some.number = sym c.digit.ensures ∙ c.in-Some.is in
-    let small : c.in-Some.number < 10 = digit_value_of decimal_table decimal_below_ten (get_or s 0 0) c.in-Some.number digit in
+    let small : c.in-Some.number < 10 = digit_is_below_ten decimal_table decimal_below_ten (get_or s 0 0) c.in-Some.number digit in
     let number : value decimal_table (take (0 + 1) s) ≡ 0 * 10 + c.in-Some.number = value_more decimal_table s 0 c.in-Some.number here digit in
     record {
       digits = run_more decimal_table s 0 c.in-Some.number here digit (omega arith);
@@ -81,9 +79,7 @@ returns-then-next-bound c =
     let i = c.loop-at.at + 1 in
     let here : i < length s = omega (arith, c.loop-at-test.true, rest_length s) in
     let over : c.args.bound < value decimal_table (take i s) * 10 + c.in-Some-digit.digit_value = rw (← c.loop-at.invariant.number) c.if-next-bound.true in
-    record {
-      answer = sym (narrow_whole_over decimal_table c.args.bound 0 false s i c.in-Some-digit.digit_value here digit c.loop-at.invariant.digits over);
-    }
+    record { answer = sym (narrow_whole_over decimal_table c.args.bound 0 false s i c.in-Some-digit.digit_value here digit c.loop-at.invariant.digits over) }
 
 pub returns : goal.returns
 returns c =

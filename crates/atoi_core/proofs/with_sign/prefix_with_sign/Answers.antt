@@ -21,9 +21,7 @@ pub returns-in-None : goal.returns-in-None
 returns-in-None g c =
     let found = prefix_least g.E.Engine.table g.T.Number.int_type c.args.minus c.args.skip c.args.s.now _ _
     (ap (typed_prefix_answer g.T.Number.number) (sym c.in-Ok.is) ∙ c.requires.negative) c.in-None.ensures in
-    record {
-      answer = prefix_overflows g.E.Engine.table g.T.Number.int_type c.args.minus c.args.skip c.args.s.now _ _ found.0 found.1 c.prefix_overflow.ensures;
-    }
+    record { answer = prefix_overflows g.E.Engine.table g.T.Number.int_type c.args.minus c.args.skip c.args.s.now _ _ found.0 found.1 c.prefix_overflow.ensures }
 
 pub returns-in-Err : goal.returns-in-Err
 returns-in-Err g c =

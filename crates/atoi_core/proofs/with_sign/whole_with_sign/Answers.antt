@@ -27,17 +27,13 @@ pub returns-in-None : goal.returns-in-None
 returns-in-None g c =
     let found = whole_least g.E.Engine.table g.T.Number.int_type c.args.minus c.args.skip c.args.s.now _
     (ap (typed_answer g.T.Number.number) (sym c.in-Ok.is) ∙ c.requires.negative) c.in-None.ensures in
-    record {
-      answer = whole_overflows g.E.Engine.table g.T.Number.int_type c.args.minus c.args.skip c.args.s.now (length c.args.s.now) _ found.0 found.1 c.whole_overflow.ensures;
-    }
+    record { answer = whole_overflows g.E.Engine.table g.T.Number.int_type c.args.minus c.args.skip c.args.s.now (length c.args.s.now) _ found.0 found.1 c.whole_overflow.ensures }
 
 pub returns-in-Some-digits_if_above : goal.returns-in-Some-digits_if_above
 returns-in-Some-digits_if_above g c =
     let found = whole_error_least g.E.Engine.table g.T.Number.int_type c.args.minus c.args.skip c.args.s.now _ _
     (ap (typed_answer g.T.Number.number) (sym c.in-Err.is) ∙ c.requires.negative) c.in-Some-digits_if_above.ensures in
-    record {
-      answer = whole_overflows g.E.Engine.table g.T.Number.int_type c.args.minus c.args.skip c.args.s.now _ _ found.0 found.1 c.whole_overflow-in-Some-digits_if_above.ensures;
-    }
+    record { answer = whole_overflows g.E.Engine.table g.T.Number.int_type c.args.minus c.args.skip c.args.s.now _ _ found.0 found.1 c.whole_overflow-in-Some-digits_if_above.ensures }
 
 pub returns-in-None-digits_if_above : goal.returns-in-None-digits_if_above
 returns-in-None-digits_if_above g c =
