@@ -101,7 +101,7 @@ below t ten count s digits leading number reading =
     omega (arith, reading.number_is, subst P len (value-below t ten (run t front)))
 
 -- Of three tests, the first one that holds decides the error.
-pub first_refusal : {A : Type 0} (a b c : Bool) (p q r : Refusal) (v : A)
+first_refusal : {A : Type 0} (a b c : Bool) (p q r : Refusal) (v : A)
     → unless_refused (cond a (Some p) (cond b (Some q) (cond c (Some r) None))) v ≡ cond a (Err p) (cond b (Err q) (cond c (Err r) (Ok v)))
 first_refusal true b c p q r v = refl
 first_refusal false true c p q r v = refl
