@@ -1,21 +1,20 @@
 -- The answers that follow from the last window of a loop that skips zeros, at offset `at`.
-use Rattle.std.proofs.Common.{◌≡◌, ℕ, ◌+◌, ◌*◌, ◌^◌, ◌<◌, ◌≤◌, Bool, true, List, length, take, drop, Some, Ok, Err, refl, sym, ap₂, ◌∙◌, lit<, arith, ◌≢◌, ◌==◌, false, not, None, Result, ap, if◌then◌else◌, ◌-◌, ◌/◌, min, nat_lt, ltb-true, ◌&&◌, inl, inr, ◌⊎◌, cond, eqb, ltb, Option, le-ltb, ne_eqb}
+use Rattle.std.proofs.Common.{◌≡◌, ℕ, ◌+◌, ◌*◌, ◌^◌, ◌<◌, ◌≤◌, Bool, true, List, length, take, drop, Some, Ok, Err, refl, sym, ap₂, ◌∙◌, lit<, arith, ◌≢◌, ◌==◌, false, not, None, Result, ap, if◌then◌else◌, ◌-◌, ◌/◌, min, nat_lt, ltb-true, ◌&&◌, inl, inr, le-ltb, ne_eqb}
 use Rattle.std.proofs.lemmas.Bool.{eq-eqb, cases_lt, lt-ltb}
 use Rattle.std.proofs.lemmas.List.{length-drop, take_rest}
 use Rattle.atoi_core.specs.Digit.{Table, IsBelowTen, is_zero, is_digit}
 use Rattle.atoi_core.specs.Run.{zeros, run_len, run, value}
 use Rattle.atoi_core.specs.Narrow.{narrow_decision}
 use Rattle.atoi_core.specs.Refusal.{empty, Refusal, invalid64, invalid128, size, overflow}
-use Rattle.atoi_core.specs.Magnitude.{Class, wide64, wide128, Extent, prefix, rule_of, HasDigits, prefix_magnitude, narrow, whole, Rule, invalid, refusal, unless_refused, whole_magnitude, skipped_zeros, is_above, leaves_rest}
+use Rattle.atoi_core.specs.Magnitude.{Class, wide64, wide128, Extent, prefix, rule_of, HasDigits, prefix_magnitude, narrow, whole, Rule, invalid, refusal, unless_refused, whole_magnitude, skipped_zeros, is_above}
 use Rattle.atoi_core.specs.Reading.{IsSkipped, cap, answer_by_digits}
 use Rattle.atoi_core.specs.declared.window.Window.{Window}
-use Rattle.atoi_core.proofs.lemmas.Calls.{refused_empty, is_empty, is_long, is_over, too_long, over, limit_at, significant_len, IsAccepted, refusal-none, refused_size, refused_overflow, first_of, refusal-is}
-use Rattle.atoi_core.proofs.lemmas.Runs.{prefix_len-take, prefix_len-drop, zeros-le, value-take-le, value-least, narrow_whole_is}
-use Rattle.atoi_core.proofs.lemmas.Readings.{first_refusal, within, below, short, short_below, all_decide}
-use Rattle.atoi_core.proofs.lemmas.Windows.{Shows, zeros_both, Shows-join, Shows-join_two, shows, Skipped}
+use Rattle.atoi_core.proofs.lemmas.Calls.{refused_empty, is_empty, is_long, is_over, too_long, over, limit_at, significant_len, IsAccepted, refusal-none, refused_size, refused_overflow}
+use Rattle.atoi_core.proofs.lemmas.Runs.{prefix_len-take, prefix_len-drop, value-take-le, value-least, narrow_whole_is}
+use Rattle.atoi_core.proofs.lemmas.Readings.{within, below, short, short_below, all_decide}
+use Rattle.atoi_core.proofs.lemmas.Windows.{Shows, zeros_both, Shows-join, Shows-join_two, Skipped}
 use Rattle.std.proofs.lemmas.Bool.Decides.{nat_tests}
-use Rattle.std.proofs.Math.Nat.{pow-le-pow_right, eq-zero-or-pos}
-use Rattle.atoi_core.specs.Window.{window_of}
+use Rattle.std.proofs.Math.Nat.{eq-zero-or-pos}
 
 -- ---- Wide types
 
@@ -275,109 +274,3 @@ narrow_decides t s at before now w len after_skip len_is bound high =
           sym (narrow_whole_is t bound 0 false s len w.number all (ap (λ (n : ℕ). value t (take n s)) (sym all) ∙ number)
           ∙ grind (arith, nat_tests))
     ]
-
--- ---- Fewer than 16 digits
--- A first window that is not full decides the answer, by the same tests for each class and flag.
-
--- A narrow class, or at least 16 digits and a bound of at least 10^15.
-abbrev pub HasRoom : Class → (bound limit : ℕ) → Type 0
-HasRoom class bound limit = (class ≡ narrow) ⊎ ((16 ≤ limit) × (10 ^ 15 ≤ bound))
-
--- A wide class has room.
-pub wide_room : (class : Class) (bound limit : ℕ) → 17 ≤ limit → HasDigits limit bound → HasRoom class bound limit
-wide_room class bound limit long digits =
-    let least : 10 ^ 15 ≤ 10 ^ (limit - 1) = pow-le-pow_right {n = 10} (lit< tt) {i = 15} {j = limit - 1} (omega arith) in
-    inr (omega arith, omega (arith, digits.0))
-
--- With room, fewer than 16 significant digits are not too many.
-few_significant : (class : Class) (extent : Extent) (skip : Bool) (bound limit significant : ℕ) → HasRoom class bound limit → significant < 16
-    → is_above (limit_at class extent skip limit) significant ≡ false
-few_significant narrow whole skip bound limit significant room few = refl
-few_significant narrow prefix true bound limit significant room few = refl
-few_significant narrow prefix false bound limit significant room few = le-ltb 16 significant (omega arith)
-few_significant wide64 extent skip bound limit significant room few = elim room [ inl e ↦ absurd (cc e) | inr h ↦ le-ltb limit significant (omega (arith, h.0)) ]
-few_significant wide128 extent skip bound limit significant room few = elim room [ inl e ↦ absurd (cc e) | inr h ↦ le-ltb limit significant (omega (arith, h.0)) ]
-
--- With fewer than 16 digits, an overflow leaves out no zeros.
-whole_slice : (class : Class) (extent : Extent) (skip : Bool) (bound limit digits skipped number : ℕ) (s : List ℕ) (next : Option Refusal)
-    → HasRoom class bound limit → digits < 16 → skipped ≤ digits → number < 10 ^ 15
-    → cond (ltb bound number) (Some (overflow (drop (rule_of class extent skip limit digits skipped).dropped s))) next ≡ cond (ltb bound number) (Some (overflow s)) next
-whole_slice narrow whole skip bound limit digits skipped number s next room few within below = refl
-whole_slice narrow prefix false bound limit digits skipped number s next room few within below = refl
-whole_slice narrow prefix true bound limit digits skipped number s next room few within below =
-    let none : skipped / 16 ≡ 0 = omega arith in
-    let short : digits / 16 ≡ 0 = omega arith in
-    ap₂ (λ a b. cond (ltb bound number) (Some (overflow (drop (cond (ltb a b) skipped (16 * a)) s))) next) none short
-whole_slice wide64 extent skip bound limit digits skipped number s next room few within below =
-    elim room [ inl e ↦ absurd (cc e) | inr h ↦ rw (le-ltb bound number (omega (arith, h.1))) refl ]
-whole_slice wide128 extent skip bound limit digits skipped number s next room few within below =
-    elim room [ inl e ↦ absurd (cc e) | inr h ↦ rw (le-ltb bound number (omega (arith, h.1))) refl ]
-
--- No more zeros are skipped than there are digits.
-skipped_most : (t : Table) (skip : Bool) (s : List ℕ) → skipped_zeros t skip s ≤ run_len t s
-skipped_most t true s = zeros-le t s
-skipped_most t false s = omega arith
-
--- With fewer than 16 digits, the refusal is `Empty`, `Overflow` with all of `s`, or `invalid`.
-pub short_run : (t : Table) (class : Class) (bound limit : ℕ) (extent : Extent) (skip : Bool) (s : List ℕ) → HasRoom class bound limit
-    → run_len t s < 16 → value t (run t s) < 10 ^ 15
-    → refusal t class bound limit extent skip s
-    ≡ (let number = value t (run t s) in
-    cond (eqb (run_len t s) 0) (Some empty) (cond (ltb bound number) (Some (overflow s)) (cond (leaves_rest extent (run_len t s) (length s)) (Some (invalid class number (run_len t s) s)) None)))
-short_run t class bound limit extent skip s room few below =
-    let digits = run_len t s in
-    let number = value t (run t s) in
-    let some_left = cond (leaves_rest extent digits (length s)) (Some (invalid class number digits s)) None in
-    let within = skipped_most t skip s in
-    refusal-is t class bound limit extent skip s
-    ∙ ap (λ b. first_of (eqb digits 0) b (ltb bound number) (leaves_rest extent digits (length s)) empty (too_long t class bound limit extent skip s) (over t class bound limit extent skip s) (invalid class number digits s))
-    (few_significant class extent skip bound limit (significant_len t skip s) room (omega arith))
-    ∙ ap (λ (x : Option Refusal). cond (eqb digits 0) (Some empty) x)
-    (whole_slice class extent skip bound limit digits (skipped_zeros t skip s) number s some_left room few within below)
-
-module _ (t : Table) (ten : IsBelowTen t) (class : Class) (bound limit : ℕ) (skip : Bool) (s : List ℕ) (w : Window)
-    (is : w ≡ window_of t 16 s) (short : w.len < 16) (room : HasRoom class bound limit) where
-  reported : Shows t 16 s w
-  reported = shows t ten 16 s w is
-
-  -- The window has at most 15 digits.
-  pub short_number : w.number < 10 ^ 15
-  short_number =
-      let most : 10 ^ w.len ≤ 10 ^ 15 = pow-le-pow_right {n = 10} (lit< tt) {i = w.len} {j = 15} (omega arith) in
-      omega (arith, reported.below)
-
-  -- The window decides the answer to the prefix.
-  short_prefix : cond (eqb w.len 0) (Err empty) (cond (ltb bound w.number) (Err (overflow s)) (Ok (w.number, w.len))) ≡ prefix_magnitude t class bound limit skip s
-  short_prefix =
-      let len : run_len t s ≡ w.len = omega (arith, reported.len_is) in
-      let number : value t (run t s) ≡ w.number = ap (λ (n : ℕ). value t (take n s)) len ∙ sym reported.number_is in
-      let small : value t (run t s) < 10 ^ 15 = omega (arith, short_number) in
-      sym (first_refusal (eqb w.len 0) (ltb bound w.number) false empty (overflow s) empty (w.number, w.len))
-      ∙ sym (ap₂ (λ (n m : ℕ). unless_refused (cond (eqb m 0) (Some empty) (cond (ltb bound n) (Some (overflow s)) None)) (n, m)) number len)
-      ∙ sym (ap (λ (r : Option Refusal). unless_refused r (value t (run t s), run_len t s)) (short_run t class bound limit prefix skip s room (omega arith) small))
-
-  -- If the window has no digit, the answer is `Empty`.
-  pub short_none : w.len ≡ 0 → Err empty ≡ prefix_magnitude t class bound limit skip s
-  short_none none = sym (ap (λ b. cond b (Err empty) (cond (ltb bound w.number) (Err (overflow s)) (Ok (w.number, w.len)))) (eq-eqb w.len 0 none)) ∙ short_prefix
-
-  -- With a digit, the number decides between `Overflow` and `Ok`.
-  pub short_some : 0 < w.len → cond (ltb bound w.number) (Err (overflow s)) (Ok (w.number, w.len)) ≡ prefix_magnitude t class bound limit skip s
-  short_some some = sym (ap (λ b. cond b (Err empty) (cond (ltb bound w.number) (Err (overflow s)) (Ok (w.number, w.len)))) (ne_eqb w.len 0 (omega arith))) ∙ short_prefix
-
-  -- With a digit and a number within the bound, the answer is `Ok`.
-  pub short_ok : 0 < w.len → w.number ≤ bound → Ok (w.number, w.len) ≡ prefix_magnitude t class bound limit skip s
-  short_ok some within = sym (ap (λ b. cond b (Err (overflow s)) (Ok (w.number, w.len))) (le-ltb bound w.number within)) ∙ short_some some
-
--- For a wide class, a window that is not full and has a digit is within the bound.
-pub short_wide : (t : Table) → IsBelowTen t → (class : Class) (bound limit : ℕ) (skip : Bool) (s : List ℕ) (w : Window) →
-    w ≡ window_of t 16 s → w.len < 16 → 17 ≤ limit → HasDigits limit bound → 0 < w.len → Ok (w.number, w.len) ≡ prefix_magnitude t class bound limit skip s
-short_wide t ten class bound limit skip s w is short long digits some =
-    let room = wide_room class bound limit long digits in
-    let least : 10 ^ 15 ≤ 10 ^ (limit - 1) = pow-le-pow_right {n = 10} (lit< tt) {i = 15} {j = limit - 1} (omega arith) in
-    short_ok t ten class bound limit skip s w is short room some (omega (arith, short_number t ten class bound limit skip s w is short room, digits.0))
-
--- For a wide class, a window without a digit is `Empty`.
-pub short_empty : (t : Table) → IsBelowTen t → (class : Class) (bound limit : ℕ) (skip : Bool) (s : List ℕ) (w : Window) →
-    w ≡ window_of t 16 s → 17 ≤ limit → HasDigits limit bound → w.len ≡ 0 → Err empty ≡ prefix_magnitude t class bound limit skip s
-short_empty t ten class bound limit skip s w is long digits none =
-    short_none t ten class bound limit skip s w is (omega arith) (wide_room class bound limit long digits) none

@@ -74,7 +74,7 @@ below t ten count s digits leading number reading =
     let P : ℕ → Type 0 = λ (n : ℕ). value t (run t front) < 10 ^ n in
     omega (arith, reading.number_is, subst P len (value-below t ten (run t front)))
 
-pub first_refusal : {A : Type 0} (a b c : Bool) (p q r : Refusal) (v : A)
+first_refusal : {A : Type 0} (a b c : Bool) (p q r : Refusal) (v : A)
     → unless_refused (cond a (Some p) (cond b (Some q) (cond c (Some r) None))) v ≡ cond a (Err p) (cond b (Err q) (cond c (Err r) (Ok v)))
 first_refusal false false false p q r v = refl
 first_refusal a b c p q r v = refl

@@ -1,22 +1,27 @@
--- A first window that is not full holds the whole run.
-use Rattle.std.proofs.Common.{ℕ, Ok, ap, ◌∙◌, arith, lit≤}
-use Rattle.atoi_core.specs.Magnitude.{wide128}
-use Rattle.atoi_core.proofs.lemmas.LoopAnswers.{short_empty, short_wide}
-use Rattle.atoi_core.proofs.lemmas.Windows.{Skipped-first, Skipped-loads}
+-- A first window that is not full holds the whole run, and no zeros are skipped before it.
+use Rattle.std.proofs.Common.{◌<◌, arith, lit<}
+use Rattle.atoi_core.proofs.lemmas.LoopAnswers.{answers_empty, answers_short}
+use Rattle.atoi_core.proofs.lemmas.Windows.{Skipped, Skipped-first, Skipped-loads}
 use Rattle.atoi_core.proofs.prefix_128.first_two_windows.Goals as goal
+use Rattle.atoi_core.proofs.prefix_128.first_two_windows.Goals.{After-window-first}
+
+-- What holds after a first window that is not full.
+short : (g : _) (c : After-window-first g) → c.window-first.result.len < 16
+    → Skipped g.E.Engine.table c.args.skip c.args.s.now 0 c.args.steps.now c.window-first.new.steps c.window-first.result
+short g c few =
+    Skipped-first g.E.Engine.table g.met.E.Engine.below_ten c.args.skip c.args.s.now _ _ c.window-first.result
+    c.window-first.ensures.window c.window-first.ensures.one_step few
 
 pub returns-then-first-eq0-clause-answer : goal.returns-then-first-eq0-clause-answer
 returns-then-first-eq0-clause-answer g c bound digits =
-    short_empty g.E.Engine.table g.met.E.Engine.below_ten wide128 bound 39 c.args.skip c.args.s.now c.window-first.result c.window-first.ensures.window (lit≤ tt) digits (omega arith)
+    let at = (goal.at.returns-then-first-eq0-clause-answer g c).After-window-first in
+    answers_empty _ _ _ _ _ _ _ _ _ _ (short g at (omega arith)) (omega arith)
 
 pub returns-then-first-lt16-clause-answer : goal.returns-then-first-lt16-clause-answer
 returns-then-first-lt16-clause-answer g c bound digits =
-    ap (λ (n : ℕ). Ok (n, c.window-first.result.len)) c.from.ensures
-    ∙ short_wide g.E.Engine.table g.met.E.Engine.below_ten wide128 bound 39 c.args.skip c.args.s.now c.window-first.result c.window-first.ensures.window
-    (omega arith) (lit≤ tt) digits (omega arith)
+    let at = (goal.at.returns-then-first-lt16-clause-answer g c).After-window-first in
+    answers_short _ _ bound 39 _ _ 0 _ _ _ _ _ (lit< tt) (short g at c.if-first-lt16.true) c.if-first-lt16.true (omega arith) (lit< tt) digits c.from.ensures (omega arith)
 
 pub returns-then-first-lt16-clause-loads : goal.returns-then-first-lt16-clause-loads
 returns-then-first-lt16-clause-loads g c =
-    let after_skip = Skipped-first g.E.Engine.table g.met.E.Engine.below_ten c.args.skip c.args.s.now _ _ c.window-first.result
-    c.window-first.ensures.window c.window-first.ensures.one_step (omega arith) in
-    Skipped-loads after_skip 0 (omega arith) (omega arith) (omega arith)
+    Skipped-loads (short g (goal.at.returns-then-first-lt16-clause-loads g c).After-window-first (omega arith)) 0 (omega arith) (omega arith) (omega arith)
