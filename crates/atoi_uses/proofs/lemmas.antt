@@ -1,5 +1,3 @@
 pub mod Totals
 pub mod Commands
-pub mod Logs
-pub mod Versions
 pub mod Headers

@@ -1,9 +1,9 @@
 -- The commands of a protocol: a word, one space and a number.
-use Rattle.std.specs.Prelude.{◌≡◌, ℕ, true, Option, Some, None, List, ◌++◌, Err, codes}
+use Rattle.std.specs.Prelude.{◌≡◌, ℕ, true, List, ◌++◌, Err, codes}
 use Rattle.atoi_core.specs.Answer.{parse_answer}
 use Rattle.atoi_core.specs.ErrorText.{error_text as cause_text}
 use Rattle.atoi_core.specs.IntType.{i64_type}
-use Rattle.atoi_core.specs.Refusal.{Refusal, refusal_of}
+use Rattle.atoi_core.specs.Refusal.{refusal_of}
 use Rattle.atoi_core.specs.Text.{TextWrites}
 use Rattle.atoi_uses.specs.declared.commands.Command.{Command}
 use Rattle.atoi_uses.specs.declared.commands.CommandError.{CommandError}
@@ -26,19 +26,13 @@ pub record IsCommand (line : List ℕ) (command : Command) : Type 0 where
   pub parts : HasWord line command.word text
   pub written : TextWrites i64_type true text command.number
 
--- What an error says about the line. `UnknownWord` says that the line does not begin with a word
--- and a space. `BadNumber` says that it does, and that `cause` is the error which `parse` with both
--- flags returns for the text after the space.
-abbrev pub Refuses : List ℕ → CommandError → Type 0
-Refuses line UnknownWord = (word : Word) (text : List ℕ) → ¬ HasWord line word text
-Refuses line (BadNumber cause) =
+-- What an error says: the line does not begin with a word and a space, or it does, and `cause` is
+-- the error that `parse` with both flags returns for the text after them.
+abbrev pub IsNoCommand : List ℕ → CommandError → Type 0
+IsNoCommand line UnknownWord = (word : Word) (text : List ℕ) → ¬ HasWord line word text
+IsNoCommand line (BadNumber cause) =
     (word : Word) × ((text : List ℕ)
     × (HasWord line word text × (parse_answer i64_type true true text ≡ Err (refusal_of cause))))
-
--- The error of `parse` that a command's error holds, if it holds one.
-abbrev pub cause_of : CommandError → Option Refusal
-cause_of UnknownWord = None
-cause_of (BadNumber cause) = Some (refusal_of cause)
 
 -- The text that an error prints.
 abbrev pub error_text : CommandError → List ℕ

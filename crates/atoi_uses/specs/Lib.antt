@@ -1,8 +1,5 @@
 pub mod Commands
-pub mod LogLines
 pub mod OwnEngine
-pub mod Json
-pub mod Dates
 pub mod Versions
 pub mod SignedTotals
 pub mod Addresses

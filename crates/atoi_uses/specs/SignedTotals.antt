@@ -21,13 +21,12 @@ HasTotal separator input total =
     (numbers : List ℤ)
     × (AllZip (TextWrites i64_type true) (fields_of separator input) numbers × (total ≡ sum_of numbers))
 
--- What an error says about the input. `BadField` says that the field named by `error` is the first
--- that is not a text of an `i64`. `OutOfRange` says that every field is such a text, and that the
--- total of their numbers is `total`, which is not in the range of `i64`.
-abbrev pub Refuses : (separator : ℕ) → List ℕ → SignedTotalError → Type 0
-Refuses separator input (BadField error) =
+-- What an error says: `error` names the first field that is not a text of an `i64`, or `total` is
+-- the total, and is out of range.
+abbrev pub HasNoTotal : (separator : ℕ) → List ℕ → SignedTotalError → Type 0
+HasNoTotal separator input (BadField error) =
     IsFirstBad i64_type separator input (index_of (flaw_of error)) (place_of (flaw_of error))
-Refuses separator input (OutOfRange total) = HasTotal separator input total × ¬ FitsSigned w64 total
+HasNoTotal separator input (OutOfRange total) = HasTotal separator input total × ¬ FitsSigned w64 total
 
 -- The text that an error prints.
 abbrev pub error_text : SignedTotalError → List ℕ

@@ -1,14 +1,11 @@
-//! A reader of IPv4 addresses. It uses `atoi_simd::parse_pos` and `parse_prefix_pos`, `after_dot`
-//! of `versions`, and two laws. One law says that at most one prefix of a slice writes a number and
-//! has no digit after it. The other says that only the decimal text of a number writes that number
-//! without a needless leading zero.
+//! Reads IPv4 addresses, whose numbers have no needless leading zeros.
 ghost use Rattle.std.specs.Prelude.{◌≡◌, ◌^◌, ◌<◌, ◌++◌, ℕ, List, ◌∷◌, IfSome, IfNone, decimal};
 ghost use Rattle.atoi_simd.specs.Text.{has_needless_zero};
 ghost use Rattle.atoi_uses.specs.Addresses.{IsAddress};
 ghost use Rattle.atoi_uses.specs.Versions.{dot};
 ghost use Rattle.atoi_uses.specs.declared.addresses.Address.{Address as AddressValue};
 
-use crate::versions::after_dot;
+use crate::after_byte::after;
 use atoi_simd::laws::{decimal_texts, prefixes_and_rests};
 use atoi_simd::{parse_pos, parse_prefix_pos};
 
@@ -53,13 +50,12 @@ fn octet_and_dot(text: &[u8]) -> Option<(u8, &[u8])>
     ensures none { IfNone result ((n : ℕ) (rest : List ℕ) → n < 2 ^ 8
         → ¬ (text.now ≡ decimal n ++ dot ∷ rest)) }
 {
-    // The clauses follow from these laws. The calls do nothing.
     decimal_texts::<u8>();
     prefixes_and_rests::<u8>();
     let Ok((octet, count)) = parse_prefix_pos::<u8, true>(text) else {
         return None;
     };
-    let rest = after_dot(&text[count..])?;
+    let rest = after(&text[count..], b'.')?;
     if has_needless_zero(&text[..count]) {
         None
     } else {
@@ -72,7 +68,6 @@ fn octet(text: &[u8]) -> Option<u8>
     ensures some { IfSome result (λ octet. text.now ≡ decimal octet) }
     ensures none { IfNone result ((n : ℕ) → n < 2 ^ 8 → ¬ (text.now ≡ decimal n)) }
 {
-    // The clauses follow from this law. The call does nothing.
     decimal_texts::<u8>();
     let Ok(octet) = parse_pos::<u8, true>(text) else {
         return None;

@@ -1,11 +1,10 @@
-//! A reader of the commands of a protocol, each of which is a word, one space and a number. It uses
-//! `atoi_simd::parse` with both flags, and the law that says which texts this call accepts.
+//! Reads the commands of a protocol: a word, one space and a number.
 ghost use Rattle.std.specs.Prelude.{◌≡◌, ◌↔◌, ℕ, List, IfSome, IfNone, IfErr, Ok};
-ghost use Rattle.atoi_uses.specs.Commands.{HasWord, IsCommand, Refuses};
+ghost use Rattle.atoi_uses.specs.Commands.{HasWord, IsCommand, IsNoCommand};
 ghost use Rattle.atoi_uses.specs.declared.commands.Command.{Command};
 ghost use Rattle.atoi_uses.specs.declared.commands.Word.{Word};
 
-use atoi_core::laws::accepted_texts;
+use atoi_core::laws::one_number;
 use atoi_simd::{AtoiSimdError, parse};
 use std::error::Error;
 use std::fmt;
@@ -64,11 +63,9 @@ impl Error for CommandError<'_> {}
 /// - `BadNumber` if what follows the word and the space is not a number of type `i64`.
 pub fn read_command(line: &[u8]) -> Result<Command, CommandError<'_>>
     ensures exact { (command : Command) → (result ≡ Ok command) ↔ IsCommand line.now command }
-    ensures refused { IfErr result (λ error. Refuses line.now error) }
+    ensures refused { IfErr result (λ error. IsNoCommand line.now error) }
 {
-    // This law says which texts `parse` accepts with both flags on, and which number it returns for
-    // each of them. The call does nothing.
-    accepted_texts::<i64>();
+    one_number::<i64>();
     let Some((word, text)) = word_and_text(line) else {
         return Err(CommandError::UnknownWord);
     };

@@ -1,8 +1,7 @@
-//! A function that adds up a column of signed numbers. The file uses `atoi_column::Column` and two
-//! laws of `atoi_column`.
+//! Adds up a column of signed numbers, and says exactly when the total is out of range.
 ghost use Rattle.std.specs.Prelude.{◌≡◌, true, IfOk, IfErr};
 ghost use Rattle.atoi_column.specs.Fields.{is_separator};
-ghost use Rattle.atoi_uses.specs.SignedTotals.{HasTotal, Refuses};
+ghost use Rattle.atoi_uses.specs.SignedTotals.{HasTotal, HasNoTotal};
 
 use atoi_column::laws::{items_decide, items_in_turn};
 use atoi_column::{Column, ColumnError};
@@ -30,10 +29,8 @@ pub enum SignedTotalError<'a> {
 pub fn signed_total(input: &[u8], separator: u8) -> Result<i64, SignedTotalError<'_>>
     requires { is_separator separator ≡ true }
     ensures total { IfOk result (λ total. HasTotal separator input.now total) }
-    ensures refused { IfErr result (λ error. Refuses separator input.now error) }
+    ensures refused { IfErr result (λ error. HasNoTotal separator input.now error) }
 {
-    // The first law is about reading items one after another. The second says what the items mean
-    // for the fields. The calls do nothing.
     items_in_turn();
     items_decide::<i64>();
     let mut total = 0i128;

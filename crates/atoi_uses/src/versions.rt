@@ -1,21 +1,19 @@
-//! A reader of versions. It uses `atoi_simd::parse_prefix_pos` and a law. The contract of
-//! `parse_prefix_pos` says which prefix of a slice writes a number and has no digit after it. The
-//! law says that there is at most one such prefix.
-ghost use Rattle.std.specs.Prelude.{◌≡◌, ℕ, List, ◌∷◌, IfSome, IfNone};
-ghost use Rattle.atoi_uses.specs.Versions.{IsPart, IsVersion, dot};
+//! Reads versions: numbers that are each followed by a dot, and a last one.
+ghost use Rattle.std.specs.Prelude.{◌≡◌, ℕ, List, false, pos, IfSome, IfNone};
+ghost use Rattle.atoi_simd.specs.IntType.{u32_type};
+ghost use Rattle.atoi_simd.specs.Text.{DigitsWrite, IsNumberThen};
+ghost use Rattle.atoi_uses.specs.Versions.{IsVersion, dot};
 ghost use Rattle.atoi_uses.specs.declared.versions.Version.{Version as VersionValue};
 
-use atoi_simd::laws::prefixes_and_rests;
-use atoi_simd::parse_prefix_pos;
+use crate::after_byte::after;
+use atoi_simd::laws::number_then_byte;
+use atoi_simd::{parse_pos, parse_prefix_pos};
 
 /// A version of three numbers.
 #[derive(Clone, Copy, Debug, PartialEq, Eq)]
 pub struct Version {
-    /// The first number.
     pub major: u32,
-    /// The second number.
     pub minor: u32,
-    /// The third number.
     pub patch: u32,
 }
 
@@ -27,43 +25,32 @@ pub fn parse_version(text: &[u8]) -> Option<Version>
     ensures some { IfSome result (λ version. IsVersion text.now version) }
     ensures none { IfNone result ((any : VersionValue) → ¬ IsVersion text.now any) }
 {
-    let (major, after_major) = part(text)?;
-    let (minor, after_minor) = part(after_dot(after_major)?)?;
-    let (patch, rest) = part(after_dot(after_minor)?)?;
-    if rest.is_empty() {
-        Some(Version {
+    let (major, after_major) = number_and_dot(text)?;
+    let (minor, after_minor) = number_and_dot(after_major)?;
+    match parse_pos::<u32, true>(after_minor) {
+        Ok(patch) => Some(Version {
             major,
             minor,
             patch,
-        })
-    } else {
-        None
-    }
-}
-
-// Reads the number that `text` begins with. Returns it, and what follows it.
-fn part(text: &[u8]) -> Option<(u32, &[u8])>
-    ensures some { IfSome result (λ found. IsPart text.now found.0 found.1.now) }
-    ensures only { IfSome result (λ found. (number : ℕ) (rest : List ℕ)
-        → IsPart text.now number rest → (number ≡ found.0) × (rest ≡ found.1.now)) }
-    ensures none { IfNone result ((number : ℕ) (rest : List ℕ) → ¬ IsPart text.now number rest) }
-{
-    // This law says that at most one prefix of a slice writes a number and has no digit after it.
-    // The call does nothing.
-    prefixes_and_rests::<u32>();
-    match parse_prefix_pos::<u32, true>(text) {
-        Ok((number, count)) => Some((number, &text[count..])),
+        }),
         Err(_) => None,
     }
 }
 
-// Returns what follows the dot that `text` begins with.
-pub(crate) fn after_dot(text: &[u8]) -> Option<&[u8]>
-    ensures some { IfSome result (λ rest. text.now ≡ dot ∷ rest.now) }
-    ensures none { IfNone result ((rest : List ℕ) → ¬ (text.now ≡ dot ∷ rest)) }
+// Returns the number that `text` begins with, and what follows the dot after it.
+fn number_and_dot(text: &[u8]) -> Option<(u32, &[u8])>
+    ensures some { IfSome result (λ found.
+        IsNumberThen (DigitsWrite u32_type false) text.now (pos found.0) dot found.1.now) }
+    ensures only { IfSome result (λ found. (number : ℕ) (rest : List ℕ)
+        → IsNumberThen (DigitsWrite u32_type false) text.now (pos number) dot rest
+        → rest ≡ found.1.now) }
+    ensures none { IfNone result ((number : ℕ) (rest : List ℕ)
+        → ¬ IsNumberThen (DigitsWrite u32_type false) text.now (pos number) dot rest) }
 {
-    match text {
-        [b'.', rest @ ..] => Some(rest),
-        _ => None,
-    }
+    number_then_byte::<u32>();
+    let Ok((number, count)) = parse_prefix_pos::<u32, true>(text) else {
+        return None;
+    };
+    let rest = after(&text[count..], b'.')?;
+    Some((number, rest))
 }

@@ -1,17 +1,16 @@
-//! Tests of the example callers in `atoi_uses`, one file for each of its files. Expected values are
-//! written by hand. The files use `checks`, `atoi_uses`, and the errors of `atoi_simd` and
-//! `atoi_column`.
+//! Tests of the example callers in `atoi_uses`, one file for each. Expected values are written by
+//! hand.
 
 mod addresses;
 mod bad_lines;
 mod cents;
 mod commands;
-mod dates;
+mod durations;
 mod headers;
-mod json;
-mod log_lines;
 mod own_engine;
+mod points;
 mod settings;
 mod signed_totals;
+mod status_line;
 mod totals;
 mod versions;

@@ -1,9 +1,9 @@
 -- A line is at most one command: its word and its text decide which.
-use Rattle.std.proofs.Common.{◌≡◌, ◌≢◌, ℕ, true, List, drop, ℤ, Ok, refl, sym, ap, ◌∙◌, arith}
+use Rattle.std.proofs.Common.{◌≡◌, ◌≢◌, ℕ, true, List, drop, ℤ, Ok, refl, sym, ap, ◌∙◌, subst, arith}
 use Rattle.std.specs.Prelude.{slice_index}
-use Rattle.atoi_core.specs.Answer.{parse_answer}
 use Rattle.atoi_core.specs.IntType.{i64_type}
-use Rattle.atoi_core.specs.Laws.{AcceptedTexts}
+use Rattle.atoi_core.specs.Text.{TextWrites}
+use Rattle.atoi_core.specs.Laws.{looked_for, OneNumber}
 use Rattle.atoi_uses.specs.Commands.{HasWord, IsCommand}
 use Rattle.atoi_uses.specs.declared.commands.Command.{Command}
 use Rattle.atoi_uses.specs.declared.commands.Word.{Word}
@@ -20,13 +20,11 @@ one_word line Set IncrBy s t h k = absurd (first_apart line 83 73 (ap (λ l. sli
 one_word line IncrBy Set s t h k = absurd (first_apart line 73 83 (ap (λ l. slice_index l 0) h) (ap (λ l. slice_index l 0) k) (omega arith))
 one_word line IncrBy IncrBy s t h k = (refl, ap (drop 7) (sym h ∙ k))
 
--- If a line begins with a word and a space, and `parse` with both flags returns a number for the
--- text after them, then the only command that the line can be has this word and this number.
-pub only_command : AcceptedTexts i64_type → (line text : List ℕ) (word : Word) (number : ℤ) → HasWord line word text
-    → parse_answer i64_type true true text ≡ Ok number
+-- If a number is written after a word and a space, the line is this one command.
+pub only_command : OneNumber i64_type → (line text : List ℕ) (word : Word) (number : ℤ) → HasWord line word text
+    → TextWrites i64_type true text number
     → (command : Command) → IsCommand line command → record { word = word; number = number } ≡ command
-only_command law line text word number has ok command is =
+only_command law line text word number has written command is =
     let one = one_word line word command.word text is.text has is.parts in
-    let same = law.number is.text command.number is.written in
-    let number_is : number ≡ command.number = cc in
+    let number_is = law (looked_for true) is.text number command.number (subst (λ t. TextWrites i64_type true t number) one.1 written) is.written in
     ap (λ w. record { word = w; number = number }) one.0 ∙ ap (λ n. record { word = command.word; number = n }) number_is
