@@ -16,7 +16,7 @@ use crate::error::AtoiSimdError;
 use crate::steps::Steps;
 use crate::wide_answer::{answer_64, append_digits, power_of_ten};
 use crate::window::Window;
-use crate::words::load_high;
+use crate::words::{load_from, load_full, load_high};
 
 // Eight zeros, each the byte 48.
 const ZEROS: u64 = 0x3030_3030_3030_3030;
@@ -237,40 +237,6 @@ fn not_full(len: u32, number: u64) -> Window
         len,
         zeroes: 0,
         number,
-    }
-}
-
-// Returns the word of the first 8 bytes from index `at` on, or of all bytes from there on if there
-// are fewer. If there are fewer, they are taken from the last 8 bytes of `s` by a shift. If no byte
-// is left, the word has to be shifted by 64 bits. A single shift can be of at most 63 bits, so the
-// code shifts twice.
-#[inline(always)]
-fn load_from(s: &[u8], at: usize) -> u64
-    requires enough { 8 ≤ length s.now }
-    requires inside { at ≤ length s.now }
-    requires low { at ≤ 16 }
-    ensures { result ≡ word_of (take 8 (drop at s.now)) }
-{
-    match s.last_chunk::<8>() {
-        Some(last) if s.len() < at + 8 => {
-            (u64::from_le_bytes(*last) >> (8 * (at + 7 - s.len()))) >> 8
-        }
-        Some(_) => load_full(&s[at..]),
-        None => 0,
-    }
-}
-
-// Returns the word of the first 8 bytes. Callers have checked the length. Unlike `load_8`, this
-// function has no code for shorter slices, because such code would enlarge each function that reads
-// a window.
-#[tactic(auto, using(crate::proofs::lemmas::LoadedWords::word_of_first))]
-fn load_full(s: &[u8]) -> u64
-    requires { 8 ≤ length s.now }
-    ensures { result ≡ word_of (take 8 s.now) }
-{
-    match s.first_chunk::<8>() {
-        Some(bytes) => u64::from_le_bytes(*bytes),
-        None => 0,
     }
 }
 
