@@ -17,7 +17,7 @@ use crate::powers::{append_digits, power_of_ten};
 use crate::steps::Steps;
 use crate::wide_answer::answer_64;
 use crate::window::Window;
-use crate::words::load_high;
+use crate::words::{load_from, load_full, load_high};
 use crate::zero_loop::window_after_zeros;
 
 // Eight zeros, each the byte 48.
@@ -209,36 +209,6 @@ fn join_words(s: &[u8], first: u64) -> Window
     } else {
         let high = value_of(first, 8) * power_of_ten(more);
         Window::not_full(8 + more, high + value_of_fewer(next, more))
-    }
-}
-
-// The word of at most 8 bytes from `at` on. Fewer than 8 are the highest of the last 8 bytes of `s`.
-// If none is left, these are shifted by 64 bits, and so in two shifts.
-#[inline(always)]
-fn load_from(s: &[u8], at: usize) -> u64
-    requires enough { 8 ≤ length s.now }
-    requires inside { at ≤ length s.now }
-    requires low { at ≤ 16 }
-    ensures { result ≡ word_of (take 8 (drop at s.now)) }
-{
-    match s.last_chunk::<8>() {
-        Some(last) if s.len() < at + 8 => {
-            (u64::from_le_bytes(*last) >> (8 * (at + 7 - s.len()))) >> 8
-        }
-        Some(_) => load_full(&s[at..]),
-        None => 0,
-    }
-}
-
-// `load_8` without code for shorter slices, which would enlarge each function that reads a window.
-#[tactic(auto, using(crate::proofs::lemmas::LoadedWords::word_of_first))]
-fn load_full(s: &[u8]) -> u64
-    requires { 8 ≤ length s.now }
-    ensures { result ≡ word_of (take 8 s.now) }
-{
-    match s.first_chunk::<8>() {
-        Some(bytes) => u64::from_le_bytes(*bytes),
-        None => 0,
     }
 }
 

@@ -37,6 +37,36 @@ pub fn load_high(s: &[u8]) -> u64
     (front << (64 - 8 * s.len())) | (last_four(s) << 32) | (last << 56)
 }
 
+/// The word of the first 8 bytes from `at` on, or of all from there on if there are fewer, from the
+/// last 8 bytes by a shift. It may be by all 64 bits, so there are two.
+#[inline(always)]
+pub fn load_from(s: &[u8], at: usize) -> u64
+    requires enough { 8 ≤ length s.now }
+    requires inside { at ≤ length s.now }
+    requires low { at ≤ 16 }
+    ensures { result ≡ word_of (take 8 (drop at s.now)) }
+{
+    match s.last_chunk::<8>() {
+        Some(last) if s.len() < at + 8 => {
+            (u64::from_le_bytes(*last) >> (8 * (at + 7 - s.len()))) >> 8
+        }
+        Some(_) => load_full(&s[at..]),
+        None => 0,
+    }
+}
+
+// `load_8` without code for shorter slices, which would enlarge each function that reads a window.
+#[tactic(auto, using(crate::proofs::lemmas::LoadedWords::word_of_first))]
+pub(crate) fn load_full(s: &[u8]) -> u64
+    requires { 8 ≤ length s.now }
+    ensures { result ≡ word_of (take 8 s.now) }
+{
+    match s.first_chunk::<8>() {
+        Some(bytes) => u64::from_le_bytes(*bytes),
+        None => 0,
+    }
+}
+
 // The word of the first four bytes, or 0 if there are fewer. Here and below, LLVM compiles a choice
 // between two arrays, not two numbers, without a branch.
 fn first_four(s: &[u8]) -> u64

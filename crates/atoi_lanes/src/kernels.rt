@@ -6,7 +6,7 @@ ghost use Rattle.atoi_core.specs.Run.{run_len, run, zeros, value};
 ghost use Rattle.atoi_core.specs.Words.{word_of};
 ghost use Rattle.atoi_lanes.specs.Lanes.{itself, padded, padded_start, paired};
 
-use atoi_core::words::{load_8, load_high};
+use atoi_core::words::{load_8, load_from, load_high};
 use std::simd::prelude::*;
 
 const LANES: usize = 16;
@@ -28,19 +28,10 @@ pub fn load_lanes(s: &[u8]) -> u8x16
 {
     match s.first_chunk::<LANES>() {
         Some(bytes) => u8x16::from_array(*bytes),
-        None => u64x2::from_array([load_8(s), load_after_8(s)]).to_le_bytes(),
-    }
-}
-
-// The word of the bytes after the first 8, from the last 8 by a shift. It may be by all 64 bits, so
-// there are two.
-fn load_after_8(s: &[u8]) -> u64
-    requires { length s.now < LANES }
-    ensures { result ≡ word_of (take 8 (drop 8 s.now)) }
-{
-    match s.last_chunk::<8>() {
-        Some(bytes) => u64::from_le_bytes(*bytes) >> (8 * (LANES - 1 - s.len())) >> 8,
-        None => 0,
+        None => {
+            let high = if s.len() < 8 { 0 } else { load_from(s, 8) };
+            u64x2::from_array([load_8(s), high]).to_le_bytes()
+        }
     }
 }
 

@@ -14,44 +14,38 @@ pub value-after_zeros : (n : ℕ) (xs : List ℕ) → value itself (replicate n 
 value-after_zeros zero xs = refl
 value-after_zeros (suc n) xs = omega (arith, value-after_zeros n xs)
 
--- A byte minus 48. The subtraction wraps. The byte 48 is the digit zero.
+-- A byte minus 48, which wraps.
 abbrev pub above_zero : ℕ → ℕ
 above_zero x = (x + (2 ^ 8 - 48)) % 2 ^ 8
 
--- If the byte is a digit, `above_zero` returns its digit value, which is below ten.
 above_zero-digit : (x : ℕ) → is_digit decimal_table x ≡ true → (above_zero x ≡ digit_value decimal_table x) × (above_zero x < 10)
 above_zero-digit x h = (grind (arith, nat_tests), grind (arith, nat_tests))
 
--- For each byte that is a digit, f returns its digit value, which is below ten.
+-- f returns the digit value of each digit.
 abbrev pub GivesDigitValues : (ℕ → ℕ) → Type 0
 GivesDigitValues f = (x : ℕ) → is_digit decimal_table x ≡ true → (f x ≡ digit_value decimal_table x) × (f x < 10)
 
--- If f returns digit values and the first n elements are digits, then the numbers that f returns
--- for these elements spell the value of these digits, and each number is below ten.
+-- Such an f, applied to n digits, makes n numbers below ten that spell their value.
 pub digits_value : (f : ℕ → ℕ) → GivesDigitValues f → (n : ℕ) (v : List ℕ) → n ≤ run_len decimal_table v
     → (value itself (take n (map f v)) ≡ value decimal_table (take n v)) × Each1 (λ x. x < 10) (take n (map f v))
 digits_value f makes zero v h = (refl, tt)
 digits_value f makes (suc n) [] h = (refl, tt)
 digits_value f makes (suc n) (x ∷ xs) h =
-    (elim (is_digit decimal_table x) as (λ b. is_digit decimal_table x ≡ b → suc n ≤ cond b (1 + run_len decimal_table xs) 0
-    → (f x * 10 ^ length (take n (map f xs)) + value itself (take n (map f xs)) ≡ digit_value decimal_table x * 10 ^ length (take n xs) + value decimal_table (take n xs))
-    × ((f x < 10) × Each1 (λ y. y < 10) (take n (map f xs)))) [
-      | true ↦ λ is inside.
-          let count : length (take n (map f xs)) ≡ length (take n xs) = omega (arith, length-take n (map f xs), length-take n xs, length-map xs f) in
-          let first = makes x is in
-          let rest = digits_value f makes n xs (omega arith) in
-          (ap₂ (λ a b. a + b) (ap₂ (λ w m. w * 10 ^ m) first.0 count) rest.0, (first.1, rest.1))
-      | false ↦ λ is none. absurd (omega arith)
-    ]) refl h
+    let passes : (is_digit decimal_table x ≡ true) × (n ≤ run_len decimal_table xs) =
+    (elim (is_digit decimal_table x) as (λ b. suc n ≤ cond b (1 + run_len decimal_table xs) 0 → (b ≡ true) × (n ≤ run_len decimal_table xs)) [
+      | true ↦ λ more. (refl, omega arith)
+      | false ↦ λ none. absurd (omega arith)
+    ]) h in
+    let count : length (take n (map f xs)) ≡ length (take n xs) = omega (arith, length-take n (map f xs), length-take n xs, length-map xs f) in
+    let first = makes x passes.0 in
+    let rest = digits_value f makes n xs passes.1 in
+    (ap₂ (λ a b. a + b) (ap₂ (λ w m. w * 10 ^ m) first.0 count) rest.0, (first.1, rest.1))
 
--- If all numbers of a list are below ten, and zeros are put before the list, then all numbers of
--- the longer list are below ten.
 pub below_after_zeros : (n : ℕ) (xs : List ℕ) → Each1 (λ x. x < 10) xs → Each1 (λ x. x < 10) (replicate n 0 ++ xs)
 below_after_zeros zero xs h = h
 below_after_zeros (suc n) xs h = (omega arith, below_after_zeros n xs h)
 
--- If 48 is subtracted from each lane and the first n lanes, which hold digits, are moved to the end,
--- the lanes spell the value of these digits.
+-- The first n lanes, which hold digits, less 48 each and moved to the end, spell their value.
 pub moved_values : (n : ℕ) (v lanes : List ℕ) → n ≤ 16 → length v ≡ 16 → n ≤ run_len decimal_table v
     → lanes ≡ take 16 (drop n (padded (zip2 (λ x y. (x + (2 ^ 8 - y)) % 2 ^ 8) v (replicate 16 48))))
     → (value itself lanes ≡ value decimal_table (take n v)) × Each1 (λ x. x < 10) lanes

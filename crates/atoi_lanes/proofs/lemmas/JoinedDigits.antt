@@ -12,13 +12,11 @@ use Rattle.atoi_lanes.proofs.lemmas.Shuffles.{listed}
 use Rattle.atoi_lanes.specs.Lanes.{itself, paired}
 use lib.Lanes.{Each1, number_l, digits_l, dots}
 
--- If all digits are below t, all joined digits are below t * t.
 pub paired-below : (t : ℕ) (xs : List ℕ) → Each1 (λ x. x < t) xs → Each1 (λ x. x < t * t) (paired t xs)
 paired-below t [] h = tt
 paired-below t (x ∷ []) h = tt
 paired-below t (x ∷ y ∷ rest) h = (digits_lt {q = x} {m = t} h.0 h.1.0, paired-below t rest h.1.1)
 
--- If there are m + m digits, there are m joined digits.
 pub length-paired : (t m : ℕ) (xs : List ℕ) → length xs ≡ m + m → length (paired t xs) ≡ m
 length-paired t m [] long = omega arith
 length-paired t m (x ∷ []) long = absurd (omega arith)
@@ -41,20 +39,18 @@ spelled xs long = subst Spelled (listed 16 0 xs (sym long)) (spelled_16 (λ i. g
 
 -- ---- Joining the two halves of each lane
 
--- The number that n digits of base p spell is below p^n.
 number-lt : (p : ℕ) (xs : List ℕ) → Each1 (λ x. x < p) xs → number_l p xs < p ^ length xs
 number-lt p [] h = omega (arith, pow-zero p)
 number-lt p (x ∷ xs) h = omega (arith, h.0, pow-suc p (length xs), mul-le-mul_right p (number-lt p xs h.1))
 
--- A number below p^n is spelled by its n digits.
 number-digits : (p n x : ℕ) → 0 < p → x < p ^ n → number_l p (digits_l p n x) ≡ x
 number-digits p zero x some lt = omega (arith, pow-zero p)
 number-digits p (suc n) x some lt =
     let above : x / p < p ^ n = (div-lt_iff_lt-mul {k = p} some).1 (omega (arith, pow-suc p n)) in
     ap (λ m. x % p + p * m) (number-digits p n (x / p) some above) ∙ omega (arith, div-add-mod x p)
 
--- If a step on a field joins the two digits in this field to one, then applying this step to all
--- fields joins all neighbouring digits. The first digit of a field is in its lower half.
+-- A step that joins the two digits in each field joins all neighbouring digits. The first digit of
+-- a field is in its lower half.
 join_lanes : (p t : ℕ) (step : ℕ → ℕ) → t ≤ p → ((x y : ℕ) → x < t → y < t → step (y * p + x) ≡ x * t + y)
     → (m : ℕ) (xs : List ℕ) → length xs ≡ m + m → Each1 (λ x. x < t) xs → map step (digits_l (p * p) m (number_l p xs)) ≡ paired t xs
 join_lanes p t step le joins zero [] long h = refl
@@ -69,8 +65,7 @@ join_lanes p t step le joins (suc m) (x ∷ y ∷ rest) long h =
     (ap (λ k. map step (digits_l (p * p) m k)) (ap (λ k. k / (p * p)) all ∙ div-mul-add n (p * p) (y * p + x) field)
     ∙ join_lanes p t step le joins m rest (omega arith) h.1.1)
 
--- Suppose that p to the power of `length xs` is 256^n. If the number that the digits xs spell in
--- base p is split into n bytes, then the bytes spell the same number in base 256.
+-- Lanes of base p, split into bytes, spell the same number.
 recast : (p n : ℕ) (xs : List ℕ) → p ^ length xs ≡ 256 ^ n → Each1 (λ x. x < p) xs → number_l 256 (digits_l 256 n (number_l p xs)) ≡ number_l p xs
 recast p n xs same h = number-digits 256 n (number_l p xs) (omega arith) (omega (arith, same, number-lt p xs h))
 
@@ -82,9 +77,7 @@ eight field = (bit_and field 4294967295 * 10000 % 2 ^ 64 + field / 2 ^ 32) % 2 ^
 eight-joins : (x y : ℕ) → x < 10000 → y < 10000 → eight (y * 2 ^ 32 + x) ≡ x * 10000 + y
 eight-joins x y a b = rw (and_mask (y * 2 ^ 32 + x) 32) (omega arith)
 
--- The weights of the bytes in `m` groups of two lanes. Each lane has two bytes and holds a pair of
--- digits in its upper byte. The upper bytes of a group have the weights 100 and 1, and the lower
--- bytes have the weight 0. `four_each m` is the number of bytes in all `m` groups.
+-- The weights of the bytes in `m` groups of two lanes, each with a pair of digits in its upper byte.
 abbrev hundreds : ℕ → List ℕ
 hundreds zero = []
 hundreds (suc m) = 0 ∷ 100 ∷ 0 ∷ 1 ∷ hundreds m
@@ -93,12 +86,10 @@ abbrev four_each : ℕ → ℕ
 four_each zero = zero
 four_each (suc m) = suc (suc (suc (suc (four_each m))))
 
--- The upper byte of a lane of 16 bits.
 abbrev upper : ℕ → ℕ
 upper lane = lane / 256
 
--- `dots` adds up each group of four bytes, multiplied by their weights. With the weights
--- `hundreds`, it joins neighbouring pairs to numbers of four digits.
+-- With these weights `dots` joins neighbouring pairs to numbers of four digits.
 weighed : (m : ℕ) (xs : List ℕ) → length xs ≡ m + m → Each1 (Fits w16) xs
     → dots (digits_l 256 (four_each m) (number_l 65536 xs)) (hundreds m) ≡ paired 100 (map upper xs)
 weighed zero [] long h = refl
@@ -116,7 +107,6 @@ weighed (suc m) (x ∷ y ∷ rest) long h =
     ap₂ (λ d ds. d ∷ ds) (omega (arith, first, second))
     (ap (λ k. dots (digits_l 256 (four_each m) k) (hundreds m)) following ∙ weighed m rest (omega arith) h.1.1)
 
--- A product modulo 2^16 fits in a lane of 16 bits.
 wrapped : (factor : ℕ) (xs : List ℕ) → Each1 (Fits w16) (map (λ field. field * factor % 65536) xs)
 wrapped factor [] = tt
 wrapped factor (x ∷ xs) = (record { fits = omega arith }, wrapped factor xs)

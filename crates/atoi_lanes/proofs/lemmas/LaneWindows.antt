@@ -1,6 +1,4 @@
--- Windows of 8, 16 and 32 bytes that are read in lanes, and the answers that these windows decide.
--- A window describes the *run* of its bytes, which is their longest prefix of digits. The engine
--- `Lanes` and its parsers of integers of 64 and of 128 bits are proved with these lemmas.
+-- Windows and readings from lanes.
 use Rattle.std.proofs.Common.{◌≡◌, ℕ, ◌<◌, ◌==◌, List, length, take, replicate, refl, sym, ap, ap₂, ◌∙◌, arith, if◌then◌else◌, ◌≤◌, drop}
 use Rattle.std.proofs.lemmas.List.{take_all, length-take, take-append-le, length-drop}
 use Rattle.atoi_core.specs.Digit.{decimal_table, is_digit, is_zero}
@@ -11,8 +9,7 @@ use Rattle.atoi_core.specs.declared.window.Window.{Window}
 use Rattle.atoi_lanes.proofs.lemmas.Padding.{prefix_len-padded, prefix-padded}
 use Rattle.atoi_lanes.specs.Lanes.{lane_window, padded_start}
 
--- The window of the lanes is the window of the bytes that were loaded into them. The lanes of 0
--- after these bytes change nothing.
+-- Lanes of 0 after the loaded bytes change nothing.
 lanes_show : (size : ℕ) (s : List ℕ) → lane_window size (padded_start 16 s) ≡ lane_window size (take 16 s)
 lanes_show size s =
     let len = prefix_len-padded (is_digit decimal_table) refl 16 16 s in
@@ -23,17 +20,13 @@ lanes_show size s =
     ap₂ (λ n z. window n z (run decimal_table (padded_start 16 s))) len leading
     ∙ ap (window (run_len decimal_table (take 16 s)) (zeros decimal_table (take 16 s))) front
 
--- 16 lanes that hold the first 16 bytes give the window of 16 bytes.
 pub window-of_lanes : (s : List ℕ) → lane_window 16 (padded_start 16 s) ≡ window_of decimal_table 16 s
 window-of_lanes s = lanes_show 16 s
 
--- 16 lanes that hold the first 8 bytes give the window of 8 bytes.
 pub window-of_half_the_lanes : (s : List ℕ) → lane_window 8 (padded_start 16 (take 8 s)) ≡ window_of decimal_table 8 s
 window-of_half_the_lanes s = lanes_show 8 (take 8 s) ∙ ap (lane_window 8) (take_all 16 (take 8 s) (omega (arith, length-take 8 s)))
 
--- If a slice has fewer than 16 bytes, the length and the number in its window of 16 bytes are also
--- those of a reading of 32 bytes. The window reports no zeros of such a slice, but the reading
--- does.
+-- The window of fewer than 16 bytes is a reading of 32, but for the zeros, which it does not report.
 pub reading-of_few : (s : List ℕ) (w : Window) → length s < 16 → w ≡ window_of decimal_table 16 s
     → Reading decimal_table 32 s w.len (zeros decimal_table (take 32 s)) w.number
 reading-of_few s w few e =
@@ -44,10 +37,7 @@ reading-of_few s w few e =
       number_is = ap (λ v. v.number) e ∙ ap (λ l. value decimal_table (run decimal_table l)) all;
     }
 
--- ---- 32 bytes in two vectors
-
--- If the lanes hold the first 16 bytes of a slice, the digits and zeros that the lanes begin with,
--- and the number that the digits spell, are a reading of these bytes.
+-- What the lanes of the first 16 bytes begin with is a reading of these bytes.
 pub reading-of_lanes : (s lanes : List ℕ) (len number : ℕ) → lanes ≡ padded_start 16 s → len ≡ run_len decimal_table lanes
     → number ≡ value decimal_table (take len lanes) → Reading decimal_table 16 s len (zeros decimal_table lanes) number
 reading-of_lanes s lanes len number loaded digits writes =
@@ -60,6 +50,6 @@ reading-of_lanes s lanes len number loaded digits writes =
           ∙ ap (value decimal_table) (prefix-padded (is_digit decimal_table) 16 s (replicate 16 0));
     }
 
--- If the slice has at least 32 bytes, the 16 bytes after the first 16 fill a vector.
+-- With at least 32 bytes, those after the first 16 fill a vector.
 pub after_all : (s : List ℕ) → 32 ≤ length s → take 16 (drop 16 s) ≡ padded_start 16 (drop 16 s)
 after_all s enough = sym (take-append-le 16 (drop 16 s) (replicate 16 0) (omega (arith, length-drop 16 s)))

@@ -10,7 +10,6 @@ use lib.Count.{count_trailing_zeros}
 use lib.Lanes.{Each1, mask_l, top}
 use lib.Pow.{pow_mono}
 
--- If a bit of 0 is put below the bits of a number, the number has one more trailing zero bit.
 trailing-even : (k n : ℕ) → count_trailing_zeros (suc k) (2 * n) ≡ suc (count_trailing_zeros k n)
 unfolding count_trailing_zeros
 trailing-even k n =
@@ -18,13 +17,12 @@ trailing-even k n =
     let lowest : 2 * n % 2 ≡ 0 = omega arith in
     rw (lowest, rest)
 
--- A number that ends with a 1 has no trailing zero bits.
 trailing-odd : (k n : ℕ) → count_trailing_zeros (suc k) (2 * n + 1) ≡ 0
 unfolding count_trailing_zeros
 trailing-odd k n = let lowest : (2 * n + 1) % 2 ≡ 1 = omega arith in rw lowest
 
--- If there are fewer than k lanes, the number of trailing zero bits in the complement of their mask
--- is the number of leading lanes that pass.
+-- The trailing zero bits of the complement are the leading lanes that pass, if there are fewer
+-- than k lanes.
 trailing-complement : (p : ℕ → Bool) (k : ℕ) (xs : List ℕ) → length xs < k → count_trailing_zeros k ((2 ^ k - 1) - mask_l (map p xs)) ≡ prefix_len p xs
 trailing-complement p zero xs h = absurd (omega arith)
 trailing-complement p (suc k) [] h =
@@ -43,13 +41,12 @@ trailing-complement p (suc k) (x ∷ xs) h =
           ap (count_trailing_zeros (suc k)) odd ∙ trailing-odd k ((2 ^ k - 1) - m)
     ]
 
--- If two tests agree on each byte, then the same elements of a list of bytes pass both tests.
+-- Tests that agree on each byte agree on lists of bytes.
 map-agree : (p q : ℕ → Bool) → agree_below p q 256 ≡ true → (xs : List ℕ) → Each1 (Fits w8) xs → map p xs ≡ map q xs
 map-agree p q all [] fits = refl
 map-agree p q all (x ∷ xs) fits = ap₂ (λ b bs. b ∷ bs) (agree_below_at p q 256 x all fits.0.fits) (map-agree p q all xs fits.1)
 
--- For each byte x, let the top bit of `f x` be set exactly if x passes the test. If f is applied to
--- all lanes, the mask of the top bits of the results is the mask of the lanes that pass.
+-- If the top bit of `f x` is set exactly where x passes, f makes the mask of the lanes that pass.
 pub mask-of_lanes : (q : ℕ → Bool) (v : List ℕ) (f : ℕ → ℕ) (z : List ℕ) → length v < 64 → Each1 (Fits w8) v → z ≡ map f v
     → agree_below (λ x. top 7 (f x)) q 256 ≡ true → mask_l (map (top 7) z) % 2 ^ 64 ≡ mask_l (map q v)
 mask-of_lanes q v f z long fits lanes all =
@@ -58,11 +55,10 @@ mask-of_lanes q v f z long fits lanes all =
     ∙ mask_l-mod (map set v) 64 (omega (arith, length-map v set))
     ∙ ap mask_l (map-agree set q all v fits)
 
--- The number of trailing ones in the mask is the number of leading lanes that pass.
 pub ones-of_mask : (q : ℕ → Bool) (v : List ℕ) → length v < 64 → (mask : ℕ) → mask ≡ mask_l (map q v) → trailing_ones w64 mask ≡ prefix_len q v
 ones-of_mask q v long mask is = ap (trailing_ones w64) is ∙ trailing-complement q 64 v (omega arith)
 
--- Dropping the lowest bits of a mask gives the mask of the other lanes.
+-- Without its lowest bits, a mask is the mask of the other lanes.
 pub mask-drop : (k : ℕ) (ms : List Bool) → mask_l ms / 2 ^ k ≡ mask_l (drop k ms)
 mask-drop zero ms = ap (λ p. mask_l ms / p) (pow-zero 2) ∙ div-one (mask_l ms)
 mask-drop (suc k) [] = zero-div (2 ^ suc k)

@@ -14,9 +14,7 @@ use Rattle.std.proofs.lemmas.Bool.{cases_lt, false≢true}
 use Rattle.atoi_core.specs.Magnitude.{wide64, wide128, prefix_magnitude}
 use Rattle.atoi_lanes.specs.declared.window_32.Window32.{Window32}
 
--- The loop is not entered if zeros are not skipped, or if the first window begins with no zero or
--- is not full of digits. So if the loop is not entered although zeros are skipped and the first
--- window is full of digits, then this window begins with no zero.
+-- If zeros are skipped but the loop is not entered, a full first window begins with no zero.
 pub first-ends : (skip : Bool) (len leading : ℕ) → len ≤ 32
     → ((skip ≡ true) × (0 < leading) × (len ≡ 32 → ⊥)) ⊎ (((skip ≡ true) × (leading ≤ 0)) ⊎ (skip ≡ false))
     → skip ≡ true → 32 ≤ len → leading ≡ 0
@@ -45,7 +43,7 @@ few_loads most unskipped skip s before after one few room zeros_few =
 
 -- ---- Windows of 32 bytes decide the answers
 
--- All digits of a window are significant, except the zeros at its start if zeros are skipped.
+-- The digits of a window are significant, but for its leading zeros if these are skipped.
 significant_are : (skip : Bool) (len reported leading : ℕ) → reported ≤ len → ((skip ≡ true) × (leading ≡ reported)) ⊎ ((skip ≡ false) × (leading ≡ 0))
     → (significant_digits skip len reported ≡ len - leading) × (len - significant_digits skip len reported ≡ leading)
 significant_are true len reported leading most is = elim is [ inl h ↦ (omega (arith, h), omega (arith, h)) | inr h ↦ absurd (false≢true (sym h.0)) ]
@@ -67,8 +65,8 @@ decided_64 bound limit skip s at leading w few front is =
     ∙ ap (λ (n : ℕ). answer_by_digits wide64 bound limit (at + n) (significant_digits skip w.len w.zeroes) w.number s) count.1
     ∙ ap (λ (n : ℕ). answer_by_digits wide64 bound limit (at + leading) n w.number s) count.0)
 
--- For 128 bits, a window that is full of digits and the 8 bytes after it decide the answer. The
--- first three facts are conditions of `answer_128`.
+-- For 128 bits, a full window and the 8 bytes after it decide the answer. The first three facts are
+-- conditions of `answer_128`.
 pub decided_full : (bound : ℕ) (skip : Bool) (s : List ℕ) (at : ℕ) (w : Window32) (back : Window)
     → ReadsAfterZeros skip s at w.len w.zeroes w.number → 32 ≤ w.len
     → back ≡ window_of decimal_table 8 (take (length s - (at + 32)) (drop (at + 32) s))

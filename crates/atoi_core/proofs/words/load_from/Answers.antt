@@ -1,7 +1,7 @@
 -- Fewer than eight bytes are the highest of the last eight.
 use Rattle.std.proofs.Common.{◌∙◌, ap, ◌+◌, ◌/◌, ◌-◌, ◌*◌, ◌^◌, length}
 use Rattle.atoi_core.proofs.lemmas.LoadedWords.{last_bytes}
-use Rattle.atoi_core.proofs.word_engine.load_from.Goals as goal
+use Rattle.atoi_core.proofs.words.load_from.Goals as goal
 
 pub returns-in-Some : goal.returns-in-Some
 returns-in-Some c =
