@@ -173,12 +173,6 @@ dropped_is t true limit s at before now w after_skip =
           ])
     ]
 
--- The number of the last window is at most the value of the run.
-number_most : (t : Table) (skip : Bool) (s : List ℕ) (at before now : ℕ) (w : Window) →
-    Skipped t skip s at before now w → w.number ≤ value t (run t s)
-number_most t skip s at before now w after_skip =
-    omega (arith, after_skip.value_is, after_skip.window.number_is, value-take-le t (drop at s) w.len (run_len t (drop at s)) (omega (arith, after_skip.window.len_is)))
-
 -- The number of a full window without a leading zero is at least 10^15.
 least : (t : Table) (s : List ℕ) (w : Window) → Shows t 16 s w → 16 ≤ w.len → w.zeroes ≡ 0 → 10 ^ 15 ≤ w.number
 least t s w seen full none =
@@ -192,7 +186,7 @@ not_too_long : (t : Table) (skip : Bool) (limit : ℕ) (s : List ℕ) → (skip 
 not_too_long t true limit s few = refl
 not_too_long t false limit s few = le-ltb 16 (significant_len t false s) (omega (arith, few refl))
 
--- If its number fits in 32 bits, the last window holds the rest of the run.
+-- If its number fits in 32 bits, the last window ends with the run.
 ends : (t : Table) (skip : Bool) (s : List ℕ) (at before now : ℕ) (w : Window) →
     Skipped t skip s at before now w → (skip ≡ false → run_len t s ≤ 16) → w.number ≤ 4294967295 → run_len t (drop at s) ≡ w.len
 ends t false s at before now w after_skip few small = omega (arith, few refl, after_skip.off refl, after_skip.run_is, after_skip.window.len_is)
@@ -203,38 +197,41 @@ ends t true s at before now w after_skip few small =
           absurd (omega (arith, least t (drop at s) w after_skip.window h (after_skip.last refl)))
     ]
 
--- If the number of the last window is above the bound, the answer is `Overflow`.
-narrow_overflow : (t : Table) (bound limit : ℕ) (skip : Bool) (s : List ℕ) (at before now : ℕ) (w : Window) →
-    Skipped t skip s at before now w → (skip ≡ false → run_len t s ≤ 16) → 0 < at + w.len → bound < w.number →
-    Err (overflow (drop at s)) ≡ prefix_magnitude t narrow bound limit skip s
-narrow_overflow t bound limit skip s at before now w after_skip few some over =
-    let digits : 0 < run_len t s = omega (arith, after_skip.run_is, after_skip.window.len_is) in
-    let above : bound < value t (run t s) = omega (arith, number_most t skip s at before now w after_skip) in
-    rw (refused_overflow t narrow bound limit prefix skip s digits (not_too_long t skip limit s few) above)
-    (rw (dropped_is t skip limit s at before now w after_skip) refl)
+-- Let zeros be skipped, or let the run have at most 16 digits.
+module _ (t : Table) (skip : Bool) (s : List ℕ) (at before now : ℕ) (w : Window)
+    (after_skip : Skipped t skip s at before now w) (few : skip ≡ false → run_len t s ≤ 16) where
+  -- The number of the last window is at most the value of the run.
+  number_most : w.number ≤ value t (run t s)
+  number_most =
+      omega (arith, after_skip.value_is, after_skip.window.number_is, value-take-le t (drop at s) w.len (run_len t (drop at s)) (omega (arith, after_skip.window.len_is)))
 
--- If there is a digit, and the number of the last window is within the bound, the answer is `Ok`.
-narrow_ok : (t : Table) (bound limit : ℕ) (skip : Bool) (s : List ℕ) (at before now : ℕ) (w : Window) →
-    Skipped t skip s at before now w → bound ≤ 4294967295 → (skip ≡ false → run_len t s ≤ 16) → 0 < at + w.len → w.number ≤ bound →
-    Ok (w.number, at + w.len) ≡ prefix_magnitude t narrow bound limit skip s
-narrow_ok t bound limit skip s at before now w after_skip high few some within =
-    let rest : run_len t (drop at s) ≡ w.len = ends t skip s at before now w after_skip few (omega arith) in
-    let number : value t (run t s) ≡ w.number =
-    after_skip.value_is ∙ ap (λ (n : ℕ). value t (take n (drop at s))) rest ∙ sym after_skip.window.number_is in
-    let len : run_len t s ≡ at + w.len = omega (arith, after_skip.run_is) in
-    let accepted : IsAccepted t narrow bound limit prefix skip s =
-    record { some = omega arith; short = not_too_long t skip limit s few; in_range = omega arith; ends = refl } in
-    rw (refusal-none t narrow bound limit prefix skip s accepted, number, len) refl
+  -- If its number fits in 32 bits, the last window holds the rest of the run.
+  rest_is : w.number ≤ 4294967295 → (run_len t s ≡ at + w.len) × (value t (run t s) ≡ w.number)
+  rest_is small =
+      let rest : run_len t (drop at s) ≡ w.len = ends t skip s at before now w after_skip few small in
+      (omega (arith, after_skip.run_is), after_skip.value_is ∙ ap (λ (n : ℕ). value t (take n (drop at s))) rest ∙ sym after_skip.window.number_is)
 
--- If there is a digit, the last window decides between `Ok` and `Overflow`.
-pub narrow_after_skip : (t : Table) (bound limit : ℕ) (skip : Bool) (s : List ℕ) (at before now : ℕ) (w : Window) →
-    Skipped t skip s at before now w → bound ≤ 4294967295 → (skip ≡ false → run_len t s ≤ 16) → 0 < at + w.len →
-    (if nat_lt bound w.number then Err (overflow (drop at s)) else Ok (w.number, at + w.len)) ≡ prefix_magnitude t narrow bound limit skip s
-narrow_after_skip t bound limit skip s at before now w after_skip high few some =
-    elim (cases_lt bound w.number) [
-      | inl over ↦ rw (lt-ltb bound w.number over) (narrow_overflow t bound limit skip s at before now w after_skip few some over)
-      | inr fits ↦ rw (le-ltb bound w.number fits) (narrow_ok t bound limit skip s at before now w after_skip high few some fits)
-    ]
+  -- If there is a digit, the number of the last window decides between `Overflow` and `Ok`.
+  narrow_overflow : (bound limit : ℕ) → 0 < at + w.len → bound < w.number → Err (overflow (drop at s)) ≡ prefix_magnitude t narrow bound limit skip s
+  narrow_overflow bound limit some over =
+      let digits : 0 < run_len t s = omega (arith, after_skip.run_is, after_skip.shown.len_is) in
+      rw (refused_overflow t narrow bound limit prefix skip s digits (not_too_long t skip limit s few) (omega (arith, number_most)))
+      (rw (dropped_is t skip limit s at before now w after_skip) refl)
+
+  narrow_ok : (bound limit : ℕ) → bound ≤ 4294967295 → 0 < at + w.len → w.number ≤ bound → Ok (w.number, at + w.len) ≡ prefix_magnitude t narrow bound limit skip s
+  narrow_ok bound limit high some within =
+      let all = rest_is (omega arith) in
+      let accepted : IsAccepted t narrow bound limit prefix skip s =
+      record { some = omega (arith, all.0); short = not_too_long t skip limit s few; in_range = omega (arith, all.1); ends = refl } in
+      rw (refusal-none t narrow bound limit prefix skip s accepted, all.1, all.0) refl
+
+  pub narrow_after_skip : (bound limit : ℕ) → bound ≤ 4294967295 → 0 < at + w.len →
+      (if nat_lt bound w.number then Err (overflow (drop at s)) else Ok (w.number, at + w.len)) ≡ prefix_magnitude t narrow bound limit skip s
+  narrow_after_skip bound limit high some =
+      elim (cases_lt bound w.number) [
+        | inl over ↦ rw (lt-ltb bound w.number over) (narrow_overflow bound limit some over)
+        | inr fits ↦ rw (le-ltb bound w.number fits) (narrow_ok bound limit high some fits)
+      ]
 
 -- More than 16 digits without skipping are the error `Size` of 17.
 pub narrow_size : (t : Table) (bound limit : ℕ) (skip : Bool) (s : List ℕ) → true ≡ (not skip && nat_lt 16 (run_len t s)) →
@@ -258,19 +255,18 @@ digit_after_16 t s full =
 pub narrow_decides : (t : Table) (s : List ℕ) (at before now : ℕ) (w : Window) (len : ℕ) → Skipped t true s at before now w →
     len ≡ at + w.len → (bound : ℕ) → bound ≤ 4294967295 → narrow_decision bound len w.number s ≡ whole_magnitude t narrow bound 0 false s
 narrow_decides t s at before now w len after_skip len_is bound high =
+    let few : true ≡ false → run_len t s ≤ 16 = λ no. absurd (cc no) in
     elim (cases_lt bound w.number) [
       | inl over ↦
           let some : 0 < w.len = elim (eq-zero-or-pos w.len) [ inl e ↦ absurd (omega (arith, after_skip.window.below, ap (λ (n : ℕ). 10 ^ n) e)) | inr h ↦ h ] in
           let digits : 0 < run_len t s = omega (arith, after_skip.run_is, after_skip.window.len_is) in
-          let above : bound < value t (run t s) = omega (arith, number_most t true s at before now w after_skip) in
+          let above : bound < value t (run t s) = omega (arith, number_most t true s at before now w after_skip few) in
           rw (ne_eqb len 0 (omega arith), lt-ltb bound w.number over)
           (sym (narrow_whole_is t bound 0 false s (run_len t s) (value t (run t s)) refl refl
           ∙ rw (ne_eqb (run_len t s) 0 (omega arith), lt-ltb bound (value t (run t s)) above) refl))
       | inr fits ↦
-          let rest : run_len t (drop at s) ≡ w.len = ends t true s at before now w after_skip (λ no. absurd (cc no)) (omega arith) in
-          let number : value t (run t s) ≡ w.number =
-          after_skip.value_is ∙ ap (λ (n : ℕ). value t (take n (drop at s))) rest ∙ sym after_skip.window.number_is in
-          let all : run_len t s ≡ len = omega (arith, after_skip.run_is) in
-          sym (narrow_whole_is t bound 0 false s len w.number all (ap (λ (n : ℕ). value t (take n s)) (sym all) ∙ number)
+          let rest = rest_is t true s at before now w after_skip few (omega arith) in
+          let all : run_len t s ≡ len = rest.0 ∙ sym len_is in
+          sym (narrow_whole_is t bound 0 false s len w.number all (ap (λ (n : ℕ). value t (take n s)) (sym all) ∙ rest.1)
           ∙ grind (arith, nat_tests))
     ]

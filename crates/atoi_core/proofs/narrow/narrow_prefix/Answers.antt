@@ -25,7 +25,7 @@ last g c =
 
 pub returns-else-is_too_long-clause-answer : goal.returns-else-is_too_long-clause-answer
 returns-else-is_too_long-clause-answer g c =
-    c.answer_at.ensures ∙ narrow_after_skip _ _ _ _ _ _ _ _ _ (last g c) c.requires.high (few _ _ c.if-is_too_long.ensures.answer) (omega arith)
+    c.answer_at.ensures ∙ narrow_after_skip _ _ _ _ _ _ _ (last g c) (few _ _ c.if-is_too_long.ensures.answer) _ _ c.requires.high (omega arith)
 
 pub returns-else-is_too_long-clause-loads : goal.returns-else-is_too_long-clause-loads
 returns-else-is_too_long-clause-loads g c = Skipped-one _ _ _ _ _ _ _ (last g c) c.window-window.ensures.one_step c.is_too_long.ensures.loads

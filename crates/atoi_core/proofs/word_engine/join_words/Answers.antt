@@ -6,6 +6,7 @@ use Rattle.atoi_core.specs.Words.{low_bytes, low_value}
 use Rattle.atoi_core.specs.declared.window.Window.{Window}
 use Rattle.atoi_core.proofs.lemmas.LoadedWords.{enough_bytes, fits_after, loaded_bytes, loaded_run, loaded_sum, window_joined, reported_full, reported_none}
 use Rattle.atoi_core.proofs.word_engine.join_words.Goals as goal
+use Rattle.atoi_core.proofs.word_engine.join_words.Goals.{After-digits_of-more}
 
 pub load_from-next-requires-clause-enough : goal.load_from-next-requires-clause-enough
 load_from-next-requires-clause-enough c =
@@ -13,9 +14,7 @@ load_from-next-requires-clause-enough c =
     enough_bytes s (sym (loaded_run s (λ i. (c.type_inv.s i).fits) c.args.first c.requires.loaded) ∙ c.requires.full)
 
 pub load_from-next-requires-clause-inside : goal.load_from-next-requires-clause-inside
-load_from-next-requires-clause-inside c =
-    let s = c.args.s.now in
-    enough_bytes s (sym (loaded_run s (λ i. (c.type_inv.s i).fits) c.args.first c.requires.loaded) ∙ c.requires.full)
+load_from-next-requires-clause-inside c = load_from-next-requires-clause-enough c
 
 pub returns-then-more-eq8 : goal.returns-then-more-eq8
 returns-then-more-eq8 c =
