@@ -62,7 +62,7 @@ pub(crate) fn load_full(s: &[u8]) -> u64
     ensures { result ≡ word_of (take 8 s.now) }
 {
     match s.first_chunk::<8>() {
-        Some(bytes) => u64::from_le_bytes(*bytes),
+        Some(first) => u64::from_le_bytes(*first),
         None => 0,
     }
 }
