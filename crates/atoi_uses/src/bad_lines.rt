@@ -1,5 +1,4 @@
-//! A function that adds up numbers, one on each line. Its error names the first bad line by the
-//! number of that line, counted from 1. The file uses `totals`, and needs no proof file.
+//! Adds up numbers, one on each line. An error names the first bad line, counted from 1.
 ghost use Rattle.std.specs.Prelude.{◌≡◌, ◌+◌, ◌++◌, ℕ, List, Ok, IfOk, IfErr, map, pos, sum, codes, decimal};
 ghost use Rattle.atoi_core.specs.IntType.{u64_type};
 ghost use Rattle.atoi_column.specs.ErrorText.{flaw_text};

@@ -1,6 +1,4 @@
-//! A type of our own, `Cents`, which the core calls of `atoi_core` can parse. It also implements
-//! the trait `atoi_simd::ParseNeg`, for the digits of negative numbers. The methods of that trait
-//! call those of `i64`, and must return the same numbers and errors.
+//! A type of our own that the parsers can return.
 ghost use Rattle.std.specs.Prelude.{true, refl};
 ghost use Rattle.std.proofs.Common.{inl, inr};
 ghost use Rattle.atoi_core.specs.IntType.{i64_type};

@@ -1,6 +1,4 @@
-//! A reader of the header `Content-Length` of HTTP. It uses `atoi_simd::parse_prefix_pos`, and two
-//! laws. One law says that at most one prefix of a slice writes a number and has no digit after it.
-//! The other says that bytes which write a number without a sign begin with a digit.
+//! Reads the header `Content-Length` of HTTP: a number with blanks around it.
 ghost use Rattle.std.specs.Prelude.{◌≡◌, ℕ, IfSome, IfNone};
 ghost use Rattle.atoi_uses.specs.Headers.{IsContentLength, without_blanks};
 
@@ -16,7 +14,6 @@ pub fn content_length(value: &[u8]) -> Option<u64>
     ensures some { IfSome result (λ length. IsContentLength value.now length) }
     ensures none { IfNone result ((any : ℕ) → ¬ IsContentLength value.now any) }
 {
-    // The clauses follow from these laws. The calls do nothing.
     decimal_texts::<u64>();
     prefixes_and_rests::<u64>();
     let field = without_blanks(value);

@@ -1,7 +1,4 @@
-//! An engine of our own, for numbers in EBCDIC, the character code of mainframes. An *engine* is an
-//! implementation of the reads that the parsers of `atoi_core` make. The file uses the traits
-//! `Alphabet` and `Engine` and the functions `front_of` and `prefix_pos` of `atoi_core`, and the
-//! type `Cents`.
+//! An engine of our own, for numbers in EBCDIC, the character code of mainframes.
 ghost use Rattle.std.specs.Prelude.{◌≡◌, ◌≤◌, true, false, IfOk, length};
 ghost use Rattle.std.proofs.Common.{arith};
 ghost use Rattle.std.proofs.lemmas.Bool.Decides.{nat_tests};

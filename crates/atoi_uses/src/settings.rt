@@ -1,5 +1,4 @@
-//! A reader of settings. A setting is a key of one byte, then `=` and a number. The file uses
-//! `atoi_simd::parse_prefix`, which also returns a count that says where the rest begins.
+//! Reads settings: a key of one byte, then `=` and a number.
 ghost use Rattle.std.specs.Prelude.{◌≡◌, ◌++◌, ℕ, List, ◌∷◌, true, IfOk, IfErr, IfSome, IfNone, IsErr, Ok, Err, take, drop, codes};
 ghost use Rattle.atoi_core.specs.Answer.{parse_prefix_answer};
 ghost use Rattle.atoi_core.specs.IntType.{i64_type};
@@ -26,9 +25,6 @@ pub fn number_and_rest(text: &[u8]) -> Result<(i64, &[u8]), AtoiSimdError<'_>>
 
 /// Reads the setting that `line` begins with: a key, which is any one byte, then `=` and a number.
 /// Returns the key, the number and what follows it: for `w=+12px` these are `w`, 12 and `px`.
-//
-// Because the key is one byte, no proof by hand is needed. A body that calls `strip_prefix` would
-// need such a proof.
 pub fn setting(line: &[u8]) -> Option<(u8, i64, &[u8])>
     ensures some { IfSome result (λ found. (count : ℕ)
         × (take 2 line.now ≡ found.0 ∷ codes "=")

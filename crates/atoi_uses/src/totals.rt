@@ -1,6 +1,4 @@
-//! Two functions that add up a column of numbers, which are separated by newlines or by another
-//! byte. The file uses `atoi_column::Column`, whose contract names the items, and two laws of
-//! `atoi_column`.
+//! Adds up a column of numbers, separated by newlines or by another byte.
 ghost use Rattle.std.specs.Prelude.{◌≡◌, ◌<◌, ◌≤◌, ◌++◌, ℕ, true, List, [], ◌∷◌, length, pos, Ok, Err, IfOk, IfErr, map, sum};
 ghost use Rattle.atoi_core.specs.IntType.{u64_type};
 ghost use Rattle.atoi_column.specs.Fields.{is_separator};
@@ -52,8 +50,6 @@ pub fn column_total(input: &[u8], separator: u8) -> Result<u128, ColumnError<'_>
     ensures inside { IfErr result (λ error. (place_of (flaw_of error) ≤ length input.now)
         × (index_of (flaw_of error) < length input.now)) }
 {
-    // The first law is about reading items one after another. The second says what the items mean
-    // for the fields. The calls do nothing.
     items_in_turn();
     items_decide::<u64>();
     let mut total = 0;

@@ -1,23 +1,22 @@
 -- What follows a number, and what an error says about the digits at the start of a body.
-use Rattle.std.proofs.Common.{◌≡◌, ◌↔◌, ℕ, ◌<◌, ◌≤◌, Bool, true, false, IsFalse, List, [], ◌∷◌, ◌++◌, length, take, drop, get_or, get_or-drop, length-drop, Option, Some, None, Ok, Err, ℤ, refl, sym, ap, ◌∙◌, subst, arith, inl, inr}
+use Rattle.std.proofs.Common.{◌≡◌, ◌↔◌, ℕ, ◌<◌, Bool, true, false, IsFalse, List, [], ◌∷◌, ◌++◌, length, take, drop, get_or, get_or-drop, length-drop, Option, Some, None, Err, ℤ, refl, sym, ap, ◌∙◌, arith, inl, inr}
 use Rattle.std.proofs.lemmas.Bool.{cases_lt, cases_Bool}
 use Rattle.std.proofs.lemmas.List.{take-append-drop}
 use Rattle.std.proofs.lemmas.List.Prefix.{front_rest}
 use Rattle.std.proofs.lemmas.List.Sums.{prefix_len-le-length, prefix_len_stops}
 use Rattle.std.proofs.lemmas.Bool.{lt-ltb}
-use Rattle.std.specs.Str.Parse.{AllDigits, IsNumeral, digits_value}
-use Rattle.std.specs.Char.{IsAsciiDigit}
+use Rattle.std.specs.Str.Parse.{AllDigits}
 use Rattle.atoi_core.specs.Digit.{decimal_table, is_digit}
 use Rattle.atoi_core.specs.Run.{run_len, run, value}
 use Rattle.atoi_core.specs.Refusal.{Refusal, empty, size, overflow, invalid64, invalid128}
 use Rattle.atoi_core.specs.Magnitude.{prefix, is_above}
 use Rattle.atoi_core.specs.IntType.{IntType, IsSized, class_of, bound_of, limit_of}
-use Rattle.atoi_core.specs.Laws.{SignForm, sign_in, whole_call, prefix_call, Writes, NumberThenByte, OneNumber, PrefixBegins, NoneOrTooLarge, IsAbove, IsTooLong}
+use Rattle.atoi_core.specs.Laws.{SignForm, sign_in, prefix_call, Writes, NumberThenByte, OneNumber, PrefixBegins, NoneOrTooLarge, IsAbove, IsTooLong}
 use Rattle.atoi_core.specs.Text.{BeginsWithDigit, PrefixWrites, IsNumberThen, IsTooLarge}
 use Rattle.atoi_core.proofs.lemmas.Calls.{digit_in_range, found_prefix, limit_at, significant_len}
 use Rattle.atoi_core.proofs.lemmas.Bounds.{limit_of_prefix, in_range_short}
 use Rattle.atoi_core.proofs.lemmas.Texts.{digit_is, own, to_std}
-use Rattle.atoi_core.proofs.lemmas.Prefixes.{prefixes_and_rests, accepted_numbers, run_len_before, run_before, no_digit}
+use Rattle.atoi_core.proofs.lemmas.Prefixes.{prefixes_and_rests, accepted_numbers, run_before, no_digit}
 use Rattle.atoi_core.proofs.lemmas.Errors.{errors_in_order}
 use Rattle.atoi_core.proofs.lemmas.Runs.{length-run, run_len-run, digits_all}
 
@@ -48,30 +47,19 @@ module _ (int : IntType) (sized : IsSized int) (form : SignForm) (s : List ℕ) 
       let parts = (prefixes_and_rests int sized).cut form s h.bytes (byte ∷ rest) number other count h.parts h.written (not_digit byte rest not) found in
       (parts.0, parts.1.1)
 
-  one_way : (other : ℤ) (more : List ℕ) → IsNumberThen (Writes int form) s number byte rest → IsNumberThen (Writes int form) s other byte more
-      → (number ≡ other) × (rest ≡ more)
-  one_way other more h k =
-      let found = to_prefix_of other more k in
-      let same = cut_is other found.0 h found.1.0 in
-      let both : byte ∷ rest ≡ byte ∷ more = sym same.1 ∙ found.1.1 in
-      (same.0, cc)
-    where
-      to_prefix_of : (other : ℤ) (more : List ℕ) → IsNumberThen (Writes int form) s other byte more
-          → (count : ℕ) × (PrefixWrites (Writes int form) s other count × (drop count s ≡ byte ∷ more))
-      to_prefix_of other more k = (
-        length k.bytes,
-        (
-          (prefixes_and_rests int sized).of_parts form s k.bytes (byte ∷ more) other k.parts k.written (not_digit byte more not),
-          front_rest s k.bytes (byte ∷ more) k.parts,
-        ),
-      )
+one_way : (int : IntType) → IsSized int → (form : SignForm) (s : List ℕ) (number other : ℤ) (byte : ℕ) (rest more : List ℕ) → IsFalse (is_digit decimal_table byte)
+    → IsNumberThen (Writes int form) s number byte rest → IsNumberThen (Writes int form) s other byte more → (number ≡ other) × (rest ≡ more)
+one_way int sized form s number other byte rest more not h k =
+    let found = to_prefix int sized form s other byte more not k in
+    let same = cut_is int sized form s number byte rest not other found.0 h found.1.0 in
+    let both : byte ∷ rest ≡ byte ∷ more = sym same.1 ∙ found.1.1 in (same.0, cc)
 
 -- The law `NumberThenByte`.
 pub number_then_byte : (int : IntType) → IsSized int → NumberThenByte int
 number_then_byte int sized = record {
   exact = λ form s number byte rest not. (to_prefix int sized form s number byte rest not, from_prefix int sized form s number byte rest not);
   cut = λ form s number other byte rest count not. cut_is int sized form s number byte rest not other count;
-  only = λ form s number other byte rest more not. one_way int sized form s number byte rest not other more;
+  only = one_way int sized;
 }
 
 -- The law `OneNumber`: a whole parse that skips zeros returns each number that the slice writes.
