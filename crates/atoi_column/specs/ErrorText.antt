@@ -1,9 +1,8 @@
--- The text that the error of a column prints.
+-- What the error of a column prints.
 use Rattle.std.specs.Prelude.{ℕ, List, ◌++◌, codes, decimal}
 use Rattle.atoi_core.specs.ErrorText.{error_text}
 use Rattle.atoi_column.specs.Items.{Flaw, field, trailing}
 
--- The text of a flaw names the index of the field, the place, and why the field is not a number.
 abbrev pub flaw_text : Flaw → List ℕ
 flaw_text (field index place reason) =
     codes "field " ++ decimal index ++ codes " at byte " ++ decimal place ++ codes " is no number: " ++ error_text reason

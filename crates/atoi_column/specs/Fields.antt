@@ -4,17 +4,16 @@ use Rattle.std.specs.List.{slice_split}
 use Rattle.atoi_core.specs.Digit.{decimal_table, is_digit}
 use Rattle.atoi_core.specs.Sign.{plus_sign, minus_sign}
 
--- Any byte may separate fields, except digits and signs.
+-- Any byte but a digit or a sign may separate fields.
 abbrev pub is_separator : ℕ → Bool
 is_separator byte = not (is_digit decimal_table byte || (byte == plus_sign || byte == minus_sign))
 
--- All pieces, without the last one if it is empty.
+-- The pieces without the last one, if that is empty.
 abbrev pub without_empty_last : List (List ℕ) → List (List ℕ)
 without_empty_last [] = []
 without_empty_last (piece ∷ []) = if length piece == 0 then [] else piece ∷ []
 without_empty_last (piece ∷ next ∷ pieces) = piece ∷ without_empty_last (next ∷ pieces)
 
--- The input is cut at each separator, and its fields are the pieces. If the last piece is empty, it
--- is no field.
+-- The pieces between the separators; a last piece that is empty is no field.
 abbrev pub fields_of : (separator : ℕ) → List ℕ → List (List ℕ)
 fields_of separator input = without_empty_last (slice_split (λ byte. byte == separator) input)

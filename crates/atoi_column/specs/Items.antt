@@ -7,44 +7,37 @@ use Rattle.atoi_column.specs.declared.error.ColumnError.{ColumnError}
 use Rattle.atoi_column.specs.declared.error.ColumnError.TheVariants.{Field, Trailing}
 use Rattle.atoi_column.specs.Fields.{fields_of}
 
--- What an error says about a refused field. Both variants hold the index of the field, from 0, and
--- an offset in the input. In `field`, the offset is that of the field's first byte. No number can
--- be read there, and the third part says why. In `trailing`, the offset is that of the byte after
--- the number that the field begins with.
+-- Why a field is refused: its index from 0, an offset in the input, and for `field` the reason.
+-- `field` has the offset of its first byte, `trailing` that of the byte after its number.
 pub data Flaw : Type 0 where
   field : ℕ → ℕ → Refusal → Flaw
   trailing : ℕ → ℕ → Flaw
 
--- The index of the field that a flaw is about.
 abbrev pub index_of : Flaw → ℕ
 index_of (field index place reason) = index
 index_of (trailing index place) = index
 
--- The offset that a flaw holds.
 abbrev pub place_of : Flaw → ℕ
 place_of (field index place reason) = place
 place_of (trailing index place) = place
 
--- The flaw that a `ColumnError` means. The slice in the error's cause becomes a list of bytes.
+-- A `ColumnError`, with its slice as a list of bytes.
 abbrev pub flaw_of : ColumnError → Flaw
 flaw_of (Field index place cause) = field index place (refusal_of cause)
 flaw_of (Trailing index place) = trailing index place
 
--- An item of a column as contracts see it. `number` says which integer a value of the type means.
+-- An item as contracts see it; `number` gives the integer that a value of the type means.
 abbrev pub item_of : {T : Type 0} → (T → ℤ) → Result T ColumnError → Result ℤ Flaw
 item_of number (Ok value) = Ok (number value)
 item_of number (Err error) = Err (flaw_of error)
 
--- The flaw of a refused field. It depends on the answer of `parse_prefix` to the input from the
--- field's first byte on. If this answer is an error, the flaw holds its reason. If it is a number,
--- the flaw holds the offset of the byte after the number.
+-- The flaw of a refused field, by the answer of `parse_prefix` from the field's first byte on.
 abbrev pub flaw_at : (index place : ℕ) → Result (ℤ × ℕ) Refusal → Flaw
 flaw_at index place (Ok found) = trailing index (place + found.1)
 flaw_at index place (Err reason) = field index place reason
 
--- The items of a list of fields. The first field has the index `index` and begins at the offset
--- `place`, and `rest` is the input from that offset on. `whole` gives the answer to one field, and
--- `prefix` gives the answer to the input from the field's first byte on.
+-- The items of a list of fields, whose first has the index `index` and begins at the offset `place`.
+-- `rest` is the input from there on. `whole` answers a field, `prefix` the input from its first byte.
 abbrev pub items_from : (whole : List ℕ → Result ℤ Refusal) (prefix : List ℕ → Result (ℤ × ℕ) Refusal)
     → (index place : ℕ) → (rest : List ℕ) → List (List ℕ) → List (Result ℤ Flaw)
 items_from whole prefix index place rest [] = []
@@ -54,8 +47,7 @@ items_from whole prefix index place rest (text ∷ texts) =
       | Err reason ↦ Err (flaw_at index place (prefix rest)) ∷ []
     ]
 
--- The items that are left if `rest` is still to be read. The first field of `rest` has the index
--- `index`, and begins at the offset `place` of the input.
+-- The items of what is still to be read: `rest`, from the offset `place` on.
 unfoldable pub items_left : IntType → (separator index place : ℕ) → List ℕ → List (Result ℤ Flaw)
 items_left int separator index place rest =
     items_from (parse_answer int true true) (parse_prefix_answer int true true) index place rest (fields_of separator rest)

@@ -1,5 +1,4 @@
-//! `ColumnError`, which says why a field of a column has no value.
-//! It uses the error of `atoi_simd`, and a law of `atoi_core`.
+//! Why a field of a column has no value.
 ghost use Rattle.std.specs.Prelude.{◌≡◌, ◌↔◌, IsTrue};
 
 use atoi_core::derived::clones_are_the_same;
@@ -7,25 +6,21 @@ use atoi_simd::AtoiSimdError;
 use std::error::Error;
 use std::fmt;
 
-/// The reason why a field of a column has no value.
-///
-/// `index` counts the fields from 0. `place` is the offset of a byte, counted from the first byte
-/// of the slice that the column was made from.
+/// Why a field of a column has no value. `index` counts the fields from 0, and `place` is an offset
+/// in the slice that the column was made from.
 #[derive(Debug, Clone, Copy, PartialEq, Eq)]
 pub enum ColumnError<'a> {
     /// No number of the type can be read at the start of the field.
     Field {
-        /// The index of the field, from 0.
         index: usize,
         /// The offset of the field's first byte.
         place: usize,
-        /// The error that `parse_prefix` returned for the input from that byte on. Its slice, if it
-        /// holds one, extends to the end of the input.
+        /// What `parse_prefix` returned for the input from that byte on. A slice in it extends to
+        /// the end of the input.
         cause: AtoiSimdError<'a>,
     },
-    /// The field begins with a number, but a byte that is not the separator follows it.
+    /// A byte that is not the separator follows the number.
     Trailing {
-        /// The index of the field, from 0.
         index: usize,
         /// The offset of that byte.
         place: usize,
@@ -45,8 +40,8 @@ impl ColumnError<'_> {
         }
     }
 
-    /// Returns the offset of the error in the input: that of the field's first byte if no number
-    /// can be read there, otherwise that of the byte after the number.
+    /// Returns the offset of the field's first byte if no number can be read there, otherwise that
+    /// of the byte after the number.
     #[inline]
     pub fn place(&self) -> usize
         ensures { result ≡ place_of (flaw_of self.now) }
@@ -56,9 +51,7 @@ impl ColumnError<'_> {
         }
     }
 
-    /// Says whether both errors are of the same variant and hold equal numbers and equal causes.
-    /// This is what `==` returns. A caller that needs this result in a proof calls this function,
-    /// which has a contract.
+    /// Returns what `==` returns, with a contract.
     pub fn is_same_as(&self, other: &ColumnError<'_>) -> bool
         ensures { IsTrue result ↔ (flaw_of self.now ≡ flaw_of other.now) }
     {
@@ -66,12 +59,11 @@ impl ColumnError<'_> {
     }
 }
 
-// Proves that a clone of a `ColumnError` is the same value.
+// A clone is the same value.
 fn clones() {
     clones_are_the_same::<ColumnError<'_>>();
 }
 
-// The text names the index and the place, and for `Field` also the cause.
 impl fmt::Display for ColumnError<'_> {
     ghost use Rattle.std.specs.Prelude.{Some};
     ghost use Rattle.atoi_column.specs.ErrorText.{flaw_text};

@@ -8,16 +8,13 @@ use std::process::Abort;
 fn check_runs(rt: &impl Abort, len: usize)
     requires { len ≤ 48 }
 {
-    check(rt, &[b'0'; 48][..len]);
-    check(rt, &[b'1'; 48][..len]);
-    check(
-        rt,
-        &b"0000000000000000000000000000000000000000000000007"[48 - len..],
-    );
-    check(
-        rt,
-        &b"123456789012345678901234567890123456789012345678"[..len],
-    );
+    let (zeros, ones) = ([b'0'; 48], [b'1'; 48]);
+    let seven = b"0000000000000000000000000000000000000000000000007";
+    let digits = b"123456789012345678901234567890123456789012345678";
+    check(rt, &zeros[..len]);
+    check(rt, &ones[..len]);
+    check(rt, &seven[48 - len..]);
+    check(rt, &digits[..len]);
 }
 
 #[test]

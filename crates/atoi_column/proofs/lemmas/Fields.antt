@@ -1,5 +1,4 @@
--- The first field of an input, and how many fields there are. The lemmas about the first field
--- prove the law `FirstField`.
+-- The first field of an input, and how many fields there are.
 use Rattle.std.proofs.Common.{◌≡◌, ◌≢◌, inl, inr, ℕ, ◌+◌, ◌<◌, ◌≤◌, ◌==◌, List, [], ◌∷◌, length, Bool, true, false, if◌then◌else◌, refl, ap, ◌∙◌, arith}
 use Rattle.std.specs.List.{slice_split, onto_first, position_or_len, before_first, after_first}
 use Rattle.std.proofs.lemmas.List.{take_all, drop_all}
@@ -9,13 +8,11 @@ use Rattle.std.proofs.lemmas.Bool.Decides.{leb_tells}
 use Rattle.std.proofs.lemmas.Bool.{ne_eqb}
 use Rattle.atoi_column.specs.Fields.{without_empty_last, fields_of}
 
--- `onto_first x pieces` has at least one piece, so a piece before it is not the last one and is
--- kept.
+-- A piece before others is kept, even if it is empty.
 onto_first-last : (piece : List ℕ) (x : ℕ) (pieces : List (List ℕ)) → without_empty_last (piece ∷ onto_first x pieces) ≡ piece ∷ without_empty_last (onto_first x pieces)
 onto_first-last piece x [] = refl
 onto_first-last piece x (next ∷ pieces) = refl
 
--- A piece that is followed by others is kept, even if it is empty.
 split-last : (piece : List ℕ) (p : ℕ → Bool) (xs : List ℕ) → without_empty_last (piece ∷ slice_split p xs) ≡ piece ∷ without_empty_last (slice_split p xs)
 split-last piece p [] = refl
 split-last piece p (x ∷ xs) =
@@ -26,14 +23,11 @@ split-last piece p (x ∷ xs) =
     ]
 
 module _ (p : ℕ → Bool) (xs : List ℕ) where
-  -- If there is a separator, the fields are what comes before the first one, and the fields of what
-  -- comes after it.
   pieces_ended : position_or_len p xs < length xs
       → without_empty_last (slice_split p xs) ≡ before_first p xs ∷ without_empty_last (slice_split p (after_first p xs))
   pieces_ended found =
       ap without_empty_last (slice_split_first p xs 0 found) ∙ split-last (before_first p xs) p (after_first p xs)
 
-  -- If there is no separator, the only field is the whole input.
   pieces_last : 0 < length xs → length xs ≤ position_or_len p xs
       → without_empty_last (slice_split p xs) ≡ before_first p xs ∷ without_empty_last (slice_split p (after_first p xs))
   pieces_last some absent =
@@ -66,6 +60,5 @@ pieces-fit p (x ∷ xs) =
       | false ↦ omega (arith, pieces-fit p xs, onto_first-length x (slice_split p xs))
     ]
 
--- The number of fields is at most the number of bytes.
 pub length-fields_of : (separator : ℕ) (rest : List ℕ) → length (fields_of separator rest) ≤ length rest
 length-fields_of separator rest = pieces-fit (λ byte. byte == separator) rest

@@ -1,5 +1,4 @@
--- The places and indices in the errors of a column. A place is at most the length of the input, and
--- an index is less than that length.
+-- The places and indices in the errors of a column are inside the input.
 use Rattle.std.proofs.Common.{◌≡◌, ℕ, ◌+◌, ◌-◌, ◌<◌, ◌≤◌, ◌==◌, true, false, if◌then◌else◌, Bool, List, [], ◌∷◌, length, drop, ℤ, Result, Ok, Err, refl, arith, length-drop}
 use Rattle.std.specs.Prelude.{IfErr}
 use Rattle.std.specs.List.{All, slice_split, onto_first}
@@ -14,6 +13,7 @@ use Rattle.atoi_column.specs.Fields.{without_empty_last, fields_of}
 use Rattle.atoi_column.specs.Items.{Flaw, flaw_at, index_of, place_of, items_from, items_left}
 use Rattle.atoi_column.specs.Laws.{place_after}
 use Rattle.atoi_column.proofs.lemmas.Fields.{length-fields_of}
+use Rattle.atoi_column.proofs.lemmas.Items.{items_from-cases}
 
 place_after-cons : (text : List ℕ) (texts : List (List ℕ)) → place_after (text ∷ texts) ≡ length text + 1 + place_after texts
 place_after-cons text texts = sum_by-cons (λ t. length t + 1) text texts
@@ -22,13 +22,12 @@ place_after-some : (texts : List (List ℕ)) → 0 < length texts → 0 < place_
 place_after-some [] some = absurd (omega arith)
 place_after-some (text ∷ texts) some = omega (arith, place_after-cons text texts)
 
--- One more byte in the first piece makes all pieces together longer by at most one byte.
+-- One more byte in the first piece is one more byte in all.
 onto_first-place : (x : ℕ) (pieces : List (List ℕ)) → 0 < length pieces → place_after (onto_first x pieces) ≤ place_after pieces + 1
 onto_first-place x [] some = absurd (omega arith)
 onto_first-place x (piece ∷ pieces) some = omega (arith, place_after-cons (x ∷ piece) pieces, place_after-cons piece pieces)
 
--- The pieces of an input, each with a separator after it, are together at most one byte longer than
--- the input.
+-- The pieces with a separator after each are at most one byte longer than the input.
 split-place : (p : ℕ → Bool) (xs : List ℕ) → place_after (slice_split p xs) ≤ length xs + 1
 split-place p [] = omega arith
 split-place p (x ∷ xs) =
@@ -51,7 +50,6 @@ fields_of-place : (separator : ℕ) (rest : List ℕ) → place_after (fields_of
 fields_of-place separator rest =
     omega (arith, without_last-place (slice_split (λ byte. byte == separator) rest), split-place (λ byte. byte == separator) rest)
 
--- If the item is an error, its place is at most `bytes`, and its index is less than `bytes`.
 abbrev IsInside : ℕ → Result ℤ Flaw → Type 0
 IsInside bytes item = IfErr item (λ flaw. (place_of flaw ≤ bytes) × (index_of flaw < bytes))
 
@@ -72,16 +70,10 @@ module _ (whole : List ℕ → Result ℤ Refusal) (prefix : List ℕ → Result
       let cut : place_after (text ∷ texts) ≡ length text + 1 + place_after texts = place_after-cons text texts in
       let left : length (drop (length text + 1) rest) ≡ length rest - (length text + 1) = length-drop (length text + 1) rest in
       let following = items_from-inside (index + 1) (place + length text + 1) (drop (length text + 1) rest) texts (omega arith) (omega arith) (λ some. omega (arith, place_after-some texts some)) in
-      elim (whole text) as (λ r. All (IsInside bytes) (elim r as (λ _. List (Result ℤ Flaw)) [
-        | Ok value ↦ Ok value ∷ items_from whole prefix (index + 1) (place + length text + 1) (drop (length text + 1) rest) texts
-        | Err reason ↦ Err (flaw_at index place (prefix rest)) ∷ []
-      ])) [
-        | Ok value ↦ All-cons (IsInside bytes) (Ok value) _ tt following
-        | Err reason ↦ All-cons (IsInside bytes) (Err (flaw_at index place (prefix rest))) [] (flaw_at-inside index place rest here (omega arith)) (All-nil (IsInside bytes))
-      ]
+      items_from-cases whole prefix (All (IsInside bytes)) index place rest text texts
+      (λ v. All-cons (IsInside bytes) (Ok v) _ tt following)
+      (All-cons (IsInside bytes) (Err (flaw_at index place (prefix rest))) [] (flaw_at-inside index place rest here (omega arith)) (All-nil (IsInside bytes)))
 
--- The place of each error is within the input or at its end, and its index is less than the length
--- of the input.
 pub items_left-inside : (int : IntType) → PrefixOfCut int → (separator : ℕ) (input : List ℕ)
     → All (λ item. IfErr item (λ flaw. (place_of flaw ≤ length input) × (index_of flaw < length input))) (items_left int separator 0 0 input)
 unfolding items_left

@@ -1,5 +1,5 @@
--- A field and the number at its start: a field is accepted exactly if that number ends where the
--- field ends. These lemmas prove the law `FieldsArePrefixes`.
+-- A field is accepted if and only if the number at its start ends where the field ends: the bytes
+-- from the separator on change neither its sign nor its run.
 use Rattle.std.proofs.Common.{◌≡◌, ℕ, ◌+◌, ◌==◌, ◌&&◌, ◌||◌, not, Bool, true, false, cond, if◌then◌else◌, List, [], ◌∷◌, ◌++◌, length, take, get_or, Result, Ok, Err, refl, sym, ap, ◌∙◌, subst, inl, inr, arith}
 use Rattle.std.proofs.lemmas.Bool.{eqb-true}
 use Rattle.std.specs.List.{prefix_len, position_or_len, before_first, after_first}
@@ -16,27 +16,23 @@ use Rattle.atoi_core.specs.Laws.{looked_for, prefix_call, HaveSameRun, HaveSameO
 use Rattle.atoi_column.specs.Fields.{is_separator}
 use Rattle.atoi_column.specs.Laws.{FieldsArePrefixes}
 
--- If `b` does not pass the test `p`, then `b` and what follows it do not change the length of the
--- longest prefix of `xs` whose bytes all pass.
+-- A byte that fails `p` ends the prefix of bytes that pass, whatever follows it.
 prefix_len-stops : (p : ℕ → Bool) (b : ℕ) (ys : List ℕ) → p b ≡ false → (xs : List ℕ) → prefix_len p (xs ++ b ∷ ys) ≡ prefix_len p xs
 prefix_len-stops p b ys fails [] = rw fails refl
 prefix_len-stops p b ys fails (x ∷ xs) = ap (λ n. cond (p x) (1 + n) 0) (prefix_len-stops p b ys fails xs)
 
--- That prefix itself does not change either.
 prefix-stops : (p : ℕ → Bool) (b : ℕ) (ys : List ℕ) → p b ≡ false → (xs : List ℕ)
     → take (prefix_len p xs) xs ≡ take (prefix_len p (xs ++ b ∷ ys)) (xs ++ b ∷ ys)
 prefix-stops p b ys fails xs =
     rw (prefix_len-stops p b ys fails xs) (sym (take-append-le (prefix_len p xs) xs (b ∷ ys) (prefix_len-le-length p xs)))
 
--- The sign that is consumed from a slice with the first byte `x`. `is_plus` says whether this byte
--- is a plus that is accepted, and `is_minus` says whether it is a minus that is accepted.
+-- The sign of a slice whose first byte `x` is an accepted plus, an accepted minus, or neither.
 abbrev sign_by : (is_plus is_minus : Bool) → ℕ → List ℕ → Sign
 sign_by is_plus is_minus x xs =
     if is_plus then record { minus = false; taken = 1; body = xs }
     else (if is_minus then record { minus = true; taken = 1; body = xs }
     else record { minus = false; taken = 0; body = x ∷ xs })
 
--- Two signs are the same, and the bodies after them begin with equal runs.
 record HaveSamePrefix (g h : Sign) : Type 0 where
   minus : g.minus ≡ h.minus
   taken : g.taken ≡ h.taken
@@ -51,7 +47,6 @@ module _ (b : ℕ) (ys : List ℕ) (fails : is_digit decimal_table b ≡ false) 
   same_prefix false true x xs = record { minus = refl; taken = refl; run = same_run xs }
   same_prefix false false x xs = record { minus = refl; taken = refl; run = same_run (x ∷ xs) }
 
--- The byte is no digit, no plus and no minus, so it may be a separator.
 record IsApart (byte : ℕ) : Type 0 where
   no_digit : is_digit decimal_table byte ≡ false
   no_plus : (byte == plus_sign) ≡ false
@@ -73,8 +68,6 @@ and_false true b h = h
 and_false false b h = refl
 
 module _ (int : IntType) where
-  -- If a byte that is no digit, no plus and no minus follows a field, then this byte and all bytes
-  -- after it change neither the sign that a call consumes nor the digits that it reads.
   same_run_before : (b : ℕ) (ys : List ℕ) → IsApart b → (xs : List ℕ) → HaveSameRun int (looked_for true) xs (xs ++ b ∷ ys)
   same_run_before b ys is [] =
       let none : sign_of int.signed true (b ∷ ys) ≡ record { minus = false; taken = 0; body = b ∷ ys } =
@@ -88,8 +81,6 @@ module _ (int : IntType) where
       let front = same_prefix b ys is.no_digit (x == plus_sign) (int.signed && x == minus_sign) x xs in
       record { minus = front.minus; taken = front.taken; run = front.run }
 
-  -- So a call consumes the same sign and reads the same digits in the first field and in the whole
-  -- rest.
   same_run_of_field : (separator : ℕ) → is_separator separator ≡ true → (rest : List ℕ)
       → HaveSameRun int (looked_for true) (before_first (λ byte. byte == separator) rest) rest
   same_run_of_field separator is rest =
@@ -104,7 +95,6 @@ module _ (int : IntType) where
             (same_run_before separator (after_first p rest) (apart separator is) (before_first p rest))
       ]
 
--- If two answers have the same outcome and one is `Ok`, the other is `Ok` with the same value.
 same_outcome-ok : {A : Type 0} (a b : Result A Refusal) (x : A) → HaveSameOutcome a b → a ≡ Ok x → b ≡ Ok x
 same_outcome-ok (Ok x) (Ok y) z same h = cc
 same_outcome-ok (Ok x) (Err other) z same h = absurd same
@@ -115,7 +105,6 @@ same_outcome-ok_back (Ok x) (Ok y) z same h = cc
 same_outcome-ok_back (Err reason) (Ok y) z same h = absurd same
 same_outcome-ok_back a (Err other) z same h = absurd (cc h)
 
--- The law `FieldsArePrefixes`, which follows from three laws of `atoi_core`.
 pub fields_are_prefixes : (int : IntType) → PrefixIsWhole int → PrefixOfCut int → RestChangesNothing int → FieldsArePrefixes int
 fields_are_prefixes int is_whole of_cut rest_changes separator is rest =
     let p : ℕ → Bool = λ byte. byte == separator in

@@ -1,5 +1,4 @@
--- The items of an input, described with the texts of the type. These lemmas prove the law
--- `TextsAndItems`.
+-- The items of an input, by the fields that are texts of the type.
 use Rattle.std.proofs.Common.{◌≡◌, ℕ, ◌+◌, true, List, [], ◌∷◌, ◌++◌, length, drop, map, ℤ, Result, Ok, Err, refl, ap, ◌∙◌, arith, zero-add, add-zero}
 use Rattle.std.specs.List.{AllZip}
 use Rattle.std.proofs.lemmas.List.{drop-drop}
@@ -20,8 +19,7 @@ data IsRead (int : IntType) (whole : List ℕ → Result ℤ Refusal) (text : Li
   refused : ((v : ℤ) → whole text ≡ Ok v → ⊥) → ¬ IsText int text → IsRead int whole text
 
 module _ (int : IntType) (whole : List ℕ → Result ℤ Refusal) (prefix : List ℕ → Result (ℤ × ℕ) Refusal) (read : (text : List ℕ) → IsRead int whole text) where
-  -- `HasItems` for some of the fields: the first of them has the index `index` and begins at
-  -- `place`.
+  -- `HasItems` for the fields from the index `index` and the offset `place` on.
   record HasItemsFrom (index place : ℕ) (rest : List ℕ) (fields : List (List ℕ)) : Type 0 where
     texts : List (List ℕ)
     others : List (List ℕ)
@@ -32,8 +30,7 @@ module _ (int : IntType) (whole : List ℕ → Result ℤ Refusal) (prefix : Lis
     items : items_from whole prefix index place rest fields ≡ map Ok numbers ++ last
     end : EndsItems int prefix (index + length texts) (place + place_after texts) (drop (place_after texts) rest) others last
 
-  -- If the items of some fields end as `EndsItems` says, then the items with one more field before
-  -- these fields end in this way too.
+  -- One more accepted field before others does not change how their items end.
   ends_after : (index place : ℕ) (rest text : List ℕ) (texts others : List (List ℕ)) (last : List (Result ℤ Flaw))
       → EndsItems int prefix (index + 1 + length texts) (place + length text + 1 + place_after texts) (drop (place_after texts) (drop (length text + 1) rest)) others last
       → EndsItems int prefix (index + length (text ∷ texts)) (place + place_after (text ∷ texts)) (drop (place_after (text ∷ texts)) rest) others last
@@ -73,7 +70,6 @@ module _ (int : IntType) (whole : List ℕ → Result ℤ Refusal) (prefix : Lis
 ok_or_err : (r : Result ℤ Refusal) (v : ℤ) (reason : Refusal) → r ≡ Ok v → r ≡ Err reason → ⊥
 ok_or_err r v reason h other = absurd (cc)
 
--- A field that is a text of the type is accepted with its number, and no other field is accepted.
 module _ (int : IntType) (texts : AcceptedTexts int) (numbers : AcceptedNumbers int) (text : List ℕ) where
   read_as : (r : Result ℤ Refusal) → parse_answer int true true text ≡ r → IsRead int (parse_answer int true true) text
   read_as (Ok v) h = accepted v h (numbers.written (looked_for true) true text v h)

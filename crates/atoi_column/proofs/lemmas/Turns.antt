@@ -1,5 +1,4 @@
--- Reading the items of a column one after the other: nothing follows an error. These lemmas prove
--- the law `ItemsInTurn`.
+-- Items read one after another: nothing follows an error.
 use Rattle.std.proofs.Common.{◌≡◌, ℕ, ◌+◌, true, List, [], ◌∷◌, ◌++◌, length, drop, map, ℤ, Result, Ok, Err, refl, sym, ap, ◌∙◌, arith, append_assoc, append-nil, length-append}
 use Rattle.std.proofs.lemmas.List.{map-append, length-map}
 use Rattle.atoi_core.specs.Refusal.{Refusal}
@@ -8,10 +7,8 @@ use Rattle.atoi_core.specs.Answer.{parse_answer, parse_prefix_answer}
 use Rattle.atoi_column.specs.Fields.{fields_of}
 use Rattle.atoi_column.specs.Items.{Flaw, flaw_at, items_from, items_left, items_of}
 use Rattle.atoi_column.specs.Laws.{HaveRead, ItemsInTurn}
+use Rattle.atoi_column.proofs.lemmas.Items.{items_from-cases}
 
--- A list of items consists of values, then an error, then other items. If its first item is a
--- value, then the items after the first also consist of values, then the same error, then the same
--- other items.
 after_value : (value : ℤ) (items : List (Result ℤ Flaw)) (numbers : List ℤ) (flaw : Flaw) (after : List (Result ℤ Flaw))
     → Ok value ∷ items ≡ map Ok numbers ++ Err flaw ∷ after → (others : List ℤ) × (items ≡ map Ok others ++ Err flaw ∷ after)
 after_value value items [] flaw after same = absurd (cc)
@@ -28,14 +25,10 @@ module _ (whole : List ℕ → Result ℤ Refusal) (prefix : List ℕ → Result
   following_error index place rest [] [] same = absurd (cc)
   following_error index place rest [] (number ∷ numbers) same = absurd (cc)
   following_error index place rest (text ∷ texts) numbers same =
-      elim (whole text) as (λ r. elim r as (λ _. List (Result ℤ Flaw)) [
-        | Ok value ↦ Ok value ∷ items_from whole prefix (index + 1) (place + length text + 1) (drop (length text + 1) rest) texts
-        | Err reason ↦ Err (flaw_at index place (prefix rest)) ∷ []
-      ] ≡ map Ok numbers ++ Err flaw ∷ after → after ≡ []) [
-        | Ok value ↦ λ same. let others = after_value value _ numbers flaw after same in
-            following_error (index + 1) (place + length text + 1) (drop (length text + 1) rest) texts others.0 others.1
-        | Err reason ↦ after_flaw (flaw_at index place (prefix rest)) numbers flaw after
-      ] same
+      items_from-cases whole prefix (λ items. items ≡ map Ok numbers ++ Err flaw ∷ after → after ≡ []) index place rest text texts
+      (λ value same. let others = after_value value _ numbers flaw after same in
+      following_error (index + 1) (place + length text + 1) (drop (length text + 1) rest) texts others.0 others.1)
+      (after_flaw (flaw_at index place (prefix rest)) numbers flaw after) same
 
 after_error : (int : IntType) (separator : ℕ) (input : List ℕ) (numbers : List ℤ) (flaw : Flaw) (after : List (Result ℤ Flaw))
     → items_of int separator input ≡ map Ok numbers ++ Err flaw ∷ after → after ≡ []
@@ -53,7 +46,6 @@ more_values items left after numbers values read next =
       count = omega (arith, read.count, ap length next, length-map values ok, length-append (map ok values) after, length-append numbers values);
     }
 
--- The law `ItemsInTurn`.
 pub items_in_turn : ItemsInTurn
 items_in_turn = record {
   start = λ items. record { parts = refl; count = omega arith };

@@ -1,5 +1,3 @@
--- The number of items is at most the number of bytes. In an error, the place is at most the length
--- of the input, and the index is less than that length.
 use Rattle.atoi_column.proofs.lemmas.Items.{length-items_left}
 use Rattle.atoi_column.proofs.lemmas.Places.{items_left-inside}
 use Rattle.atoi_column.proofs.column.Column.new.Goals as goal
