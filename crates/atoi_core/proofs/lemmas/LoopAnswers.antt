@@ -214,7 +214,7 @@ module _ (t : Table) (skip : Bool) (s : List ℕ) (at before now : ℕ) (w : Win
   -- If there is a digit, the number of the last window decides between `Overflow` and `Ok`.
   narrow_overflow : (bound limit : ℕ) → 0 < at + w.len → bound < w.number → Err (overflow (drop at s)) ≡ prefix_magnitude t narrow bound limit skip s
   narrow_overflow bound limit some over =
-      let digits : 0 < run_len t s = omega (arith, after_skip.run_is, after_skip.shown.len_is) in
+      let digits : 0 < run_len t s = omega (arith, after_skip.run_is, after_skip.window.len_is) in
       rw (refused_overflow t narrow bound limit prefix skip s digits (not_too_long t skip limit s few) (omega (arith, number_most)))
       (rw (dropped_is t skip limit s at before now w after_skip) refl)
 
