@@ -1,5 +1,5 @@
 -- Points, written as three numbers with commas between them.
-use Rattle.std.specs.Prelude.{◌≡◌, ℕ, true, List, ◌∷◌, ◌++◌, drop, ℤ, Ok}
+use Rattle.std.specs.Prelude.{◌≡◌, ℕ, true, List, ◌∷◌, drop, ℤ, Ok}
 use Rattle.atoi_simd.specs.Answer.{parse_answer, parse_prefix_answer}
 use Rattle.atoi_simd.specs.IntType.{i64_type}
 use Rattle.atoi_uses.specs.declared.points.Point.{Point}

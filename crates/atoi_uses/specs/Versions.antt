@@ -1,5 +1,5 @@
 -- Versions such as `1.22.333`.
-use Rattle.std.specs.Prelude.{◌≡◌, ℕ, false, List, pos}
+use Rattle.std.specs.Prelude.{ℕ, false, List, pos}
 use Rattle.atoi_simd.specs.IntType.{u32_type}
 use Rattle.atoi_simd.specs.Text.{DigitsWrite, IsNumberThen}
 use Rattle.atoi_uses.specs.declared.versions.Version.{Version}

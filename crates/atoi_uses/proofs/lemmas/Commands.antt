@@ -1,5 +1,5 @@
 -- A line is at most one command: its word and its text decide which.
-use Rattle.std.proofs.Common.{◌≡◌, ◌≢◌, ℕ, true, List, drop, ℤ, Ok, refl, sym, ap, ◌∙◌, subst, arith}
+use Rattle.std.proofs.Common.{◌≡◌, ◌≢◌, ℕ, true, List, drop, ℤ, refl, sym, ap, ◌∙◌, subst, arith}
 use Rattle.std.specs.Prelude.{slice_index}
 use Rattle.atoi_core.specs.IntType.{i64_type}
 use Rattle.atoi_core.specs.Text.{TextWrites}

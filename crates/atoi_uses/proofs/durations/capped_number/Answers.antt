@@ -1,5 +1,4 @@
-use Rattle.std.proofs.Common.{ℕ, ◌<◌, take, sym, arith}
-use Rattle.std.specs.Str.Parse.{digits_value}
+use Rattle.std.proofs.Common.{sym, arith}
 use Rattle.atoi_simd.specs.Laws.{positive}
 use Rattle.atoi_uses.proofs.durations.capped_number.Goals as goal
 
