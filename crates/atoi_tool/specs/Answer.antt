@@ -18,22 +18,21 @@ use Rattle.atoi_tool.specs.declared.request.Query.TheVariants.{Number, Column}
 use Rattle.atoi_tool.specs.Request.{int_type_of}
 use Rattle.atoi_tool.specs.Row.{row_of}
 
--- The answer if a call returns an error: `err ` and the text of that error.
+-- The answer if a call returns an error.
 abbrev pub refusal_text : Refusal → List ℕ
 refusal_text reason = codes "err " ++ error_text reason
 
--- The answer to a call for a whole slice: `ok ` and the value, or `err ` and the text of the error.
+-- The answer to a call for a whole slice.
 abbrev pub whole_text : Result ℤ Refusal → List ℕ
 whole_text (Ok value) = codes "ok " ++ signed_decimal value
 whole_text (Err reason) = refusal_text reason
 
--- The answer to a call for a prefix: `ok `, the value, a space and how many bytes the prefix has;
--- or `err ` and the text of the error.
+-- The answer to a call for a prefix: the value, and how many bytes the prefix has.
 abbrev pub prefix_text : Result (ℤ × ℕ) Refusal → List ℕ
 prefix_text (Ok found) = codes "ok " ++ signed_decimal found.0 ++ codes " " ++ decimal found.1
 prefix_text (Err reason) = refusal_text reason
 
--- The text of what a call returns for the slice `text`.
+-- The answer to a call for the slice `text`.
 abbrev pub call_text : Call → IntType → Flags → List ℕ → List ℕ
 call_text Parse int flags text = whole_text (parse_answer int flags.zeroes flags.plus text)
 call_text Pos int flags text = whole_text (whole_answer decimal_table int false flags.zeroes text)
@@ -46,34 +45,31 @@ call_text PrefixNeg int flags text = prefix_text (prefix_answer decimal_table in
 abbrev pub row_text : Request → List ℕ → List ℕ
 row_text request text = call_text request.call (int_type_of request.integer) request.flags text
 
--- Why a field has no value. If no number can be read at its start, this is the index of the field,
--- the offset of its first byte and the error. If another byte follows the number, it is the index
--- of the field and the offset of that byte.
+-- Why a field has no value: no number is at its start, or another byte follows the number. The
+-- offset is that of the field's first byte, or of the byte after the number.
 abbrev pub refused_field_text : Flaw → List ℕ
 refused_field_text (field index place reason) =
     codes "field " ++ decimal index ++ codes " " ++ decimal place ++ codes ": " ++ error_text reason
 refused_field_text (trailing index place) = codes "trailing " ++ decimal index ++ codes " " ++ decimal place
 
--- An item of a column, with a space before it: the value of a field, or `err ` and why the field
--- has no value.
+-- An item of a column, with a space before it.
 abbrev pub item_text : Result ℤ Flaw → List ℕ
 item_text (Ok value) = codes " " ++ signed_decimal value
 item_text (Err flaw) = codes " err " ++ refused_field_text flaw
 
--- The word `col` and then all items of a column, in order.
+-- The answer to a row about a column.
 abbrev pub column_text : IntType → (separator : ℕ) → List ℕ → List ℕ
 column_text int separator text = codes "col" ++ flat_map item_text (items_of int separator text)
 
--- The answer to a row about one number or about a column.
+-- The answer to a row.
 abbrev pub query_text : Query → List ℕ → List ℕ
 query_text (Number request) text = row_text request text
 query_text (Column integer separator) text = column_text (int_type_of integer) separator text
 
--- The line is good: it has the form of a row, and its words name a call or a column that the tool
--- accepts.
+-- The line is a row whose words name a call or a column that the tool accepts.
 abbrev pub is_good_line : List ℕ → Bool
 is_good_line line = is_some (row_of line)
 
--- The answer to a line: the answer to its row if the line is good, otherwise `bad row`.
+-- The answer to a line.
 abbrev pub line_answer : List ℕ → List ℕ
 line_answer line = option_map_or (λ row. query_text row.0 row.1) (row_of line) (codes "bad row")

@@ -1,4 +1,4 @@
--- What contracts can say of a `FromReader`.
+-- What contracts see of a `FromReader`.
 use Rattle.std.specs.Prelude.{ℕ}
 use Rattle.atoi_tool.specs.declared.source.FromReader.{FromReader}
 

@@ -2,8 +2,7 @@
 use Rattle.std.specs.Prelude.{Bool, ℕ, List, [], ◌∷◌, ◌++◌}
 use Rattle.std.specs.List.{flat_map, list_all}
 use Rattle.atoi_column.specs.Fields.{fields_of}
-use Rattle.atoi_tool.specs.declared.request.Query.{Query}
-use Rattle.atoi_tool.specs.Answer.{query_text, is_good_line, line_answer}
+use Rattle.atoi_tool.specs.Answer.{is_good_line, line_answer}
 
 -- The byte that ends a line.
 abbrev pub newline : ℕ
@@ -13,15 +12,11 @@ newline = 10
 abbrev pub lines_of : List ℕ → List (List ℕ)
 lines_of input = fields_of newline input
 
--- The answer to a row, with a newline after it.
-abbrev pub row_output : Query → List ℕ → List ℕ
-row_output query text = query_text query text ++ newline ∷ []
-
 -- The answer to a line, with a newline after it.
 abbrev pub line_output : List ℕ → List ℕ
 line_output line = line_answer line ++ newline ∷ []
 
--- The answers to all lines in order, with a newline after each.
+-- The answers to all lines, in order.
 abbrev pub output_of : List ℕ → List ℕ
 output_of input = flat_map line_output (lines_of input)
 

@@ -11,13 +11,13 @@ use Rattle.atoi_tool.specs.declared.request.Integer.TheVariants.{U8, I8, U16, I1
 use Rattle.atoi_tool.specs.declared.request.Flags.{Flags}
 use Rattle.atoi_tool.specs.declared.request.Request.{Request}
 
--- The engine that a word names, `None` if it names none.
+-- The engine that a word names.
 abbrev pub engine_of : List ℕ → Option Engine
 engine_of word =
     if bytes_eq word (codes "w") then Some Words else (if bytes_eq word (codes "l") then Some Lanes
     else None)
 
--- The call that a word names, `None` if it names none.
+-- The call that a word names.
 abbrev pub call_of : List ℕ → Option Call
 call_of word =
     if bytes_eq word (codes "parse") then Some Parse else (if bytes_eq word (codes "pos") then Some Pos
@@ -25,7 +25,7 @@ call_of word =
     else (if bytes_eq word (codes "prefix_pos") then Some PrefixPos
     else (if bytes_eq word (codes "prefix_neg") then Some PrefixNeg else None)))))
 
--- The integer type that a word names, `None` if it names none.
+-- The integer type that a word names.
 abbrev pub integer_of : List ℕ → Option Integer
 integer_of word =
     if bytes_eq word (codes "u8") then Some U8 else (if bytes_eq word (codes "i8") then Some I8
@@ -39,9 +39,7 @@ integer_of word =
 abbrev flags : Bool → Bool → Flags
 flags zeroes plus = record { zeroes = zeroes; plus = plus }
 
--- The flags that a word names. Its first byte is `z` if leading zeros are skipped, and its second
--- byte is `p` if a plus is accepted; if a flag is off, its byte is `-`. Any other word names no
--- flags.
+-- The flags that a word names: `z` or `-` for leading zeros, then `p` or `-` for a plus.
 abbrev pub flags_of : List ℕ → Option Flags
 flags_of word =
     if bytes_eq word (codes "--") then Some (flags false false)
@@ -49,8 +47,7 @@ flags_of word =
     else (if bytes_eq word (codes "-p") then Some (flags false true)
     else (if bytes_eq word (codes "zp") then Some (flags true true) else None)))
 
--- The facts about a type that the definition of an answer uses: how many bits the type has, whether
--- it is signed, and its largest value.
+-- The facts about a type that its answers depend on.
 abbrev pub int_type_of : Integer → IntType
 int_type_of U8 = u8_type
 int_type_of I8 = i8_type
@@ -65,21 +62,20 @@ int_type_of I128 = i128_type
 int_type_of Usize = usize_type
 int_type_of Isize = isize_type
 
--- The call accepts a sign at the start of its text.
+-- The text may start with a sign.
 abbrev pub takes_sign : Call → Bool
 takes_sign Parse = true
 takes_sign Prefix = true
 takes_sign call = false
 
--- The call reads the magnitude (the value without its sign) of a number that is negative or zero.
+-- The digits are those of a number that is negative or zero.
 abbrev pub is_negative : Call → Bool
 is_negative Neg = true
 is_negative PrefixNeg = true
 is_negative call = false
 
--- A row with this request has an answer. It has none if the flag for a plus is on but the call
--- accepts no sign. It also has none if the call is `neg` or `prefix_neg` but the type is unsigned.
--- In all other cases it has one.
+-- Such a row has an answer: a plus is allowed only where the call takes a sign, and `neg` and
+-- `prefix_neg` need a signed type.
 abbrev pub is_known : Request → Bool
 is_known request =
     (if request.flags.plus then takes_sign request.call else true)

@@ -11,39 +11,37 @@ use Rattle.atoi_tool.specs.Request.{engine_of, call_of, integer_of, flags_of, is
 abbrev pub space : ℕ
 space = 32
 
--- What is before the first space, and what is after it; `None` if there is no space.
-abbrev pub cut : List ℕ → Option (List ℕ × List ℕ)
-cut line = option_map (λ place. (take place line, drop (place + 1) line)) (position (λ byte. byte == space) line)
+-- What precedes the first separator, and what follows it.
+abbrev pub cut : (separator : ℕ) → List ℕ → Option (List ℕ × List ℕ)
+cut separator bytes =
+    option_map (λ place. (take place bytes, drop (place + 1) bytes)) (position (λ byte. byte == separator) bytes)
 
--- What four words ask for; `None` if one of them names nothing.
+-- What four words ask for, if each names something.
 abbrev pub named_request : (engine_word call_word integer_word flags_word : List ℕ) → Option Request
 named_request engine_word call_word integer_word flags_word =
     option_and_then (λ engine. option_and_then (λ call. option_and_then (λ integer. option_map
     (λ flags. record { engine = engine; call = call; integer = integer; flags = flags })
     (flags_of flags_word)) (integer_of integer_word)) (call_of call_word)) (engine_of engine_word)
 
--- What four words ask for; `None` if one of them names nothing, or if a row with these words has no
--- answer (`is_known`).
+-- What four words ask for, if such a row has an answer.
 abbrev pub request_of : (engine_word call_word integer_word flags_word : List ℕ) → Option Request
 request_of engine_word call_word integer_word flags_word =
     option_and_then (λ request. if is_known request then Some request else None)
     (named_request engine_word call_word integer_word flags_word)
 
--- The value of a hexadecimal digit, or `None` if the byte is no such digit. The letters `A` to `F`
--- are accepted only as capitals.
-abbrev pub hex_digit : ℕ → Option ℕ
-hex_digit byte =
+-- The value of a hexadecimal digit, whose letters are capitals.
+abbrev pub value_of_hex_digit : ℕ → Option ℕ
+value_of_hex_digit byte =
     if nat_le 48 byte && nat_le byte 57 then Some (byte - 48)
     else (if nat_le 65 byte && nat_le byte 70 then Some (byte - 65 + 10) else None)
 
--- The byte that two hexadecimal digits spell, or `None` if the word is anything else.
+-- The byte that two hexadecimal digits spell.
 abbrev pub byte_of : List ℕ → Option ℕ
 byte_of (high ∷ low ∷ []) =
-    option_and_then (λ sixteens. option_map (λ ones. 16 * sixteens + ones) (hex_digit low)) (hex_digit high)
+    option_and_then (λ sixteens. option_map (λ ones. 16 * sixteens + ones) (value_of_hex_digit low)) (value_of_hex_digit high)
 byte_of word = None
 
--- The column that three words ask for; `None` if the engine is not `w`, if another word names
--- nothing, or if the byte that the last word spells may not separate fields.
+-- The column that three words ask for. Only the engine `w` reads columns.
 abbrev pub column_of : (engine_word integer_word separator_word : List ℕ) → Option Query
 column_of engine_word integer_word separator_word =
     if bytes_eq engine_word (codes "w") then option_and_then (λ integer. option_and_then
@@ -51,8 +49,7 @@ column_of engine_word integer_word separator_word =
     (byte_of separator_word)) (integer_of integer_word)
     else None
 
--- What four words ask for. If the call is `column`, the last word spells a separator; for any other
--- call it names the flags.
+-- What four words ask for. The last one spells the separator of a column, or names flags.
 abbrev pub query_of : (engine_word call_word integer_word last_word : List ℕ) → Option Query
 query_of engine_word call_word integer_word last_word =
     if bytes_eq call_word (codes "column") then column_of engine_word integer_word last_word
@@ -63,10 +60,9 @@ abbrev pub HasAnswer : Query → Type 0
 HasAnswer (Number request) = is_known request ≡ true
 HasAnswer (Column integer separator) = is_separator separator ≡ true
 
--- What a line asks for, and the text after its fourth space; `None` if the line is not good. The
--- text may contain spaces too.
+-- What a line asks for, and the text after its fourth space, which may contain spaces.
 abbrev pub row_of : List ℕ → Option (Query × List ℕ)
 row_of line =
     option_and_then (λ engine. option_and_then (λ call. option_and_then (λ integer. option_and_then
     (λ last. option_map (λ query. (query, last.1)) (query_of engine.0 call.0 integer.0 last.0))
-    (cut integer.1)) (cut call.1)) (cut engine.1)) (cut line)
+    (cut space integer.1)) (cut space call.1)) (cut space engine.1)) (cut space line)

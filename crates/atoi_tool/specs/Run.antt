@@ -11,26 +11,23 @@ use Rattle.atoi_tool.specs.Output.{output_of, is_good_input}
 abbrev pub outcome_of : {I O : Type 0} → Ended I O → Result Bool ToolError
 outcome_of ended = ended.outcome
 
--- The source gave all its bytes up to the end, the sink got the whole output for them, and
--- `is_good` says whether every line was good.
-abbrev pub IsAnswered : (rest rest_after held held_after : Option (List ℕ)) → Bool → Type 0
-IsAnswered rest rest_after held held_after is_good =
+-- The source gave all its bytes, and the sink got the whole output for them.
+abbrev pub IsAnswered : (rest rest_after contents contents_after : Option (List ℕ)) → Bool → Type 0
+IsAnswered rest rest_after contents contents_after is_good =
     (input : List ℕ) × Consumes rest rest_after input × IsAtEnd rest_after
-    × Appends held held_after (output_of input) × (is_good ≡ is_good_input input)
+    × Appends contents contents_after (output_of input) × (is_good ≡ is_good_input input)
 
--- The source gave all its bytes up to the end, and the sink got a proper prefix of the output for
--- them.
-abbrev pub IsCutShort : (rest rest_after held held_after : Option (List ℕ)) → Type 0
-IsCutShort rest rest_after held held_after =
+-- The source gave all its bytes, and the sink got a proper prefix of the output for them.
+abbrev pub IsCutShort : (rest rest_after contents contents_after : Option (List ℕ)) → Type 0
+IsCutShort rest rest_after contents contents_after =
     (input : List ℕ) × Consumes rest rest_after input × IsAtEnd rest_after
-    × AppendsPrefix held held_after (output_of input)
+    × AppendsPrefix contents contents_after (output_of input)
 
--- What is true after a run that an error stopped. If the error is `Memory` or `Read`, the sink got
--- nothing. If it is `Write`, `IsCutShort` holds.
-abbrev pub IsStopped : (rest rest_after held held_after : Option (List ℕ)) → ToolError → Type 0
-IsStopped rest rest_after held held_after Memory = Keeps held held_after
-IsStopped rest rest_after held held_after Read = Keeps held held_after
-IsStopped rest rest_after held held_after Write = IsCutShort rest rest_after held held_after
+-- What holds after a run that an error stopped.
+abbrev pub IsStopped : (rest rest_after contents contents_after : Option (List ℕ)) → ToolError → Type 0
+IsStopped rest rest_after contents contents_after Memory = Keeps contents contents_after
+IsStopped rest rest_after contents contents_after Read = Keeps contents contents_after
+IsStopped rest rest_after contents contents_after Write = IsCutShort rest rest_after contents contents_after
 
 -- How many reads were refused in a run with this outcome.
 abbrev pub refused_reads : Result Bool ToolError → ℕ

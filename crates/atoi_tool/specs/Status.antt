@@ -3,8 +3,7 @@ use Rattle.std.specs.Prelude.{ℕ, List, codes, Bool, true, false, Result, Ok, E
 use Rattle.atoi_tool.specs.declared.status.ToolError.{ToolError}
 use Rattle.atoi_tool.specs.declared.status.ToolError.TheVariants.{Memory, Read, Write}
 
--- The exit status is 0 if every line was good, 2 if some line was not, and a number of its own for
--- each error.
+-- The exit status: 0 if every line was good, 2 if some line was not.
 abbrev pub status_of : Result Bool ToolError → ℕ
 status_of (Ok true) = 0
 status_of (Ok false) = 2

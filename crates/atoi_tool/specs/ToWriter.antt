@@ -1,4 +1,4 @@
--- What contracts can say of a `ToWriter`.
+-- What contracts see of a `ToWriter`.
 use Rattle.std.specs.Prelude.{ℕ}
 use Rattle.atoi_tool.specs.declared.sink.ToWriter.{ToWriter}
 

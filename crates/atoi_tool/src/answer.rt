@@ -1,23 +1,20 @@
-//! Writes the answer to a row about one number. It uses `request`, `calls`, `printed` and `line`,
-//! and the traits of `atoi_simd` and of its module `lanes`.
-ghost use Rattle.std.specs.Prelude.{◌≡◌, ◌≤◌, [], true, false, length};
+//! Appends the answer to a row about one number.
+ghost use Rattle.std.specs.Prelude.{◌≡◌, ◌+◌, ◌≤◌, ◌++◌, true, false, length};
 ghost use Rattle.atoi_tool.specs.Request.{is_known, is_negative};
 ghost use Rattle.atoi_tool.specs.Answer.{call_text, row_text};
 
+use crate::block::{Block, ROOM};
 use crate::calls;
-use crate::line::Line;
-use crate::printed::{LONGEST, push_prefix, push_whole};
-use crate::request::{Call, Integer, Request};
+use crate::printed::{push_prefix, push_whole};
+use crate::put::LONGEST;
+use crate::request::{Call, Integer, Request, by_type};
 use atoi_simd::lanes;
 
-// Writes the answer to a row of type `T`, signed or not. The call must not be `neg` or
-// `prefix_neg`, which only signed types have.
-fn answer_any<T: atoi_simd::Parse + lanes::Parse>(request: &Request, text: &[u8], out: &mut Line)
+// Appends the answer to a row of type `T`, whose call is not `neg` or `prefix_neg`.
+fn answer_any<T: atoi_simd::Parse + lanes::Parse>(request: &Request, text: &[u8], out: &mut Block)
     requires call { is_negative request.now.call ≡ false }
-    requires empty { out.old ≡ [] }
-    ensures text { out.new
-        ≡ call_text request.now.call T.int_type request.now.flags text.now }
-    ensures length { length out.new ≤ LONGEST }
+    requires room { length out.old + LONGEST ≤ ROOM }
+    ensures { out.new ≡ out.old ++ call_text request.now.call T.int_type request.now.flags text.now }
 {
     let Request { engine, flags, .. } = *request;
     match request.call {
@@ -29,16 +26,14 @@ fn answer_any<T: atoi_simd::Parse + lanes::Parse>(request: &Request, text: &[u8]
     }
 }
 
-// Writes the answer to a row of a signed type `T`, whatever its call.
+// Appends the answer to a row of a signed type `T`.
 fn answer_signed<T: atoi_simd::Parse + lanes::Parse + atoi_simd::ParseNeg + lanes::ParseNeg>(
     request: &Request,
     text: &[u8],
-    out: &mut Line,
+    out: &mut Block,
 )
-    requires empty { out.old ≡ [] }
-    ensures text { out.new
-        ≡ call_text request.now.call T.int_type request.now.flags text.now }
-    ensures length { length out.new ≤ LONGEST }
+    requires { length out.old + LONGEST ≤ ROOM }
+    ensures { out.new ≡ out.old ++ call_text request.now.call T.int_type request.now.flags text.now }
 {
     let Request { engine, flags, .. } = *request;
     match request.call {
@@ -48,26 +43,11 @@ fn answer_signed<T: atoi_simd::Parse + lanes::Parse + atoi_simd::ParseNeg + lane
     }
 }
 
-/// Writes to `out` the answer to a row about one number. The row must be one that has an answer
-/// (`Request::is_known`), and `out` must be empty.
-pub fn answer_row(request: &Request, text: &[u8], out: &mut Line)
+/// Appends the answer to a row about one number, which must have one (`Request::is_known`).
+pub fn answer_row(request: &Request, text: &[u8], out: &mut Block)
     requires known { is_known request.now ≡ true }
-    requires empty { out.old ≡ [] }
-    ensures text { out.new ≡ row_text request.now text.now }
-    ensures length { length out.new ≤ LONGEST }
+    requires room { length out.old + LONGEST ≤ ROOM }
+    ensures { out.new ≡ out.old ++ row_text request.now text.now }
 {
-    match request.integer {
-        Integer::U8 => answer_any::<u8>(request, text, out),
-        Integer::I8 => answer_signed::<i8>(request, text, out),
-        Integer::U16 => answer_any::<u16>(request, text, out),
-        Integer::I16 => answer_signed::<i16>(request, text, out),
-        Integer::U32 => answer_any::<u32>(request, text, out),
-        Integer::I32 => answer_signed::<i32>(request, text, out),
-        Integer::U64 => answer_any::<u64>(request, text, out),
-        Integer::I64 => answer_signed::<i64>(request, text, out),
-        Integer::U128 => answer_any::<u128>(request, text, out),
-        Integer::I128 => answer_signed::<i128>(request, text, out),
-        Integer::Usize => answer_any::<usize>(request, text, out),
-        Integer::Isize => answer_signed::<isize>(request, text, out),
-    }
+    by_type!(request.integer, answer_any, answer_signed, <>, (request, text, out))
 }

@@ -1,89 +1,77 @@
-//! Writes the answer to a row about a column, item by item, since the answer can have any length.
-//! It uses `atoi_column`, the trait `Parse` of `atoi_simd`, the trait `Sink`, and `request`,
-//! `printed`, `line`, `put` and `refused`.
-ghost use Rattle.std.specs.Prelude.{◌≡◌, ◌+◌, ◌++◌, true, codes, OnOk, OnErr};
+//! Appends the answer to a row about a column item by item, since it can have any length.
+ghost use Rattle.std.specs.Prelude.{◌≡◌, ◌+◌, ◌++◌, true, OnOk, OnErr};
 ghost use Rattle.std.specs.List.{flat_map};
-ghost use Rattle.std.specs.Io.KnownBytes.{Appends};
 ghost use Rattle.atoi_column.specs.Fields.{is_separator};
-ghost use Rattle.atoi_tool.specs.Failures.{failures_of, AppendsPrefix};
+ghost use Rattle.atoi_tool.specs.Failures.{failures_of, AppendsPrefix, AppendsUpTo};
 ghost use Rattle.atoi_tool.specs.Request.{int_type_of};
 ghost use Rattle.atoi_tool.specs.Answer.{item_text, column_text};
 
-use crate::line::Line;
+use crate::block::Block;
 use crate::printed::push_item;
-use crate::put::put_all;
-use crate::refused::Refused;
-use crate::request::Integer;
-use crate::sink::Sink;
+use crate::put::{append, make_room};
+use crate::request::{Integer, by_type};
+use crate::sink::{Refused, Sink};
 use atoi_column::Column;
 use atoi_simd::Parse;
 
-// Writes the items that are left in `column` to `output`.
-fn put_items<T: Parse, S: Sink>(column: Column<'_, T>, output: &mut S) -> Result<(), Refused>
-    ensures ok { OnOk result
-        (Appends (S.held output.old) (S.held output.new) (flat_map item_text column.entry)) }
-    ensures err { OnErr result
-        (AppendsPrefix (S.held output.old) (S.held output.new) (flat_map item_text column.entry)) }
+// Appends the items that are left in `column`.
+fn put_items<T: Parse, S: Sink>(
+    column: Column<'_, T>,
+    block: &mut Block,
+    output: &mut S,
+) -> Result<(), Refused>
+    ensures ok { OnOk result (AppendsUpTo (S.contents output.old) (S.contents output.new)
+        (block.old ++ flat_map item_text column.entry) block.new) }
+    ensures err { OnErr result (AppendsPrefix (S.contents output.old) (S.contents output.new)
+        (block.old ++ flat_map item_text column.entry)) }
     ensures failures { S.failures output.new ≡ S.failures output.old + failures_of result }
 {
     for item in column {
-        let mut text = Line::new();
-        push_item(item, &mut text);
-        put_all(text.as_bytes(), output)?;
+        make_room(block, output)?;
+        push_item(item, block);
     }
     Ok(())
 }
 
-// Writes to `output` the answer to a row about a column whose numbers have the type `T`.
-fn put_items_of<T: Parse, S: Sink>(
+// Appends the answer to a row about a column of numbers of type `T`.
+fn put_column_of<T: Parse, S: Sink>(
     separator: u8,
     text: &[u8],
+    block: &mut Block,
     output: &mut S,
 ) -> Result<(), Refused>
     requires { is_separator separator ≡ true }
-    ensures ok { OnOk result (Appends (S.held output.old) (S.held output.new)
-        (column_text T.int_type separator text.now)) }
-    ensures err { OnErr result (AppendsPrefix (S.held output.old) (S.held output.new)
-        (column_text T.int_type separator text.now)) }
+    ensures ok { OnOk result (AppendsUpTo (S.contents output.old) (S.contents output.new)
+        (block.old ++ column_text T.int_type separator text.now) block.new) }
+    ensures err { OnErr result (AppendsPrefix (S.contents output.old) (S.contents output.new)
+        (block.old ++ column_text T.int_type separator text.now)) }
     ensures failures { S.failures output.new ≡ S.failures output.old + failures_of result }
 {
-    put_all(b"col", output)?;
-    put_items(Column::<T>::new(text, separator), output)
+    append(b"col", block, output)?;
+    put_items(Column::<T>::new(text, separator), block, output)
 }
 
-/// Writes to `output` the answer to a row about a column, without a newline.
+/// Appends the answer to a row about a column to `block`, which is written to `output` when it has
+/// no room.
 ///
 /// # Errors
 ///
-/// Returns `Refused` if a call of `put` is refused. In that case a proper prefix of the answer was
-/// written.
+/// Returns `Refused` if a call of `put` is refused.
 pub fn put_column<S: Sink>(
     integer: Integer,
     separator: u8,
     text: &[u8],
+    block: &mut Block,
     output: &mut S,
 ) -> Result<(), Refused>
     requires { is_separator separator ≡ true }
-    ensures ok { OnOk result (Appends (S.held output.old) (S.held output.new)
-        (column_text (int_type_of integer) separator text.now)) }
-    ensures err { OnErr result (AppendsPrefix (S.held output.old) (S.held output.new)
-        (column_text (int_type_of integer) separator text.now)) }
+    ensures ok { OnOk result (AppendsUpTo (S.contents output.old) (S.contents output.new)
+        (block.old ++ column_text (int_type_of integer) separator text.now) block.new) }
+    ensures err { OnErr result (AppendsPrefix (S.contents output.old) (S.contents output.new)
+        (block.old ++ column_text (int_type_of integer) separator text.now)) }
     ensures failures { S.failures output.new ≡ S.failures output.old + failures_of result }
 {
-    match integer {
-        Integer::U8 => put_items_of::<u8, S>(separator, text, output),
-        Integer::I8 => put_items_of::<i8, S>(separator, text, output),
-        Integer::U16 => put_items_of::<u16, S>(separator, text, output),
-        Integer::I16 => put_items_of::<i16, S>(separator, text, output),
-        Integer::U32 => put_items_of::<u32, S>(separator, text, output),
-        Integer::I32 => put_items_of::<i32, S>(separator, text, output),
-        Integer::U64 => put_items_of::<u64, S>(separator, text, output),
-        Integer::I64 => put_items_of::<i64, S>(separator, text, output),
-        Integer::U128 => put_items_of::<u128, S>(separator, text, output),
-        Integer::I128 => put_items_of::<i128, S>(separator, text, output),
-        Integer::Usize => put_items_of::<usize, S>(separator, text, output),
-        Integer::Isize => put_items_of::<isize, S>(separator, text, output),
-    }
+    by_type!(integer, put_column_of, put_column_of, <S>, (separator, text, block, output))
 }
 
 #[cfg(test)]

@@ -1,5 +1,4 @@
-//! Readers, writers and a replacement for the stream of standard error, which fail when a test
-//! wants them to. Only tests use them, and they use only std.
+//! Readers, writers and a stream of standard error that fail when a test wants them to.
 
 use std::alloc::Global;
 use std::cell::{Cell, RefCell};
@@ -8,7 +7,7 @@ use std::io;
 use std::io::{ErrorKind, Read, Write};
 
 /// A reader of `rest` that returns at most `part` bytes a call. Call number `failing`, counted from
-/// 1, fails with `error`; if `failing` is 0, no call fails. The reader counts its calls.
+/// 1, fails with `error`; 0 is no call.
 #[derive(Drop)]
 pub(crate) struct FailingReader<'a> {
     pub(crate) rest: &'a [u8],
@@ -54,12 +53,11 @@ pub(crate) enum Full {
     TakesNone,
 }
 
-/// A writer that accepts at most `part` bytes a call, and is full when it has accepted `room`
-/// bytes. A call on a full writer accepts nothing, but after that call the writer has room for
-/// `room_then` more bytes. The writer counts its calls.
+/// A writer that accepts at most `part` bytes a call, and `room` bytes until it is full. A call on a
+/// full writer accepts nothing, and then there is room for `room_then` more bytes.
 #[derive(Drop)]
 pub(crate) struct LimitedWriter {
-    pub(crate) held: Vec<u8>,
+    pub(crate) contents: Vec<u8>,
     pub(crate) part: usize,
     pub(crate) room: usize,
     pub(crate) room_then: usize,
@@ -72,7 +70,7 @@ impl LimitedWriter {
     /// Returns an empty writer that accepts at most five bytes a call and, once full, stays full.
     pub(crate) fn new(alloc: Global, room: usize, full: Full) -> LimitedWriter {
         LimitedWriter {
-            held: Vec::new(alloc),
+            contents: Vec::new(alloc),
             part: 5,
             room,
             room_then: 0,
@@ -95,7 +93,7 @@ impl Write for LimitedWriter {
                 Full::TakesNone => Ok(0),
             };
         }
-        self.held.extend_from_slice(&bytes[..count])?;
+        self.contents.extend_from_slice(&bytes[..count])?;
         self.room -= count;
         Ok(count)
     }
@@ -106,8 +104,7 @@ impl Write for LimitedWriter {
     }
 }
 
-/// A replacement for the stream of standard error. Its calls fail until call number `first`, counted
-/// from 1. It keeps what that call and the later ones print, and counts its calls.
+/// A stream of standard error whose calls fail until call number `first`, counted from 1.
 #[derive(Drop)]
 pub(crate) struct Errors {
     pub(crate) reported: RefCell<Vec<u8>>,
@@ -116,7 +113,7 @@ pub(crate) struct Errors {
 }
 
 impl Errors {
-    /// Returns such a stream, to which nothing was printed yet.
+    /// Returns a stream to which nothing was printed yet.
     pub(crate) fn new(alloc: Global, first: usize) -> Errors {
         Errors {
             reported: RefCell::new(Vec::new(alloc)),

@@ -1,4 +1,4 @@
-//! Reads the whole input into memory. It uses the trait `Source`, and `status` for the errors.
+//! Reads the whole input into memory.
 ghost use Rattle.std.specs.Prelude.{◌≡◌, ◌≢◌, IfOk, IfErr, OnOk};
 ghost use Rattle.std.specs.Io.KnownBytes.{Consumes, IsAtEnd};
 ghost use Rattle.atoi_tool.specs.ReadAll.{ReadAllCounts};
@@ -7,16 +7,15 @@ use crate::source::Source;
 use crate::status::ToolError;
 use std::alloc::{Allocator, Global};
 
-// The largest number of bytes that `read_all` asks for in one call of `take`.
+// How many bytes `read_all` asks for in one call of `take`.
 const PART: usize = 4096;
 
 /// Returns all bytes of `input` up to its end.
 ///
 /// # Errors
 ///
-/// Returns `Read` if a call of `take` is refused, and `Memory` if the vector of the bytes cannot
-/// grow. A source that never ends leads to `Memory`, at the latest once the vector has the largest
-/// possible length. The bytes that were taken before an error are lost.
+/// Returns `Read` if a call of `take` is refused, and `Memory` if the vector cannot grow, as in the
+/// end with a source that never ends. The bytes that were taken are then lost.
 pub fn read_all<S: Source>(alloc: Global, input: &mut S) -> Result<Vec<u8>, ToolError>
     ensures all { IfOk result
         (λ bytes. Consumes (S.rest input.old) (S.rest input.new) bytes.items) }
@@ -26,7 +25,7 @@ pub fn read_all<S: Source>(alloc: Global, input: &mut S) -> Result<Vec<u8>, Tool
     read_all_in(alloc, input)
 }
 
-// Does what `read_all` does, but with any allocator, because the tests use heaps of fixed sizes.
+// `read_all` with any allocator, since the tests use heaps of fixed sizes.
 fn read_all_in<S: Source, A: Allocator>(alloc: A, input: &mut S) -> Result<Vec<u8, A>, ToolError>
     ensures all { IfOk result
         (λ bytes. Consumes (S.rest input.old) (S.rest input.new) bytes.items) }

@@ -1,6 +1,5 @@
-//! Reads rows and answers each of them. A row either names a call and has the text that this call
-//! parses, or has a column and asks for all its numbers. This module connects a run to the standard
-//! input, output and error. It uses `run`, `source` and `sink`.
+//! Reads rows from standard input and writes the answer to each to standard output. A row has a text
+//! and names the call that parses it, or has a column of numbers.
 #![tactic(auto)]
 
 use crate::run::{Ended, run};
@@ -9,19 +8,17 @@ use crate::source::FromReader;
 use std::io::{Stdin, Stdout};
 
 mod answer;
-#[cfg(test)]
-mod answers;
+mod block;
 mod calls;
+#[cfg(test)]
+mod checks;
 mod columns;
 #[cfg(test)]
 mod devices;
 mod input;
-mod line;
 mod output;
-mod place;
 mod printed;
 mod put;
-mod refused;
 mod request;
 mod row;
 mod run;

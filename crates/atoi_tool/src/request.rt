@@ -1,47 +1,42 @@
-//! The parts of a row that come before its text, and the words that name these parts. It uses a law
-//! of `atoi_core`.
+//! What a row asks for, and the words that name it.
 ghost use Rattle.std.specs.Prelude.{◌≡◌};
 ghost use Rattle.atoi_tool.specs.Request.{engine_of, call_of, integer_of, flags_of, int_type_of, takes_sign, is_negative, is_known};
-
-use atoi_core::derived::clones_are_the_same;
 
 /// Which library parses.
 #[derive(Clone, Copy)]
 pub enum Engine {
-    /// `w`: `atoi_simd`, which reads eight bytes at a time as a word.
+    /// `w`: `atoi_simd`.
     Words,
-    /// `l`: `atoi_simd::lanes`, which reads 16 or 32 bytes at a time as a vector.
+    /// `l`: `atoi_simd::lanes`.
     Lanes,
 }
 
 /// Which function parses.
 #[derive(Clone, Copy)]
 pub enum Call {
-    /// `parse`: the whole text, which may start with a sign.
+    /// The whole text, which may start with a sign.
     Parse,
-    /// `pos`: the whole text, without a sign.
+    /// The whole text, without a sign.
     Pos,
-    /// `neg`: the whole text, as the magnitude (the value without its sign) of a number that is
-    /// negative or zero.
+    /// The whole text, without a sign, as the digits of a number that is negative or zero.
     Neg,
-    /// `prefix`: the number at the start of the text, which may start with a sign.
+    /// As `Parse`, for the number at the start of the text.
     Prefix,
-    /// `prefix_pos`: the number at the start of the text, without a sign.
+    /// As `Pos`, for the number at the start of the text.
     PrefixPos,
-    /// `prefix_neg`: the digits at the start of the text, as the magnitude of a number that is
-    /// negative or zero.
+    /// As `Neg`, for the number at the start of the text.
     PrefixNeg,
 }
 
 impl Call {
-    /// Says whether the call accepts a sign at the start of its text.
+    /// Says whether the text may start with a sign.
     pub fn takes_sign(self) -> bool
         ensures { result ≡ takes_sign self }
     {
         matches!(self, Call::Parse | Call::Prefix)
     }
 
-    /// Says whether the call reads the magnitude of a number that is negative or zero.
+    /// Says whether the digits are those of a number that is negative or zero.
     pub fn is_negative(self) -> bool
         ensures { result ≡ is_negative self }
     {
@@ -52,29 +47,17 @@ impl Call {
 /// Which type the call returns.
 #[derive(Clone, Copy)]
 pub enum Integer {
-    /// `u8`.
     U8,
-    /// `i8`.
     I8,
-    /// `u16`.
     U16,
-    /// `i16`.
     I16,
-    /// `u32`.
     U32,
-    /// `i32`.
     I32,
-    /// `u64`.
     U64,
-    /// `i64`.
     I64,
-    /// `u128`.
     U128,
-    /// `i128`.
     I128,
-    /// `usize`.
     Usize,
-    /// `isize`.
     Isize,
 }
 
@@ -95,7 +78,29 @@ impl Integer {
     }
 }
 
-/// What a call skips at the start of its text: its flags SKIP_ZEROES and SKIP_PLUS.
+/// Calls `$unsigned` or `$signed` with the type that `$integer` names.
+macro_rules! by_type {
+    ($integer:expr, $unsigned:ident, $signed:ident, <$($more:ident),*>, $arguments:tt) => {
+        match $integer {
+            Integer::U8 => $unsigned::<u8 $(, $more)*> $arguments,
+            Integer::I8 => $signed::<i8 $(, $more)*> $arguments,
+            Integer::U16 => $unsigned::<u16 $(, $more)*> $arguments,
+            Integer::I16 => $signed::<i16 $(, $more)*> $arguments,
+            Integer::U32 => $unsigned::<u32 $(, $more)*> $arguments,
+            Integer::I32 => $signed::<i32 $(, $more)*> $arguments,
+            Integer::U64 => $unsigned::<u64 $(, $more)*> $arguments,
+            Integer::I64 => $signed::<i64 $(, $more)*> $arguments,
+            Integer::U128 => $unsigned::<u128 $(, $more)*> $arguments,
+            Integer::I128 => $signed::<i128 $(, $more)*> $arguments,
+            Integer::Usize => $unsigned::<usize $(, $more)*> $arguments,
+            Integer::Isize => $signed::<isize $(, $more)*> $arguments,
+        }
+    };
+}
+
+pub(crate) use by_type;
+
+/// What a call skips at the start of its text.
 #[derive(Clone, Copy)]
 pub struct Flags {
     /// Leading zeros are skipped.
@@ -104,7 +109,7 @@ pub struct Flags {
     pub plus: bool,
 }
 
-/// Returns the engine that a word names, or `None` if it names none.
+/// Returns the engine that a word names.
 pub fn engine_of(word: &[u8]) -> Option<Engine>
     ensures { result ≡ engine_of word.now }
 {
@@ -115,7 +120,7 @@ pub fn engine_of(word: &[u8]) -> Option<Engine>
     }
 }
 
-/// Returns the call that a word names, or `None` if it names none.
+/// Returns the call that a word names.
 pub fn call_of(word: &[u8]) -> Option<Call>
     ensures { result ≡ call_of word.now }
 {
@@ -130,7 +135,7 @@ pub fn call_of(word: &[u8]) -> Option<Call>
     }
 }
 
-/// Returns the integer type that a word names, or `None` if it names none.
+/// Returns the integer type that a word names.
 pub fn integer_of(word: &[u8]) -> Option<Integer>
     ensures { result ≡ integer_of word.now }
 {
@@ -151,9 +156,7 @@ pub fn integer_of(word: &[u8]) -> Option<Integer>
     }
 }
 
-/// Returns the flags that a word names. Its first byte is `z` if leading zeros are skipped, and its
-/// second byte is `p` if a plus is accepted; if a flag is off, its byte is `-`. Returns `None` for
-/// any other word.
+/// Returns the flags that a word names: `z` or `-` for zeros, then `p` or `-` for a plus.
 pub fn flags_of(word: &[u8]) -> Option<Flags>
     ensures { result ≡ flags_of word.now }
 {
@@ -167,23 +170,18 @@ pub fn flags_of(word: &[u8]) -> Option<Flags>
     Some(Flags { zeroes, plus })
 }
 
-/// What a row about one number asks for. The text of the row is not part of this.
+/// What a row about one number asks for, without its text.
 #[derive(Clone, Copy)]
 pub struct Request {
-    /// Which library parses.
     pub engine: Engine,
-    /// Which function parses.
     pub call: Call,
-    /// Which type the call returns.
     pub integer: Integer,
-    /// What the call skips at the start of the text.
     pub flags: Flags,
 }
 
 impl Request {
-    /// Says whether a row with this request has an answer. It has none if the flag for a plus is on
-    /// but the call accepts no sign. It also has none if the call is `neg` or `prefix_neg` but the
-    /// type is unsigned. In all other cases it has one.
+    /// Says whether such a row has an answer. It has none if a plus is allowed where the call takes
+    /// no sign, or if the call is `neg` or `prefix_neg` and the type is unsigned.
     pub fn is_known(&self) -> bool
         ensures { result ≡ is_known self.now }
     {
@@ -192,27 +190,11 @@ impl Request {
     }
 }
 
-/// What a row asks for. The text of the row is not part of this.
+/// What a row asks for, without its text.
 #[derive(Clone, Copy)]
 pub enum Query {
     /// One number.
     Number(Request),
-    /// All numbers of a column. Such a row has an answer if its separator is any byte except a
-    /// digit, `+` and `-`.
-    Column {
-        /// The type of the numbers.
-        integer: Integer,
-        /// The byte that separates the fields.
-        separator: u8,
-    },
-}
-
-// Proves, for each type of this module, that `clone` returns the value itself and never fails.
-fn clones() {
-    clones_are_the_same::<Engine>();
-    clones_are_the_same::<Call>();
-    clones_are_the_same::<Integer>();
-    clones_are_the_same::<Flags>();
-    clones_are_the_same::<Request>();
-    clones_are_the_same::<Query>();
+    /// All numbers of a column, whose separator is any byte except a digit, `+` and `-`.
+    Column { integer: Integer, separator: u8 },
 }

@@ -1,27 +1,24 @@
-//! What the input is read from: the trait `Source`, and its implementation for std's readers. It
-//! uses `refused`, std's `Read`, and `Steps` of `atoi_core`, a count that only contracts see.
+//! What the input is read from.
 ghost use Rattle.std.specs.Prelude.{◌≡◌, ◌+◌, ◌<◌, ◌≤◌, ℕ, List, Option, None, length, IfOk};
 ghost use Rattle.std.specs.Io.KnownBytes.{ReadConsumes};
 ghost use Rattle.atoi_tool.specs.Failures.{failures_of};
 
-use crate::refused::Refused;
+use crate::sink::Refused;
 use atoi_core::Steps;
 use std::io::Read;
 
 /// A source of bytes, which are taken from it one part after another, up to its end.
 pub trait Source {
-    /// The bytes that are still to come, or `None` if contracts cannot name them. They can name
-    /// those of a reader in memory.
+    /// The bytes that are still to come, if contracts can name them, as for a reader in memory.
     ghost rest: { Self → Option (List ℕ) } = { λ _. None };
 
     /// How many calls of `take` were refused so far.
     ghost failures: { Self → ℕ };
 
-    /// Writes the next bytes to the start of `space` and returns how many it has written. It
-    /// returns 0 only at the end.
+    /// Writes the next bytes to the start of `space` and returns how many, 0 only at the end. The
+    /// rest of `space` is unspecified.
     ///
-    /// The rest of `space` is unspecified. A call that is refused takes no byte from the source and
-    /// adds one to `failures`. A call that is not refused leaves `failures` unchanged.
+    /// A call that is refused takes no byte, and only such a call adds one to `failures`.
     fn take(&mut self, space: &mut [u8]) -> Result<usize, Refused>
         requires { 0 < length space.old }
         ensures within { IfOk result (λ k. k ≤ length space.new) }
@@ -39,7 +36,7 @@ pub struct FromReader<R> {
 impl<R: Read> FromReader<R> {
     ghost use Rattle.atoi_tool.specs.FromReader.{from_reader_inner, from_reader_failures};
 
-    /// Returns a source that reads from `inner`. No call was refused so far.
+    /// Returns a source that reads from `inner`.
     pub fn new(inner: R) -> FromReader<R>
         ensures inner { from_reader_inner result ≡ inner }
         ensures failures { from_reader_failures result ≡ 0 }
@@ -65,7 +62,7 @@ impl<R: Read> Source for FromReader<R> {
 
     ghost failures = { from_reader_failures };
 
-    /// Calls `read` once. Any error of `read`, even an interruption, becomes `Refused`.
+    /// Calls `read` once. An error, even an interruption, is a refusal.
     fn take(&mut self, space: &mut [u8]) -> Result<usize, Refused> {
         match self.inner.read(space) {
             Ok(count) => Ok(count),

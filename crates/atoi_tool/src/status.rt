@@ -1,8 +1,7 @@
-//! The errors that stop the program, and the exit status. It uses a law of `atoi_core`.
+//! The errors that stop the program, and its exit status.
 ghost use Rattle.std.specs.Prelude.{◌≡◌, Some};
 ghost use Rattle.atoi_tool.specs.Status.{status_of, tool_error_text};
 
-use atoi_core::derived::equal_ones_are_the_same;
 use std::fmt;
 
 /// An error that stops the program.
@@ -28,8 +27,8 @@ impl fmt::Display for ToolError {
     }
 }
 
-/// Returns the exit status of the program: 0 if every line was good, 2 if some line was not, 3 if
-/// there was not enough memory, 4 after a refused read and 5 after a refused write.
+/// Returns the exit status of the program: 0 if every line was good, 2 if some line was not, and for
+/// an error 3 to 5.
 pub fn status(outcome: &Result<bool, ToolError>) -> u8
     ensures { result ≡ status_of outcome.now }
 {
@@ -40,9 +39,4 @@ pub fn status(outcome: &Result<bool, ToolError>) -> u8
         Err(ToolError::Read) => 4,
         Err(ToolError::Write) => 5,
     }
-}
-
-// Proves that two of these errors are `==` exactly if they are the same.
-fn equal_errors() {
-    equal_ones_are_the_same::<ToolError>();
 }

@@ -1,83 +1,93 @@
 -- Lemmas about appending one part after another.
-use Rattle.std.proofs.Common.{◌≡◌, ℕ, ◌+◌, List, [], ◌++◌, ◌≤◌, length, take, drop, Option, Some, None, Result, Ok, Err, OnErr, refl, sym, ap, ◌∙◌, append_assoc, arith, length-append}
+use Rattle.std.proofs.Common.{◌≡◌, ℕ, ◌+◌, List, [], ◌++◌, ◌≤◌, length, take, drop, Option, Result, Ok, Err, OnOk, OnErr, refl, sym, ap, subst, ◌∙◌, append_assoc, arith, length-append}
+use Rattle.std.proofs.KnownBytes.{Appends-nil, Appends-trans}
 use Rattle.std.proofs.lemmas.List.{append-nil, take-append-le}
 use Rattle.std.proofs.Math.Seq.{take-add, take-append-add}
 use Rattle.std.specs.Io.KnownBytes.{Appends}
-use Rattle.atoi_tool.specs.Failures.{AppendsPrefix}
+use Rattle.atoi_tool.specs.Failures.{AppendsPrefix, AppendsUpTo}
 
--- If nothing changes, then nothing was appended.
-pub Appends-nil : (held : Option (List ℕ)) → Appends held held []
-Appends-nil None = tt
-Appends-nil (Some xs) = sym (append-nil xs)
-
--- If two parts are appended one after the other, then both together are appended.
-pub Appends-append : (old mid new : Option (List ℕ)) (xs ys : List ℕ) → Appends old mid xs → Appends mid new ys → Appends old new (xs ++ ys)
-Appends-append None mid new xs ys first second = tt
-Appends-append (Some held) None new xs ys first second = absurd first
-Appends-append (Some held) (Some more) None xs ys first second = absurd second
-Appends-append (Some held) (Some more) (Some most) xs ys first second =
-    second ∙ (ap (λ front. front ++ ys) first ∙ append_assoc held xs ys)
-
--- What was put so far is a prefix of `whole`, and `rest` is still to be put.
-pub record IsPutUpTo (old new : Option (List ℕ)) (whole rest : List ℕ) : Type 0 where
-  pub front : List ℕ
-  pub parts : whole ≡ front ++ rest
-  pub put : Appends old new front
-
--- At the start nothing was put, and all is still to be put.
-pub IsPutUpTo-start : (held : Option (List ℕ)) (whole : List ℕ) → IsPutUpTo held held whole whole
-IsPutUpTo-start held whole = record { front = []; parts = refl; put = Appends-nil held }
-
--- If one more part is put, then what follows it is still to be put.
-pub IsPutUpTo-more : (old mid new : Option (List ℕ)) (whole part rest : List ℕ) → IsPutUpTo old mid whole (part ++ rest) → Appends mid new part → IsPutUpTo old new whole rest
-IsPutUpTo-more old mid new whole part rest before more = record {
-  front = before.front ++ part;
-  parts = before.parts ∙ sym (append_assoc before.front part rest);
-  put = Appends-append old mid new before.front part before.put more;
-}
-
--- If a proper prefix of the next part is put, then a proper prefix of the whole was put.
-pub IsPutUpTo-refused : (old mid new : Option (List ℕ)) (whole part rest : List ℕ) → IsPutUpTo old mid whole (part ++ rest) → AppendsPrefix mid new part → AppendsPrefix old new whole
-IsPutUpTo-refused old mid new whole part rest before refused =
-    let n = refused.0 in
-    let within : n ≤ length part = omega (arith, refused.1) in
-    let cut : take (length before.front + n) whole ≡ before.front ++ take n part =
-    ap (take (length before.front + n)) before.parts
-    ∙ (take-append-add before.front (part ++ rest) n
-    ∙ ap (λ (back : List ℕ). before.front ++ back) (take-append-le n part rest within)) in
-    let size : length whole ≡ length before.front + (length part + length rest) =
-    ap length before.parts ∙ simp length-append in (
-      length before.front + n,
-      omega (arith, refused.1),
-      rw cut (Appends-append old mid new before.front (take n part) before.put refused.2),
-    )
-
--- If the first `n` bytes of `xs` are put, and then the next `m` bytes of `xs`, then the first
--- `n + m` were put.
+-- The first `n` bytes of `xs`, and then the next `m`.
 pub Appends-take : (old mid new : Option (List ℕ)) (n m : ℕ) (xs : List ℕ) → Appends old mid (take n xs) → Appends mid new (take m (drop n xs)) → Appends old new (take (n + m) xs)
 Appends-take old mid new n m xs first second =
-    rw (take-add n m xs) (Appends-append old mid new (take n xs) (take m (drop n xs)) first second)
+    rw (take-add n m xs) (Appends-trans old mid new (take n xs) (take m (drop n xs)) first second)
 
--- What holds in any case holds if the result is an error.
+pub AppendsUpTo-none : (held : Option (List ℕ)) (whole : List ℕ) → AppendsUpTo held held whole whole
+AppendsUpTo-none held whole = ([], Appends-nil held, refl)
+
+pub AppendsUpTo-all : (old new : Option (List ℕ)) (whole : List ℕ) → Appends old new whole → AppendsUpTo old new whole []
+AppendsUpTo-all old new whole put = (whole, put, sym (append-nil whole))
+
+pub AppendsUpTo-trans : (old mid new : Option (List ℕ)) (whole part rest : List ℕ) → AppendsUpTo old mid whole part → AppendsUpTo mid new part rest → AppendsUpTo old new whole rest
+AppendsUpTo-trans old mid new whole part rest first second = (
+  first.0 ++ second.0,
+  Appends-trans old mid new first.0 second.0 first.1 second.1,
+  first.2 ∙ (ap (λ (back : List ℕ). first.0 ++ back) second.2 ∙ sym (append_assoc first.0 second.0 rest)),
+)
+
+-- What is appended stays the same if both lists grow at the end.
+pub AppendsUpTo-more : (old new : Option (List ℕ)) (whole rest more : List ℕ) → AppendsUpTo old new whole rest → AppendsUpTo old new (whole ++ more) (rest ++ more)
+AppendsUpTo-more old new whole rest more put =
+    (put.0, put.1, ap (λ (all : List ℕ). all ++ more) put.2 ∙ append_assoc put.0 rest more)
+
+pub AppendsUpTo-last : (old mid new : Option (List ℕ)) (whole rest : List ℕ) → AppendsUpTo old mid whole rest → Appends mid new rest → Appends old new whole
+AppendsUpTo-last old mid new whole rest put last =
+    subst (Appends old new) (sym put.2) (Appends-trans old mid new put.0 rest put.1 last)
+
+pub AppendsPrefix-more : (old new : Option (List ℕ)) (xs more : List ℕ) → AppendsPrefix old new xs → AppendsPrefix old new (xs ++ more)
+AppendsPrefix-more old new xs more refused =
+    let n = refused.0 in
+    let within : n ≤ length xs = omega (arith, refused.1) in
+    (n, omega (arith, refused.1, length-append xs more), rw (take-append-le n xs more within) refused.2)
+
+-- A proper prefix of the rest, after all before it, is a proper prefix of the whole.
+pub AppendsPrefix-rest : (old mid new : Option (List ℕ)) (whole rest : List ℕ) → AppendsUpTo old mid whole rest → AppendsPrefix mid new rest → AppendsPrefix old new whole
+AppendsPrefix-rest old mid new whole rest put refused =
+    let n = refused.0 in
+    let cut : take (length put.0 + n) whole ≡ put.0 ++ take n rest =
+    ap (take (length put.0 + n)) put.2 ∙ take-append-add put.0 rest n in
+    let size : length whole ≡ length put.0 + length rest = ap length put.2 ∙ length-append put.0 rest in
+    (length put.0 + n, omega (arith, refused.1, size), rw cut (Appends-trans old mid new put.0 (take n rest) put.1 refused.2))
+
+-- `before` waits when `part` comes, and `after` waits then. `rest` follows.
+pub AppendsUpTo-next : (old mid new : Option (List ℕ)) (whole before part rest after : List ℕ) → AppendsUpTo old mid whole (before ++ (part ++ rest))
+    → AppendsUpTo mid new (before ++ part) after → AppendsUpTo old new whole (after ++ rest)
+AppendsUpTo-next old mid new whole before part rest after put next =
+    AppendsUpTo-trans old mid new whole (before ++ (part ++ rest)) (after ++ rest) put
+    (rw (sym (append_assoc before part rest)) (AppendsUpTo-more mid new (before ++ part) after rest next))
+
+pub AppendsPrefix-next : (old mid new : Option (List ℕ)) (whole before part rest : List ℕ) → AppendsUpTo old mid whole (before ++ (part ++ rest))
+    → AppendsPrefix mid new (before ++ part) → AppendsPrefix old new whole
+AppendsPrefix-next old mid new whole before part rest put refused =
+    AppendsPrefix-rest old mid new whole (before ++ (part ++ rest)) put
+    (rw (sym (append_assoc before part rest)) (AppendsPrefix-more mid new (before ++ part) rest refused))
+
 pub OnErr-any : {A E : Type 0} (P : Type 0) (r : Result A E) → P → OnErr r P
 OnErr-any P (Ok value) h = tt
 OnErr-any P (Err error) h = h
 
--- A proper prefix of the first of two parts is a proper prefix of both together.
-pub AppendsPrefix-first : (old new : Option (List ℕ)) (xs ys : List ℕ) → AppendsPrefix old new xs → AppendsPrefix old new (xs ++ ys)
-AppendsPrefix-first old new xs ys refused =
-    IsPutUpTo-refused old old new (xs ++ ys) xs ys (IsPutUpTo-start old (xs ++ ys)) refused
+-- Two parts, one after the other, when `mid` waits after the first.
+pub AppendsUpTo-then : (old mid new : Option (List ℕ)) (before xs ys waits after : List ℕ) → AppendsUpTo old mid (before ++ xs) waits
+    → AppendsUpTo mid new (waits ++ ys) after → AppendsUpTo old new (before ++ (xs ++ ys)) after
+AppendsUpTo-then old mid new before xs ys waits after first second =
+    rw (sym (append_assoc before xs ys))
+    (AppendsUpTo-trans old mid new ((before ++ xs) ++ ys) (waits ++ ys) after (AppendsUpTo-more old mid (before ++ xs) waits ys first) second)
 
--- The first of two parts, followed by a proper prefix of the second, is a proper prefix of both
--- together.
-pub AppendsPrefix-second : (old mid new : Option (List ℕ)) (xs ys : List ℕ) → Appends old mid xs → AppendsPrefix mid new ys → AppendsPrefix old new (xs ++ ys)
-AppendsPrefix-second old mid new xs ys first refused =
-    IsPutUpTo-refused old mid new (xs ++ ys) ys []
-    (record { front = xs; parts = ap (λ (back : List ℕ). xs ++ back) (sym (append-nil ys)); put = first }) refused
+pub AppendsPrefix-first : (old new : Option (List ℕ)) (before xs ys : List ℕ) → AppendsPrefix old new (before ++ xs) → AppendsPrefix old new (before ++ (xs ++ ys))
+AppendsPrefix-first old new before xs ys refused =
+    rw (sym (append_assoc before xs ys)) (AppendsPrefix-more old new (before ++ xs) ys refused)
 
--- If the first of two parts was put, and the call that puts the second is refused, then a proper
--- prefix of both together was put.
-pub OnErr-second : {A E : Type 0} (old mid new : Option (List ℕ)) (xs ys : List ℕ) (r : Result A E) → Appends old mid xs
-    → OnErr r (AppendsPrefix mid new ys) → OnErr r (AppendsPrefix old new (xs ++ ys))
-OnErr-second old mid new xs ys (Ok value) first h = tt
-OnErr-second old mid new xs ys (Err error) first h = AppendsPrefix-second old mid new xs ys first h
+pub AppendsPrefix-then : (old mid new : Option (List ℕ)) (before xs ys waits : List ℕ) → AppendsUpTo old mid (before ++ xs) waits
+    → AppendsPrefix mid new (waits ++ ys) → AppendsPrefix old new (before ++ (xs ++ ys))
+AppendsPrefix-then old mid new before xs ys waits first refused =
+    rw (sym (append_assoc before xs ys))
+    (AppendsPrefix-rest old mid new ((before ++ xs) ++ ys) (waits ++ ys) (AppendsUpTo-more old mid (before ++ xs) waits ys first) refused)
+
+pub OnOk-then : {A E : Type 0} (old mid new : Option (List ℕ)) (before xs ys waits after : List ℕ) (r : Result A E) → AppendsUpTo old mid (before ++ xs) waits
+    → OnOk r (AppendsUpTo mid new (waits ++ ys) after) → OnOk r (AppendsUpTo old new (before ++ (xs ++ ys)) after)
+OnOk-then old mid new before xs ys waits after (Ok value) first second = AppendsUpTo-then old mid new before xs ys waits after first second
+OnOk-then old mid new before xs ys waits after (Err error) first second = tt
+
+pub OnErr-then : {A E : Type 0} (old mid new : Option (List ℕ)) (before xs ys waits : List ℕ) (r : Result A E) → AppendsUpTo old mid (before ++ xs) waits
+    → OnErr r (AppendsPrefix mid new (waits ++ ys)) → OnErr r (AppendsPrefix old new (before ++ (xs ++ ys)))
+OnErr-then old mid new before xs ys waits (Ok value) first refused = tt
+OnErr-then old mid new before xs ys waits (Err error) first refused = AppendsPrefix-then old mid new before xs ys waits first refused

@@ -1,17 +1,8 @@
 //! Tests of rows about columns. The expected answers were worked out by hand.
 
-use crate::answers::gives;
-use crate::output::answer_lines;
-use crate::sink::ToWriter;
+use crate::checks::{answered, gives};
 use std::alloc::Global;
 use std::test::Fail;
-
-// Returns what is written for an input, and whether every line of it is good.
-fn answered(alloc: Global, input: &[u8]) -> Result<(Vec<u8>, bool), Fail> {
-    let mut sink = ToWriter::new(Vec::new(alloc));
-    let good = answer_lines(input, &mut sink)?;
-    Ok((sink.into_inner(), good))
-}
 
 const ROWS: &[u8] = b"\
 w column u8 2C 1,2
@@ -75,7 +66,7 @@ fn refuses_bad_columns(rt: HostRuntime) -> Result<(), Fail> {
     Ok(())
 }
 
-// Returns the answer to a row that has `start` and then a million times `byte`.
+// Returns the answer to `start` and then a million times `byte`.
 fn answered_long(alloc: Global, start: &[u8], byte: u8) -> Result<Vec<u8>, Fail> {
     let mut row = start.to_vec(alloc)?;
     row.extend_from_slice(&vec![in alloc; byte; 1_000_000]?)?;

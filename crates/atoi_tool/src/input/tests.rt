@@ -1,8 +1,7 @@
-//! Tests of reading a whole input, with readers that fail and with too little memory. They use the
-//! module `devices`, which only tests have, and the heaps of `linked_list_allocator`.
+//! Tests of reading a whole input, with readers that fail and with too little memory.
 
 use super::{PART, read_all, read_all_in};
-use crate::answers::gives;
+use crate::checks::gives;
 use crate::devices::FailingReader;
 use crate::source::FromReader;
 use crate::status::{ToolError, status};
@@ -35,7 +34,7 @@ fn reads_to_the_end(rt: HostRuntime) -> Result<(), Fail> {
     Ok(())
 }
 
-// Returns how many bytes are read if call number `failing` of the reader fails with `error`.
+// Returns how many bytes are read if call `failing` of the reader fails with `error`.
 fn read_failing(alloc: Global, failing: usize, error: ErrorKind) -> Result<usize, ToolError> {
     let mut source = FromReader::new(FailingReader {
         failing,
@@ -62,9 +61,8 @@ fn parts_of(input: &[u8]) -> FromReader<FailingReader<'_>> {
     FromReader::new(FailingReader::new(input, PART))
 }
 
-// Five parts need four requests for memory: for 1, 2, 4 and 8 parts. Each request is made while the
-// memory of the previous request is still held. Each heap in the list below refuses one of the four
-// requests, and no other request follows the refused one.
+// Five parts need four requests for memory, for 1, 2, 4 and 8 parts, and each is made before the
+// memory of the previous one is free. Each heap below refuses one of the four.
 #[test]
 fn reports_each_refused_request_for_memory(rt: HostRuntime) -> Result<(), Fail> {
     let input = vec![in rt.alloc(); b'7'; 5 * PART]?;

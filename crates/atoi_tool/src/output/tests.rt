@@ -1,22 +1,15 @@
-//! Tests of the answers to whole inputs, and of writers that fail. The expected answers to good
-//! rows come from the Rust crate `atoi_simd` 0.18.1 and from its documentation. The exceptions are
-//! prefixes that count a plus, and prefixes of more than 16 digits for types of up to 32 bits.
+//! Tests of the answers to whole inputs, and of writers that fail. The expected answers come from the
+//! Rust crate `atoi_simd` 0.18.1, except to prefixes that count a plus, and to those of more than 16
+//! digits for types of up to 32 bits.
 
 use super::answer_lines;
-use crate::answers::gives;
+use crate::checks::{answered, gives};
 use crate::devices::{Full, LimitedWriter};
 use crate::sink::ToWriter;
 use crate::status::{ToolError, status};
 use std::alloc::{AllocError, Global};
 use std::process::Abort;
 use std::test::Fail;
-
-// Returns what is written for an input, and whether every line of it is good.
-fn answered(alloc: Global, input: &[u8]) -> Result<(Vec<u8>, bool), Fail> {
-    let mut sink = ToWriter::new(Vec::new(alloc));
-    let good = answer_lines(input, &mut sink)?;
-    Ok((sink.into_inner(), good))
-}
 
 // Returns the rows with engine `l` instead of `w`.
 fn on_lanes(alloc: Global, rows: &[u8]) -> Result<Vec<u8>, AllocError> {
@@ -33,8 +26,7 @@ fn on_lanes(alloc: Global, rows: &[u8]) -> Result<Vec<u8>, AllocError> {
     Ok(lanes)
 }
 
-// Good rows, and then their answers. After the fourth space of a row, every byte up to the newline
-// belongs to the text, even a space.
+// The text of a row may contain spaces.
 const GOOD_ROWS: &[u8] = b"\
 w neg i8 -- 0
 w pos i8 -- 128
@@ -91,10 +83,9 @@ err atoi_simd string is empty
 err atoi_simd wrong size: 17 input: [30, 30, 30, 30, 30, 30, 30, 30, 30, 30, 30, 30, 30, 30, 30, 30, 37]
 ";
 
-// A sample of the rows to which the original (the Rust crate `atoi_simd` 0.18.1) and this port give
-// the same answers, and then these answers. This sample and the two samples below together have
-// each call with each of its types, and with each choice of its flags. The crate `atoi_vectors` has
-// all 720 rows, and runs them without the tool.
+// A sample of the rows to which the Rust crate and this port give the same answers. With the two
+// samples below it has each call with each of its types, and with each choice of its flags.
+// `atoi_vectors` has all 720 rows.
 const ORIGINAL_ROWS: &[u8] = b"\
 w pos u8 z- 25:
 w prefix_pos i64 -- 9223372036854775808,
@@ -205,8 +196,7 @@ err atoi_simd wrong size: 24 input: [30, 30, 30, 30, 30, 30, 30, 30, 30, 30, 30,
 err atoi_simd overflow, input: [33, 32, 37, 36, 39]
 ";
 
-// A sample of the rows in which a prefix counts a plus, and then our answers. The original does not
-// count the plus.
+// Rows in which a prefix counts a plus, which the Rust crate does not.
 const PLUS_ROWS: &[u8] = b"\
 w prefix u16 -p +12a
 w prefix u64 -p +12a
@@ -221,9 +211,8 @@ ok 12 3
 ok 12 3
 ";
 
-// A sample of the rows whose call is for a prefix, whose type has at most 32 bits, whose flag for
-// zeros is off and whose text has more than 16 digits; and then our answers. The original parses
-// only the first 16 digits.
+// Prefixes of more than 16 digits for types of at most 32 bits, with the flag for zeros off. The Rust
+// crate parses only the first 16 digits.
 const LONG_ROWS: &[u8] = b"\
 w prefix_pos i16 -- 00000000000000007
 w prefix_neg i8 -- 00000000000000001\x20
@@ -273,15 +262,14 @@ fn long_row(alloc: Global, start: &[u8], end: &[u8]) -> Result<Vec<u8>, AllocErr
     Ok(row)
 }
 
-// Returns a line with an error that shows 48 zeros. `start` is the line up to and including the
-// first of these zeros. The function appends the other 47 zeros and the end of the line.
-fn zeros_shown(alloc: Global, start: &[u8]) -> Result<Vec<u8>, AllocError> {
-    let mut shown = start.to_vec(alloc)?;
+// Returns an error line that ends with 48 zeros in hexadecimal, of which `start` has the first.
+fn with_48_zeros(alloc: Global, start: &[u8]) -> Result<Vec<u8>, AllocError> {
+    let mut line = start.to_vec(alloc)?;
     for _ in 1..48 {
-        shown.extend_from_slice(b", 30")?;
+        line.extend_from_slice(b", 30")?;
     }
-    shown.extend_from_slice(b"]\n")?;
-    Ok(shown)
+    line.extend_from_slice(b"]\n")?;
+    Ok(line)
 }
 
 #[test]
@@ -294,29 +282,27 @@ fn answers_long_rows(rt: HostRuntime) -> Result<(), Fail> {
     let (output, _) = answered(rt.alloc(), &row)?;
     gives(&rt, output.as_slice(), b"ok 7 1000001\n".as_slice());
 
-    let shown = zeros_shown(rt.alloc(), b"err atoi_simd wrong size: 24 input: [30")?;
+    let line = with_48_zeros(rt.alloc(), b"err atoi_simd wrong size: 24 input: [30")?;
     let row = long_row(rt.alloc(), b"w prefix u64 -- ", b"")?;
     let (output, _) = answered(rt.alloc(), &row)?;
-    gives(&rt, output.as_slice(), shown.as_slice());
+    gives(&rt, output.as_slice(), line.as_slice());
     Ok(())
 }
 
-// No answer to a row about one number is longer than the one in this test, unless it has an index
-// with more digits.
+// Only an index with more digits makes an answer longer.
 #[test]
 fn answers_the_longest_line(rt: HostRuntime) -> Result<(), Fail> {
     let greatest = b"340282366920938463463374607431768211455x";
-    let shown = zeros_shown(
+    let line = with_48_zeros(
         rt.alloc(),
         b"err atoi_simd invalid at index: 1000039 it must contain only digits, starting with: 340282366920938463463374607431768211455 input: [30",
     )?;
-    gives(&rt, shown.len(), 324);
     let row = long_row(rt.alloc(), b"w parse u128 z- ", greatest)?;
     let (output, _) = answered(rt.alloc(), &row)?;
-    gives(&rt, output.as_slice(), shown.as_slice());
+    gives(&rt, output.as_slice(), line.as_slice());
     let row = long_row(rt.alloc(), b"l pos u128 z- ", greatest)?;
     let (output, _) = answered(rt.alloc(), &row)?;
-    gives(&rt, output.as_slice(), shown.as_slice());
+    gives(&rt, output.as_slice(), line.as_slice());
     Ok(())
 }
 
@@ -403,16 +389,14 @@ fn answers_an_input_that_is_cut(rt: HostRuntime) -> Result<(), Fail> {
     Ok(())
 }
 
-// Four lines, one of which is bad, and then their answers.
 const LINES: &[u8] = b"w pos u8 -- 255\nw pos u8 -- 256x\n\nw neg i8 -- 128";
 
 const ANSWERS: &[u8] =
     b"ok 255\nerr atoi_simd overflow, input: [32, 35, 36, 78]\nbad row\nok -128\n";
 
-// The answers have 7, 48, 8 and 8 bytes, and no write has bytes of two answers.
 #[test]
 fn writes_in_parts_of_any_size(rt: HostRuntime) -> Result<(), Fail> {
-    for (part, writes) in [(1, 71), (2, 36), (7, 12), (1000, 4)] {
+    for (part, writes) in [(1, 71), (2, 36), (7, 11), (1000, 1)] {
         let mut sink = ToWriter::new(LimitedWriter {
             part,
             ..LimitedWriter::new(rt.alloc(), ANSWERS.len(), Full::Fails)
@@ -420,33 +404,89 @@ fn writes_in_parts_of_any_size(rt: HostRuntime) -> Result<(), Fail> {
         let outcome = answer_lines(LINES, &mut sink);
         gives(&rt, outcome, Ok(false));
         let writer = sink.into_inner();
-        gives(&rt, writer.held.as_slice(), ANSWERS);
+        gives(&rt, writer.contents.as_slice(), ANSWERS);
         gives(&rt, writer.writes, writes);
     }
     Ok(())
 }
 
-// Asserts that a writer with room for the bytes of `written` gets these and no more, even if it has
-// room again after it was full, and that the error is `Write`.
-fn check_refused_write(rt: &impl Abort, alloc: Global, written: &[u8], full: Full) {
+// Asserts that a writer that takes `part` bytes a call, and is full after those of `written`, gets
+// these and no more, even if it has room again later, and that the error is `Write`.
+fn check_refused_write(
+    rt: &impl Abort,
+    alloc: Global,
+    (input, written): (&[u8], &[u8]),
+    part: usize,
+    full: Full,
+) {
     for room_then in [0, 1000] {
         let mut sink = ToWriter::new(LimitedWriter {
+            part,
             room_then,
             ..LimitedWriter::new(alloc, written.len(), full)
         });
-        let outcome = answer_lines(LINES, &mut sink);
+        let outcome = answer_lines(input, &mut sink);
         gives(rt, status(&outcome), 5);
         gives(rt, outcome, Err(ToolError::Write));
-        gives(rt, sink.into_inner().held.as_slice(), written);
+        gives(rt, sink.into_inner().contents.as_slice(), written);
+    }
+}
+
+// Asserts the same for each way to refuse.
+fn check_refused_writes(
+    rt: &impl Abort,
+    alloc: Global,
+    (input, written): (&[u8], &[u8]),
+    part: usize,
+) {
+    for full in [Full::Fails, Full::IsInterrupted, Full::TakesNone] {
+        check_refused_write(rt, alloc, (input, written), part, full);
     }
 }
 
 #[test]
 fn reports_a_refused_write(rt: HostRuntime) {
     for room in 0..ANSWERS.len() {
-        let written = &ANSWERS[..room];
-        check_refused_write(&rt, rt.alloc(), written, Full::Fails);
-        check_refused_write(&rt, rt.alloc(), written, Full::IsInterrupted);
-        check_refused_write(&rt, rt.alloc(), written, Full::TakesNone);
+        check_refused_writes(&rt, rt.alloc(), (LINES, &ANSWERS[..room]), 5);
     }
+}
+
+// Asserts that the answers are written as three blocks, which end at `ends`, and that a write is
+// reported that is refused at the start, inside the first block, or at the end of a block or next
+// to it.
+fn check_blocks(rt: &impl Abort, alloc: Global, input: &[u8], answers: &[u8], ends: [usize; 3]) {
+    let mut sink = ToWriter::new(LimitedWriter {
+        part: answers.len(),
+        ..LimitedWriter::new(alloc, answers.len(), Full::Fails)
+    });
+    gives(rt, answer_lines(input, &mut sink), Ok(true));
+    let writer = sink.into_inner();
+    gives(rt, writer.contents.as_slice(), answers);
+    gives(rt, writer.writes, 3);
+    for end in ends {
+        for room in [0, 1, end.saturating_sub(1), end, end.saturating_add(1)] {
+            if room < answers.len() {
+                check_refused_writes(rt, alloc, (input, &answers[..room]), answers.len());
+            }
+        }
+    }
+}
+
+#[test]
+fn reports_a_refused_block_of_rows(rt: HostRuntime) -> Result<(), Fail> {
+    let rows = b"w pos u8 -- 255\n".repeat(rt.alloc(), 3000)?;
+    let answers = b"ok 255\n".repeat(rt.alloc(), 3000)?;
+    check_blocks(&rt, rt.alloc(), &rows, &answers, [7770, 15_540, 21_000]);
+    Ok(())
+}
+
+#[test]
+fn reports_a_refused_block_of_items(rt: HostRuntime) -> Result<(), Fail> {
+    let mut row = b"w column u8 2C ".to_vec(rt.alloc())?;
+    row.extend_from_slice(&b"7,".repeat(rt.alloc(), 10_000)?)?;
+    let mut answer = b"col".to_vec(rt.alloc())?;
+    answer.extend_from_slice(&b" 7".repeat(rt.alloc(), 10_000)?)?;
+    answer.push(b'\n')?;
+    check_blocks(&rt, rt.alloc(), &row, &answer, [7767, 15_535, 20_004]);
+    Ok(())
 }

@@ -1,8 +1,7 @@
-//! Tests of whole runs: what reaches the output and the standard error, and the status. They use
-//! the module `devices`, which only tests have.
+//! Tests of whole runs: what reaches the output and the standard error, and the status.
 
 use super::{Ended, run};
-use crate::answers::gives;
+use crate::checks::gives;
 use crate::devices::{Errors, FailingReader, Full, LimitedWriter};
 use crate::sink::ToWriter;
 use crate::source::FromReader;
@@ -13,7 +12,6 @@ use std::marker::PhantomData;
 use std::process::{Abort, ExitCode, Termination};
 use std::test::Fail;
 
-// Returns the end of a run with this outcome. Its streams are of type `()`.
 fn ended(outcome: Result<bool, ToolError>) -> Ended<(), ()> {
     Ended {
         outcome,
@@ -21,8 +19,8 @@ fn ended(outcome: Result<bool, ToolError>) -> Ended<(), ()> {
     }
 }
 
-// Asserts that the program ends with the status `number`, and that one call prints `line` to
-// standard error. If `line` is empty, there must be no such call.
+// Asserts that the program ends with the status `number`, and prints `line` to standard error by one
+// call, or by none if `line` is empty.
 fn check_end<I, O>(rt: &impl Abort, alloc: Global, ended: Ended<I, O>, number: u8, line: &[u8]) {
     let errors = Errors::new(alloc, 1);
     let status = ended.report(&errors);
@@ -31,7 +29,6 @@ fn check_end<I, O>(rt: &impl Abort, alloc: Global, ended: Ended<I, O>, number: u
     gives(rt, errors.reported.into_inner().as_slice(), line);
 }
 
-// The program makes only one call to print the error, even if that call fails.
 #[test]
 fn a_fault_is_printed_once(rt: HostRuntime) {
     let outcome = Err(ToolError::Write);
@@ -73,8 +70,8 @@ fn rows(alloc: Global, count: usize, has_last_newline: bool) -> Result<Vec<u8>, 
     Ok(rows)
 }
 
-// Asserts that all `count` rows are answered with `reads` reads and `writes` writes, each of at
-// most `part` bytes, and that nothing is flushed.
+// Asserts that the rows are answered with `reads` reads and `writes` writes, each of at most `part`
+// bytes, and that nothing is flushed.
 fn check_rows(
     rt: &impl Abort,
     alloc: Global,
@@ -84,7 +81,6 @@ fn check_rows(
 ) -> Result<(), Fail> {
     let rows = rows(alloc, count, has_last_newline)?;
     let answers = b"ok 255\n".repeat(alloc, count)?;
-    gives(rt, rows.len(), count.saturating_mul(16));
     let mut input = FromReader::new(FailingReader::new(&rows, part));
     let mut output = ToWriter::new(LimitedWriter {
         part,
@@ -92,7 +88,7 @@ fn check_rows(
     });
     let ended = run(alloc, &mut input, &mut output);
     let writer = output.into_inner();
-    gives(rt, writer.held.as_slice(), answers.as_slice());
+    gives(rt, writer.contents.as_slice(), answers.as_slice());
     gives(rt, input.into_inner().reads, reads);
     gives(rt, writer.writes, writes);
     gives(rt, writer.flushes, 0);
@@ -100,13 +96,13 @@ fn check_rows(
     Ok(())
 }
 
-// The inputs fill one, two, three and 25 reads, and one more read finds the end of each. Each
-// answer needs one write. If a call reads or writes at most one byte, a row needs sixteen reads,
-// and its answer needs seven writes.
+// The inputs fill one, two, three and 25 reads, and one more read finds the end. The last input is
+// answered with five full blocks of 7770 bytes and a sixth. By single bytes, a row needs sixteen
+// reads and seven writes.
 #[test]
 fn answers_inputs_of_whole_reads(rt: HostRuntime) -> Result<(), Fail> {
-    for (count, reads) in [(256usize, 2), (512, 3), (768, 4), (6400, 26)] {
-        let calls = (reads, count);
+    for (count, reads, writes) in [(256usize, 2, 1), (512, 3, 1), (768, 4, 1), (6400, 26, 6)] {
+        let calls = (reads, writes);
         let single = (
             count.saturating_mul(16).saturating_add(1),
             count.saturating_mul(7),
@@ -122,8 +118,8 @@ const LINES: &[u8] = b"w pos u8 -- 255\nx\nw neg i8 -- 128\n";
 
 const ANSWERS: &[u8] = b"ok 255\nbad row\nok -128\n";
 
-// Asserts that a run with this reader and this writer ends with the status `number`, prints `line`
-// to standard error, has written `written` and has not flushed.
+// Asserts that a run ends with the status `number`, prints `line` to standard error, has written
+// `written` and has not flushed.
 fn check_run(
     rt: &impl Abort,
     alloc: Global,
@@ -134,7 +130,7 @@ fn check_run(
     let mut output = ToWriter::new(writer);
     let ended = run(alloc, &mut FromReader::new(reader), &mut output);
     let writer = output.into_inner();
-    gives(rt, writer.held.as_slice(), written);
+    gives(rt, writer.contents.as_slice(), written);
     gives(rt, writer.flushes, 0);
     check_end(rt, alloc, ended, number, line);
 }

@@ -1,8 +1,7 @@
-//! Tests of `ToWriter` with more bytes than `Line` holds. They use the module `devices`, which only
-//! tests have.
+//! Tests of `ToWriter` with more bytes than a block holds.
 
 use super::ToWriter;
-use crate::answers::gives;
+use crate::checks::gives;
 use crate::devices::{Full, LimitedWriter};
 use crate::put::put_all;
 use std::test::Fail;
@@ -16,7 +15,7 @@ fn puts_many_bytes_by_one_write(rt: HostRuntime) -> Result<(), Fail> {
     });
     assert!(rt; put_all(&bytes, &mut sink).is_ok());
     let writer = sink.into_inner();
-    assert!(rt; writer.held.as_slice() == bytes.as_slice());
+    assert!(rt; writer.contents.as_slice() == bytes.as_slice());
     gives(&rt, writer.writes, 1);
     Ok(())
 }

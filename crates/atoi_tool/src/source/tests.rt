@@ -1,8 +1,7 @@
-//! Tests of `FromReader` with space for one to many bytes. They use the module `devices`, which
-//! only tests have.
+//! Tests of `FromReader` with space for one to many bytes.
 
 use super::{FromReader, Source};
-use crate::answers::gives;
+use crate::checks::gives;
 use crate::devices::FailingReader;
 
 #[test]

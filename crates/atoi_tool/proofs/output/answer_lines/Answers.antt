@@ -4,14 +4,14 @@ use Rattle.std.proofs.Math.Bool.{and_assoc}
 use Rattle.std.proofs.lemmas.Grind.{common_steps}
 use Rattle.atoi_tool.specs.Answer.{is_good_line}
 use Rattle.atoi_tool.specs.Output.{line_output, output_of, is_good_input}
-use Rattle.atoi_tool.proofs.lemmas.Appended.{IsPutUpTo-more, IsPutUpTo-refused}
+use Rattle.atoi_tool.proofs.lemmas.Appended.{AppendsUpTo-next, AppendsPrefix-next, AppendsPrefix-rest, AppendsPrefix-more}
 use Rattle.atoi_tool.proofs.output.answer_lines.Goals as goal
 
 pub returns-in-Err-clause-prefix : goal.returns-in-Err-clause-prefix
 returns-in-Err-clause-prefix g c =
     let first : output_of c.loop-rest.rest.now ≡ line_output c.first_line.result.0.now ++ output_of c.first_line.result.1.now =
     ap (flat_map line_output) c.first_line.ensures.lines in
-    IsPutUpTo-refused _ (g.S.Sink.held c.loop-rest.output) _ (output_of c.args.input.now)
+    AppendsPrefix-next _ (g.S.Sink.contents c.loop-rest.output) _ (output_of c.args.input.now) c.loop-rest.block
     (line_output c.first_line.result.0.now) (output_of c.first_line.result.1.now)
     (rw first at c.loop-rest.invariant.put) c.in-Err.ensures.err
 
@@ -22,10 +22,16 @@ loop-rest-preserved g c =
     let good : is_good_input c.loop-rest.rest.now ≡ (is_good_line c.first_line.result.0.now && is_good_input c.first_line.result.1.now) =
     ap (list_all is_good_line) c.first_line.ensures.lines in
     record {
-      put = IsPutUpTo-more _ (g.S.Sink.held c.loop-rest.output) _ (output_of c.args.input.now)
-          (line_output c.first_line.result.0.now) (output_of c.first_line.result.1.now)
+      put = AppendsUpTo-next _ (g.S.Sink.contents c.loop-rest.output) _ (output_of c.args.input.now) c.loop-rest.block
+          (line_output c.first_line.result.0.now) (output_of c.first_line.result.1.now) _
           (rw first at c.loop-rest.invariant.put) c.in-Ok.ensures.ok;
       good = let both = and_assoc c.loop-rest.all_good c.in-Ok.is_good (is_good_input c.first_line.result.1.now) in
           cc (c.in-Ok.ensures.good);
       failures = grind (arith, common_steps);
     }
+
+pub returns-in-Err-put_all-clause-prefix : goal.returns-in-Err-put_all-clause-prefix
+returns-in-Err-put_all-clause-prefix g c =
+    AppendsPrefix-rest _ (g.S.Sink.contents c.loop-rest.output) _ (output_of c.args.input.now) (c.loop-rest.block ++ output_of c.loop-rest.rest.now)
+    c.loop-rest.invariant.put
+    (AppendsPrefix-more _ _ c.loop-rest.block (output_of c.loop-rest.rest.now) (rw c.as_bytes.ensures at c.in-Err-put_all.ensures.err))

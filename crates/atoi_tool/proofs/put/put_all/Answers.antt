@@ -10,7 +10,7 @@ loop-done-preserved g c =
     let taken : c.in_ok-done.field-0 ≤ length (drop c.loop-done.done c.args.bytes.now) = rw rest at c.in_ok-done.ensures.within in
     record {
       within = omega (arith, length-drop c.loop-done.done c.args.bytes.now);
-      put = Appends-take _ (g.S.Sink.held c.loop-done.output) _ c.loop-done.done c.in_ok-done.field-0 c.args.bytes.now
+      put = Appends-take _ (g.S.Sink.contents c.loop-done.output) _ c.loop-done.done c.in_ok-done.field-0 c.args.bytes.now
           c.loop-done.invariant.put (rw rest at c.in_ok-done.ensures.bytes);
       failures = grind (arith, common_steps);
     }

@@ -5,7 +5,7 @@ use Rattle.atoi_tool.proofs.put.put_all.Given as goal
 abbrev pub invariant-loop-done : goal.invariant-loop-done
 invariant-loop-done g l = record {
   within : l.done ≤ length l.bytes;
-  put : Appends (g.S.Sink.held l.fn.output) (g.S.Sink.held l.output) (take l.done l.bytes);
+  put : Appends (g.S.Sink.contents l.fn.output) (g.S.Sink.contents l.output) (take l.done l.bytes);
   failures : g.S.Sink.failures l.output ≡ g.S.Sink.failures l.fn.output;
 }
 

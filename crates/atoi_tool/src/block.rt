@@ -1,34 +1,32 @@
-//! A buffer in which the tool puts together a line of output, or one item of a column. It uses no
-//! other module.
+//! The block in which answers wait until they are written, many at a time.
 ghost use Rattle.std.specs.Prelude.{◌≡◌, ◌+◌, ◌≤◌, ℕ, List, [], ◌++◌, length, take};
 
 use std::marker::Model;
 
-/// How many bytes a `Line` can hold. The answer to a row about one number is shorter, and so is an
-/// item of a column.
-pub const ROOM: usize = 440;
+/// How many bytes a `Block` can hold.
+pub const ROOM: usize = 8192;
 
-/// The bytes of a line so far, at most `ROOM` of them.
+/// Bytes that are still to be written, at most `ROOM` of them.
 #[derive(Drop)]
-pub struct Line {
+pub struct Block {
     bytes: [u8; ROOM],
     len: usize,
 }
 
-impl Model for Line {
+impl Model for Block {
     ghost Value = { List ℕ };
 
-    ghost view = { λ line. take line.len line.bytes };
+    ghost view = { λ block. take block.len block.bytes };
 
-    ghost invariant = { λ line. line.len ≤ 440 };
+    ghost invariant = { λ block. block.len ≤ 8192 };
 }
 
-impl Line {
-    /// Returns an empty line.
-    pub fn new() -> Line
+impl Block {
+    /// Returns an empty block.
+    pub fn new() -> Block
         ensures { result ≡ [] }
     {
-        Line {
+        Block {
             bytes: [0; ROOM],
             len: 0,
         }
@@ -41,7 +39,7 @@ impl Line {
         &self.bytes[..self.len]
     }
 
-    /// Appends `bytes`. There must be room for all of them.
+    /// Appends `bytes`, for which there must be room.
     pub fn push(&mut self, bytes: &[u8])
         requires { length self.old + length bytes.now ≤ ROOM }
         ensures { self.new ≡ self.old ++ bytes.now }
@@ -49,5 +47,12 @@ impl Line {
         let end = self.len + bytes.len();
         self.bytes[self.len..end].copy_from_slice(bytes);
         self.len = end;
+    }
+
+    /// Removes all bytes.
+    pub fn clear(&mut self)
+        ensures { self.new ≡ [] }
+    {
+        self.len = 0;
     }
 }
