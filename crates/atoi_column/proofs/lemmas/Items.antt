@@ -1,4 +1,4 @@
--- The first item of what is left of an input, in each case that `Column::next` distinguishes.
+-- The first item of what is left, in each case of `next`.
 use Rattle.std.proofs.Common.{◌≡◌, ◌≢◌, ℕ, ◌+◌, ◌<◌, ◌≤◌, ◌==◌, true, not, inl, inr, Some, List, [], ◌∷◌, length, drop, length-drop, get_or, Bool, ℤ, Result, Ok, Err, refl, sym, ap, subst, ◌∙◌, arith}
 use Rattle.std.specs.List.{position_or_len, before_first, after_first}
 use Rattle.std.proofs.lemmas.List.{drop_all, drop_more}
@@ -32,7 +32,7 @@ module _ (whole : List ℕ → Result ℤ Refusal) (prefix : List ℕ → Result
         | Err reason ↦ λ none. refl
       ] refused
 
-  -- What holds of the items after an accepted field and after a refused one holds of the items.
+  -- What holds after an accepted and a refused field holds.
   pub items_from-cases : (P : List (Result ℤ Flaw) → Type 0) (index place : ℕ) (rest text : List ℕ) (texts : List (List ℕ))
       → ((v : ℤ) → P (Ok v ∷ items_from whole prefix (index + 1) (place + length text + 1) (drop (length text + 1) rest) texts))
       → P (Err (flaw_at index place (prefix rest)) ∷ []) → P (items_from whole prefix index place rest (text ∷ texts))
@@ -52,7 +52,7 @@ module _ (whole : List ℕ → Result ℤ Refusal) (prefix : List ℕ → Result
       (λ v. omega (arith, length-items_from (index + 1) (place + length text + 1) (drop (length text + 1) rest) texts))
       (omega arith)
 
--- If dropping `n` elements leaves `b` and then `ys`, `b` is the element at index `n`.
+-- If dropping `n` leaves `b` first, `b` is at index `n`.
 drop_first : (n : ℕ) (xs : List ℕ) (b : ℕ) (ys : List ℕ) → drop n xs ≡ b ∷ ys
     → (n < length xs) × (get_or xs n 0 ≡ b) × (drop (n + 1) xs ≡ ys)
 drop_first n xs b ys h =
@@ -142,7 +142,7 @@ module _ (int : IntType) (separator index place : ℕ) (rest : List ℕ) (some :
   pub items_left-refused : (reason : Refusal) → prefix rest ≡ Err reason → items_left int separator index place rest ≡ Err (field index place reason) ∷ items_left int separator index place []
   items_left-refused reason h = flaw_alone (λ v ok. absurd (cc (h, ok))) ∙ ap (λ r. Err (flaw_at index place r) ∷ items_left int separator index place []) h
 
--- A call that gives the first of the items leaves one item less.
+-- Giving the first item leaves one less.
 pub one_item_less : {A B : Type 0} (can : List B → Type 0) → ((left : List B) → can left) → (before after : List B) (item : B) (given : A)
     → before ≡ item ∷ after → MakesProgress can (item_count (λ left. left)) before (Some given) after
 one_item_less can always before after item given first = record {

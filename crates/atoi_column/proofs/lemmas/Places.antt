@@ -1,4 +1,4 @@
--- The places and indices in the errors of a column are inside the input.
+-- Places and indices of errors are inside the input.
 use Rattle.std.proofs.Common.{◌≡◌, ℕ, ◌+◌, ◌-◌, ◌<◌, ◌≤◌, ◌==◌, true, false, if◌then◌else◌, Bool, List, [], ◌∷◌, length, drop, ℤ, Result, Ok, Err, refl, arith, length-drop}
 use Rattle.std.specs.Prelude.{IfErr}
 use Rattle.std.specs.List.{All, slice_split, onto_first}
@@ -22,12 +22,12 @@ place_after-some : (texts : List (List ℕ)) → 0 < length texts → 0 < place_
 place_after-some [] some = absurd (omega arith)
 place_after-some (text ∷ texts) some = omega (arith, place_after-cons text texts)
 
--- One more byte in the first piece is one more byte in all.
+-- One more byte in the first piece is one in all.
 onto_first-place : (x : ℕ) (pieces : List (List ℕ)) → 0 < length pieces → place_after (onto_first x pieces) ≤ place_after pieces + 1
 onto_first-place x [] some = absurd (omega arith)
 onto_first-place x (piece ∷ pieces) some = omega (arith, place_after-cons (x ∷ piece) pieces, place_after-cons piece pieces)
 
--- The pieces with a separator after each are at most one byte longer than the input.
+-- Pieces with a separator each are at most one byte longer.
 split-place : (p : ℕ → Bool) (xs : List ℕ) → place_after (slice_split p xs) ≤ length xs + 1
 split-place p [] = omega arith
 split-place p (x ∷ xs) =

@@ -1,5 +1,4 @@
--- A field is accepted if and only if the number at its start ends where the field ends: the bytes
--- from the separator on change neither its sign nor its run.
+-- A field is accepted if and only if its number ends with it.
 use Rattle.std.proofs.Common.{◌≡◌, ℕ, ◌+◌, ◌==◌, ◌&&◌, ◌||◌, not, Bool, true, false, cond, if◌then◌else◌, List, [], ◌∷◌, ◌++◌, length, take, get_or, Result, Ok, Err, refl, sym, ap, ◌∙◌, subst, inl, inr, arith}
 use Rattle.std.proofs.lemmas.Bool.{eqb-true}
 use Rattle.std.specs.List.{prefix_len, position_or_len, before_first, after_first}
@@ -16,7 +15,7 @@ use Rattle.atoi_core.specs.Laws.{looked_for, prefix_call, HaveSameRun, HaveSameO
 use Rattle.atoi_column.specs.Fields.{is_separator}
 use Rattle.atoi_column.specs.Laws.{FieldsArePrefixes}
 
--- A byte that fails `p` ends the prefix of bytes that pass, whatever follows it.
+-- A byte that fails `p` ends the prefix that passes.
 prefix_len-stops : (p : ℕ → Bool) (b : ℕ) (ys : List ℕ) → p b ≡ false → (xs : List ℕ) → prefix_len p (xs ++ b ∷ ys) ≡ prefix_len p xs
 prefix_len-stops p b ys fails [] = rw fails refl
 prefix_len-stops p b ys fails (x ∷ xs) = ap (λ n. cond (p x) (1 + n) 0) (prefix_len-stops p b ys fails xs)
@@ -26,7 +25,7 @@ prefix-stops : (p : ℕ → Bool) (b : ℕ) (ys : List ℕ) → p b ≡ false �
 prefix-stops p b ys fails xs =
     rw (prefix_len-stops p b ys fails xs) (sym (take-append-le (prefix_len p xs) xs (b ∷ ys) (prefix_len-le-length p xs)))
 
--- The sign of a slice whose first byte `x` is an accepted plus, an accepted minus, or neither.
+-- The sign, if the first byte is a plus, a minus or neither.
 abbrev sign_by : (is_plus is_minus : Bool) → ℕ → List ℕ → Sign
 sign_by is_plus is_minus x xs =
     if is_plus then record { minus = false; taken = 1; body = xs }

@@ -1,4 +1,4 @@
--- The items of an input, by the fields that are texts of the type.
+-- Items, by the fields that are texts of the type.
 use Rattle.std.proofs.Common.{◌≡◌, ℕ, ◌+◌, true, List, [], ◌∷◌, ◌++◌, length, drop, map, ℤ, Result, Ok, Err, refl, ap, ◌∙◌, arith, zero-add, add-zero}
 use Rattle.std.specs.List.{AllZip}
 use Rattle.std.proofs.lemmas.List.{drop-drop}
@@ -13,13 +13,13 @@ use Rattle.atoi_column.specs.Items.{Flaw, flaw_at, items_from, items_left}
 use Rattle.atoi_column.specs.Laws.{place_after, EndsItems, TextsAndItems}
 use Rattle.atoi_column.proofs.lemmas.Items.{items_from-ok, items_from-err}
 
--- A field is accepted and writes its number, or it is refused and is no text of the type.
+-- A field is accepted and writes its number, or is no text.
 data IsRead (int : IntType) (whole : List ℕ → Result ℤ Refusal) (text : List ℕ) : Type 0 where
   accepted : (v : ℤ) → whole text ≡ Ok v → TextWrites int true text v → IsRead int whole text
   refused : ((v : ℤ) → whole text ≡ Ok v → ⊥) → ¬ IsText int text → IsRead int whole text
 
 module _ (int : IntType) (whole : List ℕ → Result ℤ Refusal) (prefix : List ℕ → Result (ℤ × ℕ) Refusal) (read : (text : List ℕ) → IsRead int whole text) where
-  -- `HasItems` for the fields from the index `index` and the offset `place` on.
+  -- `HasItems` for the fields from `index` and `place` on.
   record HasItemsFrom (index place : ℕ) (rest : List ℕ) (fields : List (List ℕ)) : Type 0 where
     texts : List (List ℕ)
     others : List (List ℕ)
@@ -30,7 +30,7 @@ module _ (int : IntType) (whole : List ℕ → Result ℤ Refusal) (prefix : Lis
     items : items_from whole prefix index place rest fields ≡ map Ok numbers ++ last
     end : EndsItems int prefix (index + length texts) (place + place_after texts) (drop (place_after texts) rest) others last
 
-  -- One more accepted field before others does not change how their items end.
+  -- One more accepted field does not change the end.
   ends_after : (index place : ℕ) (rest text : List ℕ) (texts others : List (List ℕ)) (last : List (Result ℤ Flaw))
       → EndsItems int prefix (index + 1 + length texts) (place + length text + 1 + place_after texts) (drop (place_after texts) (drop (length text + 1) rest)) others last
       → EndsItems int prefix (index + length (text ∷ texts)) (place + place_after (text ∷ texts)) (drop (place_after (text ∷ texts)) rest) others last

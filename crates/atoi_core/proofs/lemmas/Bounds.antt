@@ -1,5 +1,4 @@
--- Bounds and limits of the integer types, and how the answer for either sign follows from a parse
--- under the negative bound, which is the magnitude of `T::MIN`.
+-- Bounds and limits of types, and the answers for both signs from one parse.
 use Rattle.std.proofs.Common.{◌≡◌, ◌⊎◌, ℕ, ◌+◌, ◌-◌, ◌^◌, ◌<◌, ◌≤◌, Bool, true, false, cond, eqb, List, Option, Some, None, refl, arith, inl, inr, lt_of_le_of_lt, le-ltb, ltb-false, ◌*◌, ◌/◌, ltb, leb, not, ◌&&◌, length, drop, Ok, Err, sym, ap, ap₂, ◌∙◌, subst, lit<}
 use Rattle.std.proofs.Math.Nat.{pow-le-pow_right}
 use Rattle.std.proofs.lemmas.Bool.{eqb-true, cases_lt, lt-leb, ltb-true, eqb-false}
@@ -51,7 +50,7 @@ limit_of_prefix int skip limit h =
     wide true = refl
     wide false = refl
 
--- Each bound is at most the larger `T::MAX + 1` of the two types with `bits` bits.
+-- Each bound is at most `T::MAX + 1` of the signed type of its size, or of the unsigned one.
 magnitude_below : (limit bits : ℕ) (signed minus : Bool) → greatest_of bits true + 1 < 10 ^ limit → greatest_of bits false + 1 < 10 ^ limit
     → cond minus (greatest_of bits signed + 1) (greatest_of bits signed) < 10 ^ limit
 magnitude_below limit bits true true p q = p
@@ -103,8 +102,8 @@ in_range_short table int sized minus s le =
     ]
 
 -- ---- Both signs from one parse
--- A body is always parsed under the negative bound; `minus` says whether there is a minus. Without
--- one, only the magnitude of `T::MIN` is out of range.
+-- A body is parsed under the negative bound; without a minus only the magnitude of `T::MIN` is
+-- refused.
 
 -- The digits after the leading zeros are those of the number.
 pub leading_zeros : (t : Table) → IsBelowTen t → (digits number : ℕ) → HasDigits digits number
@@ -173,8 +172,7 @@ module _ (t : Table) (int : IntType) (minus : Bool) (extent : Extent) (skip : Bo
   abbrev pub overflows : Refusal
   overflows = overflow (drop (rule_of (class_of int) extent skip (limit_of int) (run_len t s) (skipped_zeros t skip s)).dropped s)
 
-  -- The digits spell the magnitude of `T::MIN`, and under the bound for `minus` the refusal is
-  -- `Overflow`.
+  -- The digits spell the magnitude of `T::MIN`, an `Overflow` under the bound for `minus`.
   pub record IsLeast : Type 0 where
     pub least : value t (run t s) ≡ int.greatest + 1
     pub refused_is : refused t int minus extent skip s ≡ Some overflows
@@ -192,7 +190,7 @@ module _ (t : Table) (int : IntType) (minus : Bool) (extent : Extent) (skip : Bo
         refused_is = refused_overflow t (class_of int) (bound_of int minus) (limit_of int) extent skip s fact.some fact.short above;
       }
 
-  -- An error whose number is within the bound for `minus` is the error under that bound too.
+  -- An error with a number within the bound for `minus` stays.
   refused_too : (reason : Refusal) → refused t int true extent skip s ≡ Some reason → number_in reason ≤ bound_of int minus → refused t int minus extent skip s ≡ Some reason
   refused_too reason h =
       refusal-cases t (class_of int) (bound_of int true) (limit_of int) extent skip s (λ r. number_in r ≤ bound_of int minus → refused t int minus extent skip s ≡ Some r)
@@ -205,7 +203,7 @@ module _ (t : Table) (int : IntType) (minus : Bool) (extent : Extent) (skip : Bo
       some : eqb (run_len t s) 0 ≡ false → 0 < run_len t s
       some e = omega (arith, eqb-false (run_len t s) 0 e)
 
-  -- An error whose number is above that bound is `invalid` for the digits of `T::MIN`.
+  -- An error with a number above it is `invalid` after the digits of `T::MIN`.
   refused_least : (reason : Refusal) → refused t int true extent skip s ≡ Some reason → bound_of int minus < number_in reason → IsLeast × (index_in reason ≡ run_len t s)
   refused_least reason h =
       refusal-cases t (class_of int) (bound_of int true) (limit_of int) extent skip s
@@ -237,14 +235,14 @@ not_counted : (above : Bool) (index : ℕ) → None ≡ cond above (Some index) 
 not_counted true index h = absurd (cc h)
 not_counted false index h = refl
 
--- `either` is the number with the magnitude of `negative` and the sign of `minus`, if it is in range.
+-- `either` is the magnitude with the sign `minus`, if in range.
 abbrev pub IsInRange : IntType → Bool → (negative : ℤ) → Option ℤ → Type 0
 IsInRange int minus negative either =
     (magnitude : ℕ) → negative ≡ with_sign true magnitude
     → either ≡ cond (ltb (bound_of int minus) magnitude) None (Some (with_sign minus magnitude))
 
 module _ (t : Table) (int : IntType) (minus skip : Bool) (s : List ℕ) where
-  -- A number in range is the answer under the bound for `minus` too.
+  -- A number in range is the answer for `minus` too.
   pub whole_number : (x y : ℤ) → Ok x ≡ whole_answer t int true skip s → IsInRange int minus x (Some y) → Ok y ≡ whole_answer t int minus skip s
   whole_number x y h fact =
       let both = map_unless_ok (with_sign true) _ _ x (sym h) in

@@ -1,4 +1,4 @@
--- Answers of calls: when a body is refused, which sign comes before it, and what an `Ok` means.
+-- When a body is refused, which sign precedes it, and what an `Ok` means.
 use Rattle.std.proofs.Common.{◌≡◌, ℕ, ◌+◌, ◌-◌, ◌<◌, ◌≤◌, min, Bool, true, false, cond, eqb, ltb, List, [], length, drop, subst, Option, Some, None, option_map, refl, sym, ap, ◌∙◌, arith, ltb-false, le-ltb, ne_eqb, ◌&&◌, ◌∷◌, ◌++◌, take, Result, Ok, Err, ℤ, add-zero, eqb-true, eq-eqb}
 use Rattle.std.proofs.lemmas.Bool.{eqb-false, lt-ltb, and_right, not-false}
 use Rattle.std.proofs.Math.Seq.{drop-length}
@@ -24,7 +24,7 @@ first_none : (a b c d : Bool) (p q r s : Refusal) → first_of a b c d p q r s �
 first_none false false false false p q r s h = (refl, refl, refl, refl)
 first_none a b c d p q r s h = absurd (cc h)
 
--- What holds of each result whose test is the first to hold, holds of the chosen one.
+-- What holds of each result after its test holds of the chosen one.
 first_cases : (P : Refusal → Type 0) (a b c d : Bool) (p q r s : Refusal)
     → (a ≡ true → P p) → (a ≡ false → b ≡ true → P q) → (a ≡ false → b ≡ false → c ≡ true → P r)
     → (a ≡ false → b ≡ false → c ≡ false → d ≡ true → P s)
@@ -125,7 +125,7 @@ module _ (table : Table) (class : Class) (bound limit : ℕ) (extent : Extent) (
       let tests = first_none is_empty is_long is_over is_followed empty too_long over followed (sym refusal-is ∙ h) in
       record { some = omega (arith, eqb-false (run_len table body) 0 tests.0); short = tests.1; in_range = ltb-false _ _ tests.2; ends = tests.3 }
 
-  -- What holds of each error whose test is the first to hold, holds of the reason.
+  -- What holds of each error after its test holds of the reason.
   pub refusal-cases : (P : Refusal → Type 0)
       → (is_empty ≡ true → P empty)
       → (is_empty ≡ false → is_long ≡ true → P too_long)
@@ -159,7 +159,7 @@ one_of_three true b x y z P p q r = p refl
 one_of_three false true x y z P p q r = q refl refl
 one_of_three false false x y z P p q r = r
 
--- A slice with a first byte has a plus consumed, or a minus, or nothing.
+-- A first byte is a consumed plus, a consumed minus, or neither.
 pub sign_cases : (signed plus : Bool) (byte : ℕ) (bytes : List ℕ) (P : Sign → Type 0)
     → ((plus && eqb byte plus_sign) ≡ true → P (record { minus = false; taken = 1; body = bytes }))
     → ((plus && eqb byte plus_sign) ≡ false → (signed && eqb byte minus_sign) ≡ true → P (record { minus = true; taken = 1; body = bytes }))
@@ -183,7 +183,7 @@ length-taken int (given is_negative) s = omega arith
 pub digit_in_range : (byte : ℕ) → is_digit decimal_table byte ≡ true → (48 ≤ byte) × (byte ≤ 57)
 digit_in_range byte h = (grind (arith, nat_tests), grind (arith, nat_tests))
 
--- No sign is consumed from a slice that begins with a digit.
+-- No sign is consumed before a digit.
 pub sign_of_digits : (signed plus : Bool) (s : List ℕ) → 0 < run_len decimal_table s
     → sign_of signed plus s ≡ record { minus = false; taken = 0; body = s }
 sign_of_digits signed plus [] h = absurd (omega arith)
@@ -195,7 +195,7 @@ sign_of_digits signed plus (byte ∷ bytes) h =
     first true lt = refl
     first false lt = absurd (omega arith)
 
--- Before another body that begins with a digit, the same sign is consumed.
+-- Another body that begins with a digit has the same sign.
 pub sign_again : (int : IntType) (form : SignForm) (s t : List ℕ) → 0 < run_len decimal_table t
     → sign_in int form (take (sign_in int form s).taken s ++ t)
     ≡ record { minus = (sign_in int form s).minus; taken = (sign_in int form s).taken; body = t }
@@ -284,7 +284,7 @@ module _ (int : IntType) (minus skip : Bool) (body : List ℕ) where
   is_whole some short in_range all =
       record { some = some; short = short; in_range = in_range; ends = rw (eq-eqb (run_len decimal_table body) (length body) all) refl }
 
--- What an `Ok` of a prefix parse means; `count` is that of the run and the sign.
+-- `Ok` of a prefix: `count` is the run and the sign.
 pub record IsFound (int : IntType) (g : Sign) (skip : Bool) (v : ℤ) (count : ℕ) : Type 0 where
   pub is_prefix : AcceptedAs int g.minus skip g.body prefix
   pub number : v ≡ signed_value int g.minus skip g.body
@@ -309,7 +309,7 @@ ok_prefix int form skip s v count h =
 -- ---- Answers to a body, with a bound and a limit
 
 module _ (table : Table) (class : Class) (bound limit : ℕ) (skip : Bool) (s : List ℕ) where
-  -- What an `Ok` of a prefix says: the value is within the bound, and the count within the slice.
+  -- `Ok` of a prefix: in range, and within the slice.
   prefix_found : (number len : ℕ) → Ok (number, len) ≡ prefix_magnitude table class bound limit skip s → (number ≤ bound) × (len ≤ length s)
   prefix_found number len found =
       let both = map_unless_ok {A = ℕ × ℕ} {B = ℕ × ℕ} (λ x. x) (refusal table class bound limit prefix skip s)

@@ -53,7 +53,7 @@ IsAscii-hex_text byte small =
           (IsAscii-glyph (byte / 16) (digit_glyph true (byte % 16) ∷ []) (omega arith) (IsAscii-glyph (byte % 16) [] (omega arith) IsAscii-nil))
     ]
 
--- The bytes after the first, in hexadecimal, each with a comma and a space before it.
+-- The bytes after the first, each after a comma and a space.
 abbrev hex_rest : List ℕ → List ℕ
 hex_rest bytes = flat_map (λ b. codes ", " ++ hex_text b) bytes
 

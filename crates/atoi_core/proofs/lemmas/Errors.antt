@@ -30,7 +30,7 @@ refusal_cmp-total =
     then_total (on_total rank nat_cmp_total)
     (then_total (on_total numbers nat_list_cmp_total) (on_total input_of nat_list_cmp_total))
 
--- Errors that compare as equal hold the same numbers and the same slice.
+-- Equal in order: the same numbers and slice.
 same_fields : (a b : Refusal) → refusal_cmp a b ≡ Equal → (numbers a ≡ numbers b) × (input_of a ≡ input_of b)
 same_fields a b equal =
     let e = then_both (slice_cmp nat_cmp (numbers a) (numbers b)) _ (then_both (nat_cmp (rank a) (rank b)) _ equal).1 in
@@ -132,7 +132,7 @@ module _ (int : IntType) (extent : Extent) (is_negative skip : Bool) (body : Lis
       }))
       reason h
 
--- A prefix is never refused for a byte that follows its digits.
+-- A prefix is never refused for a byte after it.
 not_followed : (table : Table) (class : Class) (bound limit : ℕ) (skip : Bool) (body : List ℕ) (reason : Refusal)
     → refusal table class bound limit prefix skip body ≡ Some reason → rank reason ≤ 2
 not_followed table class bound limit skip body reason h =

@@ -1,4 +1,4 @@
--- Words that hold the bytes of a slice: their digits, zeros and values are those of the slice.
+-- Words that hold the bytes of a slice.
 use Rattle.std.proofs.Common.{◌≡◌, ℕ, zero, suc, ◌+◌, ◌-◌, ◌*◌, ◌/◌, ◌%◌, ◌^◌, ◌<◌, ◌≤◌, List, [], ◌∷◌, ◌++◌, length, take, drop, replicate, get_or, take-take, refl, sym, ap, ap₂, ◌∙◌, arith, ◌≢◌, min, Bool, true, false, cond, ◌==◌, if◌then◌else◌}
 use Rattle.std.proofs.Math.Nat.{mod-lt, div-one, zero-div, suc-mul, div-div-eq-div-mul, zero-add, suc-add, pow-suc}
 use Rattle.std.proofs.lemmas.List.{take_all, length-append, length-drop, length-replicate, get_or-drop, drop-drop, length-take, length-take-le}
@@ -23,7 +23,7 @@ use Rattle.atoi_core.proofs.lemmas.WordRuns.{first_passes}
 
 -- ---- Loading a word from a slice
 
--- Eight bytes, read as a little-endian number, are their word. A missing byte is 0 in both.
+-- Eight bytes, little-endian, are their word; a missing byte is 0.
 pub word_from_bytes : (s : List ℕ) → from_le_bytes w64 s ≡ word_of (take 8 s)
 unfolding word_of
 word_from_bytes [] = omega arith
@@ -46,7 +46,7 @@ unfolding word_of
 word_of_none [] none = refl
 word_of_none (a ∷ s) none = absurd (omega arith)
 
--- At most four bytes, or two, read as a little-endian number, are their word.
+-- Four bytes, or two, little-endian, are their word.
 pub word_from_four : (s : List ℕ) → length s ≤ 4 → from_le_bytes w32 s ≡ word_of s
 unfolding word_of
 word_from_four [] few = omega arith
@@ -74,7 +74,7 @@ with_low_bits a r =
     ∙ ap (λ x. a / 2 ^ r * 2 ^ r + x) (or_self low)
     ∙ shr_split a r
 
--- The lowest `r + k` bits of a number, and its bits from `k` on, join to the number.
+-- Overlapping low and high bits join to the number.
 overlap : (whole low high r k : ℕ) → low ≡ whole % 2 ^ (r + k) → high ≡ whole / 2 ^ k * 2 ^ k → bit_or low high ≡ whole
 overlap whole low high r k low_is high_is =
     let q = whole / 2 ^ k in
@@ -96,8 +96,7 @@ bytes_above (suc k) (b ∷ bs) fits =
     ap (λ p. (b + 256 * word) / p) up ∙ sym (div-div-eq-div-mul (b + 256 * word) 256 (2 ^ (k * 8)))
     ∙ ap (λ w. w / 2 ^ (k * 8)) rest ∙ bytes_above k bs (λ i. fits (suc i))
 
--- Fewer than eight bytes from `at` on are the highest of the last eight. Two shifts, the second by
--- one byte, leave their word.
+-- Fewer than eight bytes from `at` on are the highest of the last eight.
 pub last_bytes : (s last : List ℕ) (at : ℕ) → 8 ≤ length s → at ≤ length s → length s < at + 8 → ((i : ℕ) → get_or s i 0 < 256) → last ≡ drop (length s - 8) s
     → from_le_bytes w64 last / 2 ^ (8 * (at + 7 - length s)) / 2 ^ 8 ≡ word_of (take 8 (drop at s))
 last_bytes s last at enough inside few fits is =
@@ -113,8 +112,7 @@ last_bytes s last at enough inside few fits is =
     ∙ bytes_above missing back (λ i. rw get_or-drop (fits (length s - 8 + i)))
     ∙ ap word_of (drop-drop missing (length s - 8) s ∙ ap (λ n. drop n s) above ∙ sym rest)
 
--- How `load_high` joins the first two, the first four, the last four bytes and the last byte. A
--- part is 0 if the slice is shorter.
+-- `load_high` joins four overlapping parts; a part that is missing is 0.
 module _ (whole two first_four last_four last n r : ℕ) where
   of_four : two ≡ first_four % 2 ^ 16 → first_four * 2 ^ n % 2 ^ 64 ≡ whole % 2 ^ (r + 32) → last_four * 2 ^ 32 % 2 ^ 64 ≡ whole / 2 ^ 32 * 2 ^ 32
       → last * 2 ^ 56 % 2 ^ 64 ≡ whole / 2 ^ 56 * 2 ^ 56 → whole < 2 ^ 64
@@ -192,7 +190,7 @@ below_four (a ∷ b ∷ c ∷ d ∷ rest) two first_four last_four some few fits
 pub low_and_high : (b word : ℕ) → b < 256 → ((b + 256 * word) % 256 ≡ b) × ((b + 256 * word) / 256 ≡ word)
 low_and_high b word small = (omega arith, omega arith)
 
--- If 0 does not pass a test, as many leading bytes pass it in the word as in the slice.
+-- If 0 fails a test, word and slice pass it equally far.
 loaded_start : (p : ℕ → Bool) → p 0 ≡ false → (k : ℕ) (s : List ℕ) → ((i : ℕ) → get_or s i 0 < 256)
     → prefix_len p (digits_l 256 k (number_l 256 (take k s))) ≡ prefix_len p (take k s)
 loaded_start p stops zero s fits = refl
@@ -266,7 +264,7 @@ pub sum_of_none : (word len : ℕ) → len ≡ 0 → 0 ≡ low_value (low_bytes 
 unfolding low_bytes
 sum_of_none word len e = ap (λ l. low_value (low_bytes l word)) (sym e)
 
--- Zeros of a second word follow only if the first word consists of zeros.
+-- Zeros of a second word follow only a word of zeros.
 pub zeros_of_two : (first next : ℕ) → zeros decimal_table (low_bytes 8 first ++ low_bytes 8 next)
     ≡ (if zeros decimal_table (low_bytes 8 first) == 8 then 8 + zeros decimal_table (low_bytes 8 next) else zeros decimal_table (low_bytes 8 first))
 unfolding low_bytes
@@ -296,7 +294,7 @@ window_from c s len leading number len_is leading_is number_is =
     number_is ∙ ap (value decimal_table) (sym (take-take len c s (omega arith)) ∙ ap (λ n. take n (take c s)) len_is) in
     λ i. record { len = len_is i; zeroes = same_leading i; number = same_number i }
 
--- The window of eight bytes, by what is counted and summed in their word.
+-- The window of eight bytes, from their word.
 pub loaded_window : (s : List ℕ) → ((i : ℕ) → get_or s i 0 < 256) → (word : ℕ) (w : Window) → word ≡ word_of (take 8 s)
     → w.len ≡ run_len decimal_table (low_bytes 8 word)
     → w.zeroes ≡ (if w.len == 8 then zeros decimal_table (low_bytes 8 word) else 0)
@@ -308,7 +306,7 @@ loaded_window s fits word w is len_is zeroes_are number_is =
     (zeroes_are ∙ ap (λ z. if w.len == 8 then z else 0) (loaded_zeros s fits word is))
     (number_is ∙ loaded_sum s fits word w.len is len_is)
 
--- If a slice does not begin with eight digits, its first eight bytes determine the window of 16.
+-- Without eight digits at the start, eight bytes determine the window of 16.
 pub window_short : (s : List ℕ) (len number : ℕ) → len ≡ run_len decimal_table (take 8 s) → len ≢ 8
     → number ≡ value decimal_table (take len s)
     → ◌≡◌ {A = Window} (record { len = len; zeroes = 0; number = number }) (window_of decimal_table 16 s)
@@ -317,7 +315,7 @@ window_short s len number len_is short number_is =
     let more : run_len decimal_table (take 16 s) ≡ min 16 (run_len decimal_table s) = prefix_len-take (is_digit decimal_table) 16 s in
     window_from 16 s len 0 number (omega arith) (sym (reported_none len 16 (zeros decimal_table (take 16 s)) (omega arith))) number_is
 
--- For fewer than eight bytes, the windows of 8 and of 16 bytes are the same.
+-- Below eight bytes, both windows are the same.
 pub few_in_both : (s : List ℕ) → length s < 8 → window_of decimal_table 16 s ≡ window_of decimal_table 8 s
 few_in_both s few =
     let within : run_len decimal_table s ≤ length s = prefix_len-le-length (is_digit decimal_table) s in
@@ -332,8 +330,7 @@ few_in_both s few =
 pub enough_bytes : (s : List ℕ) → run_len decimal_table (take 8 s) ≡ 8 → 8 ≤ length s
 enough_bytes s full = omega (arith, prefix_len-le-length (is_digit decimal_table) (take 8 s), length-take 8 s)
 
--- After eight digits, the window of 16 bytes follows from the number of the eight and the bytes
--- after them.
+-- After eight digits, the window of 16 follows from both halves.
 pub window_joined : (s : List ℕ) (more leading first next : ℕ)
     → run_len decimal_table (take 8 s) ≡ 8
     → more ≡ run_len decimal_table (take 8 (drop 8 s))
@@ -356,9 +353,8 @@ window_joined s more leading first next full more_is leading_is first_is next_is
     window_from 16 s (8 + more) leading (first * 10 ^ more + next) (omega arith) same_leading same_number
 
 -- ---- Short slices in the highest bytes of a word
--- A short slice is in the highest bytes of a word, above bytes of 0 or, once filled, above zeros.
 
--- m bytes of 0 before a slice shift its word left by m bytes.
+-- m bytes of 0 shift a word left.
 pub word_shifted : (m : ℕ) (s : List ℕ) → word_of (replicate m 0 ++ s) ≡ word_of s * 2 ^ (m * 8)
 unfolding word_of
 word_shifted zero s = omega arith
@@ -376,7 +372,7 @@ shifted_back s few =
     ∙ ap (λ x. x / up) (omega arith)
     ∙ div-mul-add (word_of s) up 0 (pow_pos ((8 - length s) * 8))
 
--- Adding the word of m zeros fills m lowest bytes of 0 with zeros.
+-- The word of m zeros fills m lowest bytes of 0.
 pub word_filled : (m : ℕ) (s : List ℕ) → word_of (replicate m 0 ++ s) + word_of (replicate m 48) ≡ word_of (replicate m 48 ++ s)
 unfolding word_of
 word_filled zero s = omega arith
@@ -414,7 +410,7 @@ filled_fits s few fits =
     let power : 256 ^ length (replicate m 48 ++ s) ≡ 256 ^ 8 = ap (λ n. 256 ^ n) eight in
     omega (arith, word_filled m s)
 
--- The filled word begins with the zeros that fill it, and then with the run of the slice.
+-- The filled word begins with its zeros, then the run.
 pub filled_digits : (s : List ℕ) → length s ≤ 8 → ((i : ℕ) → get_or s i 0 < 256) → (word filling digits : ℕ)
     → word ≡ word_of (replicate (8 - length s) 0 ++ s) → filling ≡ word_of (replicate (8 - length s) 48)
     → digits ≡ run_len decimal_table (low_bytes 8 (word + filling))
@@ -442,8 +438,7 @@ low_value_filled (suc z) k s =
     ∙ omega arith
     ∙ low_value_filled z k s
 
--- The window of a short slice, by the leading digits of the filled word, less the zeros that fill
--- it.
+-- The window of a short slice: the digits of the filled word, less its zeros.
 pub filled_window : (s : List ℕ) → length s ≤ 8 → ((i : ℕ) → get_or s i 0 < 256) → (filled digits found number : ℕ)
     → filled ≡ word_of (replicate (8 - length s) 48 ++ s)
     → digits ≡ 8 - length s + run_len decimal_table s

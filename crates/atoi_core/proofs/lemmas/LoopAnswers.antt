@@ -1,4 +1,4 @@
--- The answers that follow from the last window of a loop that skips zeros, at offset `at`.
+-- The answers that follow from the last window of a loop over zeros.
 use Rattle.std.proofs.Common.{◌≡◌, ℕ, ◌+◌, ◌*◌, ◌^◌, ◌<◌, ◌≤◌, Bool, true, List, length, take, drop, Some, Ok, Err, refl, sym, ap₂, ◌∙◌, lit<, arith, ◌≢◌, ◌==◌, false, not, None, Result, ap, if◌then◌else◌, ◌-◌, ◌/◌, min, nat_lt, ltb-true, ◌&&◌, inl, inr, le-ltb, ne_eqb}
 use Rattle.std.proofs.lemmas.Bool.{eq-eqb, cases_lt, lt-ltb}
 use Rattle.std.proofs.lemmas.List.{length-drop, take_rest}
@@ -18,8 +18,7 @@ use Rattle.std.proofs.Math.Nat.{eq-zero-or-pos}
 
 -- ---- Wide types
 
--- What the wide classes share: the limit is passed in, and an overflow leaves out the skipped
--- zeros.
+-- Wide classes pass the limit in, and an overflow leaves out the zeros.
 pub record IsWide (class : Class) : Type 0 where
   pub rule : (extent : Extent) (skip : Bool) (limit digits skipped : ℕ)
       → rule_of class extent skip limit digits skipped ≡ record { limit = Some limit; cap = cap class; dropped = skipped }
@@ -36,7 +35,7 @@ wide_128 = record { rule = λ extent skip limit digits skipped. refl }
 is_skipped : {t : Table} {skip : Bool} {s : List ℕ} {at before now : ℕ} {w : Window} → Skipped t skip s at before now w → IsSkipped t skip s at
 is_skipped after_skip = record { zeros_only = omega (arith, after_skip.zeros_are); asked = after_skip.off }
 
--- A last window that is full does not begin with a skipped zero.
+-- A full last window begins with no skipped zero.
 none_left : (t : Table) (skip : Bool) (s : List ℕ) (at before now : ℕ) (w : Window) → Skipped t skip s at before now w → 16 ≤ w.len
     → skip ≡ true → zeros t (take 16 (drop at s)) ≡ 0
 none_left t skip s at before now w after_skip full on =
@@ -48,8 +47,7 @@ pub answers_empty : (t : Table) (class : Class) (bound limit : ℕ) (skip : Bool
 answers_empty t class bound limit skip s at before now w after_skip none =
     rw (refused_empty t class bound limit prefix skip s (omega (arith, after_skip.run_is, after_skip.window.len_is))) refl
 
--- A last window that is not full holds the rest of the run, so for a bound of more than 16 digits
--- the answer is `Ok`.
+-- A last window that is not full holds the rest of the run: `Ok`.
 pub answers_short : (t : Table) (class : Class) (bound limit : ℕ) (skip : Bool) (s : List ℕ) (at before now : ℕ) (w : Window) (number len : ℕ) →
     limit < cap class → Skipped t skip s at before now w → w.len < 16 → 0 < at + w.len → 16 < limit → HasDigits limit bound →
     number ≡ w.number → len ≡ at + w.len → Ok (number, len) ≡ prefix_magnitude t class bound limit skip s
@@ -57,7 +55,7 @@ answers_short t class bound limit skip s at before now w number len less after_s
     let decides = short_below t class bound limit less digits skip s at 16 w.len _ w.number (is_skipped after_skip) after_skip.window.reading few (omega arith) after_skip.window.below in
     ap₂ (λ n l. Ok (n, l)) number_is len_is ∙ sym (decides.1 ∙ rw (ne_eqb (at + w.len) 0 (omega arith)) refl)
 
--- A full window and one that is not full hold the rest of the run: `Ok` for 128 bits.
+-- So do a full window and one that is not: `Ok` for 128 bits.
 pub answers_two : (t : Table) → IsBelowTen t → (bound : ℕ) (skip : Bool) (s : List ℕ) (at before now : ℕ) (first second : Window) (number len : ℕ) →
     Skipped t skip s at before now first → 16 ≤ first.len → Shows t 16 (drop 16 (drop at s)) second → second.len < 16 → HasDigits 39 bound →
     number ≡ first.number * 10 ^ second.len + second.number → len ≡ at + (16 + second.len) →
@@ -67,7 +65,7 @@ answers_two t ten bound skip s at before now first second number len after_skip 
     let decides = short t ten wide128 bound 39 (lit< tt) digits skip s at 32 (16 + second.len) _ _ (is_skipped after_skip) both (omega arith) (omega arith) in
     ap₂ (λ n l. Ok (n, l)) number_is len_is ∙ sym (decides.1 ∙ rw (ne_eqb (at + (16 + second.len)) 0 (omega arith)) refl)
 
--- For 64 bits, a full window and the 8 bytes after it decide.
+-- For 64 bits, a full window and 8 bytes decide.
 pub answers_64 : (t : Table) (bound limit : ℕ) (skip : Bool) (s : List ℕ) (at before now : ℕ) (first_window back : Window) →
     limit < 24 → Skipped t skip s at before now first_window → 16 ≤ first_window.len → Shows t 8 (drop 16 (drop at s)) back →
     (at + (16 + back.len) ≤ length s) × (answer_by_digits wide64 bound limit at (16 + back.len) (first_window.number * 10 ^ back.len + back.number) s ≡ prefix_magnitude t wide64 bound limit skip s)
@@ -79,7 +77,7 @@ answers_64 t bound limit skip s at before now first_window back less after_skip 
       sym (all_decide t wide64 bound limit less skip s at _ _ _ (is_skipped after_skip) both none),
     )
 
--- For 128 bits, two full windows and the 8 bytes after them decide.
+-- For 128 bits, two full windows and 8 bytes decide.
 pub answers_128 : (t : Table) → IsBelowTen t → (bound : ℕ) (skip : Bool) (s : List ℕ) (at before now : ℕ) (first_window middle back : Window) →
     Skipped t skip s at before now first_window → 16 ≤ first_window.len → Shows t 16 (drop 16 (drop at s)) middle → 16 ≤ middle.len → Shows t 8 (drop 32 (drop at s)) back →
     let number = (first_window.number * 10 ^ 16 + middle.number) * 10 ^ back.len + back.number in
@@ -101,7 +99,7 @@ abbrev whole_from_prefix : (ℕ → ℕ → List ℕ → Refusal) → List ℕ �
 whole_from_prefix invalid s (Err reason) = Err reason
 whole_from_prefix invalid s (Ok found) = if found.1 == length s then Ok found.0 else Err (invalid found.0 found.1 s)
 
--- The last of four tests may be applied after the first three.
+-- The last of four tests may come after the others.
 last_reason : (invalid : ℕ → ℕ → List ℕ → Refusal) (s : List ℕ) (a b c : Bool) (none long above : Refusal) (v n : ℕ) →
     unless_refused (if a then Some none else (if b then Some long else (if c then Some above
     else (if not (n == length s) then Some (invalid v n s) else None)))) v
@@ -173,14 +171,14 @@ dropped_is t true limit s at before now w after_skip =
           ])
     ]
 
--- The number of a full window without a leading zero is at least 10^15.
+-- A full window without a leading zero is at least 10^15.
 least : (t : Table) (s : List ℕ) (w : Window) → Shows t 16 s w → 16 ≤ w.len → w.zeroes ≡ 0 → 10 ^ 15 ≤ w.number
 least t s w seen full none =
     let len : w.len ≡ 16 = omega (arith, seen.len_is) in
     let some : zeros t s ≡ 0 = omega (arith, seen.zeroes_of len) in
     omega (arith, value-least t 15 s (omega (arith, seen.len_is)) some, seen.number_is ∙ ap (λ (n : ℕ). value t (take n s)) len)
 
--- At most 16 digits are not too many; nor is any number where zeros are skipped.
+-- At most 16 digits, or skipped zeros, are never too many.
 not_too_long : (t : Table) (skip : Bool) (limit : ℕ) (s : List ℕ) → (skip ≡ false → run_len t s ≤ 16)
     → is_above (limit_at narrow prefix skip limit) (significant_len t skip s) ≡ false
 not_too_long t true limit s few = refl
@@ -205,13 +203,13 @@ module _ (t : Table) (skip : Bool) (s : List ℕ) (at before now : ℕ) (w : Win
   number_most =
       omega (arith, after_skip.value_is, after_skip.window.number_is, value-take-le t (drop at s) w.len (run_len t (drop at s)) (omega (arith, after_skip.window.len_is)))
 
-  -- If its number fits in 32 bits, the last window holds the rest of the run.
+  -- So it holds the rest of the run.
   rest_is : w.number ≤ 4294967295 → (run_len t s ≡ at + w.len) × (value t (run t s) ≡ w.number)
   rest_is small =
       let rest : run_len t (drop at s) ≡ w.len = ends t skip s at before now w after_skip few small in
       (omega (arith, after_skip.run_is), after_skip.value_is ∙ ap (λ (n : ℕ). value t (take n (drop at s))) rest ∙ sym after_skip.window.number_is)
 
-  -- If there is a digit, the number of the last window decides between `Overflow` and `Ok`.
+  -- With a digit, the last number decides between `Overflow` and `Ok`.
   narrow_overflow : (bound limit : ℕ) → 0 < at + w.len → bound < w.number → Err (overflow (drop at s)) ≡ prefix_magnitude t narrow bound limit skip s
   narrow_overflow bound limit some over =
       let digits : 0 < run_len t s = omega (arith, after_skip.run_is, after_skip.window.len_is) in
@@ -243,7 +241,7 @@ narrow_size t bound limit false s long =
     let reported : 0 + min (significant_len t false s) 17 ≡ 17 = omega arith in
     rw (refused_size t narrow bound limit prefix false s (omega arith) too_long) (rw reported refl)
 
--- After 16 digits, another digit follows exactly if the run has more than 16.
+-- After 16 digits, a digit follows if the run is longer.
 pub digit_after_16 : (t : Table) (s : List ℕ) → run_len t (take 16 s) ≡ 16 →
     nat_lt 0 (run_len t (take (length s - 16) (drop 16 s))) ≡ nat_lt 16 (run_len t s)
 digit_after_16 t s full =

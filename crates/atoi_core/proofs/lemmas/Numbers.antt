@@ -1,4 +1,4 @@
--- What follows a number, and what an error says about the digits at the start of a body.
+-- What follows a number, and what an error says about digits.
 use Rattle.std.proofs.Common.{◌≡◌, ◌↔◌, ℕ, ◌<◌, Bool, true, false, IsFalse, List, [], ◌∷◌, ◌++◌, length, take, drop, get_or, get_or-drop, length-drop, Option, Some, None, Err, ℤ, refl, sym, ap, ◌∙◌, arith, inl, inr}
 use Rattle.std.proofs.lemmas.Bool.{cases_lt, cases_Bool}
 use Rattle.std.proofs.lemmas.List.{take-append-drop}
@@ -62,7 +62,7 @@ number_then_byte int sized = record {
   only = one_way int sized;
 }
 
--- The law `OneNumber`: a whole parse that skips zeros returns each number that the slice writes.
+-- The law `OneNumber`.
 pub one_number : (int : IntType) → IsSized int → OneNumber int
 one_number int sized form s number other h k =
     let found = (accepted_numbers int sized).accepted in
@@ -88,7 +88,7 @@ not_above : (limit : Option ℕ) (count : ℕ) → IsAbove limit count → is_ab
 not_above None count above not = above
 not_above (Some limit) count above not = let is = lt-ltb limit count above in cc
 
--- If a number is in range, it does not have too many digits.
+-- A number in range has few enough digits.
 long_is_above : (int : IntType) → IsSized int → (is_negative : Bool) (body : List ℕ) → IsTooLong int prefix true body
     → bound_of int is_negative < value decimal_table (run decimal_table body)
 long_is_above int sized is_negative body long =
@@ -119,7 +119,7 @@ module _ (int : IntType) (sized : IsSized int) (form : SignForm) (s : List ℕ) 
   is_above_bound (invalid64 number index input) h some = absurd (omega (arith, (errors_in_order int).never_followed form true s (invalid64 number index input) h))
   is_above_bound (invalid128 number index input) h some = absurd (omega (arith, (errors_in_order int).never_followed form true s (invalid128 number index input) h))
 
--- All digits at the start of a slice, of which there are some, are a numeral that no digit follows.
+-- All digits at a slice's start, if any, are a numeral.
 run_too_large : (int : IntType) (is_negative : Bool) (body : List ℕ) → 0 < run_len decimal_table body
     → bound_of int is_negative < value decimal_table (run decimal_table body)
     → IsTooLarge int is_negative body (run_len decimal_table body)

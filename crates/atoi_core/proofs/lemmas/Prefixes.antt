@@ -1,6 +1,4 @@
--- Prefixes that write a number: where a prefix parse stops, how it is related to a whole parse, and
--- what the results for a type say about their slices. About half of the laws of this crate are
--- proved here.
+-- Prefix parses: where they stop, how they agree with whole parses, and what they find.
 use Rattle.std.proofs.Common.{◌≡◌, ℕ, ◌≤◌, Bool, List, ◌++◌, length, take, get_or, Ok, ℤ, refl, sym, ap, ◌∙◌, subst, arith, inl, inr, get_or-drop, take-add, add_comm, ◌+◌, ◌<◌, true, IsFalse, [], ◌∷◌, drop, IsOk, Result, Err, eq-eqb, length-drop, append_assoc, append-nil, length-append, IfOk, OnErr}
 use Rattle.std.proofs.lemmas.Bool.{cases_lt, cases_Bool}
 use Rattle.std.proofs.lemmas.List.Sums.{prefix_len-le-length, prefix_len_stops}
@@ -25,8 +23,7 @@ use Rattle.atoi_core.specs.declared.error.AtoiSimdError.{AtoiSimdError}
 
 -- ---- Where a prefix parse stops
 
--- The law `PrefixStopsAtRest`: a prefix parse stops at the end of the slice, or before a byte that
--- is no digit.
+-- A prefix parse stops at the end, or before a byte that is no digit.
 pub prefix_stops_at_rest : (int : IntType) → PrefixStopsAtRest int
 prefix_stops_at_rest int form skip s v count h =
     let counts = (found_prefix int form skip s v count h).count_is in
@@ -43,7 +40,7 @@ prefix_stops_at_rest int form skip s v count h =
       | inr le ↦ inl (omega (arith, prefix_len-le-length (is_digit decimal_table) g.body))
     ]
 
--- If a prefix parse reaches the end of the slice, the whole parse gives the same value.
+-- A prefix parse that reaches the end agrees with the whole parse.
 whole_of_prefix : (int : IntType) (form : SignForm) (skip : Bool) (s : List ℕ) (v : ℤ)
     → prefix_call int form skip s ≡ Ok (v, length s) → whole_call int form skip s ≡ Ok v
 whole_of_prefix int form skip s v h =
@@ -55,8 +52,7 @@ whole_of_prefix int form skip s v h =
     let body_is = is_whole int g.minus skip g.body prefix_is.some short prefix_is.in_range to_end in
     whole_call-is int form skip s ∙ to_whole int g.minus skip g.body body_is ∙ ap Ok (sym found.number)
 
--- If a whole parse gives a value, and the limit on digits is the same for a prefix as for a whole
--- slice (`HasLimitOfWhole`), the prefix parse gives the same value and reaches the end.
+-- With the same limit on digits, a whole parse agrees with a prefix parse that reaches the end.
 prefix_of_whole : (int : IntType) (form : SignForm) (skip : Bool) (s : List ℕ) (v : ℤ) → HasLimitOfWhole int skip
     → whole_call int form skip s ≡ Ok v → prefix_call int form skip s ≡ Ok (v, length s)
 prefix_of_whole int form skip s v limit h =
@@ -79,7 +75,7 @@ prefix_is_whole int = record {
   back = prefix_of_whole int;
 }
 
--- If a number is found at the start of a body, it is found in the run of that body too.
+-- A number at the start of a body is in its run too.
 found_again : (int : IntType) (g : Sign) (skip : Bool) (v : ℤ) (count : ℕ) → IsFound int g skip v count
     → IsFound int (record g { body = run decimal_table g.body }) skip v count
 found_again int g skip v count h =
@@ -99,8 +95,7 @@ found_again int g skip v count h =
       count_is = rw len h.count_is;
     }
 
--- A prefix that is found is not empty and lies within the slice. If the slice is cut after it, the
--- answer is the same.
+-- A found prefix is not empty, and the cut after it has the same answer.
 found_in_cut : (int : IntType) (form : SignForm) (skip : Bool) (s : List ℕ) (v : ℤ) (count : ℕ) → prefix_call int form skip s ≡ Ok (v, count)
     → (1 ≤ count) × (count ≤ length s) × (prefix_call int form skip (take count s) ≡ Ok (v, count))
 found_in_cut int form skip s v count h =
@@ -128,16 +123,15 @@ pub prefix_of_cut : (int : IntType) → PrefixOfCut int
 prefix_of_cut int = record { cut = found_in_cut int }
 
 -- ---- Slices and prefixes that write a number
--- A whole parse that skips zeros accepts exactly the slices that write a number. A prefix parse
--- that skips zeros finds exactly the prefixes that write a number and are followed by no digit.
+-- With zeros skipped, exactly these are accepted.
 
--- If a rest does not begin with a digit, its run is empty.
+-- A rest without a digit at its start has an empty run.
 stops : (rest : List ℕ) → ¬ BeginsWithDigit rest → run_len decimal_table rest ≡ 0
 stops [] ends = refl
 stops (byte ∷ bytes) ends =
     elim (cases_Bool (is_digit decimal_table byte)) [ inl e ↦ absurd (ends (digit_in_range byte e)) | inr e ↦ rw e refl ]
 
--- If a rest is empty, or its first byte is no digit, then `BeginsWithDigit` does not hold for it.
+-- An empty rest, or one that begins with another byte.
 pub no_digit : (rest : List ℕ) → (0 < length rest → IsFalse (is_digit decimal_table (get_or rest 0 0))) → ¬ BeginsWithDigit rest
 no_digit [] h = λ digit. digit
 no_digit (byte ∷ bytes) h = λ digit.
@@ -146,7 +140,7 @@ no_digit (byte ∷ bytes) h = λ digit.
     absurd (cc)
 
 module _ (digits rest : List ℕ) (all : AllDigits 10 digits) (ends : ¬ BeginsWithDigit rest) where
-  -- If no digit follows the digits, they are the run of the slice.
+  -- Digits that no digit follows are the run.
   pub run_len_before : run_len decimal_table (digits ++ rest) ≡ length digits
   run_len_before =
       prefix_len-append (is_digit decimal_table) digits rest
@@ -155,8 +149,7 @@ module _ (digits rest : List ℕ) (all : AllDigits 10 digits) (ends : ¬ BeginsW
   pub run_before : run decimal_table (digits ++ rest) ≡ digits
   run_before = ap (λ (n : ℕ). take n (digits ++ rest)) run_len_before ∙ take-append_seam digits rest
 
--- If a body consists of digits that write a number and of a rest that does not begin with a digit,
--- then a parse that skips zeros finds that number at the start of the body.
+-- Digits that write a number and a rest without one: the number is found at the start.
 prefix_found : (int : IntType) → IsSized int → (is_negative : Bool) (taken : ℕ) (digits rest : List ℕ) (number : ℤ)
     → DigitsWrite int is_negative digits number → ¬ BeginsWithDigit rest
     → IsFound int (record { minus = is_negative; taken = taken; body = digits ++ rest }) true number (length digits + taken)
@@ -176,8 +169,7 @@ prefix_found int sized is_negative taken digits rest number written ends =
       count_is = rw len refl;
     }
 
--- If a prefix consists of digits that write a number, and no digit follows it, then that number is
--- found when zeros are skipped.
+-- Digits that write a number, and no digit after them: the number is found.
 found_digits : (int : IntType) → IsSized int → (is_negative : Bool) (s : List ℕ) (number : ℤ) (count : ℕ)
     → PrefixWrites (DigitsWrite int is_negative) s number count → IsFound int (record { minus = is_negative; taken = 0; body = s }) true number count
 found_digits int sized is_negative s number count h =
@@ -185,8 +177,7 @@ found_digits int sized is_negative s number count h =
     let len : length (take count s) + 0 ≡ count = omega (arith, length-take-le count s h.within) in
     rw (take-append-drop count s, len) at found
 
--- If a prefix consists of an optional sign and of digits that write a number, and no digit follows
--- it, then that number is found when zeros are skipped.
+-- The same with an optional sign.
 found_text : (int : IntType) → IsSized int → (takes_plus : Bool) (s : List ℕ) (number : ℤ) (count : ℕ)
     → PrefixWrites (TextWrites int takes_plus) s number count → IsFound int (sign_of int.signed takes_plus s) true number count
 found_text int sized takes_plus s number count h =
@@ -205,8 +196,7 @@ found_text int sized takes_plus s number count h =
     subst (λ (g : Sign). IsFound int g true number count) (sym sign_is)
     (rw len at (prefix_found int sized (is_minus text.sign) (length (sign_bytes text.sign)) text.digits rest number text.written h.ends))
 
--- The law `AcceptedPrefixes`: if a prefix parse finds a number, the prefix writes that number, and
--- no digit follows it. If zeros are skipped, the converse holds too.
+-- The law `AcceptedPrefixes`.
 pub accepted_prefixes : (int : IntType) → IsSized int → AcceptedPrefixes int
 accepted_prefixes int sized = record { written = written; accepted = accepted }
   where
@@ -248,22 +238,20 @@ of_parts int form s prefix_bytes rest number parts written ends =
       ends = rw (front_rest s prefix_bytes rest parts) ends;
     }
 
--- If the same answer is both `Ok (a, m)` and `Ok (b, n)`, then `a` is `b`, and `m` is `n`.
+-- Equal answers `Ok` have equal parts.
 same_answer : {E : Type 0} (a b : ℤ) (m n : ℕ) (answer : Result (ℤ × ℕ) E) → answer ≡ Ok (a, m) → answer ≡ Ok (b, n) → (a ≡ b) × (m ≡ n)
 same_answer a b m n answer h int =
     let both = sym h ∙ int in
     let pair : (a, m) ≡ (b, n) = cc in (ap (λ (p : ℤ × ℕ). p.0) pair, ap (λ (p : ℤ × ℕ). p.1) pair)
 
--- A slice has at most one prefix that writes a number and is followed by no digit, because a prefix
--- parse that skips zeros returns the number and the length of any such prefix.
+-- At most one prefix writes a number that no digit follows: a parse returns it.
 only : (int : IntType) → IsSized int → (form : SignForm) (s : List ℕ) (number other : ℤ) (count len : ℕ)
     → PrefixWrites (Writes int form) s number count → PrefixWrites (Writes int form) s other len → (number ≡ other) × (count ≡ len)
 only int sized form s number other count len h g =
     let found = (accepted_prefixes int sized).accepted in
     same_answer number other count len (prefix_call int form true s) (found form s number count h) (found form s other len g)
 
--- If a slice begins with bytes that write a number and are followed by no digit, then a prefix for
--- which `PrefixWrites` holds consists of exactly these bytes, and writes the same number.
+-- Such a prefix is the bytes before a rest without a digit.
 cut : (int : IntType) → IsSized int → (form : SignForm) (s prefix_bytes rest : List ℕ) (number other : ℤ) (count : ℕ)
     → s ≡ prefix_bytes ++ rest → Writes int form prefix_bytes number → ¬ BeginsWithDigit rest → PrefixWrites (Writes int form) s other count
     → (number ≡ other) × ((take count s ≡ prefix_bytes) × (drop count s ≡ rest))
@@ -280,15 +268,13 @@ cut int sized form s prefix_bytes rest number other count parts written ends fou
 pub prefixes_and_rests : (int : IntType) → IsSized int → PrefixesAndRests int
 prefixes_and_rests int sized = record { of_parts = of_parts int; only = only int sized; cut = cut int sized }
 
--- If a slice writes a number, it is a prefix of itself that writes this number. So a whole parse
--- that skips zeros returns the number.
+-- A slice that writes a number is its own prefix.
 whole_accepted : (int : IntType) → IsSized int → (form : SignForm) (s : List ℕ) (number : ℤ) → Writes int form s number → whole_call int form true s ≡ Ok number
 whole_accepted int sized form s number h =
     (prefix_is_whole int).whole form true s number
     ((accepted_prefixes int sized).accepted form s number (length s) (of_parts int form s s [] number (sym (append-nil s)) h (λ digit. digit)))
 
--- The law `AcceptedNumbers`: a whole parse returns a number only if the slice writes that number.
--- If zeros are skipped, the converse holds too.
+-- The law `AcceptedNumbers`.
 pub accepted_numbers : (int : IntType) → IsSized int → AcceptedNumbers int
 accepted_numbers int sized = record { written = whole_written int; accepted = whole_accepted int sized }
 
@@ -301,8 +287,7 @@ ok_value (Err e) h = absurd (cc h)
 ok_is_ok : {A E : Type 0} (r : Result A E) (x : A) → r ≡ Ok x → IsOk r
 ok_is_ok r x h = rw h refl
 
--- The law `AcceptedTexts`: with both flags on, a parse accepts exactly the texts of the type, and
--- gives their number.
+-- The law `AcceptedTexts`.
 pub accepted_texts : (int : IntType) → IsSized int → AcceptedTexts int
 accepted_texts int sized = record {
   accepted = λ s. (
@@ -313,20 +298,17 @@ accepted_texts int sized = record {
   number = whole_accepted int sized (looked_for true);
 }
 
--- ---- What the results of a type say about their slices
--- A result is a Rust `Result`, and it means an answer (`typed_answer`, `typed_prefix_answer`). So
--- these lemmas follow from the laws about answers.
+-- ---- Results of a type
+-- A `Result` means an answer, so these lemmas follow from the laws on answers.
 
 module _ {T : Type 0} (number : T → ℤ) where
-  -- Let a result mean an answer, and let a property hold for `any` whenever the answer is `Ok any`.
-  -- If the result is `Ok`, then the property holds for its number.
+  -- A property of each number that is the answer holds of the number of the result.
   if_ok : (result : Result T AtoiSimdError) (answer : Result ℤ Refusal) (P : ℤ → Type 0) → typed_answer number result ≡ answer
       → ((any : ℤ) → answer ≡ Ok any → P any) → IfOk result (λ value. P (number value))
   if_ok (Ok value) answer P is h = h (number value) (sym is)
   if_ok (Err error) answer P is h = tt
 
-  -- Let a result mean an answer. If the answer is `Ok any` for each number `any` with a property,
-  -- and the result is an error, then no number has that property.
+  -- If each number with a property is the answer, an error means that there is none.
   on_err : (result : Result T AtoiSimdError) (answer : Result ℤ Refusal) (P : ℤ → Type 0) → typed_answer number result ≡ answer
       → ((any : ℤ) → P any → answer ≡ Ok any) → OnErr result ((any : ℤ) → ¬ P any)
   on_err (Ok value) answer P is h = tt

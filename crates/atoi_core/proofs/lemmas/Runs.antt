@@ -1,4 +1,4 @@
--- The run of a slice: its length, how a cut changes it, and the value of its digits.
+-- The run of a slice: its length, its cuts and its value.
 use Rattle.std.proofs.Common.{◌≡◌, ℕ, zero, suc, ◌+◌, ◌≤◌, min, Bool, true, false, cond, List, [], ◌∷◌, take, drop, arith, ◌==◌, ◌*◌, ◌^◌, ◌<◌, ◌++◌, length, refl, ap, ◌∙◌, ◌-◌, replicate, All, IsTrue, subst, Option, lit<, lit≤, get_or, Some, None, is_some, unwrap_or, sym, Ok, Err, if◌then◌else◌, nat_lt, not, eq-eqb}
 use Rattle.std.specs.List.{prefix_len}
 use Rattle.atoi_core.specs.Digit.{Table, is_digit, digit_value, IsBelowTen, is_zero, decimal_table}
@@ -77,7 +77,7 @@ value-drop_zeros t n s h =
     ∙ value-take-add t n (run_len t (drop n s)) s (omega arith)
     ∙ omega (arith, ap (λ (e : ℕ). e * 10 ^ run_len t (drop n s)) (value-zeros t n s h))
 
--- n + 1 digits that begin with no zero spell at least 10^n.
+-- n + 1 digits without a leading zero spell at least 10^n.
 pub value-least : (t : Table) (n : ℕ) (s : List ℕ) → suc n ≤ run_len t s → zeros t s ≡ 0 → 10 ^ n ≤ value t (take (suc n) s)
 value-least t n [] = λ h z. absurd (omega arith)
 value-least t n (b ∷ bs) = λ h z.
@@ -113,7 +113,7 @@ module _ (table : Table) where
   pub zeros-run : (s : List ℕ) → zeros table (run table s) ≡ zeros table s
   zeros-run s = omega (arith, prefix_len-take (is_zero table) (run_len table s) s, zeros-le table s)
 
-  -- n digits after the leading zeros spell at least 10^(n - 1).
+  -- n digits after the zeros spell at least 10^(n - 1).
   pub value-ge : (s : List ℕ) → zeros table s < run_len table s
       → 10 ^ (run_len table s - zeros table s - 1) ≤ value table (run table s)
   value-ge s h =
@@ -148,7 +148,7 @@ value-take-le t s i j le =
     rw (← take-append-drop i (take j s), take-take i j s le)
     (value-append-le t (take i s) (drop i (take j s)))
 
--- A digit after i bytes of the run belongs to it too.
+-- A digit after i bytes of the run is in it.
 pub run_more : (t : Table) (s : List ℕ) (i w : ℕ) → i < length s → t (get_or s i 0) ≡ Some w → i + run_len t (drop i s) ≡ run_len t s → i + 1 + run_len t (drop (i + 1) s) ≡ run_len t s
 run_more t s i w here digit so_far =
     let yes = prefix_len-drop_yes (is_digit t) s i 0 here (ap is_some digit) in

@@ -1,8 +1,4 @@
--- Two answers have the same outcome if both are `Ok` with the same value, or both are errors of the
--- same variant. The lemmas prove two laws. Bytes after the run (the digits that a body begins with)
--- do not change the outcome of a prefix parse (`RestChangesNothing`). If zeros are skipped and the
--- body begins with a digit, added leading zeros do not change the outcome, except that the count of
--- a prefix parse grows by their number (`ZerosChangeNothing`).
+-- Bytes after the run, and zeros before it, do not change the outcome.
 use Rattle.std.proofs.Common.{◌≡◌, ℕ, ◌+◌, ◌-◌, ◌<◌, Bool, true, not, if◌then◌else◌, eqb, ltb, List, [], ◌++◌, length, take, replicate, Option, Some, None, Result, ℤ, option_map, refl, sym, ap, ◌∙◌, subst₂, arith, take_at, drop_at, length-append, ne_eqb}
 use Rattle.std.proofs.lemmas.List.{length-replicate}
 use Rattle.std.proofs.lemmas.Bool.Decides.{nat_tests}
@@ -18,9 +14,7 @@ use Rattle.atoi_core.specs.Laws.{SignForm, sign_in, with_zeros, zero_byte, HaveS
 use Rattle.atoi_core.proofs.lemmas.Runs.{length-run, zeros-run, value-replicate, prefix_len-replicate_append}
 use Rattle.atoi_core.proofs.lemmas.Calls.{refusal-rank, first_of, limit_at, significant_len, sign_again, whole_call-is, prefix_call-is, counted_number, with_more-zero}
 
--- Two whole answers have the same outcome if their values are equal, and if both are refused for
--- reasons of the same rank or neither is refused. The rank is the position of a reason among the
--- five.
+-- Whole answers with equal values, and refusals of one rank or none, have the same outcome.
 same_outcome : (minus other_minus : Bool) (r q : Option Refusal) (x y : ℕ) → option_map rank r ≡ option_map rank q
     → with_sign minus x ≡ with_sign other_minus y
     → HaveSameOutcome (map_answer (with_sign minus) (unless_refused r x)) (map_answer (with_sign other_minus) (unless_refused q y))
@@ -29,8 +23,7 @@ same_outcome minus other_minus (Some reason) (Some other) x y h e = cc h
 same_outcome minus other_minus None (Some other) x y h e = absurd (cc h)
 same_outcome minus other_minus (Some reason) None x y h e = absurd (cc h)
 
--- The same holds of two prefix answers after `more` is added to the count of the first, if the two
--- counts are then equal too.
+-- The same of prefix answers whose counts differ by `more`.
 same_prefix_outcome : (more taken other_taken : ℕ) (minus other_minus : Bool) (r q : Option Refusal) (x y : ℕ × ℕ) → option_map rank r ≡ option_map rank q
     → with_sign minus x.0 ≡ with_sign other_minus y.0 → x.1 + taken + more ≡ y.1 + other_taken
     → HaveSameOutcome (with_more more (with_more taken (map_answer (counted_number minus) (unless_refused r x))))
@@ -40,7 +33,7 @@ same_prefix_outcome more taken other_taken minus other_minus (Some reason) (Some
 same_prefix_outcome more taken other_taken minus other_minus None (Some other) x y h e c = absurd (cc h)
 same_prefix_outcome more taken other_taken minus other_minus (Some reason) None x y h e c = absurd (cc h)
 
--- The reason to refuse the body after the sign `g`, or `None` if there is no reason.
+-- Why the body after the sign `g` is refused, if it is.
 abbrev reason_at : IntType → Bool → Extent → Sign → Option Refusal
 reason_at int skip extent g = refusal decimal_table (class_of int) (bound_of int g.minus) (limit_of int) extent skip g.body
 
@@ -52,9 +45,7 @@ len_at g = run_len decimal_table g.body
 abbrev number_at : Sign → ℕ
 number_at g = value decimal_table (run decimal_table g.body)
 
--- For two bodies with their signs, the first and the last of the four tests of `refusal` give the
--- same results, and the other two tests compare the same numbers. So all four tests give the same
--- results.
+-- Two tests agree and the other two compare equal numbers, so all four agree.
 record IsAlike (int : IntType) (skip : Bool) (extent : Extent) (g h : Sign) : Type 0 where
   bound : bound_of int g.minus ≡ bound_of int h.minus
   is_empty : eqb (run_len decimal_table g.body) 0 ≡ eqb (run_len decimal_table h.body) 0
@@ -62,8 +53,7 @@ record IsAlike (int : IntType) (skip : Bool) (extent : Extent) (g h : Sign) : Ty
   number : number_at g ≡ number_at h
   followed : leaves_rest extent (run_len decimal_table g.body) (length g.body) ≡ leaves_rest extent (run_len decimal_table h.body) (length h.body)
 
--- If the four tests give the same results for two bodies, their refusals have the same rank, or
--- neither is refused.
+-- If the four tests agree, the refusals have the same rank.
 same_reason : (int : IntType) (skip : Bool) (extent : Extent) (g h : Sign) → IsAlike int skip extent g h
     → option_map rank (reason_at int skip extent g) ≡ option_map rank (reason_at int skip extent h)
 same_reason int skip extent g h alike =
@@ -71,11 +61,11 @@ same_reason int skip extent g h alike =
     ∙ (λ i. first_of (alike.is_empty i) (is_above (limit_at (class_of int) extent skip (limit_of int)) (alike.counts i)) (ltb (alike.bound i) (alike.number i)) (alike.followed i) 0 1 2 (rank (invalid (class_of int) 0 0 [])))
     ∙ sym (refusal-rank decimal_table (class_of int) (bound_of int h.minus) (limit_of int) extent skip h.body)
 
--- What a prefix call returns when it uses the sign `g` and the body after that sign.
+-- A prefix call with the sign `g` and its body.
 abbrev prefix_at : IntType → Bool → Sign → Result (ℤ × ℕ) Refusal
 prefix_at int skip g = with_more g.taken (prefix_answer decimal_table int g.minus skip g.body)
 
--- What a whole call returns when it uses the sign `g` and the body after that sign.
+-- A whole call with the sign `g` and its body.
 abbrev whole_at : IntType → Bool → Sign → Result ℤ Refusal
 whole_at int skip g = whole_answer decimal_table int g.minus skip g.body
 
@@ -87,7 +77,7 @@ same_len s t e = sym (length-run decimal_table s) ∙ ap length e ∙ length-run
 same_zeros : (s t : List ℕ) → run decimal_table s ≡ run decimal_table t → zeros decimal_table s ≡ zeros decimal_table t
 same_zeros s t e = sym (zeros-run decimal_table s) ∙ ap (zeros decimal_table) e ∙ zeros-run decimal_table t
 
--- Two bodies with equal runs and the same sign give prefix answers of the same outcome.
+-- Equal runs and the same sign: the same outcome of a prefix parse.
 same_run : (int : IntType) (skip : Bool) (g h : Sign) → g.minus ≡ h.minus → g.taken ≡ h.taken → run decimal_table g.body ≡ run decimal_table h.body
     → HaveSameOutcome (with_more 0 (prefix_at int skip g)) (prefix_at int skip h)
 same_run int skip g h minus taken runs =
@@ -105,7 +95,7 @@ same_run int skip g h minus taken runs =
     }))
     (λ i. with_sign (minus i) (number i)) (omega arith)
 
--- The law `RestChangesNothing`: bytes after the run do not change the outcome of a prefix parse.
+-- The law `RestChangesNothing`.
 pub rest_changes_nothing : (int : IntType) → RestChangesNothing int
 rest_changes_nothing int form skip s t same =
     subst₂ (λ x y. HaveSameOutcome x y) (with_more-zero (prefix_at int skip (sign_in int form s)) ∙ sym (prefix_call-is int form skip s)) (sym (prefix_call-is int form skip t))
@@ -129,15 +119,14 @@ zeros-padded count body = prefix_len-replicate_append (is_zero decimal_table) ze
 length-padded : (count : ℕ) (body : List ℕ) → length (padded count body) ≡ count + length body
 length-padded count body = simp (length-append, length-replicate)
 
--- A prefix of the padded body that includes all added zeros consists of these zeros and a prefix of
--- the body.
+-- A prefix of the padded body with all added zeros is these and a prefix of the body.
 take-padded : (count n : ℕ) (body : List ℕ) → take (count + n) (padded count body) ≡ padded count (take n body)
 take-padded count n body =
     let len = length-replicate count zero_byte in
     take-add count n (padded count body)
     ∙ (λ i. take_at (replicate count zero_byte) body count len i ++ take n (drop_at (replicate count zero_byte) body count len i))
 
--- The run of the body and that of the padded body have the same value.
+-- The padded run has the same value.
 value-padded : (count : ℕ) (body : List ℕ) → value decimal_table (run decimal_table body) ≡ value decimal_table (run decimal_table (padded count body))
 value-padded count body =
     let n = run_len decimal_table body in
@@ -145,12 +134,11 @@ value-padded count body =
     ∙ ap (value decimal_table) (sym (take-padded count n body))
     ∙ ap (λ (m : ℕ). value decimal_table (take m (padded count body))) (sym (run_len-padded count body))
 
--- Adding the same number to both sides does not change a comparison for equality.
+-- The same addend on both sides keeps a comparison.
 eqb-add : (more m n : ℕ) → eqb m n ≡ eqb (more + m) (more + n)
 eqb-add more m n = grind (arith, nat_tests)
 
--- The test whether another byte follows the digits gives the same result for the body and for the
--- padded body.
+-- Another byte follows the digits in both bodies or in neither.
 followed-padded : (extent : Extent) (count : ℕ) (body : List ℕ)
     → leaves_rest extent (run_len decimal_table body) (length body) ≡ leaves_rest extent (run_len decimal_table (padded count body)) (length (padded count body))
 followed-padded prefix count body = refl
@@ -158,8 +146,7 @@ followed-padded whole count body =
     ap not (eqb-add count (run_len decimal_table body) (length body))
     ∙ rw (run_len-padded count body, length-padded count body) refl
 
--- If zeros are skipped and the body begins with a digit, the four tests give the same results after
--- zeros are added.
+-- With zeros skipped, the four tests agree after zeros are added.
 padded_alike : (int : IntType) (extent : Extent) (count : ℕ) (g : Sign) → 0 < run_len decimal_table g.body
     → IsAlike int true extent g (record g { body = padded count g.body })
 padded_alike int extent count g some =
@@ -173,8 +160,7 @@ padded_alike int extent count g some =
       followed = followed-padded extent count g.body;
     }
 
--- If the body begins with a digit, adding zeros after the sign does not change the sign that a call
--- uses. The body after that sign is then the padded body.
+-- Zeros after the sign do not change the sign that is consumed.
 sign_of_padded : (int : IntType) (form : SignForm) (s : List ℕ) (count : ℕ) → 0 < run_len decimal_table (sign_in int form s).body
     → sign_in int form (with_zeros int form count s)
     ≡ record { minus = (sign_in int form s).minus; taken = (sign_in int form s).taken; body = padded count (sign_in int form s).body }
@@ -192,8 +178,7 @@ whole_padded int g count some =
     (same_reason int true whole g h (padded_alike int whole count g some))
     (ap (with_sign g.minus) (value-padded count g.body))
 
--- If zeros are skipped and the body begins with a digit, adding zeros after the sign does not
--- change the outcome of a prefix parse, except that its count grows by their number.
+-- With zeros skipped, added zeros only raise the count of a prefix parse.
 prefix_padded : (int : IntType) (g : Sign) (count : ℕ) → 0 < run_len decimal_table g.body
     → HaveSameOutcome (with_more count (prefix_at int true g)) (prefix_at int true (record g { body = padded count g.body }))
 prefix_padded int g count some =
@@ -204,9 +189,7 @@ prefix_padded int g count some =
     (same_reason int true prefix g h (padded_alike int prefix count g some))
     (ap (with_sign g.minus) (value-padded count g.body)) (omega arith)
 
--- The law `ZerosChangeNothing`: if zeros are skipped and the body begins with a digit, added
--- leading zeros do not change the outcome, except that the count of a prefix parse grows by their
--- number.
+-- The law `ZerosChangeNothing`.
 pub zeros_change_nothing : (int : IntType) → ZerosChangeNothing int
 zeros_change_nothing int = record {
   whole = λ form s count some.

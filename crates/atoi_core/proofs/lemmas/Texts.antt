@@ -1,6 +1,4 @@
--- Texts of numbers: decimal digits as std defines them, the texts that a whole parse accepts, and
--- the text that `decimal` writes. The lemmas about `decimal` require numbers below 10^64. All
--- magnitudes in the range of a type are smaller.
+-- Texts of numbers: std's digits, the accepted texts, and `decimal`. Numbers are below 10^64.
 use Rattle.std.proofs.Common.{◌≡◌, ℕ, suc, ◌+◌, ◌-◌, ◌^◌, ◌<◌, ◌≤◌, Bool, true, false, cond, eqb, List, [], ◌∷◌, length, decimal, Ok, ℤ, pos, negsuc, neg_ℤ, ◌≤ℤ◌, refl, sym, ap, ◌∙◌, arith, inl, inr, add-one, leb→le, le-leb, lt_of_le_of_lt, Some, All, IsTrue, ◌++◌, eqb-true, ◌≢◌, zero, ◌*◌, ◌/◌, ◌%◌, get_or, append_assoc, append-nil, length-append}
 use Rattle.std.specs.Fmt.{signed_decimal}
 use Rattle.std.specs.Str.Parse.{AllDigits, IsNumeral, digits_value, digits_value_after}
@@ -23,10 +21,9 @@ use Rattle.std.proofs.Math.ListN.{get_or-append}
 use Rattle.std.specs.Char.{digit_value as std_digit_value}
 use Rattle.std.proofs.lemmas.Str.{digit_value_digit}
 
--- ---- The decimal text of a number is parsed to that number
+-- ---- The decimal text of a number is parsed
 
--- If a whole parse accepts a body without skipping zeros, it also accepts that body when it skips
--- zeros, and returns the same value.
+-- A body accepted without skipping zeros is accepted with it.
 whole_skipping : (int : IntType) (is_negative : Bool) (body : List ℕ) (v : ℤ)
     → whole_answer decimal_table int is_negative false body ≡ Ok v → whole_answer decimal_table int is_negative true body ≡ Ok v
 whole_skipping int is_negative body v h =
@@ -40,17 +37,15 @@ whole_skipping int is_negative body v h =
     (is_whole int is_negative true body old.some short old.in_range (whole_is_run n (length body) old.ends))
     ∙ ap Ok (sym found.1)
 
--- The law `SkippingAgrees`: if a whole parse succeeds without skipping zeros, it returns the same
--- value when it skips zeros.
+-- The law `SkippingAgrees`.
 pub skipping_agrees : (int : IntType) → SkippingAgrees int
 skipping_agrees int form s v h =
     whole_call-is int form true s ∙ whole_skipping int (sign_in int form s).minus (sign_in int form s).body v (sym (whole_call-is int form false s) ∙ h)
 
--- A byte from 48 to 57 is a decimal digit, and the table gives `byte - 48` for it.
+-- A byte from 48 to 57 is a digit of value `byte - 48`.
 pub digit_is : (byte : ℕ) → 48 ≤ byte → byte ≤ 57 → decimal_table byte ≡ Some (byte - 48)
 digit_is byte lo hi = rw (le-leb 48 byte lo, le-leb byte 57 hi) refl
 
--- So the digit value of such a byte is `byte - 48`.
 digit_value_is : (byte : ℕ) → 48 ≤ byte → byte ≤ 57 → digit_value decimal_table byte ≡ byte - 48
 digit_value_is byte lo hi = rw (digit_is byte lo hi) refl
 
@@ -58,21 +53,20 @@ digit_value_is byte lo hi = rw (digit_is byte lo hi) refl
 pub own : IsNumeralModel (AllDigits 10) (value decimal_table)
 own = numerals_by_weight (AllDigits 10) tells_digits (value decimal_table) (record { empty = refl; more = λ c cs h. rw (digit_value_is c h.0 h.1) refl })
 
--- If std counts all bytes as digits, the run is the whole slice.
+-- If all bytes are std's digits, the run is the slice.
 pub run_of_digits : (ds : List ℕ) → AllDigits 10 ds → run_len decimal_table ds ≡ length ds
 run_of_digits [] h = refl
 run_of_digits (d ∷ ds) h =
     let r = digit_from_value d h.0 in
     rw (digit_is d r.0 r.1) (omega (arith, run_of_digits ds h.1))
 
--- The bytes are a decimal text of n: there is at least one, all of them are digits, and their value
--- is n.
+-- A decimal text of n: one or more digits of value n.
 record IsTextOf (n : ℕ) (ds : List ℕ) : Type 0 where
   all : run_len decimal_table ds ≡ length ds
   some : 0 < length ds
   is : value decimal_table ds ≡ n
 
--- The text that std writes for a number is such a text.
+-- Std's text of a number is one.
 decimal_text : (n : ℕ) → n < 10 ^ 64 → IsTextOf n (decimal n)
 decimal_text n h =
     let numeral = decimal_is_IsNumeral_wide n h in
@@ -82,8 +76,7 @@ decimal_text n h =
       is = own.same (decimal n) numeral.0.1 ∙ numeral.1;
     }
 
--- The decimal text of a number in range does not have too many digits, even if zeros are not
--- skipped.
+-- The decimal text of a number in range is short enough.
 decimal_short : (int : IntType) → IsSized int → (is_negative : Bool) (n : ℕ) → n ≤ bound_of int is_negative
     → is_above (limit_at (class_of int) whole false (limit_of int)) (length (decimal n)) ≡ false
 decimal_short int sized is_negative n le =
@@ -102,8 +95,7 @@ decimal_short int sized is_negative n le =
         cases true false = omega arith
         cases false b = omega arith
 
--- If zeros are not skipped, the decimal text of a magnitude in range is parsed to that magnitude
--- with the given sign.
+-- Without skipping, the decimal text of a magnitude in range is parsed.
 counting_text : (int : IntType) → IsSized int → (is_negative : Bool) (n : ℕ) → n ≤ bound_of int is_negative
     → whole_answer decimal_table int is_negative false (decimal n) ≡ Ok (with_sign is_negative n)
 counting_text int sized is_negative n le =
@@ -119,27 +111,25 @@ counting_text int sized is_negative n le =
     ∙ ap (λ digits. Ok (with_sign is_negative (value decimal_table digits))) is_run
     ∙ ap (λ m. Ok (with_sign is_negative m)) text.is
 
--- The decimal text of a magnitude in range is parsed to that magnitude with the given sign, whether
--- zeros are skipped or not.
+-- With skipping or without, the decimal text is parsed with its sign.
 magnitude_text : (int : IntType) → IsSized int → (is_negative skip : Bool) (n : ℕ) → n ≤ bound_of int is_negative
     → whole_answer decimal_table int is_negative skip (decimal n) ≡ Ok (with_sign is_negative n)
 magnitude_text int sized is_negative true n le = whole_skipping int is_negative (decimal n) (with_sign is_negative n) (counting_text int sized is_negative n le)
 magnitude_text int sized is_negative false n le = counting_text int sized is_negative n le
 
--- A minus before the digits is consumed if the type is signed.
+-- A signed type consumes a minus before digits.
 sign_of_minus : (signed takes_plus : Bool) (digits : List ℕ) → signed ≡ true
     → sign_of signed takes_plus (45 ∷ digits) ≡ record { minus = true; taken = 1; body = digits }
 sign_of_minus signed true digits h = rw h refl
 sign_of_minus signed false digits h = rw h refl
 
--- If a negative number is not below the smallest value of the type, then the type is signed, and
--- the magnitude of the number is in range.
+-- A negative number in range has a signed type and a magnitude in range.
 pub negative_in_range : (signed : Bool) (greatest n : ℕ) → cond signed (neg_ℤ (pos (greatest + 1))) (pos 0) ≤ℤ negsuc n
     → (signed ≡ true) × (n ≤ greatest)
 negative_in_range false greatest n h = absurd h.le
 negative_in_range true greatest n h = let within = rw add-one at h in (refl, leb→le n greatest within.le)
 
--- The law `TextOfValue`: the decimal text of each number of the type is parsed to that number.
+-- The law `TextOfValue`.
 pub text_of_value : (int : IntType) → IsSized int → TextOfValue int
 text_of_value int sized = record { parsed = parsed }
   where
@@ -155,14 +145,13 @@ text_of_value int sized = record { parsed = parsed }
 
 -- ---- Decimal digits and their values are those of std
 
--- If all bytes are decimal digits for this crate, they are decimal digits for std too.
+-- Our digits are std's.
 pub to_std : (s : List ℕ) → All (λ byte. IsTrue (is_digit decimal_table byte)) s → AllDigits 10 s
 to_std [] h = tt
 to_std (byte ∷ bytes) h =
     tells_digits.more byte bytes (digit_in_range byte (h 0 0 (omega arith))) (to_std bytes (λ i d lt. h (suc i) d (omega arith)))
 
--- The law `DecimalDigits`: digits and their values are those of std, and the value of n bytes is
--- below 10^n.
+-- The law `DecimalDigits`.
 pub decimal_digits : DecimalDigits
 decimal_digits = record {
   byte = λ byte. (digit_in_range byte, λ r. rw (digit_is byte r.0 r.1) refl);
@@ -174,9 +163,7 @@ decimal_digits = record {
 
 -- ---- What a whole parse accepts
 
--- The slice `s` consists of a sign, or none, and of the body of `g`. The sign is a minus exactly if
--- `g.minus` is true. It is a minus only if the type is signed, and a plus only if `takes_plus` is
--- true.
+-- `s` is a sign and the body of `g`: a minus only if signed, a plus only if taken.
 record IsSplit (signed takes_plus : Bool) (s : List ℕ) (g : Sign) : Type 0 where
   mark : SignMark
   parts : s ≡ sign_bytes mark ++ g.body
@@ -184,7 +171,7 @@ record IsSplit (signed takes_plus : Bool) (s : List ℕ) (g : Sign) : Type 0 whe
   allowed : is_minus mark ≡ true → signed ≡ true
   plus_taken : is_plus mark ≡ true → takes_plus ≡ true
 
--- Each slice consists of these two parts, if `g` is what `sign_of` gives for it.
+-- `sign_of` splits each slice so.
 split : (signed takes_plus : Bool) (s : List ℕ) → IsSplit signed takes_plus s (sign_of signed takes_plus s)
 split signed takes_plus [] = record { mark = no_sign; parts = refl; same = refl; allowed = λ e. absurd (cc e); plus_taken = λ e. absurd (cc e) }
 split signed takes_plus (byte ∷ bytes) =
@@ -195,8 +182,7 @@ split signed takes_plus (byte ∷ bytes) =
     record { mark = minus; parts = ap (λ b. b ∷ bytes) (eqb-true byte minus_sign both.1); same = refl; allowed = λ q. both.0; plus_taken = λ q. absurd (cc q) })
     (record { mark = no_sign; parts = refl; same = refl; allowed = λ q. absurd (cc q); plus_taken = λ q. absurd (cc q) })
 
--- If an allowed sign is followed by a digit, `sign_of` consumes exactly that sign. From a slice
--- that begins with a digit it consumes nothing.
+-- `sign_of` consumes exactly an allowed sign before a digit.
 pub sign_of_text : (signed takes_plus : Bool) (mark : SignMark) (digits : List ℕ) → (is_minus mark ≡ true → signed ≡ true)
     → (is_plus mark ≡ true → takes_plus ≡ true) → 0 < run_len decimal_table digits
     → sign_of signed takes_plus (sign_bytes mark ++ digits) ≡ record { minus = is_minus mark; taken = length (sign_bytes mark); body = digits }
@@ -205,8 +191,7 @@ sign_of_text signed takes_plus plus digits h p some = rw (p refl) refl
 sign_of_text signed true minus digits h p some = rw (h refl) refl
 sign_of_text signed false minus digits h p some = rw (h refl) refl
 
--- A body that is accepted as a whole consists of digits only, and these write the number of the
--- answer.
+-- A body accepted as a whole is digits that write its number.
 digits_written : (int : IntType) (is_negative skip : Bool) (body : List ℕ) (number : ℤ)
     → whole_answer decimal_table int is_negative skip body ≡ Ok number → DigitsWrite int is_negative body number
 digits_written int is_negative skip body number h =
@@ -217,7 +202,7 @@ digits_written int is_negative skip body number h =
     let same = own.same body digits in
     record { numeral = (omega (arith, found.0.some), digits); in_range = rw (is_run, same) at found.0.in_range; value_is = rw (is_run, same) at found.1 }
 
--- A slice that `parse` accepts is a text that writes the number of the answer.
+-- What `parse` accepts writes its number.
 text_written : (int : IntType) (takes_plus skip : Bool) (s : List ℕ) (number : ℤ)
     → parse_answer int skip takes_plus s ≡ Ok number → TextWrites int takes_plus s number
 text_written int takes_plus skip s number h =
@@ -232,28 +217,26 @@ text_written int takes_plus skip s number h =
       written = rw parts.same (digits_written int g.minus skip g.body number h);
     }
 
--- If a whole call gives a number, its slice writes that number.
+-- What a whole call accepts writes its number.
 pub whole_written : (int : IntType) (form : SignForm) (skip : Bool) (s : List ℕ) (number : ℤ)
     → whole_call int form skip s ≡ Ok number → Writes int form s number
 whole_written int (looked_for takes_plus) skip s number h = text_written int takes_plus skip s number h
 whole_written int (given is_negative) skip s number h = digits_written int is_negative skip s number h
 
--- ---- Texts with no needless zero
--- The decimal text of a number is the only text of digits with no needless zero that writes it.
+-- ---- Texts without needless zeros
 
--- Bytes that write a number without a sign begin with a digit.
+-- Unsigned bytes that write a number begin with a digit.
 begins : (int : IntType) (is_negative : Bool) (digits : List ℕ) (number : ℤ) → DigitsWrite int is_negative digits number → BeginsWithDigit digits
 begins int is_negative [] number h = absurd (omega (arith, h.numeral.0))
 begins int is_negative (digit ∷ digits) number h = digit_from_value digit h.numeral.1.0
 
--- If n is a magnitude in range, `decimal n` writes the number that has this magnitude and the given
--- sign.
+-- `decimal n` writes a magnitude in range.
 decimal_writes : (int : IntType) → IsSized int → (is_negative : Bool) (n : ℕ) → n ≤ bound_of int is_negative → DigitsWrite int is_negative (decimal n) (with_sign is_negative n)
 decimal_writes int sized is_negative n le =
     let numeral = decimal_is_IsNumeral_wide n (lt_of_le_of_lt le (bound_below-64 int sized is_negative)) in
     record { numeral = numeral.0; in_range = omega (arith, numeral.1); value_is = rw numeral.1 refl }
 
--- The digits are not empty, and if n is above 0 they do not begin with a zero.
+-- Not empty, and above 0 without a leading zero.
 abbrev IsLed : ℕ → List ℕ → Type 0
 IsLed n digits = (0 < length digits) × (0 < n → 48 < get_or digits 0 0)
 
@@ -275,8 +258,7 @@ value_after-least : (n : ℕ) (digits : List ℕ) → n ≤ digits_value_after 1
 value_after-least n [] = omega arith
 value_after-least n (digit ∷ digits) = omega (arith, value_after-least (n * 10 + std_digit_value digit) digits)
 
--- If digits are appended to a number above 0, the decimal text of the new number is that of the old
--- one, followed by these digits.
+-- Appended digits continue the decimal text of a number above 0.
 decimal_after : (n : ℕ) (digits : List ℕ) → 0 < n → AllDigits 10 digits → digits_value_after 10 n digits < 10 ^ 64
     → decimal (digits_value_after 10 n digits) ≡ decimal n ++ digits
 decimal_after n [] some all small = sym (append-nil (decimal n))
@@ -289,7 +271,7 @@ decimal_after n (digit ∷ digits) some all small =
     ∙ ap (λ text. text ++ digits) (decimal_step_wide m (omega arith) (omega (arith, value_after-least m digits)) ∙ (λ i. decimal (front i) ++ (end i ∷ [])))
     ∙ append_assoc (decimal n) (digit ∷ []) digits
 
--- Digits with no needless zero are the decimal text of their value.
+-- Digits without a needless zero are `decimal` of their value.
 decimal_of_digits : (digits : List ℕ) → IsNumeral 10 digits → IsFalse (has_needless_zero digits) → digits_value 10 digits < 10 ^ 64
     → digits ≡ decimal (digits_value 10 digits)
 decimal_of_digits [] numeral shortest small = absurd (omega (arith, numeral.0))
@@ -310,14 +292,14 @@ with_sign-injective true (suc m) zero h = absurd (cc)
 with_sign-injective true (suc m) (suc n) h = cc
 with_sign-injective false m n h = cc
 
--- If digits with no needless zero write a number of magnitude n, they are `decimal n`.
+-- So are those that write a number of magnitude n.
 decimal_only : (int : IntType) → IsSized int → (is_negative : Bool) (digits : List ℕ) (n : ℕ)
     → DigitsWrite int is_negative digits (with_sign is_negative n) → IsFalse (has_needless_zero digits) → digits ≡ decimal n
 decimal_only int sized is_negative digits n h shortest =
     decimal_of_digits digits h.numeral shortest (lt_of_le_of_lt h.in_range (bound_below-64 int sized is_negative))
     ∙ ap decimal (sym (with_sign-injective is_negative n (digits_value 10 digits) h.value_is))
 
--- If x is in the range of the type, `signed_decimal x` writes x.
+-- In range, `signed_decimal x` writes x.
 signed_writes : (int : IntType) → IsSized int → (takes_plus : Bool) (x : ℤ) → least_of int ≤ℤ x → x ≤ℤ pos int.greatest → TextWrites int takes_plus (signed_decimal x) x
 signed_writes int sized takes_plus (pos n) low high = record {
   sign = no_sign;
@@ -338,13 +320,12 @@ signed_writes int sized takes_plus (negsuc n) low high =
       written = decimal_writes int sized true (suc n) (omega (arith, within.1));
     }
 
--- If x is not 0 and is the negative of n, its text is a minus followed by `decimal n`.
+-- A negative number is a minus and its decimal text.
 minus_text : (x : ℤ) (n : ℕ) → x ≢ pos 0 → x ≡ neg_ℤ (pos n) → 45 ∷ decimal n ≡ signed_decimal x
 minus_text x zero some is = absurd (some is)
 minus_text x (suc n) some is = rw is refl
 
--- If a text without a plus writes x, has no needless zero, and has no minus if x is 0, then that
--- text is `signed_decimal x`.
+-- A text without plus, needless zero or minus zero is `signed_decimal`.
 signed_only : (int : IntType) → IsSized int → (s : List ℕ) (x : ℤ) (text : TextWrites int false s x)
     → IsFalse (has_needless_zero text.digits) → (is_minus text.sign ≡ true → x ≢ pos 0) → s ≡ signed_decimal x
 signed_only int sized s x text shortest some =

@@ -90,8 +90,7 @@ module _ (t : Table) (ten : IsBelowTen t) where
 
 -- ---- The loop that skips zeros
 
--- The state of the loop before it loads a window at offset `at`: one load for each 16 of the zeros
--- skipped, and one more if the last window began with fewer.
+-- Before a load at offset `at`: one load for 16 skipped zeros each, and one for fewer at the end.
 pub record Skipping (t : Table) (skip : Bool) (s : List ℕ) (at before now : ℕ) : Type 0 where
   pub bounded : at ≤ zeros t s
   pub within : at ≤ length s
@@ -103,8 +102,7 @@ pub record Skipping (t : Table) (skip : Bool) (s : List ℕ) (at before now : �
 pub Skipping-none : (t : Table) (skip : Bool) (s : List ℕ) (n : ℕ) → Skipping t skip s 0 n n
 Skipping-none t skip s n = record { bounded = omega arith; within = omega arith; off = λ _. refl; most = omega arith; least = omega arith; offset_is = inl (omega arith) }
 
--- The state after the loop, whose last window was loaded at offset `at`. If zeros are skipped and
--- the window is full, it begins at the first significant digit.
+-- After the loop: the last window is at `at`, and if full begins with a significant digit.
 pub record Skipped (t : Table) (skip : Bool) (s : List ℕ) (at before now : ℕ) (w : Window) : Type 0 where
   pub window : Shows t 16 (drop at s) w
   pub within : at ≤ length s
@@ -131,7 +129,7 @@ Skipped-loads after_skip more counted bounded few = record {
   at_least_skipping = λ on. omega (arith, after_skip.least on);
 }
 
--- Of a narrow prefix: one window, and a second to count digits that are not skipped.
+-- A narrow prefix: one window, and a second to count unskipped digits.
 pub Skipped-one : (t : Table) (skip : Bool) (s : List ℕ) (at before now last : ℕ) {w : Window} → Skipped t skip s at before now w →
     now ≡ before + 1 → last ≡ now + (if skip || nat_lt (run_len t s) 16 then 0 else 1) → LoadsWithin (most_loads t narrow s) 2 t skip s before last
 Skipped-one t true s at before now last after_skip one counted = record {

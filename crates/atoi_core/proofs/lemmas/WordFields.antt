@@ -1,5 +1,4 @@
--- Words as lists of fields, which are groups of neighbouring bits: how products sum them, and what
--- bitwise operators do to each.
+-- Words as lists of fields: how products sum them, what bitwise operators do to each.
 use Rattle.std.proofs.Common.{◌≡◌, ℕ, zero, suc, ◌+◌, ◌-◌, ◌*◌, ◌/◌, ◌%◌, ◌^◌, ◌<◌, ◌≤◌, List, [], ◌∷◌, length, refl, sym, ap, ap₂, ◌∙◌, arith, lit<, map, inl, inr, cond, ◌==◌, mod-lt}
 use Rattle.std.proofs.lemmas.List.{length-map}
 use Rattle.std.proofs.Math.Nat.{add-mul-div_right, div-div-eq-div-mul, mul_comm, zero-mod, suc-mul, mul-le-mul_right, mul_assoc, pow-zero, pow-suc, suc-add, zero-add, mul-one, mod-eq_of_lt, pow-le-pow_right, div-one, add_comm, eq-zero-or-pos}
@@ -14,10 +13,9 @@ use Rattle.std.specs.List.{prefix_len}
 use Rattle.std.specs.Int.Count.{count_trailing_zeros, under}
 
 -- ---- One round of a weighted sum
--- A round masks each field of h + h bits to its lower half, multiplies by 1 + t * 2^(h + h), and
--- drops the lowest field: digits of base t are joined in pairs.
+-- A round joins neighbouring digits of base t: a mask, a product by 1 + t * 2^(h + h), a shift.
 
--- The lower halves of the lowest k fields of h + h bits, the lowest field first.
+-- The lower halves of k fields, lowest first.
 abbrev pub lower_halves : ℕ → ℕ → ℕ → List ℕ
 lower_halves h zero word = []
 lower_halves h (suc k) word = (word % 2 ^ h) ∷ lower_halves h k (word / 2 ^ (h + h))
@@ -32,7 +30,7 @@ abbrev pub twice : ℕ → ℕ
 twice zero = zero
 twice (suc m) = suc (suc (twice m))
 
--- Neighbouring digits of base t, joined in pairs. The first digit of a pair is the higher one.
+-- Neighbouring digits in pairs, the higher one first.
 abbrev pub pairs : ℕ → List ℕ → List ℕ
 pairs t [] = []
 pairs t (x ∷ []) = x ∷ []
@@ -42,7 +40,7 @@ pairs t (x ∷ y ∷ rest) = (y + x * t) ∷ pairs t rest
 half_below : (h : ℕ) → 2 ^ h - 1 < 2 ^ (h + h)
 half_below h = let le : 2 ^ h ≤ 2 ^ (h + h) = pow_mono (omega arith) in omega (arith, ones_lt h)
 
--- The mask keeps the lower half of the lowest field, and of the fields above it.
+-- The mask keeps the lower half of each field.
 mask_step : (h k word : ℕ) → bit_and word (masks h (suc k)) ≡ bit_and (word / 2 ^ (h + h)) (masks h k) * 2 ^ (h + h) + word % 2 ^ h
 mask_step h k word =
     let b = 2 ^ (h + h) in
@@ -72,8 +70,7 @@ product_shifted b t word pos =
     let e : word * (1 + t * b) ≡ word + word * t * b = omega arith in
     ap (λ x. x / b) e ∙ add-mul-div_right word (word * t) pos
 
--- Spreading adds to the field g above f the product f * t, and to the field above g the product g *
--- t.
+-- Spreading adds to each field the one below times t.
 spread_pair : (b t u f g : ℕ) → f < b → spread b t ((u * b + g) * b + f) ≡ spread b t u * (b * b) + ((u % b + g * t) * b + (g + f * t))
 unfolding spread
 spread_pair b t u f g below =
@@ -84,7 +81,7 @@ spread_pair b t u f g below =
     let e : ((u * b + g) * b + f) / b ≡ u * b + g = div-mul-add (u * b + g) b f below in
     ap (λ x. x + ((u * b + g) * b + f) * t) (e ∙ ap (λ x. x * b + g) (sym split)) ∙ omega arith
 
--- What a round does to all fields, if the sum of a pair fits in a field.
+-- A round on all fields, if a sum fits in one.
 module _ (h t : ℕ) (room : (2 ^ h - 1) * (1 + t) < 2 ^ (h + h)) where
   -- The sum of a pair fits in a field.
   two_digits : (f g : ℕ) → f < 2 ^ h → g < 2 ^ h → g + f * t < 2 ^ (h + h)
@@ -93,7 +90,7 @@ module _ (h t : ℕ) (room : (2 ^ h - 1) * (1 + t) < 2 ^ (h + h)) where
       let f_most : f * t ≤ (2 ^ h - 1) * t = mul-le-mul_right t (omega arith) in
       omega arith
 
-  -- After a masked word is spread, its fields of double size have the sums of the pairs.
+  -- The spread word has the sums of pairs.
   spread_masked : (m word : ℕ) → lower_halves (h + h) m (spread (2 ^ (h + h)) t (bit_and word (masks h (twice m)))) ≡ pairs t (lower_halves h (twice m) word)
   spread_masked zero word = refl
   spread_masked (suc m) word =
@@ -122,7 +119,7 @@ module _ (h t : ℕ) (room : (2 ^ h - 1) * (1 + t) < 2 ^ (h + h)) where
       ∙ div-mul-add (spread b t u) b (u % b + g * t) carried in
       ap₂ (λ x xs. x ∷ xs) low (ap (lower_halves (h + h) m) high ∙ spread_masked m rest)
 
--- Cutting a word to m fields before a shift by g bits does not change the lower halves after it.
+-- A cut before a shift does not change the lower halves.
 shift_cut : (g m word : ℕ) → lower_halves g m (word % 2 ^ (m * (g + g)) / 2 ^ g) ≡ lower_halves g m (word / 2 ^ g)
 shift_cut g zero word = refl
 shift_cut g (suc m) word =
@@ -140,7 +137,7 @@ shift_cut g (suc m) word =
     swap (word % 2 ^ (suc m * (g + g))) ∙ ap (λ x. x / w / b) cut ∙ ap (λ x. x / b) (div-mul-add rest w (word % w) (mod-lt word (pow_pos (g + g)))) in
     ap₂ (λ x xs. x ∷ xs) low (ap (lower_halves g m) high ∙ shift_cut g m (word / w) ∙ ap (lower_halves g m) (sym (swap word)))
 
--- A round turns 2 * m lower halves into the sums of m pairs.
+-- A round turns 2 * m lower halves into m sums.
 pub round : (h t : ℕ) → (2 ^ h - 1) * (1 + t) < 2 ^ (h + h) → (m word : ℕ)
     → lower_halves (h + h) m (bit_and word (masks h (twice m)) * (1 + t * 2 ^ (h + h)) % 2 ^ (m * ((h + h) + (h + h))) / 2 ^ (h + h)) ≡ pairs t (lower_halves h (twice m) word)
 round h t room m word =
@@ -149,7 +146,7 @@ round h t room m word =
     ∙ ap (lower_halves (h + h) m) (product_shifted (2 ^ (h + h)) t kept (pow_pos (h + h)))
     ∙ spread_masked h t room m word
 
--- The number that digits spell in base t, the highest digit first.
+-- What digits spell in base t, the highest first.
 abbrev pub in_base : ℕ → List ℕ → ℕ
 in_base t [] = 0
 in_base t (digit ∷ digits) = digit * t ^ length digits + in_base t digits
@@ -163,14 +160,14 @@ length-pairs : (h t m word : ℕ) → length (pairs t (lower_halves h (twice m) 
 length-pairs h t zero word = refl
 length-pairs h t (suc m) word = ap suc (length-pairs h t m (word / 2 ^ (h + h) / 2 ^ (h + h)))
 
--- A power of t * t is the power of t with twice the exponent.
+-- A power of t * t.
 power_of_square : (t m : ℕ) → (t * t) ^ m ≡ t ^ twice m
 power_of_square t zero = pow-zero (t * t) ∙ sym (pow-zero t)
 power_of_square t (suc m) =
     pow-suc (t * t) m ∙ ap (λ x. x * (t * t)) (power_of_square t m) ∙ sym (mul_assoc (t ^ twice m) t t)
     ∙ ap (λ x. x * t) (sym (pow-suc t (twice m))) ∙ sym (pow-suc t (suc (twice m)))
 
--- Joining digits in pairs does not change the number that they spell.
+-- Joined pairs spell the same number.
 in_base-pairs : (h t m word : ℕ) → in_base (t * t) (pairs t (lower_halves h (twice m) word)) ≡ in_base t (lower_halves h (twice m) word)
 in_base-pairs h t zero word = refl
 in_base-pairs h t (suc m) word =
@@ -192,8 +189,7 @@ pub round_number : (h t : ℕ) → (2 ^ h - 1) * (1 + t) < 2 ^ (h + h) → (m wo
     → in_base (t * t) (lower_halves (h + h) m (bit_and word (masks h (twice m)) * (1 + t * 2 ^ (h + h)) % 2 ^ (m * ((h + h) + (h + h))) / 2 ^ (h + h))) ≡ in_base t (lower_halves h (twice m) word)
 round_number h t room m word = ap (in_base (t * t)) (round h t room m word) ∙ in_base-pairs h t m word
 
--- ---- Fields of a word
--- The fields of a word are its lowest digits in a base that is a power of two.
+-- ---- Fields of a word are its digits in a base 2^k
 
 -- The list of the lowest k fields has k elements.
 pub length-digits : (base k word : ℕ) → length (digits_l base k word) ≡ k
@@ -212,7 +208,7 @@ digits_cut g (suc k) word =
     (ap (λ x. x % b) cut ∙ mod-mul-add (word / b % 2 ^ (k * g)) b (word % b) small)
     (ap (λ x. digits_l b k (x / b)) cut ∙ ap (digits_l b k) (div-mul-add (word / b % 2 ^ (k * g)) b (word % b) small) ∙ digits_cut g k (word / b))
 
--- Bytes of 0 below the others do not change the weighted sum.
+-- Lowest bytes of 0 keep the weighted sum.
 pub low_value_shifted : (z k word : ℕ) → low_value (digits_l 256 (z + k) (word * 2 ^ (z * 8))) ≡ low_value (digits_l 256 k word)
 low_value_shifted zero k word = ap₂ (λ c x. low_value (digits_l 256 c x)) (zero-add k) (mul-one word)
 low_value_shifted (suc z) k word =
@@ -225,7 +221,7 @@ low_value_shifted (suc z) k word =
     ∙ omega arith
     ∙ low_value_shifted z k word
 
--- The weighted sum is what the lower halves of the bytes spell in base ten.
+-- The weighted sum is what the lower halves spell.
 in_base-low_value : (k word : ℕ) → in_base 10 (lower_halves 4 k word) ≡ low_value (digits_l 256 k word)
 in_base-low_value zero word = refl
 in_base-low_value (suc k) word =
@@ -234,7 +230,7 @@ in_base-low_value (suc k) word =
     ap₂ (λ x n. x * 10 ^ n + in_base 10 (lower_halves 4 k (word / 256))) half places
     ∙ ap (λ y. (word % 256 % 16) * 10 ^ length (digits_l 256 k (word / 256)) + y) (in_base-low_value k (word / 256))
 
--- If the lowest `len` bytes are shifted to the top, the weighted sum of the word is theirs.
+-- The lowest `len` bytes, shifted to the top, keep their sum.
 pub shifted_value : (k count len word : ℕ) → k ≡ (count - len) * 8 → len ≤ count
     → low_value (low_bytes count (word * 2 ^ k % 2 ^ (count * 8))) ≡ low_value (low_bytes len word)
 unfolding low_bytes
@@ -249,7 +245,7 @@ shifted_sum : (k count len word : ℕ) → k ≡ (count - len) * 8 → len ≤ c
 unfolding low_bytes
 shifted_sum k count len word e le = in_base-low_value count (word * 2 ^ k % 2 ^ (count * 8)) ∙ shifted_value k count len word e le
 
--- Masking each byte to its lower half does not change the weighted sum.
+-- A mask to lower halves keeps the weighted sum.
 pub low_value_halves : (bytes : List ℕ) → low_value (map (λ b. bit_and b 15) bytes) ≡ low_value bytes
 low_value_halves [] = refl
 low_value_halves (byte ∷ bytes) =
@@ -258,13 +254,12 @@ low_value_halves (byte ∷ bytes) =
     ∙ ap (λ v. (byte % 16) * 10 ^ length bytes + v) (low_value_halves bytes)
 
 -- ---- Weighted sums of eight and of sixteen bytes
--- Eight bytes take three rounds, sixteen take four.
 
--- A word that fits in half a field is its only digit.
+-- A word below half a field is its only digit.
 one_field : (base half word : ℕ) → word < 2 ^ half → in_base base (lower_halves half 1 word) ≡ word
 one_field base half word below = omega (arith, mod-eq_of_lt below, ap (λ p. word % 2 ^ half * p) (pow-zero base))
 
--- After two rounds, two fields spell the weighted sum of at most 8 bytes in base 10000.
+-- After two rounds, two fields spell the sum in base 10000.
 two_rounds : (val len : ℕ) → len ≤ 8
     → let ones = val * 2 ^ (64 - 8 * len) % 2 ^ 64 in
     let tens = bit_and ones 0x0F0F_0F0F_0F0F_0F0F * 0xA01 % 2 ^ 64 / 2 ^ 8 in
@@ -325,7 +320,7 @@ sum_16 val len most =
     ∙ round_number 4 10 (lit< tt) 8 ones
     ∙ shifted_sum (128 - 8 * len) 16 len val (omega arith) most
 
--- A lower half is at most 15, so a weighted sum is at most 15 times the number 11..1.
+-- The sum of lower halves is at most 15 times 11..1.
 places_most : (bytes : List ℕ) → 9 * low_value bytes + 15 ≤ 15 * 10 ^ length bytes
 places_most [] = omega arith
 places_most (byte ∷ bytes) =
@@ -348,7 +343,7 @@ abbrev pub repeated : ℕ → ℕ → ℕ
 repeated b zero = 0
 repeated b (suc k) = repeated b k * 256 + b
 
--- An operator that acts separately on high and on low bits acts separately on each field.
+-- An operator that splits into low and high bits acts on each field.
 module _ (op : ℕ → ℕ → ℕ)
     (high : (a b g : ℕ) → op a b / 2 ^ g ≡ op (a / 2 ^ g) (b / 2 ^ g))
     (low : (a b g : ℕ) → op a b % 2 ^ g ≡ op (a % 2 ^ g) (b % 2 ^ g)) where
@@ -357,7 +352,7 @@ module _ (op : ℕ → ℕ → ℕ)
   op_fields g (suc k) a b =
       ap₂ (λ x xs. x ∷ xs) (low a b g) (ap (digits_l (2 ^ g) k) (high a b g) ∙ op_fields g k (a / 2 ^ g) (b / 2 ^ g))
 
-  -- A second word that repeats b acts on each byte of the first as b does.
+  -- A repeated b acts on each byte as b does.
   pub op_repeated : (b : ℕ) → b < 256 → (k a : ℕ) → digits_l 256 k (op a (repeated b k)) ≡ map (λ x. op x b) (digits_l 256 k a)
   op_repeated b fits zero a = refl
   op_repeated b fits (suc k) a =
@@ -375,7 +370,7 @@ and_repeated = op_repeated bit_and and_shr and_mod
 pub xor_repeated : (b : ℕ) → b < 256 → (k a : ℕ) → digits_l 256 k (bit_xor a (repeated b k)) ≡ map (λ x. bit_xor x b) (digits_l 256 k a)
 xor_repeated = op_repeated bit_xor xor_shr xor_mod
 
--- A shift by four bits and a mask move each upper half to the lower half.
+-- A shift by four bits and a mask give the upper halves.
 pub upper_halves : (k a : ℕ) → digits_l 256 k (bit_and (a / 16) (repeated 15 k)) ≡ map (λ x. x / 16) (digits_l 256 k a)
 upper_halves k a = and_repeated 15 (omega arith) k (a / 16) ∙ halves k a
   where
@@ -386,18 +381,17 @@ upper_halves k a = and_repeated 15 (omega arith) k (a / 16) ∙ halves k a
         ap₂ (λ x xs. x ∷ xs) (and_mask (a / 16 % 256) 4 ∙ omega arith)
         (ap (λ x. map (λ y. bit_and y 15) (digits_l 256 k x)) next ∙ halves k (a / 256))
 
--- ---- Trailing zero bits
--- Trailing zero bits, divided by eight, count the lowest bytes that are 0.
+-- ---- Trailing zero bits by eight count the lowest bytes of 0
 
--- A field of a + 1 bits is its lowest bit and the a bits above it.
+-- A field is its lowest bit and the others.
 lowest_bit : (a n : ℕ) → n % 2 ^ suc a ≡ (n / 2 % 2 ^ a) * 2 + n % 2
 lowest_bit a n = ap (λ e. n % 2 ^ e) (sym (add-one a)) ∙ mod-pow-add n a 1
 
--- Dropping one bit and then a bits is dropping a + 1 bits.
+-- Dropping a + 1 bits, one first.
 halves : (a n : ℕ) → n / 2 / 2 ^ a ≡ n / 2 ^ suc a
 halves a n = div-div-eq-div-mul n 2 (2 ^ a) ∙ ap (λ m. n / m) (mul_comm 2 (2 ^ a) ∙ sym (pow-suc 2 a))
 
--- If the lowest a bits are 0, all are counted, and the count goes on.
+-- If the lowest a bits are 0, the count goes on.
 zero_field : (a b n : ℕ) → n % 2 ^ a ≡ 0 → count_trailing_zeros (a + b) n ≡ a + count_trailing_zeros b (n / 2 ^ a)
 unfolding count_trailing_zeros
 zero_field zero b n e = ap₂ count_trailing_zeros (zero-add b) (sym (div-one n)) ∙ sym (zero-add (count_trailing_zeros b (n / 1)))
@@ -410,7 +404,7 @@ zero_field (suc a) b n e =
     ∙ ap suc (zero_field a b (n / 2) rest ∙ ap (λ x. a + count_trailing_zeros b x) (halves a n))
     ∙ sym (suc-add a (count_trailing_zeros b (n / 2 ^ suc a)))
 
--- If one of them is set, the count is less than a.
+-- If one is set, the count is below a.
 stopping_field : (a b n : ℕ) → 0 < n % 2 ^ a → count_trailing_zeros (a + b) n < a
 unfolding count_trailing_zeros
 stopping_field zero b n some = absurd (omega (arith, mod-lt n (pow_pos 0)))
@@ -430,7 +424,7 @@ stopping_field (suc a) b n some = go (n % 2) refl (stopping_field a b (n / 2))
         let is : count_trailing_zeros (suc a + b) n ≡ 0 = bits ∙ ap (λ d. under d (count_trailing_zeros (a + b) (n / 2))) e in
         omega arith
 
--- Trailing zero bits of k bytes, divided by eight, count the leading bytes of 0.
+-- Of k bytes, they count the leading bytes of 0.
 pub trailing_bytes : (k word : ℕ) → count_trailing_zeros (k * 8) word / 8 ≡ prefix_len (λ b. b == 0) (digits_l 256 k word)
 unfolding count_trailing_zeros
 trailing_bytes zero word = refl

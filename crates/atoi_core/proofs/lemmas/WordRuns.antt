@@ -1,4 +1,4 @@
--- How many digits and zeros a word begins with, counted from its lowest byte.
+-- How many digits and zeros a word begins with.
 use Rattle.std.proofs.Common.{◌≡◌, ℕ, zero, suc, ◌+◌, ◌*◌, ◌/◌, ◌%◌, ◌^◌, ◌<◌, ◌≤◌, ◌-◌, Bool, true, false, cond, ◌==◌, List, [], ◌∷◌, map, refl, sym, ap, ap₂, ◌∙◌, arith, mod-lt, zero-lt-suc}
 use Rattle.std.proofs.Math.Dec.{lit<}
 use Rattle.std.proofs.lemmas.Bool.{agree_below_at}
@@ -27,13 +27,13 @@ prefix_len-map p f (x ∷ xs) = ap (λ n. cond (p (f x)) (1 + n) 0) (prefix_len-
 combined_is_zero : (b : ℕ) → b < 256 → (bit_xor b 48 == 0) ≡ is_zero decimal_table b
 combined_is_zero b h = agree_below_at (λ x. bit_xor x 48 == 0) (is_zero decimal_table) 256 b refl h
 
--- Two tests that agree on each byte pass as many leading bytes.
+-- Tests that agree on each byte pass equally far.
 prefix_len-agree : (p q : ℕ → Bool) → ((b : ℕ) → b < 256 → p b ≡ q b) → (k word : ℕ) → prefix_len p (digits_l 256 k word) ≡ prefix_len q (digits_l 256 k word)
 prefix_len-agree p q agree zero word = refl
 prefix_len-agree p q agree (suc k) word =
     ap₂ (λ b n. cond b (1 + n) 0) (agree (word % 256) (mod-lt word (zero-lt-suc 255))) (prefix_len-agree p q agree k (word / 256))
 
--- Trailing zero bits after a xor with 48, divided by 8, count the zeros.
+-- After a xor with 48, trailing zero bits count the zeros.
 pub zeros_counted : (k word : ℕ) → count_trailing_zeros (k * 8) (bit_xor word (repeated 48 k)) / 8 ≡ zeros decimal_table (low_bytes k word)
 unfolding low_bytes
 zeros_counted k word =
@@ -44,7 +44,7 @@ zeros_counted k word =
 
 -- ---- Counting digits
 
--- Lengths that are 0 unless a test passes are equal if they are equal where it passes.
+-- Lengths that are 0 unless a test passes, and equal where it does.
 run_goes_on : (t : Bool) (m n : ℕ) → (t ≡ true → m ≡ n) → cond t (1 + m) 0 ≡ cond t (1 + n) 0
 run_goes_on true m n e = ap (λ x. 1 + x) (e refl)
 run_goes_on false m n e = refl
@@ -61,8 +61,8 @@ changed f g op [] ys = refl
 changed f g op (x ∷ xs) [] = refl
 changed f g op (x ∷ xs) (y ∷ ys) = ap (λ zs. op (f x) (g y) ∷ zs) (changed f g op xs ys)
 
--- An addition to each byte in one operation on the word. The lowest byte changes as it would alone
--- (`low`), and a digit carries nothing to the bytes above it (`rest`).
+-- An addition to each byte at once: exact for the lowest byte (`low`), and a digit carries nothing
+-- (`rest`).
 record Change : Type 0 where
   of_word : ℕ → ℕ → ℕ
   of_byte : ℕ → ℕ
@@ -73,7 +73,7 @@ record Change : Type 0 where
 abbrev unchanged : Change
 unchanged = record { of_word = λ k word. word; of_byte = λ b. b; low = λ k word. refl; rest = λ k word e. refl }
 
--- The change that adds c to each byte; below 199, no digit carries.
+-- Adds c to each byte; below 199, no digit carries.
 abbrev added : (c : ℕ) → c < 199 → Change
 added c h =
     record {
@@ -83,7 +83,7 @@ added c h =
       rest = λ k word e. let digit = digit_in_range (word % 256) e in omega arith;
     }
 
--- Adding this constant, with wrap, subtracts 48 from each of k bytes.
+-- This constant subtracts 48 from each of k bytes.
 abbrev pub without_48 : ℕ → ℕ
 without_48 zero = 1
 without_48 (suc k) = 256 * without_48 k - 48
@@ -105,8 +105,7 @@ lowered =
           omega arith;
     }
 
--- Two changed words make a mark for each byte. If it is 0 exactly for digits, the leading marks of
--- 0 count the digits: they are right up to the first byte that is no digit.
+-- A mark per byte, 0 exactly for digits up to the first other byte.
 module _ (first second : Change) (mark : ℕ → ℕ → ℕ)
     (digit_byte : (b : ℕ) → b < 256 → (mark (first.of_byte b) (second.of_byte b) == 0) ≡ is_digit decimal_table b) where
   carried_run : (k word : ℕ)
@@ -130,7 +129,7 @@ kernel_mark raised byte = bit_xor (bit_or (raised / 16) (bit_and byte 240)) 51
 kernel_byte : (b : ℕ) → b < 256 → (kernel_mark ((b + 6) % 256) b == 0) ≡ is_digit decimal_table b
 kernel_byte b h = agree_below_at (λ x. kernel_mark ((x + 6) % 256) x == 0) (is_digit decimal_table) 256 b refl h
 
--- Trailing zero bits of these marks, divided by 8, count the digits.
+-- Trailing zero bits of these marks count the digits.
 pub digits_counted : (k word : ℕ)
     → count_trailing_zeros (k * 8) (bit_xor (bit_or (bit_and ((word + repeated 6 k) % 2 ^ (k * 8) / 16) (repeated 15 k)) (bit_and word (repeated 240 k))) (repeated 51 k)) / 8
     ≡ run_len decimal_table (low_bytes k word)
@@ -160,7 +159,7 @@ engine_byte : (b : ℕ) → b < 256 → (engine_mark ((b + 70) % 256) ((b + 208)
 engine_byte b h =
     agree_below_at (λ x. engine_mark ((x + 70) % 256) ((x + 208) % 256) == 0) (is_digit decimal_table) 256 b refl h
 
--- Trailing zero bits of the engine's marks, divided by 8, count the digits.
+-- So do those of the engine's marks.
 pub marks_counted : (k word : ℕ)
     → count_trailing_zeros (k * 8) (bit_and (bit_or ((word + repeated 70 k) % 2 ^ (k * 8)) ((word + without_48 k) % 2 ^ (k * 8))) (repeated 128 k)) / 8
     ≡ run_len decimal_table (low_bytes k word)
@@ -198,7 +197,7 @@ lowered_zeros (suc k) word =
     ∙ run_goes_on (is_zero decimal_table byte) now (prefix_len (is_zero decimal_table) (digits_l 256 k (word / 256)))
     (λ e. ap (λ x. prefix_len (λ b. b == 0) (digits_l 256 k x)) (lowered.rest k word (zero_is_digit byte fits e)) ∙ lowered_zeros k (word / 256))
 
--- Trailing zero bits of the difference, divided by 8, count the zeros.
+-- Those of the difference count the zeros.
 pub lowered_zeros_counted : (k word : ℕ) → count_trailing_zeros (k * 8) ((word + without_48 k) % 2 ^ (k * 8)) / 8 ≡ zeros decimal_table (low_bytes k word)
 unfolding low_bytes
 lowered_zeros_counted k word =
@@ -206,16 +205,16 @@ lowered_zeros_counted k word =
     ∙ ap (prefix_len (λ b. b == 0)) (digits_cut 8 k (word + without_48 k))
     ∙ lowered_zeros k word
 
--- If n + 1 leading elements pass a test, the first does, and n after it.
+-- If n + 1 elements pass, so does the first, then n.
 pub first_passes : (t : Bool) (n m : ℕ) → suc n ≤ cond t (1 + m) 0 → (t ≡ true) × (n ≤ m)
 first_passes true n m h = (refl, omega arith)
 first_passes false n m h = absurd (omega arith)
 
--- The lower half of a digit's byte is the byte minus 48.
+-- A digit's lower half is the byte minus 48.
 lower_half : (b : ℕ) → is_digit decimal_table b ≡ true → bit_and b 15 ≡ (b + 208) % 256
 lower_half b digit = and_mask b 4 ∙ (let range = digit_in_range b digit in omega arith)
 
--- If the lowest k bytes are digits, subtracting 48 leaves their lower halves.
+-- Subtracting 48 from k digits leaves their lower halves.
 lowered_digits : (j k word : ℕ) → k ≤ prefix_len (is_digit decimal_table) (digits_l 256 (k + j) word)
     → (word + without_48 (k + j)) % 2 ^ (k * 8) ≡ bit_and (word % 2 ^ (k * 8)) (repeated 15 k)
 lowered_digits j zero word digits = omega (arith, and_zero_r (word % 2 ^ (zero * 8)))
@@ -233,7 +232,7 @@ lowered_digits j (suc k) word digits =
     ∙ ap (λ x. bit_and x (repeated 15 (suc k))) (sym (mod-pow-add word (k * 8) 8))
     ∙ ap (λ e. bit_and (word % 2 ^ e) (repeated 15 (suc k))) (sym bits)
 
--- The mask of the lower halves and a shift by whole bytes can be applied in either order.
+-- A mask and a shift by whole bytes commute.
 shifted_halves : (z k word : ℕ) → bit_and word (repeated 15 k) * 2 ^ (z * 8) ≡ bit_and (word * 2 ^ (z * 8)) (repeated 15 (z + k))
 shifted_halves zero k word =
     let one : bit_and word (repeated 15 k) * 2 ^ (zero * 8) ≡ bit_and word (repeated 15 k) = omega arith in
@@ -246,7 +245,7 @@ shifted_halves (suc z) k word =
     ∙ omega (arith, shifted_halves z k word, and_block 8 (word * 2 ^ (z * 8)) (repeated 15 (z + k)) 0 15 (lit< tt) (lit< tt))
     ∙ ap₂ (λ x n. bit_and x (repeated 15 n)) (sym next) (sym (suc-add z k))
 
--- A cut to j + z bits after a shift by z bits is a cut to j bits before it.
+-- A cut after a shift by z bits is one before it.
 pub shift_cut : (a j z : ℕ) → a * 2 ^ z % 2 ^ (j + z) ≡ a % 2 ^ j * 2 ^ z
 shift_cut a j z =
     let p = 2 ^ z in
@@ -255,8 +254,7 @@ shift_cut a j z =
     let low : a * p % p ≡ 0 = ap (λ x. x % p) none ∙ mod-mul-add a p 0 (pow_pos z) in
     mod-pow-add (a * p) j z ∙ ap₂ (λ x y. x % 2 ^ j * p + y) high low ∙ omega arith
 
--- For digits that are shifted to the top of the word, subtracting 48 from each is masking each to
--- its lower half.
+-- For digits at the top of a word, subtracting 48 is the mask.
 pub lowered_at_top : (len word : ℕ) → len ≤ 8 → len ≤ run_len decimal_table (low_bytes 8 word)
     → (word + without_48 8) % 2 ^ 64 * 2 ^ (64 - 8 * len) % 2 ^ 64 ≡ bit_and (word * 2 ^ (64 - 8 * len) % 2 ^ 64) (repeated 15 8)
 unfolding low_bytes
@@ -276,7 +274,7 @@ lowered_at_top len word few digits =
     ∙ shifted_halves z len (word % 2 ^ (len * 8))
     ∙ ap₂ (λ x n. bit_and x (repeated 15 n)) (sym (cut word)) (add_comm z len ∙ all)
 
--- So each byte of the shifted word is below 16, and its weighted sum is that of the digits.
+-- The shifted bytes are below 16, and keep the sum.
 pub lowered_value : (len word ones : ℕ) → len ≤ 8 → len ≤ run_len decimal_table (low_bytes 8 word) → ones ≡ (word + without_48 8) % 2 ^ 64 * 2 ^ (64 - 8 * len) % 2 ^ 64
     → (bit_and ones (repeated 15 8) ≡ ones) × (low_value (low_bytes 8 ones) ≡ low_value (low_bytes len word))
 unfolding low_bytes

@@ -25,7 +25,7 @@ above_zero-digit x h = (grind (arith, nat_tests), grind (arith, nat_tests))
 abbrev pub GivesDigitValues : (ℕ → ℕ) → Type 0
 GivesDigitValues f = (x : ℕ) → is_digit decimal_table x ≡ true → (f x ≡ digit_value decimal_table x) × (f x < 10)
 
--- Such an f, applied to n digits, makes n numbers below ten that spell their value.
+-- Such an f makes n digits numbers below ten that spell their value.
 pub digits_value : (f : ℕ → ℕ) → GivesDigitValues f → (n : ℕ) (v : List ℕ) → n ≤ run_len decimal_table v
     → (value itself (take n (map f v)) ≡ value decimal_table (take n v)) × Each1 (λ x. x < 10) (take n (map f v))
 digits_value f makes zero v h = (refl, tt)
@@ -45,7 +45,7 @@ pub below_after_zeros : (n : ℕ) (xs : List ℕ) → Each1 (λ x. x < 10) xs �
 below_after_zeros zero xs h = h
 below_after_zeros (suc n) xs h = (omega arith, below_after_zeros n xs h)
 
--- The first n lanes, which hold digits, less 48 each and moved to the end, spell their value.
+-- The first n lanes, less 48 and moved to the end, spell their value.
 pub moved_values : (n : ℕ) (v lanes : List ℕ) → n ≤ 16 → length v ≡ 16 → n ≤ run_len decimal_table v
     → lanes ≡ take 16 (drop n (padded (zip2 (λ x y. (x + (2 ^ 8 - y)) % 2 ^ 8) v (replicate 16 48))))
     → (value itself lanes ≡ value decimal_table (take n v)) × Each1 (λ x. x < 10) lanes

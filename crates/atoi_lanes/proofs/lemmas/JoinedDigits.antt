@@ -1,5 +1,4 @@
--- Neighbouring digits of base t, joined to digits of base t * t, spell the same number. Three
--- products over the lanes join sixteen digits to two of base 10^8.
+-- Neighbouring digits of base t, joined to base t * t, spell the same number.
 use Rattle.std.proofs.Common.{◌≡◌, ℕ, zero, suc, ◌+◌, ◌*◌, ◌/◌, ◌%◌, ◌^◌, ◌<◌, ◌≤◌, List, [], ◌∷◌, map, length, take, get_or, refl, sym, ap, ap₂, subst, ◌∙◌, arith, Fits, w16}
 use Rattle.std.specs.List.{range_with_len}
 use Rattle.std.specs.Int.Bits.{bit_and}
@@ -23,8 +22,7 @@ length-paired t m (x ∷ []) long = absurd (omega arith)
 length-paired t zero (x ∷ y ∷ rest) long = absurd (omega arith)
 length-paired t (suc m) (x ∷ y ∷ rest) long = ap suc (length-paired t m rest (omega arith))
 
--- Sixteen digits, joined three times, are two numbers of eight digits. The first is the value of
--- the first eight digits, and both together are the value of all.
+-- Sixteen digits, joined three times, are two numbers of eight digits.
 abbrev Spelled : List ℕ → Type 0
 Spelled xs =
     let eights = paired 10000 (paired 100 (paired 10 xs)) in
@@ -49,8 +47,7 @@ number-digits p (suc n) x some lt =
     let above : x / p < p ^ n = (div-lt_iff_lt-mul {k = p} some).1 (omega (arith, pow-suc p n)) in
     ap (λ m. x % p + p * m) (number-digits p n (x / p) some above) ∙ omega (arith, div-add-mod x p)
 
--- A step that joins the two digits in each field joins all neighbouring digits. The first digit of
--- a field is in its lower half.
+-- A step on each field joins all neighbouring digits.
 join_lanes : (p t : ℕ) (step : ℕ → ℕ) → t ≤ p → ((x y : ℕ) → x < t → y < t → step (y * p + x) ≡ x * t + y)
     → (m : ℕ) (xs : List ℕ) → length xs ≡ m + m → Each1 (λ x. x < t) xs → map step (digits_l (p * p) m (number_l p xs)) ≡ paired t xs
 join_lanes p t step le joins zero [] long h = refl
@@ -69,15 +66,14 @@ join_lanes p t step le joins (suc m) (x ∷ y ∷ rest) long h =
 recast : (p n : ℕ) (xs : List ℕ) → p ^ length xs ≡ 256 ^ n → Each1 (λ x. x < p) xs → number_l 256 (digits_l 256 n (number_l p xs)) ≡ number_l p xs
 recast p n xs same h = number-digits 256 n (number_l p xs) (omega arith) (omega (arith, same, number-lt p xs h))
 
--- What the third product computes in a lane of 64 bits: its lower half times 10,000, plus its upper
--- half.
+-- The third product: the lower half times 10,000, plus the upper half.
 abbrev eight : ℕ → ℕ
 eight field = (bit_and field 4294967295 * 10000 % 2 ^ 64 + field / 2 ^ 32) % 2 ^ 64
 
 eight-joins : (x y : ℕ) → x < 10000 → y < 10000 → eight (y * 2 ^ 32 + x) ≡ x * 10000 + y
 eight-joins x y a b = rw (and_mask (y * 2 ^ 32 + x) 32) (omega arith)
 
--- The weights of the bytes in `m` groups of two lanes, each with a pair of digits in its upper byte.
+-- The weights of m groups of two lanes.
 abbrev hundreds : ℕ → List ℕ
 hundreds zero = []
 hundreds (suc m) = 0 ∷ 100 ∷ 0 ∷ 1 ∷ hundreds m
@@ -89,7 +85,7 @@ four_each (suc m) = suc (suc (suc (suc (four_each m))))
 abbrev upper : ℕ → ℕ
 upper lane = lane / 256
 
--- With these weights `dots` joins neighbouring pairs to numbers of four digits.
+-- With these weights `dots` joins pairs to four digits.
 weighed : (m : ℕ) (xs : List ℕ) → length xs ≡ m + m → Each1 (Fits w16) xs
     → dots (digits_l 256 (four_each m) (number_l 65536 xs)) (hundreds m) ≡ paired 100 (map upper xs)
 weighed zero [] long h = refl

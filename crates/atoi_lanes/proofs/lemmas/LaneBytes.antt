@@ -13,7 +13,7 @@ use lib.Lanes.{Each1, digits_l, number_l}
 pub bytes : (s : List ℕ) → ((i : ℕ) → get_or s i 0 < 256) → Each1 (λ x. x < 256) s
 bytes s fits = Each1-from_get_or (λ x. x < 256) s 0 (λ i _. fits i)
 
--- The lowest n bytes of a word are the word of its first n bytes.
+-- The lowest n bytes of a word: its first n.
 pub word_start : (n : ℕ) (s : List ℕ) → ((i : ℕ) → get_or s i 0 < 256) → word_of s % 2 ^ (n * 8) ≡ word_of (take n s)
 unfolding word_of
 word_start zero s fits = omega arith
@@ -24,8 +24,7 @@ word_start (suc n) (b ∷ bs) fits =
     ap (λ e. word % 2 ^ e) (suc-mul n 8) ∙ mod-pow-add word (n * 8) 8
     ∙ ap₂ (λ x y. x % 2 ^ (n * 8) * 256 + y) parts.1 parts.0 ∙ omega (arith, word_start n bs (λ i. fits (suc i)))
 
--- The lowest n bytes of the word of `xs` are the first n of `xs`, and zeros after them if there are
--- fewer.
+-- The lowest n bytes of the word of `xs`, padded with zeros.
 digits-of_bytes : (n m : ℕ) (xs : List ℕ) → Each1 (λ x. x < 256) xs → n ≤ length xs + m → digits_l 256 n (number_l 256 xs) ≡ take n (xs ++ replicate m 0)
 digits-of_bytes zero m xs h room = refl
 digits-of_bytes (suc n) zero [] h room = absurd (omega arith)
@@ -39,7 +38,7 @@ pub lanes-of_bytes : (m : ℕ) (xs : List ℕ) → Each1 (λ x. x < 256) xs → 
 unfolding word_of
 lanes-of_bytes m xs h room = digits-of_bytes 16 m xs h room
 
--- The words of the first eight bytes and of the others, of fewer than 16, make the 16 lanes.
+-- Two words of a slice below 16 bytes make 16 lanes.
 pub lanes-of_words : (s : List ℕ) → ((i : ℕ) → get_or s i 0 < 256) → length s < 16
     → digits_l 256 16 (number_l (2 ^ 64) (word_of (take 8 s) ∷ word_of (take 8 (drop 8 s)) ∷ [])) ≡ padded_start 16 s
 lanes-of_words s fits few =

@@ -26,7 +26,7 @@ window-of_lanes s = lanes_show 16 s
 pub window-of_half_the_lanes : (s : List ℕ) → lane_window 8 (padded_start 16 (take 8 s)) ≡ window_of decimal_table 8 s
 window-of_half_the_lanes s = lanes_show 8 (take 8 s) ∙ ap (lane_window 8) (take_all 16 (take 8 s) (omega (arith, length-take 8 s)))
 
--- The window of fewer than 16 bytes is a reading of 32, but for the zeros, which it does not report.
+-- A window below 16 bytes is a reading of 32, without its zeros.
 pub reading-of_few : (s : List ℕ) (w : Window) → length s < 16 → w ≡ window_of decimal_table 16 s
     → Reading decimal_table 32 s w.len (zeros decimal_table (take 32 s)) w.number
 reading-of_few s w few e =
@@ -37,7 +37,7 @@ reading-of_few s w few e =
       number_is = ap (λ v. v.number) e ∙ ap (λ l. value decimal_table (run decimal_table l)) all;
     }
 
--- What the lanes of the first 16 bytes begin with is a reading of these bytes.
+-- The lanes of 16 bytes give a reading of these.
 pub reading-of_lanes : (s lanes : List ℕ) (len number : ℕ) → lanes ≡ padded_start 16 s → len ≡ run_len decimal_table lanes
     → number ≡ value decimal_table (take len lanes) → Reading decimal_table 16 s len (zeros decimal_table lanes) number
 reading-of_lanes s lanes len number loaded digits writes =
@@ -50,6 +50,6 @@ reading-of_lanes s lanes len number loaded digits writes =
           ∙ ap (value decimal_table) (prefix-padded (is_digit decimal_table) 16 s (replicate 16 0));
     }
 
--- With at least 32 bytes, those after the first 16 fill a vector.
+-- With at least 32 bytes, those after 16 fill a vector.
 pub after_all : (s : List ℕ) → 32 ≤ length s → take 16 (drop 16 s) ≡ padded_start 16 (drop 16 s)
 after_all s enough = sym (take-append-le 16 (drop 16 s) (replicate 16 0) (omega (arith, length-drop 16 s)))

@@ -1,4 +1,4 @@
--- The mask of a comparison counts the leading lanes that pass a test.
+-- A mask counts the leading lanes that pass a test.
 use Rattle.std.proofs.Common.{◌≡◌, ℕ, zero, suc, ◌+◌, ◌-◌, ◌*◌, ◌/◌, ◌%◌, ◌^◌, ◌<◌, Bool, true, false, cond, List, [], ◌∷◌, map, length, drop, Fits, w8, w64, refl, sym, ap, ap₂, ◌∙◌, arith, pow_pos}
 use Rattle.std.specs.Int.{trailing_ones}
 use Rattle.std.specs.List.{prefix_len}
@@ -21,8 +21,7 @@ trailing-odd : (k n : ℕ) → count_trailing_zeros (suc k) (2 * n + 1) ≡ 0
 unfolding count_trailing_zeros
 trailing-odd k n = let lowest : (2 * n + 1) % 2 ≡ 1 = omega arith in rw lowest
 
--- The trailing zero bits of the complement are the leading lanes that pass, if there are fewer
--- than k lanes.
+-- Trailing zero bits of the complement, if fewer than k lanes pass.
 trailing-complement : (p : ℕ → Bool) (k : ℕ) (xs : List ℕ) → length xs < k → count_trailing_zeros k ((2 ^ k - 1) - mask_l (map p xs)) ≡ prefix_len p xs
 trailing-complement p zero xs h = absurd (omega arith)
 trailing-complement p (suc k) [] h =
@@ -46,7 +45,7 @@ map-agree : (p q : ℕ → Bool) → agree_below p q 256 ≡ true → (xs : List
 map-agree p q all [] fits = refl
 map-agree p q all (x ∷ xs) fits = ap₂ (λ b bs. b ∷ bs) (agree_below_at p q 256 x all fits.0.fits) (map-agree p q all xs fits.1)
 
--- If the top bit of `f x` is set exactly where x passes, f makes the mask of the lanes that pass.
+-- A top bit set exactly where x passes makes this mask.
 pub mask-of_lanes : (q : ℕ → Bool) (v : List ℕ) (f : ℕ → ℕ) (z : List ℕ) → length v < 64 → Each1 (Fits w8) v → z ≡ map f v
     → agree_below (λ x. top 7 (f x)) q 256 ≡ true → mask_l (map (top 7) z) % 2 ^ 64 ≡ mask_l (map q v)
 mask-of_lanes q v f z long fits lanes all =
@@ -58,7 +57,7 @@ mask-of_lanes q v f z long fits lanes all =
 pub ones-of_mask : (q : ℕ → Bool) (v : List ℕ) → length v < 64 → (mask : ℕ) → mask ≡ mask_l (map q v) → trailing_ones w64 mask ≡ prefix_len q v
 ones-of_mask q v long mask is = ap (trailing_ones w64) is ∙ trailing-complement q 64 v (omega arith)
 
--- Without its lowest bits, a mask is the mask of the other lanes.
+-- Without its lowest bits, a mask of the other lanes.
 pub mask-drop : (k : ℕ) (ms : List Bool) → mask_l ms / 2 ^ k ≡ mask_l (drop k ms)
 mask-drop zero ms = ap (λ p. mask_l ms / p) (pow-zero 2) ∙ div-one (mask_l ms)
 mask-drop (suc k) [] = zero-div (2 ^ suc k)

@@ -1,11 +1,11 @@
--- Lanes of 0 after a short slice. 0 is no digit, so they change nothing that is read.
+-- Lanes of 0 after a short slice change nothing that is read.
 use Rattle.std.proofs.Common.{◌≡◌, ℕ, zero, suc, ◌+◌, ◌≤◌, min, Bool, false, cond, List, [], ◌∷◌, ◌++◌, length, take, replicate, refl, sym, ap, ◌∙◌, arith}
 use Rattle.std.specs.List.{prefix_len}
 use Rattle.std.proofs.lemmas.List.{length-take, take-append-le, take-take}
 use Rattle.std.proofs.lemmas.List.Sums.{prefix_len-le-length}
 use Rattle.atoi_core.proofs.lemmas.Runs.{prefix_len-take}
 
--- If 0 does not pass, zeros after a list do not change how many of its first elements pass.
+-- If 0 fails, zeros after a list do not change its start.
 pub prefix_len-before_zeros : (p : ℕ → Bool) → p 0 ≡ false → (n : ℕ) (s : List ℕ) → prefix_len p (s ++ replicate n 0) ≡ prefix_len p s
 prefix_len-before_zeros p none zero [] = refl
 prefix_len-before_zeros p none (suc n) [] = ap (λ b. cond b (1 + prefix_len p (replicate n 0)) 0) none

@@ -1,5 +1,4 @@
--- A slice of fewer than eight bytes in the first half of a vector, its last byte in the eighth lane.
--- The other lanes are 0.
+-- A slice below eight bytes at the end of the first half of a vector.
 use Rattle.std.proofs.Common.{◌≡◌, ℕ, zero, suc, ◌+◌, ◌-◌, ◌*◌, ◌/◌, ◌%◌, ◌^◌, ◌<◌, ◌≤◌, true, false, cond, List, [], ◌∷◌, ◌++◌, map, length, take, drop, replicate, get_or, refl, sym, ap, ap₂, subst, ◌∙◌, arith, Bool, w64}
 use Rattle.std.specs.Int.{trailing_ones}
 use Rattle.std.specs.Int.Bits.{bit_and}
@@ -44,7 +43,7 @@ half_of_word s h few =
     lanes-of_bytes 8 (replicate (8 - length s) 0 ++ s) (bytes-after_zeros (8 - length s) s h) (omega (arith, length-filled s few))
     ∙ take_all 16 (in_half s) (omega (arith, length-in_half s few))
 
--- Shifted left by `length s - len` bytes, it is the word of the first `len` bytes.
+-- Shifted left, it is the word of its first `len` bytes.
 shifted_word : (len : ℕ) (s : List ℕ) → ((i : ℕ) → get_or s i 0 < 256) → len ≤ length s → length s ≤ 8
     → word_of (replicate (8 - length s) 0 ++ s) * 2 ^ (8 * (length s - len)) % 2 ^ 64 ≡ word_of (replicate (8 - len) 0 ++ take len s)
 shifted_word len s fits le few =
@@ -84,7 +83,7 @@ all_pass p (x ∷ xs) h =
       | false ↦ λ more. absurd (omega (arith, more, h, count_by-le-length p xs))
     ]) (sum_by-cons (λ y. cond (p y) 1 0) x xs)
 
--- So if the mask has as many ones as the slice has bytes, all of these are digits.
+-- If the mask has as many ones as bytes, all are digits.
 counts_all : (s v : List ℕ) (mask : ℕ) → v ≡ in_half s → mask ≡ mask_l (map digit v) → count_ones mask ≡ length s → run_len decimal_table s ≡ length s
 counts_all s v mask is ones h = all_pass digit s (sym (ap count_ones ones ∙ ones-mask_l digit v ∙ ap (count_by digit) is ∙ count-in_half s) ∙ h)
 
@@ -92,7 +91,7 @@ drop-zeros : (n : ℕ) (s : List ℕ) → drop n (replicate n 0 ++ s) ≡ s
 drop-zeros zero s = refl
 drop-zeros (suc n) s = drop-zeros n s
 
--- The trailing ones after the bits of the lanes before the slice are the length of its run.
+-- The trailing ones after the lanes before the slice are its run.
 digits_first : (s v : List ℕ) (mask : ℕ) → length s ≤ 8 → v ≡ in_half s → mask ≡ mask_l (map digit v)
     → trailing_ones w64 (mask / 2 ^ (8 - length s)) ≡ run_len decimal_table s
 digits_first s v mask few is ones =
@@ -122,7 +121,7 @@ before_zeros zero [] h = tt
 before_zeros (suc n) [] h = (omega arith, before_zeros n [] h)
 before_zeros n (x ∷ xs) h = (h.0, before_zeros n xs h.1)
 
--- The lower halves of the lanes `v` are below ten, and the first eight spell the value of `s`.
+-- The lower halves are below ten, and spell the value.
 abbrev Written : List ℕ → List ℕ → Type 0
 Written s v = (value itself (take 8 (zip2 bit_and v (replicate 16 15))) ≡ value decimal_table s) × Each1 (λ x. x < 10) (zip2 bit_and v (replicate 16 15))
 
@@ -147,7 +146,7 @@ half_values s few digits v is =
       subst (Each1 (λ x. x < 10)) (sym lanes) (before_zeros 8 _ (below_after_zeros zeros values (subst (Each1 (λ x. x < 10)) whole known.1))),
     )
 
--- If the mask has as many ones as the slice has bytes, the run is the slice, and the lanes spell it.
+-- A full mask: the run is the slice, and the lanes spell it.
 pub all_digits : (s : List ℕ) → ((i : ℕ) → get_or s i 0 < 256) → length s < 8 → (word mask : ℕ) (v : List ℕ) → word ≡ word_of (replicate (8 - length s) 0 ++ s)
     → v ≡ digits_l 256 16 word → mask ≡ mask_l (map digit v) → count_ones mask ≡ length s
     → (length s ≡ run_len decimal_table s) × Written (run decimal_table s) v
@@ -157,7 +156,7 @@ all_digits s fits few word mask v loaded lanes ones count =
     let whole : run decimal_table s ≡ s = take_all (run_len decimal_table s) s (omega (arith, digits)) in
     (sym digits, subst (λ r. Written r v) (sym whole) (half_values s (omega arith) digits v is))
 
--- Otherwise the word is shifted left by the bytes after the run, and its lanes spell the run.
+-- Otherwise the shifted word's lanes spell the run.
 pub first_digits : (s : List ℕ) → ((i : ℕ) → get_or s i 0 < 256) → length s < 8 → (word mask len : ℕ) (v : List ℕ) → word ≡ word_of (replicate (8 - length s) 0 ++ s)
     → v ≡ digits_l 256 16 word → mask ≡ mask_l (map digit v) → len ≡ trailing_ones w64 (mask / 2 ^ (8 - length s))
     → (len ≡ run_len decimal_table s) × (len ≤ length s)

@@ -1,4 +1,4 @@
--- The shuffles: the lanes from a place of a vector between lanes of 0.
+-- Shuffles: lanes from a place of a vector between zeros.
 use Rattle.std.proofs.Common.{◌≡◌, ℕ, zero, suc, ◌+◌, ◌-◌, ◌*◌, ◌/◌, ◌<◌, ◌≤◌, ◌||◌, cond, List, [], ◌∷◌, ◌++◌, map, length, take, drop, replicate, get_or, refl, sym, ap, ap₂, ◌∙◌, arith, rules, w8}
 use Rattle.std.specs.List.{range_with_len}
 use Rattle.std.proofs.Math.Seq.{drop-append-add, take-append-add}
@@ -47,7 +47,7 @@ shuffle_ok p le =
     SwzOk-from_Each1 w8 16 1 16 0 (take 16 entries) refl (omega (arith, length-take 16 entries, length-drop p shifts))
     (Each1-chunk _ 0 16 entries (Each1-chunk _ p (48 - p) shifts each))
 
--- From place n on, the first n lanes are at the end.
+-- From place n on, the first n lanes are last.
 pub first_at_end : (n : ℕ) (v : List ℕ) → n ≤ 16 → length v ≡ 16 → take 16 (drop n (padded v)) ≡ replicate (16 - n) 0 ++ take n v
 first_at_end n v le long =
     let count : 16 ≡ length {A = ℕ} (replicate (16 - n) 0) + n = omega (arith, length-replicate {A = ℕ} (16 - n) 0) in
@@ -55,8 +55,7 @@ first_at_end n v le long =
     ∙ take-append-add (replicate (16 - n) 0) (v ++ replicate 16 0) n
     ∙ ap (λ l. replicate (16 - n) 0 ++ l) (take-append-le n v (replicate 16 0) (omega arith))
 
--- If the slice has 16 to 31 bytes, the lanes of its last 16 from place 48 - length s on are those
--- after its first 16.
+-- The last 16 of 16 to 31 bytes, from place 48 - length s on, are those after the first 16.
 pub after_first_16 : (s : List ℕ) → 16 ≤ length s → length s < 32 → take 16 (drop (48 - length s) (padded (take 16 (drop (length s - 16) s)))) ≡ padded_start 16 (drop 16 s)
 after_first_16 s enough short =
     let over : ℕ = 32 - length s in

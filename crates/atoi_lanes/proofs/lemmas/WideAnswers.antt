@@ -1,4 +1,4 @@
--- When the windows of 32 bytes that were read decide the answer, and how many loads that takes.
+-- When windows of 32 bytes decide, and how many loads that takes.
 use Rattle.std.proofs.Common.{◌≡◌, ℕ, ◌+◌, ◌<◌, Bool, true, false, cond, List, length, take, refl, sym, ap, ◌∙◌, arith, ◌-◌, ◌≤◌, drop, ◌⊎◌, ◌*◌, min, inl, inr, ◌^◌, eqb, subst, lit<}
 use Rattle.std.proofs.lemmas.List.{drop-drop, length-drop, take_rest}
 use Rattle.atoi_core.specs.Digit.{decimal_table}
@@ -14,7 +14,7 @@ use Rattle.std.proofs.lemmas.Bool.{cases_lt, false≢true}
 use Rattle.atoi_core.specs.Magnitude.{wide64, wide128, prefix_magnitude}
 use Rattle.atoi_lanes.specs.declared.window_32.Window32.{Window32}
 
--- If zeros are skipped but the loop is not entered, a full first window begins with no zero.
+-- A full first window without a loop begins with no zero to skip.
 pub first-ends : (skip : Bool) (len leading : ℕ) → len ≤ 32
     → ((skip ≡ true) × (0 < leading) × (len ≡ 32 → ⊥)) ⊎ (((skip ≡ true) × (leading ≤ 0)) ⊎ (skip ≡ false))
     → skip ≡ true → 32 ≤ len → leading ≡ 0
@@ -24,8 +24,7 @@ first-ends skip len leading most ends on full =
       | inr rest ↦ (elim rest [ inl none ↦ omega (arith, none.1) | inr off ↦ absurd (false≢true (sym off ∙ on)) ])
     ]
 
--- A first window that is not full of digits, or begins with no zero that is skipped, is the last.
--- The slice then begins with fewer than 32 zeros that are skipped.
+-- A first window that is the last: fewer than 32 zeros are skipped.
 pub only_window : (skip : Bool) (s : List ℕ) (len leading number : ℕ) → Reading decimal_table 32 s len leading number
     → (skip ≡ true → 32 ≤ len → leading ≡ 0) → ReadsAfterZeros skip s 0 len leading number × (skip ≡ true → zeros decimal_table s < 32)
 only_window skip s len leading number reading ends =
@@ -35,7 +34,7 @@ only_window skip s len leading number reading ends =
       λ on. elim (cases_lt len 32) [ inl less ↦ omega (arith, most.0, reported) | inr more ↦ omega (arith, ends on more, reported) ],
     )
 
--- One load, or two, are within all bounds if fewer than 32 zeros are skipped.
+-- Below 32 skipped zeros, one load or two are within all bounds.
 pub few_loads : (most unskipped : ℕ) (skip : Bool) (s : List ℕ) (before after : ℕ) → before < after → after ≤ before + unskipped → unskipped ≤ most
     → (skip ≡ true → zeros decimal_table s < 32) → LoadsWithin most unskipped decimal_table skip s before after
 few_loads most unskipped skip s before after one few room zeros_few =
@@ -43,7 +42,7 @@ few_loads most unskipped skip s before after one few room zeros_few =
 
 -- ---- Windows of 32 bytes decide the answers
 
--- The digits of a window are significant, but for its leading zeros if these are skipped.
+-- The digits of a window are significant, but for skipped zeros.
 significant_are : (skip : Bool) (len reported leading : ℕ) → reported ≤ len → ((skip ≡ true) × (leading ≡ reported)) ⊎ ((skip ≡ false) × (leading ≡ 0))
     → (significant_digits skip len reported ≡ len - leading) × (len - significant_digits skip len reported ≡ leading)
 significant_are true len reported leading most is = elim is [ inl h ↦ (omega (arith, h), omega (arith, h)) | inr h ↦ absurd (false≢true (sym h.0)) ]
@@ -65,8 +64,7 @@ decided_64 bound limit skip s at leading w few front is =
     ∙ ap (λ (n : ℕ). answer_by_digits wide64 bound limit (at + n) (significant_digits skip w.len w.zeroes) w.number s) count.1
     ∙ ap (λ (n : ℕ). answer_by_digits wide64 bound limit (at + leading) n w.number s) count.0)
 
--- For 128 bits, a full window and the 8 bytes after it decide the answer. The first three facts are
--- conditions of `answer_128`.
+-- For 128 bits, a full window and 8 bytes decide.
 pub decided_full : (bound : ℕ) (skip : Bool) (s : List ℕ) (at : ℕ) (w : Window32) (back : Window)
     → ReadsAfterZeros skip s at w.len w.zeroes w.number → 32 ≤ w.len
     → back ≡ window_of decimal_table 8 (take (length s - (at + 32)) (drop (at + 32) s))

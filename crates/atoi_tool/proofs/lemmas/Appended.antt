@@ -24,7 +24,7 @@ AppendsUpTo-trans old mid new whole part rest first second = (
   first.2 ∙ (ap (λ (back : List ℕ). first.0 ++ back) second.2 ∙ sym (append_assoc first.0 second.0 rest)),
 )
 
--- What is appended stays the same if both lists grow at the end.
+-- What is appended stays if both lists grow.
 pub AppendsUpTo-more : (old new : Option (List ℕ)) (whole rest more : List ℕ) → AppendsUpTo old new whole rest → AppendsUpTo old new (whole ++ more) (rest ++ more)
 AppendsUpTo-more old new whole rest more put =
     (put.0, put.1, ap (λ (all : List ℕ). all ++ more) put.2 ∙ append_assoc put.0 rest more)
@@ -39,7 +39,7 @@ AppendsPrefix-more old new xs more refused =
     let within : n ≤ length xs = omega (arith, refused.1) in
     (n, omega (arith, refused.1, length-append xs more), rw (take-append-le n xs more within) refused.2)
 
--- A proper prefix of the rest, after all before it, is a proper prefix of the whole.
+-- A proper prefix of the rest, after all before it, is one of the whole.
 pub AppendsPrefix-rest : (old mid new : Option (List ℕ)) (whole rest : List ℕ) → AppendsUpTo old mid whole rest → AppendsPrefix mid new rest → AppendsPrefix old new whole
 AppendsPrefix-rest old mid new whole rest put refused =
     let n = refused.0 in

@@ -9,22 +9,21 @@ use Rattle.atoi_tool.specs.Output.{newline, lines_of}
 abbrev is_newline : ℕ → Bool
 is_newline byte = byte == newline
 
--- An index that `position` finds is within the list, and `position_or_len` is that index.
+-- What `position` finds is within the list.
 found_at : (p : ℕ → Bool) (xs : List ℕ) (n : ℕ) → position p xs ≡ Some n → (position_or_len p xs ≡ n) × (n < length xs)
 found_at p xs n found = grind (arith, nat_tests)
 
--- If `position` finds nothing, then `position_or_len` is at least the length of the list.
+-- If it finds nothing, `position_or_len` is the length or more.
 none_found : (p : ℕ → Bool) (xs : List ℕ) → position p xs ≡ None → length xs ≤ position_or_len p xs
 none_found p xs absent = grind (arith, nat_tests)
 
--- If an input has a newline, its first line is the part before the first newline, and its other
--- lines are the lines of the part after that newline.
+-- The first line ends at the first newline, and the others follow.
 pub lines_of-newline : FirstField → (xs : List ℕ) (n : ℕ) → position is_newline xs ≡ Some n → lines_of xs ≡ take n xs ∷ lines_of (drop (n + 1) xs)
 lines_of-newline law xs n found =
     let at = found_at is_newline xs n found in
     subst (λ k. lines_of xs ≡ take k xs ∷ lines_of (drop (k + 1) xs)) at.0 (law newline xs (omega arith))
 
--- An input that has at least one byte but no newline is one line.
+-- A non-empty input without a newline is one line.
 pub lines_of-last : FirstField → (xs : List ℕ) → 0 < length xs → position is_newline xs ≡ None → lines_of xs ≡ xs ∷ []
 lines_of-last law xs some absent =
     let end = none_found is_newline xs absent in

@@ -1,4 +1,4 @@
--- Blanks before and after the digits in the value of a header.
+-- Blanks around the digits in a header's value.
 use Rattle.std.proofs.Common.{◌≡◌, ℕ, suc, true, false, List, [], ◌∷◌, ◌++◌, if◌then◌else◌, pos, refl, sym, ap, subst, ◌∙◌, arith, append-nil}
 use Rattle.std.specs.List.{AllPass}
 use Rattle.std.proofs.lemmas.Bool.{ne_eqb}
@@ -17,7 +17,7 @@ digit_kept : (digits rest : List ℕ) → BeginsWithDigit digits → without_bla
 digit_kept [] rest digit = absurd digit
 digit_kept (byte ∷ bytes) rest digit = rw (ne_eqb byte 32 (λ e. omega (arith, digit.0)), ne_eqb byte 9 (λ e. omega (arith, digit.0))) refl
 
--- A text consists of the blanks that it begins with, and what follows them.
+-- A text is its leading blanks and the rest.
 pub blanks_before : (text : List ℕ) → (before : List ℕ) × (AllPass is_blank before × (text ≡ before ++ without_blanks text))
 blanks_before [] = ([], (All-nil (λ byte. is_blank byte ≡ true), refl))
 blanks_before (byte ∷ bytes) =

@@ -5,9 +5,7 @@ use Rattle.std.proofs.lemmas.List.Sums.{sum_by_push}
 use Rattle.atoi_column.specs.Items.{Flaw}
 use Rattle.atoi_column.specs.Laws.{HaveRead, ItemsInTurn}
 
--- `left` are the items that are still to come, and `total` is the sum of the items before them,
--- which have been read. It is at most 2^64 multiplied by the number of the items that have been
--- read. This bound keeps the total from overflowing.
+-- `total` is the sum of the items before `left`; `room` keeps it from overflowing.
 pub record IsAddedUpTo (items left : List (Result ℤ Flaw)) (total : ℕ) : Type 0 where
   pub numbers : List ℕ
   pub read : HaveRead items (map pos numbers) left

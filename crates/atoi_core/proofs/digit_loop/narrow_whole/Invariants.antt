@@ -1,4 +1,4 @@
--- All bytes read so far are digits that spell `number`, which is within the bound.
+-- The bytes so far are digits, and `number` is within the bound.
 use Rattle.std.proofs.Common.{◌≡◌, ◌≤◌, ◌+◌, take, drop}
 use Rattle.atoi_core.specs.Digit.{decimal_table}
 use Rattle.atoi_core.specs.Run.{run_len, value}

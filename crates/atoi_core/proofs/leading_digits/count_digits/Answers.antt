@@ -1,4 +1,4 @@
--- The length of a window is that of the digits which are left, but at most 16.
+-- A window's length is the digits left, at most 16.
 use Rattle.std.proofs.Common.{◌≡◌, ℕ, ◌-◌, ◌≤◌, min, List, length, take, drop, ap, ◌∙◌, arith}
 use Rattle.std.proofs.lemmas.List.{take_rest}
 use Rattle.std.proofs.lemmas.List.Sums.{prefix_len-le-length}

@@ -1,4 +1,4 @@
--- All `at` bytes before the next load are digits, and each load read 16 of them.
+-- The first `at` bytes are digits, 16 for each load.
 use Rattle.std.proofs.Common.{◌≡◌, ◌+◌, ◌-◌, ◌*◌, ◌/◌, ◌≤◌, length}
 use Rattle.atoi_core.specs.Run.{run_len}
 use Rattle.atoi_core.proofs.leading_digits.count_digits.Given as goal

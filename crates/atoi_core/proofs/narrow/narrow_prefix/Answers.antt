@@ -1,4 +1,4 @@
--- A first window that reports no zeros to skip is the last one, and decides.
+-- A first window without zeros to skip decides.
 use Rattle.std.proofs.Common.{◌≡◌, ◌≤◌, ℕ, Bool, false, not, ◌&&◌, nat_lt, inl, inr, sym, ◌∙◌, ltb-false, arith}
 use Rattle.atoi_core.proofs.lemmas.Windows.{Skipped, Skipped-at_once, Skipped-first, Skipped-one}
 use Rattle.atoi_core.proofs.lemmas.LoopAnswers.{narrow_after_skip, answers_empty}
@@ -11,7 +11,7 @@ returns-then-window-eq0-clause-answer g c =
     c.window-window.ensures.window c.window-window.ensures.one_step (omega arith) in
     answers_empty _ _ _ _ _ _ _ _ _ _ after_skip (omega arith)
 
--- If zeros are not skipped and the body is not too long, it begins with at most 16 digits.
+-- Not skipped and not too long: at most 16 digits.
 few : (skip : Bool) (digits : ℕ) → false ≡ (not skip && nat_lt 16 digits) → skip ≡ false → digits ≤ 16
 few skip digits short counts = ltb-false 16 digits (rw counts at (sym short))
 

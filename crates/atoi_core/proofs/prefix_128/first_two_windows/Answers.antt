@@ -1,4 +1,4 @@
--- A first window that is not full holds the whole run, and no zeros are skipped before it.
+-- A first window that is not full holds the whole run.
 use Rattle.std.proofs.Common.{◌<◌, arith, lit<}
 use Rattle.atoi_core.proofs.lemmas.LoopAnswers.{answers_empty, answers_short}
 use Rattle.atoi_core.proofs.lemmas.Windows.{Skipped, Skipped-first, Skipped-loads}

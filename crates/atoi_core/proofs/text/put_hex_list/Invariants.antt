@@ -1,4 +1,4 @@
--- Each byte read so far is written after a comma and a space, in at most four bytes.
+-- Each byte so far takes at most four, with comma and space.
 use Rattle.std.proofs.Common.{◌≡◌, ◌+◌, ◌*◌, ◌≤◌, ◌++◌, take, codes}
 use Rattle.std.specs.List.{flat_map}
 use Rattle.atoi_core.specs.ErrorText.{hex_text}

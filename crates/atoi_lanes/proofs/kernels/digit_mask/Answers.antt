@@ -4,8 +4,7 @@ use Rattle.atoi_core.specs.Digit.{decimal_table, is_digit}
 use Rattle.atoi_lanes.proofs.lemmas.Masks.{mask-of_lanes}
 use Rattle.atoi_lanes.proofs.kernels.digit_mask.Goals as goal
 
--- The lane that the comparison of `a` with `b` returns: all bits are set if `a` is at most `b`, and
--- otherwise the lane is 0.
+-- A lane of a comparison: all bits set if `a` is at most `b`, otherwise 0.
 abbrev mask : (ℕ → ℕ → ℕ)
 mask a b = cond (leb a b) 255 0
 

@@ -1,5 +1,4 @@
--- If all bytes are digits, the number is computed from the lanes as they were loaded. Otherwise the
--- bytes after the run are shifted out first.
+-- If all bytes are digits, their lanes are summed as loaded; otherwise the rest is shifted out.
 use Rattle.std.proofs.Common.{◌∙◌}
 use Rattle.atoi_lanes.proofs.lemmas.ShortLanes.{all_digits, first_digits}
 use Rattle.atoi_lanes.proofs.kernels.read_short.Goals as goal

@@ -1,4 +1,4 @@
--- If the slice begins with fewer digits than the limit, these digits decide the answer.
+-- Fewer digits than the limit decide.
 use Rattle.std.proofs.Common.{sym, ◌∙◌, arith}
 use Rattle.std.proofs.lemmas.Bool.Decides.{nat_tests}
 use Rattle.atoi_core.specs.Digit.{decimal_table}

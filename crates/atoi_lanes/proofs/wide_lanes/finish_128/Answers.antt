@@ -1,4 +1,4 @@
--- The 8 bytes after a window that is full of digits decide the answer with it.
+-- A full window and the 8 bytes after it decide.
 use Rattle.std.proofs.Common.{◌∙◌}
 use Rattle.atoi_lanes.proofs.lemmas.WideAnswers.{decided_full}
 use Rattle.atoi_lanes.proofs.wide_lanes.finish_128.Goals as goal

@@ -1,4 +1,4 @@
--- If no zeros are skipped, the first window of 32 bytes is also the last one.
+-- Without skipping, the first window is the last.
 use Rattle.std.proofs.Common.{arith}
 use Rattle.atoi_core.proofs.lemmas.Readings.{within}
 use Rattle.atoi_core.specs.Digit.{decimal_table}

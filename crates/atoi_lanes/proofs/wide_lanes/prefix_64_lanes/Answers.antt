@@ -1,5 +1,4 @@
--- A slice of fewer than 16 bytes, or one that begins with fewer digits than the limit, is decided by
--- one window. If no zeros are skipped, the first window is the last one too.
+-- One window decides below 16 bytes, or with fewer digits than the limit.
 use Rattle.std.proofs.Common.{arith}
 use Rattle.std.proofs.lemmas.List.Sums.{prefix_len-le-length}
 use Rattle.atoi_core.proofs.lemmas.Readings.{within}

@@ -1,5 +1,4 @@
--- A window that is not the last begins with a zero, so only the last one can begin with fewer than
--- 32 of the zeros that are left.
+-- Only the last window can begin with fewer than 32 zeros.
 use Rattle.std.proofs.Common.{◌<◌, ◌≤◌, ◌∙◌, arith, inl, inr}
 use Rattle.std.proofs.lemmas.List.{length-drop, take_rest}
 use Rattle.std.proofs.lemmas.List.Sums.{prefix_len-le-length}

@@ -1,5 +1,4 @@
--- The zeros before `at` took one load for each 32, and one more if fewer than 32 came last. The
--- load of the first window, before the call, is among these loads.
+-- One load for 32 zeros each before `at`, and one for fewer; the first window's load counts.
 use Rattle.std.proofs.Common.{◌≡◌, ◌+◌, ◌-◌, ◌*◌, ◌<◌, ◌≤◌, min, length}
 use Rattle.atoi_core.specs.Digit.{decimal_table}
 use Rattle.atoi_core.specs.Run.{zeros}

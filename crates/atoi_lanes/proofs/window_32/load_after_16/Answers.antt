@@ -1,4 +1,4 @@
--- The last 16 bytes of a slice of 16 to 31 contain all bytes after the first 16.
+-- The last 16 of 16 to 31 bytes contain those after the first 16.
 use Rattle.std.proofs.Common.{◌∙◌}
 use Rattle.atoi_lanes.proofs.lemmas.LaneWindows.{after_all}
 use Rattle.atoi_lanes.proofs.lemmas.Shuffles.{after_first_16}

@@ -1,5 +1,4 @@
--- The digits and zeros that are counted in the lanes, and the number that the digits spell, are a
--- reading of the first 32 bytes.
+-- What the lanes count and spell is a reading of 32 bytes.
 use Rattle.std.proofs.Common.{refl, ◌∙◌, arith}
 use Rattle.atoi_core.proofs.lemmas.Readings.{widened, join_readings}
 use Rattle.atoi_core.specs.Digit.{decimal_table}

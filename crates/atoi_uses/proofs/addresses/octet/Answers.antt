@@ -1,4 +1,4 @@
--- A text is accepted exactly if it is the decimal text of an octet, so a needless zero is refused.
+-- A text is accepted exactly if it is an octet's decimal text.
 use Rattle.std.proofs.Common.{false, decimal, pos, refl, sym, ap, ◌∙◌, arith}
 use Rattle.std.proofs.lemmas.Bool.{both_ways}
 use Rattle.atoi_simd.specs.Text.{has_needless_zero}

@@ -7,7 +7,7 @@ use Rattle.atoi_simd.specs.Text.{DigitsWrite, PrefixWrites, has_needless_zero}
 use Rattle.atoi_uses.specs.Versions.{dot}
 use Rattle.atoi_uses.proofs.addresses.octet_and_dot.Goals as goal
 
--- If a text begins with an octet and a dot, the number that was found at its start is this octet.
+-- Before a dot, the number found is the octet.
 found_octet : DecimalTexts u8_type → PrefixesAndRests u8_type → (text rest : List ℕ) (n octet count : ℕ) → n < 2 ^ 8 → text ≡ decimal n ++ dot ∷ rest
     → PrefixWrites (DigitsWrite u8_type false) text (pos octet) count → (pos n ≡ pos octet) × ((take count text ≡ decimal n) × (drop count text ≡ dot ∷ rest))
 found_octet decimals prefixes text rest n octet count fits same =

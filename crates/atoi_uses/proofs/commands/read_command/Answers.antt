@@ -1,5 +1,4 @@
--- A line is accepted exactly if it is a command. For any other line, the error says why the line is
--- no command.
+-- A line is accepted exactly if it is a command, and an error says why not.
 use Rattle.std.proofs.Common.{◌≡◌, Ok, ap, sym, subst, rules, w64}
 use Rattle.std.proofs.lemmas.Int.{to_z-of_z}
 use Rattle.atoi_uses.specs.Commands.{IsCommand}

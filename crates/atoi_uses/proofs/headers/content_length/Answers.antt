@@ -1,5 +1,4 @@
--- If a length is returned, the value consists of it and of blanks. If none is returned, the value
--- is no length.
+-- A returned length has only blanks around it; none means no length.
 use Rattle.std.proofs.Common.{◌≡◌, ℕ, ◌==◌, List, [], ◌++◌, length, take, drop, pos, refl, sym, ap, subst, ◌∙◌, append-nil}
 use Rattle.std.specs.List.{AllPass}
 use Rattle.std.proofs.lemmas.Bool.{both_ways, eqb-true}

@@ -1,5 +1,4 @@
--- The loop invariant: only blanks were dropped before `rest`, so `without_blanks` returns the same
--- for `rest` as for the whole text.
+-- Only blanks were dropped before `rest`.
 use Rattle.std.proofs.Common.{◌≡◌, length}
 use Rattle.atoi_uses.specs.Headers.{without_blanks}
 use Rattle.atoi_uses.proofs.headers.without_blanks.Given as goal

@@ -1,4 +1,4 @@
--- The loop invariant holds at the start, and each number that is added keeps it.
+-- The invariant holds at the start, and after each number.
 use Rattle.std.proofs.Common.{◌≡◌, ◌^◌, ◌<◌, ◌≤◌, [], ◌∷◌, ◌++◌, length, length-append, ℤ, pos, ◌+ℤ◌, FitsSigned, to_z, of_z, w64, Ok, refl, sym, ap, ◌∙◌, arith, rules}
 use Rattle.std.specs.Int.{w128}
 use Rattle.std.proofs.lemmas.Int.{ints}

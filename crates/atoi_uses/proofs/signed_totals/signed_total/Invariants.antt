@@ -1,5 +1,4 @@
--- The loop invariant: `total` is the sum of the numbers read so far. If `n` numbers have been read,
--- the magnitude of `total` is at most 2^63 multiplied by `n`.
+-- `total` is the sum so far, at most 2^63 for each number.
 use Rattle.std.proofs.Common.{◌≡◌, ◌*◌, ◌^◌, List, length, ℤ, pos, neg_ℤ, ◌≤ℤ◌}
 use Rattle.atoi_core.specs.IntType.{i64_type}
 use Rattle.atoi_column.specs.Items.{items_of}

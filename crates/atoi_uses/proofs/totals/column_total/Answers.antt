@@ -1,4 +1,4 @@
--- The loop keeps its invariant, and an error is that of the first bad field.
+-- The loop keeps its invariant; an error is the first bad field's.
 use Rattle.std.proofs.Common.{◌≡◌, ◌∷◌, map, pos, Ok, Err, ap, ◌∙◌, rules}
 use Rattle.atoi_core.specs.IntType.{u64_type}
 use Rattle.atoi_column.specs.Items.{item_of, items_of, flaw_of}

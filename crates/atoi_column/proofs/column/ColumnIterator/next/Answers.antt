@@ -1,4 +1,4 @@
--- In each case `next` gives the first of the items left, and leaves the others.
+-- `next` gives the first item left, and leaves the others.
 use Rattle.std.proofs.Common.{◌≡◌, ◌∷◌, length, sym, ap, ◌∙◌, arith}
 use Rattle.std.proofs.lemmas.List.{take_rest}
 use Rattle.std.proofs.lemmas.Bool.Decides.{nat_tests}

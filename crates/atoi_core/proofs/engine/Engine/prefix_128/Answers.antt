@@ -1,4 +1,4 @@
--- When the loop ends, `Skipped` holds, and the answers and the loads follow from it.
+-- After the loop `Skipped` holds, and gives answers and loads.
 use Rattle.std.proofs.Common.{◌≤◌, ◌∙◌, ap, refl, arith, lit<, length, drop}
 use Rattle.std.proofs.lemmas.List.{take_rest}
 use Rattle.std.proofs.lemmas.List.Sums.{prefix_len-le-length}

@@ -1,4 +1,4 @@
--- When the loop ends, `Skipped` holds, and the answers and the loads follow from it.
+-- After the loop `Skipped` holds, and gives answers and loads.
 use Rattle.std.proofs.Common.{◌≡◌, ◌+◌, ◌*◌, ◌^◌, ◌≤◌, ◌∙◌, refl, arith, length, drop}
 use Rattle.atoi_core.specs.Magnitude.{wide64, prefix_magnitude}
 use Rattle.atoi_core.specs.Reading.{answer_by_digits}

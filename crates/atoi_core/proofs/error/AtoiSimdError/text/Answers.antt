@@ -1,4 +1,4 @@
--- The text of an error is ASCII, because the texts of its numbers and its slice are.
+-- The text is ASCII, since its parts are.
 use Rattle.std.proofs.Common.{arith}
 use Rattle.std.proofs.lemmas.Fmt.{IsAscii-decimal_wide}
 use Rattle.atoi_core.proofs.lemmas.ErrorTexts.{IsAscii-size_text, IsAscii-overflow_text, IsAscii-invalid64_text, IsAscii-invalid128_text}

@@ -1,5 +1,4 @@
--- The body of `tick` is empty: the proof closes the borrow with fields that the `view` reads as one
--- more.
+-- The body is empty: the borrow ends with fields that the `view` reads as one more.
 use Rattle.std.proofs.Common.{◌≡◌, ℕ, ◌+◌, List, [], ◌∷◌, refl, ap}
 use Rattle.std.proofs.raw_atomic.Walks.{proved}
 use mir.Syntax.{named}

@@ -1,5 +1,4 @@
--- A first window that reports no zeros to skip is the last one. If it is full, it decides with the
--- 8 bytes after it.
+-- A first window without zeros to skip decides, if full with the 8 bytes after it.
 use Rattle.std.proofs.Common.{◌≡◌, ◌⊎◌, ◌≤◌, true, false, inl, inr, refl, ◌∙◌, arith, drop}
 use Rattle.std.proofs.lemmas.List.Sums.{prefix_len-le-length}
 use Rattle.atoi_core.specs.Digit.{decimal_table, is_digit}
