@@ -14,6 +14,6 @@ without_empty_last [] = []
 without_empty_last (piece ∷ []) = if length piece == 0 then [] else piece ∷ []
 without_empty_last (piece ∷ next ∷ pieces) = piece ∷ without_empty_last (next ∷ pieces)
 
--- The pieces between the separators; a last piece that is empty is no field.
+-- The pieces between separators; an empty last piece is no field.
 abbrev pub fields_of : (separator : ℕ) → List ℕ → List (List ℕ)
 fields_of separator input = without_empty_last (slice_split (λ byte. byte == separator) input)

@@ -1,4 +1,4 @@
--- The items of a column: a value for each field, up to the first field that is refused.
+-- The items of a column: values, up to the first refused field.
 use Rattle.std.specs.Prelude.{ℕ, ◌+◌, true, ℤ, Result, Ok, Err, List, [], ◌∷◌, length, drop}
 use Rattle.atoi_core.specs.Refusal.{Refusal, refusal_of}
 use Rattle.atoi_core.specs.IntType.{IntType}
@@ -7,8 +7,8 @@ use Rattle.atoi_column.specs.declared.error.ColumnError.{ColumnError}
 use Rattle.atoi_column.specs.declared.error.ColumnError.TheVariants.{Field, Trailing}
 use Rattle.atoi_column.specs.Fields.{fields_of}
 
--- Why a field is refused: its index from 0, an offset in the input, and for `field` the reason.
--- `field` has the offset of its first byte, `trailing` that of the byte after its number.
+-- Why a field is refused: its index, an offset, and for `field` the reason. The offset is that of
+-- the field, or for `trailing` of the byte after its number.
 pub data Flaw : Type 0 where
   field : ℕ → ℕ → Refusal → Flaw
   trailing : ℕ → ℕ → Flaw
@@ -26,18 +26,18 @@ abbrev pub flaw_of : ColumnError → Flaw
 flaw_of (Field index place cause) = field index place (refusal_of cause)
 flaw_of (Trailing index place) = trailing index place
 
--- An item as contracts see it; `number` gives the integer that a value of the type means.
+-- An item as contracts see it; `number` gives a value's integer.
 abbrev pub item_of : {T : Type 0} → (T → ℤ) → Result T ColumnError → Result ℤ Flaw
 item_of number (Ok value) = Ok (number value)
 item_of number (Err error) = Err (flaw_of error)
 
--- The flaw of a refused field, by the answer of `parse_prefix` from the field's first byte on.
+-- The flaw of a refused field, from the answer of `parse_prefix`.
 abbrev pub flaw_at : (index place : ℕ) → Result (ℤ × ℕ) Refusal → Flaw
 flaw_at index place (Ok found) = trailing index (place + found.1)
 flaw_at index place (Err reason) = field index place reason
 
--- The items of a list of fields, whose first has the index `index` and begins at the offset `place`.
--- `rest` is the input from there on. `whole` answers a field, `prefix` the input from its first byte.
+-- The items of fields, the first with index `index` at offset `place`. `rest` is the input from
+-- there; `whole` answers a field, `prefix` the input.
 abbrev pub items_from : (whole : List ℕ → Result ℤ Refusal) (prefix : List ℕ → Result (ℤ × ℕ) Refusal)
     → (index place : ℕ) → (rest : List ℕ) → List (List ℕ) → List (Result ℤ Flaw)
 items_from whole prefix index place rest [] = []
@@ -47,7 +47,7 @@ items_from whole prefix index place rest (text ∷ texts) =
       | Err reason ↦ Err (flaw_at index place (prefix rest)) ∷ []
     ]
 
--- The items of what is still to be read: `rest`, from the offset `place` on.
+-- The items still to be read: `rest`, from offset `place` on.
 unfoldable pub items_left : IntType → (separator index place : ℕ) → List ℕ → List (Result ℤ Flaw)
 items_left int separator index place rest =
     items_from (parse_answer int true true) (parse_prefix_answer int true true) index place rest (fields_of separator rest)

@@ -2,7 +2,7 @@
 use Rattle.std.specs.Prelude.{◌≡◌, ℕ, ◌+◌, ◌^◌, ◌<◌, ◌≤◌, true, List, length}
 use Rattle.atoi_column.specs.Fields.{is_separator}
 
--- The field of index `index` begins at the offset `place`, where `rest` begins.
+-- The field `index` begins at offset `place`, where `rest` begins.
 pub record IsPosition (separator index place : ℕ) (rest : List ℕ) : Type 0 where
   pub separates : is_separator separator ≡ true
   pub fewer : index ≤ place

@@ -9,7 +9,7 @@ abbrev pub sum_below : ℕ → (ℕ → ℕ) → ℕ
 sum_below zero f = 0
 sum_below (suc n) f = sum_below n f + f n
 
--- The sum of the digit values, each times `10 ^ k` if `k` digits follow it.
+-- Each digit value times `10 ^ k`, if `k` digits follow it.
 abbrev pub closed_value : Table → List ℕ → ℕ
 closed_value table s = sum_below (length s) (λ i. digit_value table (slice_index s i) * 10 ^ (length s - 1 - i))
 

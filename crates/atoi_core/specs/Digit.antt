@@ -1,7 +1,7 @@
 -- Which bytes are digits, and their digit values.
 use Rattle.std.specs.Prelude.{ℕ, ◌-◌, ◌<◌, ◌&&◌, Bool, Option, Some, None, nat_le, ◌==◌, unwrap_or, is_some, if◌then◌else◌}
 
--- The digit value of each byte, or `None` if the byte is no digit.
+-- Each byte's digit value, or `None` for no digit.
 abbrev pub Table : Type 0
 Table = ℕ → Option ℕ
 
@@ -19,6 +19,6 @@ is_zero table byte = is_digit table byte && digit_value table byte == 0
 abbrev pub IsBelowTen : Table → Type 0
 IsBelowTen table = (byte : ℕ) → digit_value table byte < 10
 
--- The bytes 48 to 57, `0` to `9`, with the digit values 0 to 9.
+-- The bytes 48 to 57 have the digit values 0 to 9.
 abbrev pub decimal_table : Table
 decimal_table byte = if nat_le 48 byte && nat_le byte 57 then Some (byte - 48) else None

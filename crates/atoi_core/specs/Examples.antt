@@ -10,7 +10,7 @@ use Rattle.atoi_core.specs.Answer.{parse_answer, parse_prefix_answer, whole_answ
 use Rattle.atoi_core.specs.Sign.{sign_of}
 use Rattle.std.specs.declared.cmp.Ordering.TheVariants.{Less}
 
--- A plus and any number of zeros are accepted if both flags are on.
+-- Both flags on: a plus and any number of zeros.
 pub plus_and_zeros : parse_answer u64_type true true (codes "+000000000000000000001234") ≡ Ok (pos 1234)
 unfolding refusal
 plus_and_zeros = refl
@@ -40,7 +40,7 @@ pub overflow_first : parse_answer u8_type false false (codes "256x") ≡ Err (ov
 unfolding refusal
 overflow_first = refl
 
--- If a byte follows the digits, the error holds their value and its index.
+-- A byte follows the digits: their value and its index.
 pub invalid_after_value : parse_answer u8_type false false (codes "255x") ≡ Err (invalid64 255 3 (codes "255x"))
 unfolding refusal
 invalid_after_value = refl
@@ -50,17 +50,17 @@ pub least_value : parse_answer i8_type false false (codes "-128") ≡ Ok (negsuc
 unfolding refusal
 least_value = refl
 
--- The value below it is not, and the slice in the error has no sign.
+-- The value below it is not; its slice has no sign.
 pub below_least : parse_answer i8_type false false (codes "-129") ≡ Err (overflow (codes "129"))
 unfolding refusal
 below_least = refl
 
--- A narrow prefix that skips no zeros may have at most 16 digits.
+-- A narrow prefix without skipping has at most 16 digits.
 pub seventeen_digits_of_u8 : parse_prefix_answer u8_type false false (codes "00000000000000007") ≡ Err (size 17 (codes "00000000000000007"))
 unfolding refusal
 seventeen_digits_of_u8 = refl
 
--- 16 digits are accepted, and a byte after them does not matter.
+-- 16 digits are accepted, whatever byte follows.
 pub sixteen_digits_of_u8 : parse_prefix_answer u8_type false false (codes "0000000000000000x") ≡ Ok (pos 0, 16)
 unfolding refusal
 sixteen_digits_of_u8 = refl
@@ -75,7 +75,7 @@ pub seventeen_digits_of_i8 : parse_prefix_answer i8_type false false (codes "-00
 unfolding refusal
 seventeen_digits_of_i8 = refl
 
--- The number of digits is checked before the range, and `size` counts at most 17.
+-- Digits are counted before the range; `size` counts at most 17.
 pub size_before_range : parse_prefix_answer u8_type false false (codes "00000000000000255999") ≡ Err (size 17 (codes "00000000000000255999"))
 unfolding refusal
 size_before_range = refl
@@ -85,12 +85,12 @@ pub size_of_seventeen_ones : parse_prefix_answer u32_type false false (codes "11
 unfolding refusal
 size_of_seventeen_ones = refl
 
--- 16 ones are not too many digits, but their value is out of range.
+-- 16 ones are few enough, but out of range.
 pub range_of_sixteen_ones : parse_prefix_answer u32_type false false (codes "1111111111111111") ≡ Err (overflow (codes "1111111111111111"))
 unfolding refusal
 range_of_sixteen_ones = refl
 
--- A narrow prefix that skips zeros may have any number of digits.
+-- With skipping, a narrow prefix has any number of digits.
 pub narrow_prefix_skips : parse_prefix_answer u8_type true false (codes "00000000000000007") ≡ Ok (pos 7, 17)
 unfolding refusal
 narrow_prefix_skips = refl
@@ -100,17 +100,17 @@ pub zeros_alone : parse_prefix_answer u8_type true false (codes "000000000000000
 unfolding refusal
 zeros_alone = refl
 
--- A narrow prefix drops its zeros if the block of 16 bytes in which they end is full of digits.
+-- Zeros are dropped if the block in which they end is full.
 pub overflow_without_zeros : parse_prefix_answer u8_type true false (codes "00000000000000255999") ≡ Err (overflow (codes "255999"))
 unfolding refusal
 overflow_without_zeros = refl
 
--- 16 digits fill the first block, so the 13 zeros are left out.
+-- 16 digits fill a block: its 13 zeros are dropped.
 pub overflow_drops_thirteen : parse_prefix_answer u8_type true false (codes "0000000000000999x") ≡ Err (overflow (codes "999x"))
 unfolding refusal
 overflow_drops_thirteen = refl
 
--- 15 digits do not fill the first block, so the 12 zeros are kept.
+-- 15 digits do not: 12 zeros are kept.
 pub overflow_keeps_twelve : parse_prefix_answer u8_type true false (codes "000000000000999x") ≡ Err (overflow (codes "000000000000999x"))
 unfolding refusal
 overflow_keeps_twelve = refl
@@ -135,17 +135,17 @@ pub above_greatest_u64 : parse_answer u64_type false false (codes "1844674407370
 unfolding refusal
 above_greatest_u64 = refl
 
--- 20 digits are too many for a signed type of 64 bits, even if the first is a zero.
+-- 20 digits are too many for `i64`, a zero included.
 pub twenty_digits_of_i64 : parse_answer i64_type false false (codes "09223372036854775807") ≡ Err (size 20 (codes "09223372036854775807"))
 unfolding refusal
 twenty_digits_of_i64 = refl
 
--- `size` counts the skipped zeros and at most 24 digits; its slice starts after these zeros.
+-- `size` counts skipped zeros and at most 24 digits after them.
 pub size_is_capped : parse_prefix_answer u64_type true false (codes "0001111111111111111111111111") ≡ Err (size 27 (codes "1111111111111111111111111"))
 unfolding refusal
 size_is_capped = refl
 
--- The error of a call for negative numbers can hold the magnitude of the smallest value.
+-- A negative call's error can hold the magnitude of `T::MIN`.
 pub magnitude_of_least : whole_answer decimal_table i64_type true false (codes "9223372036854775808x") ≡ Err (invalid64 9223372036854775808 19 (codes "9223372036854775808x"))
 unfolding refusal
 magnitude_of_least = refl
@@ -165,7 +165,7 @@ pub above_greatest_u128 : parse_answer u128_type false false (codes "34028236692
 unfolding refusal
 above_greatest_u128 = refl
 
--- 39 zeros that are not skipped are not too many for 128 bits.
+-- 39 unskipped zeros are few enough for 128 bits.
 pub thirty_nine_zeros : parse_answer u128_type false false (codes "000000000000000000000000000000000000000") ≡ Ok (pos 0)
 unfolding refusal
 thirty_nine_zeros = refl
@@ -200,27 +200,27 @@ pub no_minus_unsigned : parse_answer u8_type false true (codes "-5") ≡ Err emp
 unfolding refusal
 no_minus_unsigned = refl
 
--- The index of an invalid byte counts the skipped zeros, and the slice keeps them.
+-- An invalid byte's index counts skipped zeros, which the slice keeps.
 pub rest_after_zeros : parse_answer u64_type true false (codes "0000000000000000000000007x") ≡ Err (invalid64 7 25 (codes "0000000000000000000000007x"))
 unfolding refusal
 rest_after_zeros = refl
 
--- For 128 bits, the error of an invalid byte has a variant of its own.
+-- 128 bits have a variant of their own for an invalid byte.
 pub wide_error : parse_answer u128_type true false (codes "0000012x") ≡ Err (invalid128 12 7 (codes "0000012x"))
 unfolding refusal
 wide_error = refl
 
--- There are two spaces before `input:` for a type of at most 64 bits.
+-- Two spaces before `input:` up to 64 bits.
 pub text_of_invalid64 : error_text (invalid64 12 2 (codes "12a")) ≡ codes "atoi_simd invalid at index: 2 it must contain only digits, starting with: 12  input: [31, 32, 61]"
 unfolding digits
 text_of_invalid64 = refl
 
--- There is one space before `input:` for a type of 128 bits.
+-- One space before `input:` for 128 bits.
 pub text_of_invalid128 : error_text (invalid128 12 2 (codes "12a")) ≡ codes "atoi_simd invalid at index: 2 it must contain only digits, starting with: 12 input: [31, 32, 61]"
 unfolding digits
 text_of_invalid128 = refl
 
--- The text of the error `size` shows its number and its slice.
+-- The text of `size` shows its number and slice.
 pub text_of_size : error_text (size 27 (codes "11")) ≡ codes "atoi_simd wrong size: 27 input: [31, 31]"
 unfolding digits
 text_of_size = refl
@@ -252,11 +252,11 @@ prefix_first = refl
 pub left_number_first : refusal_cmp (invalid64 1 2 (codes "a")) (invalid64 2 1 (codes "a")) ≡ Less
 left_number_first = refl
 
--- Only the first of two signs is consumed, and the body starts with the second.
+-- Only the first of two signs is consumed.
 pub second_sign_stays : sign_of true true (codes "+-5") ≡ record { minus = false; taken = 1; body = codes "-5" }
 second_sign_stays = refl
 
--- The limit of each wide type is the number of digits of its largest magnitude.
+-- A wide type's limit is its largest magnitude's number of digits.
 pub limit_u64 : limit_of u64_type ≡ length (decimal (bound_of u64_type false))
 unfolding digits
 limit_u64 = refl

@@ -2,7 +2,7 @@
 use Rattle.std.specs.Prelude.{◌≡◌, ◌⊎◌, ℕ, ◌+◌, ◌-◌, ◌^◌, Bool, true, false, ◌==◌, nat_le, if◌then◌else◌}
 use Rattle.atoi_core.specs.Magnitude.{Class, narrow, wide64, wide128}
 
--- The size of a type in bits, whether it is signed, and its largest value.
+-- A type's bits, whether it is signed, and its largest value.
 pub record IntType : Type 0 where
   pub bits : ℕ
   pub signed : Bool
@@ -11,12 +11,12 @@ pub record IntType : Type 0 where
 abbrev pub int_type : ℕ → Bool → ℕ → IntType
 int_type bits signed greatest = record { bits = bits; signed = signed; greatest = greatest }
 
--- The largest value of a type with `bits` bits, one of them for the sign if it is signed.
+-- The largest value of `bits` bits, one for the sign.
 abbrev pub greatest_of : ℕ → Bool → ℕ
 greatest_of bits true = 2 ^ (bits - 1) - 1
 greatest_of bits false = 2 ^ bits - 1
 
--- The type has one of the five sizes, and the largest value of that size.
+-- One of the five sizes, with its largest value.
 pub record IsSized (int : IntType) : Type 0 where
   pub bits : (int.bits ≡ 8) ⊎ ((int.bits ≡ 16) ⊎ ((int.bits ≡ 32) ⊎ ((int.bits ≡ 64) ⊎ (int.bits ≡ 128))))
   pub greatest : int.greatest ≡ greatest_of int.bits int.signed
@@ -27,16 +27,15 @@ pub record IsTypeOf (int : IntType) (bits : ℕ) (signed : Bool) (greatest : ℕ
   pub sign_is : int.signed ≡ signed
   pub greatest_is : int.greatest ≡ greatest
 
--- The width class of a type: at most 32 bits, 64 bits, or 128 bits.
+-- A type's width class: at most 32 bits, 64, or 128.
 abbrev pub class_of : IntType → Class
 class_of int = if nat_le int.bits 32 then narrow else (if int.bits == 64 then wide64 else wide128)
 
--- The largest magnitude in range: the largest value, or one more with a minus, which only a signed
--- type has.
+-- The largest magnitude in range: the largest value, or with a minus one more.
 abbrev pub bound_of : IntType → Bool → ℕ
 bound_of int minus = if minus then int.greatest + 1 else int.greatest
 
--- How many digits the largest magnitude of a type of 64 or 128 bits has, with a minus or without.
+-- How many digits a wide type's largest magnitude has, for both signs.
 abbrev pub limit_of : IntType → ℕ
 limit_of int = if int.bits == 64 then (if int.signed then 19 else 20) else 39
 

@@ -1,5 +1,5 @@
--- Laws about what the parses return. Each is a statement about the definitions only, and does not
--- mention how a parse works. A law that speaks of a slice speaks of every slice.
+-- Laws about what the parses return, over the definitions only. A law on a slice holds for every
+-- slice.
 use Rattle.std.specs.Prelude.{◌≡◌, ◌≢◌, ◌⊎◌, ◌↔◌, ℕ, ◌+◌, ◌-◌, ◌^◌, ◌<◌, ◌≤◌, Bool, true, false, if◌then◌else◌, IsTrue, IsFalse, List, ◌∷◌, ◌++◌, length, take, drop, replicate, slice_index, All, Option, Some, None, ℤ, pos, neg_ℤ, ◌≤ℤ◌, Result, Ok, Err, IsOk, IfOk, OnErr}
 use Rattle.std.specs.Fmt.{decimal, signed_decimal}
 use Rattle.std.specs.Char.{IsAsciiDigit}
@@ -15,43 +15,40 @@ use Rattle.atoi_core.specs.Sign.{Sign, sign_of, with_sign}
 use Rattle.atoi_core.specs.Answer.{typed_answer, typed_prefix_answer, whole_answer, prefix_answer, with_more, parse_answer, parse_prefix_answer}
 use Rattle.atoi_core.specs.Text.{IsText, is_minus, DigitsWrite, TextWrites, BeginsWithDigit, PrefixWrites, IsNumberThen, IsTooLarge, has_needless_zero}
 
--- How a call gets its sign. Either it looks for a sign at the start of its slice, and accepts a
--- plus only if `plus` is on. Or it looks for none, and `is_negative` says whether its digits are
--- those of a negative number.
+-- How a call gets its sign: it looks for one, a plus only with `plus`, or it is given.
 pub data SignForm : Type 0 where
   looked_for : (plus : Bool) → SignForm
   given : (is_negative : Bool) → SignForm
 
--- The form of a call that looks for no sign, and reads the digits of a number that is not negative.
+-- No sign is looked for, and the number is not negative.
 abbrev pub positive : SignForm
 positive = given false
 
--- The sign that a call of the form uses, and the body that it reads.
+-- The sign of such a call, and its body.
 abbrev pub sign_in : IntType → SignForm → List ℕ → Sign
 sign_in int (looked_for plus) s = sign_of int.signed plus s
 sign_in int (given is_negative) s = record { minus = is_negative; taken = 0; body = s }
 
--- The answer of the whole parse of that form, which parses all of its slice.
+-- The answer of the whole parse of that form.
 abbrev pub whole_call : IntType → SignForm → (skip : Bool) → List ℕ → Result ℤ Refusal
 whole_call int (looked_for plus) skip s = parse_answer int skip plus s
 whole_call int (given is_negative) skip s = whole_answer decimal_table int is_negative skip s
 
--- The answer of the prefix parse of that form, which reads the number at the start of its slice.
+-- The answer of the prefix parse of that form.
 abbrev pub prefix_call : IntType → SignForm → (skip : Bool) → List ℕ → Result (ℤ × ℕ) Refusal
 prefix_call int (looked_for plus) skip s = parse_prefix_answer int skip plus s
 prefix_call int (given is_negative) skip s = prefix_answer decimal_table int is_negative skip s
 
--- What it means, for a call of that form, that bytes write a number.
+-- For that form, bytes write a number.
 abbrev pub Writes : IntType → SignForm → List ℕ → ℤ → Type 0
 Writes int (looked_for plus) = TextWrites int plus
 Writes int (given is_negative) = DigitsWrite int is_negative
 
--- The smallest value of a type. It is 0, or for a signed type `-(greatest + 1)`.
+-- A type's smallest value: 0, or `-(greatest + 1)` if signed.
 abbrev pub least_of : IntType → ℤ
 least_of int = if int.signed then neg_ℤ (pos (int.greatest + 1)) else pos 0
 
--- The condition under which a prefix and a whole slice have the same limit on their digits: either
--- zeros are skipped, or the type has more than 32 bits.
+-- Prefix and whole have the same limit: zeros are skipped, or more than 32 bits.
 abbrev pub HasLimitOfWhole : IntType → Bool → Type 0
 HasLimitOfWhole int skip = (skip ≡ true) ⊎ (32 < int.bits)
 
@@ -66,8 +63,7 @@ HaveSameOutcome (Err reason) (Err other) = rank reason ≡ rank other
 HaveSameOutcome (Ok x) (Err other) = ⊥
 HaveSameOutcome (Err reason) (Ok y) = ⊥
 
--- A call of that form consumes the same sign from both slices, or none from either, and their
--- bodies start with equal runs of digits.
+-- Both slices have the same sign for that form, and equal runs after it.
 pub record HaveSameRun (int : IntType) (form : SignForm) (s t : List ℕ) : Type 0 where
   pub minus : (sign_in int form s).minus ≡ (sign_in int form t).minus
   pub taken : (sign_in int form s).taken ≡ (sign_in int form t).taken
@@ -77,34 +73,30 @@ pub record HaveSameRun (int : IntType) (form : SignForm) (s t : List ℕ) : Type
 abbrev pub zero_byte : ℕ
 zero_byte = 48
 
--- This is `s` with `count` more zeros before its body, after the sign that the call consumes.
+-- `s` with `count` more zeros after its sign.
 abbrev pub with_zeros : IntType → SignForm → (count : ℕ) → List ℕ → List ℕ
 with_zeros int form count s =
     let sign = sign_in int form s in
     take sign.taken s ++ (replicate count zero_byte ++ sign.body)
 
--- `parse` returns each value of the type from its decimal text, whatever the flags.
+-- Whatever the flags, `parse` returns each value from its decimal text.
 pub record TextOfValue (int : IntType) : Type 0 where
   pub parsed : (skip plus : Bool) (x : ℤ) → least_of int ≤ℤ x → x ≤ℤ pos int.greatest
       → parse_answer int skip plus (signed_decimal x) ≡ Ok x
 
--- `parse` with both flags on accepts exactly the texts of the type, and returns the number that is
--- written.
+-- With both flags, `parse` accepts exactly the type's texts, and returns their numbers.
 pub record AcceptedTexts (int : IntType) : Type 0 where
   pub accepted : (s : List ℕ) → IsOk (parse_answer int true true s) ↔ IsText int s
   pub number : (s : List ℕ) (number : ℤ) → TextWrites int true s number → parse_answer int true true s ≡ Ok number
 
--- A whole parse returns a number only if its slice writes that number. If zeros are skipped, the
--- converse holds too: a number that the slice writes is returned.
+-- A whole parse returns only a number that its slice writes; with zeros skipped, each.
 pub record AcceptedNumbers (int : IntType) : Type 0 where
   pub written : (form : SignForm) (skip : Bool) (s : List ℕ) (number : ℤ)
       → whole_call int form skip s ≡ Ok number → Writes int form s number
   pub accepted : (form : SignForm) (s : List ℕ) (number : ℤ)
       → Writes int form s number → whole_call int form true s ≡ Ok number
 
--- What the law `AcceptedNumbers` says, for the Rust `Result` of a whole parse; `number` gives the
--- integer that a value of the type means. If the `Result` is `Ok`, the slice writes the number in
--- it. If zeros are skipped, an error means that the slice writes no number.
+-- The same of a Rust `Result`; with zeros skipped, an error means no number.
 pub record WholeResults {T : Type 0} (int : IntType) (number : T → ℤ) (skip : Bool) : Type 0 where
   pub text : (plus : Bool) (s : List ℕ) (result : Result T AtoiSimdError)
       → typed_answer number result ≡ parse_answer int skip plus s
@@ -119,19 +111,16 @@ pub record WholeResults {T : Type 0} (int : IntType) (number : T → ℤ) (skip 
       → typed_answer number result ≡ whole_answer decimal_table int is_negative skip s
       → IsTrue skip → OnErr result ((any : ℤ) → ¬ DigitsWrite int is_negative s any)
 
--- A prefix parse returns a number and a count only if the first `count` bytes of its slice write
--- that number, and no digit follows them. If zeros are skipped, the converse holds too: if a prefix
--- writes a number and no digit follows it, this number and the length of the prefix are returned.
+-- A prefix parse returns only a prefix that writes a number, and no digit follows; with zeros
+-- skipped, each.
 pub record AcceptedPrefixes (int : IntType) : Type 0 where
   pub written : (form : SignForm) (skip : Bool) (s : List ℕ) (number : ℤ) (count : ℕ)
       → prefix_call int form skip s ≡ Ok (number, count) → PrefixWrites (Writes int form) s number count
   pub accepted : (form : SignForm) (s : List ℕ) (number : ℤ) (count : ℕ)
       → PrefixWrites (Writes int form) s number count → prefix_call int form true s ≡ Ok (number, count)
 
--- What the law `AcceptedPrefixes` says, for the Rust `Result` of a prefix parse. If the `Result` is
--- `Ok` and holds a number and a count, the first `count` bytes write that number, and no digit
--- follows them. If zeros are skipped, an error means that each prefix of the slice that writes a
--- number is followed by a digit.
+-- The same of a Rust `Result`; with zeros skipped, an error means that a digit follows each prefix
+-- that writes a number.
 pub record PrefixResults {T : Type 0} (int : IntType) (number : T → ℤ) (skip : Bool) : Type 0 where
   pub text : (plus : Bool) (s : List ℕ) (result : Result (T × ℕ) AtoiSimdError)
       → typed_prefix_answer number result ≡ parse_prefix_answer int skip plus s
@@ -146,9 +135,8 @@ pub record PrefixResults {T : Type 0} (int : IntType) (number : T → ℤ) (skip
       → typed_prefix_answer number result ≡ prefix_answer decimal_table int is_negative skip s
       → IsTrue skip → OnErr result ((any : ℤ) (count : ℕ) → ¬ PrefixWrites (DigitsWrite int is_negative) s any count)
 
--- If a slice consists of bytes that write a number and of a rest that does not start with a digit,
--- then `PrefixWrites` holds for these bytes, and for no other prefix. So a prefix that was found
--- splits the slice into these bytes and that rest.
+-- Bytes that write a number, and a rest without a digit at its start: `PrefixWrites` holds for
+-- these bytes and no others.
 pub record PrefixesAndRests (int : IntType) : Type 0 where
   pub of_parts : (form : SignForm) (s prefix_bytes rest : List ℕ) (number : ℤ)
       → s ≡ prefix_bytes ++ rest → Writes int form prefix_bytes number → ¬ BeginsWithDigit rest
@@ -161,9 +149,8 @@ pub record PrefixesAndRests (int : IntType) : Type 0 where
       → PrefixWrites (Writes int form) s other count
       → (number ≡ other) × ((take count s ≡ prefix_bytes) × (drop count s ≡ rest))
 
--- For a byte that is no digit, a slice is a number, that byte and a rest exactly if a prefix writes
--- the number and the byte and the rest follow it (`exact`). No other prefix writes a number (`cut`),
--- so there is one number and one rest (`only`).
+-- A number and a byte that is no digit: exactly if a prefix writes it and the byte follows
+-- (`exact`), in one way (`cut`, `only`).
 pub record NumberThenByte (int : IntType) : Type 0 where
   pub exact : (form : SignForm) (s : List ℕ) (number : ℤ) (byte : ℕ) (rest : List ℕ) → IsFalse (is_digit decimal_table byte)
       → IsNumberThen (Writes int form) s number byte rest
@@ -181,16 +168,14 @@ OneNumber int =
     (form : SignForm) (s : List ℕ) (number other : ℤ)
     → Writes int form s number → Writes int form s other → number ≡ other
 
--- If a prefix parse returns a number, its slice begins with a digit, or with the sign that the call
--- consumes and then a digit.
+-- A number that a prefix parse returns begins with a digit, or its sign and a digit.
 abbrev pub PrefixBegins : IntType → Type 0
 PrefixBegins int =
     (form : SignForm) (skip : Bool) (s : List ℕ) (found : ℤ × ℕ)
     → prefix_call int form skip s ≡ Ok found → BeginsWithDigit (sign_in int form s).body
 
--- The error of a prefix parse is `empty` exactly if the body starts with no digits (`none`). If zeros
--- are skipped, every other error means that all digits at its start are a number too large for the
--- type. A slice has one split into digits and a rest that does not start with a digit.
+-- A prefix's error is `empty` exactly without digits (`none`); any other, with zeros skipped, means
+-- that all digits are too large a number (`too_large`).
 pub record NoneOrTooLarge (int : IntType) : Type 0 where
   pub none : (form : SignForm) (skip : Bool) (s : List ℕ) (reason : Refusal) → prefix_call int form skip s ≡ Err reason
       → (reason ≡ empty) ↔ (run_len decimal_table (sign_in int form s).body ≡ 0)
@@ -201,45 +186,39 @@ pub record NoneOrTooLarge (int : IntType) : Type 0 where
   pub one_split : (digits other rest more : List ℕ) → digits ++ rest ≡ other ++ more → AllDigits 10 digits → AllDigits 10 other
       → ¬ BeginsWithDigit rest → ¬ BeginsWithDigit more → (digits ≡ other) × (rest ≡ more)
 
--- If a prefix parse succeeds and its count is the length of the slice, the whole parse succeeds
--- with the same value. The converse holds if zeros are skipped, or if the type has more than 32
--- bits.
+-- A prefix parse of the whole slice agrees with the whole parse; the converse with the same limit.
 pub record PrefixIsWhole (int : IntType) : Type 0 where
   pub whole : (form : SignForm) (skip : Bool) (s : List ℕ) (v : ℤ)
       → prefix_call int form skip s ≡ Ok (v, length s) → whole_call int form skip s ≡ Ok v
   pub back : (form : SignForm) (skip : Bool) (s : List ℕ) (v : ℤ) → HasLimitOfWhole int skip
       → whole_call int form skip s ≡ Ok v → prefix_call int form skip s ≡ Ok (v, length s)
 
--- The prefix that a prefix parse finds has at least one byte and ends within the slice, and a call
--- for a slice that is only this prefix returns the same value and the same count.
+-- A found prefix is not empty, is in the slice, and alone has the same answer.
 pub record PrefixOfCut (int : IntType) : Type 0 where
   pub cut : (form : SignForm) (skip : Bool) (s : List ℕ) (v : ℤ) (count : ℕ)
       → prefix_call int form skip s ≡ Ok (v, count)
       → (1 ≤ count) × (count ≤ length s) × (prefix_call int form skip (take count s) ≡ Ok (v, count))
 
--- A prefix parse stops at the end of its slice, or at a byte that is no digit.
+-- A prefix parse stops at the end, or at no digit.
 abbrev pub PrefixStopsAtRest : IntType → Type 0
 PrefixStopsAtRest int =
     (form : SignForm) (skip : Bool) (s : List ℕ) (v : ℤ) (count : ℕ)
     → prefix_call int form skip s ≡ Ok (v, count)
     → (count ≡ length s) ⊎ ((count < length s) × IsFalse (is_digit decimal_table (slice_index s count)))
 
--- What follows the run of digits changes neither the value and count that a prefix parse returns,
--- nor the variant of its error.
+-- What follows the run changes no value, count or variant of a prefix parse.
 abbrev pub RestChangesNothing : IntType → Type 0
 RestChangesNothing int =
     (form : SignForm) (skip : Bool) (s t : List ℕ) → HaveSameRun int form s t
     → HaveSameOutcome (prefix_call int form skip s) (prefix_call int form skip t)
 
--- If a whole parse succeeds without skipping zeros, it succeeds with the same value when it skips
--- them.
+-- A whole parse that succeeds without skipping succeeds with it, with the same value.
 abbrev pub SkippingAgrees : IntType → Type 0
 SkippingAgrees int =
     (form : SignForm) (s : List ℕ) (v : ℤ)
     → whole_call int form false s ≡ Ok v → whole_call int form true s ≡ Ok v
 
--- The order of errors calls two errors equal exactly if they are the same. The slice in an error is
--- a suffix of the slice that was parsed.
+-- Only the same errors are equal in their order; an error's slice is a suffix.
 pub record OrderAndSuffix (int : IntType) : Type 0 where
   pub order : (a b : Refusal) → (refusal_cmp a b ≡ Equal) ↔ (a ≡ b)
   pub whole : (form : SignForm) (skip : Bool) (s : List ℕ) (reason : Refusal)
@@ -247,9 +226,7 @@ pub record OrderAndSuffix (int : IntType) : Type 0 where
   pub prefix : (form : SignForm) (skip : Bool) (s : List ℕ) (reason : Refusal)
       → prefix_call int form skip s ≡ Err reason → IsSuffix (input_of reason) s
 
--- If zeros are skipped and the body starts with a digit, more zeros before the body change neither
--- the value that is returned nor the variant of an error. The count of a prefix parse then grows by
--- the number of the added zeros.
+-- With zeros skipped, more zeros before a digit only raise the count.
 pub record ZerosChangeNothing (int : IntType) : Type 0 where
   pub whole : (form : SignForm) (s : List ℕ) (count : ℕ)
       → 0 < run_len decimal_table (sign_in int form s).body
@@ -258,8 +235,7 @@ pub record ZerosChangeNothing (int : IntType) : Type 0 where
       → 0 < run_len decimal_table (sign_in int form s).body
       → HaveSameOutcome (with_more count (prefix_call int form true s)) (prefix_call int form true (with_zeros int form count s))
 
--- A byte is a decimal digit exactly if it is one for std, and digits have the value that std gives
--- them. The value of `n` digits is below ten to the power of `n`.
+-- Digits and their values are std's; `n` digits are below `10 ^ n`.
 pub record DecimalDigits : Type 0 where
   pub byte : (byte : ℕ) → IsTrue (is_digit decimal_table byte) ↔ IsAsciiDigit byte
   pub to_std : (s : List ℕ) → All (λ byte. IsTrue (is_digit decimal_table byte)) s → AllDigits 10 s
@@ -272,20 +248,18 @@ abbrev pub IsAbove : Option ℕ → ℕ → Type 0
 IsAbove None count = ⊥
 IsAbove (Some limit) count = limit < count
 
--- The body has too many significant digits, which are those after the skipped zeros. The limit
--- depends on the type, on what is parsed and on the flag.
+-- Too many significant digits, by type, extent and flag.
 abbrev pub IsTooLong : IntType → Extent → (skip : Bool) → List ℕ → Type 0
 IsTooLong int extent skip body =
     IsAbove (rule_of (class_of int) extent skip (limit_of int) 0 0).limit
     (run_len decimal_table body - skipped_zeros decimal_table skip body)
 
--- The body starts with a digit, and does not have too many significant digits.
+-- The body starts with a digit, and few enough.
 pub record HasSomeDigits (int : IntType) (extent : Extent) (skip : Bool) (body : List ℕ) : Type 0 where
   pub some : 0 < run_len decimal_table body
   pub short : ¬ IsTooLong int extent skip body
 
--- The body starts with digits that are not too many and whose value is in range, and another byte
--- follows them. The error holds this value and the index of that byte in the body.
+-- Few enough digits in range, then another byte: the error holds their value and its index.
 pub record IsFollowed (int : IntType) (extent : Extent) (is_negative skip : Bool) (body : List ℕ) (number index : ℕ) : Type 0 where
   pub begins : HasSomeDigits int extent skip body
   pub in_range : value decimal_table (run decimal_table body) ≤ bound_of int is_negative
@@ -293,9 +267,8 @@ pub record IsFollowed (int : IntType) (extent : Extent) (is_negative skip : Bool
   pub number_is : number ≡ value decimal_table (run decimal_table body)
   pub index_is : index ≡ run_len decimal_table body
 
--- What a reason, which is an error as contracts see it, says about the body. The first that applies
--- is returned: the body does not start with a digit; it has too many significant digits; its digits
--- spell a value out of range; another byte follows its digits.
+-- What each error says: no digit; too many significant digits; a value out of range; another byte
+-- after the digits.
 abbrev pub Explains : IntType → Extent → (is_negative skip : Bool) → List ℕ → Refusal → Type 0
 Explains int extent is_negative skip body empty = run_len decimal_table body ≡ 0
 Explains int extent is_negative skip body (size count rest) = (0 < run_len decimal_table body) × IsTooLong int extent skip body
@@ -304,8 +277,7 @@ Explains int extent is_negative skip body (overflow rest) =
 Explains int extent is_negative skip body (invalid64 number index input) = IsFollowed int extent is_negative skip body number index
 Explains int extent is_negative skip body (invalid128 number index input) = IsFollowed int extent is_negative skip body number index
 
--- If a call returns an error, then what `Explains` says for this error holds of the body that the
--- call reads. For a prefix parse, a byte after the digits is never an error.
+-- An error explains why the body is refused. A prefix is never refused for a byte after it.
 pub record ErrorsInOrder (int : IntType) : Type 0 where
   pub whole : (form : SignForm) (skip : Bool) (s : List ℕ) (reason : Refusal) → whole_call int form skip s ≡ Err reason
       → Explains int whole (sign_in int form s).minus skip (sign_in int form s).body reason
@@ -313,10 +285,8 @@ pub record ErrorsInOrder (int : IntType) : Type 0 where
       → Explains int prefix (sign_in int form s).minus skip (sign_in int form s).body reason
   pub never_followed : (form : SignForm) (skip : Bool) (s : List ℕ) (reason : Refusal) → prefix_call int form skip s ≡ Err reason → rank reason ≤ 2
 
--- Bytes that write a number without a sign start with a digit. The decimal text of a number in
--- range writes it and has no needless zero, and no other digits do both. If an integer `x` is in
--- range, then `signed_decimal x` writes it, and all other texts that write it have a `+`, a minus
--- before 0 or a needless zero.
+-- Unsigned bytes that write a number start with a digit. `decimal n` is the only text without a
+-- needless zero; `signed_decimal x` the only one without a plus, minus zero or needless zero.
 pub record DecimalTexts (int : IntType) : Type 0 where
   pub begins : (is_negative : Bool) (digits : List ℕ) (number : ℤ)
       → DigitsWrite int is_negative digits number → BeginsWithDigit digits

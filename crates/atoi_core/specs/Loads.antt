@@ -1,17 +1,17 @@
--- How many loads a call makes; a *load* is one read of a window.
+-- How many loads a call makes; a *load* reads one window.
 use Rattle.std.specs.Prelude.{◌≡◌, ℕ, ◌+◌, ◌*◌, ◌/◌, ◌<◌, ◌≤◌, Bool, true, false, IsTrue, List, length}
 use Rattle.atoi_core.specs.Digit.{Table}
 use Rattle.atoi_core.specs.Run.{zeros}
 use Rattle.atoi_core.specs.Magnitude.{Class, Extent, narrow, wide64, wide128, whole}
 use Rattle.atoi_core.specs.IntType.{IntType, class_of}
 
--- The loads that the upper bound allows for each 16 leading zeros, a *turn*. A loop makes one.
+-- The loads allowed for 16 leading zeros, a *turn*.
 abbrev pub loads_a_turn : Class → ℕ
 loads_a_turn narrow = 1
 loads_a_turn wide64 = 2
 loads_a_turn wide128 = 3
 
--- The most loads that a call makes: a turn for each 16 leading zeros, and two for what follows.
+-- The most loads: a turn for 16 leading zeros each, and two.
 abbrev pub most_loads : Table → Class → List ℕ → ℕ
 most_loads table class s = loads_a_turn class * (zeros table s / 16 + 2)
 
@@ -21,19 +21,19 @@ most_unskipped narrow = 2
 most_unskipped wide64 = 2
 most_unskipped wide128 = 5
 
--- Whether a call skips zeros: as its flag says, but always for a narrow whole slice.
+-- Whether zeros are skipped; a narrow whole always does.
 abbrev pub skips_zeros : Class → Extent → Bool → Bool
 skips_zeros narrow whole skip = true
 skips_zeros class extent skip = skip
 
--- `before` and `after` count the loads before a call and after it.
+-- `before` and `after` count the loads around a call.
 pub record LoadsWithin (most unskipped : ℕ) (table : Table) (skip : Bool) (s : List ℕ) (before after : ℕ) : Type 0 where
   pub at_most : after ≤ before + most
   pub at_most_unskipped : skip ≡ false → after ≤ before + unskipped
   pub at_least : 0 < length s → before < after
   pub at_least_skipping : IsTrue skip → before + zeros table s / 32 ≤ after
 
--- The same for an integer type, with the bounds of its width class.
+-- For an integer type, by its width class.
 abbrev pub TypedLoads : Table → IntType → Extent → Bool → List ℕ → (before after : ℕ) → Type 0
 TypedLoads table int extent skip s before after =
     LoadsWithin (most_loads table (class_of int) s) (most_unskipped (class_of int)) table (skips_zeros (class_of int) extent skip) s before after

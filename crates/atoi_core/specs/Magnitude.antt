@@ -1,17 +1,17 @@
--- The answer to a *body*, the slice after its sign: the *magnitude* of the number, which is its value
--- without the sign, or the first reason to refuse the body.
+-- The answer to a *body*, the slice after its sign: a *magnitude*, the value without its sign, or
+-- the first reason to refuse it.
 use Rattle.std.specs.Prelude.{ℕ, ◌+◌, ◌-◌, ◌*◌, ◌/◌, ◌^◌, ◌<◌, ◌≤◌, min, Bool, true, false, not, ◌==◌, nat_lt, if◌then◌else◌, List, length, drop, Option, Some, None, Result, Ok, Err}
 use Rattle.atoi_core.specs.Digit.{Table}
 use Rattle.atoi_core.specs.Run.{run_len, run, zeros, value}
 use Rattle.atoi_core.specs.Refusal.{Refusal, empty, size, overflow, invalid64, invalid128}
 
--- The width classes of integer types: at most 32 bits, 64 bits, 128 bits.
+-- Width classes: at most 32 bits, 64 bits, 128 bits.
 pub data Class : Type 0 where
   narrow : Class
   wide64 : Class
   wide128 : Class
 
--- What is parsed: the whole slice or the number at its start.
+-- The whole slice, or the number at its start.
 pub data Extent : Type 0 where
   whole : Extent
   prefix : Extent
@@ -24,15 +24,15 @@ HasDigits limit number = (10 ^ (limit - 1) ≤ number) × (number < 10 ^ limit)
 abbrev pub skipped_zeros : Table → Bool → List ℕ → ℕ
 skipped_zeros table skip body = if skip then zeros table body else 0
 
--- *Significant* digits are those after the skipped zeros; `limit` of them are accepted, and `size`
--- counts at most `cap`. `dropped` zeros are left out of the slice of `overflow`.
+-- *Significant* digits follow the skipped zeros: at most `limit`, and `size` counts up to `cap`. An
+-- `overflow` leaves out `dropped` zeros.
 pub record Rule : Type 0 where
   pub limit : Option ℕ
   pub cap : ℕ
   pub dropped : ℕ
 
--- The rule for each class, extent and flag. A narrow prefix that skips zeros drops all of them if
--- all digits fill more blocks of 16 bytes than the zeros do, otherwise those that fill blocks.
+-- For each class, extent and flag. A narrow prefix drops its zeros by blocks of 16 bytes, and all
+-- if their last block is full of digits.
 abbrev pub rule_of : Class → Extent → Bool → (limit digits skipped : ℕ) → Rule
 rule_of narrow whole skip limit digits skipped = record { limit = None; cap = 0; dropped = 0 }
 rule_of narrow prefix false limit digits skipped = record { limit = Some 16; cap = 17; dropped = 0 }
@@ -56,8 +56,7 @@ abbrev pub invalid : Class → ℕ → ℕ → List ℕ → Refusal
 invalid wide128 number index body = invalid128 number index body
 invalid class number index body = invalid64 number index body
 
--- The first reason to refuse the body: no digit, too many significant digits, a value above the
--- bound, or another byte after the digits of a whole.
+-- The first reason: no digit, too many, out of range, another byte after a whole.
 unfoldable pub refusal : Table → Class → (bound limit : ℕ) → Extent → Bool → List ℕ → Option Refusal
 refusal table class bound limit extent skip body =
     let digits = run_len table body in
@@ -75,12 +74,12 @@ abbrev pub unless_refused : {A : Type 0} → Option Refusal → A → Result A R
 unless_refused None answer = Ok answer
 unless_refused (Some reason) answer = Err reason
 
--- The answer to a whole body is the value of its digits.
+-- The value of a whole body's digits.
 abbrev pub whole_magnitude : Table → Class → (bound limit : ℕ) → Bool → List ℕ → Result ℕ Refusal
 whole_magnitude table class bound limit skip body =
     unless_refused (refusal table class bound limit whole skip body) (value table (run table body))
 
--- The answer to the number at the start of a body is the value of its digits and their number.
+-- The value of the digits at a body's start, and their number.
 abbrev pub prefix_magnitude : Table → Class → (bound limit : ℕ) → Bool → List ℕ → Result (ℕ × ℕ) Refusal
 prefix_magnitude table class bound limit skip body =
     unless_refused (refusal table class bound limit prefix skip body) (value table (run table body), run_len table body)

@@ -1,13 +1,11 @@
--- What has been read at the start of a slice, and the answer that this decides. This file is for
--- engines that read integers of 64 and of 128 bits with loops of their own.
+-- What was read at the start of a slice, and the answer that it decides.
 use Rattle.std.specs.Prelude.{◌≡◌, ℕ, ◌+◌, ◌-◌, ◌≤◌, min, Bool, true, false, ◌==◌, nat_lt, if◌then◌else◌, List, take, drop, Result, Ok, Err}
 use Rattle.atoi_core.specs.Digit.{Table}
 use Rattle.atoi_core.specs.Run.{run_len, run, zeros, value}
 use Rattle.atoi_core.specs.Refusal.{Refusal, empty, size, overflow}
 use Rattle.atoi_core.specs.Magnitude.{Class, prefix, rule_of}
 
--- The first `count` bytes, or all if there are fewer, start with exactly `digits` digits and
--- `leading` zeros, and the digits spell `number`.
+-- The first `count` bytes start with `digits` digits, which spell `number`, and `leading` zeros.
 pub record Reading (table : Table) (count : ℕ) (s : List ℕ) (digits leading number : ℕ) : Type 0 where
   pub digits_are : digits ≡ run_len table (take count s)
   pub leading_are : leading ≡ zeros table (take count s)
@@ -23,11 +21,11 @@ abbrev pub significant_digits : Bool → (digits leading : ℕ) → ℕ
 significant_digits true digits leading = digits - leading
 significant_digits false digits leading = digits
 
--- The most significant digits that the error `size` of a wide class counts.
+-- The most significant digits that `size` counts.
 abbrev pub cap : Class → ℕ
 cap class = (rule_of class prefix true 0 0 0).cap
 
--- The answer of a wide class to `skipped` zeros and then `significant` digits that spell `number`.
+-- The answer to `skipped` zeros, then `significant` digits that spell `number`.
 abbrev pub answer_by_digits : Class → (bound limit skipped significant number : ℕ) → List ℕ → Result (ℕ × ℕ) Refusal
 answer_by_digits class bound limit skipped significant number s =
     if skipped + significant == 0 then Err empty

@@ -1,4 +1,4 @@
--- The errors as contracts see them: a *reason* is an error with its slice as a list of bytes.
+-- Errors as contracts see them: a *reason* has its slice as a list.
 use Rattle.std.specs.Prelude.{ℕ, List, [], ◌∷◌, Result, Ok, Err}
 use Rattle.std.specs.Ordering.{nat_cmp, ordering_then}
 use Rattle.std.specs.Cmp.Lexicographic.{slice_cmp}
@@ -41,7 +41,7 @@ numbers (invalid64 number index input) = number ∷ index ∷ []
 numbers (invalid128 number index input) = number ∷ index ∷ []
 numbers reason = []
 
--- The number of the digits before an invalid byte; 0 for the other reasons.
+-- The number before an invalid byte; otherwise 0.
 abbrev pub number_in : Refusal → ℕ
 number_in (invalid64 number index input) = number
 number_in (invalid128 number index input) = number
@@ -61,7 +61,7 @@ input_of (overflow input) = input
 input_of (invalid64 number index input) = input
 input_of (invalid128 number index input) = input
 
--- Errors are ordered by rank, then by their numbers, then by their slices.
+-- By rank, then numbers, then slices.
 abbrev pub refusal_cmp : Refusal → Refusal → Ordering
 refusal_cmp a b =
     ordering_then (nat_cmp (rank a) (rank b))

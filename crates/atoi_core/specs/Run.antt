@@ -1,4 +1,4 @@
--- The digits at the start of a slice, and the number that they spell.
+-- The digits at a slice's start, and what they spell.
 use Rattle.std.specs.Prelude.{ℕ, ◌+◌, ◌*◌, ◌^◌, List, [], ◌∷◌, length, take}
 use Rattle.std.specs.List.{prefix_len}
 use Rattle.atoi_core.specs.Digit.{Table, is_digit, is_zero, digit_value}
@@ -15,7 +15,7 @@ run table s = take (run_len table s) s
 abbrev pub zeros : Table → List ℕ → ℕ
 zeros table s = prefix_len (is_zero table) s
 
--- The number that digits spell: each digit value times `10 ^ k` if `k` digits follow it.
+-- Each digit value times `10 ^ k`, if `k` digits follow.
 abbrev pub value : Table → List ℕ → ℕ
 value table [] = 0
 value table (digit ∷ digits) = digit_value table digit * 10 ^ length digits + value table digits

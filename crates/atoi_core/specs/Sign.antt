@@ -1,7 +1,7 @@
 -- The sign at the start of a slice.
 use Rattle.std.specs.Prelude.{ℕ, Bool, true, false, ◌&&◌, ◌==◌, if◌then◌else◌, List, [], ◌∷◌, ℤ, pos, neg_ℤ}
 
--- Whether the sign is a minus, how many bytes it took, and the body, which is the rest.
+-- Whether it is a minus, its bytes, and the body after it.
 pub record Sign : Type 0 where
   pub minus : Bool
   pub taken : ℕ
@@ -13,7 +13,7 @@ plus_sign = 43
 abbrev pub minus_sign : ℕ
 minus_sign = 45
 
--- At most one sign is consumed: a plus if `plus` is on, or a minus if the type is signed.
+-- At most one sign: a plus if `plus`, a minus if signed.
 abbrev pub sign_of : (signed plus : Bool) → List ℕ → Sign
 sign_of signed plus [] = record { minus = false; taken = 0; body = [] }
 sign_of signed plus (byte ∷ bytes) =

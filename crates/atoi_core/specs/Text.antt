@@ -1,4 +1,4 @@
--- The texts of the numbers of an integer type, and what it means that bytes write a number.
+-- Texts of an integer type, and which bytes write a number.
 use Rattle.std.specs.Prelude.{◌≡◌, ℕ, ◌<◌, ◌≤◌, Bool, true, false, ◌==◌, List, [], ◌∷◌, ◌++◌, length, take, drop, ℤ}
 use Rattle.std.specs.Char.{IsAsciiDigit}
 use Rattle.std.specs.Str.Parse.{IsNumeral, digits_value}
@@ -27,16 +27,14 @@ is_plus no_sign = false
 is_plus plus = true
 is_plus minus = false
 
--- The bytes are one or more decimal digits and nothing else, and they write the number. The number
--- is their value, negated if `is_negative` holds, and is in the range of the type. (`is_negative`
--- is meant for signed types only.) The definitions of digits and of their value are those of std.
+-- One or more digits, whose value, negated if `is_negative`, is the number and in range. Digits and
+-- values are std's.
 pub record DigitsWrite (int : IntType) (is_negative : Bool) (digits : List ℕ) (number : ℤ) : Type 0 where
   pub numeral : IsNumeral 10 digits
   pub in_range : digits_value 10 digits ≤ bound_of int is_negative
   pub value_is : number ≡ with_sign is_negative (digits_value 10 digits)
 
--- The bytes are an optional sign and digits that write the number with that sign. A minus is
--- allowed only if the type is signed, and a plus only if `takes_plus` holds.
+-- An optional sign and digits that write the number: a minus if signed, a plus if `takes_plus`.
 pub record TextWrites (int : IntType) (takes_plus : Bool) (s : List ℕ) (number : ℤ) : Type 0 where
   pub sign : SignMark
   pub digits : List ℕ
@@ -45,7 +43,7 @@ pub record TextWrites (int : IntType) (takes_plus : Bool) (s : List ℕ) (number
   pub plus_taken : is_plus sign ≡ true → takes_plus ≡ true
   pub written : DigitsWrite int (is_minus sign) digits number
 
--- The bytes are a text of the type: they write some number of the type, and a plus is allowed.
+-- The bytes write some number of the type, perhaps with a plus.
 pub record IsText (int : IntType) (s : List ℕ) : Type 0 where
   pub number : ℤ
   pub written : TextWrites int true s number
@@ -55,30 +53,27 @@ abbrev pub BeginsWithDigit : List ℕ → Type 0
 BeginsWithDigit [] = ⊥
 BeginsWithDigit (byte ∷ bytes) = IsAsciiDigit byte
 
--- The first `count` bytes of `s` write the number, in the sense of `Writes`, and no digit follows
--- them.
+-- The first `count` bytes write the number, and no digit follows.
 pub record PrefixWrites (Writes : List ℕ → ℤ → Type 0) (s : List ℕ) (number : ℤ) (count : ℕ) : Type 0 where
   pub written : Writes (take count s) number
   pub some : 0 < count
   pub within : count ≤ length s
   pub ends : ¬ BeginsWithDigit (drop count s)
 
--- The slice is bytes that write the number, in the sense of `Writes`, then `byte`, then `rest`.
+-- Bytes that write the number, then `byte`, then `rest`.
 pub record IsNumberThen (Writes : List ℕ → ℤ → Type 0) (s : List ℕ) (number : ℤ) (byte : ℕ) (rest : List ℕ) : Type 0 where
   pub bytes : List ℕ
   pub parts : s ≡ bytes ++ byte ∷ rest
   pub written : Writes bytes number
 
--- The first `count` bytes are all digits that the slice begins with. There is at least one, and
--- their value is out of the range of the type.
+-- The first `count` bytes are all digits at the start, at least one, and out of range.
 pub record IsTooLarge (int : IntType) (is_negative : Bool) (s : List ℕ) (count : ℕ) : Type 0 where
   pub numeral : IsNumeral 10 (take count s)
   pub above : bound_of int is_negative < digits_value 10 (take count s)
   pub within : count ≤ length s
   pub ends : ¬ BeginsWithDigit (drop count s)
 
--- The digits start with a zero and at least one more digit follows, so the number could be written
--- without this zero.
+-- A zero and more digits: a zero that could be left out.
 abbrev pub has_needless_zero : List ℕ → Bool
 has_needless_zero [] = false
 has_needless_zero (digit ∷ []) = false

@@ -4,8 +4,7 @@ use Rattle.atoi_core.specs.Digit.{Table}
 use Rattle.atoi_core.specs.Run.{run_len, run, zeros, value}
 use Rattle.atoi_core.specs.declared.window.Window.{Window}
 
--- The window of the first `size` bytes, or of all if there are fewer: the length and the value of
--- their run, and the leading zeros if there are `size` digits.
+-- The run of the first `size` bytes, its value, and its zeros if it is full.
 abbrev pub window_of : Table → ℕ → List ℕ → Window
 window_of table size s =
     let bytes = take size s in

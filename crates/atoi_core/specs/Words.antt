@@ -6,7 +6,7 @@ use Rattle.std.specs.Simd.Lanes.{digits_l, number_l}
 unfoldable pub low_bytes : ℕ → ℕ → List ℕ
 low_bytes count word = digits_l 256 count word
 
--- The word of these bytes, the lowest first, with zeros above them.
+-- The word of these bytes, the lowest first.
 unfoldable pub word_of : List ℕ → ℕ
 word_of bytes = number_l 256 bytes
 

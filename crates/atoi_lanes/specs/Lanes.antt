@@ -1,4 +1,4 @@
--- Lanes, the windows that are read from them, and digits that are joined in them.
+-- Lanes, windows read from them, and digits joined in them.
 use Rattle.std.specs.Prelude.{◌≡◌, ℕ, ◌+◌, ◌*◌, ◌≤◌, ◌==◌, if◌then◌else◌, Bool, true, List, [], ◌∷◌, ◌++◌, length, take, drop, replicate, Some}
 use Rattle.atoi_core.specs.Digit.{Table, decimal_table}
 use Rattle.atoi_core.specs.Reading.{Reading, IsSkipped}
@@ -13,7 +13,7 @@ padded_start size s = take size (s ++ replicate size 0)
 abbrev pub padded : List ℕ → List ℕ
 padded v = replicate 16 0 ++ (v ++ replicate 16 0)
 
--- The run that the lanes begin with. Zeros are counted if it has `size` digits.
+-- The lanes' run; its zeros, if it has `size` digits.
 abbrev pub lane_window : ℕ → List ℕ → Window
 lane_window size lanes =
     record {
@@ -26,14 +26,13 @@ lane_window size lanes =
 abbrev pub itself : Table
 itself byte = Some byte
 
--- Digits joined two by two. An odd one at the end is dropped.
+-- Digits joined in pairs; an odd last one is dropped.
 abbrev pub paired : ℕ → List ℕ → List ℕ
 paired base [] = []
 paired base (last ∷ []) = []
 paired base (high ∷ low ∷ rest) = (high * base + low) ∷ paired base rest
 
--- A reading of 32 bytes after skipped zeros. If zeros are skipped and all 32 bytes are digits, the
--- first is not zero.
+-- 32 bytes after skipped zeros; if all are digits, the first is no zero to skip.
 pub record ReadsAfterZeros (skip : Bool) (s : List ℕ) (at len zeroes number : ℕ) : Type 0 where
   pub skipped : IsSkipped decimal_table skip s at
   pub reading : Reading decimal_table 32 (drop at s) len zeroes number

@@ -27,7 +27,7 @@ abbrev pub whole_text : Result ℤ Refusal → List ℕ
 whole_text (Ok value) = codes "ok " ++ signed_decimal value
 whole_text (Err reason) = refusal_text reason
 
--- The answer to a call for a prefix: the value, and how many bytes the prefix has.
+-- A prefix's answer: the value and its bytes.
 abbrev pub prefix_text : Result (ℤ × ℕ) Refusal → List ℕ
 prefix_text (Ok found) = codes "ok " ++ signed_decimal found.0 ++ codes " " ++ decimal found.1
 prefix_text (Err reason) = refusal_text reason
@@ -41,12 +41,11 @@ call_text Prefix int flags text = prefix_text (parse_prefix_answer int flags.zer
 call_text PrefixPos int flags text = prefix_text (prefix_answer decimal_table int false flags.zeroes text)
 call_text PrefixNeg int flags text = prefix_text (prefix_answer decimal_table int true flags.zeroes text)
 
--- The answer to a row about one number. It does not depend on the engine.
+-- The answer to a number's row, on either engine.
 abbrev pub row_text : Request → List ℕ → List ℕ
 row_text request text = call_text request.call (int_type_of request.integer) request.flags text
 
--- Why a field has no value: no number is at its start, or another byte follows the number. The
--- offset is that of the field's first byte, or of the byte after the number.
+-- Why a field has no value, with the offset of the field or of the byte after its number.
 abbrev pub refused_field_text : Flaw → List ℕ
 refused_field_text (field index place reason) =
     codes "field " ++ decimal index ++ codes " " ++ decimal place ++ codes ": " ++ error_text reason
@@ -66,7 +65,7 @@ abbrev pub query_text : Query → List ℕ → List ℕ
 query_text (Number request) text = row_text request text
 query_text (Column integer separator) text = column_text (int_type_of integer) separator text
 
--- The line is a row whose words name a call or a column that the tool accepts.
+-- The line is a row that the tool accepts.
 abbrev pub is_good_line : List ℕ → Bool
 is_good_line line = is_some (row_of line)
 

@@ -1,8 +1,8 @@
--- How refused calls are counted, and what was written when one was refused.
+-- Refused calls, and what was written at one.
 use Rattle.std.specs.Prelude.{◌≡◌, ◌++◌, ℕ, ◌<◌, Option, Result, Ok, Err, List, length, take}
 use Rattle.std.specs.Io.KnownBytes.{Appends}
 
--- How much the result of a call adds to the count of failures.
+-- What a call's result adds to the failures.
 abbrev pub failures_of : {A E : Type 0} → Result A E → ℕ
 failures_of (Ok value) = 0
 failures_of (Err error) = 1
@@ -11,6 +11,6 @@ failures_of (Err error) = 1
 abbrev pub AppendsPrefix : Option (List ℕ) → Option (List ℕ) → List ℕ → Type 0
 AppendsPrefix old new bytes = (count : ℕ) × (count < length bytes) × Appends old new (take count bytes)
 
--- Known bytes grow by the part of `whole` before `rest`, its end.
+-- Known bytes grow by `whole` without its end `rest`.
 abbrev pub AppendsUpTo : Option (List ℕ) → Option (List ℕ) → (whole rest : List ℕ) → Type 0
 AppendsUpTo old new whole rest = (front : List ℕ) × Appends old new front × (whole ≡ front ++ rest)

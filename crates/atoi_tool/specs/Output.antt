@@ -8,7 +8,7 @@ use Rattle.atoi_tool.specs.Answer.{is_good_line, line_answer}
 abbrev pub newline : ℕ
 newline = 10
 
--- The lines of an input are its fields when a newline is the separator.
+-- The lines are the fields between newlines.
 abbrev pub lines_of : List ℕ → List (List ℕ)
 lines_of input = fields_of newline input
 

@@ -3,7 +3,7 @@ use Rattle.std.specs.Prelude.{◌≡◌, ℕ, ◌+◌, Result, Ok, Err}
 use Rattle.atoi_tool.specs.declared.status.ToolError.{ToolError}
 use Rattle.atoi_tool.specs.declared.status.ToolError.TheVariants.{Memory, Read, Write}
 
--- One call of `take` was refused if the error is `Read`, otherwise none. It is never `Write`.
+-- `Read` is one refused `take`; it is never `Write`.
 abbrev pub ReadAllCounts : {A : Type 0} → ℕ → ℕ → Result A ToolError → Type 0
 ReadAllCounts old new (Ok bytes) = new ≡ old
 ReadAllCounts old new (Err Memory) = new ≡ old

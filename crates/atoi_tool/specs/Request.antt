@@ -1,4 +1,4 @@
--- What the words of a row name, and which rows have an answer.
+-- What a row's words name, and which rows have answers.
 use Rattle.std.specs.Prelude.{Option, Some, None, Bool, true, false, List, ℕ, codes, ◌&&◌, if◌then◌else◌}
 use Rattle.std.specs.Str.{bytes_eq}
 use Rattle.atoi_core.specs.IntType.{IntType, u8_type, i8_type, u16_type, i16_type, u32_type, i32_type, u64_type, i64_type, u128_type, i128_type, usize_type, isize_type}
@@ -39,7 +39,7 @@ integer_of word =
 abbrev flags : Bool → Bool → Flags
 flags zeroes plus = record { zeroes = zeroes; plus = plus }
 
--- The flags that a word names: `z` or `-` for leading zeros, then `p` or `-` for a plus.
+-- The flags: `z` or `-` for zeros, `p` or `-` for a plus.
 abbrev pub flags_of : List ℕ → Option Flags
 flags_of word =
     if bytes_eq word (codes "--") then Some (flags false false)
@@ -68,14 +68,13 @@ takes_sign Parse = true
 takes_sign Prefix = true
 takes_sign call = false
 
--- The digits are those of a number that is negative or zero.
+-- A negative number's digits, or zero's.
 abbrev pub is_negative : Call → Bool
 is_negative Neg = true
 is_negative PrefixNeg = true
 is_negative call = false
 
--- Such a row has an answer: a plus is allowed only where the call takes a sign, and `neg` and
--- `prefix_neg` need a signed type.
+-- A plus needs a call with a sign, `neg` and `prefix_neg` a signed type.
 abbrev pub is_known : Request → Bool
 is_known request =
     (if request.flags.plus then takes_sign request.call else true)

@@ -1,4 +1,4 @@
--- A line as a row: four words, with one space after each, and a text.
+-- A row: four words, a space after each, and a text.
 use Rattle.std.specs.Prelude.{◌≡◌, Option, Some, None, ℕ, ◌+◌, ◌-◌, ◌*◌, ◌==◌, ◌&&◌, nat_le, true, List, [], ◌∷◌, take, drop, position, codes, option_and_then, if◌then◌else◌}
 use Rattle.std.specs.Option.{option_map}
 use Rattle.std.specs.Str.{bytes_eq}
@@ -23,7 +23,7 @@ named_request engine_word call_word integer_word flags_word =
     (λ flags. record { engine = engine; call = call; integer = integer; flags = flags })
     (flags_of flags_word)) (integer_of integer_word)) (call_of call_word)) (engine_of engine_word)
 
--- What four words ask for, if such a row has an answer.
+-- What four words ask for, if answered.
 abbrev pub request_of : (engine_word call_word integer_word flags_word : List ℕ) → Option Request
 request_of engine_word call_word integer_word flags_word =
     option_and_then (λ request. if is_known request then Some request else None)
@@ -41,7 +41,7 @@ byte_of (high ∷ low ∷ []) =
     option_and_then (λ sixteens. option_map (λ ones. 16 * sixteens + ones) (value_of_hex_digit low)) (value_of_hex_digit high)
 byte_of word = None
 
--- The column that three words ask for. Only the engine `w` reads columns.
+-- The column of three words; only `w` reads columns.
 abbrev pub column_of : (engine_word integer_word separator_word : List ℕ) → Option Query
 column_of engine_word integer_word separator_word =
     if bytes_eq engine_word (codes "w") then option_and_then (λ integer. option_and_then
@@ -49,7 +49,7 @@ column_of engine_word integer_word separator_word =
     (byte_of separator_word)) (integer_of integer_word)
     else None
 
--- What four words ask for. The last one spells the separator of a column, or names flags.
+-- What four words ask for; the last is a separator or flags.
 abbrev pub query_of : (engine_word call_word integer_word last_word : List ℕ) → Option Query
 query_of engine_word call_word integer_word last_word =
     if bytes_eq call_word (codes "column") then column_of engine_word integer_word last_word
@@ -60,7 +60,7 @@ abbrev pub HasAnswer : Query → Type 0
 HasAnswer (Number request) = is_known request ≡ true
 HasAnswer (Column integer separator) = is_separator separator ≡ true
 
--- What a line asks for, and the text after its fourth space, which may contain spaces.
+-- What a line asks for, and the text after four spaces.
 abbrev pub row_of : List ℕ → Option (Query × List ℕ)
 row_of line =
     option_and_then (λ engine. option_and_then (λ call. option_and_then (λ integer. option_and_then

@@ -1,4 +1,4 @@
--- What a run of the tool does to its source and its sink, for each outcome.
+-- What a run does to source and sink, by outcome.
 use Rattle.std.specs.Prelude.{◌≡◌, ℕ, Bool, List, Option, Result, Ok, Err}
 use Rattle.std.specs.Io.KnownBytes.{Consumes, IsAtEnd, Appends, Keeps}
 use Rattle.atoi_tool.specs.declared.run.Ended.{Ended}
@@ -7,17 +7,17 @@ use Rattle.atoi_tool.specs.declared.status.ToolError.TheVariants.{Memory, Read, 
 use Rattle.atoi_tool.specs.Failures.{AppendsPrefix}
 use Rattle.atoi_tool.specs.Output.{output_of, is_good_input}
 
--- Whether every line was good, or the error that stopped the run.
+-- Whether every line was good, or the error.
 abbrev pub outcome_of : {I O : Type 0} → Ended I O → Result Bool ToolError
 outcome_of ended = ended.outcome
 
--- The source gave all its bytes, and the sink got the whole output for them.
+-- All was read, and the whole output written.
 abbrev pub IsAnswered : (rest rest_after contents contents_after : Option (List ℕ)) → Bool → Type 0
 IsAnswered rest rest_after contents contents_after is_good =
     (input : List ℕ) × Consumes rest rest_after input × IsAtEnd rest_after
     × Appends contents contents_after (output_of input) × (is_good ≡ is_good_input input)
 
--- The source gave all its bytes, and the sink got a proper prefix of the output for them.
+-- All was read, and a proper prefix of the output written.
 abbrev pub IsCutShort : (rest rest_after contents contents_after : Option (List ℕ)) → Type 0
 IsCutShort rest rest_after contents contents_after =
     (input : List ℕ) × Consumes rest rest_after input × IsAtEnd rest_after

@@ -3,8 +3,7 @@ use Rattle.std.specs.Prelude.{◌≡◌, ℕ, ◌^◌, ◌<◌, List, ◌∷◌,
 use Rattle.atoi_uses.specs.Versions.{dot}
 use Rattle.atoi_uses.specs.declared.addresses.Address.{Address}
 
--- The four numbers of the address are below 256, and the text consists of their decimal texts with
--- dots between them.
+-- Four numbers below 256, as decimal texts with dots between them.
 pub record IsAddress (text : List ℕ) (address : Address) : Type 0 where
   pub parts : text ≡ decimal address.first ++ dot ∷ (decimal address.second ++ dot ∷ (decimal address.third ++ dot ∷ decimal address.fourth))
   pub first_fits : address.first < 2 ^ 8

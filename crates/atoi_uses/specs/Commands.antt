@@ -1,4 +1,4 @@
--- The commands of a protocol: a word, one space and a number.
+-- A protocol's commands: a word, a space and a number.
 use Rattle.std.specs.Prelude.{◌≡◌, ℕ, true, List, ◌++◌, Err, codes}
 use Rattle.atoi_core.specs.Answer.{parse_answer}
 use Rattle.atoi_core.specs.ErrorText.{error_text as cause_text}
@@ -20,14 +20,13 @@ word_text IncrBy = codes "INCRBY"
 abbrev pub HasWord : List ℕ → Word → (text : List ℕ) → Type 0
 HasWord line word text = line ≡ word_text word ++ codes " " ++ text
 
--- The line is the command: its word, one space, and then a text that writes its number, an `i64`.
+-- The word, one space, and a text of its `i64`.
 pub record IsCommand (line : List ℕ) (command : Command) : Type 0 where
   pub text : List ℕ
   pub parts : HasWord line command.word text
   pub written : TextWrites i64_type true text command.number
 
--- What an error says: the line does not begin with a word and a space, or it does, and `cause` is
--- the error that `parse` with both flags returns for the text after them.
+-- No word and space, or `cause` is the error of `parse` for what follows them.
 abbrev pub IsNoCommand : List ℕ → CommandError → Type 0
 IsNoCommand line UnknownWord = (word : Word) (text : List ℕ) → ¬ HasWord line word text
 IsNoCommand line (BadNumber cause) =

@@ -5,20 +5,19 @@ use Rattle.atoi_simd.specs.Text.{BeginsWithDigit}
 use Rattle.atoi_uses.specs.declared.durations.DurationError.{DurationError}
 use Rattle.atoi_uses.specs.declared.durations.DurationError.TheVariants.{NoDuration, TooLarge}
 
--- The first `count` bytes are all digits at the start of the text, and `number` is their value, but
--- at most 2^64.
+-- The first `count` bytes are all leading digits; `number` is their value, at most 2^64.
 pub record HasNumber (text : List ℕ) (number count : ℕ) : Type 0 where
   pub numeral : IsNumeral 10 (take count text)
   pub value : number ≡ min (digits_value 10 (take count text)) (2 ^ 64)
   pub within : count ≤ length text
   pub ends : ¬ BeginsWithDigit (drop count text)
 
--- The text is one or more digits, the unit and a rest.
+-- One or more digits, the unit and a rest.
 pub record HasPart (unit : ℕ) (text digits rest : List ℕ) : Type 0 where
   pub parts : text ≡ digits ++ unit ∷ rest
   pub numeral : IsNumeral 10 digits
 
--- The text is hours, minutes and seconds, each with its unit, and they are `total` seconds.
+-- Hours, minutes and seconds with units, `total` seconds in all.
 pub record IsDuration (text : List ℕ) (total : ℕ) : Type 0 where
   pub hours : List ℕ
   pub minutes : List ℕ
@@ -30,7 +29,7 @@ pub record IsDuration (text : List ℕ) (total : ℕ) : Type 0 where
   pub has_seconds : HasPart 115 after_minutes seconds []
   pub total_is : total ≡ digits_value 10 hours * 3600 + digits_value 10 minutes * 60 + digits_value 10 seconds
 
--- What an error says: the text is no duration, or one of more seconds than a `u64` can hold.
+-- No duration, or more seconds than a `u64` holds.
 abbrev pub IsNoDuration : List ℕ → DurationError → Type 0
 IsNoDuration text NoDuration = (any : ℕ) → ¬ IsDuration text any
 IsNoDuration text TooLarge = (total : ℕ) × (IsDuration text total × (2 ^ 64 ≤ total))

@@ -13,8 +13,7 @@ abbrev pub without_blanks : List ℕ → List ℕ
 without_blanks [] = []
 without_blanks (byte ∷ bytes) = if is_blank byte then without_blanks bytes else byte ∷ bytes
 
--- The value is digits that write the length, a `u64`, with any number of blanks before and after
--- them.
+-- Digits that write the `u64`, with blanks around them.
 pub record IsContentLength (value : List ℕ) (content_length : ℕ) : Type 0 where
   pub before : List ℕ
   pub digits : List ℕ

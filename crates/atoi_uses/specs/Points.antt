@@ -7,12 +7,12 @@ use Rattle.atoi_uses.specs.declared.points.Point.{Point}
 abbrev pub comma : ℕ
 comma = 44
 
--- The text is a number as `parse_prefix` reads it, then a comma, then `rest`.
+-- A number as `parse_prefix` reads it, a comma, then `rest`.
 abbrev pub HasField : List ℕ → ℤ → List ℕ → Type 0
 HasField text number rest =
     (count : ℕ) × ((parse_prefix_answer i64_type true true text ≡ Ok (number, count)) × (drop count text ≡ comma ∷ rest))
 
--- The text is the three numbers of the point, and nothing else.
+-- The point's three numbers, and nothing else.
 pub record IsPoint (text : List ℕ) (point : Point) : Type 0 where
   pub after_x : List ℕ
   pub after_y : List ℕ

@@ -15,14 +15,13 @@ use Rattle.atoi_uses.specs.declared.signed_totals.SignedTotalError.TheVariants.{
 abbrev pub sum_of : List ℤ → ℤ
 sum_of numbers = fold ◌+ℤ◌ (pos 0) numbers
 
--- Each field is a text of an `i64`, and the total is the sum of the numbers that the fields write.
+-- Each field is a text of an `i64`, and `total` their sum.
 abbrev pub HasTotal : (separator : ℕ) → List ℕ → ℤ → Type 0
 HasTotal separator input total =
     (numbers : List ℤ)
     × (AllZip (TextWrites i64_type true) (fields_of separator input) numbers × (total ≡ sum_of numbers))
 
--- What an error says: `error` names the first field that is not a text of an `i64`, or `total` is
--- the total, and is out of range.
+-- The first field that is no text, or a total out of range.
 abbrev pub HasNoTotal : (separator : ℕ) → List ℕ → SignedTotalError → Type 0
 HasNoTotal separator input (BadField error) =
     IsFirstBad i64_type separator input (index_of (flaw_of error)) (place_of (flaw_of error))

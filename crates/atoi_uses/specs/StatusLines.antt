@@ -3,7 +3,7 @@ use Rattle.std.specs.Prelude.{◌≡◌, ℕ, false, List, [], ◌∷◌, ◌++�
 use Rattle.atoi_simd.specs.IntType.{u16_type}
 use Rattle.atoi_simd.specs.Text.{DigitsWrite}
 
--- The line is `HTTP/1.1`, three digits that write the code, and a reason, with a space before each.
+-- `HTTP/1.1`, three digits of the code, and a reason, a space before each.
 pub record IsStatusLine (line : List ℕ) (code : ℕ) (reason : List ℕ) : Type 0 where
   pub first : ℕ
   pub second : ℕ

@@ -7,7 +7,7 @@ use Rattle.atoi_uses.specs.declared.versions.Version.{Version}
 abbrev pub dot : ℕ
 dot = 46
 
--- The text is three numbers in the range of `u32` with dots between them, and nothing else.
+-- Three `u32` with dots between them, and nothing else.
 pub record IsVersion (text : List ℕ) (version : Version) : Type 0 where
   pub after_major : List ℕ
   pub after_minor : List ℕ
