@@ -50,7 +50,7 @@ limit_of_prefix int skip limit h =
     wide true = refl
     wide false = refl
 
--- Each bound is at most `T::MAX + 1` of the signed type of its size, or of the unsigned one.
+-- A bound has at most `limit` digits if the largest of either sign has.
 magnitude_below : (limit bits : ℕ) (signed minus : Bool) → greatest_of bits true + 1 < 10 ^ limit → greatest_of bits false + 1 < 10 ^ limit
     → cond minus (greatest_of bits signed + 1) (greatest_of bits signed) < 10 ^ limit
 magnitude_below limit bits true true p q = p
