@@ -229,6 +229,7 @@ fn window_of_word(word: u64) -> Window
 }
 
 // The number that the leading digits of the word spell; there may be none.
+#[tactic(auto, using(crate::proofs::lemmas::LoadedWords::sum_of_none))]
 fn number_in_word(word: u64, len: u32) -> u64
     requires few { len ≤ 8 }
     requires digits { len ≡ run_len decimal_table (low_bytes 8 word) }
@@ -261,6 +262,7 @@ fn value_of_fewer(word: u64, len: u32) -> u64
 
 // `process_8` for bytes below 16. The two sums of four digits are joined by one small product,
 // which needs no 64-bit constant.
+#[tactic(auto, using(crate::proofs::lemmas::WordFields::sum_of_fields, crate::proofs::lemmas::WordFields::sum_most))]
 fn sum_of(digits: u64) -> u64
     requires { bit_and digits 0x0F0F_0F0F_0F0F_0F0F ≡ digits }
     ensures sum { result ≡ low_value (low_bytes 8 digits) }

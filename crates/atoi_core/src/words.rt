@@ -115,6 +115,7 @@ pub fn check_len_8(val: u64) -> u32
 
 /// Returns the number that the lowest `len` bytes of `val` spell, the lowest byte first. Each byte
 /// counts modulo 16.
+#[tactic(auto, using(crate::proofs::lemmas::WordFields::sum_8, crate::proofs::lemmas::WordFields::sum_most))]
 pub fn process_8(val: u64, len: u32) -> u64
     requires low { 1 ≤ len }
     requires high { len ≤ 8 }
@@ -129,6 +130,7 @@ pub fn process_8(val: u64, len: u32) -> u64
 }
 
 /// `process_8` for a word of sixteen bytes.
+#[tactic(auto, using(crate::proofs::lemmas::WordFields::sum_16, crate::proofs::lemmas::WordFields::sum_most))]
 pub fn process_16(val: u128, len: u32) -> u64
     requires low { 1 ≤ len }
     requires high { len ≤ 16 }
