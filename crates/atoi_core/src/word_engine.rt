@@ -297,6 +297,7 @@ fn zeroes_of(word: u64) -> u32
     word.wrapping_sub(ZEROS).trailing_zeros() / 8
 }
 
+#[tactic(auto, using(std::proofs::lemmas::Bool::ne_eqb, crate::proofs::lemmas::LoadedWords::zeros_of_two))]
 fn zeroes_of_two(first: u64, next: u64) -> u32
     ensures { result ≡ zeros decimal_table (low_bytes 8 first ++ low_bytes 8 next) }
 {

@@ -5,6 +5,7 @@ ghost use Rattle.atoi_core.specs.Run.{run_len, zeros};
 ghost use Rattle.atoi_core.specs.Words.{low_bytes, word_of, low_value};
 
 /// Returns the word of the first 8 bytes of `s`. A missing byte is 0.
+#[tactic(auto, using(std::proofs::lemmas::List::take_all, crate::proofs::lemmas::LoadedWords::word_of_first))]
 pub fn load_8(s: &[u8]) -> u64
     ensures { result ≡ word_of (take 8 s.now) }
 {
@@ -14,6 +15,7 @@ pub fn load_8(s: &[u8]) -> u64
     }
 }
 
+#[tactic(auto, using(crate::proofs::lemmas::LoadedWords::word_of_none, crate::proofs::lemmas::LoadedWords::shifted_back))]
 fn load_part(s: &[u8]) -> u64
     requires { length s.now < 8 }
     ensures { result ≡ word_of s.now }
@@ -40,6 +42,7 @@ pub fn load_high(s: &[u8]) -> u64
 /// The word of the first 8 bytes from `at` on, or of all from there on if there are fewer, from the
 /// last 8 bytes by a shift. It may be by all 64 bits, so there are two.
 #[inline(always)]
+#[tactic(auto, using(crate::proofs::lemmas::LoadedWords::last_bytes))]
 pub fn load_from(s: &[u8], at: usize) -> u64
     requires enough { 8 ≤ length s.now }
     requires inside { at ≤ length s.now }
@@ -69,6 +72,7 @@ pub(crate) fn load_full(s: &[u8]) -> u64
 
 // The word of the first four bytes, or 0 if there are fewer. Here and below, LLVM compiles a choice
 // between two arrays, not two numbers, without a branch.
+#[tactic(auto, using(crate::proofs::lemmas::LoadedWords::word_from_four))]
 fn first_four(s: &[u8]) -> u64
     ensures enough { 4 ≤ length s.now → result ≡ word_of (take 4 s.now) }
     ensures few { length s.now < 4 → result ≡ 0 }
@@ -80,6 +84,7 @@ fn first_four(s: &[u8]) -> u64
     u64::from(u32::from_le_bytes(*bytes))
 }
 
+#[tactic(auto, using(crate::proofs::lemmas::LoadedWords::word_from_two))]
 fn first_two(s: &[u8]) -> u64
     ensures enough { 2 ≤ length s.now → result ≡ word_of (take 2 s.now) }
     ensures few { length s.now < 2 → result ≡ 0 }
@@ -91,6 +96,7 @@ fn first_two(s: &[u8]) -> u64
     u64::from(u16::from_le_bytes(*bytes))
 }
 
+#[tactic(auto, using(crate::proofs::lemmas::LoadedWords::word_from_four))]
 fn last_four(s: &[u8]) -> u64
     ensures enough { 4 ≤ length s.now → result ≡ word_of (drop (length s.now - 4) s.now) }
     ensures few { length s.now < 4 → result ≡ 0 }
