@@ -1,10 +1,8 @@
 pub mod Digit
 pub mod Run
-pub mod ClosedValue
 pub mod Refusal
 pub mod ErrorText
 pub mod Magnitude
-pub mod Narrow
 pub mod IntType
 pub mod Sign
 pub mod Answer

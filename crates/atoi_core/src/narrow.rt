@@ -2,7 +2,7 @@
 ghost use Rattle.std.specs.Prelude.{◌≡◌, ℕ, ◌+◌, ◌-◌, ◌<◌, ◌≤◌, ◌==◌, true, false, not, ◌&&◌, ◌||◌, nat_lt, if◌then◌else◌, Ok, Err, length, drop};
 ghost use Rattle.atoi_core.specs.Loads.{LoadsWithin, most_loads};
 ghost use Rattle.atoi_core.specs.Magnitude.{narrow, whole_magnitude, prefix_magnitude};
-ghost use Rattle.atoi_core.specs.Narrow.{narrow_decision};
+ghost use Rattle.atoi_core.specs.Magnitude.{narrow_decision};
 ghost use Rattle.atoi_core.specs.Refusal.{answer_of, overflow};
 ghost use Rattle.atoi_core.specs.Run.{run_len};
 ghost use Rattle.atoi_core.specs.Window.{window_of};

@@ -152,6 +152,7 @@ pub fn process_16(val: u128, len: u32) -> u64
 }
 
 /// Returns how many bytes of `val`, from the lowest on, are the digit zero.
+#[tactic(auto, using(crate::proofs::lemmas::WordRuns::zeros_of_8))]
 pub fn len_zeroes(val: u64) -> u32
     ensures zeroes { result ≡ zeros decimal_table (low_bytes 8 val) }
     ensures most { result ≤ 8 }
@@ -160,6 +161,7 @@ pub fn len_zeroes(val: u64) -> u32
 }
 
 /// `len_zeroes` for a word of sixteen bytes.
+#[tactic(auto, using(crate::proofs::lemmas::WordRuns::zeros_of_16))]
 pub fn len_zeroes_128(val: u128) -> u32
     ensures zeroes { result ≡ zeros decimal_table (low_bytes 16 val) }
     ensures most { result ≤ 16 }

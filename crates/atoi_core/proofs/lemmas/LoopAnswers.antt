@@ -4,7 +4,7 @@ use Rattle.std.proofs.lemmas.Bool.{eq-eqb, cases_lt, lt-ltb}
 use Rattle.std.proofs.lemmas.List.{length-drop, take_rest}
 use Rattle.atoi_core.specs.Digit.{Table, IsBelowTen, is_zero, is_digit}
 use Rattle.atoi_core.specs.Run.{zeros, run_len, run, value}
-use Rattle.atoi_core.specs.Narrow.{narrow_decision}
+use Rattle.atoi_core.specs.Magnitude.{narrow_decision}
 use Rattle.atoi_core.specs.Refusal.{empty, Refusal, invalid64, invalid128, size, overflow}
 use Rattle.atoi_core.specs.Magnitude.{Class, wide64, wide128, Extent, prefix, rule_of, HasDigits, prefix_magnitude, narrow, whole, Rule, invalid, refusal, unless_refused, whole_magnitude, skipped_zeros, is_above}
 use Rattle.atoi_core.specs.Reading.{IsSkipped, cap, answer_by_digits}

@@ -42,6 +42,13 @@ zeros_counted k word =
     ∙ prefix_len-map (λ b. b == 0) (λ x. bit_xor x 48) (digits_l 256 k word)
     ∙ prefix_len-agree (λ x. bit_xor x 48 == 0) (is_zero decimal_table) combined_is_zero k word
 
+-- Of eight bytes, and of sixteen.
+pub zeros_of_8 : (word : ℕ) → count_trailing_zeros 64 (bit_xor word 0x3030_3030_3030_3030) / 8 ≡ zeros decimal_table (low_bytes 8 word)
+zeros_of_8 word = zeros_counted 8 word
+
+pub zeros_of_16 : (word : ℕ) → count_trailing_zeros 128 (bit_xor word 0x3030_3030_3030_3030_3030_3030_3030_3030) / 8 ≡ zeros decimal_table (low_bytes 16 word)
+zeros_of_16 word = zeros_counted 16 word
+
 -- ---- Counting digits
 
 -- Lengths that are 0 unless a test passes, and equal where it does.
