@@ -1,7 +1,7 @@
 //! Why a field of a column has no value.
 ghost use Rattle.std.specs.Prelude.{◌≡◌, ◌↔◌, IsTrue};
 
-use atoi_core::derived::clones_are_the_same;
+use atoi_core::clones_are_the_same;
 use atoi_simd::AtoiSimdError;
 use std::error::Error;
 use std::fmt;

@@ -1,9 +1,13 @@
-//! Which bytes are digits, and windows that are read byte by byte.
+//! Which bytes are digits, windows that are read byte by byte, and `Plain`, the reference engine.
 ghost use Rattle.std.specs.Prelude.{◌≡◌, ◌≤◌, length};
 ghost use Rattle.atoi_core.specs.Digit.{Table, IsBelowTen, decimal_table};
 ghost use Rattle.atoi_core.specs.Run.{run_len, run, value, zeros};
 ghost use Rattle.atoi_core.specs.Window.{window_of};
+ghost use Rattle.std.proofs.Common.{arith};
+ghost use Rattle.std.proofs.lemmas.Bool.Decides.{nat_tests};
 
+use crate::engine::Engine;
+use crate::steps::Steps;
 use crate::window::Window;
 
 /// A table of digits that code can look up. An engine with these digits may read its windows with
@@ -77,4 +81,34 @@ fn count_zeros<A: Alphabet>(s: &[u8]) -> u32
         }
     }
     s.len() as u32
+}
+
+/// The engine that reads decimal digits byte by byte.
+pub struct Plain;
+
+impl Alphabet for Plain {
+    ghost table = { decimal_table };
+
+    #[inline(always)]
+    fn digit_value(byte: u8) -> Option<u64> {
+        digit(byte)
+    }
+
+    ghost below_ten = { λ byte. Prim.grind (arith, nat_tests) };
+}
+
+impl Engine for Plain {
+    ghost table = { decimal_table };
+
+    fn window(s: &[u8], steps: &mut Steps) -> Window {
+        steps.tick();
+        front_of::<Plain>(16, s)
+    }
+
+    fn window_8(s: &[u8], steps: &mut Steps) -> Window {
+        steps.tick();
+        front_of::<Plain>(8, s)
+    }
+
+    ghost below_ten = { λ byte. Prim.grind (arith, nat_tests) };
 }

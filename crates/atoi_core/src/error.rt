@@ -56,3 +56,14 @@ impl AtoiSimdError<'_> {
 }
 
 impl Error for AtoiSimdError<'_> {}
+
+/// Law: a clone of a `T` is the same value, and cloning never fails. A derived method has no clause
+/// of its own, so the law is a `requires`, proved where this function is called.
+pub fn clones_are_the_same<T: Clone>()
+    requires same { (value copy : T) → T.is_clone value copy → copy ≡ value }
+    requires always { (value : T) → T.is_infallible value }
+{}
+
+fn clones() {
+    clones_are_the_same::<AtoiSimdError<'_>>();
+}

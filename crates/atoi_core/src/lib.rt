@@ -4,7 +4,6 @@
 
 mod alphabet;
 mod core_calls;
-pub mod derived;
 mod digit_loop;
 mod engine;
 mod error;
@@ -12,7 +11,6 @@ pub mod laws;
 mod leading_digits;
 mod narrow;
 mod number;
-mod plain;
 pub mod powers;
 mod prefix_128;
 mod sign;
@@ -26,15 +24,14 @@ mod word_engine;
 pub mod words;
 mod zero_loop;
 
-pub use crate::alphabet::{Alphabet, front_of};
+pub use crate::alphabet::{Alphabet, Plain, front_of};
 pub use crate::core_calls::{prefix_neg, prefix_pos, whole_neg, whole_pos};
 pub use crate::digit_loop::narrow_whole;
 pub use crate::engine::Engine;
-pub use crate::error::AtoiSimdError;
+pub use crate::error::{AtoiSimdError, clones_are_the_same};
 pub use crate::leading_digits::count_digits;
 pub use crate::narrow::{narrow_prefix, narrow_whole_windows};
 pub use crate::number::{Number, Signed};
-pub use crate::plain::Plain;
 pub use crate::sign::{
     parse_prefix_signed, parse_prefix_unsigned, parse_signed, parse_unsigned, take_sign,
 };

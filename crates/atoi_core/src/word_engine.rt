@@ -290,6 +290,7 @@ fn digits_of(word: u64) -> u32
 }
 
 // `len_zeroes`, with the same difference as in `digits_of` and `value_of`.
+#[tactic(auto, using(crate::proofs::lemmas::WordRuns::lowered_zeros_of_8))]
 fn zeroes_of(word: u64) -> u32
     ensures zeroes { result ≡ zeros decimal_table (low_bytes 8 word) }
     ensures most { result ≤ 8 }

@@ -212,6 +212,9 @@ lowered_zeros_counted k word =
     ∙ ap (prefix_len (λ b. b == 0)) (digits_cut 8 k (word + without_48 k))
     ∙ lowered_zeros k word
 
+pub lowered_zeros_of_8 : (word : ℕ) → count_trailing_zeros 64 ((word + 0xCFCF_CFCF_CFCF_CFD0) % 0x1_0000_0000_0000_0000) / 8 ≡ zeros decimal_table (low_bytes 8 word)
+lowered_zeros_of_8 word = lowered_zeros_counted 8 word
+
 -- If n + 1 elements pass, so does the first, then n.
 pub first_passes : (t : Bool) (n m : ℕ) → suc n ≤ cond t (1 + m) 0 → (t ≡ true) × (n ≤ m)
 first_passes true n m h = (refl, omega arith)
