@@ -109,6 +109,7 @@ fn last_four(s: &[u8]) -> u64
 }
 
 /// Returns how many bytes of `val`, from the lowest on, are digits.
+#[tactic(auto, using(crate::proofs::lemmas::WordRuns::digits_of_8))]
 pub fn check_len_8(val: u64) -> u32
     ensures len { result ≡ run_len decimal_table (low_bytes 8 val) }
     ensures most { result ≤ 8 }

@@ -2,7 +2,7 @@
 use Rattle.std.proofs.Common.{◌≡◌, ℕ, zero, suc, ◌+◌, ◌*◌, ◌/◌, ◌%◌, ◌^◌, ◌<◌, ◌≤◌, ◌-◌, Bool, true, false, cond, ◌==◌, List, [], ◌∷◌, map, refl, sym, ap, ap₂, ◌∙◌, arith, mod-lt, zero-lt-suc}
 use Rattle.std.proofs.Math.Dec.{lit<}
 use Rattle.std.proofs.lemmas.Bool.{agree_below_at}
-use Rattle.std.proofs.lemmas.Nat.{pow_pos, pow-add, mod-pow-add, and_mask, and_block, and_assoc, div-mul-add, mod-mul-add, mul-mod_first}
+use Rattle.std.proofs.lemmas.Nat.{and_shr, pow_pos, pow-add, mod-pow-add, and_mask, and_block, and_assoc, div-mul-add, mod-mul-add, mul-mod_first}
 use Rattle.std.proofs.Math.Nat.{zero-add, suc-mul, suc-add, add_comm}
 use Rattle.std.proofs.Math.Pow.{mod-mod-pow}
 use Rattle.std.proofs.lemmas.Bool.Decides.{nat_tests}
@@ -156,6 +156,15 @@ digits_counted k word =
     ∙ changed (λ x. x / 16) (λ x. bit_and x 240) bit_or (digits_l 256 k (word + repeated 6 k)) (digits_l 256 k word))
     ∙ marked (λ x. bit_xor x 51) (λ x y. bit_or (x / 16) (bit_and y 240)) (digits_l 256 k (word + repeated 6 k)) (digits_l 256 k word))
     ∙ carried_run (added 6 (lit< tt)) unchanged kernel_mark kernel_byte k word
+
+-- The mask may come before the shift.
+pub digits_of_8 : (val : ℕ)
+    → count_trailing_zeros 64 (bit_xor (bit_or (bit_and ((val + 0x0606_0606_0606_0606) % 0x1_0000_0000_0000_0000) 0xF0F0_F0F0_F0F0_F0F0 / 16) (bit_and val 0xF0F0_F0F0_F0F0_F0F0)) 0x3333_3333_3333_3333) / 8
+    ≡ run_len decimal_table (low_bytes 8 val)
+digits_of_8 val =
+    ap (λ high. count_trailing_zeros 64 (bit_xor (bit_or high (bit_and val 0xF0F0_F0F0_F0F0_F0F0)) 0x3333_3333_3333_3333) / 8)
+    (and_shr ((val + 0x0606_0606_0606_0606) % 2 ^ 64) 0xF0F0_F0F0_F0F0_F0F0 4)
+    ∙ digits_counted 8 val
 
 -- The mark that the word engine computes for a byte.
 abbrev engine_mark : ℕ → ℕ → ℕ
