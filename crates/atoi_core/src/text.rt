@@ -58,7 +58,7 @@ impl fmt::Display for AtoiSimdError<'_> {
 const SHOWN_BYTES: usize = 48;
 
 #[tactic(auto, using(std::proofs::lemmas::List::take_min))]
-fn shown(input: &[u8]) -> &[u8]
+fn shown_front(input: &[u8]) -> &[u8]
     ensures front { result.now ≡ take SHOWN_BYTES input.now }
     ensures fits { length result.now ≤ SHOWN_BYTES }
 {
@@ -73,7 +73,7 @@ fn put_input(input: &[u8], out: &mut [u8], at: usize) -> usize
     ensures ascii { IsAscii (input_text input.now) }
 {
     let end = put_bytes(b"[", out, at);
-    let end = put_hex_list(shown(input), out, end);
+    let end = put_hex_list(shown_front(input), out, end);
     put_bytes(b"]", out, end)
 }
 

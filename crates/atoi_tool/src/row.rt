@@ -7,7 +7,7 @@ ghost use Rattle.atoi_tool.specs.Row.{cut, request_of, value_of_hex_digit, byte_
 use crate::request::{Query, Request, call_of, engine_of, flags_of, integer_of};
 use atoi_column::is_separator;
 
-fn place_of(sought: u8, bytes: &[u8]) -> Option<usize>
+fn index_in(sought: u8, bytes: &[u8]) -> Option<usize>
     ensures first { result ≡ position (λ byte. byte == sought) bytes.now }
     ensures within { IfSome result (λ place. place < length bytes.now) }
 {
@@ -18,7 +18,7 @@ fn place_of(sought: u8, bytes: &[u8]) -> Option<usize>
 pub fn cut(separator: u8, bytes: &[u8]) -> Option<(&[u8], &[u8])>
     ensures { option_map (λ parts. (parts.0.now, parts.1.now)) result ≡ cut separator bytes.now }
 {
-    let place = place_of(separator, bytes)?;
+    let place = index_in(separator, bytes)?;
     Some((&bytes[..place], &bytes[place + 1..]))
 }
 

@@ -120,9 +120,9 @@ module _ (h t : ℕ) (room : (2 ^ h - 1) * (1 + t) < 2 ^ (h + h)) where
       ap₂ (λ x xs. x ∷ xs) low (ap (lower_halves (h + h) m) high ∙ spread_masked m rest)
 
 -- A cut before a shift does not change the lower halves.
-shift_cut : (g m word : ℕ) → lower_halves g m (word % 2 ^ (m * (g + g)) / 2 ^ g) ≡ lower_halves g m (word / 2 ^ g)
-shift_cut g zero word = refl
-shift_cut g (suc m) word =
+shift_after_cut : (g m word : ℕ) → lower_halves g m (word % 2 ^ (m * (g + g)) / 2 ^ g) ≡ lower_halves g m (word / 2 ^ g)
+shift_after_cut g zero word = refl
+shift_after_cut g (suc m) word =
     let b = 2 ^ g in
     let w = 2 ^ (g + g) in
     let rest = word / w % 2 ^ (m * (g + g)) in
@@ -135,14 +135,14 @@ shift_cut g (suc m) word =
     ∙ field_of word g g in
     let high : word % 2 ^ (suc m * (g + g)) / b / w ≡ rest / b =
     swap (word % 2 ^ (suc m * (g + g))) ∙ ap (λ x. x / w / b) cut ∙ ap (λ x. x / b) (div-mul-add rest w (word % w) (mod-lt word (pow_pos (g + g)))) in
-    ap₂ (λ x xs. x ∷ xs) low (ap (lower_halves g m) high ∙ shift_cut g m (word / w) ∙ ap (lower_halves g m) (sym (swap word)))
+    ap₂ (λ x xs. x ∷ xs) low (ap (lower_halves g m) high ∙ shift_after_cut g m (word / w) ∙ ap (lower_halves g m) (sym (swap word)))
 
 -- A round turns 2 * m lower halves into m sums.
 pub round : (h t : ℕ) → (2 ^ h - 1) * (1 + t) < 2 ^ (h + h) → (m word : ℕ)
     → lower_halves (h + h) m (bit_and word (masks h (twice m)) * (1 + t * 2 ^ (h + h)) % 2 ^ (m * ((h + h) + (h + h))) / 2 ^ (h + h)) ≡ pairs t (lower_halves h (twice m) word)
 round h t room m word =
     let kept = bit_and word (masks h (twice m)) in
-    shift_cut (h + h) m (kept * (1 + t * 2 ^ (h + h)))
+    shift_after_cut (h + h) m (kept * (1 + t * 2 ^ (h + h)))
     ∙ ap (lower_halves (h + h) m) (product_shifted (2 ^ (h + h)) t kept (pow_pos (h + h)))
     ∙ spread_masked h t room m word
 

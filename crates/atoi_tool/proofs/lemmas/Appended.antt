@@ -11,8 +11,8 @@ pub Appends-take : (old mid new : Option (List ℕ)) (n m : ℕ) (xs : List ℕ)
 Appends-take old mid new n m xs first second =
     rw (take-add n m xs) (Appends-trans old mid new (take n xs) (take m (drop n xs)) first second)
 
-pub AppendsUpTo-none : (held : Option (List ℕ)) (whole : List ℕ) → AppendsUpTo held held whole whole
-AppendsUpTo-none held whole = ([], Appends-nil held, refl)
+pub AppendsUpTo-none : (known : Option (List ℕ)) (whole : List ℕ) → AppendsUpTo known known whole whole
+AppendsUpTo-none known whole = ([], Appends-nil known, refl)
 
 pub AppendsUpTo-all : (old new : Option (List ℕ)) (whole : List ℕ) → Appends old new whole → AppendsUpTo old new whole []
 AppendsUpTo-all old new whole put = (whole, put, sym (append-nil whole))
