@@ -19,6 +19,6 @@ is_zero table byte = is_digit table byte && digit_value table byte == 0
 abbrev pub IsBelowTen : Table → Type 0
 IsBelowTen table = (byte : ℕ) → digit_value table byte < 10
 
--- The bytes 48 to 57 have the digit values 0 to 9.
+-- The digits are the bytes 48 to 57, with the digit values 0 to 9.
 abbrev pub decimal_table : Table
 decimal_table byte = if nat_le 48 byte && nat_le byte 57 then Some (byte - 48) else None

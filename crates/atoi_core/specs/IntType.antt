@@ -11,7 +11,7 @@ pub record IntType : Type 0 where
 abbrev pub int_type : ℕ → Bool → ℕ → IntType
 int_type bits signed greatest = record { bits = bits; signed = signed; greatest = greatest }
 
--- The largest value of `bits` bits, one for the sign.
+-- The largest value of `bits` bits, one of them for the sign if signed.
 abbrev pub greatest_of : ℕ → Bool → ℕ
 greatest_of bits true = 2 ^ (bits - 1) - 1
 greatest_of bits false = 2 ^ bits - 1

@@ -24,7 +24,7 @@ pub data SignForm : Type 0 where
 abbrev pub positive : SignForm
 positive = given false
 
--- The sign of such a call, and its body.
+-- The sign that a call of that form uses, and its body.
 abbrev pub sign_in : IntType → SignForm → List ℕ → Sign
 sign_in int (looked_for plus) s = sign_of int.signed plus s
 sign_in int (given is_negative) s = record { minus = is_negative; taken = 0; body = s }
@@ -89,7 +89,7 @@ pub record AcceptedTexts (int : IntType) : Type 0 where
   pub accepted : (s : List ℕ) → IsOk (parse_answer int true true s) ↔ IsText int s
   pub number : (s : List ℕ) (number : ℤ) → TextWrites int true s number → parse_answer int true true s ≡ Ok number
 
--- A whole parse returns only a number that its slice writes; with zeros skipped, each.
+-- A whole parse returns only a number that its slice writes; with zeros skipped, each such number.
 pub record AcceptedNumbers (int : IntType) : Type 0 where
   pub written : (form : SignForm) (skip : Bool) (s : List ℕ) (number : ℤ)
       → whole_call int form skip s ≡ Ok number → Writes int form s number
@@ -111,8 +111,8 @@ pub record WholeResults {T : Type 0} (int : IntType) (number : T → ℤ) (skip 
       → typed_answer number result ≡ whole_answer decimal_table int is_negative skip s
       → IsTrue skip → OnErr result ((any : ℤ) → ¬ DigitsWrite int is_negative s any)
 
--- A prefix parse returns only a prefix that writes a number, and no digit follows; with zeros
--- skipped, each.
+-- A prefix parse returns only a number and the length of a prefix that writes it, with no digit
+-- after it; with zeros skipped, it finds each such prefix.
 pub record AcceptedPrefixes (int : IntType) : Type 0 where
   pub written : (form : SignForm) (skip : Bool) (s : List ℕ) (number : ℤ) (count : ℕ)
       → prefix_call int form skip s ≡ Ok (number, count) → PrefixWrites (Writes int form) s number count
@@ -168,14 +168,14 @@ OneNumber int =
     (form : SignForm) (s : List ℕ) (number other : ℤ)
     → Writes int form s number → Writes int form s other → number ≡ other
 
--- A number that a prefix parse returns begins with a digit, or its sign and a digit.
+-- If a prefix parse returns a number, a digit follows the sign, if any, at the start of its slice.
 abbrev pub PrefixBegins : IntType → Type 0
 PrefixBegins int =
     (form : SignForm) (skip : Bool) (s : List ℕ) (found : ℤ × ℕ)
     → prefix_call int form skip s ≡ Ok found → BeginsWithDigit (sign_in int form s).body
 
 -- A prefix's error is `empty` exactly without digits (`none`); any other, with zeros skipped, means
--- that all digits are too large a number (`too_large`).
+-- that all digits at the start are too large a number (`too_large`, in one way: `one_split`).
 pub record NoneOrTooLarge (int : IntType) : Type 0 where
   pub none : (form : SignForm) (skip : Bool) (s : List ℕ) (reason : Refusal) → prefix_call int form skip s ≡ Err reason
       → (reason ≡ empty) ↔ (run_len decimal_table (sign_in int form s).body ≡ 0)
@@ -186,7 +186,8 @@ pub record NoneOrTooLarge (int : IntType) : Type 0 where
   pub one_split : (digits other rest more : List ℕ) → digits ++ rest ≡ other ++ more → AllDigits 10 digits → AllDigits 10 other
       → ¬ BeginsWithDigit rest → ¬ BeginsWithDigit more → (digits ≡ other) × (rest ≡ more)
 
--- A prefix parse of the whole slice agrees with the whole parse; the converse with the same limit.
+-- A prefix parse that succeeds up to the end has the value of the whole parse; with the same limit,
+-- the converse holds.
 pub record PrefixIsWhole (int : IntType) : Type 0 where
   pub whole : (form : SignForm) (skip : Bool) (s : List ℕ) (v : ℤ)
       → prefix_call int form skip s ≡ Ok (v, length s) → whole_call int form skip s ≡ Ok v
@@ -199,7 +200,7 @@ pub record PrefixOfCut (int : IntType) : Type 0 where
       → prefix_call int form skip s ≡ Ok (v, count)
       → (1 ≤ count) × (count ≤ length s) × (prefix_call int form skip (take count s) ≡ Ok (v, count))
 
--- A prefix parse stops at the end, or at no digit.
+-- A prefix parse stops at the end, or at a byte that is no digit.
 abbrev pub PrefixStopsAtRest : IntType → Type 0
 PrefixStopsAtRest int =
     (form : SignForm) (skip : Bool) (s : List ℕ) (v : ℤ) (count : ℕ)
@@ -226,7 +227,7 @@ pub record OrderAndSuffix (int : IntType) : Type 0 where
   pub prefix : (form : SignForm) (skip : Bool) (s : List ℕ) (reason : Refusal)
       → prefix_call int form skip s ≡ Err reason → IsSuffix (input_of reason) s
 
--- With zeros skipped, more zeros before a digit only raise the count.
+-- With zeros skipped, more zeros before a digit raise the count, and change no value or variant.
 pub record ZerosChangeNothing (int : IntType) : Type 0 where
   pub whole : (form : SignForm) (s : List ℕ) (count : ℕ)
       → 0 < run_len decimal_table (sign_in int form s).body
@@ -235,7 +236,7 @@ pub record ZerosChangeNothing (int : IntType) : Type 0 where
       → 0 < run_len decimal_table (sign_in int form s).body
       → HaveSameOutcome (with_more count (prefix_call int form true s)) (prefix_call int form true (with_zeros int form count s))
 
--- Digits and their values are std's; `n` digits are below `10 ^ n`.
+-- Digits and their values are std's; the value of `n` bytes is below `10 ^ n`.
 pub record DecimalDigits : Type 0 where
   pub byte : (byte : ℕ) → IsTrue (is_digit decimal_table byte) ↔ IsAsciiDigit byte
   pub to_std : (s : List ℕ) → All (λ byte. IsTrue (is_digit decimal_table byte)) s → AllDigits 10 s

@@ -11,7 +11,7 @@ loads_a_turn narrow = 1
 loads_a_turn wide64 = 2
 loads_a_turn wide128 = 3
 
--- The most loads: a turn for 16 leading zeros each, and two.
+-- The most loads: a turn for each 16 leading zeros, and two turns more.
 abbrev pub most_loads : Table → Class → List ℕ → ℕ
 most_loads table class s = loads_a_turn class * (zeros table s / 16 + 2)
 
@@ -21,7 +21,7 @@ most_unskipped narrow = 2
 most_unskipped wide64 = 2
 most_unskipped wide128 = 5
 
--- Whether zeros are skipped; a narrow whole always does.
+-- Whether zeros are skipped: a narrow whole parse always skips them.
 abbrev pub skips_zeros : Class → Extent → Bool → Bool
 skips_zeros narrow whole skip = true
 skips_zeros class extent skip = skip

@@ -56,7 +56,7 @@ abbrev pub invalid : Class → ℕ → ℕ → List ℕ → Refusal
 invalid wide128 number index body = invalid128 number index body
 invalid class number index body = invalid64 number index body
 
--- The first reason: no digit, too many, out of range, another byte after a whole.
+-- The first reason: no digit, too many, out of range, or for a whole body another byte.
 unfoldable pub refusal : Table → Class → (bound limit : ℕ) → Extent → Bool → List ℕ → Option Refusal
 refusal table class bound limit extent skip body =
     let digits = run_len table body in

@@ -5,7 +5,8 @@ use Rattle.atoi_core.specs.Run.{run_len, run, zeros, value}
 use Rattle.atoi_core.specs.Refusal.{Refusal, empty, size, overflow}
 use Rattle.atoi_core.specs.Magnitude.{Class, prefix, rule_of}
 
--- The first `count` bytes start with `digits` digits, which spell `number`, and `leading` zeros.
+-- The first `count` bytes start with exactly `digits` digits, which spell `number`; `leading` of
+-- them are leading zeros.
 pub record Reading (table : Table) (count : ℕ) (s : List ℕ) (digits leading number : ℕ) : Type 0 where
   pub digits_are : digits ≡ run_len table (take count s)
   pub leading_are : leading ≡ zeros table (take count s)
@@ -21,11 +22,11 @@ abbrev pub significant_digits : Bool → (digits leading : ℕ) → ℕ
 significant_digits true digits leading = digits - leading
 significant_digits false digits leading = digits
 
--- The most significant digits that `size` counts.
+-- How many significant digits `size` counts at most.
 abbrev pub cap : Class → ℕ
 cap class = (rule_of class prefix true 0 0 0).cap
 
--- The answer to `skipped` zeros, then `significant` digits that spell `number`.
+-- A wide class's answer to `skipped` zeros, then `significant` digits that spell `number`.
 abbrev pub answer_by_digits : Class → (bound limit skipped significant number : ℕ) → List ℕ → Result (ℕ × ℕ) Refusal
 answer_by_digits class bound limit skipped significant number s =
     if skipped + significant == 0 then Err empty

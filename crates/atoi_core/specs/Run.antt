@@ -16,7 +16,7 @@ run table s = take (run_len table s) s
 abbrev pub zeros : Table → List ℕ → ℕ
 zeros table s = prefix_len (is_zero table) s
 
--- Each digit value times `10 ^ k`, if `k` digits follow.
+-- The sum of the digit values, each times `10 ^ k` if `k` digits follow.
 abbrev pub value : Table → List ℕ → ℕ
 value table [] = 0
 value table (digit ∷ digits) = digit_value table digit * 10 ^ length digits + value table digits
@@ -26,7 +26,7 @@ abbrev pub sum_below : ℕ → (ℕ → ℕ) → ℕ
 sum_below zero f = 0
 sum_below (suc n) f = sum_below n f + f n
 
--- Each digit value times `10 ^ k`, if `k` digits follow it.
+-- The same as one sum over positions: each digit value times `10 ^ k`, if `k` digits follow it.
 abbrev pub closed_value : Table → List ℕ → ℕ
 closed_value table s = sum_below (length s) (λ i. digit_value table (slice_index s i) * 10 ^ (length s - 1 - i))
 

@@ -1,7 +1,7 @@
 -- The sign at the start of a slice.
 use Rattle.std.specs.Prelude.{ℕ, Bool, true, false, ◌&&◌, ◌==◌, if◌then◌else◌, List, [], ◌∷◌, ℤ, pos, neg_ℤ}
 
--- Whether it is a minus, its bytes, and the body after it.
+-- Whether it is a minus, its length, and the body after it.
 pub record Sign : Type 0 where
   pub minus : Bool
   pub taken : ℕ
