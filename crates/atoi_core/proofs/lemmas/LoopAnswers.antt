@@ -18,7 +18,7 @@ use Rattle.std.proofs.Math.Nat.{eq-zero-or-pos}
 
 -- ---- Wide types
 
--- Wide classes pass the limit in, and an overflow leaves out the zeros.
+-- A wide class uses the limit as given, and an overflow leaves out the zeros.
 pub record IsWide (class : Class) : Type 0 where
   pub rule : (extent : Extent) (skip : Bool) (limit digits skipped : ℕ)
       → rule_of class extent skip limit digits skipped ≡ record { limit = Some limit; cap = cap class; dropped = skipped }
@@ -203,7 +203,7 @@ module _ (t : Table) (skip : Bool) (s : List ℕ) (at before now : ℕ) (w : Win
   number_most =
       omega (arith, after_skip.value_is, after_skip.window.number_is, value-take-le t (drop at s) w.len (run_len t (drop at s)) (omega (arith, after_skip.window.len_is)))
 
-  -- So it holds the rest of the run.
+  -- If its number fits in 32 bits, the last window ends the run and has its value.
   rest_is : w.number ≤ 4294967295 → (run_len t s ≡ at + w.len) × (value t (run t s) ≡ w.number)
   rest_is small =
       let rest : run_len t (drop at s) ≡ w.len = ends t skip s at before now w after_skip few small in

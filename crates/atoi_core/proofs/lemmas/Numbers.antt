@@ -119,7 +119,7 @@ module _ (int : IntType) (sized : IsSized int) (form : SignForm) (s : List ℕ) 
   is_above_bound (invalid64 number index input) h some = absurd (omega (arith, (errors_in_order int).never_followed form true s (invalid64 number index input) h))
   is_above_bound (invalid128 number index input) h some = absurd (omega (arith, (errors_in_order int).never_followed form true s (invalid128 number index input) h))
 
--- All digits at a slice's start, if any, are a numeral.
+-- All digits at the start, with a value above the bound, are too large.
 run_too_large : (int : IntType) (is_negative : Bool) (body : List ℕ) → 0 < run_len decimal_table body
     → bound_of int is_negative < value decimal_table (run decimal_table body)
     → IsTooLarge int is_negative body (run_len decimal_table body)

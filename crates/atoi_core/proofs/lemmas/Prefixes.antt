@@ -131,7 +131,7 @@ stops [] ends = refl
 stops (byte ∷ bytes) ends =
     elim (cases_Bool (is_digit decimal_table byte)) [ inl e ↦ absurd (ends (digit_in_range byte e)) | inr e ↦ rw e refl ]
 
--- An empty rest, or one that begins with another byte.
+-- A rest whose first byte, if any, is no digit.
 pub no_digit : (rest : List ℕ) → (0 < length rest → IsFalse (is_digit decimal_table (get_or rest 0 0))) → ¬ BeginsWithDigit rest
 no_digit [] h = λ digit. digit
 no_digit (byte ∷ bytes) h = λ digit.
@@ -149,7 +149,7 @@ module _ (digits rest : List ℕ) (all : AllDigits 10 digits) (ends : ¬ BeginsW
   pub run_before : run decimal_table (digits ++ rest) ≡ digits
   run_before = ap (λ (n : ℕ). take n (digits ++ rest)) run_len_before ∙ take-append_seam digits rest
 
--- Digits that write a number and a rest without one: the number is found at the start.
+-- Digits that write a number, then no digit: the number is found at the start.
 prefix_found : (int : IntType) → IsSized int → (is_negative : Bool) (taken : ℕ) (digits rest : List ℕ) (number : ℤ)
     → DigitsWrite int is_negative digits number → ¬ BeginsWithDigit rest
     → IsFound int (record { minus = is_negative; taken = taken; body = digits ++ rest }) true number (length digits + taken)
@@ -251,7 +251,7 @@ only int sized form s number other count len h g =
     let found = (accepted_prefixes int sized).accepted in
     same_answer number other count len (prefix_call int form true s) (found form s number count h) (found form s other len g)
 
--- Such a prefix is the bytes before a rest without a digit.
+-- Such a prefix is the bytes before a rest that begins with no digit.
 cut : (int : IntType) → IsSized int → (form : SignForm) (s prefix_bytes rest : List ℕ) (number other : ℤ) (count : ℕ)
     → s ≡ prefix_bytes ++ rest → Writes int form prefix_bytes number → ¬ BeginsWithDigit rest → PrefixWrites (Writes int form) s other count
     → (number ≡ other) × ((take count s ≡ prefix_bytes) × (drop count s ≡ rest))

@@ -14,7 +14,7 @@ use Rattle.atoi_core.specs.Laws.{SignForm, sign_in, with_zeros, zero_byte, HaveS
 use Rattle.atoi_core.proofs.lemmas.Runs.{length-run, zeros-run, value-replicate, prefix_len-replicate_append}
 use Rattle.atoi_core.proofs.lemmas.Calls.{refusal-rank, first_of, limit_at, significant_len, sign_again, whole_call-is, prefix_call-is, counted_number, with_more-zero}
 
--- Whole answers with equal values, and refusals of one rank or none, have the same outcome.
+-- Equal numbers, and refusals of equal rank or none: whole answers have the same outcome.
 same_outcome : (minus other_minus : Bool) (r q : Option Refusal) (x y : ℕ) → option_map rank r ≡ option_map rank q
     → with_sign minus x ≡ with_sign other_minus y
     → HaveSameOutcome (map_answer (with_sign minus) (unless_refused r x)) (map_answer (with_sign other_minus) (unless_refused q y))

@@ -66,7 +66,7 @@ record IsTextOf (n : ℕ) (ds : List ℕ) : Type 0 where
   some : 0 < length ds
   is : value decimal_table ds ≡ n
 
--- Std's text of a number is one.
+-- Std's text of a number is a decimal text of it.
 decimal_text : (n : ℕ) → n < 10 ^ 64 → IsTextOf n (decimal n)
 decimal_text n h =
     let numeral = decimal_is_IsNumeral_wide n h in
@@ -320,7 +320,7 @@ signed_writes int sized takes_plus (negsuc n) low high =
       written = decimal_writes int sized true (suc n) (omega (arith, within.1));
     }
 
--- A negative number is a minus and its decimal text.
+-- The text of a negative number is a minus and its magnitude's text.
 minus_text : (x : ℤ) (n : ℕ) → x ≢ pos 0 → x ≡ neg_ℤ (pos n) → 45 ∷ decimal n ≡ signed_decimal x
 minus_text x zero some is = absurd (some is)
 minus_text x (suc n) some is = rw is refl

@@ -184,7 +184,7 @@ in_base-pairs h t (suc m) word =
     ∙ regroup
     ∙ ap₂ (λ x y. f * x + (g * y + following)) (sym higher) (sym lower)
 
--- So neither does a round.
+-- So a round keeps the number that is spelled.
 pub round_number : (h t : ℕ) → (2 ^ h - 1) * (1 + t) < 2 ^ (h + h) → (m word : ℕ)
     → in_base (t * t) (lower_halves (h + h) m (bit_and word (masks h (twice m)) * (1 + t * 2 ^ (h + h)) % 2 ^ (m * ((h + h) + (h + h))) / 2 ^ (h + h))) ≡ in_base t (lower_halves h (twice m) word)
 round_number h t room m word = ap (in_base (t * t)) (round h t room m word) ∙ in_base-pairs h t m word

@@ -175,7 +175,7 @@ engine_byte : (b : ℕ) → b < 256 → (engine_mark ((b + 70) % 256) ((b + 208)
 engine_byte b h =
     agree_below_at (λ x. engine_mark ((x + 70) % 256) ((x + 208) % 256) == 0) (is_digit decimal_table) 256 b refl h
 
--- So do those of the engine's marks.
+-- Trailing zero bits of the engine's marks count the digits too.
 pub marks_counted : (k word : ℕ)
     → count_trailing_zeros (k * 8) (bit_and (bit_or ((word + repeated 70 k) % 2 ^ (k * 8)) ((word + without_48 k) % 2 ^ (k * 8))) (repeated 128 k)) / 8
     ≡ run_len decimal_table (low_bytes k word)
@@ -213,7 +213,7 @@ lowered_zeros (suc k) word =
     ∙ run_goes_on (is_zero decimal_table byte) now (prefix_len (is_zero decimal_table) (digits_l 256 k (word / 256)))
     (λ e. ap (λ x. prefix_len (λ b. b == 0) (digits_l 256 k x)) (lowered.rest k word (zero_is_digit byte fits e)) ∙ lowered_zeros k (word / 256))
 
--- Those of the difference count the zeros.
+-- Trailing zero bits of the difference count the zeros.
 pub lowered_zeros_counted : (k word : ℕ) → count_trailing_zeros (k * 8) ((word + without_48 k) % 2 ^ (k * 8)) / 8 ≡ zeros decimal_table (low_bytes k word)
 unfolding low_bytes
 lowered_zeros_counted k word =

@@ -34,7 +34,7 @@ only_window skip s len leading number reading ends =
       λ on. elim (cases_lt len 32) [ inl less ↦ omega (arith, most.0, reported) | inr more ↦ omega (arith, ends on more, reported) ],
     )
 
--- Below 32 skipped zeros, one load or two are within all bounds.
+-- Below 32 skipped zeros, one to `unskipped` loads are within all bounds.
 pub few_loads : (most unskipped : ℕ) (skip : Bool) (s : List ℕ) (before after : ℕ) → before < after → after ≤ before + unskipped → unskipped ≤ most
     → (skip ≡ true → zeros decimal_table s < 32) → LoadsWithin most unskipped decimal_table skip s before after
 few_loads most unskipped skip s before after one few room zeros_few =
