@@ -26,7 +26,7 @@ abbrev pub skips_zeros : Class → Extent → Bool → Bool
 skips_zeros narrow whole skip = true
 skips_zeros class extent skip = skip
 
--- `before` and `after` count the loads around a call.
+-- `before` and `after` count the loads up to a call and up to its return.
 pub record LoadsWithin (most unskipped : ℕ) (table : Table) (skip : Bool) (s : List ℕ) (before after : ℕ) : Type 0 where
   pub at_most : after ≤ before + most
   pub at_most_unskipped : skip ≡ false → after ≤ before + unskipped

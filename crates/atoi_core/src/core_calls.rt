@@ -3,8 +3,8 @@
 ghost use Rattle.std.specs.Prelude.{◌≡◌, ◌≤◌, true, false, IfOk, length};
 ghost use Rattle.atoi_core.specs.Answer.{typed_answer, typed_prefix_answer, whole_answer, prefix_answer};
 ghost use Rattle.atoi_core.specs.IntType.{class_of, bound_of, limit_of};
-ghost use Rattle.atoi_core.specs.Loads.{TypedLoads};
-ghost use Rattle.atoi_core.specs.Magnitude.{whole, prefix, whole_magnitude, prefix_magnitude};
+ghost use Rattle.atoi_core.specs.Loads.{LoadsWithin, TypedLoads, most_loads};
+ghost use Rattle.atoi_core.specs.Magnitude.{HasDigits, whole, prefix, wide64, wide128, whole_magnitude, prefix_magnitude};
 ghost use Rattle.atoi_core.specs.Refusal.{answer_of};
 
 use crate::engine::Engine;
@@ -13,7 +13,6 @@ use crate::narrow::{narrow_prefix, narrow_whole_windows};
 use crate::number::{Number, Signed, greatest_magnitude};
 use crate::prefix_128::prefix_128_inline;
 use crate::steps::Steps;
-use crate::wide::{whole_64, whole_128};
 
 /// Parses all of `s`, digits without a sign, as a `T` that is not negative. With `skip`, leading
 /// zeros do not count towards a limit of digits.
@@ -120,8 +119,10 @@ fn whole_by_size<'a, E: Engine, T: Number>(
 {
     let bound = greatest_magnitude::<T>(minus);
     if T::BITS <= 32 {
-        let number = narrow_whole_windows::<E>(bound as u64, s, steps)?;
-        Ok(u128::from(number))
+        match narrow_whole_windows::<E>(bound as u64, s, steps) {
+            Ok(number) => Ok(u128::from(number)),
+            Err(error) => Err(error),
+        }
     } else if T::BITS == 64 {
         let limit = if T::SIGNED { 19 } else { 20 };
         let number = whole_64::<E>(bound as u64, limit, skip, s, steps)?;
@@ -158,5 +159,60 @@ fn prefix_by_size<'a, E: Engine, T: Number>(
         }
     } else {
         prefix_128_inline::<E, false>(bound, skip, s, steps)
+    }
+}
+
+/// As `Engine::prefix_64`, for all of `s`.
+///
+/// # Errors
+///
+/// `Empty`, `Size`, `Overflow` and `Invalid64`.
+#[inline(always)]
+#[tactic(auto, using(crate::proofs::lemmas::LoopAnswers::wide_64, crate::proofs::lemmas::LoopAnswers::whole_err, crate::proofs::lemmas::LoopAnswers::whole_ok, crate::proofs::lemmas::LoopAnswers::whole_invalid64))]
+pub fn whole_64<'a, E: Engine>(
+    bound: u64,
+    limit: u32,
+    skip: bool,
+    s: &'a [u8],
+    steps: &mut Steps,
+) -> Result<u64, AtoiSimdError<'a>>
+    requires limit_low { 17 ≤ limit }
+    requires limit_high { limit ≤ 20 }
+    requires digits { HasDigits limit bound }
+    ensures answer { answer_of result ≡ whole_magnitude E.table wide64 bound limit skip s.now }
+    ensures loads { LoadsWithin (most_loads E.table wide64 s.now) 2 E.table skip s.now
+        steps.old steps.new }
+{
+    let (number, len) = E::prefix_64(bound, limit, skip, s, steps)?;
+    if len == s.len() {
+        Ok(number)
+    } else {
+        Err(AtoiSimdError::Invalid64(number, len, s))
+    }
+}
+
+/// As `Engine::prefix_128`, for all of `s`.
+///
+/// # Errors
+///
+/// `Empty`, `Size`, `Overflow` and `Invalid128`.
+#[inline(always)]
+#[tactic(auto, using(crate::proofs::lemmas::LoopAnswers::wide_128, crate::proofs::lemmas::LoopAnswers::whole_err, crate::proofs::lemmas::LoopAnswers::whole_ok, crate::proofs::lemmas::LoopAnswers::whole_invalid128))]
+pub fn whole_128<'a, E: Engine>(
+    bound: u128,
+    skip: bool,
+    s: &'a [u8],
+    steps: &mut Steps,
+) -> Result<u128, AtoiSimdError<'a>>
+    requires digits { HasDigits 39 bound }
+    ensures answer { answer_of result ≡ whole_magnitude E.table wide128 bound 39 skip s.now }
+    ensures loads { LoadsWithin (most_loads E.table wide128 s.now) 5 E.table skip s.now
+        steps.old steps.new }
+{
+    let (number, len) = prefix_128_inline::<E, true>(bound, skip, s, steps)?;
+    if len == s.len() {
+        Ok(number)
+    } else {
+        Err(AtoiSimdError::Invalid128(number, len, s))
     }
 }

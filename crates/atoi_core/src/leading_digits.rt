@@ -5,8 +5,8 @@ ghost use Rattle.atoi_core.specs.Run.{run_len};
 use crate::engine::Engine;
 use crate::steps::Steps;
 
-/// Returns how many digits `s` starts with. Loads 16 bytes at a time, until a load has a byte that
-/// is no digit or reaches the end of `s`.
+/// Returns how many digits `s` starts with. Loads 16 bytes at a time, until fewer than 16 of a load
+/// are digits.
 pub fn count_digits<E: Engine>(s: &[u8], steps: &mut Steps) -> usize
     ensures count { result ≡ run_len E.table s.now }
     ensures loads { steps.new ≡ steps.old + (run_len E.table s.now / 16 + 1) }

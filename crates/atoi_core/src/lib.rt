@@ -16,7 +16,6 @@ mod prefix_128;
 mod sign;
 mod steps;
 mod text;
-mod wide;
 pub mod wide_answer;
 mod window;
 mod with_sign;
@@ -25,7 +24,7 @@ pub mod words;
 mod zero_loop;
 
 pub use crate::alphabet::{Alphabet, Plain, front_of};
-pub use crate::core_calls::{prefix_neg, prefix_pos, whole_neg, whole_pos};
+pub use crate::core_calls::{prefix_neg, prefix_pos, whole_64, whole_128, whole_neg, whole_pos};
 pub use crate::digit_loop::narrow_whole;
 pub use crate::engine::Engine;
 pub use crate::error::{AtoiSimdError, clones_are_the_same};
@@ -37,6 +36,5 @@ pub use crate::sign::{
 };
 pub use crate::steps::Steps;
 pub use crate::text::decimal;
-pub use crate::wide::{whole_64, whole_128};
 pub use crate::window::Window;
 pub use crate::word_engine::Words;

@@ -1,5 +1,5 @@
 //! Parsers of integers of at most 32 bits, whose last window decides the answer.
-ghost use Rattle.std.specs.Prelude.{◌≡◌, ℕ, ◌+◌, ◌-◌, ◌<◌, ◌≤◌, ◌==◌, true, false, not, ◌&&◌, ◌||◌, nat_lt, if◌then◌else◌, Ok, Err, length, drop};
+ghost use Rattle.std.specs.Prelude.{◌≡◌, ℕ, ◌+◌, ◌-◌, ◌<◌, ◌≤◌, ◌==◌, true, false, not, ◌&&◌, ◌||◌, nat_lt, if◌then◌else◌, Ok, Err, length, take, drop};
 ghost use Rattle.atoi_core.specs.Loads.{LoadsWithin, most_loads};
 ghost use Rattle.atoi_core.specs.Magnitude.{narrow, whole_magnitude, prefix_magnitude};
 ghost use Rattle.atoi_core.specs.Magnitude.{narrow_decision};
@@ -40,30 +40,22 @@ pub fn narrow_prefix<'a, E: Engine>(
         Err(AtoiSimdError::Empty)
     } else if skip && window.zeroes > 0 {
         narrow_prefix_cold::<E>(bound, window.zeroes, s, steps)
-    } else if is_too_long::<E>(skip, window, s, steps) {
+    } else if window.len == 16 && is_too_long::<E>(skip, s, steps) {
         Err(AtoiSimdError::Size(17, s))
     } else {
         answer_at(bound, 0, window, s)
     }
 }
 
-// A second window is loaded only if the first one, `window`, is full of digits.
-#[tactic(auto, using(crate::proofs::lemmas::LoopAnswers::digit_after_16))]
-fn is_too_long<E: Engine>(skip: bool, window: Window, s: &[u8], steps: &mut Steps) -> bool
-    requires first_window { window ≡ window_of E.table 16 s.now }
-    ensures answer { result ≡ (not skip && nat_lt 16 (run_len E.table s.now)) }
-    ensures loads { steps.new ≡ steps.old
-        + (if skip || nat_lt (run_len E.table s.now) 16 then 0 else 1) }
-{
-    !skip && window.len == 16 && starts_with_digit::<E>(&s[16..], steps)
-}
-
+// Called after a window full of digits.
 #[inline(always)]
-fn starts_with_digit<E: Engine>(rest: &[u8], steps: &mut Steps) -> bool
-    ensures answer { result ≡ nat_lt 0 (run_len E.table rest.now) }
-    ensures one_step { steps.new ≡ steps.old + 1 }
+#[tactic(auto, using(crate::proofs::lemmas::LoopAnswers::digit_after_16))]
+fn is_too_long<E: Engine>(skip: bool, s: &[u8], steps: &mut Steps) -> bool
+    requires full { run_len E.table (take 16 s.now) ≡ 16 }
+    ensures answer { result ≡ (not skip && nat_lt 16 (run_len E.table s.now)) }
+    ensures loads { steps.new ≡ steps.old + (if skip then 0 else 1) }
 {
-    E::window_8(rest, steps).len > 0
+    !skip && E::window_8(&s[16..], steps).len > 0
 }
 
 /// Parses all of `s` as digits, and returns their value, at most `bound`.

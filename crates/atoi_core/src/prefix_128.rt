@@ -12,8 +12,8 @@ use crate::powers::append_digits;
 use crate::steps::Steps;
 use crate::window::Window;
 
-/// As `Engine::prefix_128`. If `WHOLE` is set, all of `s` has to be digits, so the engine is called
-/// at once for 32 bytes or more. It loads again what was read here.
+/// As `Engine::prefix_128`, which is called after one full window if `WHOLE` is set and `s` has 32
+/// bytes or more, and loads again what was read here.
 ///
 /// # Errors
 ///

@@ -42,7 +42,7 @@ fn without_first(s: &[u8]) -> &[u8]
 }
 
 /// Parses all of `s` as at most one sign and digits. The body is parsed once, as that of a negative
-/// number, and the sign is applied to the result, without a branch on a minus.
+/// number, and the sign is applied to the result.
 ///
 /// # Errors
 ///

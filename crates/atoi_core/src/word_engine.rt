@@ -163,7 +163,7 @@ fn window_after_16(s: &[u8], steps: &mut Steps) -> Window
     window_of_word(load_from(s, 16))
 }
 
-// Fills a short slice to eight bytes with zeros before it, so that no branch depends on its length.
+// Fills a short slice to eight bytes with zeros before it: only an empty one has a branch of its own.
 fn short_window(s: &[u8]) -> Window
     requires { length s.now ≤ 8 }
     ensures of_16 { result ≡ window_of decimal_table 16 s.now }
@@ -175,7 +175,7 @@ fn short_window(s: &[u8]) -> Window
     let filled = load_high(s) + fill_of_zeros(s.len());
     let digits = digits_of(filled);
     if digits == 8 {
-        Window::not_full(s.len() as u32, value_of(filled, 8))
+        Window::not_full(s.len() as u32, sum_of(filled.wrapping_sub(ZEROS)))
     } else {
         let len = digits - (8 - s.len() as u32);
         Window::not_full(len, number_in_word(filled, digits))

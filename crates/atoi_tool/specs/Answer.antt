@@ -27,7 +27,7 @@ abbrev pub whole_text : Result ℤ Refusal → List ℕ
 whole_text (Ok value) = codes "ok " ++ signed_decimal value
 whole_text (Err reason) = refusal_text reason
 
--- A prefix's answer: the value and its bytes.
+-- A prefix's answer: the value and the number of its bytes.
 abbrev pub prefix_text : Result (ℤ × ℕ) Refusal → List ℕ
 prefix_text (Ok found) = codes "ok " ++ signed_decimal found.0 ++ codes " " ++ decimal found.1
 prefix_text (Err reason) = refusal_text reason

@@ -102,8 +102,7 @@ in_range_short table int sized minus s le =
     ]
 
 -- ---- Both signs from one parse
--- A body is parsed under the negative bound; without a minus only the magnitude of `T::MIN` is
--- refused.
+-- The negative bound admits one magnitude too many if there is no minus: that of `T::MIN`.
 
 -- The digits after the leading zeros are those of the number.
 pub leading_zeros : (t : Table) → IsBelowTen t → (digits number : ℕ) → HasDigits digits number
@@ -287,7 +286,7 @@ module _ (t : Table) (int : IntType) (minus skip : Bool) (s : List ℕ) where
       let above = not_chosen _ _ (fact (value t (run t s)) (ap (λ (pair : ℤ × ℕ). pair.0) both.1)) in
       (accepted_least t int minus prefix skip s both.0 (ltb-true _ _ above), ap (λ (pair : ℤ × ℕ). pair.1) both.1)
 
-  -- The error for a prefix holds no number.
+  -- An error for a prefix is the answer for `minus` too.
   pub prefix_error : (reason : Refusal) → Err reason ≡ prefix_answer t int true skip s → Err reason ≡ prefix_answer t int minus skip s
   prefix_error reason h =
       let refused_is = map_unless_err (counted_number true) _ _ reason (sym h) in

@@ -91,7 +91,7 @@ above : (limit : Option ℕ) (count : ℕ) → is_above limit count ≡ true →
 above None count h = absurd (cc h)
 above (Some limit) count h = ltb-true limit count h
 
-not_above : (limit : Option ℕ) (count : ℕ) → is_above limit count ≡ false → ¬ IsAbove limit count
+pub not_above : (limit : Option ℕ) (count : ℕ) → is_above limit count ≡ false → ¬ IsAbove limit count
 not_above None count h = λ p. p
 not_above (Some limit) count h = λ p. absurd (omega (arith, ltb-false limit count h))
 

@@ -9,6 +9,7 @@ use Rattle.atoi_core.specs.Refusal.{empty, Refusal, invalid64, invalid128, size,
 use Rattle.atoi_core.specs.Magnitude.{Class, wide64, wide128, Extent, prefix, rule_of, HasDigits, prefix_magnitude, narrow, whole, Rule, invalid, refusal, unless_refused, whole_magnitude, skipped_zeros, is_above}
 use Rattle.atoi_core.specs.Reading.{IsSkipped, cap, answer_by_digits}
 use Rattle.atoi_core.specs.declared.window.Window.{Window}
+use Rattle.atoi_core.specs.Window.{window_of}
 use Rattle.atoi_core.proofs.lemmas.Calls.{refused_empty, is_empty, is_long, is_over, too_long, over, limit_at, significant_len, IsAccepted, refusal-none, refused_size, refused_overflow}
 use Rattle.atoi_core.proofs.lemmas.Runs.{prefix_len-take, prefix_len-drop, value-take-le, value-least, narrow_whole_is}
 use Rattle.atoi_core.proofs.lemmas.Readings.{within, below, short, short_below, all_decide}
@@ -195,7 +196,7 @@ ends t true s at before now w after_skip few small =
           absurd (omega (arith, least t (drop at s) w after_skip.window h (after_skip.last refl)))
     ]
 
--- Let zeros be skipped, or let the run have at most 16 digits.
+-- Zeros are skipped, or the run has at most 16 digits.
 module _ (t : Table) (skip : Bool) (s : List ℕ) (at before now : ℕ) (w : Window)
     (after_skip : Skipped t skip s at before now w) (few : skip ≡ false → run_len t s ≤ 16) where
   -- The number of the last window is at most the value of the run.
@@ -242,12 +243,14 @@ narrow_size t bound limit false s long =
     rw (refused_size t narrow bound limit prefix false s (omega arith) too_long) (rw reported refl)
 
 -- After 16 digits, a digit follows if the run is longer.
-pub digit_after_16 : (t : Table) (s : List ℕ) → run_len t (take 16 s) ≡ 16 →
-    nat_lt 0 (run_len t (take (length s - 16) (drop 16 s))) ≡ nat_lt 16 (run_len t s)
-digit_after_16 t s full =
+pub digit_after_16 : (t : Table) (skip : Bool) (s : List ℕ) (w : Window) → run_len t (take 16 s) ≡ 16 →
+    w ≡ window_of t 8 (take (length s - 16) (drop 16 s)) → not skip ≡ true → nat_lt 0 w.len ≡ (not skip && nat_lt 16 (run_len t s))
+digit_after_16 t skip s w full is counts =
     let first : 16 ≡ min 16 (run_len t s) = sym full ∙ prefix_len-take (is_digit t) 16 s in
     let run_is : run_len t s ≡ 16 + run_len t (drop 16 s) = prefix_len-drop (is_digit t) 16 s (omega arith) in
-    rw (take_rest s 16) (grind (arith, nat_tests))
+    let next : w.len ≡ min 8 (run_len t (drop 16 s)) =
+    ap (λ (x : Window). x.len) is ∙ ap (λ rest. run_len t (take 8 rest)) (take_rest s 16) ∙ prefix_len-take (is_digit t) 8 (drop 16 s) in
+    rw counts (grind (arith, nat_tests))
 
 -- The last window decides the answer to a narrow whole slice.
 pub narrow_decides : (t : Table) (s : List ℕ) (at before now : ℕ) (w : Window) (len : ℕ) → Skipped t true s at before now w →

@@ -1,23 +1,22 @@
 -- What follows a number, and what an error says about digits.
-use Rattle.std.proofs.Common.{◌≡◌, ◌↔◌, ℕ, ◌<◌, Bool, true, false, IsFalse, List, [], ◌∷◌, ◌++◌, length, take, drop, get_or, get_or-drop, length-drop, Option, Some, None, Err, ℤ, refl, sym, ap, ◌∙◌, arith, inl, inr}
+use Rattle.std.proofs.Common.{◌≡◌, ◌↔◌, ℕ, ◌<◌, Bool, true, IsFalse, List, [], ◌∷◌, ◌++◌, length, take, drop, get_or, get_or-drop, length-drop, Err, ℤ, refl, sym, ap, ◌∙◌, arith, inl, inr}
 use Rattle.std.proofs.lemmas.Bool.{cases_lt, cases_Bool}
 use Rattle.std.proofs.lemmas.List.{take-append-drop}
 use Rattle.std.proofs.lemmas.List.Prefix.{front_rest}
 use Rattle.std.proofs.lemmas.List.Sums.{prefix_len-le-length, prefix_len_stops}
-use Rattle.std.proofs.lemmas.Bool.{lt-ltb}
 use Rattle.std.specs.Str.Parse.{AllDigits}
 use Rattle.atoi_core.specs.Digit.{decimal_table, is_digit}
 use Rattle.atoi_core.specs.Run.{run_len, run, value}
 use Rattle.atoi_core.specs.Refusal.{Refusal, empty, size, overflow, invalid64, invalid128}
-use Rattle.atoi_core.specs.Magnitude.{prefix, is_above}
+use Rattle.atoi_core.specs.Magnitude.{prefix}
 use Rattle.atoi_core.specs.IntType.{IntType, IsSized, class_of, bound_of, limit_of}
-use Rattle.atoi_core.specs.Laws.{SignForm, sign_in, prefix_call, Writes, NumberThenByte, OneNumber, PrefixBegins, NoneOrTooLarge, IsAbove, IsTooLong}
+use Rattle.atoi_core.specs.Laws.{SignForm, sign_in, prefix_call, Writes, NumberThenByte, OneNumber, PrefixBegins, NoneOrTooLarge, IsTooLong}
 use Rattle.atoi_core.specs.Text.{BeginsWithDigit, PrefixWrites, IsNumberThen, IsTooLarge}
 use Rattle.atoi_core.proofs.lemmas.Calls.{digit_in_range, found_prefix, limit_at, significant_len}
 use Rattle.atoi_core.proofs.lemmas.Bounds.{limit_of_prefix, in_range_short}
 use Rattle.atoi_core.proofs.lemmas.Texts.{digit_is, own, to_std}
 use Rattle.atoi_core.proofs.lemmas.Prefixes.{prefixes_and_rests, accepted_numbers, run_before, no_digit}
-use Rattle.atoi_core.proofs.lemmas.Errors.{errors_in_order}
+use Rattle.atoi_core.proofs.lemmas.Errors.{errors_in_order, not_above}
 use Rattle.atoi_core.proofs.lemmas.Runs.{length-run, run_len-run, digits_all}
 
 -- ---- A number and what follows it
@@ -84,10 +83,6 @@ pub prefix_begins : (int : IntType) → PrefixBegins int
 prefix_begins int form skip s found h =
     begins_of_run (sign_in int form s).body (found_prefix int form skip s found.0 found.1 h).is_prefix.some
 
-not_above : (limit : Option ℕ) (count : ℕ) → IsAbove limit count → is_above limit count ≡ false → ⊥
-not_above None count above not = above
-not_above (Some limit) count above not = let is = lt-ltb limit count above in cc
-
 -- A number in range has few enough digits.
 long_is_above : (int : IntType) → IsSized int → (is_negative : Bool) (body : List ℕ) → IsTooLong int prefix true body
     → bound_of int is_negative < value decimal_table (run decimal_table body)
@@ -95,8 +90,8 @@ long_is_above int sized is_negative body long =
     elim (cases_lt (bound_of int is_negative) (value decimal_table (run decimal_table body))) [
       | inl lt ↦ lt
       | inr le ↦
-          absurd (not_above (limit_at (class_of int) prefix true (limit_of int)) (significant_len decimal_table true body) long
-          (rw (limit_of_prefix int true (limit_of int) (inl refl)) (in_range_short decimal_table int sized is_negative body le)))
+          absurd (not_above (limit_at (class_of int) prefix true (limit_of int)) (significant_len decimal_table true body)
+          (rw (limit_of_prefix int true (limit_of int) (inl refl)) (in_range_short decimal_table int sized is_negative body le)) long)
     ]
 
 module _ (int : IntType) (sized : IsSized int) (form : SignForm) (s : List ℕ) where

@@ -90,17 +90,28 @@ module _ (t : Table) (ten : IsBelowTen t) where
 
 -- ---- The loop that skips zeros
 
--- Before a load at offset `at`: one load for 16 skipped zeros each, and one for fewer at the end.
-pub record Skipping (t : Table) (skip : Bool) (s : List ℕ) (at before now : ℕ) : Type 0 where
+-- Offset `at`, after skipped zeros only.
+pub record IsAfterZeros (t : Table) (skip : Bool) (s : List ℕ) (at : ℕ) : Type 0 where
   pub bounded : at ≤ zeros t s
   pub within : at ≤ length s
   pub off : skip ≡ false → at ≡ 0
+
+-- One load for 16 skipped zeros each, and one for fewer at the end.
+pub record LoadsZeros (t : Table) (s : List ℕ) (at before now : ℕ) : Type 0 where
   pub most : 16 * now ≤ 16 * before + at + 15
   pub least : at + 16 * before ≤ 16 * now
   pub offset_is : (16 * now ≡ 16 * before + at) ⊎ ((at ≡ zeros t s) × (zeros t s / 16 < run_len t s / 16))
 
+-- Before a load at offset `at`.
+pub record Skipping (t : Table) (skip : Bool) (s : List ℕ) (at before now : ℕ) : Type 0 where
+  pub place : IsAfterZeros t skip s at
+  pub loads : LoadsZeros t s at before now
+
 pub Skipping-none : (t : Table) (skip : Bool) (s : List ℕ) (n : ℕ) → Skipping t skip s 0 n n
-Skipping-none t skip s n = record { bounded = omega arith; within = omega arith; off = λ _. refl; most = omega arith; least = omega arith; offset_is = inl (omega arith) }
+Skipping-none t skip s n = record {
+  place = record { bounded = omega arith; within = omega arith; off = λ _. refl };
+  loads = record { most = omega arith; least = omega arith; offset_is = inl (omega arith) };
+}
 
 -- After the loop: the last window is at `at`, and if full begins with a significant digit.
 pub record Skipped (t : Table) (skip : Bool) (s : List ℕ) (at before now : ℕ) (w : Window) : Type 0 where
@@ -146,29 +157,40 @@ Skipped-one t false s at before now last after_skip one counted = record {
 }
 
 module _ (t : Table) (ten : IsBelowTen t) where
-  pub Skipping-more : (skip : Bool) (s : List ℕ) (at after before now next : ℕ) (w : Window) →
-      Skipping t skip s at before now → w ≡ window_of t 16 (take (length s - at) (drop at s)) → next ≡ now + 1 →
-      skip ≡ true → 0 < w.zeroes → after ≡ at + w.zeroes → Skipping t skip s after before next
-  Skipping-more skip s at after before now next w after_skip e one on some dropped =
+  -- A window that reports zeros is full of digits, and the report ends at 16 or at the last zero.
+  zeros_reported : (s : List ℕ) (at : ℕ) (w : Window) → at ≤ zeros t s → w ≡ window_of t 16 (take (length s - at) (drop at s)) → 0 < w.zeroes →
+      (w.zeroes ≡ min 16 (zeros t s - at)) × (at + 16 ≤ run_len t s)
+  zeros_reported s at w bounded e some =
       let seen : Shows t 16 (drop at s) w = shows_rest t ten 16 s at w e in
-      let zeros_are : zeros t s ≡ at + zeros t (drop at s) = prefix_len-drop (is_zero t) at s after_skip.bounded in
-      let run_is : run_len t s ≡ at + run_len t (drop at s) = prefix_len-drop (is_digit t) at s (omega (arith, after_skip.bounded, zeros-le t s)) in
-      let run_most : run_len t s ≤ length s = prefix_len-le-length (is_digit t) s in
-      let zero_most : zeros t s ≤ run_len t s = zeros-le t s in
+      let zeros_are : zeros t s ≡ at + zeros t (drop at s) = prefix_len-drop (is_zero t) at s bounded in
+      let run_is : run_len t s ≡ at + run_len t (drop at s) = prefix_len-drop (is_digit t) at s (omega (arith, bounded, zeros-le t s)) in
       let reported : w.zeroes ≡ min 16 (zeros t (drop at s)) = seen.zeroes_of (seen.full some) in
-      let full : w.len ≡ 16 = seen.full some in
-      let run_more : w.len ≤ run_len t (drop at s) = omega (arith, seen.len_is) in
-      let exact : 16 * now ≡ 16 * before + at =
-      elim after_skip.offset_is [ inl h ↦ h | inr h ↦ absurd (omega (arith, h.0)) ] in
+      (omega arith, omega (arith, seen.full some, seen.len_is))
+
+  -- Any of the zeros that a window reports may be skipped ..
+  pub Skipping-place : (skip : Bool) (s : List ℕ) (at after : ℕ) (w : Window) → IsAfterZeros t skip s at →
+      w ≡ window_of t 16 (take (length s - at) (drop at s)) → skip ≡ true → 0 < w.zeroes → after ≤ at + w.zeroes → IsAfterZeros t skip s after
+  Skipping-place skip s at after w place e on some dropped =
+      let reported = zeros_reported s at w place.bounded e some in
       record {
-        bounded = omega arith;
-        within = omega arith;
+        bounded = omega (arith, reported.0, place.bounded);
+        within = omega (arith, reported.0, place.bounded, zeros-le t s, prefix_len-le-length (is_digit t) s);
         off = λ h. absurd (false≢true (sym h ∙ on));
-        most = omega arith;
-        least = omega arith;
+      }
+
+  -- .. and all of them, for the bound on loads.
+  pub Skipping-loads : (s : List ℕ) (at after before now next : ℕ) (w : Window) → at ≤ zeros t s → LoadsZeros t s at before now →
+      w ≡ window_of t 16 (take (length s - at) (drop at s)) → next ≡ now + 1 → 0 < w.zeroes → after ≡ at + w.zeroes →
+      LoadsZeros t s after before next
+  Skipping-loads s at after before now next w bounded loads e one some dropped =
+      let reported = zeros_reported s at w bounded e some in
+      let exact : 16 * now ≡ 16 * before + at = elim loads.offset_is [ inl h ↦ h | inr h ↦ absurd (omega (arith, h.0, reported.0)) ] in
+      record {
+        most = omega (arith, reported.0);
+        least = omega (arith, reported.0);
         offset_is = elim (cases_lt w.zeroes 16) [
-          | inl h ↦ inr (omega arith, omega arith)
-          | inr h ↦ inl (omega arith)
+          | inl h ↦ inr (omega (arith, reported.0), omega (arith, reported))
+          | inr h ↦ inl (omega (arith, reported.0))
         ];
       }
 
@@ -179,28 +201,28 @@ module _ (t : Table) (ten : IsBelowTen t) where
       let last : skip ≡ true → w.zeroes ≡ 0 =
       λ h. elim stops [ inl k ↦ absurd (false≢true (sym k ∙ h)) | inr k ↦ k.1 ] in
       let seen : Shows t 16 (drop at s) w = shows_rest t ten 16 s at w e in
-      let zeros_are : zeros t s ≡ at + zeros t (drop at s) = prefix_len-drop (is_zero t) at s after_skip.bounded in
-      let run_is : run_len t s ≡ at + run_len t (drop at s) = prefix_len-drop (is_digit t) at s (omega (arith, after_skip.bounded, zeros-le t s)) in
+      let zeros_are : zeros t s ≡ at + zeros t (drop at s) = prefix_len-drop (is_zero t) at s after_skip.place.bounded in
+      let run_is : run_len t s ≡ at + run_len t (drop at s) = prefix_len-drop (is_digit t) at s (omega (arith, after_skip.place.bounded, zeros-le t s)) in
       let zero_most : zeros t (drop at s) ≤ run_len t (drop at s) = zeros-le t (drop at s) in
       let full : skip ≡ true → w.len ≡ 16 → at ≡ zeros t s = λ h k. omega (arith, last h, seen.zeroes_of k) in
       let short : w.len < 16 → zeros t (drop at s) < 16 = λ h. omega (arith, seen.len_is) in
       record {
         window = seen;
-        within = after_skip.within;
-        off = after_skip.off;
+        within = after_skip.place.within;
+        off = after_skip.place.off;
         run_is = run_is;
         zeros_are = zeros_are;
-        value_is = value-drop_zeros t at s after_skip.bounded;
+        value_is = value-drop_zeros t at s after_skip.place.bounded;
         full = full;
         last = last;
-        more = omega (arith, after_skip.least);
-        most = omega (arith, after_skip.most, after_skip.bounded);
-        unskipped = λ h. omega (arith, after_skip.off h, after_skip.most);
+        more = omega (arith, after_skip.loads.least);
+        most = omega (arith, after_skip.loads.most, after_skip.place.bounded);
+        unskipped = λ h. omega (arith, after_skip.place.off h, after_skip.loads.most);
         least = λ h. elim (cases_lt w.len 16) [
-          | inl k ↦ omega (arith, short k, after_skip.least)
-          | inr k ↦ omega (arith, full h (omega (arith, seen.len_is)), after_skip.least)
+          | inl k ↦ omega (arith, short k, after_skip.loads.least)
+          | inr k ↦ omega (arith, full h (omega (arith, seen.len_is)), after_skip.loads.least)
         ];
-        offset_is = λ h. elim after_skip.offset_is [
+        offset_is = λ h. elim after_skip.loads.offset_is [
           | inr k ↦ inr k
           | inl k ↦ (elim (cases_lt w.len 16) [
             | inl m ↦ inl (omega (arith, short m))
@@ -216,12 +238,12 @@ module _ (t : Table) (ten : IsBelowTen t) where
   Skipped-after_zeros s at before now w offset e none loads =
       let skipping : Skipping t true s at before now =
       record {
-        bounded = grind (arith, nat_tests);
-        within = grind (arith, nat_tests, zeros-le t s, prefix_len-le-length (is_digit t) s);
-        off = λ h. absurd (cc h);
-        most = omega arith;
-        least = omega arith;
-        offset_is = grind (arith, nat_tests);
+        place = record {
+          bounded = grind (arith, nat_tests);
+          within = grind (arith, nat_tests, zeros-le t s, prefix_len-le-length (is_digit t) s);
+          off = λ h. absurd (cc h);
+        };
+        loads = record { most = omega arith; least = omega arith; offset_is = grind (arith, nat_tests) };
       } in
       Skipped-end true s at before now (now + 1) w skipping (e ∙ ap (window_of t 16) (sym (take_rest s at))) refl (inr (refl, none))
 
@@ -229,8 +251,12 @@ module _ (t : Table) (ten : IsBelowTen t) where
       Skipping t true s zeroes n (n + 1)
   Skipping-first_window s n zeroes e some =
       let w : Window = window_of t 16 s in
-      Skipping-more true s 0 zeroes n n (n + 1) w (Skipping-none t true s n) (ap (window_of t 16) (sym (take_rest s 0))) refl refl
-      (omega arith) (omega arith)
+      let start : Skipping t true s 0 n n = Skipping-none t true s n in
+      let read : w ≡ window_of t 16 (take (length s - 0) (drop 0 s)) = ap (window_of t 16) (sym (take_rest s 0)) in
+      record {
+        place = Skipping-place true s 0 zeroes w start.place read refl (omega arith) (omega arith);
+        loads = Skipping-loads s 0 zeroes n n (n + 1) w start.place.bounded start.loads read refl (omega arith) (omega arith);
+      }
 
   pub Skipped-at_once : (skip : Bool) (s : List ℕ) (before next : ℕ) (w : Window) →
       w ≡ window_of t 16 s → next ≡ before + 1 → (skip ≡ false) ⊎ ((skip ≡ true) × (w.zeroes ≡ 0)) → Skipped t skip s 0 before next w

@@ -305,6 +305,11 @@ lowered_value len word ones few digits is =
           ∙ shifted_value (64 - 8 * len) 8 len word (omega arith) few,
     )
 
+-- Eight digits need no shift.
+pub lowered_eight : (word ones : ℕ) → run_len decimal_table (low_bytes 8 word) ≡ 8 → ones ≡ (word + without_48 8) % 2 ^ 64
+    → (bit_and ones (repeated 15 8) ≡ ones) × (low_value (low_bytes 8 ones) ≡ low_value (low_bytes 8 word))
+lowered_eight word ones full is = lowered_value 8 word ones (omega arith) (omega arith) (is ∙ omega arith)
+
 -- A shift in two steps is one shift.
 pub shifted_twice : (a len : ℕ) → len < 8 → a * 2 ^ (56 - 8 * len) % 2 ^ 64 * 2 ^ 8 % 2 ^ 64 ≡ a * 2 ^ (64 - 8 * len) % 2 ^ 64
 shifted_twice a len few =

@@ -4,6 +4,7 @@ use Rattle.atoi_core.specs.Digit.{decimal_table}
 use Rattle.atoi_core.specs.Run.{run_len}
 use Rattle.atoi_core.specs.Words.{word_of}
 use Rattle.atoi_core.proofs.lemmas.LoadedWords.{few_in_both, word_filled, filled_fits, filled_digits, filled_window}
+use Rattle.atoi_core.proofs.lemmas.WordRuns.{lowered_eight}
 use Rattle.atoi_core.proofs.word_engine.short_window.Goals as goal
 use Rattle.atoi_core.proofs.word_engine.short_window.Goals.{After-digits_of-digits}
 
@@ -23,13 +24,17 @@ digits c =
 pub overflow_sub-len-else-digits-eq8 : goal.overflow_sub-len-else-digits-eq8
 overflow_sub-len-else-digits-eq8 c = omega (arith, digits (goal.at.overflow_sub-len-else-digits-eq8 c).After-digits_of-digits)
 
+pub sum_of-requires : goal.sum_of-requires
+sum_of-requires c = (lowered_eight _ _ (omega (arith, (goal.at.sum_of-requires c).After-digits_of-digits.digits_of-digits.ensures.len)) refl).0
+
 pub returns-then-digits-eq8-clause-of_16 : goal.returns-then-digits-eq8-clause-of_16
 returns-then-digits-eq8-clause-of_16 c =
     let at = (goal.at.returns-then-digits-eq8-clause-of_16 c).After-digits_of-digits in
     let s = c.args.s.now in
     let len : length s ≡ 8 - (8 - length s) = omega arith in
     c.not_full-then-digits-eq8.ensures
-    ∙ filled_window s c.requires (λ i. (c.type_inv.s i).fits) _ 8 (length s) c.value_of.result (filled at) (sym c.if-digits-eq8.true ∙ digits at) len c.value_of.ensures.sum
+    ∙ filled_window s c.requires (λ i. (c.type_inv.s i).fits) _ 8 (length s) c.sum_of.result (filled at) (sym c.if-digits-eq8.true ∙ digits at) len
+    (c.sum_of.ensures.sum ∙ (lowered_eight _ _ (omega (arith, c.digits_of-digits.ensures.len)) refl).1)
 
 pub returns-then-digits-eq8-clause-of_8 : goal.returns-then-digits-eq8-clause-of_8
 returns-then-digits-eq8-clause-of_8 c = λ fewer. returns-then-digits-eq8-clause-of_16 c ∙ few_in_both c.args.s.now fewer

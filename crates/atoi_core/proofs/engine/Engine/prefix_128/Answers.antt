@@ -4,7 +4,7 @@ use Rattle.std.proofs.lemmas.List.{take_rest}
 use Rattle.std.proofs.lemmas.List.Sums.{prefix_len-le-length}
 use Rattle.atoi_core.specs.Digit.{is_digit}
 use Rattle.atoi_core.proofs.lemmas.Runs.{prefix_len-drop}
-use Rattle.atoi_core.proofs.lemmas.Windows.{Shows, Skipping-none, Skipping-more, Skipped, Skipped-end, Skipped-loads, shows_following}
+use Rattle.atoi_core.proofs.lemmas.Windows.{Shows, Skipping-none, Skipping-place, Skipping-loads, Skipped, Skipped-end, Skipped-loads, shows_following}
 use Rattle.atoi_core.proofs.lemmas.LoopAnswers.{answers_empty, answers_short, answers_two, answers_128}
 use Rattle.atoi_core.proofs.engine.Engine.prefix_128.Goals as goal
 use Rattle.atoi_core.proofs.engine.Engine.prefix_128.Goals.{After-window-second, After-window_8-third}
@@ -13,13 +13,15 @@ pub loop-window-init : goal.loop-window-init
 loop-window-init g c = Skipping-none _ c.args.skip c.args.s.now c.args.steps.now
 
 pub slice_bounds-window-count : goal.slice_bounds-window-count
-slice_bounds-window-count g c = c.loop-window.invariant.within
+slice_bounds-window-count g c = c.loop-window.invariant.place.within
 
 pub loop-window-preserved : goal.loop-window-preserved
 loop-window-preserved g c =
-    Skipping-more _ g.met.Self.Engine.below_ten _ _ _ _ _ _ _ c.window-window.result
-    c.loop-window.invariant c.window-window.ensures.window c.window-window.ensures.one_step
-    c.if-not-skip.false (omega arith) refl
+    let before = c.loop-window.invariant in
+    record {
+      place = Skipping-place _ g.met.Self.Engine.below_ten _ _ _ _ _ before.place c.window-window.ensures.window c.if-not-skip.false (omega arith) (omega arith);
+      loads = Skipping-loads _ g.met.Self.Engine.below_ten _ _ _ _ _ _ _ before.place.bounded before.loads c.window-window.ensures.window c.window-window.ensures.one_step (omega arith) refl;
+    }
 
 pub returns-then-len-eq0-clause-answer : goal.returns-then-len-eq0-clause-answer
 returns-then-len-eq0-clause-answer g c =

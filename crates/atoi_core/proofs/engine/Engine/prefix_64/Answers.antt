@@ -2,7 +2,7 @@
 use Rattle.std.proofs.Common.{◌≡◌, ◌+◌, ◌*◌, ◌^◌, ◌≤◌, ◌∙◌, refl, arith, length, drop}
 use Rattle.atoi_core.specs.Magnitude.{wide64, prefix_magnitude}
 use Rattle.atoi_core.specs.Reading.{answer_by_digits}
-use Rattle.atoi_core.proofs.lemmas.Windows.{Shows, Skipping-none, Skipping-more, Skipped, Skipped-end, Skipped-loads, shows_following}
+use Rattle.atoi_core.proofs.lemmas.Windows.{Shows, Skipping-none, Skipping-place, Skipping-loads, Skipped, Skipped-end, Skipped-loads, shows_following}
 use Rattle.atoi_core.proofs.lemmas.LoopAnswers.{answers_empty, answers_short, answers_64}
 use Rattle.atoi_core.proofs.engine.Engine.prefix_64.Goals as goal
 use Rattle.atoi_core.proofs.engine.Engine.prefix_64.Goals.{After-window_8-second}
@@ -11,13 +11,15 @@ pub loop-window-init : goal.loop-window-init
 loop-window-init g c = Skipping-none _ c.args.skip c.args.s.now c.args.steps.now
 
 pub slice_bounds-window-count : goal.slice_bounds-window-count
-slice_bounds-window-count g c = c.loop-window.invariant.within
+slice_bounds-window-count g c = c.loop-window.invariant.place.within
 
 pub loop-window-preserved : goal.loop-window-preserved
 loop-window-preserved g c =
-    Skipping-more _ g.met.Self.Engine.below_ten _ _ _ _ _ _ _ c.window-window.result
-    c.loop-window.invariant c.window-window.ensures.window c.window-window.ensures.one_step
-    c.if-not-skip.false (omega arith) refl
+    let before = c.loop-window.invariant in
+    record {
+      place = Skipping-place _ g.met.Self.Engine.below_ten _ _ _ _ _ before.place c.window-window.ensures.window c.if-not-skip.false (omega arith) (omega arith);
+      loads = Skipping-loads _ g.met.Self.Engine.below_ten _ _ _ _ _ _ _ before.place.bounded before.loads c.window-window.ensures.window c.window-window.ensures.one_step (omega arith) refl;
+    }
 
 pub returns-then-len-eq0-clause-answer : goal.returns-then-len-eq0-clause-answer
 returns-then-len-eq0-clause-answer g c =
