@@ -10,7 +10,8 @@ ghost use Rattle.atoi_tool.specs.Answer.{whole_text, prefix_text, refusal_text, 
 use crate::block::{Block, ROOM};
 use crate::put::LONGEST;
 use atoi_column::ColumnError;
-use atoi_core::{AtoiSimdError, Number, decimal};
+use atoi_core::{AtoiSimdError, Number};
+use itoa::Buffer;
 
 // The largest number of bytes that a number has: a minus and 39 digits.
 const NUMBER: usize = 40;
@@ -25,9 +26,7 @@ fn push_number<T: Number>(value: T, out: &mut Block)
     if minus {
         out.push(b"-");
     }
-    let mut digits = [0; 39];
-    let count = decimal(magnitude, &mut digits);
-    out.push(&digits[..count]);
+    out.push(Buffer::new().format(magnitude).as_bytes());
 }
 
 // Appends the text of an error, which has at most 332 bytes.
