@@ -16,47 +16,49 @@ load_from-next-requires-clause-enough c =
 pub load_from-next-requires-clause-inside : goal.load_from-next-requires-clause-inside
 load_from-next-requires-clause-inside c = load_from-next-requires-clause-enough c
 
+-- Both words are bytes, the first is full, and `more` digits follow.
+bytes : (c : After-digits_of-more) (i : ℕ) → get_or c.args.s.now i 0 < 256
+bytes c i = (c.type_inv.s i).fits
+
+following : (c : After-digits_of-more) (i : ℕ) → get_or (drop 8 c.args.s.now) i 0 < 256
+following c = fits_after c.args.s.now (bytes c)
+
+full : (c : After-digits_of-more) → run_len decimal_table (take 8 c.args.s.now) ≡ 8
+full c = sym (loaded_run c.args.s.now (bytes c) c.args.first c.requires.loaded) ∙ c.requires.full
+
+more_is : (c : After-digits_of-more) → c.digits_of-more.result ≡ run_len decimal_table (take 8 (drop 8 c.args.s.now))
+more_is c = c.digits_of-more.ensures.len ∙ loaded_run (drop 8 c.args.s.now) (following c) c.load_from-next.result c.load_from-next.ensures
+
 pub returns-then-more-eq8 : goal.returns-then-more-eq8
 returns-then-more-eq8 c =
+    let at = (goal.at.returns-then-more-eq8 c).After-digits_of-more in
     let s = c.args.s.now in
-    let rest = drop 8 s in
     let first = c.args.first in
     let next = c.load_from-next.result in
     let more = c.digits_of-more.result in
-    let fits : (i : ℕ) → get_or s i 0 < 256 = λ i. (c.type_inv.s i).fits in
-    let following : (i : ℕ) → get_or rest i 0 < 256 = fits_after s fits in
-    let full : run_len decimal_table (take 8 s) ≡ 8 = sym (loaded_run s fits first c.requires.loaded) ∙ c.requires.full in
-    let more_is : more ≡ run_len decimal_table (take 8 rest) = c.digits_of-more.ensures.len ∙ loaded_run rest following next c.load_from-next.ensures in
-    let all_zeros = zeros decimal_table (take 8 s ++ take 8 rest) in
+    let all_zeros = zeros decimal_table (take 8 s ++ take 8 (drop 8 s)) in
     let eight : 8 ≡ more = sym c.if-more-eq8.true in
     let len : 16 ≡ 8 + more = omega arith in
     let power : c.power_of_ten.result ≡ 10 ^ more = c.power_of_ten.ensures.power ∙ ap (λ (n : ℕ). 10 ^ n) eight in
     let whole : zeros decimal_table (low_bytes 8 first ++ low_bytes 8 next) ≡ all_zeros =
     ap₂ (λ xs ys. zeros decimal_table (xs ++ ys))
-    (loaded_bytes s fits first c.requires.loaded (enough_bytes s full))
-    (loaded_bytes rest following next c.load_from-next.ensures (enough_bytes rest (sym more_is ∙ sym eight))) in
+    (loaded_bytes s (bytes at) first c.requires.loaded (enough_bytes s (full at)))
+    (loaded_bytes (drop 8 s) (following at) next c.load_from-next.ensures (enough_bytes (drop 8 s) (sym (more_is at) ∙ sym eight))) in
     ap₂ (λ (n p : ℕ). let w : Window = record { len = n; zeroes = c.zeroes_of_two.result; number = c.value_of.result * p + c.value_of-then-more-eq8.result } in w) len power
-    ∙ window_joined s more c.zeroes_of_two.result c.value_of.result c.value_of-then-more-eq8.result full more_is
+    ∙ window_joined s more c.zeroes_of_two.result c.value_of.result c.value_of-then-more-eq8.result (full at) (more_is at)
     (c.zeroes_of_two.ensures ∙ whole ∙ sym (reported_full more 8 all_zeros (sym eight)))
-    (c.value_of.ensures.sum ∙ loaded_sum s fits first 8 c.requires.loaded (sym c.requires.full))
+    (c.value_of.ensures.sum ∙ loaded_sum s (bytes at) first 8 c.requires.loaded (sym c.requires.full))
     (c.value_of-then-more-eq8.ensures.sum ∙ ap (λ (n : ℕ). low_value (low_bytes n next)) eight
-    ∙ loaded_sum rest following next more c.load_from-next.ensures c.digits_of-more.ensures.len)
+    ∙ loaded_sum (drop 8 s) (following at) next more c.load_from-next.ensures c.digits_of-more.ensures.len)
 
 pub returns-else-more-eq8 : goal.returns-else-more-eq8
 returns-else-more-eq8 c =
+    let at = (goal.at.returns-else-more-eq8 c).After-digits_of-more in
     let s = c.args.s.now in
-    let rest = drop 8 s in
-    let first = c.args.first in
-    let next = c.load_from-next.result in
     let more = c.digits_of-more.result in
-    let fits : (i : ℕ) → get_or s i 0 < 256 = λ i. (c.type_inv.s i).fits in
-    let following : (i : ℕ) → get_or rest i 0 < 256 = fits_after s fits in
-    let full : run_len decimal_table (take 8 s) ≡ 8 = sym (loaded_run s fits first c.requires.loaded) ∙ c.requires.full in
-    let more_is : more ≡ run_len decimal_table (take 8 rest) = c.digits_of-more.ensures.len ∙ loaded_run rest following next c.load_from-next.ensures in
-    let all_zeros = zeros decimal_table (take 8 s ++ take 8 rest) in
     c.not_full.ensures
     ∙ ap (λ (p : ℕ). let w : Window = record { len = 8 + more; zeroes = 0; number = c.value_of-else-more-eq8.result * p + c.value_of_fewer.result } in w) c.power_of_ten-else-more-eq8.ensures.power
-    ∙ window_joined s more 0 c.value_of-else-more-eq8.result c.value_of_fewer.result full more_is
-    (sym (reported_none more 8 all_zeros c.if-more-eq8.false))
-    (c.value_of-else-more-eq8.ensures.sum ∙ loaded_sum s fits first 8 c.requires.loaded (sym c.requires.full))
-    (c.value_of_fewer.ensures.sum ∙ loaded_sum rest following next more c.load_from-next.ensures c.digits_of-more.ensures.len)
+    ∙ window_joined s more 0 c.value_of-else-more-eq8.result c.value_of_fewer.result (full at) (more_is at)
+    (sym (reported_none more 8 (zeros decimal_table (take 8 s ++ take 8 (drop 8 s))) c.if-more-eq8.false))
+    (c.value_of-else-more-eq8.ensures.sum ∙ loaded_sum s (bytes at) c.args.first 8 c.requires.loaded (sym c.requires.full))
+    (c.value_of_fewer.ensures.sum ∙ loaded_sum (drop 8 s) (following at) c.load_from-next.result more c.load_from-next.ensures c.digits_of-more.ensures.len)
