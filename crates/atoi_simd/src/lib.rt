@@ -8,7 +8,7 @@
 //! `parse_prefix::<i32, true, true>(b"+0042,7")` returns `Ok((42, 5))`.
 //!
 //! These functions read eight bytes at a time. Those of `lanes` have the same results, read 16 or 32
-//! bytes, and are faster for nearly all calls with types of 64 and 128 bits.
+//! bytes, and are faster for long numbers of 64 and 128 bits.
 #![tactic(auto)]
 
 mod default_engine;

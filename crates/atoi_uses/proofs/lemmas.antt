@@ -1,3 +1,1 @@
-pub mod Totals
 pub mod Commands
-pub mod Headers

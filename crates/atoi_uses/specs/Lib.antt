@@ -3,7 +3,6 @@ pub mod OwnEngine
 pub mod Versions
 pub mod SignedTotals
 pub mod Addresses
-pub mod Headers
 pub mod StatusLines
 pub mod Points
 pub mod Durations

@@ -4,7 +4,7 @@ ghost use Rattle.atoi_uses.specs.Points.{HasField, IsPoint};
 ghost use Rattle.atoi_uses.specs.declared.points.Point.{Point as PointValue};
 
 use crate::after_byte::after;
-use crate::settings::number_and_rest;
+use crate::signed_number::number_and_rest;
 use atoi_simd::laws::prefix_begins;
 use atoi_simd::parse;
 

@@ -2,15 +2,12 @@
 //! hand.
 
 mod addresses;
-mod bad_lines;
 mod cents;
 mod commands;
 mod durations;
-mod headers;
 mod own_engine;
 mod points;
-mod settings;
+mod signed_number;
 mod signed_totals;
 mod status_line;
-mod totals;
 mod versions;

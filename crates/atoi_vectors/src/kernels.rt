@@ -1,4 +1,4 @@
-//! The public functions on words and vectors. The windows call `load_high` and `read_short`.
+//! Public functions on words and vectors. The windows call the others.
 ghost use Rattle.std.specs.Prelude.{◌<◌};
 
 use crate::checks::gives;

@@ -1,4 +1,4 @@
-//! Each law, called for one type. A law says nothing that a run could show.
+//! Laws, each called for one type. A law says nothing that a run could show.
 
 use atoi_column::laws::{first_field, items_decide, items_in_turn, texts_and_items};
 use atoi_core::laws::{

@@ -1,4 +1,4 @@
-//! Runs of every length: every engine answers as the plain rules.
+//! Runs of up to 48 digits: every engine answers as the plain rules.
 ghost use Rattle.std.specs.Prelude.{◌≤◌};
 
 use crate::core_calls::check;

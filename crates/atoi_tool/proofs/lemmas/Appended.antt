@@ -11,12 +11,6 @@ pub Appends-take : (old mid new : Option (List ℕ)) (n m : ℕ) (xs : List ℕ)
 Appends-take old mid new n m xs first second =
     rw (take-add n m xs) (Appends-trans old mid new (take n xs) (take m (drop n xs)) first second)
 
-pub AppendsUpTo-none : (known : Option (List ℕ)) (whole : List ℕ) → AppendsUpTo known known whole whole
-AppendsUpTo-none known whole = ([], Appends-nil known, refl)
-
-pub AppendsUpTo-all : (old new : Option (List ℕ)) (whole : List ℕ) → Appends old new whole → AppendsUpTo old new whole []
-AppendsUpTo-all old new whole put = (whole, put, sym (append-nil whole))
-
 pub AppendsUpTo-trans : (old mid new : Option (List ℕ)) (whole part rest : List ℕ) → AppendsUpTo old mid whole part → AppendsUpTo mid new part rest → AppendsUpTo old new whole rest
 AppendsUpTo-trans old mid new whole part rest first second = (
   first.0 ++ second.0,
@@ -28,10 +22,6 @@ AppendsUpTo-trans old mid new whole part rest first second = (
 pub AppendsUpTo-more : (old new : Option (List ℕ)) (whole rest more : List ℕ) → AppendsUpTo old new whole rest → AppendsUpTo old new (whole ++ more) (rest ++ more)
 AppendsUpTo-more old new whole rest more put =
     (put.0, put.1, ap (λ (all : List ℕ). all ++ more) put.2 ∙ append_assoc put.0 rest more)
-
-pub AppendsUpTo-last : (old mid new : Option (List ℕ)) (whole rest : List ℕ) → AppendsUpTo old mid whole rest → Appends mid new rest → Appends old new whole
-AppendsUpTo-last old mid new whole rest put last =
-    subst (Appends old new) (sym put.2) (Appends-trans old mid new put.0 rest put.1 last)
 
 pub AppendsPrefix-more : (old new : Option (List ℕ)) (xs more : List ℕ) → AppendsPrefix old new xs → AppendsPrefix old new (xs ++ more)
 AppendsPrefix-more old new xs more refused =

@@ -1,6 +1,6 @@
-//! Tests of the answers to whole inputs, and of writers that fail. The expected answers come from the
-//! Rust crate `atoi_simd` 0.18.1, except to prefixes that count a plus, and to those of more than 16
-//! digits for types of up to 32 bits.
+//! Tests of the answers to whole inputs, and of writers that fail. The expected answers to good rows
+//! come from the Rust crate `atoi_simd` 0.18.1, except to prefixes that count a plus, and to those of
+//! more than 16 digits for types of up to 32 bits.
 
 use super::answer_lines;
 use crate::checks::{answered, gives};
