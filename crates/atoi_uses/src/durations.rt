@@ -1,10 +1,8 @@
 //! Reads durations such as `1h30m15s`, and says exactly when one is too large.
-ghost use Rattle.std.specs.Prelude.{◌≡◌, ◌<◌, ◌^◌, ◌≤◌, ℕ, List, min, IfOk, IfErr, IfSome, IfNone};
-ghost use Rattle.std.specs.Str.Parse.{digits_value};
-ghost use Rattle.atoi_simd.specs.Text.{BeginsWithDigit};
-ghost use Rattle.atoi_uses.specs.Durations.{HasNumber, HasPart, IsDuration, IsNoDuration};
+ghost use Rattle.std.specs.Prelude.{◌≡◌, ◌<◌, ◌^◌, ◌≤◌, ◌++◌, ◌∷◌, ℕ, List, length, min, IfOk, IfErr, IfSome, IfNone, MatchOption};
+ghost use Rattle.std.specs.Str.Parse.{IsNumeral};
+ghost use Rattle.atoi_uses.specs.Durations.{AreLeadingDigits, HasParts, IsDuration, IsNoDuration, capped, total_of};
 
-use crate::after_byte::after;
 use atoi_core::laws::none_or_too_large;
 use atoi_core::{Steps, Words, count_digits};
 use atoi_simd::parse_prefix_pos;
@@ -23,7 +21,7 @@ pub fn duration(text: &[u8]) -> Result<u64, DurationError>
     ensures seconds { IfOk result (λ seconds. IsDuration text.now seconds) }
     ensures refused { IfErr result (λ error. IsNoDuration text.now error) }
 {
-    let Some(total) = capped_seconds(text) else {
+    let Some(total) = capped_total(text) else {
         return Err(DurationError::NoDuration);
     };
     match u64::try_from(total) {
@@ -32,20 +30,24 @@ pub fn duration(text: &[u8]) -> Result<u64, DurationError>
     }
 }
 
-// Returns the seconds of a duration. If they are 2^64 or more, the result may be less, but not
-// below 2^64.
-fn capped_seconds(text: &[u8]) -> Option<u128>
-    ensures some { IfSome result (λ capped. (total : ℕ)
-        × (IsDuration text.now total × (min capped (2 ^ 64) ≡ min total (2 ^ 64)) × (capped ≤ total))) }
-    ensures none { IfNone result ((any : ℕ) → ¬ IsDuration text.now any) }
+// Returns the seconds of a duration. If they are 2^64 or more, the result may be another number from
+// 2^64 on.
+fn capped_total(text: &[u8]) -> Option<u128>
+    ensures some { IfSome result (λ total. (hours minutes seconds : List ℕ)
+        × (HasParts text.now hours minutes seconds
+        × (min total (2 ^ 64) ≡ min (total_of hours minutes seconds) (2 ^ 64)))) }
+    ensures none { IfNone result ((hours minutes seconds : List ℕ)
+        → ¬ HasParts text.now hours minutes seconds) }
 {
-    let (hours, after_hours) = part(text, b'h')?;
-    let (minutes, after_minutes) = part(after_hours, b'm')?;
-    let (seconds, rest) = part(after_minutes, b's')?;
-    if rest.is_empty() {
-        Some(hours * 3600 + minutes * 60 + seconds)
-    } else {
-        None
+    let Some((hours, after_hours)) = part(text, b'h') else {
+        return None;
+    };
+    let Some((minutes, after_minutes)) = part(after_hours, b'm') else {
+        return None;
+    };
+    match part(after_minutes, b's') {
+        Some((seconds, [])) => Some(hours * 3600 + minutes * 60 + seconds),
+        _ => None,
     }
 }
 
@@ -53,30 +55,29 @@ fn capped_seconds(text: &[u8]) -> Option<u128>
 fn part(text: &[u8], unit: u8) -> Option<(u128, &[u8])>
     requires { 57 < unit }
     ensures some { IfSome result (λ found. (digits : List ℕ)
-        × (HasPart unit text.now digits found.1.now
-        × (found.0 ≡ min (digits_value 10 digits) (2 ^ 64)))) }
-    ensures only { IfSome result (λ found. (digits : List ℕ) (rest : List ℕ)
-        → HasPart unit text.now digits rest → rest ≡ found.1.now) }
-    ensures none { IfNone result ((digits : List ℕ) (rest : List ℕ)
-        → ¬ HasPart unit text.now digits rest) }
+        × (IsNumeral 10 digits × ((text.now ≡ digits ++ unit ∷ found.1.now) × (found.0 ≡ capped digits)))) }
+    ensures only { (digits rest : List ℕ) → IsNumeral 10 digits → text.now ≡ digits ++ unit ∷ rest
+        → MatchOption result ⊥ (λ found. (found.0 ≡ capped digits) × (found.1.now ≡ rest)) }
 {
     none_or_too_large::<u64>();
-    let (number, count) = capped_number(text)?;
-    let rest = after(&text[count..], unit)?;
-    Some((number, rest))
+    let (number, count) = capped_number(text);
+    match text.split_at(count) {
+        (_, [first, rest @ ..]) if count > 0 && *first == unit => Some((number, rest)),
+        _ => None,
+    }
 }
 
 // Returns the number that `text` begins with, but at most 2^64, and the length of its digits.
-fn capped_number(text: &[u8]) -> Option<(u128, usize)>
-    ensures some { IfSome result (λ found. HasNumber text.now found.0 found.1) }
-    ensures none { IfNone result (¬ BeginsWithDigit text.now) }
+fn capped_number(text: &[u8]) -> (u128, usize)
+    ensures within { result.1 ≤ length text.now }
+    ensures digits { AreLeadingDigits text.now result.0 result.1 }
 {
     none_or_too_large::<u64>();
     match parse_prefix_pos::<u64, true>(text) {
-        Ok((number, count)) => Some((u128::from(number), count)),
+        Ok((number, count)) => (u128::from(number), count),
         Err(_) => match count_digits::<Words>(text, &mut Steps::new()) {
-            0 => None,
-            count => Some((1 << 64, count)),
+            0 => (0, 0),
+            count => (1 << 64, count),
         },
     }
 }
