@@ -1,7 +1,7 @@
 -- Versions such as `1.22.333`.
-use Rattle.std.specs.Prelude.{ℕ, false, List, pos}
+use Rattle.std.specs.Prelude.{◌≡◌, ℕ, false, List, ◌++◌, pos, codes}
 use Rattle.atoi_simd.specs.IntType.{u32_type}
-use Rattle.atoi_simd.specs.Text.{DigitsWrite, IsNumberThen}
+use Rattle.atoi_simd.specs.Text.{DigitsWrite}
 use Rattle.atoi_uses.specs.declared.versions.Version.{Version}
 
 abbrev pub dot : ℕ
@@ -9,8 +9,10 @@ dot = 46
 
 -- Three `u32` with dots between them, and nothing else.
 pub record IsVersion (text : List ℕ) (version : Version) : Type 0 where
-  pub after_major : List ℕ
-  pub after_minor : List ℕ
-  pub major : IsNumberThen (DigitsWrite u32_type false) text (pos version.major) dot after_major
-  pub minor : IsNumberThen (DigitsWrite u32_type false) after_major (pos version.minor) dot after_minor
-  pub patch : DigitsWrite u32_type false after_minor (pos version.patch)
+  pub major : List ℕ
+  pub minor : List ℕ
+  pub patch : List ℕ
+  pub parts : text ≡ major ++ (codes "." ++ (minor ++ (codes "." ++ patch)))
+  pub major_is : DigitsWrite u32_type false major (pos version.major)
+  pub minor_is : DigitsWrite u32_type false minor (pos version.minor)
+  pub patch_is : DigitsWrite u32_type false patch (pos version.patch)

@@ -1,5 +1,5 @@
 //! Reads versions: numbers that are each followed by a dot, and a last one.
-ghost use Rattle.std.specs.Prelude.{◌≡◌, ℕ, List, false, pos, IfSome, IfNone};
+ghost use Rattle.std.specs.Prelude.{◌≡◌, ◌++◌, ◌∷◌, ℕ, List, false, pos, IfSome, IfNone, MatchOption};
 ghost use Rattle.atoi_simd.specs.IntType.{u32_type};
 ghost use Rattle.atoi_simd.specs.Text.{DigitsWrite, IsNumberThen};
 ghost use Rattle.atoi_uses.specs.Versions.{IsVersion, dot};
@@ -25,8 +25,12 @@ pub fn parse_version(text: &[u8]) -> Option<Version>
     ensures some { IfSome result (λ version. IsVersion text.now version) }
     ensures none { IfNone result ((any : VersionValue) → ¬ IsVersion text.now any) }
 {
-    let (major, after_major) = number_and_dot(text)?;
-    let (minor, after_minor) = number_and_dot(after_major)?;
+    let Some((major, after_major)) = number_and_dot(text) else {
+        return None;
+    };
+    let Some((minor, after_minor)) = number_and_dot(after_major) else {
+        return None;
+    };
     match parse_pos::<u32, true>(after_minor) {
         Ok(patch) => Some(Version {
             major,
@@ -41,16 +45,17 @@ pub fn parse_version(text: &[u8]) -> Option<Version>
 fn number_and_dot(text: &[u8]) -> Option<(u32, &[u8])>
     ensures some { IfSome result (λ found.
         IsNumberThen (DigitsWrite u32_type false) text.now (pos found.0) dot found.1.now) }
-    ensures only { IfSome result (λ found. (number : ℕ) (rest : List ℕ)
-        → IsNumberThen (DigitsWrite u32_type false) text.now (pos number) dot rest
-        → rest ≡ found.1.now) }
-    ensures none { IfNone result ((number : ℕ) (rest : List ℕ)
-        → ¬ IsNumberThen (DigitsWrite u32_type false) text.now (pos number) dot rest) }
+    ensures only { (number : ℕ) (digits rest : List ℕ)
+        → DigitsWrite u32_type false digits (pos number) → text.now ≡ digits ++ dot ∷ rest
+        → MatchOption result ⊥ (λ found. (number ≡ found.0) × (rest ≡ found.1.now)) }
 {
     number_then_byte::<u32>();
     let Ok((number, count)) = parse_prefix_pos::<u32, true>(text) else {
         return None;
     };
-    let rest = after(&text[count..], b'.')?;
-    Some((number, rest))
+    let (_, tail) = text.split_at(count);
+    match after(tail, b'.') {
+        Some(rest) => Some((number, rest)),
+        None => None,
+    }
 }
