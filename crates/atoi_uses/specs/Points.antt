@@ -8,9 +8,10 @@ abbrev pub comma : ℕ
 comma = 44
 
 -- A number as `parse_prefix` reads it, a comma, then `rest`.
-abbrev pub HasField : List ℕ → ℤ → List ℕ → Type 0
-HasField text number rest =
-    (count : ℕ) × ((parse_prefix_answer i64_type true true text ≡ Ok (number, count)) × (drop count text ≡ comma ∷ rest))
+pub record HasField (text : List ℕ) (number : ℤ) (rest : List ℕ) : Type 0 where
+  pub count : ℕ
+  pub parsed : parse_prefix_answer i64_type true true text ≡ Ok (number, count)
+  pub parts : drop count text ≡ comma ∷ rest
 
 -- The point's three numbers, and nothing else.
 pub record IsPoint (text : List ℕ) (point : Point) : Type 0 where

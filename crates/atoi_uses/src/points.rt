@@ -1,5 +1,5 @@
 //! Reads three signed numbers with commas between them. The contracts say what the calls return.
-ghost use Rattle.std.specs.Prelude.{◌≡◌, ℕ, ℤ, List, IfSome, IfNone, IsNone, ◌++◌, codes};
+ghost use Rattle.std.specs.Prelude.{◌≡◌, ℕ, ℤ, List, IfSome, IfNone, IsNone, MatchOption, ◌++◌, codes};
 ghost use Rattle.atoi_uses.specs.Points.{HasField, IsPoint};
 ghost use Rattle.atoi_uses.specs.declared.points.Point.{Point as PointValue};
 
@@ -34,10 +34,14 @@ pub fn parse_point(text: &[u8]) -> Option<Point>
 // Returns the number that `text` begins with, and what follows the comma after it.
 fn field(text: &[u8]) -> Option<(i64, &[u8])>
     ensures some { IfSome result (λ found. HasField text.now found.0 found.1.now) }
-    ensures none { IfNone result ((number : ℤ) (rest : List ℕ) → ¬ HasField text.now number rest) }
+    ensures only { (number : ℤ) (rest : List ℕ) → HasField text.now number rest
+        → MatchOption result ⊥ (λ found. (number ≡ found.0) × (rest ≡ found.1.now)) }
 {
-    match number_and_rest(text) {
-        Ok((number, rest)) => Some((number, after(rest, b',')?)),
-        Err(_) => None,
+    let Ok((number, rest)) = number_and_rest(text) else {
+        return None;
+    };
+    match after(rest, b',') {
+        Some(after_comma) => Some((number, after_comma)),
+        None => None,
     }
 }
