@@ -1,5 +1,5 @@
 //! The four *core calls*: each parses digits without a sign as an integer of any type, with the
-//! parser for its size. Where a `match` stands, `?` costs more instructions.
+//! parser for its size. Each `match` costs fewer instructions than `?` would.
 ghost use Rattle.std.specs.Prelude.{◌≡◌, ◌≤◌, true, false, IfOk, length};
 ghost use Rattle.atoi_core.specs.Answer.{typed_answer, typed_prefix_answer, whole_answer, prefix_answer};
 ghost use Rattle.atoi_core.specs.IntType.{class_of, bound_of, limit_of};
