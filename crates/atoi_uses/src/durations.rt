@@ -3,6 +3,7 @@ ghost use Rattle.std.specs.Prelude.{◌≡◌, ◌<◌, ◌^◌, ◌≤◌, ◌+
 ghost use Rattle.std.specs.Str.Parse.{IsNumeral};
 ghost use Rattle.atoi_uses.specs.Durations.{AreLeadingDigits, HasParts, IsDuration, IsNoDuration, capped, total_of};
 
+use crate::after_byte::after;
 use atoi_core::laws::none_or_too_large;
 use atoi_core::{Steps, Words, count_digits};
 use atoi_simd::parse_prefix_pos;
@@ -61,8 +62,9 @@ fn part(text: &[u8], unit: u8) -> Option<(u128, &[u8])>
 {
     none_or_too_large::<u64>();
     let (number, count) = capped_number(text);
-    match text.split_at(count) {
-        (_, [first, rest @ ..]) if count > 0 && *first == unit => Some((number, rest)),
+    let (_, tail) = text.split_at(count);
+    match after(tail, unit) {
+        Some(rest) if count > 0 => Some((number, rest)),
         _ => None,
     }
 }
