@@ -1,0 +1,54 @@
+//! Adds up the requests of a web server's access log, which it reads from standard input. Skips the
+//! lines that have no status and size, and says why.
+#![tactic(auto)]
+
+use atoi_simd::{AtoiSimdError, Parse, parse_prefix};
+use std::io::{self, BufRead, BufReader};
+
+fn reason(error: AtoiSimdError<'_>) -> &'static str {
+    match error {
+        AtoiSimdError::Empty => "no digit",
+        _ => "number out of range",
+    }
+}
+
+// Returns the number at the start of `text`, and what follows the space after it.
+fn number_and_rest<T: Parse>(text: &[u8]) -> Result<(T, &[u8]), &'static str> {
+    let (number, count) = parse_prefix::<T, true, false>(text).map_err(reason)?;
+    match &text[count..] {
+        [] => Ok((number, &[])),
+        [b' ', rest @ ..] => Ok((number, rest)),
+        _ => Err("no space after the number"),
+    }
+}
+
+// Returns the status and the size, which follow the request: `.. "GET / HTTP/1.1" 200 5316 ..`.
+fn status_and_size(line: &str) -> Result<(u16, u64), &'static str> {
+    let (_, numbers) = line.split_once("\" ").ok_or("no request")?;
+    let (status, rest) = number_and_rest::<u16>(numbers.as_bytes())?;
+    let (size, _) = number_and_rest::<u64>(rest)?;
+    Ok((status, size))
+}
+
+fn main(rt: HostRuntime) -> io::Result<()> {
+    let (mut requests, mut failed, mut bytes, mut skipped) = (0u64, 0u64, 0u64, 0u64);
+    let lines = BufReader::new(rt.alloc(), rt.reader())?.lines(rt.alloc());
+    for (number, line) in (1u64..).zip(lines) {
+        match status_and_size(line?.as_str()) {
+            Ok((status, size)) => {
+                // A plain `+` needs a proof that it cannot overflow.
+                requests = requests.saturating_add(1);
+                failed = failed.saturating_add(u64::from(status >= 400));
+                bytes = bytes.saturating_add(size);
+            }
+            Err(reason) => {
+                println!(rt; "line {number} is skipped: {reason}")?;
+                skipped = skipped.saturating_add(1);
+            }
+        }
+    }
+    println!(rt; "requests {requests:10}")?;
+    println!(rt; "failed   {failed:10}")?;
+    println!(rt; "bytes    {bytes:10}")?;
+    println!(rt; "skipped  {skipped:10}")
+}
