@@ -85,7 +85,6 @@ pub fn prefix_of_cut<T: Number>()
 {}
 
 /// A prefix parse stops at the end of its slice or before a byte that is no digit.
-#[tactic(auto, using(crate::proofs::lemmas::Prefixes::prefix_stops_at_rest))]
 pub fn prefix_stops_at_rest<T: Number>()
     ensures { PrefixStopsAtRest T.int_type }
 {}
