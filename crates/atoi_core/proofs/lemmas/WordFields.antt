@@ -1,5 +1,5 @@
 -- Words as lists of fields: how products sum them, what bitwise operators do to each.
-use Rattle.std.proofs.Common.{◌≡◌, ℕ, zero, suc, ◌+◌, ◌-◌, ◌*◌, ◌/◌, ◌%◌, ◌^◌, ◌<◌, ◌≤◌, List, [], ◌∷◌, length, refl, sym, ap, ap₂, ◌∙◌, arith, lit<, map, inl, inr, cond, ◌==◌, mod-lt}
+use Rattle.std.proofs.Common.{◌≡◌, ℕ, zero, suc, ◌+◌, ◌-◌, ◌*◌, ◌/◌, ◌%◌, ◌^◌, ◌<◌, ◌≤◌, List, [], ◌∷◌, length, refl, sym, ◌∙◌, arith, lit<, map, inl, inr, ◌==◌, mod-lt}
 use Rattle.std.proofs.lemmas.List.{length-map}
 use Rattle.std.proofs.Math.Nat.{add-mul-div_right, div-div-eq-div-mul, mul_comm, zero-mod, suc-mul, mul-le-mul_right, mul_assoc, pow-zero, pow-suc, suc-add, zero-add, mul-one, mod-eq_of_lt, pow-le-pow_right, div-one, add_comm, eq-zero-or-pos}
 use Rattle.std.proofs.Math.Pow.{mod-mod-pow, ones_lt, pow_mono}
@@ -44,21 +44,18 @@ half_below h = let le : 2 ^ h ≤ 2 ^ (h + h) = pow_mono (omega arith) in omega 
 mask_step : (h k word : ℕ) → bit_and word (masks h (suc k)) ≡ bit_and (word / 2 ^ (h + h)) (masks h k) * 2 ^ (h + h) + word % 2 ^ h
 mask_step h k word =
     let b = 2 ^ (h + h) in
-    ap (λ w. bit_and w (masks h (suc k))) (sym (shr_split word (h + h)))
-    ∙ and_block (h + h) (word / b) (masks h k) (word % b) (2 ^ h - 1) (mod-lt word (pow_pos (h + h))) (half_below h)
-    ∙ ap (λ r. bit_and (word / b) (masks h k) * b + r) (and_mask (word % b) h ∙ mod-mod-pow word h h)
+    let fields = and_block (h + h) (word / b) (masks h k) (word % b) (2 ^ h - 1) (mod-lt word (pow_pos (h + h))) (half_below h) in
+    cc (shr_split word (h + h), fields, and_mask (word % b) h, mod-mod-pow word h h)
 
 -- So the lowest field of a masked word is below 2^h.
 masked_low : (h k word : ℕ) → bit_and word (masks h k) % 2 ^ (h + h) < 2 ^ h
 masked_low h zero word =
-    let e : bit_and word 0 % 2 ^ (h + h) ≡ 0 = ap (λ x. x % 2 ^ (h + h)) (and_zero_r word) ∙ zero-mod (2 ^ (h + h)) in
+    let e : bit_and word 0 % 2 ^ (h + h) ≡ 0 = cc (and_zero_r word, zero-mod (2 ^ (h + h))) in
     omega (arith, pow_pos h)
 masked_low h (suc k) word =
     let low : word % 2 ^ h < 2 ^ h = mod-lt word (pow_pos h) in
     let fits : word % 2 ^ h < 2 ^ (h + h) = omega (arith, half_below h) in
-    let e : bit_and word (masks h (suc k)) % 2 ^ (h + h) ≡ word % 2 ^ h =
-    ap (λ x. x % 2 ^ (h + h)) (mask_step h k word) ∙ mod-mul-add (bit_and (word / 2 ^ (h + h)) (masks h k)) (2 ^ (h + h)) (word % 2 ^ h) fits in
-    omega arith
+    rw (mask_step h k word, mod-mul-add (bit_and (word / 2 ^ (h + h)) (masks h k)) (2 ^ (h + h)) (word % 2 ^ h) fits) low
 
 -- The word after the multiplication and the shift, if nothing wraps.
 pub spread : ℕ → ℕ → ℕ → ℕ
@@ -68,7 +65,7 @@ product_shifted : (b t word : ℕ) → 0 < b → word * (1 + t * b) / b ≡ spre
 unfolding spread
 product_shifted b t word pos =
     let e : word * (1 + t * b) ≡ word + word * t * b = omega arith in
-    ap (λ x. x / b) e ∙ add-mul-div_right word (word * t) pos
+    rw e (add-mul-div_right word (word * t) pos)
 
 -- Spreading adds to each field the one below times t.
 spread_pair : (b t u f g : ℕ) → f < b → spread b t ((u * b + g) * b + f) ≡ spread b t u * (b * b) + ((u % b + g * t) * b + (g + f * t))
@@ -78,8 +75,8 @@ spread_pair b t u f g below =
     let r = u % b in
     let pos : 0 < b = omega arith in
     let split : q * b + r ≡ u = omega arith in
-    let e : ((u * b + g) * b + f) / b ≡ u * b + g = div-mul-add (u * b + g) b f below in
-    ap (λ x. x + ((u * b + g) * b + f) * t) (e ∙ ap (λ x. x * b + g) (sym split)) ∙ omega arith
+    let e : ((u * b + g) * b + f) / b ≡ (q * b + r) * b + g = cc (split, div-mul-add (u * b + g) b f below) in
+    rw e (omega arith)
 
 -- A round on all fields, if a sum fits in one.
 module _ (h t : ℕ) (room : (2 ^ h - 1) * (1 + t) < 2 ^ (h + h)) where
@@ -104,20 +101,20 @@ module _ (h t : ℕ) (room : (2 ^ h - 1) * (1 + t) < 2 ^ (h + h)) where
       let carried : u % b + g * t < b = two_digits g (u % b) g_below (masked_low h (twice m) rest) in
       let lower : g + f * t < b = two_digits f g f_below g_below in
       let fits : f < b = omega (arith, half_below h) in
-      let whole : bit_and word (masks h (twice (suc m))) ≡ (u * b + g) * b + f =
-      mask_step h (suc (twice m)) word ∙ ap (λ x. x * b + f) (mask_step h (twice m) (word / b)) in
-      let square : 2 ^ ((h + h) + (h + h)) ≡ b * b = pow-add 2 (h + h) (h + h) in
-      let is : spread b t (bit_and word (masks h (twice (suc m)))) ≡ (spread b t u * b + (u % b + g * t)) * b + (g + f * t) =
-      ap (spread b t) whole ∙ spread_pair b t u f g fits ∙ omega arith in
-      let low : spread b t (bit_and word (masks h (twice (suc m)))) % b ≡ g + f * t =
-      ap (λ x. x % b) is ∙ mod-mul-add (spread b t u * b + (u % b + g * t)) b (g + f * t) lower in
-      let high : spread b t (bit_and word (masks h (twice (suc m)))) / 2 ^ ((h + h) + (h + h)) ≡ spread b t u =
-      ap (λ p. spread b t (bit_and word (masks h (twice (suc m)))) / p) square
-      ∙ sym (div-div-eq-div-mul _ b b)
-      ∙ ap (λ x. x / b / b) is
-      ∙ ap (λ x. x / b) (div-mul-add (spread b t u * b + (u % b + g * t)) b (g + f * t) lower)
-      ∙ div-mul-add (spread b t u) b (u % b + g * t) carried in
-      ap₂ (λ x xs. x ∷ xs) low (ap (lower_halves (h + h) m) high ∙ spread_masked m rest)
+      let whole : bit_and word (masks h (twice (suc m))) ≡ (u * b + g) * b + f = cc (mask_step h (suc (twice m)) word, mask_step h (twice m) (word / b)) in
+      let above = spread b t u * b + (u % b + g * t) in
+      let sums = spread b t (bit_and word (masks h (twice (suc m)))) in
+      let is : sums ≡ above * b + (g + f * t) = rw whole (spread_pair b t u f g fits ∙ omega arith) in
+      let low : sums % b ≡ g + f * t = rw is (mod-mul-add above b (g + f * t) lower) in
+      let high : sums / 2 ^ ((h + h) + (h + h)) ≡ spread b t u =
+      cc (
+        pow-add 2 (h + h) (h + h),
+        div-div-eq-div-mul sums b b,
+        is,
+        div-mul-add above b (g + f * t) lower,
+        div-mul-add (spread b t u) b (u % b + g * t) carried,
+      ) in
+      cc (low, high, spread_masked m rest)
 
 -- A cut before a shift does not change the lower halves.
 shift_after_cut : (g m word : ℕ) → lower_halves g m (word % 2 ^ (m * (g + g)) / 2 ^ g) ≡ lower_halves g m (word / 2 ^ g)
@@ -126,25 +123,21 @@ shift_after_cut g (suc m) word =
     let b = 2 ^ g in
     let w = 2 ^ (g + g) in
     let rest = word / w % 2 ^ (m * (g + g)) in
-    let cut : word % 2 ^ (suc m * (g + g)) ≡ rest * w + word % w =
-    ap (λ e. word % 2 ^ e) (suc-mul m (g + g)) ∙ mod-pow-add word (m * (g + g)) (g + g) in
-    let swap : (x : ℕ) → x / b / w ≡ x / w / b = λ x. div-div-eq-div-mul x b w ∙ ap (λ e. x / e) (mul_comm b w) ∙ sym (div-div-eq-div-mul x w b) in
-    let low : word % 2 ^ (suc m * (g + g)) / b % b ≡ word / b % b =
-    sym (field_of (word % 2 ^ (suc m * (g + g))) g g)
-    ∙ ap (λ x. x / b) (ap (λ x. x % w) cut ∙ mod-mul-add rest w (word % w) (mod-lt word (pow_pos (g + g))))
-    ∙ field_of word g g in
-    let high : word % 2 ^ (suc m * (g + g)) / b / w ≡ rest / b =
-    swap (word % 2 ^ (suc m * (g + g))) ∙ ap (λ x. x / w / b) cut ∙ ap (λ x. x / b) (div-mul-add rest w (word % w) (mod-lt word (pow_pos (g + g)))) in
-    ap₂ (λ x xs. x ∷ xs) low (ap (lower_halves g m) high ∙ shift_after_cut g m (word / w) ∙ ap (lower_halves g m) (sym (swap word)))
+    let low_bits = word % 2 ^ (suc m * (g + g)) in
+    let fits : word % w < w = mod-lt word (pow_pos (g + g)) in
+    let cut : low_bits ≡ rest * w + word % w = rw suc-mul (mod-pow-add word (m * (g + g)) (g + g)) in
+    let swap : (x : ℕ) → x / b / w ≡ x / w / b = λ x. cc (div-div-eq-div-mul x b w, mul_comm b w, div-div-eq-div-mul x w b) in
+    let low : low_bits / b % b ≡ word / b % b = cc (field_of low_bits g g, cut, mod-mul-add rest w (word % w) fits, field_of word g g) in
+    let high : low_bits / b / w ≡ rest / b = cc (swap low_bits, cut, div-mul-add rest w (word % w) fits) in
+    cc (low, high, shift_after_cut g m (word / w), swap word)
 
 -- A round turns 2 * m lower halves into m sums.
 pub round : (h t : ℕ) → (2 ^ h - 1) * (1 + t) < 2 ^ (h + h) → (m word : ℕ)
-    → lower_halves (h + h) m (bit_and word (masks h (twice m)) * (1 + t * 2 ^ (h + h)) % 2 ^ (m * ((h + h) + (h + h))) / 2 ^ (h + h)) ≡ pairs t (lower_halves h (twice m) word)
+    → let product = bit_and word (masks h (twice m)) * (1 + t * 2 ^ (h + h)) in
+    lower_halves (h + h) m (product % 2 ^ (m * ((h + h) + (h + h))) / 2 ^ (h + h)) ≡ pairs t (lower_halves h (twice m) word)
 round h t room m word =
     let kept = bit_and word (masks h (twice m)) in
-    shift_after_cut (h + h) m (kept * (1 + t * 2 ^ (h + h)))
-    ∙ ap (lower_halves (h + h) m) (product_shifted (2 ^ (h + h)) t kept (pow_pos (h + h)))
-    ∙ spread_masked h t room m word
+    cc (shift_after_cut (h + h) m (kept * (1 + t * 2 ^ (h + h))), product_shifted (2 ^ (h + h)) t kept (pow_pos (h + h)), spread_masked h t room m word)
 
 -- What digits spell in base t, the highest first.
 abbrev pub in_base : ℕ → List ℕ → ℕ
@@ -153,19 +146,18 @@ in_base t (digit ∷ digits) = digit * t ^ length digits + in_base t digits
 
 pub length-lower_halves : (h k word : ℕ) → length (lower_halves h k word) ≡ k
 length-lower_halves h zero word = refl
-length-lower_halves h (suc k) word = ap suc (length-lower_halves h k (word / 2 ^ (h + h)))
+length-lower_halves h (suc k) word = cc (length-lower_halves h k (word / 2 ^ (h + h)))
 
 -- From 2 * m digits, `pairs` makes m pairs.
 length-pairs : (h t m word : ℕ) → length (pairs t (lower_halves h (twice m) word)) ≡ m
 length-pairs h t zero word = refl
-length-pairs h t (suc m) word = ap suc (length-pairs h t m (word / 2 ^ (h + h) / 2 ^ (h + h)))
+length-pairs h t (suc m) word = cc (length-pairs h t m (word / 2 ^ (h + h) / 2 ^ (h + h)))
 
 -- A power of t * t.
 power_of_square : (t m : ℕ) → (t * t) ^ m ≡ t ^ twice m
 power_of_square t zero = pow-zero (t * t) ∙ sym (pow-zero t)
 power_of_square t (suc m) =
-    pow-suc (t * t) m ∙ ap (λ x. x * (t * t)) (power_of_square t m) ∙ sym (mul_assoc (t ^ twice m) t t)
-    ∙ ap (λ x. x * t) (sym (pow-suc t (twice m))) ∙ sym (pow-suc t (suc (twice m)))
+    cc (pow-suc (t * t) m, power_of_square t m, mul_assoc (t ^ twice m) t t, pow-suc t (twice m), pow-suc t (suc (twice m)))
 
 -- Joined pairs spell the same number.
 in_base-pairs : (h t m word : ℕ) → in_base (t * t) (pairs t (lower_halves h (twice m) word)) ≡ in_base t (lower_halves h (twice m) word)
@@ -176,59 +168,47 @@ in_base-pairs h t (suc m) word =
     let rest = word / 2 ^ (h + h) / 2 ^ (h + h) in
     let following = in_base t (lower_halves h (twice m) rest) in
     let p = t ^ twice m in
-    let place : (t * t) ^ length (pairs t (lower_halves h (twice m) rest)) ≡ p = ap (λ k. (t * t) ^ k) (length-pairs h t m rest) ∙ power_of_square t m in
-    let lower : t ^ length (lower_halves h (twice m) rest) ≡ p = ap (λ k. t ^ k) (length-lower_halves h (twice m) rest) in
-    let higher : t ^ suc (length (lower_halves h (twice m) rest)) ≡ p * t = pow-suc t (length (lower_halves h (twice m) rest)) ∙ ap (λ x. x * t) lower in
     let regroup : (g + f * t) * p + following ≡ f * (p * t) + (g * p + following) = omega arith in
-    ap₂ (λ x y. (g + f * t) * x + y) place (in_base-pairs h t m rest)
-    ∙ regroup
-    ∙ ap₂ (λ x y. f * x + (g * y + following)) (sym higher) (sym lower)
+    rw (length-pairs h t m rest, power_of_square t m, in_base-pairs h t m rest, length-lower_halves h (twice m) rest, pow-suc t (twice m)) regroup
 
 -- So a round keeps the number that is spelled.
 pub round_number : (h t : ℕ) → (2 ^ h - 1) * (1 + t) < 2 ^ (h + h) → (m word : ℕ)
-    → in_base (t * t) (lower_halves (h + h) m (bit_and word (masks h (twice m)) * (1 + t * 2 ^ (h + h)) % 2 ^ (m * ((h + h) + (h + h))) / 2 ^ (h + h))) ≡ in_base t (lower_halves h (twice m) word)
-round_number h t room m word = ap (in_base (t * t)) (round h t room m word) ∙ in_base-pairs h t m word
+    → let product = bit_and word (masks h (twice m)) * (1 + t * 2 ^ (h + h)) in
+    in_base (t * t) (lower_halves (h + h) m (product % 2 ^ (m * ((h + h) + (h + h))) / 2 ^ (h + h))) ≡ in_base t (lower_halves h (twice m) word)
+round_number h t room m word = rw (round h t room m word) (in_base-pairs h t m word)
 
 -- ---- Fields of a word are its digits in a base 2^k
 
 -- The list of the lowest k fields has k elements.
 pub length-digits : (base k word : ℕ) → length (digits_l base k word) ≡ k
 length-digits base zero word = refl
-length-digits base (suc k) word = ap suc (length-digits base k (word / base))
+length-digits base (suc k) word = cc (length-digits base k (word / base))
 
 -- Bits above the lowest k fields do not change these fields.
 pub digits_cut : (g k word : ℕ) → digits_l (2 ^ g) k (word % 2 ^ (k * g)) ≡ digits_l (2 ^ g) k word
 digits_cut g zero word = refl
 digits_cut g (suc k) word =
     let b = 2 ^ g in
-    let cut : word % 2 ^ (suc k * g) ≡ word / b % 2 ^ (k * g) * b + word % b =
-    ap (λ e. word % 2 ^ e) (suc-mul k g) ∙ mod-pow-add word (k * g) g in
+    let rest = word / b % 2 ^ (k * g) in
+    let cut : word % 2 ^ (suc k * g) ≡ rest * b + word % b = rw suc-mul (mod-pow-add word (k * g) g) in
     let small : word % b < b = mod-lt word (pow_pos g) in
-    ap₂ (λ x xs. x ∷ xs)
-    (ap (λ x. x % b) cut ∙ mod-mul-add (word / b % 2 ^ (k * g)) b (word % b) small)
-    (ap (λ x. digits_l b k (x / b)) cut ∙ ap (digits_l b k) (div-mul-add (word / b % 2 ^ (k * g)) b (word % b) small) ∙ digits_cut g k (word / b))
+    cc (cut, mod-mul-add rest b (word % b) small, div-mul-add rest b (word % b) small, digits_cut g k (word / b))
 
 -- Lowest bytes of 0 keep the weighted sum.
 pub low_value_shifted : (z k word : ℕ) → low_value (digits_l 256 (z + k) (word * 2 ^ (z * 8))) ≡ low_value (digits_l 256 k word)
-low_value_shifted zero k word = ap₂ (λ c x. low_value (digits_l 256 c x)) (zero-add k) (mul-one word)
+low_value_shifted zero k word = cc (zero-add k, mul-one word)
 low_value_shifted (suc z) k word =
-    let up : word * 2 ^ (suc z * 8) ≡ word * 2 ^ (z * 8) * 256 + 0 = ap (λ e. word * 2 ^ e) (suc-mul z 8) ∙ ap (λ p. word * p) (pow-add 2 (z * 8) 8) ∙ omega arith in
+    let up : word * 2 ^ (suc z * 8) ≡ word * 2 ^ (z * 8) * 256 + 0 = rw (suc-mul z 8, pow-add 2 (z * 8) 8) (omega arith) in
     let low : word * 2 ^ (suc z * 8) % 256 ≡ 0 = omega arith in
     let high : word * 2 ^ (suc z * 8) / 256 ≡ word * 2 ^ (z * 8) = omega arith in
-    let rest = digits_l 256 (z + k) (word * 2 ^ (z * 8)) in
-    ap (λ c. low_value (digits_l 256 c (word * 2 ^ (suc z * 8)))) (suc-add z k)
-    ∙ ap₂ (λ x y. low_value (x ∷ digits_l 256 (z + k) y)) low high
-    ∙ omega arith
-    ∙ low_value_shifted z k word
+    rw (suc-add, low, high) (omega (arith, low_value_shifted z k word))
 
 -- The weighted sum is what the lower halves spell.
 in_base-low_value : (k word : ℕ) → in_base 10 (lower_halves 4 k word) ≡ low_value (digits_l 256 k word)
 in_base-low_value zero word = refl
 in_base-low_value (suc k) word =
     let half : word % 16 ≡ word % 256 % 16 = omega arith in
-    let places : length (lower_halves 4 k (word / 256)) ≡ length (digits_l 256 k (word / 256)) = length-lower_halves 4 k (word / 256) ∙ sym (length-digits 256 k (word / 256)) in
-    ap₂ (λ x n. x * 10 ^ n + in_base 10 (lower_halves 4 k (word / 256))) half places
-    ∙ ap (λ y. (word % 256 % 16) * 10 ^ length (digits_l 256 k (word / 256)) + y) (in_base-low_value k (word / 256))
+    cc (half, length-lower_halves 4 k (word / 256), length-digits 256 k (word / 256), in_base-low_value k (word / 256))
 
 -- The lowest `len` bytes, shifted to the top, keep their sum.
 pub shifted_value : (k count len word : ℕ) → k ≡ (count - len) * 8 → len ≤ count
@@ -236,9 +216,7 @@ pub shifted_value : (k count len word : ℕ) → k ≡ (count - len) * 8 → len
 unfolding low_bytes
 shifted_value k count len word e le =
     let all : count - len + len ≡ count = omega arith in
-    ap low_value (digits_cut 8 count (word * 2 ^ k))
-    ∙ ap₂ (λ n x. low_value (digits_l 256 n (word * 2 ^ x))) (sym all) e
-    ∙ low_value_shifted (count - len) len word
+    cc (digits_cut 8 count (word * 2 ^ k), all, low_value_shifted (count - len) len word)
 
 shifted_sum : (k count len word : ℕ) → k ≡ (count - len) * 8 → len ≤ count
     → in_base 10 (lower_halves 4 count (word * 2 ^ k % 2 ^ (count * 8))) ≡ low_value (low_bytes len word)
@@ -250,14 +228,13 @@ pub low_value_halves : (bytes : List ℕ) → low_value (map (λ b. bit_and b 15
 low_value_halves [] = refl
 low_value_halves (byte ∷ bytes) =
     let half : bit_and byte 15 % 16 ≡ byte % 16 = omega (arith, and_mask byte 4) in
-    ap₂ (λ x n. x * 10 ^ n + low_value (map (λ b. bit_and b 15) bytes)) half (length-map bytes (λ b. bit_and b 15))
-    ∙ ap (λ v. (byte % 16) * 10 ^ length bytes + v) (low_value_halves bytes)
+    cc (half, length-map bytes (λ b. bit_and b 15), low_value_halves bytes)
 
 -- ---- Weighted sums of eight and of sixteen bytes
 
 -- A word below half a field is its only digit.
 one_field : (base half word : ℕ) → word < 2 ^ half → in_base base (lower_halves half 1 word) ≡ word
-one_field base half word below = omega (arith, mod-eq_of_lt below, ap (λ p. word % 2 ^ half * p) (pow-zero base))
+one_field base half word below = rw pow-zero (omega (arith, mod-eq_of_lt below))
 
 -- After two rounds, two fields spell the sum in base 10000.
 two_rounds : (val len : ℕ) → len ≤ 8
@@ -280,7 +257,8 @@ sum_8 val len most =
     let ones = val * 2 ^ (64 - 8 * len) % 2 ^ 64 in
     let tens = bit_and ones 0x0F0F_0F0F_0F0F_0F0F * 0xA01 % 2 ^ 64 / 2 ^ 8 in
     let hundreds = bit_and tens 0x00FF_00FF_00FF_00FF * 0x64_0001 % 2 ^ 64 / 2 ^ 16 in
-    sym (one_field 100000000 32 (bit_and hundreds 0x0000_FFFF_0000_FFFF * 0x2710_0000_0001 % 2 ^ 64 / 2 ^ 32) (omega arith))
+    let sum = bit_and hundreds 0x0000_FFFF_0000_FFFF * 0x2710_0000_0001 % 2 ^ 64 / 2 ^ 32 in
+    sym (one_field 100000000 32 sum (omega arith))
     ∙ round_number 16 10000 (lit< tt) 1 hundreds
     ∙ two_rounds val len most
 
@@ -296,10 +274,7 @@ pub sum_of_fields : (digits : ℕ) → digits < 2 ^ 64 → bit_and digits 0x0F0F
 sum_of_fields digits fits halves =
     let hundreds = bit_and (digits * 0xA01 % 2 ^ 64 / 2 ^ 8) 0x00FF_00FF_00FF_00FF * 0x64_0001 % 2 ^ 64 in
     let whole : digits * 2 ^ (64 - 8 * 8) % 2 ^ 64 ≡ digits = omega arith in
-    let kept : bit_and (digits * 2 ^ (64 - 8 * 8) % 2 ^ 64) 0x0F0F_0F0F_0F0F_0F0F ≡ digits = ap (λ x. bit_and x 0x0F0F_0F0F_0F0F_0F0F) whole ∙ halves in
-    two_fields hundreds (omega arith)
-    ∙ ap (λ x. in_base 10000 (lower_halves 16 2 (bit_and (x * 0xA01 % 2 ^ 64 / 2 ^ 8) 0x00FF_00FF_00FF_00FF * 0x64_0001 % 2 ^ 64 / 2 ^ 16))) (sym kept)
-    ∙ two_rounds digits 8 (omega arith)
+    two_fields hundreds (omega arith) ∙ (rw (whole, halves) at (two_rounds digits 8 (omega arith)))
 
 -- Four rounds compute the weighted sum of at most 16 bytes.
 pub sum_16 : (val len : ℕ) → len ≤ 16
@@ -313,7 +288,8 @@ sum_16 val len most =
     let tens = bit_and ones 0x0F0F_0F0F_0F0F_0F0F_0F0F_0F0F_0F0F_0F0F * 0xA01 % 2 ^ 128 / 2 ^ 8 in
     let hundreds = bit_and tens 0x00FF_00FF_00FF_00FF_00FF_00FF_00FF_00FF * 0x64_0001 % 2 ^ 128 / 2 ^ 16 in
     let ten_thousands = bit_and hundreds 0x0000_FFFF_0000_FFFF_0000_FFFF_0000_FFFF * 0x2710_0000_0001 % 2 ^ 128 / 2 ^ 32 in
-    sym (one_field 10000000000000000 64 (bit_and ten_thousands 0x0000_0000_FFFF_FFFF_0000_0000_FFFF_FFFF * 0x5F5_E100_0000_0000_0000_0001 % 2 ^ 128 / 2 ^ 64) (omega arith))
+    let sum = bit_and ten_thousands 0x0000_0000_FFFF_FFFF_0000_0000_FFFF_FFFF * 0x5F5_E100_0000_0000_0000_0001 % 2 ^ 128 / 2 ^ 64 in
+    sym (one_field 10000000000000000 64 sum (omega arith))
     ∙ round_number 32 100000000 (lit< tt) 1 ten_thousands
     ∙ round_number 16 10000 (lit< tt) 2 hundreds
     ∙ round_number 8 100 (lit< tt) 4 tens
@@ -350,16 +326,14 @@ module _ (op : ℕ → ℕ → ℕ)
   op_fields : (g k a b : ℕ) → digits_l (2 ^ g) k (op a b) ≡ zip2 op (digits_l (2 ^ g) k a) (digits_l (2 ^ g) k b)
   op_fields g zero a b = refl
   op_fields g (suc k) a b =
-      ap₂ (λ x xs. x ∷ xs) (low a b g) (ap (digits_l (2 ^ g) k) (high a b g) ∙ op_fields g k (a / 2 ^ g) (b / 2 ^ g))
+      cc (low a b g, high a b g, op_fields g k (a / 2 ^ g) (b / 2 ^ g))
 
   -- A repeated b acts on each byte as b does.
   pub op_repeated : (b : ℕ) → b < 256 → (k a : ℕ) → digits_l 256 k (op a (repeated b k)) ≡ map (λ x. op x b) (digits_l 256 k a)
   op_repeated b fits zero a = refl
   op_repeated b fits (suc k) a =
-      ap₂ (λ x xs. x ∷ xs)
-      (low a (repeated b (suc k)) 8 ∙ ap (op (a % 256)) (mod-mul-add (repeated b k) 256 b fits))
-      (ap (digits_l 256 k) (high a (repeated b (suc k)) 8 ∙ ap (op (a / 256)) (div-mul-add (repeated b k) 256 b fits))
-      ∙ op_repeated b fits k (a / 256))
+      let word = repeated b (suc k) in
+      cc (low a word 8, mod-mul-add (repeated b k) 256 b fits, high a word 8, div-mul-add (repeated b k) 256 b fits, op_repeated b fits k (a / 256))
 
 pub or_bytes : (k a b : ℕ) → digits_l 256 k (bit_or a b) ≡ zip2 bit_or (digits_l 256 k a) (digits_l 256 k b)
 or_bytes = op_fields bit_or or_shr or_mod 8
@@ -378,31 +352,28 @@ upper_halves k a = and_repeated 15 (omega arith) k (a / 16) ∙ halves k a
     halves zero a = refl
     halves (suc k) a =
         let next : a / 16 / 256 ≡ a / 256 / 16 = omega arith in
-        ap₂ (λ x xs. x ∷ xs) (and_mask (a / 16 % 256) 4 ∙ omega arith)
-        (ap (λ x. map (λ y. bit_and y 15) (digits_l 256 k x)) next ∙ halves k (a / 256))
+        let half : bit_and (a / 16 % 256) 15 ≡ a % 256 / 16 = and_mask (a / 16 % 256) 4 ∙ omega arith in
+        cc (half, next, halves k (a / 256))
 
 -- ---- Trailing zero bits by eight count the lowest bytes of 0
 
 -- A field is its lowest bit and the others.
 lowest_bit : (a n : ℕ) → n % 2 ^ suc a ≡ (n / 2 % 2 ^ a) * 2 + n % 2
-lowest_bit a n = ap (λ e. n % 2 ^ e) (sym (add-one a)) ∙ mod-pow-add n a 1
+lowest_bit a n = rw (← add-one a) (mod-pow-add n a 1)
 
 -- Dropping a + 1 bits, one first.
 halves : (a n : ℕ) → n / 2 / 2 ^ a ≡ n / 2 ^ suc a
-halves a n = div-div-eq-div-mul n 2 (2 ^ a) ∙ ap (λ m. n / m) (mul_comm 2 (2 ^ a) ∙ sym (pow-suc 2 a))
+halves a n = cc (div-div-eq-div-mul n 2 (2 ^ a), mul_comm 2 (2 ^ a), pow-suc 2 a)
 
 -- If the lowest a bits are 0, the count goes on.
 zero_field : (a b n : ℕ) → n % 2 ^ a ≡ 0 → count_trailing_zeros (a + b) n ≡ a + count_trailing_zeros b (n / 2 ^ a)
 unfolding count_trailing_zeros
-zero_field zero b n e = ap₂ count_trailing_zeros (zero-add b) (sym (div-one n)) ∙ sym (zero-add (count_trailing_zeros b (n / 1)))
+zero_field zero b n e = cc (zero-add b, div-one n, zero-add (count_trailing_zeros b (n / 1)))
 zero_field (suc a) b n e =
     let split = lowest_bit a n in
     let even : n % 2 ≡ 0 = omega arith in
     let rest : n / 2 % 2 ^ a ≡ 0 = omega arith in
-    ap (λ k. count_trailing_zeros k n) (suc-add a b)
-    ∙ ap (λ d. under d (count_trailing_zeros (a + b) (n / 2))) even
-    ∙ ap suc (zero_field a b (n / 2) rest ∙ ap (λ x. a + count_trailing_zeros b x) (halves a n))
-    ∙ sym (suc-add a (count_trailing_zeros b (n / 2 ^ suc a)))
+    rw (suc-add a b, even, zero_field a b (n / 2) rest, halves a n) (sym (suc-add a (count_trailing_zeros b (n / 2 ^ suc a))))
 
 -- If one is set, the count is below a.
 stopping_field : (a b n : ℕ) → 0 < n % 2 ^ a → count_trailing_zeros (a + b) n < a
@@ -411,17 +382,16 @@ stopping_field zero b n some = absurd (omega (arith, mod-lt n (pow_pos 0)))
 stopping_field (suc a) b n some = go (n % 2) refl (stopping_field a b (n / 2))
   where
     bits : count_trailing_zeros (suc a + b) n ≡ under (n % 2) (count_trailing_zeros (a + b) (n / 2))
-    bits = ap (λ k. count_trailing_zeros k n) (suc-add a b)
+    bits = rw suc-add
 
     go : (d : ℕ) → n % 2 ≡ d → (0 < n / 2 % 2 ^ a → count_trailing_zeros (a + b) (n / 2) < a) → count_trailing_zeros (suc a + b) n < suc a
     go zero e above =
         let split = lowest_bit a n in
         let below = above (omega arith) in
-        let is : count_trailing_zeros (suc a + b) n ≡ suc (count_trailing_zeros (a + b) (n / 2)) =
-        bits ∙ ap (λ d. under d (count_trailing_zeros (a + b) (n / 2))) e in
+        let is : count_trailing_zeros (suc a + b) n ≡ suc (count_trailing_zeros (a + b) (n / 2)) = rw (bits, e) in
         omega arith
     go (suc d) e above =
-        let is : count_trailing_zeros (suc a + b) n ≡ 0 = bits ∙ ap (λ d. under d (count_trailing_zeros (a + b) (n / 2))) e in
+        let is : count_trailing_zeros (suc a + b) n ≡ 0 = rw (bits, e) in
         omega arith
 
 -- Of k bytes, they count the leading bytes of 0.
@@ -430,17 +400,9 @@ unfolding count_trailing_zeros
 trailing_bytes zero word = refl
 trailing_bytes (suc k) word =
     let bits : suc k * 8 ≡ 8 + k * 8 = suc-mul k 8 ∙ add_comm (k * 8) 8 in
-    let above = count_trailing_zeros (k * 8) (word / 256) in
-    let run = prefix_len (λ b. b == 0) (digits_l 256 k (word / 256)) in
     let rest = trailing_bytes k (word / 256) in
-    ap (λ j. count_trailing_zeros j word / 8) bits
-    ∙ (elim (eq-zero-or-pos (word % 256)) [
-      | inl e ↦
-          let up : (8 + above) / 8 ≡ 1 + above / 8 = omega arith in
-          ap (λ x. x / 8) (zero_field 8 (k * 8) word e) ∙ up ∙ ap (λ x. 1 + x) rest
-          ∙ sym (ap (λ t. cond t (1 + run) 0) (eq-eqb (word % 256) 0 e))
-      | inr some ↦
-          let few = stopping_field 8 (k * 8) word some in
-          let none : count_trailing_zeros (8 + k * 8) word / 8 ≡ 0 = omega arith in
-          none ∙ sym (ap (λ t. cond t (1 + run) 0) (ne_eqb (word % 256) 0 (omega arith)))
+    rw bits
+    (elim (eq-zero-or-pos (word % 256)) [
+      | inl e ↦ rw (zero_field 8 (k * 8) word e, eq-eqb (word % 256) 0 e) (omega (arith, rest))
+      | inr some ↦ rw (ne_eqb (word % 256) 0 (omega arith)) (omega (arith, stopping_field 8 (k * 8) word some))
     ])
