@@ -1,6 +1,7 @@
 pub mod Runs
 pub mod Errors
 pub mod ErrorTexts
+pub mod Refusals
 pub mod Calls
 pub mod Readings
 pub mod Windows
@@ -13,3 +14,4 @@ pub mod Prefixes
 pub mod Numbers
 pub mod SameOutcomes
 pub mod LoadedWords
+pub mod WordWindows

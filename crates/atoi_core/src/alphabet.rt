@@ -1,13 +1,9 @@
-//! Which bytes are digits, windows that are read byte by byte, and `Plain`, the reference engine.
+//! Which bytes are digits, and windows that are read byte by byte.
 ghost use Rattle.std.specs.Prelude.{◌≡◌, ◌≤◌, length};
-ghost use Rattle.atoi_core.specs.Digit.{Table, IsBelowTen, decimal_table};
+ghost use Rattle.atoi_core.specs.Digit.{Table, IsBelowTen};
 ghost use Rattle.atoi_core.specs.Run.{run_len, run, value, zeros};
 ghost use Rattle.atoi_core.specs.Window.{window_of};
-ghost use Rattle.std.proofs.Common.{arith};
-ghost use Rattle.std.proofs.lemmas.Bool.Decides.{nat_tests};
 
-use crate::engine::Engine;
-use crate::steps::Steps;
 use crate::window::Window;
 
 /// A table of digits that code can look up. An engine with these digits may read its windows with
@@ -20,18 +16,6 @@ pub trait Alphabet {
         ensures { result ≡ table byte };
 
     ghost below_ten: { IsBelowTen table };
-}
-
-// The subtraction wraps, so a byte below `b'0'` becomes a number above nine.
-pub(crate) fn digit(byte: u8) -> Option<u64>
-    ensures { result ≡ decimal_table byte }
-{
-    let digit_value = u64::from(byte).wrapping_sub(48);
-    if digit_value <= 9 {
-        Some(digit_value)
-    } else {
-        None
-    }
 }
 
 /// Returns the window of the first `size` bytes of `s`, at most 16.
@@ -81,34 +65,4 @@ fn count_zeros<A: Alphabet>(s: &[u8]) -> u32
         }
     }
     s.len() as u32
-}
-
-/// The engine that reads decimal digits byte by byte.
-pub struct Plain;
-
-impl Alphabet for Plain {
-    ghost table = { decimal_table };
-
-    #[inline(always)]
-    fn digit_value(byte: u8) -> Option<u64> {
-        digit(byte)
-    }
-
-    ghost below_ten = { λ byte. Prim.grind (arith, nat_tests) };
-}
-
-impl Engine for Plain {
-    ghost table = { decimal_table };
-
-    fn window(s: &[u8], steps: &mut Steps) -> Window {
-        steps.tick();
-        front_of::<Plain>(16, s)
-    }
-
-    fn window_8(s: &[u8], steps: &mut Steps) -> Window {
-        steps.tick();
-        front_of::<Plain>(8, s)
-    }
-
-    ghost below_ten = { λ byte. Prim.grind (arith, nat_tests) };
 }

@@ -105,7 +105,7 @@ pub fn prefix_neg<'a, E: Engine, T: Signed>(
 
 // Returns the magnitude, up to that of `T::MIN` if `minus` is set.
 #[inline(always)]
-#[tactic(auto, using(crate::proofs::lemmas::Calls::narrow_whole_limit))]
+#[tactic(auto, using(crate::proofs::lemmas::Refusals::narrow_whole_limit))]
 fn whole_by_size<'a, E: Engine, T: Number>(
     minus: bool,
     skip: bool,
@@ -133,7 +133,7 @@ fn whole_by_size<'a, E: Engine, T: Number>(
 }
 
 #[inline(always)]
-#[tactic(auto, using(crate::proofs::lemmas::Calls::narrow_prefix_limit))]
+#[tactic(auto, using(crate::proofs::lemmas::Refusals::narrow_prefix_limit))]
 fn prefix_by_size<'a, E: Engine, T: Number>(
     minus: bool,
     skip: bool,

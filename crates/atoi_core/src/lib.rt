@@ -4,13 +4,12 @@
 
 mod alphabet;
 mod core_calls;
-mod digit_loop;
 mod engine;
 mod error;
 pub mod laws;
-mod leading_digits;
 mod narrow;
 mod number;
+mod plain;
 pub mod powers;
 mod prefix_128;
 mod sign;
@@ -18,23 +17,25 @@ mod steps;
 mod text;
 pub mod wide_answer;
 mod window;
+mod window_loops;
 mod with_sign;
+mod word_digits;
 mod word_engine;
+pub mod word_loads;
 pub mod words;
-mod zero_loop;
 
-pub use crate::alphabet::{Alphabet, Plain, front_of};
+pub use crate::alphabet::{Alphabet, front_of};
 pub use crate::core_calls::{prefix_neg, prefix_pos, whole_64, whole_128, whole_neg, whole_pos};
-pub use crate::digit_loop::narrow_whole;
 pub use crate::engine::Engine;
 pub use crate::error::{AtoiSimdError, clones_are_the_same};
-pub use crate::leading_digits::count_digits;
 pub use crate::narrow::{narrow_prefix, narrow_whole_windows};
 pub use crate::number::{Number, Signed};
+pub use crate::plain::{Plain, narrow_whole};
 pub use crate::sign::{
     parse_prefix_signed, parse_prefix_unsigned, parse_signed, parse_unsigned, take_sign,
 };
 pub use crate::steps::Steps;
 pub use crate::text::decimal;
 pub use crate::window::Window;
+pub use crate::window_loops::count_digits;
 pub use crate::word_engine::Words;

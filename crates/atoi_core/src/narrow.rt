@@ -11,7 +11,7 @@ use crate::engine::Engine;
 use crate::error::AtoiSimdError;
 use crate::steps::Steps;
 use crate::window::Window;
-use crate::zero_loop::window_after_zeros;
+use crate::window_loops::window_after_zeros;
 
 /// Parses the digits at the start of `s`, and returns their value, at most `bound`, and their number.
 ///

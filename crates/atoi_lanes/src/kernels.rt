@@ -6,7 +6,7 @@ ghost use Rattle.atoi_core.specs.Run.{run_len, run, zeros, value};
 ghost use Rattle.atoi_core.specs.Words.{word_of};
 ghost use Rattle.atoi_lanes.specs.Lanes.{itself, padded, padded_start, paired};
 
-use atoi_core::words::{load_8, load_from, load_high};
+use atoi_core::word_loads::{load_8, load_from, load_high};
 use std::simd::prelude::*;
 
 const LANES: usize = 16;

@@ -8,7 +8,8 @@ use Rattle.atoi_core.specs.Magnitude.{Class, narrow, wide64, wide128, whole, pre
 use Rattle.atoi_core.specs.IntType.{IntType, IsSized, greatest_of, class_of, bound_of, limit_of}
 use Rattle.atoi_core.specs.Laws.{HasLimitOfWhole}
 use Rattle.atoi_core.proofs.lemmas.Runs.{value-ge, prefix_len-drop, zeros-le, value-below, value-drop_zeros}
-use Rattle.atoi_core.proofs.lemmas.Calls.{refused, limit_at, significant_len, accepted, refusal-none, refused_empty, refused_size, refused_overflow, refused_followed, refusal-cases, counted_number, map_unless_ok, map_unless_err, whole_is_run}
+use Rattle.atoi_core.proofs.lemmas.Calls.{counted_number, map_unless_ok, map_unless_err, whole_is_run}
+use Rattle.atoi_core.proofs.lemmas.Refusals.{refused, limit_at, significant_len, accepted, refusal-none, refused_empty, refused_size, refused_overflow, refused_followed, refusal-cases}
 use Rattle.std.proofs.Math.IntN.{ℤ}
 use Rattle.atoi_core.specs.Refusal.{Refusal, overflow, number_in, index_in}
 use Rattle.atoi_core.specs.Sign.{with_sign}

@@ -1,156 +1,17 @@
--- When a body is refused, which sign precedes it, and what an `Ok` means.
-use Rattle.std.proofs.Common.{◌≡◌, ℕ, ◌+◌, ◌-◌, ◌<◌, ◌≤◌, min, Bool, true, false, cond, eqb, ltb, List, [], length, drop, subst, Option, Some, None, option_map, refl, sym, ap, ◌∙◌, arith, ltb-false, le-ltb, ne_eqb, ◌&&◌, ◌∷◌, ◌++◌, take, Result, Ok, Err, ℤ, add-zero, eqb-true, eq-eqb}
-use Rattle.std.proofs.lemmas.Bool.{eqb-false, lt-ltb, and_right, not-false}
-use Rattle.std.proofs.Math.Seq.{drop-length}
+-- Which sign precedes a body, and what an `Ok` means.
+use Rattle.std.proofs.Common.{◌≡◌, ℕ, ◌+◌, ◌<◌, ◌≤◌, Bool, true, false, cond, eqb, List, [], length, drop, Option, Some, None, refl, sym, ap, ◌∙◌, arith, ne_eqb, ◌&&◌, ◌∷◌, ◌++◌, take, Result, Ok, Err, ℤ, add-zero, eqb-true, eq-eqb}
+use Rattle.std.proofs.lemmas.Bool.{and_right, not-false}
 use Rattle.atoi_core.specs.Digit.{Table, decimal_table, is_digit}
 use Rattle.atoi_core.specs.Run.{run_len, run, value}
-use Rattle.atoi_core.specs.Refusal.{Refusal, empty, size, overflow, rank, input_of}
-use Rattle.atoi_core.specs.Magnitude.{Class, narrow, Extent, whole, prefix, skipped_zeros, Rule, rule_of, is_above, leaves_rest, invalid, refusal, unless_refused, whole_magnitude, prefix_magnitude}
+use Rattle.atoi_core.specs.Refusal.{Refusal}
+use Rattle.atoi_core.specs.Magnitude.{Class, Extent, whole, prefix, is_above, leaves_rest, refusal, unless_refused, whole_magnitude, prefix_magnitude}
 use Rattle.std.proofs.lemmas.Bool.Decides.{nat_tests}
 use Rattle.atoi_core.specs.IntType.{IntType, class_of, bound_of, limit_of}
 use Rattle.atoi_core.specs.Sign.{Sign, sign_of, plus_sign, minus_sign, with_sign}
 use Rattle.atoi_core.specs.Laws.{SignForm, looked_for, given, sign_in, whole_call, prefix_call}
 use Rattle.atoi_core.specs.Answer.{map_answer, whole_answer, prefix_answer, with_more}
 use Rattle.std.proofs.lemmas.List.Sums.{prefix_len-le-length}
-
--- ---- When a body is refused
-
--- The first of four results whose test holds.
-abbrev pub first_of : {A : Type 0} → (a b c d : Bool) → (p q r s : A) → Option A
-first_of a b c d p q r s = cond a (Some p) (cond b (Some q) (cond c (Some r) (cond d (Some s) None)))
-
-first_none : (a b c d : Bool) (p q r s : Refusal) → first_of a b c d p q r s ≡ None
-    → (a ≡ false) × (b ≡ false) × (c ≡ false) × (d ≡ false)
-first_none false false false false p q r s h = (refl, refl, refl, refl)
-first_none a b c d p q r s h = absurd (cc h)
-
--- What holds of each result after its test holds of the chosen one.
-first_cases : (P : Refusal → Type 0) (a b c d : Bool) (p q r s : Refusal)
-    → (a ≡ true → P p) → (a ≡ false → b ≡ true → P q) → (a ≡ false → b ≡ false → c ≡ true → P r)
-    → (a ≡ false → b ≡ false → c ≡ false → d ≡ true → P s)
-    → (reason : Refusal) → first_of a b c d p q r s ≡ Some reason → P reason
-first_cases P true b c d p q r s hp hq hr hs reason h = let e : p ≡ reason = cc h in subst P e (hp refl)
-first_cases P false true c d p q r s hp hq hr hs reason h = let e : q ≡ reason = cc h in subst P e (hq refl refl)
-first_cases P false false true d p q r s hp hq hr hs reason h = let e : r ≡ reason = cc h in subst P e (hr refl refl refl)
-first_cases P false false false true p q r s hp hq hr hs reason h = let e : s ≡ reason = cc h in subst P e (hs refl refl refl refl)
-first_cases P false false false false p q r s hp hq hr hs reason h = absurd (cc h)
-
-first_map : (a b c d : Bool) (p q r s : Refusal)
-    → option_map rank (first_of a b c d p q r s) ≡ first_of a b c d (rank p) (rank q) (rank r) (rank s)
-first_map false false false false p q r s = refl
-first_map a b c d p q r s = refl
-
--- The limit on digits, which does not depend on the digits.
-abbrev pub limit_at : Class → Extent → Bool → ℕ → Option ℕ
-limit_at class extent skip limit = (rule_of class extent skip limit 0 0).limit
-
-limit-is : (class : Class) (extent : Extent) (skip : Bool) (limit digits skipped : ℕ) → (rule_of class extent skip limit digits skipped).limit ≡ limit_at class extent skip limit
-limit-is narrow prefix true limit digits skipped = refl
-limit-is class extent skip limit digits skipped = refl
-
--- How many digits of the run are significant.
-abbrev pub significant_len : Table → Bool → List ℕ → ℕ
-significant_len table skip body = run_len table body - skipped_zeros table skip body
-
--- The body is accepted: no test refuses it.
-pub record IsAccepted (table : Table) (class : Class) (bound limit : ℕ) (extent : Extent) (skip : Bool) (body : List ℕ) : Type 0 where
-  pub some : 0 < run_len table body
-  pub short : is_above (limit_at class extent skip limit) (significant_len table skip body) ≡ false
-  pub in_range : value table (run table body) ≤ bound
-  pub ends : leaves_rest extent (run_len table body) (length body) ≡ false
-
-rank-invalid : (class : Class) (number index : ℕ) (body : List ℕ) → rank (invalid class number index body) ≡ rank (invalid class 0 0 [])
-rank-invalid narrow number index body = refl
-rank-invalid class number index body = refl
-
-input-invalid : (class : Class) (number index : ℕ) (body : List ℕ) → input_of (invalid class number index body) ≡ body
-input-invalid narrow number index body = refl
-input-invalid class number index body = refl
-
-module _ (table : Table) (class : Class) (bound limit : ℕ) (extent : Extent) (skip : Bool) (body : List ℕ) where
-  -- The four tests, in their order, and their errors.
-  abbrev pub is_empty : Bool
-  is_empty = eqb (run_len table body) 0
-
-  abbrev pub is_long : Bool
-  is_long = is_above (limit_at class extent skip limit) (significant_len table skip body)
-
-  abbrev pub is_over : Bool
-  is_over = ltb bound (value table (run table body))
-
-  abbrev pub is_followed : Bool
-  is_followed = leaves_rest extent (run_len table body) (length body)
-
-  abbrev pub rule : Rule
-  rule = rule_of class extent skip limit (run_len table body) (skipped_zeros table skip body)
-
-  abbrev pub too_long : Refusal
-  too_long = size (skipped_zeros table skip body + min (significant_len table skip body) rule.cap) (drop (skipped_zeros table skip body) body)
-
-  abbrev pub over : Refusal
-  over = overflow (drop rule.dropped body)
-
-  abbrev pub followed : Refusal
-  followed = invalid class (value table (run table body)) (run_len table body) body
-
-  pub refusal-is : refusal table class bound limit extent skip body
-      ≡ first_of is_empty is_long is_over is_followed empty too_long over followed
-  unfolding refusal
-  refusal-is =
-      ap (λ most. first_of is_empty (is_above most (significant_len table skip body)) is_over is_followed empty too_long over followed)
-      (limit-is class extent skip limit (run_len table body) (skipped_zeros table skip body))
-
-  pub refused_empty : run_len table body ≡ 0 → refusal table class bound limit extent skip body ≡ Some empty
-  refused_empty none = refusal-is ∙ rw (eq-eqb (run_len table body) 0 none) refl
-
-  pub refused_size : 0 < run_len table body → is_long ≡ true → refusal table class bound limit extent skip body ≡ Some too_long
-  refused_size some long = refusal-is ∙ rw (ne_eqb (run_len table body) 0 (omega arith), long) refl
-
-  pub refused_overflow : 0 < run_len table body → is_long ≡ false → bound < value table (run table body)
-      → refusal table class bound limit extent skip body ≡ Some over
-  refused_overflow some short above =
-      refusal-is ∙ rw (ne_eqb (run_len table body) 0 (omega arith), short, lt-ltb bound (value table (run table body)) above) refl
-
-  pub refused_followed : 0 < run_len table body → is_long ≡ false → value table (run table body) ≤ bound → is_followed ≡ true
-      → refusal table class bound limit extent skip body ≡ Some followed
-  refused_followed some short in_range ends =
-      refusal-is ∙ rw (ne_eqb (run_len table body) 0 (omega arith), short, le-ltb bound (value table (run table body)) in_range, ends) refl
-
-  pub refusal-none : IsAccepted table class bound limit extent skip body → refusal table class bound limit extent skip body ≡ None
-  refusal-none h =
-      refusal-is ∙ rw (ne_eqb (run_len table body) 0 (omega arith), h.short, le-ltb bound (value table (run table body)) h.in_range, h.ends) refl
-
-  pub accepted : refusal table class bound limit extent skip body ≡ None → IsAccepted table class bound limit extent skip body
-  accepted h =
-      let tests = first_none is_empty is_long is_over is_followed empty too_long over followed (sym refusal-is ∙ h) in
-      record { some = omega (arith, eqb-false (run_len table body) 0 tests.0); short = tests.1; in_range = ltb-false _ _ tests.2; ends = tests.3 }
-
-  -- What holds of each error after its test holds of the reason.
-  pub refusal-cases : (P : Refusal → Type 0)
-      → (is_empty ≡ true → P empty)
-      → (is_empty ≡ false → is_long ≡ true → P too_long)
-      → (is_empty ≡ false → is_long ≡ false → is_over ≡ true → P over)
-      → (is_empty ≡ false → is_long ≡ false → is_over ≡ false → is_followed ≡ true → P followed)
-      → (reason : Refusal) → refusal table class bound limit extent skip body ≡ Some reason → P reason
-  refusal-cases P p q r s reason h =
-      first_cases P is_empty is_long is_over is_followed empty too_long over followed p q r s reason (sym refusal-is ∙ h)
-
-  pub refusal-input : (reason : Refusal) → refusal table class bound limit extent skip body ≡ Some reason
-      → (n : ℕ) × (input_of reason ≡ drop n body)
-  refusal-input reason h =
-      refusal-cases (λ r. (n : ℕ) × (input_of r ≡ drop n body))
-      (λ e. (length body, sym (drop-length body))) (λ e l. (skipped_zeros table skip body, refl)) (λ e l o. (rule.dropped, refl))
-      (λ e l o f. (0, input-invalid class _ _ body)) reason h
-
-  pub refusal-rank : option_map rank (refusal table class bound limit extent skip body)
-      ≡ first_of is_empty is_long is_over is_followed 0 1 2 (rank (invalid class 0 0 []))
-  refusal-rank =
-      ap (option_map rank) refusal-is ∙ first_map is_empty is_long is_over is_followed empty too_long over followed
-      ∙ ap (first_of is_empty is_long is_over is_followed 0 1 2) (rank-invalid class _ _ body)
-
--- Why a body of an integer type is refused.
-abbrev pub refused : Table → IntType → (minus : Bool) → Extent → Bool → List ℕ → Option Refusal
-refused table int minus extent skip body = refusal table (class_of int) (bound_of int minus) (limit_of int) extent skip body
+use Rattle.atoi_core.proofs.lemmas.Refusals.{limit_at, significant_len, IsAccepted, accepted, refusal-none}
 
 -- ---- The sign at the start of a slice
 
@@ -328,16 +189,3 @@ module _ (table : Table) (class : Class) (bound limit : ℕ) (skip : Bool) (s : 
   whole_in_bounds number found =
       let both = map_unless_ok {A = ℕ} {B = ℕ} (λ x. x) (refusal table class bound limit whole skip s) _ number (ap (map_answer {A = ℕ} {B = ℕ} (λ x. x)) (sym found)) in
       omega (arith, both.1, (accepted table class bound limit whole skip s both.0).in_range)
-
--- For narrow prefixes the limit does not matter.
-pub narrow_prefix_limit : (table : Table) (bound limit : ℕ) (skip : Bool) (s : List ℕ)
-    → refusal table narrow bound limit prefix skip s ≡ refusal table narrow bound 0 prefix skip s
-unfolding refusal
-narrow_prefix_limit table bound limit true s = refl
-narrow_prefix_limit table bound limit false s = refl
-
--- For narrow whole slices neither the limit nor the flag matters.
-pub narrow_whole_limit : (table : Table) (bound limit : ℕ) (skip : Bool) (s : List ℕ)
-    → refusal table narrow bound limit whole skip s ≡ refusal table narrow bound 0 whole false s
-unfolding refusal
-narrow_whole_limit table bound limit skip s = refl

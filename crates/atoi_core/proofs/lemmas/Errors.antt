@@ -14,7 +14,8 @@ use Rattle.atoi_core.specs.IntType.{IntType, class_of, bound_of, limit_of}
 use Rattle.atoi_core.specs.Sign.{with_sign}
 use Rattle.atoi_core.specs.Answer.{prefix_answer, with_more}
 use Rattle.atoi_core.specs.Laws.{SignForm, sign_in, whole_call, prefix_call, IsSuffix, OrderAndSuffix, IsAbove, HasSomeDigits, IsFollowed, Explains, ErrorsInOrder}
-use Rattle.atoi_core.proofs.lemmas.Calls.{refused, refusal-input, limit_at, significant_len, refusal-cases, drop-taken, counted_number, map_unless_err, whole_call-is, prefix_call-is}
+use Rattle.atoi_core.proofs.lemmas.Calls.{drop-taken, counted_number, map_unless_err, whole_call-is, prefix_call-is}
+use Rattle.atoi_core.proofs.lemmas.Refusals.{refused, refusal-input, limit_at, significant_len, refusal-cases}
 use Rattle.std.proofs.lemmas.Bool.{eqb-false, not-true}
 use Rattle.std.proofs.lemmas.List.Sums.{prefix_len-le-length}
 use Rattle.atoi_core.specs.Run.{run_len, run, value}

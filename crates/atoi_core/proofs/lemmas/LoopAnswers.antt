@@ -1,7 +1,8 @@
 -- The answers that follow from the last window of a loop over zeros.
-use Rattle.std.proofs.Common.{◌≡◌, ℕ, ◌+◌, ◌*◌, ◌^◌, ◌<◌, ◌≤◌, Bool, true, List, length, take, drop, Some, Ok, Err, refl, sym, ap₂, ◌∙◌, lit<, arith, ◌≢◌, ◌==◌, false, not, None, Result, ap, if◌then◌else◌, ◌-◌, ◌/◌, min, nat_lt, ltb-true, ◌&&◌, inl, inr, le-ltb, ne_eqb}
+use Rattle.std.proofs.Common.{◌≡◌, ℕ, ◌+◌, ◌*◌, ◌^◌, ◌<◌, ◌≤◌, Bool, true, List, length, take, drop, Some, Ok, Err, refl, sym, ap₂, ◌∙◌, lit<, arith, ◌≢◌, ◌==◌, false, not, None, Result, ap, if◌then◌else◌, ◌-◌, ◌/◌, min, get_or, nat_lt, ltb-true, ◌&&◌, inl, inr, le-ltb, ne_eqb}
 use Rattle.std.proofs.lemmas.Bool.{eq-eqb, cases_lt, lt-ltb}
 use Rattle.std.proofs.lemmas.List.{length-drop, take_rest}
+use Rattle.std.proofs.lemmas.List.Sums.{prefix_len-drop_all}
 use Rattle.atoi_core.specs.Digit.{Table, IsBelowTen, is_zero, is_digit}
 use Rattle.atoi_core.specs.Run.{zeros, run_len, run, value}
 use Rattle.atoi_core.specs.Magnitude.{narrow_decision}
@@ -10,8 +11,8 @@ use Rattle.atoi_core.specs.Magnitude.{Class, wide64, wide128, Extent, prefix, ru
 use Rattle.atoi_core.specs.Reading.{IsSkipped, cap, answer_by_digits}
 use Rattle.atoi_core.specs.declared.window.Window.{Window}
 use Rattle.atoi_core.specs.Window.{window_of}
-use Rattle.atoi_core.proofs.lemmas.Calls.{refused_empty, is_empty, is_long, is_over, too_long, over, limit_at, significant_len, IsAccepted, refusal-none, refused_size, refused_overflow}
-use Rattle.atoi_core.proofs.lemmas.Runs.{prefix_len-take, prefix_len-drop, value-take-le, value-least, narrow_whole_is}
+use Rattle.atoi_core.proofs.lemmas.Refusals.{refused_empty, is_empty, is_long, is_over, too_long, over, limit_at, significant_len, IsAccepted, refusal-none, refused_size, refused_overflow}
+use Rattle.atoi_core.proofs.lemmas.Runs.{prefix_len-take, prefix_len-drop, value-take-le, value-least, run_ends, run_more, value_more}
 use Rattle.atoi_core.proofs.lemmas.Readings.{within, below, short, short_below, all_decide}
 use Rattle.atoi_core.proofs.lemmas.Windows.{Shows, zeros_both, Shows-join, Shows-join_two, Skipped}
 use Rattle.std.proofs.lemmas.Bool.Decides.{nat_tests}
@@ -251,6 +252,44 @@ digit_after_16 t skip s w full is counts =
     let next : w.len ≡ min 8 (run_len t (drop 16 s)) =
     ap (λ (x : Window). x.len) is ∙ ap (λ rest. run_len t (take 8 rest)) (take_rest s 16) ∙ prefix_len-take (is_digit t) 8 (drop 16 s) in
     rw counts (grind (arith, nat_tests))
+
+-- ---- Narrow whole slices
+
+module _ (t : Table) (bound limit : ℕ) (skip : Bool) (s : List ℕ) where
+  -- The run decides the answer, whatever the limit and the flag.
+  pub narrow_whole_is : (n number : ℕ) → run_len t s ≡ n → value t (take n s) ≡ number
+      → whole_magnitude t narrow bound limit skip s ≡ unless_refused (if n == 0 then Some empty
+      else (if nat_lt bound number then Some (overflow s)
+      else (if not (n == length s) then Some (invalid64 number n s) else None))) number
+  unfolding refusal
+  narrow_whole_is n number at_n is_number = rw (at_n, is_number) refl
+
+  -- Another byte follows i digits.
+  pub narrow_whole_rest : (i number : ℕ) → i < length s → t (get_or s i 0) ≡ None
+      → i + run_len t (drop i s) ≡ run_len t s → number ≡ value t (take i s) → number ≤ bound
+      → whole_magnitude t narrow bound limit skip s ≡ Err (if i == 0 then empty else invalid64 number i s)
+  narrow_whole_rest i number here none so_far is_number fits =
+      narrow_whole_is i number (run_ends t s i here none so_far) (sym is_number)
+      ∙ grind (arith, nat_tests)
+
+  -- One more digit passes the bound.
+  pub narrow_whole_over : (i w : ℕ) → i < length s → t (get_or s i 0) ≡ Some w
+      → i + run_len t (drop i s) ≡ run_len t s → bound < value t (take i s) * 10 + w
+      → whole_magnitude t narrow bound limit skip s ≡ Err (overflow s)
+  narrow_whole_over i w here digit so_far over =
+      let longer : i + 1 ≤ run_len t s = omega (arith, run_more t s i w here digit so_far) in
+      let above : bound < value t (take (run_len t s) s) = omega (arith, value_more t s i w here digit, value-take-le t s (i + 1) (run_len t s) longer) in
+      narrow_whole_is (run_len t s) (value t (take (run_len t s) s)) refl refl
+      ∙ grind (arith, nat_tests)
+
+  -- All bytes are digits.
+  pub narrow_whole_end : (i number : ℕ) → i ≤ length s → length s ≤ i
+      → i + run_len t (drop i s) ≡ run_len t s → number ≡ value t (take i s) → number ≤ bound
+      → whole_magnitude t narrow bound limit skip s ≡ (if length s == 0 then Err empty else Ok number)
+  narrow_whole_end i number within all so_far is_number fits =
+      let no_more : run_len t (drop i s) ≡ 0 = prefix_len-drop_all (is_digit t) s i all in
+      narrow_whole_is i number (omega arith) (sym is_number)
+      ∙ grind (arith, nat_tests)
 
 -- The last window decides the answer to a narrow whole slice.
 pub narrow_decides : (t : Table) (s : List ℕ) (at before now : ℕ) (w : Window) (len : ℕ) → Skipped t true s at before now w →

@@ -12,7 +12,8 @@ use Rattle.atoi_core.specs.Magnitude.{prefix}
 use Rattle.atoi_core.specs.IntType.{IntType, IsSized, class_of, bound_of, limit_of}
 use Rattle.atoi_core.specs.Laws.{SignForm, sign_in, prefix_call, Writes, NumberThenByte, OneNumber, PrefixBegins, NoneOrTooLarge, IsTooLong}
 use Rattle.atoi_core.specs.Text.{BeginsWithDigit, PrefixWrites, IsNumberThen, IsTooLarge}
-use Rattle.atoi_core.proofs.lemmas.Calls.{digit_in_range, found_prefix, limit_at, significant_len}
+use Rattle.atoi_core.proofs.lemmas.Calls.{digit_in_range, found_prefix}
+use Rattle.atoi_core.proofs.lemmas.Refusals.{limit_at, significant_len}
 use Rattle.atoi_core.proofs.lemmas.Bounds.{limit_of_prefix, in_range_short}
 use Rattle.atoi_core.proofs.lemmas.Texts.{digit_is, own, to_std}
 use Rattle.atoi_core.proofs.lemmas.Prefixes.{prefixes_and_rests, accepted_numbers, run_before, no_digit}

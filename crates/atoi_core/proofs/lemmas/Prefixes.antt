@@ -8,7 +8,8 @@ use Rattle.atoi_core.specs.IntType.{IntType, class_of, limit_of, IsSized, bound_
 use Rattle.atoi_core.specs.Sign.{Sign, sign_of}
 use Rattle.atoi_core.specs.Laws.{SignForm, sign_in, whole_call, prefix_call, HasLimitOfWhole, PrefixIsWhole, PrefixOfCut, PrefixStopsAtRest, looked_for, given, Writes, AcceptedPrefixes, PrefixesAndRests, AcceptedNumbers, AcceptedTexts, WholeResults, PrefixResults}
 use Rattle.atoi_core.proofs.lemmas.Runs.{length-run, run_len-run, zeros-run, run_all}
-use Rattle.atoi_core.proofs.lemmas.Calls.{drop-taken, length-taken, sign_again, digit_in_range, whole_call-is, from_whole, to_whole, is_whole, whole_is_run, IsFound, found_prefix, ok_prefix, significant_len}
+use Rattle.atoi_core.proofs.lemmas.Calls.{drop-taken, length-taken, sign_again, digit_in_range, whole_call-is, from_whole, to_whole, is_whole, whole_is_run, IsFound, found_prefix, ok_prefix}
+use Rattle.atoi_core.proofs.lemmas.Refusals.{significant_len}
 use Rattle.atoi_core.proofs.lemmas.Bounds.{long_as_whole, limit_of_prefix, in_range_short}
 use Rattle.std.proofs.Math.Seq.{take-append_seam}
 use Rattle.std.proofs.lemmas.List.{length-take-le, take-append-drop}

@@ -1,17 +1,15 @@
 -- The run of a slice: its length, its cuts and its value.
-use Rattle.std.proofs.Common.{◌≡◌, ℕ, zero, suc, ◌+◌, ◌≤◌, min, Bool, true, false, cond, List, [], ◌∷◌, take, drop, arith, ◌==◌, ◌*◌, ◌^◌, ◌<◌, ◌++◌, length, refl, ap, ◌∙◌, ◌-◌, replicate, All, IsTrue, subst, Option, lit<, lit≤, get_or, Some, None, is_some, unwrap_or, sym, Ok, Err, if◌then◌else◌, nat_lt, not, eq-eqb}
+use Rattle.std.proofs.Common.{◌≡◌, ℕ, zero, suc, ◌+◌, ◌≤◌, min, Bool, true, false, cond, List, [], ◌∷◌, take, drop, arith, ◌*◌, ◌^◌, ◌<◌, ◌++◌, length, refl, ap, ◌∙◌, ◌-◌, replicate, All, IsTrue, subst, Option, lit<, lit≤, get_or, Some, None, is_some, unwrap_or, eq-eqb}
 use Rattle.std.specs.List.{prefix_len}
 use Rattle.atoi_core.specs.Digit.{Table, is_digit, digit_value, IsBelowTen, is_zero, decimal_table}
 use Rattle.atoi_core.specs.Run.{run_len, zeros, run, value}
 use Rattle.std.proofs.Math.Nat.{pow-succ', mul-le-mul_right, mul-le-mul_left, one-le-pow, pow-le-pow_right}
 use Rattle.std.proofs.Math.Seq.{take-add}
 use Rattle.std.proofs.lemmas.List.{length-append, length-replicate, length-take-le, length-drop, take_all, take_more, take-take, take-append-drop}
-use Rattle.std.proofs.lemmas.List.Sums.{prefix_len-le-length, prefix_len_passes, prefix_len-drop_yes, prefix_len-drop_no, prefix_len-drop_all}
+use Rattle.std.proofs.lemmas.List.Sums.{prefix_len-le-length, prefix_len_passes, prefix_len-drop_yes, prefix_len-drop_no}
 use Rattle.std.proofs.lemmas.Nat.{pow-add}
 use Rattle.std.proofs.lemmas.Bool.Decides.{eqb_tells, nat_tests}
 use Rattle.std.proofs.lemmas.List.Folds.{length-prefix_len, prefix_len-append, prefix_len-replicate}
-use Rattle.atoi_core.specs.Refusal.{empty, overflow, invalid64}
-use Rattle.atoi_core.specs.Magnitude.{narrow, refusal, unless_refused, whole_magnitude}
 
 -- ---- Slices that are cut
 
@@ -175,41 +173,3 @@ pub digit_is_below_ten : (t : Table) → IsBelowTen t → (byte w : ℕ) → t b
 digit_is_below_ten t small byte w digit =
     let P : ℕ → Type 0 = λ n. n < 10 in
     subst P (ap (λ (o : Option ℕ). unwrap_or o 0) digit) (small byte)
-
--- ---- Answers of narrow whole parses
-
-module _ (t : Table) (bound limit : ℕ) (skip : Bool) (s : List ℕ) where
-  -- The run decides the answer, whatever the limit and the flag.
-  pub narrow_whole_is : (n number : ℕ) → run_len t s ≡ n → value t (take n s) ≡ number
-      → whole_magnitude t narrow bound limit skip s ≡ unless_refused (if n == 0 then Some empty
-      else (if nat_lt bound number then Some (overflow s)
-      else (if not (n == length s) then Some (invalid64 number n s) else None))) number
-  unfolding refusal
-  narrow_whole_is n number at_n is_number = rw (at_n, is_number) refl
-
-  -- Another byte follows i digits.
-  pub narrow_whole_rest : (i number : ℕ) → i < length s → t (get_or s i 0) ≡ None
-      → i + run_len t (drop i s) ≡ run_len t s → number ≡ value t (take i s) → number ≤ bound
-      → whole_magnitude t narrow bound limit skip s ≡ Err (if i == 0 then empty else invalid64 number i s)
-  narrow_whole_rest i number here none so_far is_number fits =
-      narrow_whole_is i number (run_ends t s i here none so_far) (sym is_number)
-      ∙ grind (arith, nat_tests)
-
-  -- One more digit passes the bound.
-  pub narrow_whole_over : (i w : ℕ) → i < length s → t (get_or s i 0) ≡ Some w
-      → i + run_len t (drop i s) ≡ run_len t s → bound < value t (take i s) * 10 + w
-      → whole_magnitude t narrow bound limit skip s ≡ Err (overflow s)
-  narrow_whole_over i w here digit so_far over =
-      let longer : i + 1 ≤ run_len t s = omega (arith, run_more t s i w here digit so_far) in
-      let above : bound < value t (take (run_len t s) s) = omega (arith, value_more t s i w here digit, value-take-le t s (i + 1) (run_len t s) longer) in
-      narrow_whole_is (run_len t s) (value t (take (run_len t s) s)) refl refl
-      ∙ grind (arith, nat_tests)
-
-  -- All bytes are digits.
-  pub narrow_whole_end : (i number : ℕ) → i ≤ length s → length s ≤ i
-      → i + run_len t (drop i s) ≡ run_len t s → number ≡ value t (take i s) → number ≤ bound
-      → whole_magnitude t narrow bound limit skip s ≡ (if length s == 0 then Err empty else Ok number)
-  narrow_whole_end i number within all so_far is_number fits =
-      let no_more : run_len t (drop i s) ≡ 0 = prefix_len-drop_all (is_digit t) s i all in
-      narrow_whole_is i number (omega arith) (sym is_number)
-      ∙ grind (arith, nat_tests)

@@ -12,7 +12,8 @@ use Rattle.atoi_core.specs.Sign.{Sign, with_sign}
 use Rattle.atoi_core.specs.Answer.{map_answer, whole_answer, prefix_answer, with_more}
 use Rattle.atoi_core.specs.Laws.{SignForm, sign_in, with_zeros, zero_byte, HaveSameOutcome, RestChangesNothing, ZerosChangeNothing}
 use Rattle.atoi_core.proofs.lemmas.Runs.{length-run, zeros-run, value-replicate, prefix_len-replicate_append}
-use Rattle.atoi_core.proofs.lemmas.Calls.{refusal-rank, first_of, limit_at, significant_len, sign_again, whole_call-is, prefix_call-is, counted_number, with_more-zero}
+use Rattle.atoi_core.proofs.lemmas.Calls.{sign_again, whole_call-is, prefix_call-is, counted_number, with_more-zero}
+use Rattle.atoi_core.proofs.lemmas.Refusals.{refusal-rank, first_of, limit_at, significant_len}
 
 -- Equal numbers, and refusals of equal rank or none: whole answers have the same outcome.
 same_outcome : (minus other_minus : Bool) (r q : Option Refusal) (x y : ℕ) → option_map rank r ≡ option_map rank q

@@ -12,7 +12,8 @@ use Rattle.atoi_core.specs.Sign.{Sign, sign_of, with_sign, plus_sign, minus_sign
 use Rattle.atoi_core.specs.Answer.{whole_answer, parse_answer}
 use Rattle.atoi_core.specs.Laws.{sign_in, least_of, TextOfValue, SkippingAgrees, DecimalDigits, SignForm, looked_for, given, whole_call, Writes, DecimalTexts}
 use Rattle.atoi_core.proofs.lemmas.Runs.{run_all, digits_all, decimal_below_ten, value-below}
-use Rattle.atoi_core.proofs.lemmas.Calls.{sign_of_digits, digit_in_range, sign_cases, whole_call-is, from_whole, to_whole, is_whole, whole_is_run, limit_at, significant_len}
+use Rattle.atoi_core.proofs.lemmas.Calls.{sign_of_digits, digit_in_range, sign_cases, whole_call-is, from_whole, to_whole, is_whole, whole_is_run}
+use Rattle.atoi_core.proofs.lemmas.Refusals.{limit_at, significant_len}
 use Rattle.atoi_core.proofs.lemmas.Bounds.{shorter, short_enough, limit_of_whole, bound-limit, bound_below-64}
 use Rattle.std.proofs.lemmas.Bool.{and_parts, ne_eqb, eqb-false}
 use Rattle.atoi_core.specs.Text.{SignMark, no_sign, plus, minus, sign_bytes, is_minus, is_plus, DigitsWrite, TextWrites, BeginsWithDigit, has_needless_zero}

@@ -406,3 +406,12 @@ trailing_bytes (suc k) word =
       | inl e ↦ rw (zero_field 8 (k * 8) word e, eq-eqb (word % 256) 0 e) (omega (arith, rest))
       | inr some ↦ rw (ne_eqb (word % 256) 0 (omega arith)) (omega (arith, stopping_field 8 (k * 8) word some))
     ])
+
+-- A cut after a shift by z bits is one before it.
+pub shift_cut : (a j z : ℕ) → a * 2 ^ z % 2 ^ (j + z) ≡ a % 2 ^ j * 2 ^ z
+shift_cut a j z =
+    let p = 2 ^ z in
+    let none : a * p ≡ a * p + 0 = omega arith in
+    let high : a * p / p ≡ a = ap (λ x. x / p) none ∙ div-mul-add a p 0 (pow_pos z) in
+    let low : a * p % p ≡ 0 = ap (λ x. x % p) none ∙ mod-mul-add a p 0 (pow_pos z) in
+    mod-pow-add (a * p) j z ∙ ap₂ (λ x y. x % 2 ^ j * p + y) high low ∙ omega arith

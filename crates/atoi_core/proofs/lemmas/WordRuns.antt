@@ -2,7 +2,7 @@
 use Rattle.std.proofs.Common.{◌≡◌, ℕ, zero, suc, ◌+◌, ◌*◌, ◌/◌, ◌%◌, ◌^◌, ◌<◌, ◌≤◌, ◌-◌, Bool, true, false, cond, ◌==◌, List, [], ◌∷◌, map, refl, sym, ap, ap₂, ◌∙◌, arith, mod-lt, zero-lt-suc}
 use Rattle.std.proofs.Math.Dec.{lit<}
 use Rattle.std.proofs.lemmas.Bool.{agree_below_at}
-use Rattle.std.proofs.lemmas.Nat.{and_shr, pow_pos, pow-add, mod-pow-add, and_mask, and_block, and_assoc, div-mul-add, mod-mul-add, mul-mod_first}
+use Rattle.std.proofs.lemmas.Nat.{and_shr, pow-add, mod-pow-add, and_mask, and_block, and_assoc, mul-mod_first}
 use Rattle.std.proofs.Math.Nat.{zero-add, suc-mul, suc-add, add_comm}
 use Rattle.std.proofs.Math.Pow.{mod-mod-pow}
 use Rattle.std.proofs.lemmas.Bool.Decides.{nat_tests}
@@ -14,7 +14,7 @@ use Rattle.atoi_core.specs.Digit.{decimal_table, is_digit, is_zero}
 use Rattle.atoi_core.specs.Run.{run_len, zeros}
 use Rattle.atoi_core.specs.Words.{low_bytes, low_value}
 use Rattle.atoi_core.proofs.lemmas.Calls.{digit_in_range}
-use Rattle.atoi_core.proofs.lemmas.WordFields.{trailing_bytes, repeated, or_bytes, and_repeated, xor_repeated, upper_halves, digits_cut, shifted_value, low_value_halves}
+use Rattle.atoi_core.proofs.lemmas.WordFields.{trailing_bytes, repeated, or_bytes, and_repeated, xor_repeated, upper_halves, digits_cut, shifted_value, low_value_halves, shift_cut}
 
 -- A test of mapped elements.
 prefix_len-map : (p : ℕ → Bool) (f : ℕ → ℕ) (xs : List ℕ) → prefix_len p (map f xs) ≡ prefix_len (λ x. p (f x)) xs
@@ -263,15 +263,6 @@ shifted_halves (suc z) k word =
     ap (λ p. bit_and word (repeated 15 k) * p) up
     ∙ omega (arith, shifted_halves z k word, and_block 8 (word * 2 ^ (z * 8)) (repeated 15 (z + k)) 0 15 (lit< tt) (lit< tt))
     ∙ ap₂ (λ x n. bit_and x (repeated 15 n)) (sym next) (sym (suc-add z k))
-
--- A cut after a shift by z bits is one before it.
-pub shift_cut : (a j z : ℕ) → a * 2 ^ z % 2 ^ (j + z) ≡ a % 2 ^ j * 2 ^ z
-shift_cut a j z =
-    let p = 2 ^ z in
-    let none : a * p ≡ a * p + 0 = omega arith in
-    let high : a * p / p ≡ a = ap (λ x. x / p) none ∙ div-mul-add a p 0 (pow_pos z) in
-    let low : a * p % p ≡ 0 = ap (λ x. x % p) none ∙ mod-mul-add a p 0 (pow_pos z) in
-    mod-pow-add (a * p) j z ∙ ap₂ (λ x y. x % 2 ^ j * p + y) high low ∙ omega arith
 
 -- For digits at the top of a word, subtracting 48 is the mask.
 pub lowered_at_top : (len word : ℕ) → len ≤ 8 → len ≤ run_len decimal_table (low_bytes 8 word)

@@ -15,7 +15,7 @@ use Rattle.atoi_core.specs.Run.{run_len, value, run}
 use Rattle.atoi_core.specs.Words.{word_of}
 use Rattle.atoi_core.proofs.lemmas.LoadedWords.{word_shifted}
 use Rattle.atoi_core.proofs.lemmas.Runs.{prefix_len-take}
-use Rattle.atoi_core.proofs.lemmas.WordRuns.{shift_cut}
+use Rattle.atoi_core.proofs.lemmas.WordFields.{shift_cut}
 use Rattle.atoi_lanes.specs.Lanes.{itself}
 use Rattle.atoi_lanes.proofs.lemmas.DigitLanes.{GivesDigitValues, below_after_zeros, digits_value, value-after_zeros}
 use Rattle.atoi_lanes.proofs.lemmas.LaneBytes.{bytes, lanes-of_bytes, word_start}

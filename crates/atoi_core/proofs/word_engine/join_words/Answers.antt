@@ -4,7 +4,8 @@ use Rattle.atoi_core.specs.Digit.{decimal_table}
 use Rattle.atoi_core.specs.Run.{run_len, zeros}
 use Rattle.atoi_core.specs.Words.{low_bytes, low_value}
 use Rattle.atoi_core.specs.declared.window.Window.{Window}
-use Rattle.atoi_core.proofs.lemmas.LoadedWords.{enough_bytes, fits_after, loaded_bytes, loaded_run, loaded_sum, window_joined, reported_full, reported_none}
+use Rattle.atoi_core.proofs.lemmas.LoadedWords.{fits_after, loaded_bytes, loaded_run, loaded_sum}
+use Rattle.atoi_core.proofs.lemmas.WordWindows.{enough_bytes, window_joined, reported_full, reported_none}
 use Rattle.atoi_core.proofs.word_engine.join_words.Goals as goal
 use Rattle.atoi_core.proofs.word_engine.join_words.Goals.{After-digits_of-more}
 

@@ -3,7 +3,7 @@ use Rattle.std.proofs.Common.{◌≡◌, ◌+◌, ◌-◌, ◌++◌, ◌∙◌, 
 use Rattle.atoi_core.specs.Digit.{decimal_table}
 use Rattle.atoi_core.specs.Run.{run_len}
 use Rattle.atoi_core.specs.Words.{word_of}
-use Rattle.atoi_core.proofs.lemmas.LoadedWords.{few_in_both, word_filled, filled_fits, filled_digits, filled_window}
+use Rattle.atoi_core.proofs.lemmas.WordWindows.{few_in_both, word_filled, filled_fits, filled_digits, filled_window}
 use Rattle.atoi_core.proofs.lemmas.WordRuns.{lowered_eight}
 use Rattle.atoi_core.proofs.word_engine.short_window.Goals as goal
 use Rattle.atoi_core.proofs.word_engine.short_window.Goals.{After-digits_of-digits}

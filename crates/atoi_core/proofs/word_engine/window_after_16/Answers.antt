@@ -1,7 +1,7 @@
 -- The window of the word is that of its bytes.
 use Rattle.std.proofs.Common.{◌+◌, drop}
 use Rattle.std.proofs.lemmas.List.{get_or-drop}
-use Rattle.atoi_core.proofs.lemmas.LoadedWords.{loaded_window}
+use Rattle.atoi_core.proofs.lemmas.WordWindows.{loaded_window}
 use Rattle.atoi_core.proofs.word_engine.window_after_16.Goals as goal
 
 pub returns-clause-window : goal.returns-clause-window

@@ -1,6 +1,7 @@
 -- A run that ends within eight bytes determines the window of 16.
 use Rattle.std.proofs.Common.{ℕ, ◌<◌, ◌∙◌, get_or}
-use Rattle.atoi_core.proofs.lemmas.LoadedWords.{loaded_run, loaded_sum, window_short}
+use Rattle.atoi_core.proofs.lemmas.LoadedWords.{loaded_run, loaded_sum}
+use Rattle.atoi_core.proofs.lemmas.WordWindows.{window_short}
 use Rattle.atoi_core.proofs.word_engine.WordsEngine.window.Goals as goal
 
 pub returns-else-len-eq8-clause-window : goal.returns-else-len-eq8-clause-window

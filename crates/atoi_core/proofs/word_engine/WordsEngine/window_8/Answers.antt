@@ -1,5 +1,5 @@
 -- The window of the word is that of its bytes.
-use Rattle.atoi_core.proofs.lemmas.LoadedWords.{loaded_window}
+use Rattle.atoi_core.proofs.lemmas.WordWindows.{loaded_window}
 use Rattle.atoi_core.proofs.word_engine.WordsEngine.window_8.Goals as goal
 
 pub returns-clause-window : goal.returns-clause-window

@@ -1,7 +1,7 @@
 -- The first `at` bytes are digits, 16 for each load.
 use Rattle.std.proofs.Common.{◌≡◌, ◌+◌, ◌-◌, ◌*◌, ◌/◌, ◌≤◌, length}
 use Rattle.atoi_core.specs.Run.{run_len}
-use Rattle.atoi_core.proofs.leading_digits.count_digits.Given as goal
+use Rattle.atoi_core.proofs.window_loops.count_digits.Given as goal
 
 abbrev pub invariant-loop-at : goal.invariant-loop-at
 invariant-loop-at g l =

@@ -2,7 +2,7 @@
 use Rattle.std.proofs.Common.{◌/◌, sym, ap, ◌∙◌}
 use Rattle.std.specs.Int.Count.{count_trailing_zeros}
 use Rattle.atoi_core.proofs.lemmas.WordRuns.{marks_counted}
-use Rattle.atoi_core.proofs.word_engine.digits_of.Goals as goal
+use Rattle.atoi_core.proofs.word_digits.digits_of.Goals as goal
 
 pub returns-then-marks-eq0-clause-len : goal.returns-then-marks-eq0-clause-len
 unfolding count_trailing_zeros

@@ -4,7 +4,7 @@ use Rattle.std.proofs.lemmas.Bool.{cases_lt}
 use Rattle.std.specs.Int.Bits.{bit_or}
 use Rattle.atoi_core.specs.Words.{word_of}
 use Rattle.atoi_core.proofs.lemmas.LoadedWords.{four_or_more, below_four}
-use Rattle.atoi_core.proofs.words.load_high.Goals as goal
+use Rattle.atoi_core.proofs.word_loads.load_high.Goals as goal
 
 pub returns : goal.returns
 returns c =

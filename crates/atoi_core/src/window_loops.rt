@@ -1,4 +1,4 @@
-//! The loop that skips leading zeros for `narrow` and for `Words`.
+//! Loops over an engine's windows: over leading zeros, and over digits.
 ghost use Rattle.std.specs.Prelude.{◌≡◌, ◌+◌, ◌*◌, ◌/◌, ◌<◌, ◌≤◌, nat_lt, if◌then◌else◌, length, drop};
 ghost use Rattle.atoi_core.specs.Run.{run_len, zeros};
 ghost use Rattle.atoi_core.specs.Window.{window_of};
@@ -34,5 +34,21 @@ pub(crate) fn window_after_zeros<E: Engine>(
             return (at, window);
         }
         at += window.zeroes as usize;
+    }
+}
+
+/// Returns how many digits `s` starts with. Loads 16 bytes at a time, until fewer than 16 of a load
+/// are digits.
+pub fn count_digits<E: Engine>(s: &[u8], steps: &mut Steps) -> usize
+    ensures count { result ≡ run_len E.table s.now }
+    ensures loads { steps.new ≡ steps.old + (run_len E.table s.now / 16 + 1) }
+{
+    let mut at = 0;
+    loop {
+        let len = E::window(&s[at..], steps).len as usize;
+        if len < 16 {
+            return at + len;
+        }
+        at += 16;
     }
 }

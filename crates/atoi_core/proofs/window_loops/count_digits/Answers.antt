@@ -7,7 +7,7 @@ use Rattle.atoi_core.specs.Run.{run_len}
 use Rattle.atoi_core.specs.Window.{window_of}
 use Rattle.atoi_core.specs.declared.window.Window.{Window}
 use Rattle.atoi_core.proofs.lemmas.Runs.{prefix_len-take, prefix_len-drop}
-use Rattle.atoi_core.proofs.leading_digits.count_digits.Goals as goal
+use Rattle.atoi_core.proofs.window_loops.count_digits.Goals as goal
 
 len_is : (table : Table) (s : List ℕ) (at : ℕ) (window : Window) → at ≤ run_len table s
     → window ≡ window_of table 16 (take (length s - at) (drop at s)) → window.len ≡ min 16 (run_len table s - at)

@@ -2,7 +2,7 @@
 use Rattle.std.proofs.Common.{◌≡◌, ℕ, ◌-◌, ◌*◌, ◌%◌, ◌^◌, ◌<◌, ◌≤◌, ◌==◌, ◌∙◌, true, false, nat_lt, ltb-false, replicate, refl, ap, arith}
 use Rattle.std.proofs.lemmas.Bool.{eqb-true, agree_below_at}
 use Rattle.atoi_core.specs.Words.{word_of}
-use Rattle.atoi_core.proofs.word_engine.fill_of_zeros.Goals as goal
+use Rattle.atoi_core.proofs.word_digits.fill_of_zeros.Goals as goal
 
 left_out : (n : ℕ) → n < 8 → 0x3030_3030_3030_3030 - 0x3030_3030_3030_3030 * 2 ^ (8 * n) % 2 ^ 64 ≡ word_of (replicate n 48)
 unfolding word_of

@@ -5,8 +5,9 @@ use Rattle.std.proofs.lemmas.List.{take_rest, length-drop, get_or-drop}
 use Rattle.atoi_core.specs.Digit.{decimal_table}
 use Rattle.atoi_core.specs.Run.{value}
 use Rattle.atoi_core.specs.Refusal.{empty, invalid64}
-use Rattle.atoi_core.proofs.lemmas.Runs.{value_more, run_more, digit_is_below_ten, decimal_below_ten, narrow_whole_rest, narrow_whole_over, narrow_whole_end}
-use Rattle.atoi_core.proofs.digit_loop.narrow_whole.Goals as goal
+use Rattle.atoi_core.proofs.lemmas.Runs.{value_more, run_more, digit_is_below_ten, decimal_below_ten}
+use Rattle.atoi_core.proofs.lemmas.LoopAnswers.{narrow_whole_rest, narrow_whole_over, narrow_whole_end}
+use Rattle.atoi_core.proofs.plain.narrow_whole.Goals as goal
 
 rest_byte : (s : List ℕ) (i : ℕ) → get_or (take (length s - 1) (drop 1 s)) i 0 ≡ get_or s (i + 1) 0
 rest_byte s i =
@@ -25,17 +26,17 @@ returns-in_default c =
           ∙ sym (narrow_whole_end decimal_table c.args.bound 0 false s 0 0 (omega arith) (omega arith) (omega arith) refl (omega arith));
     }
 
-pub returns-in_default-digit : goal.returns-in_default-digit
-returns-in_default-digit c =
+pub returns-in_default-decimal_digit : goal.returns-in_default-decimal_digit
+returns-in_default-decimal_digit c =
     let s = c.args.s.now in
-    let none : decimal_table (get_or s 0 0) ≡ None = sym c.digit.ensures ∙ c.in_default-digit.is in
+    let none : decimal_table (get_or s 0 0) ≡ None = sym c.decimal_digit.ensures ∙ c.in_default-decimal_digit.is in
     record { answer = sym (narrow_whole_rest decimal_table c.args.bound 0 false s 0 0 (omega (arith, c.in-len1-up.len_at_least)) none (omega arith) refl (omega arith)) }
 
 pub loop-at-init : goal.loop-at-init
 loop-at-init c =
     let s = c.args.s.now in
     let here : 0 < length s = omega (arith, c.in-len1-up.len_at_least) in
-    let digit : decimal_table (get_or s 0 0) ≡ Some c.in-Some.number = sym c.digit.ensures ∙ c.in-Some.is in
+    let digit : decimal_table (get_or s 0 0) ≡ Some c.in-Some.number = sym c.decimal_digit.ensures ∙ c.in-Some.is in
     let small : c.in-Some.number < 10 = digit_is_below_ten decimal_table decimal_below_ten (get_or s 0 0) c.in-Some.number digit in
     let number : value decimal_table (take (0 + 1) s) ≡ 0 * 10 + c.in-Some.number = value_more decimal_table s 0 c.in-Some.number here digit in
     record {
@@ -51,21 +52,21 @@ byte_after s i read found is reported = ap decimal_table (sym (rest_byte s i)) �
 pub loop-at-preserved : goal.loop-at-preserved
 loop-at-preserved c =
     let s = c.args.s.now in
-    let digit = byte_after s c.loop-at.at _ (Some c.in-Some-digit.digit_value) c.digit-in-loop-at.ensures c.in-Some-digit.is in
+    let digit = byte_after s c.loop-at.at _ (Some c.in-Some-decimal_digit.digit_value) c.decimal_digit-in-loop-at.ensures c.in-Some-decimal_digit.is in
     let i = c.loop-at.at + 1 in
     let here : i < length s = omega (arith, c.loop-at-test.true, rest_length s) in
     record {
-      digits = run_more decimal_table s i c.in-Some-digit.digit_value here digit c.loop-at.invariant.digits;
-      number = ap (λ n. n * 10 + c.in-Some-digit.digit_value) c.loop-at.invariant.number ∙ sym (value_more decimal_table s i c.in-Some-digit.digit_value here digit);
+      digits = run_more decimal_table s i c.in-Some-decimal_digit.digit_value here digit c.loop-at.invariant.digits;
+      number = ap (λ n. n * 10 + c.in-Some-decimal_digit.digit_value) c.loop-at.invariant.number ∙ sym (value_more decimal_table s i c.in-Some-decimal_digit.digit_value here digit);
       bound = c.if-next-bound.false;
     }
 
-pub returns-in_default-digit-2 : goal.returns-in_default-digit-2
-returns-in_default-digit-2 c =
+pub returns-in_default-decimal_digit-2 : goal.returns-in_default-decimal_digit-2
+returns-in_default-decimal_digit-2 c =
     let s = c.args.s.now in
     let i = c.loop-at.at + 1 in
     let here : i < length s = omega (arith, c.loop-at-test.true, rest_length s) in
-    let none : decimal_table (get_or s i 0) ≡ None = byte_after s c.loop-at.at _ None c.digit-in-loop-at.ensures c.in_default-digit-2.is in
+    let none : decimal_table (get_or s i 0) ≡ None = byte_after s c.loop-at.at _ None c.decimal_digit-in-loop-at.ensures c.in_default-decimal_digit-2.is in
     record {
       answer = ap (λ b. Err (if b then empty else invalid64 c.loop-at.number i s)) (sym (ne_eqb i 0 (omega arith)))
           ∙ sym (narrow_whole_rest decimal_table c.args.bound 0 false s i c.loop-at.number here none
@@ -75,11 +76,11 @@ returns-in_default-digit-2 c =
 pub returns-then-next-bound : goal.returns-then-next-bound
 returns-then-next-bound c =
     let s = c.args.s.now in
-    let digit = byte_after s c.loop-at.at _ (Some c.in-Some-digit.digit_value) c.digit-in-loop-at.ensures c.in-Some-digit.is in
+    let digit = byte_after s c.loop-at.at _ (Some c.in-Some-decimal_digit.digit_value) c.decimal_digit-in-loop-at.ensures c.in-Some-decimal_digit.is in
     let i = c.loop-at.at + 1 in
     let here : i < length s = omega (arith, c.loop-at-test.true, rest_length s) in
-    let over : c.args.bound < value decimal_table (take i s) * 10 + c.in-Some-digit.digit_value = rw (← c.loop-at.invariant.number) c.if-next-bound.true in
-    record { answer = sym (narrow_whole_over decimal_table c.args.bound 0 false s i c.in-Some-digit.digit_value here digit c.loop-at.invariant.digits over) }
+    let over : c.args.bound < value decimal_table (take i s) * 10 + c.in-Some-decimal_digit.digit_value = rw (← c.loop-at.invariant.number) c.if-next-bound.true in
+    record { answer = sym (narrow_whole_over decimal_table c.args.bound 0 false s i c.in-Some-decimal_digit.digit_value here digit c.loop-at.invariant.digits over) }
 
 pub returns : goal.returns
 returns c =

@@ -1,0 +1,190 @@
+-- Windows that are read by words.
+use Rattle.std.proofs.Common.{◌≡◌, ℕ, zero, suc, ◌+◌, ◌-◌, ◌*◌, ◌/◌, ◌%◌, ◌^◌, ◌<◌, ◌≤◌, List, [], ◌∷◌, ◌++◌, length, take, drop, replicate, get_or, take-take, refl, sym, ap, ap₂, ◌∙◌, arith, ◌≢◌, min, cond, ◌==◌, if◌then◌else◌}
+use Rattle.std.proofs.Math.Nat.{zero-add, suc-add, pow-suc}
+use Rattle.std.proofs.lemmas.List.{take_all, length-append, length-replicate, length-take}
+use Rattle.std.specs.Simd.Lanes.{number_l, digits_l}
+use Rattle.atoi_core.specs.Words.{word_of, low_bytes, low_value}
+use Rattle.std.proofs.lemmas.Bool.{eq-eqb, ne_eqb}
+use Rattle.std.proofs.lemmas.Bool.Decides.{nat_tests}
+use Rattle.std.proofs.lemmas.List.Sums.{prefix_len-le-length}
+use Rattle.std.proofs.Math.Seq.{take-add}
+use Rattle.atoi_core.specs.Digit.{decimal_table, is_digit}
+use Rattle.atoi_core.specs.Run.{run_len, run, zeros, value}
+use Rattle.atoi_core.specs.Window.{window_of}
+use Rattle.atoi_core.specs.declared.window.Window.{Window}
+use Rattle.atoi_core.proofs.lemmas.Runs.{prefix_len-take, prefix_len-drop, value-take-add}
+use Rattle.atoi_core.proofs.lemmas.LoadedWords.{loaded_run, loaded_sum, loaded_zeros}
+
+-- ---- Windows read by words
+
+-- A window that is full of digits reports its zeros.
+pub reported_full : (n c z : ℕ) → n ≡ c → (if n == c then z else 0) ≡ z
+reported_full n c z e = ap (λ t. cond t z 0) (eq-eqb n c e)
+
+-- Any other window reports no zeros.
+pub reported_none : (n c z : ℕ) → n ≢ c → (if n == c then z else 0) ≡ 0
+reported_none n c z ne = ap (λ t. cond t z 0) (ne_eqb n c ne)
+
+-- A window of `c` bytes, by its three numbers.
+pub window_from : (c : ℕ) (s : List ℕ) (len leading number : ℕ)
+    → len ≡ run_len decimal_table (take c s)
+    → leading ≡ (if len == c then zeros decimal_table (take c s) else 0)
+    → number ≡ value decimal_table (take len s)
+    → ◌≡◌ {A = Window} (record { len = len; zeroes = leading; number = number }) (window_of decimal_table c s)
+window_from c s len leading number len_is leading_is number_is =
+    let within : run_len decimal_table (take c s) ≡ min c (run_len decimal_table s) = prefix_len-take (is_digit decimal_table) c s in
+    let same_leading : leading ≡ (if run_len decimal_table (take c s) == c then zeros decimal_table (take c s) else 0) =
+    leading_is ∙ ap (λ n. if n == c then zeros decimal_table (take c s) else 0) len_is in
+    let same_number : number ≡ value decimal_table (take (run_len decimal_table (take c s)) (take c s)) =
+    number_is ∙ ap (value decimal_table) (sym (take-take len c s (omega arith)) ∙ ap (λ n. take n (take c s)) len_is) in
+    λ i. record { len = len_is i; zeroes = same_leading i; number = same_number i }
+
+-- The window of eight bytes, from their word.
+pub loaded_window : (s : List ℕ) → ((i : ℕ) → get_or s i 0 < 256) → (word : ℕ) (w : Window) → word ≡ word_of (take 8 s)
+    → w.len ≡ run_len decimal_table (low_bytes 8 word)
+    → w.zeroes ≡ (if w.len == 8 then zeros decimal_table (low_bytes 8 word) else 0)
+    → w.number ≡ low_value (low_bytes w.len word)
+    → w ≡ window_of decimal_table 8 s
+loaded_window s fits word w is len_is zeroes_are number_is =
+    window_from 8 s w.len w.zeroes w.number
+    (len_is ∙ loaded_run s fits word is)
+    (zeroes_are ∙ ap (λ z. if w.len == 8 then z else 0) (loaded_zeros s fits word is))
+    (number_is ∙ loaded_sum s fits word w.len is len_is)
+
+-- Without eight digits at the start, eight bytes determine the window of 16.
+pub window_short : (s : List ℕ) (len number : ℕ) → len ≡ run_len decimal_table (take 8 s) → len ≢ 8
+    → number ≡ value decimal_table (take len s)
+    → ◌≡◌ {A = Window} (record { len = len; zeroes = 0; number = number }) (window_of decimal_table 16 s)
+window_short s len number len_is short number_is =
+    let few : run_len decimal_table (take 8 s) ≡ min 8 (run_len decimal_table s) = prefix_len-take (is_digit decimal_table) 8 s in
+    let more : run_len decimal_table (take 16 s) ≡ min 16 (run_len decimal_table s) = prefix_len-take (is_digit decimal_table) 16 s in
+    window_from 16 s len 0 number (omega arith) (sym (reported_none len 16 (zeros decimal_table (take 16 s)) (omega arith))) number_is
+
+-- Below eight bytes, both windows are the same.
+pub few_in_both : (s : List ℕ) → length s < 8 → window_of decimal_table 16 s ≡ window_of decimal_table 8 s
+few_in_both s few =
+    let within : run_len decimal_table s ≤ length s = prefix_len-le-length (is_digit decimal_table) s in
+    let sixteen : take 16 s ≡ s = take_all 16 s (omega arith) in
+    let eight : s ≡ take 8 s = sym (take_all 8 s (omega arith)) in
+    let none : (if run_len decimal_table s == 16 then zeros decimal_table s else 0) ≡ (if run_len decimal_table s == 8 then zeros decimal_table s else 0) =
+    reported_none (run_len decimal_table s) 16 (zeros decimal_table s) (omega arith) ∙ sym (reported_none (run_len decimal_table s) 8 (zeros decimal_table s) (omega arith)) in
+    ap (λ (r : List ℕ). let w : Window = record { len = run_len decimal_table r; zeroes = if run_len decimal_table r == 16 then zeros decimal_table r else 0; number = value decimal_table (run decimal_table r) } in w) sixteen
+    ∙ ap (λ (z : ℕ). let w : Window = record { len = run_len decimal_table s; zeroes = z; number = value decimal_table (run decimal_table s) } in w) none
+    ∙ ap (λ (r : List ℕ). let w : Window = record { len = run_len decimal_table r; zeroes = if run_len decimal_table r == 8 then zeros decimal_table r else 0; number = value decimal_table (run decimal_table r) } in w) eight
+
+pub enough_bytes : (s : List ℕ) → run_len decimal_table (take 8 s) ≡ 8 → 8 ≤ length s
+enough_bytes s full = omega (arith, prefix_len-le-length (is_digit decimal_table) (take 8 s), length-take 8 s)
+
+-- After eight digits, the window of 16 follows from both halves.
+pub window_joined : (s : List ℕ) (more leading first next : ℕ)
+    → run_len decimal_table (take 8 s) ≡ 8
+    → more ≡ run_len decimal_table (take 8 (drop 8 s))
+    → leading ≡ (if more == 8 then zeros decimal_table (take 8 s ++ take 8 (drop 8 s)) else 0)
+    → first ≡ value decimal_table (take 8 s)
+    → next ≡ value decimal_table (take more (drop 8 s))
+    → ◌≡◌ {A = Window} (record { len = 8 + more; zeroes = leading; number = first * 10 ^ more + next }) (window_of decimal_table 16 s)
+window_joined s more leading first next full more_is leading_is first_is next_is =
+    let few : run_len decimal_table (take 8 s) ≡ min 8 (run_len decimal_table s) = prefix_len-take (is_digit decimal_table) 8 s in
+    let following : run_len decimal_table (take 8 (drop 8 s)) ≡ min 8 (run_len decimal_table (drop 8 s)) = prefix_len-take (is_digit decimal_table) 8 (drop 8 s) in
+    let all : run_len decimal_table (take 16 s) ≡ min 16 (run_len decimal_table s) = prefix_len-take (is_digit decimal_table) 16 s in
+    let run_after_eight : run_len decimal_table s ≡ 8 + run_len decimal_table (drop 8 s) = prefix_len-drop (is_digit decimal_table) 8 s (omega arith) in
+    let within : run_len decimal_table s ≤ length s = prefix_len-le-length (is_digit decimal_table) s in
+    let sixteen : take 8 s ++ take 8 (drop 8 s) ≡ take 16 s = sym (take-add 8 8 s) in
+    let same_test : (more == 8) ≡ (8 + more == 16) = grind (arith, nat_tests) in
+    let same_leading : leading ≡ (if 8 + more == 16 then zeros decimal_table (take 16 s) else 0) =
+    leading_is ∙ ap₂ (λ t z. cond t z 0) same_test (ap (zeros decimal_table) sixteen) in
+    let same_number : first * 10 ^ more + next ≡ value decimal_table (take (8 + more) s) =
+    ap₂ (λ x y. x * 10 ^ more + y) first_is next_is ∙ sym (value-take-add decimal_table 8 more s (omega arith)) in
+    window_from 16 s (8 + more) leading (first * 10 ^ more + next) (omega arith) same_leading same_number
+
+-- ---- Short slices in the highest bytes of a word
+
+-- The word of m zeros fills m lowest bytes of 0.
+pub word_filled : (m : ℕ) (s : List ℕ) → word_of (replicate m 0 ++ s) + word_of (replicate m 48) ≡ word_of (replicate m 48 ++ s)
+unfolding word_of
+word_filled zero s = omega arith
+word_filled (suc m) s = omega (arith, word_filled m s)
+
+-- The word of n bytes is below 256^n.
+word_most : (s : List ℕ) → ((i : ℕ) → get_or s i 0 < 256) → word_of s < 256 ^ length s
+unfolding word_of
+word_most [] fits = omega arith
+word_most (b ∷ bs) fits =
+    let up : 256 ^ suc (length bs) ≡ 256 ^ length bs * 256 = pow-suc 256 (length bs) in
+    omega (arith, fits 0, word_most bs (λ i. fits (suc i)))
+
+-- The elements are still bytes after zeros are put before them.
+filled_fit : (m : ℕ) (s : List ℕ) → ((i : ℕ) → get_or s i 0 < 256) → (i : ℕ) → get_or (replicate m 48 ++ s) i 0 < 256
+filled_fit zero s fits i = fits i
+filled_fit (suc m) s fits zero = omega arith
+filled_fit (suc m) s fits (suc i) = filled_fit m s fits i
+
+filled_length : (m : ℕ) (s : List ℕ) → length (replicate m 48 ++ s) ≡ m + length s
+filled_length m s = length-append (replicate m 48) s ∙ ap (λ n. n + length s) (length-replicate m 48)
+
+-- m zeros before a slice make its run longer by m.
+filled_run : (m : ℕ) (s : List ℕ) → run_len decimal_table (replicate m 48 ++ s) ≡ m + run_len decimal_table s
+filled_run zero s = omega arith
+filled_run (suc m) s = omega (arith, filled_run m s)
+
+-- The filled word fits in 64 bits.
+pub filled_fits : (s : List ℕ) → length s ≤ 8 → ((i : ℕ) → get_or s i 0 < 256)
+    → word_of (replicate (8 - length s) 0 ++ s) + word_of (replicate (8 - length s) 48) < 2 ^ 64
+filled_fits s few fits =
+    let m = 8 - length s in
+    let most = word_most (replicate m 48 ++ s) (filled_fit m s fits) in
+    let eight : length (replicate m 48 ++ s) ≡ 8 = filled_length m s ∙ omega arith in
+    let power : 256 ^ length (replicate m 48 ++ s) ≡ 256 ^ 8 = ap (λ n. 256 ^ n) eight in
+    omega (arith, word_filled m s)
+
+-- The filled word begins with its zeros, then the run.
+pub filled_digits : (s : List ℕ) → length s ≤ 8 → ((i : ℕ) → get_or s i 0 < 256) → (word filling digits : ℕ)
+    → word ≡ word_of (replicate (8 - length s) 0 ++ s) → filling ≡ word_of (replicate (8 - length s) 48)
+    → digits ≡ run_len decimal_table (low_bytes 8 (word + filling))
+    → digits ≡ 8 - length s + run_len decimal_table s
+filled_digits s few fits word filling digits word_is filling_is digits_is =
+    let m = 8 - length s in
+    let filled = replicate m 48 ++ s in
+    let all : take 8 filled ≡ filled = take_all 8 filled (omega (arith, filled_length m s)) in
+    digits_is
+    ∙ loaded_run filled (filled_fit m s fits) (word + filling)
+    (ap₂ (λ x y. x + y) word_is filling_is ∙ word_filled m s ∙ ap word_of (sym all))
+    ∙ ap (run_len decimal_table) all
+    ∙ filled_run m s
+
+-- Zeros before the other bytes add nothing to the weighted sum.
+low_value_filled : (z k : ℕ) (s : List ℕ) → low_value (digits_l 256 (z + k) (word_of (replicate z 48 ++ s))) ≡ low_value (digits_l 256 k (word_of s))
+unfolding word_of
+low_value_filled zero k s = ap (λ n. low_value (digits_l 256 n (number_l 256 s))) (zero-add k)
+low_value_filled (suc z) k s =
+    let rest = number_l 256 (replicate z 48 ++ s) in
+    let low : (48 + 256 * rest) % 256 ≡ 48 = omega arith in
+    let high : (48 + 256 * rest) / 256 ≡ rest = omega arith in
+    ap (λ n. low_value (digits_l 256 n (48 + 256 * rest))) (suc-add z k)
+    ∙ ap₂ (λ x y. low_value (x ∷ digits_l 256 (z + k) y)) low high
+    ∙ omega arith
+    ∙ low_value_filled z k s
+
+-- The window of a short slice: the digits of the filled word, less its zeros.
+pub filled_window : (s : List ℕ) → length s ≤ 8 → ((i : ℕ) → get_or s i 0 < 256) → (filled digits found number : ℕ)
+    → filled ≡ word_of (replicate (8 - length s) 48 ++ s)
+    → digits ≡ 8 - length s + run_len decimal_table s
+    → found ≡ digits - (8 - length s)
+    → number ≡ low_value (low_bytes digits filled)
+    → ◌≡◌ {A = Window} (record { len = found; zeroes = 0; number = number }) (window_of decimal_table 16 s)
+unfolding low_bytes
+filled_window s few fits filled digits found number filled_is digits_is found_is number_is =
+    let m = 8 - length s in
+    let len = run_len decimal_table s in
+    let eight : take 8 s ≡ s = take_all 8 s few in
+    let all : take 16 s ≡ s = take_all 16 s (omega arith) in
+    let within : len ≤ length s = prefix_len-le-length (is_digit decimal_table) s in
+    let run : len ≡ run_len decimal_table (low_bytes 8 (word_of (take 8 s))) =
+    ap (run_len decimal_table) (sym eight) ∙ sym (loaded_run s fits (word_of (take 8 s)) refl) in
+    let word_is : filled ≡ word_of (replicate m 48 ++ take 8 s) = filled_is ∙ ap (λ x. word_of (replicate m 48 ++ x)) (sym eight) in
+    let sum : number ≡ value decimal_table (take len s) =
+    number_is ∙ ap₂ (λ n w. low_value (digits_l 256 n w)) digits_is word_is ∙ low_value_filled m len (take 8 s)
+    ∙ loaded_sum s fits (word_of (take 8 s)) len refl run in
+    let left : found ≡ len = omega arith in
+    ap (λ n. let w : Window = record { len = n; zeroes = 0; number = number } in w) left
+    ∙ window_from 16 s len 0 number (ap (run_len decimal_table) (sym all)) (sym (reported_none len 16 (zeros decimal_table (take 16 s)) (omega arith))) sum

@@ -1,0 +1,100 @@
+//! How many digits and zeros a word begins with, and the number that they spell.
+ghost use Rattle.std.specs.Prelude.{◌≡◌, ◌-◌, ◌<◌, ◌≤◌, ◌++◌, replicate};
+ghost use Rattle.atoi_core.specs.Digit.{decimal_table};
+ghost use Rattle.atoi_core.specs.Run.{run_len, zeros};
+ghost use Rattle.atoi_core.specs.Words.{low_bytes, low_value, word_of};
+ghost use Rattle.std.specs.Int.Bits.{bit_and};
+
+// Eight zeros, each the byte 48.
+pub(crate) const ZEROS: u64 = 0x3030_3030_3030_3030;
+
+// The word of `8 - len` zeros.
+pub(crate) fn fill_of_zeros(len: usize) -> u64
+    requires some { 0 < len }
+    requires few { len ≤ 8 }
+    ensures { result ≡ word_of (replicate (8 - len) 48) }
+{
+    ZEROS - (ZEROS << (64 - 8 * len))
+}
+
+// `check_len_8` with fewer operations. A byte is no digit if adding 70 or subtracting 48 sets its top
+// bit. A carry or a borrow changes only bytes above the first that is no digit.
+pub(crate) fn digits_of(word: u64) -> u32
+    ensures len { result ≡ run_len decimal_table (low_bytes 8 word) }
+    ensures most { result ≤ 8 }
+{
+    let above = word.wrapping_add(0x4646_4646_4646_4646);
+    let below = word.wrapping_sub(ZEROS);
+    let marks = (above | below) & 0x8080_8080_8080_8080;
+    if marks == 0 {
+        8
+    } else {
+        marks.trailing_zeros() / 8
+    }
+}
+
+// `len_zeroes`, with the same difference as in `digits_of` and `value_of`.
+#[tactic(auto, using(crate::proofs::lemmas::WordRuns::lowered_zeros_of_8))]
+pub(crate) fn zeroes_of(word: u64) -> u32
+    ensures zeroes { result ≡ zeros decimal_table (low_bytes 8 word) }
+    ensures most { result ≤ 8 }
+{
+    word.wrapping_sub(ZEROS).trailing_zeros() / 8
+}
+
+#[tactic(auto, using(std::proofs::lemmas::Bool::ne_eqb, crate::proofs::lemmas::LoadedWords::zeros_of_two))]
+pub(crate) fn zeroes_of_two(first: u64, next: u64) -> u32
+    ensures { result ≡ zeros decimal_table (low_bytes 8 first ++ low_bytes 8 next) }
+{
+    let zeroes = zeroes_of(first);
+    if zeroes == 8 {
+        8 + zeroes_of(next)
+    } else {
+        zeroes
+    }
+}
+
+// The number that the leading digits of the word spell; there may be none.
+#[tactic(auto, using(crate::proofs::lemmas::LoadedWords::sum_of_none))]
+pub(crate) fn number_in_word(word: u64, len: u32) -> u64
+    requires few { len ≤ 8 }
+    requires digits { len ≡ run_len decimal_table (low_bytes 8 word) }
+    ensures sum { result ≡ low_value (low_bytes len word) }
+    ensures most { result ≤ 166666665 }
+{
+    if len == 0 { 0 } else { value_of(word, len) }
+}
+
+// The number that the first `len` bytes of the word spell. They are digits, at least one.
+pub(crate) fn value_of(word: u64, len: u32) -> u64
+    requires some { 1 ≤ len }
+    requires few { len ≤ 8 }
+    requires digits { len ≤ run_len decimal_table (low_bytes 8 word) }
+    ensures sum { result ≡ low_value (low_bytes len word) }
+    ensures most { result ≤ 166666665 }
+{
+    sum_of(word.wrapping_sub(ZEROS) << (64 - 8 * len))
+}
+
+// `value_of` for at most seven digits, or none: it shifts twice, as no shift is by 64 bits.
+pub(crate) fn value_of_fewer(word: u64, len: u32) -> u64
+    requires few { len < 8 }
+    requires digits { len ≤ run_len decimal_table (low_bytes 8 word) }
+    ensures sum { result ≡ low_value (low_bytes len word) }
+    ensures most { result ≤ 166666665 }
+{
+    sum_of((word.wrapping_sub(ZEROS) << (56 - 8 * len)) << 8)
+}
+
+// `process_8` for bytes below 16. The two sums of four digits are joined by one small product,
+// which needs no 64-bit constant.
+#[tactic(auto, using(crate::proofs::lemmas::WordFields::sum_of_fields, crate::proofs::lemmas::WordFields::sum_most))]
+pub(crate) fn sum_of(digits: u64) -> u64
+    requires { bit_and digits 0x0F0F_0F0F_0F0F_0F0F ≡ digits }
+    ensures sum { result ≡ low_value (low_bytes 8 digits) }
+    ensures most { result ≤ 166666665 }
+{
+    let tens = (digits.wrapping_mul(0xA01) >> 8) & 0x00FF_00FF_00FF_00FF;
+    let hundreds = tens.wrapping_mul(0x64_0001);
+    ((hundreds >> 16) & 0xFFFF) * 10_000 + (hundreds >> 48)
+}

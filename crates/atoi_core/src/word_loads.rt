@@ -1,0 +1,107 @@
+//! Words that are loaded from a slice, for every engine that reads words. A missing byte is 0.
+ghost use Rattle.std.specs.Prelude.{◌≡◌, ◌-◌, ◌<◌, ◌≤◌, ◌++◌, length, take, drop, replicate};
+ghost use Rattle.atoi_core.specs.Words.{word_of};
+
+/// Returns the word of the first 8 bytes of `s`. A missing byte is 0.
+#[tactic(auto, using(std::proofs::lemmas::List::take_all, crate::proofs::lemmas::LoadedWords::word_of_first))]
+pub fn load_8(s: &[u8]) -> u64
+    ensures { result ≡ word_of (take 8 s.now) }
+{
+    match s.first_chunk::<8>() {
+        Some(bytes) => u64::from_le_bytes(*bytes),
+        None => load_part(s),
+    }
+}
+
+#[tactic(auto, using(crate::proofs::lemmas::LoadedWords::word_of_none, crate::proofs::lemmas::LoadedWords::shifted_back))]
+fn load_part(s: &[u8]) -> u64
+    requires { length s.now < 8 }
+    ensures { result ≡ word_of s.now }
+{
+    if s.is_empty() {
+        0
+    } else {
+        load_high(s) >> (64 - 8 * s.len())
+    }
+}
+
+/// Returns the word whose highest bytes are those of `s`, without a branch on the length.
+#[inline(always)]
+pub fn load_high(s: &[u8]) -> u64
+    requires some { 0 < length s.now }
+    requires few { length s.now ≤ 8 }
+    ensures { result ≡ word_of (replicate (8 - length s.now) 0 ++ s.now) }
+{
+    let front = first_two(s) | first_four(s);
+    let last = u64::from(s[s.len() - 1]);
+    (front << (64 - 8 * s.len())) | (last_four(s) << 32) | (last << 56)
+}
+
+/// The word of the first 8 bytes from `at` on, or of all from there on if there are fewer, from the
+/// last 8 bytes by a shift. It may be by all 64 bits, so there are two.
+#[inline(always)]
+#[tactic(auto, using(crate::proofs::lemmas::LoadedWords::last_bytes))]
+pub fn load_from(s: &[u8], at: usize) -> u64
+    requires enough { 8 ≤ length s.now }
+    requires inside { at ≤ length s.now }
+    requires low { at ≤ 16 }
+    ensures { result ≡ word_of (take 8 (drop at s.now)) }
+{
+    match s.last_chunk::<8>() {
+        Some(last) if s.len() < at + 8 => {
+            (u64::from_le_bytes(*last) >> (8 * (at + 7 - s.len()))) >> 8
+        }
+        Some(_) => load_full(&s[at..]),
+        None => 0,
+    }
+}
+
+// `load_8` without code for shorter slices, which would enlarge each function that reads a window.
+#[tactic(auto, using(crate::proofs::lemmas::LoadedWords::word_of_first))]
+pub(crate) fn load_full(s: &[u8]) -> u64
+    requires { 8 ≤ length s.now }
+    ensures { result ≡ word_of (take 8 s.now) }
+{
+    match s.first_chunk::<8>() {
+        Some(first) => u64::from_le_bytes(*first),
+        None => 0,
+    }
+}
+
+// The word of the first four bytes, or 0 if there are fewer. Here and below, LLVM compiles a choice
+// between two arrays, not two numbers, without a branch.
+#[tactic(auto, using(crate::proofs::lemmas::LoadedWords::word_from_four))]
+fn first_four(s: &[u8]) -> u64
+    ensures enough { 4 ≤ length s.now → result ≡ word_of (take 4 s.now) }
+    ensures few { length s.now < 4 → result ≡ 0 }
+{
+    let bytes = match s.first_chunk::<4>() {
+        Some(bytes) => bytes,
+        None => &[0; 4],
+    };
+    u64::from(u32::from_le_bytes(*bytes))
+}
+
+#[tactic(auto, using(crate::proofs::lemmas::LoadedWords::word_from_two))]
+fn first_two(s: &[u8]) -> u64
+    ensures enough { 2 ≤ length s.now → result ≡ word_of (take 2 s.now) }
+    ensures few { length s.now < 2 → result ≡ 0 }
+{
+    let bytes = match s.first_chunk::<2>() {
+        Some(bytes) => bytes,
+        None => &[0; 2],
+    };
+    u64::from(u16::from_le_bytes(*bytes))
+}
+
+#[tactic(auto, using(crate::proofs::lemmas::LoadedWords::word_from_four))]
+fn last_four(s: &[u8]) -> u64
+    ensures enough { 4 ≤ length s.now → result ≡ word_of (drop (length s.now - 4) s.now) }
+    ensures few { length s.now < 4 → result ≡ 0 }
+{
+    let bytes = match s.last_chunk::<4>() {
+        Some(bytes) => bytes,
+        None => &[0; 4],
+    };
+    u64::from(u32::from_le_bytes(*bytes))
+}
