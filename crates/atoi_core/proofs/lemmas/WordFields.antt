@@ -1,5 +1,5 @@
 -- Words as lists of fields: how products sum them, what bitwise operators do to each.
-use Rattle.std.proofs.Common.{◌≡◌, ℕ, zero, suc, ◌+◌, ◌-◌, ◌*◌, ◌/◌, ◌%◌, ◌^◌, ◌<◌, ◌≤◌, List, [], ◌∷◌, length, refl, sym, ◌∙◌, arith, lit<, map, inl, inr, ◌==◌, mod-lt}
+use Rattle.std.proofs.Common.{◌≡◌, ℕ, zero, suc, ◌+◌, ◌-◌, ◌*◌, ◌/◌, ◌%◌, ◌^◌, ◌<◌, ◌≤◌, List, [], ◌∷◌, length, refl, sym, ap, ap₂, ◌∙◌, arith, lit<, map, inl, inr, ◌==◌, mod-lt}
 use Rattle.std.proofs.lemmas.List.{length-map}
 use Rattle.std.proofs.Math.Nat.{add-mul-div_right, div-div-eq-div-mul, mul_comm, zero-mod, suc-mul, mul-le-mul_right, mul_assoc, pow-zero, pow-suc, suc-add, zero-add, mul-one, mod-eq_of_lt, pow-le-pow_right, div-one, add_comm, eq-zero-or-pos}
 use Rattle.std.proofs.Math.Pow.{mod-mod-pow, ones_lt, pow_mono}
