@@ -14,8 +14,8 @@ fn reason(error: AtoiSimdError<'_>) -> &'static str {
 
 // Returns the number at the start of `text`, and what follows the space after it.
 fn number_and_rest<T: Parse>(text: &[u8]) -> Result<(T, &[u8]), &'static str> {
-    let (number, count) = parse_prefix::<T, true, false>(text).map_err(reason)?;
-    match &text[count..] {
+    let (number, len) = parse_prefix::<T, true, false>(text).map_err(reason)?;
+    match &text[len..] {
         [] => Ok((number, &[])),
         [b' ', rest @ ..] => Ok((number, rest)),
         _ => Err("no space after the number"),

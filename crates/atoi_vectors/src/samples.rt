@@ -1,9 +1,11 @@
 //! Calls and their results, which README.md and the pages CALLING.md show.
 
-use atoi_column::{Column, ColumnError};
+use atoi_column::{Column, ColumnError, is_separator};
 use atoi_simd::{
     AtoiSimdError, parse, parse_neg, parse_pos, parse_prefix, parse_prefix_neg, parse_prefix_pos,
 };
+use std::alloc::{AllocError, Global};
+use std::test::Fail;
 
 #[test]
 fn first_calls(rt: HostRuntime) {
@@ -104,4 +106,93 @@ fn errors_of_a_column(rt: HostRuntime) {
             cause,
         }))
     );
+}
+
+// Returns a text: the total of the numbers between commas, or what is wrong with the first bad field.
+fn total_or_fault(alloc: Global, input: &[u8]) -> Result<String, AllocError> {
+    let mut total = 0u64;
+    for item in Column::<u32>::new(input, b',') {
+        match item {
+            Ok(number) => total = total.saturating_add(u64::from(number)),
+            Err(ColumnError::Field { index, cause, .. }) => {
+                return format!(in alloc; "field {index}: not a number: {cause}");
+            }
+            Err(ColumnError::Trailing { index, place }) => {
+                return format!(in alloc;
+                    "field {index}: no separator after the number, at offset {place}"
+                );
+            }
+        }
+    }
+    format!(in alloc; "the total is {total}")
+}
+
+#[test]
+fn a_loop_over_a_column(rt: HostRuntime) -> Result<(), Fail> {
+    let text = total_or_fault(rt.alloc(), b"1,2,3")?;
+    assert_eq!(rt; text.as_str(), "the total is 6");
+    let text = total_or_fault(rt.alloc(), b"1,,3")?;
+    assert_eq!(rt;
+        text.as_str(),
+        "field 1: not a number: atoi_simd string is empty"
+    );
+    let text = total_or_fault(rt.alloc(), b"1,2a,3")?;
+    assert_eq!(rt;
+        text.as_str(),
+        "field 1: no separator after the number, at offset 3"
+    );
+    Ok(())
+}
+
+// Adds up the numbers between separators. Returns `None` if `separator` is a digit or a sign.
+fn total_between(input: &[u8], separator: u8) -> Result<Option<u64>, ColumnError<'_>> {
+    if is_separator(separator) {
+        let mut total = 0u64;
+        for number in Column::<u32>::new(input, separator) {
+            total = total.saturating_add(u64::from(number?));
+        }
+        Ok(Some(total))
+    } else {
+        Ok(None)
+    }
+}
+
+#[test]
+fn a_separator_known_at_run_time(rt: HostRuntime) {
+    for byte in b",;\t" {
+        let input = [b'1', *byte, b'2'];
+        assert_eq!(rt; total_between(&input, *byte), Ok(Some(3)));
+    }
+    assert_eq!(rt; total_between(b"102", b'0'), Ok(None));
+}
+
+// Reads a line such as `tea,95,-3`, which has a text and numbers of two types.
+fn name_and_numbers(line: &str) -> Option<(&str, u32, i8)> {
+    let (name, rest) = line.split_once(',')?;
+    let (price, change) = rest.split_once(',')?;
+    let price = parse::<u32, true, false>(price.as_bytes()).ok()?;
+    let change = parse::<i8, true, false>(change.as_bytes()).ok()?;
+    Some((name, price, change))
+}
+
+#[test]
+fn a_line_of_several_types(rt: HostRuntime) {
+    assert_eq!(rt; name_and_numbers("tea,95,-3"), Some(("tea", 95, -3)));
+    assert_eq!(rt; name_and_numbers("tea,-3,95"), None);
+}
+
+// Adds up one number per line. A line may have spaces around its number, and may end in `\r\n`.
+fn total_of_lines(input: &[u8]) -> Result<u64, AtoiSimdError<'_>> {
+    let mut total = 0u64;
+    for line in input.split(|byte| *byte == b'\n') {
+        let number = parse::<u32, true, true>(line.trim_ascii())?;
+        total = total.saturating_add(u64::from(number));
+    }
+    Ok(total)
+}
+
+#[test]
+fn lines_with_spaces(rt: HostRuntime) {
+    assert_eq!(rt; total_of_lines(b"1\r\n 2\r\n+3"), Ok(6));
+    assert_eq!(rt; total_of_lines(b"1\n\n"), Err(AtoiSimdError::Empty));
 }
