@@ -1,6 +1,9 @@
 //! What a call answers, and how the exports are asked.
 
 use crate::question::{Library, Question};
+use crate::timing::Object;
+use std::ffi::c_void;
+use std::path::Path;
 
 /// What a call answers. `place` is the number of bytes of the text before the error's slice, and
 /// this slice is the rest of the text.
@@ -55,38 +58,41 @@ pub struct RawAnswer {
     place: usize,
 }
 
-unsafe extern "C" {
-    // Rattle passes a slice as the address of its first byte and its length.
-    fn torkettle_answer(
-        on_lanes: bool,
-        call: u32,
-        integer: u32,
-        skip_zeroes: bool,
-        skip_plus: bool,
-        text: *const u8,
-        length: usize,
-        answer: &mut RawAnswer,
-    );
-}
+// Rattle passes a slice as the address of its first byte and its length. The order is: whether it
+// is a call of `lanes`, the numbers of the call and of the type, both flags, text and answer.
+type Export = unsafe extern "C" fn(bool, u32, u32, bool, bool, *const u8, usize, *mut RawAnswer);
 
-/// What a library answers to a question about a text.
-pub fn of_library(library: Library, question: &Question, text: &[u8]) -> Answer {
-    let mut answer = RawAnswer::default();
-    // SAFETY: the address and the length are of one slice, which the call only reads, and
-    // `RawAnswer` has the fields of the struct that the call writes.
-    unsafe {
-        torkettle_answer(
-            library == Library::Lanes,
-            question.call as u32,
-            question.integer as u32,
-            question.skip_zeroes,
-            question.skip_plus,
-            text.as_ptr(),
-            text.len(),
-            &mut answer,
-        );
+/// The export that makes any call of both forms: `torkettle_answer` of `diff/exports`.
+pub struct Answers(Export);
+
+impl Answers {
+    /// Loads it.
+    pub fn open(file: &Path) -> Result<Answers, String> {
+        let address = Object::open(file)?.address("torkettle_answer");
+        let address = address.ok_or("diff/exports has no torkettle_answer")?;
+        // SAFETY: `diff/exports` declares the function with this type.
+        Ok(Answers(unsafe { std::mem::transmute::<*mut c_void, Export>(address.as_ptr()) }))
     }
-    from_raw(answer)
+
+    /// What a library answers to a question about a text.
+    pub fn of(&self, library: Library, question: &Question, text: &[u8]) -> Answer {
+        let mut answer = RawAnswer::default();
+        // SAFETY: the address and the length are of one slice, which the call only reads, and
+        // `RawAnswer` has the fields of the struct that the call writes.
+        unsafe {
+            (self.0)(
+                library == Library::Lanes,
+                question.call as u32,
+                question.integer as u32,
+                question.skip_zeroes,
+                question.skip_plus,
+                text.as_ptr(),
+                text.len(),
+                &mut answer,
+            );
+        }
+        from_raw(answer)
+    }
 }
 
 fn from_raw(raw: RawAnswer) -> Answer {

@@ -1,7 +1,7 @@
 //! The comparison of both libraries with the rules, with `str::parse` and, if the feature
 //! `original` is on, with the Rust crate.
 
-use crate::answer::{Answer, of_library};
+use crate::answer::{Answer, Answers};
 #[cfg(feature = "original")]
 use crate::original;
 use crate::question::{Library, Question};
@@ -82,9 +82,9 @@ struct Difference<'a> {
 
 impl Difference<'_> {
     fn print(&self) {
-        let library = if self.library == Library::Words { "words" } else { "lanes" };
+        let library = if self.library == Library::Words { "root" } else { "lanes" };
         let text = self.text.escape_ascii();
-        println!("differs from {}: {} on {library} of \"{text}\"", self.beside, self.question);
+        println!("differs from {}: {} of {library} on \"{text}\"", self.beside, self.question);
         println!("    here  {:?}", self.ours);
         if let Some(theirs) = self.theirs {
             println!("    there {theirs:?}");
@@ -94,7 +94,7 @@ impl Difference<'_> {
 
 /// Asks both libraries every question about each of `texts` random texts, which depend only on
 /// `seed`.
-pub fn compare(seed: u64, texts: u64) -> Counts {
+pub fn compare(answers: &Answers, seed: u64, texts: u64) -> Counts {
     let questions = Question::all();
     let mut random = Random::new(seed);
     let mut counts = Counts::default();
@@ -104,7 +104,7 @@ pub fn compare(seed: u64, texts: u64) -> Counts {
         signed.clear();
         signed.push(b'-');
         texts::push_text(&mut random, &mut signed);
-        questions.iter().for_each(|question| ask(question, &signed, &mut counts));
+        questions.iter().for_each(|question| ask(answers, question, &signed, &mut counts));
         if number % (texts / 20).max(1) == 0 {
             counts.print_progress(100 * number / texts);
         }
@@ -116,13 +116,13 @@ pub fn compare(seed: u64, texts: u64) -> Counts {
 // Compares the answers of both libraries to one question with the answers of the rules, of
 // `str::parse` and, if the feature `original` is on, of the Rust crate. `signed` is a minus and
 // then the text.
-fn ask(question: &Question, signed: &[u8], counts: &mut Counts) {
+fn ask(answers: &Answers, question: &Question, signed: &[u8], counts: &mut Counts) {
     let text = &signed[1..];
     let expected = rules::answer(question, text);
     #[cfg(feature = "original")]
     let original = original::answer(question, text);
     for library in [Library::Words, Library::Lanes] {
-        let ours = of_library(library, question, text);
+        let ours = answers.of(library, question, text);
         let beside = |beside, theirs| Difference { question, library, text, ours, beside, theirs };
 
         let differs = (ours != expected).then(|| beside("the rules", Some(expected)));

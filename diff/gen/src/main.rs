@@ -1,75 +1,59 @@
-//! Compares `atoi_simd` and its module `lanes` with the rules of docs/SPECIFICATION.md and with
-//! `str::parse`, and times them. With the feature `original`, it also compares them with the Rust
-//! crate `atoi_simd`, and times that crate too.
+//! Compares the answers of `atoi_simd` and its module `lanes` with the rules of
+//! docs/SPECIFICATION.md and with `str::parse`, times them beside an earlier state and beside other
+//! libraries, and counts their instructions. With the feature `original`, it also compares the
+//! answers with those of the Rust crate `atoi_simd`.
 //!
-//! `cargo run --release -- [--seed N] [--texts N] [--chart FILE] [--compare-only]`
-//!
-//! Each text is parsed by every call, with every type and every choice of flags. The status is 1 if
-//! an answer differs in a way that docs/DIFFERENCES.md does not name, 2 if the arguments are not of
-//! this form or the chart cannot be written, and 0 otherwise.
+//! `arguments::USAGE` lists the arguments. The status is 1 if an answer differs in a way that
+//! docs/DIFFERENCES.md does not name, 2 if something that was asked for cannot be done, and 0
+//! otherwise.
 
 mod answer;
+mod arguments;
+mod builds;
 mod chart;
-mod columns;
 mod compare;
+mod count;
 mod numbers;
 #[cfg(feature = "original")]
 mod original;
 mod question;
 mod random;
+mod report;
 mod rules;
 mod standard;
+mod tables;
 mod texts;
-mod times;
+mod timing;
 
-use columns::ColumnTimes;
+use answer::Answers;
+use arguments::{Arguments, Task};
+use builds::{Build, Cache, State};
+use chart::Row;
 use compare::Counts;
+use question::Integer;
+use random::Random;
+use report::Table;
 use std::env;
 use std::fs;
+use std::path::Path;
 use std::process::ExitCode;
-use times::Times;
+use tables::{Form, InputList};
+use timing::{Effort, Side, Times};
 
-const ARGUMENTS: &str = "--seed N, --texts N, --chart FILE and --compare-only";
-
-struct Arguments {
-    seed: u64,
-    texts: u64,
-    chart: String,
-    is_timed: bool,
-}
-
-impl Arguments {
-    fn read() -> Result<Arguments, String> {
-        let mut arguments = Arguments {
-            seed: 1,
-            texts: 200_000,
-            chart: concat!(env!("REPOSITORY"), "/docs/mixes.svg").to_string(),
-            is_timed: true,
-        };
-        let mut words = env::args().skip(1);
-        while let Some(word) = words.next() {
-            let mut value = || words.next().ok_or_else(|| format!("{word} needs a value"));
-            match word.as_str() {
-                "--seed" => arguments.seed = number(&value()?)?,
-                "--texts" => arguments.texts = number(&value()?)?,
-                "--chart" => arguments.chart = value()?,
-                "--compare-only" => arguments.is_timed = false,
-                _ => return Err(format!("{word} is none of {ARGUMENTS}")),
-            }
-        }
-        Ok(arguments)
-    }
-}
-
-fn number(text: &str) -> Result<u64, String> {
-    text.parse().map_err(|_| format!("{text} is no number"))
-}
+// How many rounds each pass has.
+const ROUNDS: usize = 60;
 
 fn main() -> ExitCode {
-    let run = Arguments::read().and_then(|arguments| run(&arguments));
-    match run {
-        Ok(true) => ExitCode::SUCCESS,
-        Ok(false) => ExitCode::from(1),
+    let words: Vec<String> = env::args().skip(1).collect();
+    let done = match words.iter().map(String::as_str).collect::<Vec<_>>()[..] {
+        // Valgrind runs the program in this way.
+        ["--cells", file, "root"] => count::make_calls(Path::new(file), Form::Root).map(|()| 0),
+        ["--cells", file, "lanes"] => count::make_calls(Path::new(file), Form::Lanes).map(|()| 0),
+        _ => Arguments::read(words).and_then(|arguments| run(&arguments)),
+    };
+    match done {
+        Ok(0) => ExitCode::SUCCESS,
+        Ok(_) => ExitCode::from(1),
         Err(fault) => {
             eprintln!("torkettle_diff: {fault}");
             ExitCode::from(2)
@@ -77,46 +61,123 @@ fn main() -> ExitCode {
     }
 }
 
-// Returns whether docs/DIFFERENCES.md names every difference that was found.
-fn run(arguments: &Arguments) -> Result<bool, String> {
-    println!("seed {}, {} texts", arguments.seed, arguments.texts);
-    let counts = compare::compare(arguments.seed, arguments.texts);
-    print_counts(&counts);
-    let mut times = Vec::new();
-    let mut columns = Vec::new();
-    if arguments.is_timed {
-        columns = columns::time(arguments.seed);
-        print_columns(&columns);
-        times = times::time(arguments.seed);
-        print_times(&times);
-        fs::write(&arguments.chart, chart::chart(&times))
-            .map_err(|error| format!("{}: {error}", arguments.chart))?;
-        println!("drawn in {}", arguments.chart);
+// Does what the arguments say, and returns how many answers differed.
+fn run(arguments: &Arguments) -> Result<u64, String> {
+    let cache = Cache::new()?;
+    let state = State::of_checkout(&cache, &arguments.cpu)?;
+    let mut differences = 0;
+    if matches!(arguments.task, Task::Everything | Task::Compare) {
+        differences += compare(arguments, &state)?;
     }
-    let unlike = times.iter().filter(|times| !times.is_alike).count()
-        + columns.iter().filter(|times| !times.is_alike).count();
-    let differences = counts.differences() + unlike as u64;
-    print_result(&counts, differences, &times);
-    Ok(differences == 0)
+    if arguments.task != Task::Compare {
+        let builds = builds_of(arguments, &cache, &state)?;
+        println!("{}; ours is built for {}", builds::kit()?, arguments.cpu);
+        println!("timed or counted on {}", timing::Processor);
+        differences += match arguments.task {
+            Task::Count => count(&cache, &builds)?,
+            _ => time(arguments, &cache, &builds)?,
+        };
+    }
+    Ok(differences)
 }
 
-fn print_result(counts: &Counts, differences: u64, times: &[Times]) {
-    let compared = counts.compared();
-    let speed = compared as f64 / counts.time.as_secs_f64() / 1e6;
-    print!("result: {compared} comparisons, {speed:.1} million a second; ");
-    print!("{differences} unnamed differences");
-    if !times.is_empty() {
-        let rows = times.iter().filter(|row| row.mix.is_whole());
-        let (words, _) = times::mean_and_worst(rows.clone().map(|row| row.words / row.standard));
-        let (lanes, _) = times::mean_and_worst(rows.map(|row| row.lanes / row.standard));
-        print!("; words take {words:.2} and lanes {lanes:.2} of str::parse's time on whole texts");
+fn compare(arguments: &Arguments, state: &State) -> Result<u64, String> {
+    println!("seed {}, {} texts", arguments.seed, arguments.texts);
+    let answers = Answers::open(&state.answers()?)?;
+    let counts = compare::compare(&answers, arguments.seed, arguments.texts);
+    print_counts(&counts);
+    Ok(counts.differences())
+}
+
+// What is timed or counted. Our library is the first.
+fn builds_of(arguments: &Arguments, cache: &Cache, state: &State) -> Result<Vec<Build>, String> {
+    let beside = arguments.beside.iter().map(|argument| builds::prebuilt(argument));
+    let beside: Vec<Build> = beside.collect::<Result<_, _>>()?;
+    let mut builds = vec![state.timed("this checkout")?];
+    if arguments.task != Task::Count {
+        builds.push(state.two_loops(Integer::U32)?);
     }
-    println!();
+    if let Some(commit) = &arguments.against {
+        let (state, name) = State::of_commit(cache, commit, &arguments.cpu)?;
+        let copies = cache.empty_folder("copies")?;
+        builds.push(state.timed(&name)?.copied(&copies)?);
+    } else {
+        let (others, left_out) = builds::others(cache);
+        builds.extend(others);
+        for left_out in left_out {
+            println!("left out: {}: {}", left_out.name, left_out.reason);
+        }
+    }
+    builds.extend(beside);
+    Ok(builds)
+}
+
+fn count(cache: &Cache, builds: &[Build]) -> Result<u64, String> {
+    let mut counts = Vec::new();
+    for build in builds {
+        counts.extend(count::counts(cache, build)?);
+    }
+    Ok(count::print(&counts)? as u64)
+}
+
+fn time(arguments: &Arguments, cache: &Cache, builds: &[Build]) -> Result<u64, String> {
+    timing::pin();
+    let effort = Effort { passes: arguments.passes, rounds: ROUNDS };
+    let mut random = Random::new(arguments.seed);
+    let input_lists = tables::input_lists()?;
+    let (sides, tasks) = timing::lists(builds, &input_lists, false, &mut random)?;
+    let times = timing::time(&tasks, effort);
+    let lists = Table { unit: "nanoseconds per call", lines: "input lists", sides, times };
+    let mut wrong = lists.print();
+    let (sides, tasks) = timing::columns(builds, &tables::shapes()?, &mut random)?;
+    let times = timing::time(&tasks, effort);
+    let columns = Table { unit: "nanoseconds per field", lines: "columns", sides, times };
+    wrong += columns.print();
+    if arguments.against.is_none() {
+        wrong += time_plus(&builds[..1], &input_lists, effort, &mut random)?;
+    }
+    let rows = chart_rows(&input_lists, &lists, builds);
+    if rows.len() == input_lists.len() {
+        let default = || cache.repository().join("docs/input_lists.svg");
+        let file = arguments.chart.clone().unwrap_or_else(default);
+        fs::write(&file, chart::chart(&rows))
+            .map_err(|error| format!("{}: {error}", file.display()))?;
+        println!("drawn in {}", file.display());
+    }
+    Ok(wrong as u64)
+}
+
+// Times our calls that skip a plus, without a plus and with one before half of the numbers.
+fn time_plus(
+    ours: &[Build],
+    input_lists: &[InputList],
+    effort: Effort,
+    random: &mut Random,
+) -> Result<usize, String> {
+    let skip_plus: Vec<InputList> =
+        input_lists.iter().filter(|list| list.call.skip_plus).cloned().collect();
+    let (_, mut tasks) = timing::lists(ours, &skip_plus, false, random)?;
+    tasks.extend(timing::lists(ours, &skip_plus, true, random)?.1);
+    let times = timing::time(&tasks, effort);
+    let (without, with) = times.split_at(skip_plus.len());
+    Ok(report::print_plus(without, with))
+}
+
+// The ratios that the picture shows. There are none if std was not timed.
+fn chart_rows<'a>(lists: &'a [InputList], table: &Table, builds: &[Build]) -> Vec<Row<'a>> {
+    let is_standard =
+        |(number, side): (usize, &Side)| builds[side.build].is_standard.then_some(number);
+    let standard: Vec<usize> = table.sides.iter().enumerate().filter_map(is_standard).collect();
+    let row = |(list, times): (&'a InputList, &Times)| {
+        let standard = standard.iter().find_map(|side| times.of(*side))?;
+        Some(Row { list, root: times.of(0)? / standard, lanes: times.of(1)? / standard })
+    };
+    lists.iter().zip(&table.times).filter_map(row).collect()
 }
 
 fn print_counts(counts: &Counts) {
     let print = |side: &str, count: &compare::Count| {
-        println!("beside {side}: {} compared, {} differ", count.compared, count.differences);
+        println!("compared with {side}: {} answers, {} differ", count.compared, count.differences);
     };
     print("the rules of docs/SPECIFICATION.md", &counts.rules);
     print("str::parse", &counts.standard);
@@ -130,69 +191,7 @@ fn print_counts(counts: &Counts) {
     if !original::IS_PORTABLE {
         println!("    the crate is built with vector instructions, so it may answer otherwise");
     }
-}
-
-// Prints our time for each column, and for each other side our time divided by theirs, with their
-// time in brackets. Then prints the smallest, the largest and the mean ratio for each other side.
-fn print_columns(times: &[ColumnTimes]) {
-    println!("columns, ours built for {}; nanoseconds a field", env!("DIFF_CPU"));
-    for row in times {
-        print!("{:4} {:6} {:5.1}", row.shape.integer, row.shape.digits, row.column);
-        for other in row.others {
-            print!("   {:.2} ({other:5.1})", row.column / other);
-        }
-        println!("{}", if row.is_alike { "" } else { "  ANSWERS DIFFER" });
-    }
-    let sides = times.first().map_or(0, |row| row.others.len());
-    for (side, name) in columns::NAMES.iter().take(sides).enumerate() {
-        let ratios = times.iter().map(|row| row.column / row.others[side]);
-        let (mean, worst) = times::mean_and_worst(ratios.clone());
-        let best = ratios.fold(f64::INFINITY, f64::min);
-        println!("    {best:.2} to {worst:.2} of {name}, mean {mean:.2}");
-    }
-}
-
-fn print_times(times: &[Times]) {
-    println!("ours built for {}; nanoseconds a call, and beside std's", env!("DIFF_CPU"));
-    println!("call       type fl digits   words        lanes        std    the Rust crate");
-    for row in times {
-        let mix = row.mix;
-        let beside = |time: f64| format!("{time:5.1} ({:.2})", time / row.standard);
-        println!(
-            "{:10} {:4} {} {:6} {:12} {:12} {:5.1}  {}{}",
-            mix.call,
-            mix.integer,
-            mix.flags,
-            mix.digits,
-            beside(row.words),
-            beside(row.lanes),
-            row.standard,
-            row.original.map(beside).unwrap_or_default(),
-            if row.is_alike { "" } else { "  ANSWERS DIFFER" }
-        );
-    }
-    for is_whole in [true, false] {
-        print_means(times, is_whole);
-    }
-}
-
-// Prints the geometric means of the ratios, and the worst ratios.
-fn print_means(times: &[Times], is_whole: bool) {
-    let rows = times.iter().filter(|row| row.mix.is_whole() == is_whole);
-    let form = if is_whole { "whole texts beside str::parse" } else { "prefixes beside std" };
-    let shown = |(mean, worst): (f64, f64)| format!("{mean:.2} (worst {worst:.2})");
-    let words = times::mean_and_worst(rows.clone().map(|row| row.words / row.standard));
-    let lanes = times::mean_and_worst(rows.clone().map(|row| row.lanes / row.standard));
-    println!(
-        "{form}, {} mixes: words {}, lanes {}",
-        rows.clone().count(),
-        shown(words),
-        shown(lanes)
-    );
-    if cfg!(feature = "original") {
-        let original = |row: &Times| row.original.unwrap_or(f64::NAN);
-        let words = times::mean_and_worst(rows.clone().map(|row| row.words / original(row)));
-        let lanes = times::mean_and_worst(rows.clone().map(|row| row.lanes / original(row)));
-        println!("    beside the Rust crate: words {}, lanes {}", shown(words), shown(lanes));
-    }
+    let (compared, differences) = (counts.compared(), counts.differences());
+    let speed = compared as f64 / counts.time.as_secs_f64() / 1e6;
+    println!("{compared} comparisons, {speed:.1} million per second; {differences} differ");
 }

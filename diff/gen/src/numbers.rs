@@ -1,28 +1,86 @@
 //! Random numbers as texts. A line of a table says how many digits they have.
 
 use crate::random::Random;
+use std::fmt;
+use std::str::FromStr;
 
-/// Appends a number. If `has_sign`, it is negative with probability one half. `digits` says how
-/// many digits the number has, as `diff/mixes.txt` describes.
-pub fn push_number(random: &mut Random, digits: &str, has_sign: bool, text: &mut Vec<u8>) {
-    if has_sign && random.one_in(2) {
-        text.push(b'-');
-    }
-    text.push(b'1');
-    for _ in 1..count(random, digits) {
-        text.push(random.digit());
+/// How many digits the numbers of an input list have, as `diff/input_lists.txt` describes.
+#[derive(Clone)]
+pub enum Digits {
+    /// After each digit one more follows with probability one half, up to 10 digits.
+    Log,
+    /// Any number of digits from the first to the second, all equally likely.
+    Range(usize, usize),
+    /// One of these numbers of digits, all equally likely.
+    OneOf(Vec<usize>),
+}
+
+impl Digits {
+    fn pick(&self, random: &mut Random) -> usize {
+        match self {
+            Digits::Log => (1..10).find(|_| random.one_in(2)).unwrap_or(10),
+            Digits::Range(least, most) => least + random.below(most - least + 1),
+            Digits::OneOf(all) => all[random.below(all.len())],
+        }
     }
 }
 
-// How many digits the next number has.
-fn count(random: &mut Random, digits: &str) -> usize {
-    let number = |text: &str| -> usize { text.parse().expect("digits are numbers") };
-    if digits == "log" {
-        (1..10).find(|_| random.one_in(2)).unwrap_or(10)
-    } else if let Some((least, most)) = digits.split_once('-') {
-        number(least) + random.below(number(most) - number(least) + 1)
-    } else {
-        let all: Vec<&str> = digits.split('|').collect();
-        number(random.pick(&all))
+impl FromStr for Digits {
+    type Err = String;
+
+    fn from_str(text: &str) -> Result<Digits, String> {
+        let number = |text: &str| match text.parse() {
+            Ok(number @ 1..=64) => Ok(number),
+            _ => Err(format!("{text} is no number of digits")),
+        };
+        if text == "log" {
+            return Ok(Digits::Log);
+        }
+        match text.split_once('-') {
+            Some((least, most)) => match (number(least)?, number(most)?) {
+                (least, most) if least <= most => Ok(Digits::Range(least, most)),
+                _ => Err(format!("{text} ends before it begins")),
+            },
+            None => text.split('|').map(number).collect::<Result<_, _>>().map(Digits::OneOf),
+        }
     }
+}
+
+impl fmt::Display for Digits {
+    fn fmt(&self, f: &mut fmt::Formatter<'_>) -> fmt::Result {
+        match self {
+            Digits::Log => f.pad("log"),
+            Digits::Range(least, most) => f.pad(&format!("{least}-{most}")),
+            Digits::OneOf(all) => {
+                let all: Vec<String> = all.iter().map(usize::to_string).collect();
+                f.pad(&all.join("|"))
+            }
+        }
+    }
+}
+
+/// A number that was written.
+pub struct Written {
+    pub is_negative: bool,
+    pub magnitude: u128,
+}
+
+/// Appends a number with so many digits, of which the first is 1. If `sign` is a minus or a plus,
+/// it precedes the number with probability one half.
+pub fn push_number(
+    random: &mut Random,
+    digits: &Digits,
+    sign: Option<u8>,
+    text: &mut Vec<u8>,
+) -> Written {
+    let sign = sign.filter(|_| random.one_in(2));
+    text.extend(sign);
+    text.push(b'1');
+    let mut magnitude = 1_u128;
+    for _ in 1..digits.pick(random) {
+        let digit = random.digit();
+        text.push(digit);
+        magnitude = magnitude.wrapping_mul(10).wrapping_add(u128::from(digit - b'0'));
+    }
+    Written { is_negative: sign == Some(b'-'), magnitude }
 }

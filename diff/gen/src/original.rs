@@ -6,7 +6,7 @@
 use crate::answer::{Answer, RawAnswer};
 use crate::question::{Call, Integer, Question};
 use crate::rules;
-use crate::standard::{Bits, ERROR, sum_of};
+use crate::standard::Bits;
 use atoi_simd::{AtoiSimdError, Parse, ParseNeg};
 
 /// Whether the crate is in its portable configuration. This is so if the build has none of the
@@ -158,34 +158,4 @@ fn of_prefix<T: Bits>(parsed: Result<(T, usize), AtoiSimdError<'_>>, text: &[u8]
         }
     };
     answer.unwrap_or(Answer::Unlike(RawAnswer::default()))
-}
-
-/// Turns the result of a whole parse of the crate into what a timed export returns.
-pub fn whole<T: Bits>(parsed: Result<T, AtoiSimdError<'_>>) -> u64 {
-    parsed.map_or(ERROR, Bits::low_bits)
-}
-
-/// Turns the result of a prefix parse of the crate into what a timed export returns.
-pub fn prefix<T: Bits>(parsed: Result<(T, usize), AtoiSimdError<'_>>) -> u64 {
-    parsed.map_or(ERROR, |(value, count)| value.low_bits().wrapping_add(count as u64))
-}
-
-/// Adds up the fields of a column, which commas separate, with `split` and the crate's `parse`.
-pub fn split<T: Parse + Bits>(text: &[u8]) -> u64 {
-    sum_of(text.split(|byte| *byte == b','), |field| atoi_simd::parse::<T, true, true>(field).ok())
-}
-
-/// Adds up the fields of a column, which commas separate, with a loop that calls the crate's
-/// `parse_prefix`.
-pub fn prefixes<T: Parse + Bits>(mut text: &[u8]) -> u64 {
-    let mut sum = 0_u64;
-    while let Ok((value, count)) = atoi_simd::parse_prefix::<T, true, true>(text) {
-        sum = sum.wrapping_add(value.low_bits());
-        match &text[count..] {
-            [] => return sum,
-            [b',', rest @ ..] => text = rest,
-            _ => return ERROR,
-        }
-    }
-    ERROR
 }

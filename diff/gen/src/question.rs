@@ -187,7 +187,13 @@ impl Integer {
         Integer::Isize,
     ];
 
-    fn name(self) -> &'static str {
+    /// The type of this name.
+    pub fn named(name: &str) -> Option<Integer> {
+        Integer::ALL.into_iter().find(|integer| integer.name() == name)
+    }
+
+    /// The name of the type.
+    pub fn name(self) -> &'static str {
         at_type!(self, T => std::any::type_name::<T>())
     }
 

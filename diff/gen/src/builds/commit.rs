@@ -1,0 +1,28 @@
+//! The library of a commit, from git.
+
+use super::workspace::Sources;
+use super::{Cache, run};
+use std::process::Command;
+
+/// The sources of a commit, and its short name.
+pub fn sources(cache: &Cache, commit: &str) -> Result<(Sources, String), String> {
+    let git = || {
+        let mut git = Command::new("git");
+        git.arg("-C").arg(cache.repository());
+        git
+    };
+    let name = run(git()
+        .args(["rev-parse", "--verify", "--quiet", "--short", "--end-of-options"])
+        .arg(format!("{commit}^{{commit}}")))
+    .map_err(|fault| match fault.contains("could not be run") {
+        true => fault,
+        false => format!("{commit} is no commit of {}", cache.repository().display()),
+    })?;
+    let name = name.trim().to_string();
+    let room = cache.empty_folder("archive")?;
+    let archive = room.join("archive.tar");
+    run(git().arg("archive").arg("-o").arg(&archive).args([&name, "crates", "crates.txt"]))?;
+    run(Command::new("tar").arg("-xf").arg(&archive).arg("-C").arg(&room))?;
+    let sources = Sources::of_folder(&room).map_err(|fault| format!("commit {name}: {fault}"))?;
+    Ok((sources, name))
+}

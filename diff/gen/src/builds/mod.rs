@@ -1,0 +1,140 @@
+//! Builds what is compared, timed and counted: the library as it stands in this checkout, the
+//! library of another commit, and other libraries. All builds export their calls under the same
+//! names (`TimedCall::export`), so that each is called in the same way.
+
+mod cache;
+mod command;
+mod commit;
+mod cpp;
+mod exports;
+mod other;
+mod place;
+mod rust;
+mod workspace;
+
+pub use cache::Cache;
+pub use command::run;
+pub use other::all as others;
+
+use crate::question::Integer;
+use crate::tables::{self, Form, Shape};
+use place::{PLACES, Placed};
+use std::path::{Path, PathBuf};
+use workspace::{Library, Sources, Workspace};
+
+/// Code that is timed and counted, under the name that the tables have.
+pub struct Build {
+    pub name: String,
+    /// Whether it is std.
+    pub is_standard: bool,
+    /// Shared objects with the calls, each at another placement.
+    pub calls: Option<Placed>,
+    /// Shared objects with the columns, each at another placement.
+    pub columns: Option<Placed>,
+}
+
+impl Build {
+    /// A build whose calls and columns are in the same files.
+    fn of_both(name: String, placed: Placed) -> Build {
+        let is_standard = false;
+        Build { name, is_standard, calls: Some(placed.clone()), columns: Some(placed) }
+    }
+
+    /// The same files at other paths. If the code of a commit is that of this checkout, it is
+    /// loaded twice nevertheless.
+    pub fn copied(self, to: &Path) -> Result<Build, String> {
+        let copy = |placed: Option<Placed>| placed.map(|placed| placed.copied(to)).transpose();
+        Ok(Build { calls: copy(self.calls)?, columns: copy(self.columns)?, ..self })
+    }
+}
+
+/// The libraries of one state of the repository, ready to be built.
+pub struct State<'a> {
+    cache: &'a Cache,
+    // The folder in which `rt` works. It keeps what it proves there.
+    workspace: PathBuf,
+    sources: Sources,
+    cpu: &'a str,
+}
+
+impl State<'_> {
+    /// The state of this checkout, with edits that are not committed.
+    pub fn of_checkout<'a>(cache: &'a Cache, cpu: &'a str) -> Result<State<'a>, String> {
+        let sources = Sources::of_folder(cache.repository())?;
+        Ok(State { cache, workspace: cache.folder("checkout"), sources, cpu })
+    }
+
+    /// The state of a commit, and the short name of that commit.
+    pub fn of_commit<'a>(
+        cache: &'a Cache,
+        commit: &str,
+        cpu: &'a str,
+    ) -> Result<(State<'a>, String), String> {
+        let (sources, name) = commit::sources(cache, commit)?;
+        Ok((State { cache, workspace: cache.folder("commit"), sources, cpu }, name))
+    }
+
+    /// The shared object with the function that makes any call. It is compared, and not timed.
+    pub fn answers(&self) -> Result<PathBuf, String> {
+        let placed = self.placed(&exports::answers(), &[String::from("torkettle_answer")])?;
+        Ok(placed.first().to_path_buf())
+    }
+
+    /// The calls and the columns that are timed.
+    pub fn timed(&self, name: &str) -> Result<Build, String> {
+        let (calls, types) = (tables::calls()?, tables::column_types()?);
+        let both = [Form::Root, Form::Lanes];
+        let names = both.iter().flat_map(|form| calls.iter().map(|call| call.export(*form)));
+        let names: Vec<String> = names.collect();
+        let columns: Vec<String> = types.iter().map(|integer| Shape::export(*integer)).collect();
+        Ok(Build {
+            name: name.to_string(),
+            is_standard: false,
+            calls: Some(self.placed(&exports::calls(&calls), &names)?),
+            columns: Some(self.placed(&exports::columns(&types), &columns)?),
+        })
+    }
+
+    /// A library with two loops over columns of one type. If the loops do not inline the iterator,
+    /// they are slower than one loop.
+    pub fn two_loops(&self, integer: Integer) -> Result<Build, String> {
+        let (library, names) = exports::two_loops(integer);
+        let name = format!("one of two loops over {}", integer.name());
+        let columns = Some(self.placed(&library, &names)?);
+        Ok(Build { name, is_standard: false, calls: None, columns })
+    }
+
+    // Builds a library of exports, unless the cache has it.
+    fn placed(&self, library: &Library, names: &[String]) -> Result<Placed, String> {
+        let stamp = cache::stamp(&(&self.sources, library, self.cpu, kit()?));
+        let name = format!("{}-{stamp:016x}", library.name);
+        self.cache.placed(&name, names, |_| {
+            let workspace = Workspace::new(&self.workspace, &self.sources)?;
+            Ok(vec![workspace.build(library, self.cpu)?])
+        })
+    }
+}
+
+/// Which kit builds the library, in one line.
+pub fn kit() -> Result<String, String> {
+    let line = run(std::process::Command::new("rt").arg("version"))?;
+    Ok(line.trim().to_string())
+}
+
+/// A build that somebody else made, from an argument NAME=FILE. FILE is a shared object, or what
+/// comes before `.0.so`, `.16.so`, `.32.so` and `.48.so` in the names of four.
+pub fn prebuilt(argument: &str) -> Result<Build, String> {
+    let Some((name, file)) = argument.split_once('=') else {
+        return Err(format!("--beside {argument} has no =: it wants NAME=FILE.so"));
+    };
+    let files: Vec<PathBuf> =
+        PLACES.iter().map(|place| PathBuf::from(format!("{file}.{place}.so"))).collect();
+    let placed = if files.iter().all(|file| file.is_file()) {
+        Placed::new(files)
+    } else if Path::new(file).is_file() {
+        Placed::new(vec![PathBuf::from(file)])
+    } else {
+        return Err(format!("--beside {argument}: there is neither {file} nor {file}.0.so"));
+    };
+    Ok(Build::of_both(name.to_string(), placed))
+}

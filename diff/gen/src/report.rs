@@ -1,0 +1,151 @@
+//! Prints times and counts.
+
+use crate::tables::Form;
+use crate::timing::{Comparison, Ratios, Side, Times};
+
+// The means of the passes of an idle machine differ by less, in percent.
+const BUSY: f64 = 3.0;
+
+// A ratio above this one is told. One nearer to 1 may be chance.
+const SLOWER: f64 = 1.02;
+
+/// The times of several sides.
+pub struct Table {
+    /// What a time is, as `nanoseconds per call`.
+    pub unit: &'static str,
+    /// What a line has, as `input lists`.
+    pub lines: &'static str,
+    pub sides: Vec<Side>,
+    pub times: Vec<Times>,
+}
+
+impl Table {
+    /// Prints everything, and returns how many sides answered otherwise than they should.
+    pub fn print(&self) -> usize {
+        let comparisons = self.comparisons();
+        self.print_times(&comparisons);
+        println!("\nour time divided by theirs: geometric mean of the {} (slowest)", self.lines);
+        let mut spread = 0.0;
+        for pair in comparisons.chunk_by(|one, other| self.build(one) == self.build(other)) {
+            spread = self.print_ratios(pair).max(spread);
+        }
+        for comparison in &comparisons {
+            self.print_slower(comparison);
+        }
+        if spread > BUSY {
+            println!("the machine is busy: figures differ by {spread:.0} % between passes");
+        }
+        self.times.iter().map(|times| times.wrong().count()).sum()
+    }
+
+    /// Each side of ours with the sides of each other build. The root is compared with a root, and
+    /// lanes with lanes if the build has them.
+    pub fn comparisons(&self) -> Vec<Comparison> {
+        let side = |build, form| {
+            self.sides.iter().position(|side| side.build == build && side.form == form)
+        };
+        let mut builds: Vec<usize> = self.sides.iter().map(|side| side.build).collect();
+        builds.dedup();
+        let mut comparisons = Vec::new();
+        for build in builds.into_iter().skip(1) {
+            let root = side(build, Form::Root);
+            let pairs = [
+                (side(0, Form::Root), root),
+                (side(0, Form::Lanes), side(build, Form::Lanes).or(root)),
+            ];
+            let compared = |(ours, theirs)| Some(Comparison { ours: ours?, theirs: theirs? });
+            comparisons.extend(pairs.into_iter().filter_map(compared));
+        }
+        comparisons
+    }
+
+    fn build(&self, comparison: &Comparison) -> usize {
+        self.sides[comparison.theirs].build
+    }
+
+    // Prints the times of every side on every line. If few sides are compared, prints their ratios.
+    fn print_times(&self, comparisons: &[Comparison]) {
+        println!("\n{}:", self.unit);
+        for (side, letter) in self.sides.iter().zip('A'..) {
+            println!("    {letter}  {}", self.name_of(side));
+        }
+        let shown = if comparisons.len() <= 2 { comparisons } else { &[] };
+        let width = self.times.first().map_or(0, |times| times.name.len());
+        print!("{:width$}", "");
+        self.sides.iter().zip('A'..).for_each(|(_, letter)| print!("{letter:>7}"));
+        let letter = |side: usize| ('A'..).nth(side).unwrap_or('?');
+        shown.iter().for_each(|it| print!("    {}/{}", letter(it.ours), letter(it.theirs)));
+        println!();
+        for times in &self.times {
+            print!("{}", times.name);
+            for side in 0..self.sides.len() {
+                let time = times.of(side).map(|time| format!("{time:.1}"));
+                print!("{:>7}", time.unwrap_or_default());
+            }
+            for comparison in shown {
+                let ratio = comparison.ratio(times).map(|ratio| format!("{ratio:.2}"));
+                print!("{:>7}", ratio.unwrap_or_default());
+            }
+            let wrong: String = times.wrong().map(letter).collect();
+            println!("{}{wrong}", if wrong.is_empty() { "" } else { "  WRONG ANSWERS: " });
+        }
+    }
+
+    fn name_of(&self, side: &Side) -> String {
+        let has_lanes =
+            self.sides.iter().any(|it| it.build == side.build && it.form == Form::Lanes);
+        match side.form {
+            Form::Root if has_lanes => format!("root, {}", side.name),
+            Form::Root => side.name.clone(),
+            Form::Lanes => format!("lanes, {}", side.name),
+        }
+    }
+
+    // Prints the line of one build, and returns by how many percent the passes differ at most.
+    fn print_ratios(&self, pair: &[Comparison]) -> f64 {
+        let ratios: Vec<Ratios> =
+            pair.iter().filter_map(|comparison| comparison.ratios(&self.times)).collect();
+        let spread = ratios.iter().map(Ratios::spread).fold(0.0, f64::max);
+        let shown: Vec<String> = ratios
+            .iter()
+            .map(|ratios| format!("{:.2} ({:.2})", ratios.mean, ratios.worst))
+            .collect();
+        let count = ratios.first().map_or(0, |ratios| ratios.count);
+        let name = &self.sides[pair[0].theirs].name;
+        let shown = shown.join("  ");
+        println!("{name:45} {count:3} {shown:26} passes differ by {spread:.1} %");
+        spread
+    }
+
+    // Prints the lines on which we are slower.
+    fn print_slower(&self, comparison: &Comparison) {
+        let form = if self.sides[comparison.ours].form == Form::Root { "root" } else { "lanes" };
+        let name = &self.sides[comparison.theirs].name;
+        for times in &self.times {
+            if let Some(ratio) = comparison.ratio(times).filter(|ratio| *ratio > SLOWER) {
+                let line: Vec<&str> = times.name.split_whitespace().collect();
+                println!("    {form} takes {ratio:.2} of {name}: {}", line.join(" "));
+            }
+        }
+    }
+}
+
+/// Prints our times on input lists without a plus and on the same input lists with a plus before
+/// half of the numbers, and returns how many sides answered otherwise than they should.
+pub fn print_plus(without: &[Times], with: &[Times]) -> usize {
+    println!(
+        "\na plus before half of the numbers: nanoseconds per call without, with, and the ratio"
+    );
+    println!("{:28}root{:19}lanes", "", "");
+    for (without, with) in without.iter().zip(with) {
+        print!("{}", without.name);
+        for side in [0, 1] {
+            let times = without.of(side).zip(with.of(side));
+            let shown =
+                times.map(|(one, other)| format!("{one:6.1}{other:7.1}{:7.2}", other / one));
+            print!("{:23}", shown.unwrap_or_default());
+        }
+        println!("{}", if with.wrong().count() > 0 { "  WRONG ANSWERS" } else { "" });
+    }
+    with.iter().map(|times| times.wrong().count()).sum()
+}

@@ -1,0 +1,204 @@
+//! What is timed and counted: the lines of `diff/input_lists.txt`, `diff/columns.txt` and
+//! `diff/cells.txt`.
+
+use crate::numbers::Digits;
+use crate::question::Integer;
+use std::fmt;
+
+/// One of the two forms in which the library has each function.
+#[derive(Clone, Copy, PartialEq, Eq)]
+pub enum Form {
+    /// `atoi_simd`, on words.
+    Root,
+    /// `atoi_simd::lanes`.
+    Lanes,
+}
+
+/// One of the functions that are timed.
+#[derive(Clone, Copy, PartialEq, Eq)]
+pub enum Function {
+    Parse,
+    Prefix,
+    PrefixPos,
+}
+
+/// A function at a type, with its flags.
+#[derive(Clone, Copy, PartialEq, Eq)]
+pub struct TimedCall {
+    pub function: Function,
+    pub integer: Integer,
+    pub skip_zeroes: bool,
+    pub skip_plus: bool,
+}
+
+impl TimedCall {
+    fn read(function: &str, integer: &str, flags: &str) -> Result<TimedCall, String> {
+        let function = match function {
+            "parse" => Function::Parse,
+            "prefix" => Function::Prefix,
+            "prefix_pos" => Function::PrefixPos,
+            _ => return Err(format!("{function} is not parse, prefix or prefix_pos")),
+        };
+        let (skip_zeroes, skip_plus) = match flags {
+            "--" => (false, false),
+            "-p" => (false, true),
+            "z-" => (true, false),
+            "zp" => (true, true),
+            _ => return Err(format!("{flags} are no flags")),
+        };
+        Ok(TimedCall { function, integer: integer_named(integer)?, skip_zeroes, skip_plus })
+    }
+
+    /// Whether a whole text is parsed, and not only the number at its start.
+    pub fn is_whole(&self) -> bool {
+        self.function == Function::Parse
+    }
+
+    /// Whether a minus is read.
+    pub fn takes_minus(&self) -> bool {
+        self.integer.is_signed() && self.function != Function::PrefixPos
+    }
+
+    /// The name under which each build exports this call. Another library exports its calls as
+    /// those of `Form::Root`.
+    pub fn export(&self, form: Form) -> String {
+        let form = if form == Form::Root { "w" } else { "l" };
+        let (integer, flags) = (self.integer.name(), self.flags().replace('-', "n"));
+        format!("speed_{form}_{}_{integer}_{flags}", self.name())
+    }
+
+    /// The library's function, with its type and flags in angle brackets.
+    pub fn path(&self) -> String {
+        let TimedCall { skip_zeroes, skip_plus, .. } = *self;
+        let integer = self.integer.name();
+        match self.function {
+            Function::Parse => format!("parse::<{integer}, {skip_zeroes}, {skip_plus}>"),
+            Function::Prefix => format!("parse_prefix::<{integer}, {skip_zeroes}, {skip_plus}>"),
+            Function::PrefixPos => format!("parse_prefix_pos::<{integer}, {skip_zeroes}>"),
+        }
+    }
+
+    fn name(&self) -> &'static str {
+        match self.function {
+            Function::Parse => "parse",
+            Function::Prefix => "prefix",
+            Function::PrefixPos => "prefix_pos",
+        }
+    }
+
+    fn flags(&self) -> String {
+        let zeroes = if self.skip_zeroes { "z" } else { "-" };
+        let plus = if self.skip_plus { "p" } else { "-" };
+        format!("{zeroes}{plus}")
+    }
+}
+
+impl fmt::Display for TimedCall {
+    fn fmt(&self, f: &mut fmt::Formatter<'_>) -> fmt::Result {
+        write!(f, "{:10} {:4} {}", self.name(), self.integer.name(), self.flags())
+    }
+}
+
+/// A call, and how many digits the numbers have that it reads.
+#[derive(Clone)]
+pub struct InputList {
+    pub call: TimedCall,
+    pub digits: Digits,
+}
+
+/// A column of numbers of one type.
+pub struct Shape {
+    pub integer: Integer,
+    pub digits: Digits,
+}
+
+impl Shape {
+    /// The name under which a build exports the sum of a column of this type.
+    pub fn export(integer: Integer) -> String {
+        format!("column_{}", integer.name())
+    }
+}
+
+/// The input lists, in the order of their file.
+pub fn input_lists() -> Result<Vec<InputList>, String> {
+    rows("diff/input_lists.txt", include_str!("../../input_lists.txt"), |words| match *words {
+        [function, integer, flags, digits] => {
+            let call = TimedCall::read(function, integer, flags)?;
+            Ok(InputList { call, digits: digits.parse()? })
+        }
+        _ => Err(String::from("a line is CALL TYPE FLAGS DIGITS")),
+    })
+}
+
+/// The columns, in the order of their file.
+pub fn shapes() -> Result<Vec<Shape>, String> {
+    rows("diff/columns.txt", include_str!("../../columns.txt"), shape)
+}
+
+/// The cells whose instructions are counted: five calls for each line of the file.
+pub fn cells() -> Result<Vec<InputList>, String> {
+    let numbers = rows("diff/cells.txt", include_str!("../../cells.txt"), shape)?;
+    let cell = |Shape { integer, digits }: Shape| {
+        let call = |function, skip_zeroes, skip_plus| InputList {
+            call: TimedCall { function, integer, skip_zeroes, skip_plus },
+            digits: digits.clone(),
+        };
+        [
+            call(Function::Parse, false, false),
+            call(Function::Parse, true, true),
+            call(Function::Prefix, false, false),
+            call(Function::Prefix, true, true),
+            call(Function::PrefixPos, true, false),
+        ]
+    };
+    Ok(numbers.into_iter().flat_map(cell).collect())
+}
+
+/// Each call that is timed or counted, once.
+pub fn calls() -> Result<Vec<TimedCall>, String> {
+    let mut calls = Vec::new();
+    for InputList { call, .. } in input_lists()?.into_iter().chain(cells()?) {
+        if !calls.contains(&call) {
+            calls.push(call);
+        }
+    }
+    Ok(calls)
+}
+
+/// Each type of a column, once.
+pub fn column_types() -> Result<Vec<Integer>, String> {
+    let mut types = Vec::new();
+    for Shape { integer, .. } in shapes()? {
+        if !types.contains(&integer) {
+            types.push(integer);
+        }
+    }
+    Ok(types)
+}
+
+fn shape(words: &[&str]) -> Result<Shape, String> {
+    match *words {
+        [integer, digits] => {
+            Ok(Shape { integer: integer_named(integer)?, digits: digits.parse()? })
+        }
+        _ => Err(String::from("a line is TYPE DIGITS")),
+    }
+}
+
+fn integer_named(name: &str) -> Result<Integer, String> {
+    Integer::named(name).ok_or_else(|| format!("{name} is no type"))
+}
+
+// Reads each line of a table, except comments.
+fn rows<T>(
+    file: &str,
+    text: &str,
+    read: impl Fn(&[&str]) -> Result<T, String>,
+) -> Result<Vec<T>, String> {
+    let lines = text.lines().filter(|line| !line.starts_with('#'));
+    let row = |line: &str| {
+        let words: Vec<&str> = line.split_whitespace().collect();
+        read(&words).map_err(|fault| format!("{file}: {line}: {fault}"))
+    };
+    lines.map(row).collect()
+}

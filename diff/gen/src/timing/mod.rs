@@ -1,0 +1,128 @@
+//! Measures how long calls and columns take. Every side is timed in turn within a round, at each
+//! placement of its code. A figure is the mean over the placements of the best round.
+
+mod columns;
+mod lists;
+mod object;
+mod processor;
+mod ratios;
+
+pub use columns::columns;
+pub use lists::{Rows, lists};
+pub use object::Object;
+pub use processor::{Processor, pin};
+pub use ratios::{Comparison, Ratios};
+
+use crate::tables::Form;
+use std::time::Instant;
+
+/// What an export returns for an error.
+pub const ERROR: u64 = 0x8000_0000_0000_0001;
+
+/// How many placements each side has.
+pub const PLACES: usize = 4;
+
+/// How often everything is timed, and how many rounds each time has.
+#[derive(Clone, Copy)]
+pub struct Effort {
+    pub passes: usize,
+    pub rounds: usize,
+}
+
+/// One side of a table.
+#[derive(Clone)]
+pub struct Side {
+    /// The number of its build, from 0. Ours is 0.
+    pub build: usize,
+    pub form: Form,
+    pub name: String,
+}
+
+/// What the sides do on one input list or column.
+pub struct Task {
+    pub name: String,
+    // How many calls or fields it has, by which its time is divided.
+    items: usize,
+    // The sum of the answers that every side has to give.
+    expected: u64,
+    // What each side does at each placement. A side may have no such call.
+    sides: Vec<Option<[Run; PLACES]>>,
+}
+
+type Run = Box<dyn Fn() -> u64>;
+
+/// The times of all sides on one input list or column.
+pub struct Times {
+    pub name: String,
+    // For each pass and side, the best round at each placement.
+    passes: Vec<Vec<Option<[f64; PLACES]>>>,
+    // For each side, whether one of its sums was not the expected one.
+    is_wrong: Vec<bool>,
+}
+
+impl Times {
+    /// The time of a side in nanoseconds, over all passes.
+    pub fn of(&self, side: usize) -> Option<f64> {
+        let mut best = [f64::INFINITY; PLACES];
+        for pass in &self.passes {
+            let times = pass[side]?;
+            best.iter_mut().zip(times).for_each(|(best, time)| *best = best.min(time));
+        }
+        Some(mean(best))
+    }
+
+    /// The time of a side in nanoseconds, in one pass.
+    pub fn in_pass(&self, side: usize, pass: usize) -> Option<f64> {
+        self.passes[pass][side].map(mean)
+    }
+
+    /// The sides that answered otherwise than they should.
+    pub fn wrong(&self) -> impl Iterator<Item = usize> {
+        self.is_wrong.iter().enumerate().filter(|(_, is_wrong)| **is_wrong).map(|(side, _)| side)
+    }
+
+    fn new(task: &Task) -> Times {
+        let is_wrong = vec![false; task.sides.len()];
+        Times { name: task.name.clone(), passes: Vec::new(), is_wrong }
+    }
+
+    // Runs one pass of one task.
+    fn pass(&mut self, task: &Task, rounds: usize) {
+        let times = |side: &Option<_>| side.as_ref().map(|_| [f64::INFINITY; PLACES]);
+        let mut best: Vec<Option<[f64; PLACES]>> = task.sides.iter().map(times).collect();
+        for _ in 0..rounds {
+            for place in 0..PLACES {
+                self.round(task, place, &mut best);
+            }
+        }
+        self.passes.push(best);
+    }
+
+    // Runs each side once at one placement.
+    fn round(&mut self, task: &Task, place: usize, best: &mut [Option<[f64; PLACES]>]) {
+        for (number, side) in task.sides.iter().enumerate() {
+            let (Some(runs), Some(best)) = (side, &mut best[number]) else {
+                continue;
+            };
+            let from = Instant::now();
+            let sum = runs[place]();
+            let time = from.elapsed().as_nanos() as f64 / task.items as f64;
+            best[place] = best[place].min(time);
+            self.is_wrong[number] |= sum != task.expected;
+        }
+    }
+}
+
+/// Times every task in each pass.
+pub fn time(tasks: &[Task], effort: Effort) -> Vec<Times> {
+    let mut times: Vec<Times> = tasks.iter().map(Times::new).collect();
+    for pass in 1..=effort.passes {
+        times.iter_mut().zip(tasks).for_each(|(times, task)| times.pass(task, effort.rounds));
+        eprintln!("pass {pass} of {}", effort.passes);
+    }
+    times
+}
+
+fn mean(times: [f64; PLACES]) -> f64 {
+    times.iter().sum::<f64>() / PLACES as f64
+}

@@ -1,0 +1,61 @@
+//! Our time divided by that of another side, over all input lists or columns.
+
+use super::Times;
+
+/// Two sides that are compared.
+#[derive(Clone)]
+pub struct Comparison {
+    pub ours: usize,
+    pub theirs: usize,
+}
+
+impl Comparison {
+    /// The ratio on one input list or column, over all passes.
+    pub fn ratio(&self, times: &Times) -> Option<f64> {
+        Some(times.of(self.ours)? / times.of(self.theirs)?)
+    }
+
+    /// The ratios of all input lists or columns that both sides have. None if there are none.
+    pub fn ratios(&self, times: &[Times]) -> Option<Ratios> {
+        let all: Vec<f64> = times.iter().filter_map(|times| self.ratio(times)).collect();
+        let passes = times.first().map_or(0, |times| times.passes.len());
+        let in_pass = |pass| {
+            let ratio = |times: &Times| {
+                Some(times.in_pass(self.ours, pass)? / times.in_pass(self.theirs, pass)?)
+            };
+            mean(&times.iter().filter_map(ratio).collect::<Vec<_>>())
+        };
+        (!all.is_empty()).then(|| Ratios {
+            count: all.len(),
+            mean: mean(&all),
+            worst: all.iter().copied().fold(0.0, f64::max),
+            passes: (0..passes).map(in_pass).collect(),
+        })
+    }
+}
+
+/// The ratios of one comparison.
+pub struct Ratios {
+    /// On how many input lists or columns.
+    pub count: usize,
+    /// The geometric mean.
+    pub mean: f64,
+    /// The largest ratio.
+    pub worst: f64,
+    // The geometric mean of each pass.
+    passes: Vec<f64>,
+}
+
+impl Ratios {
+    /// By how many percent the means of the passes differ.
+    pub fn spread(&self) -> f64 {
+        let greatest = self.passes.iter().copied().fold(0.0, f64::max);
+        let least = self.passes.iter().copied().fold(f64::INFINITY, f64::min);
+        100.0 * (greatest / least - 1.0)
+    }
+}
+
+/// The geometric mean.
+fn mean(ratios: &[f64]) -> f64 {
+    (ratios.iter().map(|ratio| ratio.ln()).sum::<f64>() / ratios.len() as f64).exp()
+}
