@@ -41,18 +41,6 @@ numbers (invalid64 number index input) = number ∷ index ∷ []
 numbers (invalid128 number index input) = number ∷ index ∷ []
 numbers reason = []
 
--- The number before an invalid byte; otherwise 0.
-abbrev pub number_in : Refusal → ℕ
-number_in (invalid64 number index input) = number
-number_in (invalid128 number index input) = number
-number_in reason = 0
-
--- The index of an invalid byte; 0 for the other reasons.
-abbrev pub index_in : Refusal → ℕ
-index_in (invalid64 number index input) = index
-index_in (invalid128 number index input) = index
-index_in reason = 0
-
 -- The slice that a reason holds; `empty` holds none.
 abbrev pub input_of : Refusal → List ℕ
 input_of empty = []

@@ -10,7 +10,7 @@ ghost use Rattle.atoi_core.specs.Refusal.{answer_of};
 use crate::engine::Engine;
 use crate::error::AtoiSimdError;
 use crate::narrow::{narrow_prefix, narrow_whole_windows};
-use crate::number::{Number, Signed, greatest_magnitude};
+use crate::number::{Number, Signed, greatest_magnitude, limit_64, number_of};
 use crate::prefix_128::prefix_128_inline;
 use crate::steps::Steps;
 
@@ -42,7 +42,6 @@ pub fn whole_pos<'a, E: Engine, T: Number>(
 ///
 /// Those of `whole_pos`.
 #[inline(always)]
-#[tactic(auto, using(crate::proofs::lemmas::Calls::whole_in_bounds))]
 pub fn whole_neg<'a, E: Engine, T: Signed>(
     skip: bool,
     s: &'a [u8],
@@ -51,8 +50,23 @@ pub fn whole_neg<'a, E: Engine, T: Signed>(
     ensures answer { typed_answer T.number result ≡ whole_answer E.table T.int_type true skip s.now }
     ensures loads { TypedLoads E.table T.int_type whole skip s.now steps.old steps.new }
 {
-    match whole_by_size::<E, T>(true, skip, s, steps) {
-        Ok(magnitude) => Ok(T::from_neg(magnitude)),
+    whole_of::<E, T>(true, skip, s, steps)
+}
+
+/// As `whole_neg` if `minus` is set, otherwise as `whole_pos`.
+#[inline(always)]
+#[tactic(auto, using(crate::proofs::lemmas::Calls::whole_in_bounds))]
+pub(crate) fn whole_of<'a, E: Engine, T: Signed>(
+    minus: bool,
+    skip: bool,
+    s: &'a [u8],
+    steps: &mut Steps,
+) -> Result<T, AtoiSimdError<'a>>
+    ensures answer { typed_answer T.number result ≡ whole_answer E.table T.int_type minus skip s.now }
+    ensures loads { TypedLoads E.table T.int_type whole skip s.now steps.old steps.new }
+{
+    match whole_by_size::<E, T>(minus, skip, s, steps) {
+        Ok(magnitude) => Ok(number_of(minus, magnitude)),
         Err(error) => Err(error),
     }
 }
@@ -86,7 +100,6 @@ pub fn prefix_pos<'a, E: Engine, T: Number>(
 ///
 /// Those of `prefix_pos`.
 #[inline(always)]
-#[tactic(auto, using(crate::proofs::lemmas::Calls::prefix_within, crate::proofs::lemmas::Calls::prefix_in_bounds))]
 pub fn prefix_neg<'a, E: Engine, T: Signed>(
     skip: bool,
     s: &'a [u8],
@@ -97,8 +110,25 @@ pub fn prefix_neg<'a, E: Engine, T: Signed>(
     ensures within { IfOk result (λ found. found.1 ≤ length s.now) }
     ensures loads { TypedLoads E.table T.int_type prefix skip s.now steps.old steps.new }
 {
-    match prefix_by_size::<E, T>(true, skip, s, steps) {
-        Ok((magnitude, len)) => Ok((T::from_neg(magnitude), len)),
+    prefix_of::<E, T>(true, skip, s, steps)
+}
+
+/// As `prefix_neg` if `minus` is set, otherwise as `prefix_pos`.
+#[inline(always)]
+#[tactic(auto, using(crate::proofs::lemmas::Calls::prefix_within, crate::proofs::lemmas::Calls::prefix_in_bounds))]
+pub(crate) fn prefix_of<'a, E: Engine, T: Signed>(
+    minus: bool,
+    skip: bool,
+    s: &'a [u8],
+    steps: &mut Steps,
+) -> Result<(T, usize), AtoiSimdError<'a>>
+    ensures answer { typed_prefix_answer T.number result
+        ≡ prefix_answer E.table T.int_type minus skip s.now }
+    ensures within { IfOk result (λ found. found.1 ≤ length s.now) }
+    ensures loads { TypedLoads E.table T.int_type prefix skip s.now steps.old steps.new }
+{
+    match prefix_by_size::<E, T>(minus, skip, s, steps) {
+        Ok((magnitude, len)) => Ok((number_of(minus, magnitude), len)),
         Err(error) => Err(error),
     }
 }
@@ -124,8 +154,7 @@ fn whole_by_size<'a, E: Engine, T: Number>(
             Err(error) => Err(error),
         }
     } else if T::BITS == 64 {
-        let limit = if T::SIGNED { 19 } else { 20 };
-        let number = whole_64::<E>(bound as u64, limit, skip, s, steps)?;
+        let number = whole_64::<E>(bound as u64, limit_64::<T>(), skip, s, steps)?;
         Ok(u128::from(number))
     } else {
         whole_128::<E>(bound, skip, s, steps)
@@ -152,8 +181,7 @@ fn prefix_by_size<'a, E: Engine, T: Number>(
             Err(error) => Err(error),
         }
     } else if T::BITS == 64 {
-        let limit = if T::SIGNED { 19 } else { 20 };
-        match E::prefix_64(bound as u64, limit, skip, s, steps) {
+        match E::prefix_64(bound as u64, limit_64::<T>(), skip, s, steps) {
             Ok((number, len)) => Ok((u128::from(number), len)),
             Err(error) => Err(error),
         }

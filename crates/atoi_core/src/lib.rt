@@ -18,7 +18,6 @@ mod text;
 pub mod wide_answer;
 mod window;
 mod window_loops;
-mod with_sign;
 mod word_digits;
 mod word_engine;
 pub mod word_loads;

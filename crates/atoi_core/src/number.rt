@@ -70,6 +70,30 @@ pub(crate) fn greatest_magnitude<T: Number>(minus: bool) -> u128
     T::GREATEST + u128::from(minus)
 }
 
+// Returns how many digits `T::MAX` has.
+pub(crate) fn limit_64<T: Number>() -> u32
+    requires wide { T.BITS ≡ 64 }
+    ensures { result ≡ limit_of T.int_type }
+{
+    if T::SIGNED { 19 } else { 20 }
+}
+
+// Returns the number with this sign, without a branch on it.
+pub(crate) fn number_of<T: Signed>(minus: bool, magnitude: u128) -> T
+    requires { magnitude ≤ bound_of T.int_type minus }
+    ensures { T.number result ≡ with_sign minus magnitude }
+{
+    let negative = T::from_neg(magnitude);
+    if minus {
+        negative
+    } else if T::BITS <= 64 {
+        // The compiler would branch if the magnitude itself were used.
+        T::from_pos(negative.parts().1)
+    } else {
+        T::from_pos(magnitude)
+    }
+}
+
 impl Number for u8 {
     const BITS: u32 = 8;
 

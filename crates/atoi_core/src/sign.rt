@@ -5,12 +5,11 @@ ghost use Rattle.atoi_core.specs.Loads.{TypedLoads};
 ghost use Rattle.atoi_core.specs.Magnitude.{whole, prefix};
 ghost use Rattle.atoi_core.specs.Sign.{sign_of};
 
-use crate::core_calls::{prefix_neg, prefix_pos, whole_neg, whole_pos};
+use crate::core_calls::{prefix_of, prefix_pos, whole_of, whole_pos};
 use crate::engine::Engine;
 use crate::error::AtoiSimdError;
 use crate::number::{Number, Signed};
 use crate::steps::Steps;
-use crate::with_sign::{prefix_with_sign, whole_with_sign};
 
 /// Consumes a `+` if `skip_plus` is on, or a `-` if `signed` is on. Returns whether it was a `-`, and
 /// the body after it.
@@ -23,10 +22,11 @@ pub fn take_sign(signed: bool, skip_plus: bool, s: &[u8]) -> (bool, &[u8])
     let [first, ..] = s else {
         return (false, s);
     };
-    if skip_plus && *first == b'+' {
-        return (false, without_first(s));
-    }
+    // Before the `+`: with the sign set on two paths, the compiler would branch on it.
     let minus = signed & (*first == b'-');
+    if skip_plus && *first == b'+' {
+        return (minus, without_first(s));
+    }
     // Sliced by 0 or 1: with mixed signs, a branch would be mispredicted.
     (minus, &s[usize::from(minus)..])
 }
@@ -41,8 +41,7 @@ fn without_first(s: &[u8]) -> &[u8]
     &s[1..]
 }
 
-/// Parses all of `s` as at most one sign and digits. The body is parsed once, as that of a negative
-/// number, and the sign is applied to the result.
+/// Parses all of `s` as at most one sign and digits.
 ///
 /// # Errors
 ///
@@ -59,8 +58,7 @@ pub fn parse_signed<'a, E: Engine, T: Signed>(
         steps.old steps.new }
 {
     let (minus, body) = take_sign(true, skip_plus, s);
-    let negative = whole_neg::<E, T>(skip, body, steps);
-    whole_with_sign::<E, T>(minus, skip, body, negative)
+    whole_of::<E, T>(minus, skip, body, steps)
 }
 
 /// Parses all of `s` as an optional `+`, if `skip_plus` is on, and digits.
@@ -104,8 +102,7 @@ pub fn parse_prefix_signed<'a, E: Engine, T: Signed>(
         steps.old steps.new }
 {
     let (minus, body) = take_sign(true, skip_plus, s);
-    let negative = prefix_neg::<E, T>(skip, body, steps);
-    let found = prefix_with_sign::<E, T>(minus, skip, body, negative)?;
+    let found = prefix_of::<E, T>(minus, skip, body, steps)?;
     Ok(count_sign(found, body, s))
 }
 

@@ -104,11 +104,6 @@ module _ (table : Table) (class : Class) (bound limit : ℕ) (extent : Extent) (
   refused_overflow some short above =
       refusal-is ∙ rw (ne_eqb (run_len table body) 0 (omega arith), short, lt-ltb bound (value table (run table body)) above) refl
 
-  pub refused_followed : 0 < run_len table body → is_long ≡ false → value table (run table body) ≤ bound → is_followed ≡ true
-      → refusal table class bound limit extent skip body ≡ Some followed
-  refused_followed some short in_range ends =
-      refusal-is ∙ rw (ne_eqb (run_len table body) 0 (omega arith), short, le-ltb bound (value table (run table body)) in_range, ends) refl
-
   pub refusal-none : IsAccepted table class bound limit extent skip body → refusal table class bound limit extent skip body ≡ None
   refusal-none h =
       refusal-is ∙ rw (ne_eqb (run_len table body) 0 (omega arith), h.short, le-ltb bound (value table (run table body)) h.in_range, h.ends) refl
