@@ -17,14 +17,14 @@ use Rattle.atoi_core.proofs.lemmas.Readings.{join_readings, below}
 -- ---- What a window says about its slice
 
 -- The window `w` is a reading of the first c bytes.
-pub record Shows (t : Table) (c : ℕ) (s : List ℕ) (w : Window) : Type 0 where
-  pub reading : Reading t c s w.len (zeros t (take c s)) w.number
-  pub len_is : w.len ≡ min c (run_len t s)
-  pub number_is : w.number ≡ value t (take w.len s)
+pub record Shows (table : Table) (c : ℕ) (s : List ℕ) (w : Window) : Type 0 where
+  pub reading : Reading table c s w.len (zeros table (take c s)) w.number
+  pub len_is : w.len ≡ min c (run_len table s)
+  pub number_is : w.number ≡ value table (take w.len s)
   pub below : w.number < 10 ^ w.len
-  pub zeroes : w.zeroes ≤ zeros t s
+  pub zeroes : w.zeroes ≤ zeros table s
   pub full : 0 < w.zeroes → w.len ≡ c
-  pub zeroes_of : w.len ≡ c → w.zeroes ≡ min c (zeros t s)
+  pub zeroes_of : w.len ≡ c → w.zeroes ≡ min c (zeros table s)
 
 -- Only a full window reports zeros.
 zeroes_cases : (n c z k : ℕ) → z ≡ min c k → (cond (n == c) z 0 ≤ k) × (0 < cond (n == c) z 0 → n ≡ c) × (n ≡ c → cond (n == c) z 0 ≡ min c k)
@@ -34,105 +34,108 @@ zeroes_cases n c z k e = (grind (arith, nat_tests), λ some. grind (arith, nat_t
 abbrev pub zeros_both : (c leading others : ℕ) → ℕ
 zeros_both c leading others = cond (eqb leading c) (c + others) leading
 
-Shows-full : (t : Table) (c : ℕ) (s : List ℕ) (w : Window) → Shows t c s w → c ≤ w.len → Reading t c s c (zeros t (take c s)) w.number
-Shows-full t c s w seen more =
+Shows-full : {table : Table} {c : ℕ} {s : List ℕ} {w : Window} → Shows table c s w → c ≤ w.len → Reading table c s c (zeros table (take c s)) w.number
+Shows-full {table} {c} {s} {w} seen more =
     let full : w.len ≡ c = omega (arith, seen.len_is) in
-    let P : ℕ → Type 0 = λ n. Reading t c s n (zeros t (take c s)) w.number in
+    let P : ℕ → Type 0 = λ n. Reading table c s n (zeros table (take c s)) w.number in
     subst P full seen.reading
 
-pub Shows-join : (t : Table) (d : ℕ) (s : List ℕ) (first_window back : Window) → Shows t 16 s first_window → 16 ≤ first_window.len → Shows t d (drop 16 s) back
-    → Reading t (16 + d) s (16 + back.len) (zeros_both 16 (zeros t (take 16 s)) (zeros t (take d (drop 16 s)))) (first_window.number * 10 ^ back.len + back.number)
-Shows-join t d s first_window back first full second = join_readings t 16 d s _ _ _ _ _ (Shows-full t 16 s first_window first full) second.reading
+pub Shows-join : {table : Table} {d : ℕ} {s : List ℕ} {first_window back : Window} → Shows table 16 s first_window → 16 ≤ first_window.len
+    → Shows table d (drop 16 s) back
+    → Reading table (16 + d) s (16 + back.len) (zeros_both 16 (zeros table (take 16 s)) (zeros table (take d (drop 16 s))))
+    (first_window.number * 10 ^ back.len + back.number)
+Shows-join first full second = join_readings (Shows-full first full) second.reading
 
-pub Shows-join_two : (t : Table) (s : List ℕ) (first_window middle back : Window) → Shows t 16 s first_window → 16 ≤ first_window.len
-    → Shows t 16 (drop 16 s) middle → 16 ≤ middle.len → Shows t 8 (drop 32 s) back
-    → Reading t 40 s (32 + back.len) (zeros_both 32 (zeros_both 16 (zeros t (take 16 s)) (zeros t (take 16 (drop 16 s)))) (zeros t (take 8 (drop 32 s))))
+pub Shows-join_two : {table : Table} {s : List ℕ} {first_window middle back : Window} → Shows table 16 s first_window → 16 ≤ first_window.len
+    → Shows table 16 (drop 16 s) middle → 16 ≤ middle.len → Shows table 8 (drop 32 s) back
+    → let others = zeros_both 16 (zeros table (take 16 s)) (zeros table (take 16 (drop 16 s))) in
+    Reading table 40 s (32 + back.len) (zeros_both 32 others (zeros table (take 8 (drop 32 s))))
     ((first_window.number * 10 ^ 16 + middle.number) * 10 ^ back.len + back.number)
-Shows-join_two t s first_window middle back first full second more third =
-    join_readings t 32 8 s _ _ _ _ _ (join_readings t 16 16 s _ _ _ _ _ (Shows-full t 16 s first_window first full) (Shows-full t 16 (drop 16 s) middle second more)) third.reading
+Shows-join_two first full second more third = join_readings (join_readings (Shows-full first full) (Shows-full second more)) third.reading
 
-module _ (t : Table) (ten : IsBelowTen t) where
-  shows_of : (c : ℕ) (s : List ℕ) → Shows t c s (window_of t c s)
+module _ {table : Table} (ten : IsBelowTen table) where
+  shows_of : (c : ℕ) (s : List ℕ) → Shows table c s (window_of table c s)
   shows_of c s =
-      let n : ℕ = run_len t (take c s) in
-      let len : n ≡ min c (run_len t s) = prefix_len-take (is_digit t) c s in
-      let reading : Reading t c s n (zeros t (take c s)) (value t (take n (take c s))) =
+      let n : ℕ = run_len table (take c s) in
+      let len : n ≡ min c (run_len table s) = prefix_len-take (is_digit table) c s in
+      let reading : Reading table c s n (zeros table (take c s)) (value table (take n (take c s))) =
       record { digits_are = refl; leading_are = refl; number_is = refl } in
-      let seen = zeroes_cases n c (zeros t (take c s)) (zeros t s) (prefix_len-take (is_zero t) c s) in
+      let seen = zeroes_cases n c (zeros table (take c s)) (zeros table s) (prefix_len-take (is_zero table) c s) in
       record {
         reading = reading;
         len_is = len;
-        number_is = ap (value t) (take-take n c s (omega arith));
-        below = below t ten c s n _ _ reading;
+        number_is = ap (value table) (take-take n c s (omega arith));
+        below = below reading ten;
         zeroes = seen.0;
         full = seen.1;
         zeroes_of = seen.2;
       }
 
-  pub shows : (c : ℕ) (s : List ℕ) (w : Window) → w ≡ window_of t c s → Shows t c s w
-  shows c s w e = let P : Window → Type 0 = λ v. Shows t c s v in subst P (sym e) (shows_of c s)
+  pub shows : (c : ℕ) (s : List ℕ) {w : Window} → w ≡ window_of table c s → Shows table c s w
+  shows c s e = let P : Window → Type 0 = λ v. Shows table c s v in subst P (sym e) (shows_of c s)
 
-  pub shows_rest : (c : ℕ) (s : List ℕ) (at : ℕ) (w : Window) →
-      w ≡ window_of t c (take (length s - at) (drop at s)) → Shows t c (drop at s) w
-  shows_rest c s at w e = shows c (drop at s) w (e ∙ ap (window_of t c) (take_rest s at))
+  pub shows_rest : (c : ℕ) (s : List ℕ) (at : ℕ) {w : Window} →
+      w ≡ window_of table c (take (length s - at) (drop at s)) → Shows table c (drop at s) w
+  shows_rest c s at e = shows c (drop at s) (e ∙ ap (window_of table c) (take_rest s at))
 
-  pub two_full : (s : List ℕ) (first second : Window) → first ≡ window_of t 16 s → first.len ≡ 16
-      → second ≡ window_of t 16 (take (length s - 16) (drop 16 s)) → 16 ≤ second.len → 32 ≤ run_len t s
-  two_full s first second is full next more =
-      omega (arith, prefix_len-drop (is_digit t) 16 s (omega (arith, full, (shows 16 s first is).len_is)), (shows_rest 16 s 16 second next).len_is)
+  pub shows_following : (c k : ℕ) (s : List ℕ) (at : ℕ) {w : Window} →
+      w ≡ window_of table c (take (length (take (length s - at) (drop at s)) - k) (drop k (take (length s - at) (drop at s)))) →
+      Shows table c (drop k (drop at s)) w
+  shows_following c k s at e =
+      shows_rest c (drop at s) k
+      (e ∙ ap (λ (r : List ℕ). window_of table c (take (length r - k) (drop k r))) (take_rest s at))
 
-  pub shows_following : (c k : ℕ) (s : List ℕ) (at : ℕ) (w : Window) →
-      w ≡ window_of t c (take (length (take (length s - at) (drop at s)) - k) (drop k (take (length s - at) (drop at s)))) →
-      Shows t c (drop k (drop at s)) w
-  shows_following c k s at w e =
-      shows_rest c (drop at s) k w
-      (e ∙ ap (λ (r : List ℕ). window_of t c (take (length r - k) (drop k r))) (take_rest s at))
+pub two_full : (table : Table) → IsBelowTen table → (s : List ℕ) {first second : Window} → first ≡ window_of table 16 s → first.len ≡ 16
+    → second ≡ window_of table 16 (take (length s - 16) (drop 16 s)) → 16 ≤ second.len → 32 ≤ run_len table s
+two_full table ten s is full next more =
+    let first_full = prefix_len-drop (is_digit table) 16 s (omega (arith, full, (shows ten 16 s is).len_is)) in
+    omega (arith, first_full, (shows_rest ten 16 s 16 next).len_is)
 
 -- ---- The loop that skips zeros
 
 -- Offset `at`, after skipped zeros only.
-pub record IsAfterZeros (t : Table) (skip : Bool) (s : List ℕ) (at : ℕ) : Type 0 where
-  pub bounded : at ≤ zeros t s
+pub record IsAfterZeros (table : Table) (skip : Bool) (s : List ℕ) (at : ℕ) : Type 0 where
+  pub bounded : at ≤ zeros table s
   pub within : at ≤ length s
   pub off : skip ≡ false → at ≡ 0
 
 -- One load for 16 skipped zeros each, and one for fewer at the end.
-pub record LoadsZeros (t : Table) (s : List ℕ) (at before now : ℕ) : Type 0 where
+pub record LoadsZeros (table : Table) (s : List ℕ) (at before now : ℕ) : Type 0 where
   pub most : 16 * now ≤ 16 * before + at + 15
   pub least : at + 16 * before ≤ 16 * now
-  pub offset_is : (16 * now ≡ 16 * before + at) ⊎ ((at ≡ zeros t s) × (zeros t s / 16 < run_len t s / 16))
+  pub offset_is : (16 * now ≡ 16 * before + at) ⊎ ((at ≡ zeros table s) × (zeros table s / 16 < run_len table s / 16))
 
 -- Before a load at offset `at`.
-pub record Skipping (t : Table) (skip : Bool) (s : List ℕ) (at before now : ℕ) : Type 0 where
-  pub place : IsAfterZeros t skip s at
-  pub loads : LoadsZeros t s at before now
+pub record Skipping (table : Table) (skip : Bool) (s : List ℕ) (at before now : ℕ) : Type 0 where
+  pub place : IsAfterZeros table skip s at
+  pub loads : LoadsZeros table s at before now
 
-pub Skipping-none : (t : Table) (skip : Bool) (s : List ℕ) (n : ℕ) → Skipping t skip s 0 n n
-Skipping-none t skip s n = record {
+pub Skipping-none : (table : Table) (skip : Bool) (s : List ℕ) (n : ℕ) → Skipping table skip s 0 n n
+Skipping-none table skip s n = record {
   place = record { bounded = omega arith; within = omega arith; off = λ _. refl };
   loads = record { most = omega arith; least = omega arith; offset_is = inl (omega arith) };
 }
 
 -- After the loop: the last window is at `at`, and if full begins with a significant digit.
-pub record Skipped (t : Table) (skip : Bool) (s : List ℕ) (at before now : ℕ) (w : Window) : Type 0 where
-  pub window : Shows t 16 (drop at s) w
+pub record Skipped (table : Table) (skip : Bool) (s : List ℕ) (at before now : ℕ) (w : Window) : Type 0 where
+  pub window : Shows table 16 (drop at s) w
   pub within : at ≤ length s
   pub off : skip ≡ false → at ≡ 0
-  pub run_is : run_len t s ≡ at + run_len t (drop at s)
-  pub zeros_are : zeros t s ≡ at + zeros t (drop at s)
-  pub value_is : value t (run t s) ≡ value t (run t (drop at s))
-  pub full : skip ≡ true → w.len ≡ 16 → at ≡ zeros t s
+  pub run_is : run_len table s ≡ at + run_len table (drop at s)
+  pub zeros_are : zeros table s ≡ at + zeros table (drop at s)
+  pub value_is : value table (run table s) ≡ value table (run table (drop at s))
+  pub full : skip ≡ true → w.len ≡ 16 → at ≡ zeros table s
   pub last : skip ≡ true → w.zeroes ≡ 0
   pub more : before < now
-  pub most : 16 * now ≤ 16 * before + zeros t s + 31
+  pub most : 16 * now ≤ 16 * before + zeros table s + 31
   pub unskipped : skip ≡ false → now ≤ before + 1
-  pub least : skip ≡ true → zeros t s + 16 * before ≤ 16 * now
-  pub offset_is : skip ≡ true → (at ≡ 16 * (zeros t s / 16)) ⊎ ((at ≡ zeros t s) × (zeros t s / 16 < run_len t s / 16))
+  pub least : skip ≡ true → zeros table s + 16 * before ≤ 16 * now
+  pub offset_is : skip ≡ true → (at ≡ 16 * (zeros table s / 16)) ⊎ ((at ≡ zeros table s) × (zeros table s / 16 < run_len table s / 16))
 
 -- After the loop, `more` windows are loaded.
-pub Skipped-loads : {t : Table} {skip : Bool} {s : List ℕ} {at before now last most unskipped : ℕ} {w : Window} →
-    Skipped t skip s at before now w → (more : ℕ) → last ≡ now + more → zeros t s / 16 + 2 + more ≤ most → 1 + more ≤ unskipped →
-    LoadsWithin most unskipped t skip s before last
+pub Skipped-loads : {table : Table} {skip : Bool} {s : List ℕ} {at before now last most unskipped : ℕ} {w : Window} →
+    Skipped table skip s at before now w → (more : ℕ) → last ≡ now + more → zeros table s / 16 + 2 + more ≤ most → 1 + more ≤ unskipped →
+    LoadsWithin most unskipped table skip s before last
 Skipped-loads after_skip more counted bounded few = record {
   at_most = omega (arith, after_skip.most);
   at_most_unskipped = λ off. omega (arith, after_skip.unskipped off);
@@ -141,49 +144,49 @@ Skipped-loads after_skip more counted bounded few = record {
 }
 
 -- A narrow prefix: one window, and a second to count unskipped digits.
-pub Skipped-one : (t : Table) (skip : Bool) (s : List ℕ) (at before now last : ℕ) {w : Window} → Skipped t skip s at before now w →
-    now ≡ before + 1 → last ≡ now + (if skip || nat_lt (run_len t s) 16 then 0 else 1) → LoadsWithin (most_loads t narrow s) 2 t skip s before last
-Skipped-one t true s at before now last after_skip one counted = record {
+pub Skipped-one : {table : Table} (skip : Bool) {s : List ℕ} {at before now last : ℕ} {w : Window} → Skipped table skip s at before now w →
+    now ≡ before + 1 → last ≡ now + (if skip || nat_lt (run_len table s) 16 then 0 else 1) → LoadsWithin (most_loads table narrow s) 2 table skip s before last
+Skipped-one true after_skip one counted = record {
   at_most = omega arith;
   at_most_unskipped = λ off. absurd (cc off);
   at_least = λ _. omega arith;
   at_least_skipping = λ on. omega (arith, after_skip.least on);
 }
-Skipped-one t false s at before now last after_skip one counted = record {
+Skipped-one false after_skip one counted = record {
   at_most = grind (arith, nat_tests);
   at_most_unskipped = λ _. grind (arith, nat_tests);
   at_least = λ _. grind (arith, nat_tests);
   at_least_skipping = λ on. absurd (cc on);
 }
 
-module _ (t : Table) (ten : IsBelowTen t) where
-  -- A window that reports zeros is full of digits, and the report ends at 16 or at the last zero.
-  zeros_reported : (s : List ℕ) (at : ℕ) (w : Window) → at ≤ zeros t s → w ≡ window_of t 16 (take (length s - at) (drop at s)) → 0 < w.zeroes →
-      (w.zeroes ≡ min 16 (zeros t s - at)) × (at + 16 ≤ run_len t s)
-  zeros_reported s at w bounded e some =
-      let seen : Shows t 16 (drop at s) w = shows_rest t ten 16 s at w e in
-      let zeros_are : zeros t s ≡ at + zeros t (drop at s) = prefix_len-drop (is_zero t) at s bounded in
-      let run_is : run_len t s ≡ at + run_len t (drop at s) = prefix_len-drop (is_digit t) at s (omega (arith, bounded, zeros-le t s)) in
-      let reported : w.zeroes ≡ min 16 (zeros t (drop at s)) = seen.zeroes_of (seen.full some) in
-      (omega arith, omega (arith, seen.full some, seen.len_is))
+-- A window that reports zeros is full of digits, and the report ends at 16 or at the last zero.
+zeros_reported : (table : Table) → IsBelowTen table → (s : List ℕ) (at : ℕ) (w : Window) → at ≤ zeros table s
+    → w ≡ window_of table 16 (take (length s - at) (drop at s)) → 0 < w.zeroes → (w.zeroes ≡ min 16 (zeros table s - at)) × (at + 16 ≤ run_len table s)
+zeros_reported table ten s at w bounded e some =
+    let seen : Shows table 16 (drop at s) w = shows_rest ten 16 s at e in
+    let zeros_are : zeros table s ≡ at + zeros table (drop at s) = prefix_len-drop (is_zero table) at s bounded in
+    let run_is : run_len table s ≡ at + run_len table (drop at s) = prefix_len-drop (is_digit table) at s (omega (arith, bounded, zeros-le table s)) in
+    let reported : w.zeroes ≡ min 16 (zeros table (drop at s)) = seen.zeroes_of (seen.full some) in
+    (omega arith, omega (arith, seen.full some, seen.len_is))
 
+module _ {table : Table} (ten : IsBelowTen table) where
   -- Any of the zeros that a window reports may be skipped ..
-  pub Skipping-place : (skip : Bool) (s : List ℕ) (at after : ℕ) (w : Window) → IsAfterZeros t skip s at →
-      w ≡ window_of t 16 (take (length s - at) (drop at s)) → skip ≡ true → 0 < w.zeroes → after ≤ at + w.zeroes → IsAfterZeros t skip s after
-  Skipping-place skip s at after w place e on some dropped =
-      let reported = zeros_reported s at w place.bounded e some in
+  pub Skipping-place : {skip : Bool} {s : List ℕ} {at after : ℕ} {w : Window} → IsAfterZeros table skip s at →
+      w ≡ window_of table 16 (take (length s - at) (drop at s)) → skip ≡ true → 0 < w.zeroes → after ≤ at + w.zeroes → IsAfterZeros table skip s after
+  Skipping-place {s = s} {at} {w = w} place e on some dropped =
+      let reported = zeros_reported table ten s at w place.bounded e some in
       record {
         bounded = omega (arith, reported.0, place.bounded);
-        within = omega (arith, reported.0, place.bounded, zeros-le t s, prefix_len-le-length (is_digit t) s);
+        within = omega (arith, reported.0, place.bounded, zeros-le table s, prefix_len-le-length (is_digit table) s);
         off = λ h. absurd (false≢true (sym h ∙ on));
       }
 
   -- .. and all of them, for the bound on loads.
-  pub Skipping-loads : (s : List ℕ) (at after before now next : ℕ) (w : Window) → at ≤ zeros t s → LoadsZeros t s at before now →
-      w ≡ window_of t 16 (take (length s - at) (drop at s)) → next ≡ now + 1 → 0 < w.zeroes → after ≡ at + w.zeroes →
-      LoadsZeros t s after before next
-  Skipping-loads s at after before now next w bounded loads e one some dropped =
-      let reported = zeros_reported s at w bounded e some in
+  pub Skipping-loads : {s : List ℕ} {at after before now next : ℕ} {w : Window} → at ≤ zeros table s → LoadsZeros table s at before now →
+      w ≡ window_of table 16 (take (length s - at) (drop at s)) → next ≡ now + 1 → 0 < w.zeroes → after ≡ at + w.zeroes →
+      LoadsZeros table s after before next
+  Skipping-loads {s} {at} {after} {before} {now} {next} {w} bounded loads e one some dropped =
+      let reported = zeros_reported table ten s at w bounded e some in
       let exact : 16 * now ≡ 16 * before + at = elim loads.offset_is [ inl h ↦ h | inr h ↦ absurd (omega (arith, h.0, reported.0)) ] in
       record {
         most = omega (arith, reported.0);
@@ -194,25 +197,25 @@ module _ (t : Table) (ten : IsBelowTen t) where
         ];
       }
 
-  pub Skipped-end : (skip : Bool) (s : List ℕ) (at before now next : ℕ) (w : Window) →
-      Skipping t skip s at before now → w ≡ window_of t 16 (take (length s - at) (drop at s)) → next ≡ now + 1 →
-      (skip ≡ false) ⊎ ((skip ≡ true) × (w.zeroes ≡ 0)) → Skipped t skip s at before next w
-  Skipped-end skip s at before now next w after_skip e one stops =
+  pub Skipped-end : {skip : Bool} {s : List ℕ} {at before now next : ℕ} {w : Window} →
+      Skipping table skip s at before now → w ≡ window_of table 16 (take (length s - at) (drop at s)) → next ≡ now + 1 →
+      (skip ≡ false) ⊎ ((skip ≡ true) × (w.zeroes ≡ 0)) → Skipped table skip s at before next w
+  Skipped-end {skip} {s} {at} {before} {now} {next} {w} after_skip e one stops =
       let last : skip ≡ true → w.zeroes ≡ 0 =
       λ h. elim stops [ inl k ↦ absurd (false≢true (sym k ∙ h)) | inr k ↦ k.1 ] in
-      let seen : Shows t 16 (drop at s) w = shows_rest t ten 16 s at w e in
-      let zeros_are : zeros t s ≡ at + zeros t (drop at s) = prefix_len-drop (is_zero t) at s after_skip.place.bounded in
-      let run_is : run_len t s ≡ at + run_len t (drop at s) = prefix_len-drop (is_digit t) at s (omega (arith, after_skip.place.bounded, zeros-le t s)) in
-      let zero_most : zeros t (drop at s) ≤ run_len t (drop at s) = zeros-le t (drop at s) in
-      let full : skip ≡ true → w.len ≡ 16 → at ≡ zeros t s = λ h k. omega (arith, last h, seen.zeroes_of k) in
-      let short : w.len < 16 → zeros t (drop at s) < 16 = λ h. omega (arith, seen.len_is) in
+      let seen : Shows table 16 (drop at s) w = shows_rest ten 16 s at e in
+      let zeros_are : zeros table s ≡ at + zeros table (drop at s) = prefix_len-drop (is_zero table) at s after_skip.place.bounded in
+      let run_is : run_len table s ≡ at + run_len table (drop at s) = prefix_len-drop (is_digit table) at s (omega (arith, after_skip.place.bounded, zeros-le table s)) in
+      let zero_most : zeros table (drop at s) ≤ run_len table (drop at s) = zeros-le table (drop at s) in
+      let full : skip ≡ true → w.len ≡ 16 → at ≡ zeros table s = λ h k. omega (arith, last h, seen.zeroes_of k) in
+      let short : w.len < 16 → zeros table (drop at s) < 16 = λ h. omega (arith, seen.len_is) in
       record {
         window = seen;
         within = after_skip.place.within;
         off = after_skip.place.off;
         run_is = run_is;
         zeros_are = zeros_are;
-        value_is = value-drop_zeros t at s after_skip.place.bounded;
+        value_is = value-drop_zeros table at s after_skip.place.bounded;
         full = full;
         last = last;
         more = omega (arith, after_skip.loads.least);
@@ -232,43 +235,42 @@ module _ (t : Table) (ten : IsBelowTen t) where
       }
 
   -- After `window_after_zeros`; one load more, for the window before that call.
-  pub Skipped-after_zeros : (s : List ℕ) (at before now : ℕ) (w : Window) →
-      at ≡ (if nat_lt (zeros t s / 16) (run_len t s / 16) then zeros t s else 16 * (zeros t s / 16)) →
-      w ≡ window_of t 16 (drop at s) → w.zeroes ≡ 0 → now ≡ before + (at + 15) / 16 → Skipped t true s at before (now + 1) w
-  Skipped-after_zeros s at before now w offset e none loads =
-      let skipping : Skipping t true s at before now =
+  pub Skipped-after_zeros : (s : List ℕ) {at : ℕ} (before : ℕ) {now : ℕ} {w : Window} →
+      at ≡ (if nat_lt (zeros table s / 16) (run_len table s / 16) then zeros table s else 16 * (zeros table s / 16)) →
+      w ≡ window_of table 16 (drop at s) → w.zeroes ≡ 0 → now ≡ before + (at + 15) / 16 → Skipped table true s at before (now + 1) w
+  Skipped-after_zeros s {at} before {now} {w} offset e none loads =
+      let skipping : Skipping table true s at before now =
       record {
         place = record {
           bounded = grind (arith, nat_tests);
-          within = grind (arith, nat_tests, zeros-le t s, prefix_len-le-length (is_digit t) s);
+          within = grind (arith, nat_tests, zeros-le table s, prefix_len-le-length (is_digit table) s);
           off = λ h. absurd (cc h);
         };
         loads = record { most = omega arith; least = omega arith; offset_is = grind (arith, nat_tests) };
       } in
-      Skipped-end true s at before now (now + 1) w skipping (e ∙ ap (window_of t 16) (sym (take_rest s at))) refl (inr (refl, none))
+      Skipped-end skipping (e ∙ ap (window_of table 16) (sym (take_rest s at))) refl (inr (refl, none))
 
-  pub Skipping-first_window : (s : List ℕ) (n zeroes : ℕ) → zeroes ≡ (window_of t 16 s).zeroes → 0 < zeroes →
-      Skipping t true s zeroes n (n + 1)
-  Skipping-first_window s n zeroes e some =
-      let w : Window = window_of t 16 s in
-      let start : Skipping t true s 0 n n = Skipping-none t true s n in
-      let read : w ≡ window_of t 16 (take (length s - 0) (drop 0 s)) = ap (window_of t 16) (sym (take_rest s 0)) in
+  pub Skipping-first_window : (s : List ℕ) (n reported : ℕ) → reported ≡ (window_of table 16 s).zeroes → 0 < reported →
+      Skipping table true s reported n (n + 1)
+  Skipping-first_window s n reported e some =
+      let w : Window = window_of table 16 s in
+      let start : Skipping table true s 0 n n = Skipping-none table true s n in
+      let read : w ≡ window_of table 16 (take (length s - 0) (drop 0 s)) = ap (window_of table 16) (sym (take_rest s 0)) in
       record {
-        place = Skipping-place true s 0 zeroes w start.place read refl (omega arith) (omega arith);
-        loads = Skipping-loads s 0 zeroes n n (n + 1) w start.place.bounded start.loads read refl (omega arith) (omega arith);
+        place = Skipping-place start.place read refl (omega arith) (omega arith);
+        loads = Skipping-loads start.place.bounded start.loads read refl (omega arith) (omega arith);
       }
 
-  pub Skipped-at_once : (skip : Bool) (s : List ℕ) (before next : ℕ) (w : Window) →
-      w ≡ window_of t 16 s → next ≡ before + 1 → (skip ≡ false) ⊎ ((skip ≡ true) × (w.zeroes ≡ 0)) → Skipped t skip s 0 before next w
-  Skipped-at_once skip s before next w e one stops =
-      Skipped-end skip s 0 before before next w (Skipping-none t skip s before)
-      (e ∙ ap (window_of t 16) (sym (take_rest s 0))) one stops
+  pub Skipped-at_once : (skip : Bool) (s : List ℕ) {before next : ℕ} {w : Window} →
+      w ≡ window_of table 16 s → next ≡ before + 1 → (skip ≡ false) ⊎ ((skip ≡ true) × (w.zeroes ≡ 0)) → Skipped table skip s 0 before next w
+  Skipped-at_once skip s {before} e one stops =
+      Skipped-end (Skipping-none table skip s before) (e ∙ ap (window_of table 16) (sym (take_rest s 0))) one stops
 
   -- A first window that is not full reports no zeros.
-  pub Skipped-first : (skip : Bool) (s : List ℕ) (before next : ℕ) (w : Window) →
-      w ≡ window_of t 16 s → next ≡ before + 1 → w.len < 16 → Skipped t skip s 0 before next w
-  Skipped-first skip s before next w e one short =
-      let seen : Shows t 16 s w = shows t ten 16 s w e in
+  pub Skipped-first : (skip : Bool) (s : List ℕ) {before next : ℕ} {w : Window} →
+      w ≡ window_of table 16 s → next ≡ before + 1 → w.len < 16 → Skipped table skip s 0 before next w
+  Skipped-first skip s {w = w} e one short =
+      let seen : Shows table 16 s w = shows ten 16 s e in
       let none : w.zeroes ≡ 0 = elim (cases_lt 0 w.zeroes) [ inl h ↦ absurd (omega (arith, seen.full h)) | inr h ↦ omega arith ] in
       let stops = elim skip as (λ b. (b ≡ false) ⊎ ((b ≡ true) × (w.zeroes ≡ 0))) [ true ↦ inr (refl, none) | false ↦ inl refl ] in
-      Skipped-at_once skip s before next w e one stops
+      Skipped-at_once skip s e one stops

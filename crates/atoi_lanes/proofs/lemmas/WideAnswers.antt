@@ -29,7 +29,7 @@ pub only_window : (skip : Bool) (s : List ℕ) (len leading number : ℕ) → Re
     → (skip ≡ true → 32 ≤ len → leading ≡ 0) → ReadsAfterZeros skip s 0 len leading number × (skip ≡ true → zeros decimal_table s < 32)
 only_window skip s len leading number reading ends =
     let reported : leading ≡ min 32 (zeros decimal_table s - 0) = reading.leading_are ∙ zeros_left decimal_table 32 s 0 (omega arith) in
-    let most = within decimal_table 32 s len leading number reading in (
+    let most = within reading in (
       record { skipped = record { zeros_only = omega arith; asked = λ _. refl }; reading = reading; within = omega (arith, most.1); ends = ends },
       λ on. elim (cases_lt len 32) [ inl less ↦ omega (arith, most.0, reported) | inr more ↦ omega (arith, ends on more, reported) ],
     )
@@ -53,14 +53,14 @@ pub decided_64 : (bound limit : ℕ) (skip : Bool) (s : List ℕ) (at leading : 
     → ReadsAfterZeros skip s at w.len w.zeroes w.number → ((skip ≡ true) × (leading ≡ w.zeroes)) ⊎ ((skip ≡ false) × (leading ≡ 0))
     → answer_by_digits wide64 bound limit (at + leading) (w.len - leading) w.number s ≡ prefix_magnitude decimal_table wide64 bound limit skip s
 decided_64 bound limit skip s at leading w few front is =
-    let most = within decimal_table 32 (drop at s) w.len w.zeroes w.number front.reading in
+    let most = within front.reading in
     let count = significant_are skip w.len w.zeroes leading most.0 is in
     let enough : (w.len < 32) ⊎ (24 ≤ significant_digits skip w.len w.zeroes) =
     elim (cases_lt w.len 32) [
       | inl h ↦ inl h
       | inr h ↦ inr (elim is [ inl k ↦ omega (arith, k, front.ends k.0 h, count.0) | inr k ↦ omega (arith, k, count.0) ])
     ] in
-    sym (decided decimal_table wide64 bound limit (omega arith) skip s at 32 w.len w.zeroes w.number front.skipped front.reading enough
+    sym (decided wide64 bound limit (omega arith) front.skipped front.reading enough
     ∙ ap (λ (n : ℕ). answer_by_digits wide64 bound limit (at + n) (significant_digits skip w.len w.zeroes) w.number s) count.1
     ∙ ap (λ (n : ℕ). answer_by_digits wide64 bound limit (at + leading) n w.number s) count.0)
 
@@ -75,17 +75,17 @@ decided_full bound skip s at w back after_skip full reported =
     let body : List ℕ = drop at s in
     let others : ℕ = zeros t (take 8 (drop 32 body)) in
     let number : ℕ = w.number * 10 ^ back.len + back.number in
-    let most = within t 32 body w.len w.zeroes w.number after_skip.reading in
+    let most = within after_skip.reading in
     let len : w.len ≡ 32 = omega (arith, most.1) in
     let front : Reading t 32 body 32 w.zeroes w.number = let P : ℕ → Type 0 = λ n. Reading t 32 body n w.zeroes w.number in subst P len after_skip.reading in
     let following : Reading t 8 (drop 32 body) back.len others back.number =
     record { digits_are = ap (λ v. v.len) e; leading_are = refl; number_is = ap (λ v. v.number) e } in
-    let few : back.len ≤ 8 = omega (arith, (within t 8 (drop 32 body) back.len others back.number following).1) in
+    let few : back.len ≤ 8 = omega (arith, (within following).1) in
     let leading : ℕ = cond (eqb w.zeroes 32) (32 + others) w.zeroes in
-    let both : Reading t 40 body (32 + back.len) leading number = join_readings t 32 8 body w.zeroes w.number back.len others back.number front following in
+    let both : Reading t 40 body (32 + back.len) leading number = join_readings front following in
     let none : skip ≡ true → leading ≡ 0 = λ on. let first : w.zeroes ≡ 0 = after_skip.ends on full in rw first refl in (
       few,
-      below t decimal_below_ten 40 body (32 + back.len) leading number both,
-      omega (arith, after_skip.within, within t 40 body (32 + back.len) leading number both, length-drop at s),
-      sym (all_decide t wide128 bound 39 (lit< tt) skip s at (32 + back.len) leading number after_skip.skipped both none),
+      below both decimal_below_ten,
+      omega (arith, after_skip.within, within both, length-drop at s),
+      sym (all_decide wide128 bound 39 (lit< tt) after_skip.skipped both none),
     )

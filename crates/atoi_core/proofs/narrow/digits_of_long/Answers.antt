@@ -9,12 +9,12 @@ use Rattle.atoi_core.proofs.narrow.digits_of_long.Goals.{After-window-window}
 first : (g : _) (c : After-window-window g) → c.window-window.result.zeroes ≡ 0
     → Skipped g.E.Engine.table true c.args.s.now 0 c.args.steps.now c.window-window.new.steps c.window-window.result
 first g c none =
-    Skipped-at_once g.E.Engine.table g.met.E.Engine.below_ten true c.args.s.now _ _ c.window-window.result
+    Skipped-at_once g.met.E.Engine.below_ten true c.args.s.now
     c.window-window.ensures.window c.window-window.ensures.one_step (inr (refl, none))
 
 pub returns-then-window-eq0-clause-decides : goal.returns-then-window-eq0-clause-decides
 returns-then-window-eq0-clause-decides g c =
-    narrow_decides _ _ 0 _ _ _ _ (first g (goal.at.returns-then-window-eq0-clause-decides g c).After-window-window c.if-window-eq0.true) (omega arith)
+    narrow_decides (first g (goal.at.returns-then-window-eq0-clause-decides g c).After-window-window c.if-window-eq0.true) (omega arith)
 
 pub returns-then-window-eq0-clause-loads : goal.returns-then-window-eq0-clause-loads
 returns-then-window-eq0-clause-loads g c =
@@ -23,4 +23,4 @@ returns-then-window-eq0-clause-loads g c =
 pub returns-clause-decides : goal.returns-clause-decides
 returns-clause-decides g c =
     let e = c.window_after_zeros-at.ensures in
-    narrow_decides _ _ _ _ _ _ _ (Skipped-after_zeros _ g.met.E.Engine.below_ten c.args.s.now _ c.window-window.new.steps _ _ e.offset e.window e.no_zeros e.loads) refl
+    narrow_decides (Skipped-after_zeros g.met.E.Engine.below_ten c.args.s.now c.window-window.new.steps e.offset e.window e.no_zeros e.loads) refl

@@ -12,9 +12,9 @@ use Rattle.atoi_core.proofs.narrow.narrow_prefix.Goals.{After-answer_at, else-wi
 
 pub returns-then-window-eq0-clause-answer : goal.returns-then-window-eq0-clause-answer
 returns-then-window-eq0-clause-answer g c =
-    let after_skip = Skipped-first g.E.Engine.table g.met.E.Engine.below_ten c.args.skip c.args.s.now _ _ c.window-window.result
+    let after_skip = Skipped-first g.met.E.Engine.below_ten c.args.skip c.args.s.now
     c.window-window.ensures.window c.window-window.ensures.one_step (omega arith) in
-    answers_empty _ _ _ _ _ _ _ _ _ _ after_skip (omega arith)
+    answers_empty _ _ _ after_skip (omega arith)
 
 -- Not skipped and not too long: at most 16 digits.
 few : (skip : Bool) (digits : ℕ) → false ≡ (not skip && nat_lt 16 digits) → skip ≡ false → digits ≤ 16
@@ -38,16 +38,16 @@ second g c =
 last : (g : _) (c : After-answer_at g)
     → Skipped g.E.Engine.table c.args.skip c.args.s.now 0 c.args.steps.now c.window-window.new.steps c.window-window.result
 last g c =
-    Skipped-at_once g.E.Engine.table g.met.E.Engine.below_ten c.args.skip c.args.s.now _ _ c.window-window.result
+    Skipped-at_once g.met.E.Engine.below_ten c.args.skip c.args.s.now
     c.window-window.ensures.window c.window-window.ensures.one_step
     (elim c.else-skip.either [ inl h ↦ inr (h.0, omega (arith, h.1)) | inr h ↦ inl h ])
 
 pub returns-else-window-eq16-clause-answer : goal.returns-else-window-eq16-clause-answer
 returns-else-window-eq16-clause-answer g c =
-    c.answer_at.ensures ∙ narrow_after_skip _ _ _ _ _ _ _ (last g c) (second g c).1 _ _ c.requires.high (omega arith)
+    c.answer_at.ensures ∙ narrow_after_skip (last g c) (second g c).1 _ _ c.requires.high (omega arith)
 
 pub returns-else-window-eq16-clause-loads : goal.returns-else-window-eq16-clause-loads
-returns-else-window-eq16-clause-loads g c = Skipped-one _ _ _ _ _ _ _ (last g c) c.window-window.ensures.one_step (second g c).0
+returns-else-window-eq16-clause-loads g c = Skipped-one c.args.skip (last g c) c.window-window.ensures.one_step (second g c).0
 
 pub returns-else-window-eq16-clause-unskipped : goal.returns-else-window-eq16-clause-unskipped
 returns-else-window-eq16-clause-unskipped g c = λ off. grind (arith, nat_tests, (second g c).0, c.window-window.ensures.one_step, off)

@@ -8,5 +8,5 @@ pub returns-clause-answer : goal.returns-clause-answer
 returns-clause-answer g c =
     let e = c.window_after_zeros-at.ensures in
     c.answer_at.ensures
-    ∙ narrow_after_skip _ _ _ _ _ _ _ (Skipped-after_zeros _ g.met.E.Engine.below_ten c.args.s.now _ c.args.steps.now _ _ e.offset e.window e.no_zeros e.loads)
+    ∙ narrow_after_skip (Skipped-after_zeros g.met.E.Engine.below_ten c.args.s.now c.args.steps.now e.offset e.window e.no_zeros e.loads)
     (λ no. absurd (cc no)) _ _ c.requires.high (omega (arith, e.some))

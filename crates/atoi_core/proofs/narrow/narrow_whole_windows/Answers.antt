@@ -12,12 +12,13 @@ first : (g : _) (c : After-decide g)
     → Skipped g.E.Engine.table true c.args.s.now 0 c.args.steps.now c.window-window.new.steps c.window-window.result
 first g c =
     let e = c.window-window.ensures in
+    let seen = shows g.met.E.Engine.below_ten 16 c.args.s.now e.window in
     let few : c.window-window.result.len < 16 =
-    omega (arith, (shows _ g.met.E.Engine.below_ten 16 c.args.s.now c.window-window.result e.window).len_is, prefix_len-le-length (is_digit g.E.Engine.table) c.args.s.now, c.if-s-le8.true) in
-    Skipped-first g.E.Engine.table g.met.E.Engine.below_ten true c.args.s.now _ _ c.window-window.result e.window e.one_step few
+    omega (arith, seen.len_is, prefix_len-le-length (is_digit g.E.Engine.table) c.args.s.now, c.if-s-le8.true) in
+    Skipped-first g.met.E.Engine.below_ten true c.args.s.now e.window e.one_step few
 
 pub returns-then-s-le8-clause-answer : goal.returns-then-s-le8-clause-answer
-returns-then-s-le8-clause-answer g c = c.decide.ensures ∙ narrow_decides _ _ 0 _ _ _ _ (first g c) (omega arith) c.args.bound c.requires.high
+returns-then-s-le8-clause-answer g c = c.decide.ensures ∙ narrow_decides (first g c) (omega arith) c.args.bound c.requires.high
 
 pub returns-then-s-le8-clause-loads : goal.returns-then-s-le8-clause-loads
 returns-then-s-le8-clause-loads g c = Skipped-loads (first g c) 0 (omega arith) (omega arith) (omega arith)

@@ -6,20 +6,20 @@ use Rattle.atoi_core.proofs.window_loops.window_after_zeros.Goals as goal
 
 pub loop-window-init : goal.loop-window-init
 loop-window-init g c =
-    (Skipping-first_window _ g.met.E.Engine.below_ten c.args.s.now _ _ c.requires.first_window c.requires.some, c.requires.some)
+    (Skipping-first_window g.met.E.Engine.below_ten c.args.s.now _ _ c.requires.first_window c.requires.some, c.requires.some)
 
 pub loop-window-preserved : goal.loop-window-preserved
 loop-window-preserved g c =
     let before = c.loop-window.invariant.0 in (
       record {
-        place = Skipping-place _ g.met.E.Engine.below_ten true _ _ _ _ before.place c.window-window.ensures.window refl (omega arith) (omega arith);
-        loads = Skipping-loads _ g.met.E.Engine.below_ten _ _ _ _ _ (c.window-window.new.steps + 1) _ before.place.bounded before.loads c.window-window.ensures.window (omega arith) (omega arith) refl;
+        place = Skipping-place g.met.E.Engine.below_ten before.place c.window-window.ensures.window refl (omega arith) (omega arith);
+        loads = Skipping-loads g.met.E.Engine.below_ten before.place.bounded before.loads c.window-window.ensures.window (omega arith) (omega arith) refl;
       },
       omega (arith, c.loop-window.invariant.1),
     )
 
 pub returns-then-window-eq0-clause-offset : goal.returns-then-window-eq0-clause-offset
 returns-then-window-eq0-clause-offset g c =
-    let after_skip = Skipped-end _ g.met.E.Engine.below_ten true c.args.s.now _ _ _ (c.window-window.new.steps + 1) c.window-window.result
+    let after_skip = Skipped-end g.met.E.Engine.below_ten {next = c.window-window.new.steps + 1}
     c.loop-window.invariant.0 c.window-window.ensures.window (omega arith) (inr (refl, c.if-window-eq0.true)) in
-    sym (dropped_is _ true 0 _ _ _ _ _ after_skip)
+    sym (dropped_is true 0 after_skip)

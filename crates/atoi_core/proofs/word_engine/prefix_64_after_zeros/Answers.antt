@@ -15,12 +15,12 @@ ended : (c : After-window_after_zeros-at)
     → Skipped decimal_table true c.args.s.now c.window_after_zeros-at.result.0 c.args.steps.now (c.window_after_zeros-at.new.steps + 1) c.window_after_zeros-at.result.1
 ended c =
     let e = c.window_after_zeros-at.ensures in
-    Skipped-after_zeros decimal_table decimal_below_ten c.args.s.now _ _ _ _ e.offset e.window e.no_zeros e.loads
+    Skipped-after_zeros decimal_below_ten c.args.s.now c.args.steps.now e.offset e.window e.no_zeros e.loads
 
 pub returns-then-first-lt16-clause-answer : goal.returns-then-first-lt16-clause-answer
 returns-then-first-lt16-clause-answer c =
     let after_skip = ended (goal.at.returns-then-first-lt16-clause-answer c).After-window_after_zeros-at in
-    answers_short _ _ _ _ _ _ _ _ _ _ _ _ (omega arith) after_skip c.if-first-lt16.true (omega (arith, c.window_after_zeros-at.ensures.some)) (omega arith) c.requires.digits refl refl
+    answers_short _ _ _ (omega arith) after_skip c.if-first-lt16.true (omega (arith, c.window_after_zeros-at.ensures.some)) (omega arith) c.requires.digits refl refl
 
 pub window_after_16-back-requires : goal.window_after_16-back-requires
 window_after_16-back-requires c =
@@ -32,7 +32,7 @@ window_after_16-back-requires c =
 -- The window of the eight bytes after the last window of the loop.
 following : (c : After-window_after_16-back) → Shows decimal_table 8 (drop 16 (drop c.window_after_zeros-at.result.0 c.args.s.now)) c.window_after_16-back.result
 following c =
-    shows decimal_table decimal_below_ten 8 (drop 16 (drop c.window_after_zeros-at.result.0 c.args.s.now)) c.window_after_16-back.result
+    shows decimal_below_ten 8 (drop 16 (drop c.window_after_zeros-at.result.0 c.args.s.now))
     (c.window_after_16-back.ensures.window ∙ ap (λ (r : List ℕ). window_of decimal_table 8 (drop 16 r)) (take_rest c.args.s.now c.window_after_zeros-at.result.0))
 
 pub append_digits-number-requires : goal.append_digits-number-requires
@@ -45,11 +45,11 @@ pub answer_64-requires : goal.answer_64-requires
 answer_64-requires c =
     let back = following (goal.at.answer_64-requires c).After-window_after_16-back in
     let after_skip = ended (goal.at.answer_64-requires c).After-window_after_zeros-at in
-    record { inside = (answers_64 decimal_table c.args.bound c.args.limit true c.args.s.now _ _ _ _ _ (omega arith) after_skip c.if-first-lt16.false back).0 }
+    record { inside = (answers_64 c.args.bound c.args.limit (omega arith) after_skip c.if-first-lt16.false back).0 }
 
 pub returns-clause-answer : goal.returns-clause-answer
 returns-clause-answer c =
     let back = following (goal.at.returns-clause-answer c).After-window_after_16-back in
     let after_skip = ended (goal.at.returns-clause-answer c).After-window_after_zeros-at in
     rw c.append_digits-number.ensures at c.answer_64.ensures
-    ∙ (answers_64 decimal_table c.args.bound c.args.limit true c.args.s.now _ _ _ _ _ (omega arith) after_skip c.if-first-lt16.false back).1
+    ∙ (answers_64 c.args.bound c.args.limit (omega arith) after_skip c.if-first-lt16.false back).1

@@ -1,7 +1,6 @@
 -- The last window decides the answer.
 use Rattle.std.proofs.Common.{◌≡◌, ◌⊎◌, true, false, ◌∙◌, inl, inr, arith}
 use Rattle.atoi_core.proofs.lemmas.Readings.{within}
-use Rattle.atoi_core.specs.Digit.{decimal_table}
 use Rattle.atoi_lanes.proofs.lemmas.WideAnswers.{decided_64}
 use Rattle.atoi_lanes.proofs.wide_lanes.answer_from_window_64.Goals as goal
 use Rattle.atoi_lanes.proofs.wide_lanes.answer_from_window_64.Goals.{then-skip, else-skip}
@@ -9,7 +8,7 @@ use Rattle.atoi_lanes.proofs.wide_lanes.answer_from_window_64.Goals.{then-skip, 
 pub overflow_sub-significant : goal.overflow_sub-significant
 overflow_sub-significant c =
     let w = c.args.reached.window in
-    let most = within decimal_table 32 _ w.len w.zeroes w.number c.requires.reached.reading in
+    let most = within c.requires.reached.reading in
     elim c.if-skip.branch [ then-skip k ↦ omega (arith, most.0, k.leading-is) | else-skip k ↦ omega (arith, k.leading-is) ]
 
 pub answer_64-requires : goal.answer_64-requires

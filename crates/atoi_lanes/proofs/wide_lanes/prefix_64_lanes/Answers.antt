@@ -11,7 +11,7 @@ pub answer_short_64-requires-clause-reached : goal.answer_short_64-requires-clau
 answer_short_64-requires-clause-reached c =
     let few = c.if-s-lt16.true in
     let reading = reading-of_few c.args.s.now c.window-only.result few c.window-only.ensures.window in
-    let most = within decimal_table 32 _ _ _ _ reading in
+    let most = within reading in
     rw c.from.ensures (only_window c.args.skip _ _ _ _ reading (λ _ full. absurd (omega (arith, most.1)))).0
 
 pub returns-then-s-lt16-clause-loads : goal.returns-then-s-lt16-clause-loads
@@ -34,13 +34,13 @@ pub answer_from_window_64-requires-clause-reached : goal.answer_from_window_64-r
 answer_from_window_64-requires-clause-reached c =
     let w = c.window_32-first.result in
     let reading = c.window_32-first.ensures.reading in
-    let most = within decimal_table 32 _ w.len w.zeroes w.number reading in
+    let most = within reading in
     (only_window _ _ _ _ _ reading (first-ends c.args.skip w.len w.zeroes (omega (arith, most.1)) c.else-skip.either)).0
 
 pub returns-clause-loads : goal.returns-clause-loads
 returns-clause-loads c =
     let w = c.window_32-first.result in
     let first = c.window_32-first.ensures in
-    let most = within decimal_table 32 _ w.len w.zeroes w.number first.reading in
+    let most = within first.reading in
     let ends = first-ends c.args.skip w.len w.zeroes (omega (arith, most.1)) c.else-skip.either in
     few_loads _ 1 _ _ _ _ (omega (arith, first.one_step)) (omega (arith, first.one_step)) (omega arith) (only_window _ _ _ _ _ first.reading ends).1

@@ -32,7 +32,7 @@ returns-then-window-eq0-clause-reached c =
     let s = c.args.s.now in
     let w = c.window_32-window.result in
     let reading = rw take_rest at c.window_32-window.ensures.reading in
-    let most = within decimal_table 32 _ w.len w.zeroes w.number reading in
+    let most = within reading in
     let skipped : c.loop-window.at ≤ zeros decimal_table s = omega (arith, c.loop-window.invariant.loads) in
     record {
       skipped = record { zeros_only = skipped; asked = λ off. absurd (cc) };
@@ -47,6 +47,6 @@ returns-then-window-eq0-clause-least c =
     let skipped : c.loop-window.at ≤ zeros decimal_table c.args.s.now = omega (arith, c.loop-window.invariant.loads) in
     let reading = rw take_rest at c.window_32-window.ensures.reading in
     let left = reading.leading_are ∙ zeros_left decimal_table 32 c.args.s.now c.loop-window.at skipped in
-    let most = within decimal_table 32 _ w.len w.zeroes w.number reading in
+    let most = within reading in
     let few : w.zeroes < 32 = elim c.then-window-eq0.either [ inl none ↦ omega (arith, none) | inr short ↦ omega (arith, most.0, short) ] in
     omega (arith, left, few, c.loop-window.invariant.loads, c.window_32-window.ensures.one_step)

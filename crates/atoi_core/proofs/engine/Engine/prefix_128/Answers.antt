@@ -19,22 +19,23 @@ pub loop-window-preserved : goal.loop-window-preserved
 loop-window-preserved g c =
     let before = c.loop-window.invariant in
     record {
-      place = Skipping-place _ g.met.Self.Engine.below_ten _ _ _ _ _ before.place c.window-window.ensures.window c.if-not-skip.false (omega arith) (omega arith);
-      loads = Skipping-loads _ g.met.Self.Engine.below_ten _ _ _ _ _ _ _ before.place.bounded before.loads c.window-window.ensures.window c.window-window.ensures.one_step (omega arith) refl;
+      place = Skipping-place g.met.Self.Engine.below_ten before.place c.window-window.ensures.window c.if-not-skip.false (omega arith) (omega arith);
+      loads = Skipping-loads g.met.Self.Engine.below_ten before.place.bounded before.loads
+          c.window-window.ensures.window c.window-window.ensures.one_step (omega arith) refl;
     }
 
 pub returns-then-len-eq0-clause-answer : goal.returns-then-len-eq0-clause-answer
 returns-then-len-eq0-clause-answer g c =
-    let after_skip = Skipped-end _ g.met.Self.Engine.below_ten _ _ _ _ _ _ c.window-window.result
-    c.loop-window.invariant c.window-window.ensures.window c.window-window.ensures.one_step c.then-not-skip.either in
-    answers_empty _ _ _ _ _ _ _ _ _ _ after_skip c.if-len-eq0.true
+    let after_skip = Skipped-end g.met.Self.Engine.below_ten c.loop-window.invariant
+    c.window-window.ensures.window c.window-window.ensures.one_step c.then-not-skip.either in
+    answers_empty _ _ _ after_skip c.if-len-eq0.true
 
 pub returns-else-len-eq0 : goal.returns-else-len-eq0
 returns-else-len-eq0 g c =
-    let after_skip = Skipped-end _ g.met.Self.Engine.below_ten _ _ _ _ _ _ c.window-window.result
-    c.loop-window.invariant c.window-window.ensures.window c.window-window.ensures.one_step c.then-not-skip.either in
+    let after_skip = Skipped-end g.met.Self.Engine.below_ten c.loop-window.invariant
+    c.window-window.ensures.window c.window-window.ensures.one_step c.then-not-skip.either in
     record {
-      answer = answers_short _ _ _ _ _ _ _ _ _ _ _ _ (lit< tt) after_skip c.if-first-lt16.true (omega arith) (lit< tt) c.requires.digits c.from.ensures refl;
+      answer = answers_short _ _ _ (lit< tt) after_skip c.if-first-lt16.true (omega arith) (lit< tt) c.requires.digits c.from.ensures refl;
       loads = Skipped-loads after_skip 0 (omega arith) (omega arith) (omega arith);
     }
 
@@ -42,22 +43,22 @@ returns-else-len-eq0 g c =
 ended : (g : _) (c : After-window-second g)
     → Skipped g.Self.Engine.table c.args.skip c.args.s.now c.loop-window.at c.args.steps.now c.window-window.new.steps c.window-window.result
 ended g c =
-    Skipped-end _ g.met.Self.Engine.below_ten _ _ _ _ _ _ c.window-window.result
-    c.loop-window.invariant c.window-window.ensures.window c.window-window.ensures.one_step c.then-not-skip.either
+    Skipped-end g.met.Self.Engine.below_ten c.loop-window.invariant
+    c.window-window.ensures.window c.window-window.ensures.one_step c.then-not-skip.either
 
 middle : (g : _) (c : After-window-second g) → Shows g.Self.Engine.table 16 (drop 16 (drop c.loop-window.at c.args.s.now)) c.window-second.result
 middle g c =
-    shows_following g.Self.Engine.table g.met.Self.Engine.below_ten 16 16 c.args.s.now c.loop-window.at c.window-second.result c.window-second.ensures.window
+    shows_following g.met.Self.Engine.below_ten 16 16 c.args.s.now c.loop-window.at c.window-second.ensures.window
 
 third : (g : _) (c : After-window_8-third g) → Shows g.Self.Engine.table 8 (drop 32 (drop c.loop-window.at c.args.s.now)) c.window_8-third.result
 third g c =
-    shows_following g.Self.Engine.table g.met.Self.Engine.below_ten 8 32 c.args.s.now c.loop-window.at c.window_8-third.result c.window_8-third.ensures.window
+    shows_following g.met.Self.Engine.below_ten 8 32 c.args.s.now c.loop-window.at c.window_8-third.ensures.window
 
 pub returns-then-second-lt16 : goal.returns-then-second-lt16
 returns-then-second-lt16 g c =
     let two = (goal.at.returns-then-second-lt16 g c).After-window-second in
     record {
-      answer = answers_two _ g.met.Self.Engine.below_ten _ _ _ _ _ _ _ _ _ _ (ended g two) c.if-first-lt16.false (middle g two) c.if-second-lt16.true c.requires.digits (cc) (omega arith);
+      answer = answers_two g.met.Self.Engine.below_ten _ (ended g two) c.if-first-lt16.false (middle g two) c.if-second-lt16.true c.requires.digits (cc) (omega arith);
       loads = Skipped-loads (ended g two) 1 (omega (arith, c.window-second.ensures.one_step)) (omega arith) (omega arith);
     }
 
@@ -83,7 +84,7 @@ answer_128-requires g c =
     let at = goal.at.answer_128-requires g c in
     let two = at.After-window-second in
     let back = third g at.After-window_8-third in
-    let all = answers_128 _ g.met.Self.Engine.below_ten c.args.bound _ _ _ _ _ _ _ _ (ended g two) c.if-first-lt16.false (middle g two) c.if-second-lt16.false back in
+    let all = answers_128 g.met.Self.Engine.below_ten c.args.bound (ended g two) c.if-first-lt16.false (middle g two) c.if-second-lt16.false back in
     record {
       digits = c.requires.digits;
       few = omega (arith, back.len_is);
@@ -96,8 +97,8 @@ returns g c =
     let at = goal.at.returns g c in
     let two = at.After-window-second in
     let back = third g at.After-window_8-third in
+    let all = answers_128 g.met.Self.Engine.below_ten c.args.bound (ended g two) c.if-first-lt16.false (middle g two) c.if-second-lt16.false back in
     record {
-      answer = rw c.append_digits-high.ensures at c.answer_128.ensures
-          ∙ (answers_128 _ g.met.Self.Engine.below_ten c.args.bound _ _ _ _ _ _ _ _ (ended g two) c.if-first-lt16.false (middle g two) c.if-second-lt16.false back).2;
+      answer = rw c.append_digits-high.ensures at c.answer_128.ensures ∙ all.2;
       loads = Skipped-loads (ended g two) 2 (omega (arith, c.window-second.ensures.one_step, c.window_8-third.ensures.one_step)) (omega arith) (omega arith);
     }

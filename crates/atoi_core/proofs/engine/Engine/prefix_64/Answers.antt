@@ -17,22 +17,23 @@ pub loop-window-preserved : goal.loop-window-preserved
 loop-window-preserved g c =
     let before = c.loop-window.invariant in
     record {
-      place = Skipping-place _ g.met.Self.Engine.below_ten _ _ _ _ _ before.place c.window-window.ensures.window c.if-not-skip.false (omega arith) (omega arith);
-      loads = Skipping-loads _ g.met.Self.Engine.below_ten _ _ _ _ _ _ _ before.place.bounded before.loads c.window-window.ensures.window c.window-window.ensures.one_step (omega arith) refl;
+      place = Skipping-place g.met.Self.Engine.below_ten before.place c.window-window.ensures.window c.if-not-skip.false (omega arith) (omega arith);
+      loads = Skipping-loads g.met.Self.Engine.below_ten before.place.bounded before.loads
+          c.window-window.ensures.window c.window-window.ensures.one_step (omega arith) refl;
     }
 
 pub returns-then-len-eq0-clause-answer : goal.returns-then-len-eq0-clause-answer
 returns-then-len-eq0-clause-answer g c =
-    let after_skip = Skipped-end _ g.met.Self.Engine.below_ten _ _ _ _ _ _ c.window-window.result
-    c.loop-window.invariant c.window-window.ensures.window c.window-window.ensures.one_step c.then-not-skip.either in
-    answers_empty _ _ _ _ _ _ _ _ _ _ after_skip c.if-len-eq0.true
+    let after_skip = Skipped-end g.met.Self.Engine.below_ten c.loop-window.invariant
+    c.window-window.ensures.window c.window-window.ensures.one_step c.then-not-skip.either in
+    answers_empty _ _ _ after_skip c.if-len-eq0.true
 
 pub returns-else-len-eq0 : goal.returns-else-len-eq0
 returns-else-len-eq0 g c =
-    let after_skip = Skipped-end _ g.met.Self.Engine.below_ten _ _ _ _ _ _ c.window-window.result
-    c.loop-window.invariant c.window-window.ensures.window c.window-window.ensures.one_step c.then-not-skip.either in
+    let after_skip = Skipped-end g.met.Self.Engine.below_ten c.loop-window.invariant
+    c.window-window.ensures.window c.window-window.ensures.one_step c.then-not-skip.either in
     record {
-      answer = answers_short _ _ _ _ _ _ _ _ _ _ _ _ (omega arith) after_skip c.if-first-lt16.true (omega arith) (omega arith) c.requires.digits refl refl;
+      answer = answers_short _ _ _ (omega arith) after_skip c.if-first-lt16.true (omega arith) (omega arith) c.requires.digits refl refl;
       loads = Skipped-loads after_skip 0 (omega arith) (omega arith) (omega arith);
     }
 
@@ -40,18 +41,20 @@ returns-else-len-eq0 g c =
 ended : (g : _) (c : After-window_8-second g)
     → Skipped g.Self.Engine.table c.args.skip c.args.s.now c.loop-window.at c.args.steps.now c.window-window.new.steps c.window-window.result
 ended g c =
-    Skipped-end _ g.met.Self.Engine.below_ten _ _ _ _ _ _ c.window-window.result
-    c.loop-window.invariant c.window-window.ensures.window c.window-window.ensures.one_step c.then-not-skip.either
+    Skipped-end g.met.Self.Engine.below_ten c.loop-window.invariant
+    c.window-window.ensures.window c.window-window.ensures.one_step c.then-not-skip.either
 
 following : (g : _) (c : After-window_8-second g) → Shows g.Self.Engine.table 8 (drop 16 (drop c.loop-window.at c.args.s.now)) c.window_8-second.result
 following g c =
-    shows_following g.Self.Engine.table g.met.Self.Engine.below_ten 8 16 c.args.s.now c.loop-window.at c.window_8-second.result c.window_8-second.ensures.window
+    shows_following g.met.Self.Engine.below_ten 8 16 c.args.s.now c.loop-window.at c.window_8-second.ensures.window
 
 decided : (g : _) (c : After-window_8-second g) →
-    (c.loop-window.at + (16 + c.window_8-second.result.len) ≤ length c.args.s.now)
-    × (answer_by_digits wide64 c.args.bound c.args.limit c.loop-window.at (16 + c.window_8-second.result.len) (c.window-window.result.number * 10 ^ c.window_8-second.result.len + c.window_8-second.result.number) c.args.s.now
+    let second = c.window_8-second.result in
+    let number = c.window-window.result.number * 10 ^ second.len + second.number in
+    (c.loop-window.at + (16 + second.len) ≤ length c.args.s.now)
+    × (answer_by_digits wide64 c.args.bound c.args.limit c.loop-window.at (16 + second.len) number c.args.s.now
     ≡ prefix_magnitude g.Self.Engine.table wide64 c.args.bound c.args.limit c.args.skip c.args.s.now)
-decided g c = answers_64 _ c.args.bound c.args.limit _ _ _ _ _ _ _ (omega arith) (ended g c) c.if-first-lt16.false (following g c)
+decided g c = answers_64 c.args.bound c.args.limit (omega arith) (ended g c) c.if-first-lt16.false (following g c)
 
 pub append_digits-number-requires : goal.append_digits-number-requires
 append_digits-number-requires g c = omega (arith, (following g (goal.at.append_digits-number-requires g c).After-window_8-second).len_is)

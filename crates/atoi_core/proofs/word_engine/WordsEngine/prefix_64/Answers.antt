@@ -12,18 +12,18 @@ use Rattle.atoi_core.proofs.word_engine.WordsEngine.prefix_64.Goals.{After-windo
 last : (c : After-window-first) → (c.args.skip ≡ true × c.window-first.result.zeroes ≤ 0) ⊎ (c.args.skip ≡ false)
     → Skipped decimal_table c.args.skip c.args.s.now 0 c.args.steps.now c.window-first.new.steps c.window-first.result
 last c stops =
-    Skipped-at_once decimal_table decimal_below_ten c.args.skip c.args.s.now _ _ c.window-first.result c.window-first.ensures.window c.window-first.ensures.one_step
+    Skipped-at_once decimal_below_ten c.args.skip c.args.s.now c.window-first.ensures.window c.window-first.ensures.one_step
     (elim stops [ inl h ↦ inr (h.0, omega (arith, h.1)) | inr h ↦ inl h ])
 
 pub returns-then-first-eq0-clause-answer : goal.returns-then-first-eq0-clause-answer
 returns-then-first-eq0-clause-answer c =
     let after_skip = last (goal.at.returns-then-first-eq0-clause-answer c).After-window-first c.else-skip.either in
-    answers_empty _ _ _ _ _ _ _ _ _ _ after_skip (omega arith)
+    answers_empty _ _ _ after_skip (omega arith)
 
 pub returns-then-first-lt16-clause-answer : goal.returns-then-first-lt16-clause-answer
 returns-then-first-lt16-clause-answer c =
     let after_skip = last (goal.at.returns-then-first-lt16-clause-answer c).After-window-first c.else-skip.either in
-    answers_short _ _ c.args.bound c.args.limit _ _ 0 _ _ _ _ _ (omega arith) after_skip c.if-first-lt16.true (omega arith) (omega arith) c.requires.digits refl (omega arith)
+    answers_short _ c.args.bound c.args.limit (omega arith) after_skip c.if-first-lt16.true (omega arith) (omega arith) c.requires.digits refl (omega arith)
 
 pub returns-then-first-lt16-clause-loads : goal.returns-then-first-lt16-clause-loads
 returns-then-first-lt16-clause-loads c =
@@ -37,7 +37,7 @@ window_after_16-back-requires c =
 
 -- The window of 8 bytes after the first one.
 following : (c : After-window_after_16-back) → Shows decimal_table 8 (drop 16 c.args.s.now) c.window_after_16-back.result
-following c = shows decimal_table decimal_below_ten 8 (drop 16 c.args.s.now) c.window_after_16-back.result c.window_after_16-back.ensures.window
+following c = shows decimal_below_ten 8 (drop 16 c.args.s.now) c.window_after_16-back.ensures.window
 
 pub append_digits-number-requires : goal.append_digits-number-requires
 append_digits-number-requires c = omega (arith, (following (goal.at.append_digits-number-requires c).After-window_after_16-back).len_is)
@@ -46,14 +46,14 @@ pub answer_64-requires : goal.answer_64-requires
 answer_64-requires c =
     let back = following (goal.at.answer_64-requires c).After-window_after_16-back in
     let after_skip = last (goal.at.answer_64-requires c).After-window-first c.else-skip.either in
-    record { inside = (answers_64 decimal_table c.args.bound c.args.limit c.args.skip c.args.s.now 0 _ _ _ _ (omega arith) after_skip c.if-first-lt16.false back).0 }
+    record { inside = (answers_64 c.args.bound c.args.limit (omega arith) after_skip c.if-first-lt16.false back).0 }
 
 pub returns-else-first-lt16-clause-answer : goal.returns-else-first-lt16-clause-answer
 returns-else-first-lt16-clause-answer c =
     let back = following (goal.at.returns-else-first-lt16-clause-answer c).After-window_after_16-back in
     let after_skip = last (goal.at.returns-else-first-lt16-clause-answer c).After-window-first c.else-skip.either in
     rw c.append_digits-number.ensures at c.answer_64.ensures
-    ∙ (answers_64 decimal_table c.args.bound c.args.limit c.args.skip c.args.s.now 0 _ _ _ _ (omega arith) after_skip c.if-first-lt16.false back).1
+    ∙ (answers_64 c.args.bound c.args.limit (omega arith) after_skip c.if-first-lt16.false back).1
 
 pub returns-else-first-lt16-clause-loads : goal.returns-else-first-lt16-clause-loads
 returns-else-first-lt16-clause-loads c =
