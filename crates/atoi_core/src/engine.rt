@@ -45,7 +45,7 @@ pub trait Engine {
         requires limit_high { limit ≤ 20 }
         requires digits { HasDigits limit bound }
         ensures answer { answer_of result ≡ prefix_magnitude table wide64 bound limit skip s.now }
-        ensures loads { LoadsWithin (most_loads table wide64 s.now - 1) 2 table skip s.now
+        ensures loads { LoadsWithin (most_loads table wide64 s.now) 2 table skip s.now
             steps.old steps.new }
     {
         let mut at = 0;

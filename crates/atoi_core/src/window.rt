@@ -1,5 +1,7 @@
 //! What a load reports.
-ghost use Rattle.std.specs.Prelude.{◌≡◌};
+ghost use Rattle.std.specs.Prelude.{◌≡◌, ◌↔◌, IsTrue};
+
+use crate::error::clones_are_the_same;
 
 /// What is read of the first 8 or 16 bytes of a slice, or of all its bytes if there are fewer.
 #[derive(Clone, Copy, PartialEq, Eq)]
@@ -13,6 +15,13 @@ pub struct Window {
 }
 
 impl Window {
+    /// Returns what `==` returns.
+    pub fn is_same_as(&self, other: &Window) -> bool
+        ensures { IsTrue result ↔ (self.now ≡ other.now) }
+    {
+        self == other
+    }
+
     /// A window that is not full, and so reports no zeros.
     pub fn not_full(len: u32, number: u64) -> Window
         ensures { result ≡ record { len = len; zeroes = 0; number = number } }
@@ -23,4 +32,9 @@ impl Window {
             number,
         }
     }
+}
+
+// Proves the law for this type.
+fn clones() {
+    clones_are_the_same::<Window>();
 }
