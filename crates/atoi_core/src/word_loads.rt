@@ -40,7 +40,6 @@ pub fn load_high(s: &[u8]) -> u64
 /// The word of the first 8 bytes from `at` on, or of all from there on if there are fewer, from the
 /// last 8 bytes by a shift. It may be by all 64 bits, so there are two.
 #[inline(always)]
-#[tactic(auto, using(crate::proofs::lemmas::LoadedWords::last_bytes))]
 pub fn load_from(s: &[u8], at: usize) -> u64
     requires enough { 8 ≤ length s.now }
     requires inside { at ≤ length s.now }

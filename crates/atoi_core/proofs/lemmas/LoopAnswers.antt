@@ -7,11 +7,11 @@ use Rattle.atoi_core.specs.Digit.{Table, IsBelowTen, is_zero, is_digit}
 use Rattle.atoi_core.specs.Run.{zeros, run_len, run, value}
 use Rattle.atoi_core.specs.Magnitude.{narrow_decision}
 use Rattle.atoi_core.specs.Refusal.{empty, Refusal, invalid64, invalid128, size, overflow}
-use Rattle.atoi_core.specs.Magnitude.{Class, wide64, wide128, Extent, prefix, rule_of, HasDigits, prefix_magnitude, narrow, whole, Rule, invalid, refusal, unless_refused, whole_magnitude, skipped_zeros, is_above}
+use Rattle.atoi_core.specs.Magnitude.{Class, wide64, wide128, Extent, prefix, rule_of, HasDigits, prefix_magnitude, narrow, whole, Rule, invalid, unless_refused, whole_magnitude, skipped_zeros, is_above}
 use Rattle.atoi_core.specs.Reading.{IsSkipped, cap, answer_by_digits}
 use Rattle.atoi_core.specs.declared.window.Window.{Window}
 use Rattle.atoi_core.specs.Window.{window_of}
-use Rattle.atoi_core.proofs.lemmas.Refusals.{refused_empty, is_empty, is_long, is_over, too_long, over, limit_at, significant_len, IsAccepted, refusal-none, refused_size, refused_overflow}
+use Rattle.atoi_core.proofs.lemmas.Refusals.{refusal-is, refused_empty, is_empty, is_long, is_over, too_long, over, limit_at, significant_len, IsAccepted, refusal-none, refused_size, refused_overflow}
 use Rattle.atoi_core.proofs.lemmas.Runs.{prefix_len-take, prefix_len-drop, value-take-le, value-least, run_ends, run_more, value_more}
 use Rattle.atoi_core.proofs.lemmas.Readings.{within, below, short, short_below, all_decide}
 use Rattle.atoi_core.proofs.lemmas.Windows.{Shows, zeros_both, Shows-join, Shows-join_two, Skipped}
@@ -119,40 +119,40 @@ last_reason invalid s false false false none long above v n =
 
 whole_is : (table : Table) (class : Class) (bound limit : ℕ) (skip : Bool) (s : List ℕ) → IsWide class
     → whole_magnitude table class bound limit skip s ≡ whole_from_prefix (invalid class) s (prefix_magnitude table class bound limit skip s)
-unfolding refusal
 whole_is table narrow bound limit skip s wide = absurd (cc (ap (λ (rule : Rule). rule.limit) (wide.rule whole skip 0 0 0)))
 whole_is table wide64 bound limit skip s wide =
-    last_reason invalid64 s (is_empty table wide64 bound limit prefix skip s) (is_long table wide64 bound limit prefix skip s) (is_over table wide64 bound limit prefix skip s)
-    empty (too_long table wide64 bound limit prefix skip s) (over table wide64 bound limit prefix skip s) (value table (run table s)) (run_len table s)
+    rw (refusal-is table wide64 bound limit whole skip s, refusal-is table wide64 bound limit prefix skip s)
+    (last_reason invalid64 s (is_empty table wide64 bound limit prefix skip s) (is_long table wide64 bound limit prefix skip s)
+    (is_over table wide64 bound limit prefix skip s) empty (too_long table wide64 bound limit prefix skip s)
+    (over table wide64 bound limit prefix skip s) (value table (run table s)) (run_len table s))
 whole_is table wide128 bound limit skip s wide =
-    last_reason invalid128 s (is_empty table wide128 bound limit prefix skip s) (is_long table wide128 bound limit prefix skip s) (is_over table wide128 bound limit prefix skip s)
-    empty (too_long table wide128 bound limit prefix skip s) (over table wide128 bound limit prefix skip s) (value table (run table s)) (run_len table s)
+    rw (refusal-is table wide128 bound limit whole skip s, refusal-is table wide128 bound limit prefix skip s)
+    (last_reason invalid128 s (is_empty table wide128 bound limit prefix skip s) (is_long table wide128 bound limit prefix skip s)
+    (is_over table wide128 bound limit prefix skip s) empty (too_long table wide128 bound limit prefix skip s)
+    (over table wide128 bound limit prefix skip s) (value table (run table s)) (run_len table s))
 
 module _ (table : Table) (class : Class) (bound limit : ℕ) (skip : Bool) (s : List ℕ) (wide : IsWide class) where
   -- A refused prefix is a refused whole slice.
-  pub whole_err : (reason : Refusal) → Err reason ≡ prefix_magnitude table class bound limit skip s → Err reason ≡ whole_magnitude table class bound limit skip s
-  whole_err reason of_prefix = ap (whole_from_prefix (invalid class) s) of_prefix ∙ sym (whole_is table class bound limit skip s wide)
+  pub whole_err : (reason : Refusal) → Err reason ≡ prefix_magnitude table class bound limit skip s
+      → Err reason ≡ whole_magnitude table class bound limit skip s
+  whole_err reason of_prefix = rw (whole_is table class bound limit skip s wide, ← of_prefix) refl
 
   -- A number that ends with the slice is the answer.
   pub whole_ok : (number len : ℕ) → Ok (number, len) ≡ prefix_magnitude table class bound limit skip s → len ≡ length s
       → Ok number ≡ whole_magnitude table class bound limit skip s
-  whole_ok number len of_prefix all =
-      ap (λ b. if b then Ok number else Err (invalid class number len s)) (sym (eq-eqb len (length s) all))
-      ∙ ap (whole_from_prefix (invalid class) s) of_prefix ∙ sym (whole_is table class bound limit skip s wide)
+  whole_ok number len of_prefix all = rw (whole_is table class bound limit skip s wide, ← of_prefix, eq-eqb len (length s) all) refl
 
   -- A number that ends before the slice does is `invalid`.
   pub whole_invalid : (number len : ℕ) → Ok (number, len) ≡ prefix_magnitude table class bound limit skip s → len ≢ length s
       → Err (invalid class number len s) ≡ whole_magnitude table class bound limit skip s
-  whole_invalid number len of_prefix rest =
-      ap (λ b. if b then Ok number else Err (invalid class number len s)) (sym (ne_eqb len (length s) rest))
-      ∙ ap (whole_from_prefix (invalid class) s) of_prefix ∙ sym (whole_is table class bound limit skip s wide)
+  whole_invalid number len of_prefix rest = rw (whole_is table class bound limit skip s wide, ← of_prefix, ne_eqb len (length s) rest) refl
 
-pub whole_invalid64 : (table : Table) (bound limit : ℕ) (skip : Bool) (s : List ℕ) (number len : ℕ) → Ok (number, len) ≡ prefix_magnitude table wide64 bound limit skip s → len ≢ length s
-    → Err (invalid64 number len s) ≡ whole_magnitude table wide64 bound limit skip s
+pub whole_invalid64 : (table : Table) (bound limit : ℕ) (skip : Bool) (s : List ℕ) (number len : ℕ)
+    → Ok (number, len) ≡ prefix_magnitude table wide64 bound limit skip s → len ≢ length s → Err (invalid64 number len s) ≡ whole_magnitude table wide64 bound limit skip s
 whole_invalid64 table bound limit skip s = whole_invalid table wide64 bound limit skip s wide_64
 
-pub whole_invalid128 : (table : Table) (bound limit : ℕ) (skip : Bool) (s : List ℕ) (number len : ℕ) → Ok (number, len) ≡ prefix_magnitude table wide128 bound limit skip s → len ≢ length s
-    → Err (invalid128 number len s) ≡ whole_magnitude table wide128 bound limit skip s
+pub whole_invalid128 : (table : Table) (bound limit : ℕ) (skip : Bool) (s : List ℕ) (number len : ℕ)
+    → Ok (number, len) ≡ prefix_magnitude table wide128 bound limit skip s → len ≢ length s → Err (invalid128 number len s) ≡ whole_magnitude table wide128 bound limit skip s
 whole_invalid128 table bound limit skip s = whole_invalid table wide128 bound limit skip s wide_128
 
 -- ---- Narrow types
@@ -256,44 +256,43 @@ digit_after_16 table skip s w full is counts =
     let first : 16 ≡ min 16 (run_len table s) = sym full ∙ prefix_len-take (is_digit table) 16 s in
     let run_is : run_len table s ≡ 16 + run_len table (drop 16 s) = prefix_len-drop (is_digit table) 16 s (omega arith) in
     let next : w.len ≡ min 8 (run_len table (drop 16 s)) =
-    ap (λ (x : Window). x.len) is ∙ ap (λ rest. run_len table (take 8 rest)) (take_rest s 16) ∙ prefix_len-take (is_digit table) 8 (drop 16 s) in
+    rw (is, take_rest s 16) (prefix_len-take (is_digit table) 8 (drop 16 s)) in
     rw counts (grind (arith, nat_tests))
 
 -- ---- Narrow whole slices
 
-module _ (t : Table) (bound limit : ℕ) (skip : Bool) (s : List ℕ) where
+module _ (table : Table) (bound limit : ℕ) (skip : Bool) (s : List ℕ) where
   -- The run decides the answer, whatever the limit and the flag.
-  pub narrow_whole_is : (n number : ℕ) → run_len t s ≡ n → value t (take n s) ≡ number
-      → whole_magnitude t narrow bound limit skip s ≡ unless_refused (if n == 0 then Some empty
+  pub narrow_whole_is : (n number : ℕ) → run_len table s ≡ n → value table (take n s) ≡ number
+      → whole_magnitude table narrow bound limit skip s ≡ unless_refused (if n == 0 then Some empty
       else (if nat_lt bound number then Some (overflow s)
       else (if not (n == length s) then Some (invalid64 number n s) else None))) number
-  unfolding refusal
-  narrow_whole_is n number at_n is_number = rw (at_n, is_number) refl
+  narrow_whole_is n number at_n is_number = rw (refusal-is table narrow bound limit whole skip s, at_n, is_number) refl
 
   -- Another byte follows i digits.
-  pub narrow_whole_rest : (i number : ℕ) → i < length s → t (get_or s i 0) ≡ None
-      → i + run_len t (drop i s) ≡ run_len t s → number ≡ value t (take i s) → number ≤ bound
-      → whole_magnitude t narrow bound limit skip s ≡ Err (if i == 0 then empty else invalid64 number i s)
+  pub narrow_whole_rest : (i number : ℕ) → i < length s → table (get_or s i 0) ≡ None
+      → i + run_len table (drop i s) ≡ run_len table s → number ≡ value table (take i s) → number ≤ bound
+      → whole_magnitude table narrow bound limit skip s ≡ Err (if i == 0 then empty else invalid64 number i s)
   narrow_whole_rest i number here none so_far is_number fits =
-      narrow_whole_is i number (run_ends t s i here none so_far) (sym is_number)
+      narrow_whole_is i number (run_ends table s i here none so_far) (sym is_number)
       ∙ grind (arith, nat_tests)
 
   -- One more digit passes the bound.
-  pub narrow_whole_over : (i w : ℕ) → i < length s → t (get_or s i 0) ≡ Some w
-      → i + run_len t (drop i s) ≡ run_len t s → bound < value t (take i s) * 10 + w
-      → whole_magnitude t narrow bound limit skip s ≡ Err (overflow s)
+  pub narrow_whole_over : (i w : ℕ) → i < length s → table (get_or s i 0) ≡ Some w
+      → i + run_len table (drop i s) ≡ run_len table s → bound < value table (take i s) * 10 + w
+      → whole_magnitude table narrow bound limit skip s ≡ Err (overflow s)
   narrow_whole_over i w here digit so_far over =
-      let longer : i + 1 ≤ run_len t s = omega (arith, run_more t s i w here digit so_far) in
-      let above : bound < value t (take (run_len t s) s) = omega (arith, value_more t s i w here digit, value-take-le t s (i + 1) (run_len t s) longer) in
-      narrow_whole_is (run_len t s) (value t (take (run_len t s) s)) refl refl
+      let longer : i + 1 ≤ run_len table s = omega (arith, run_more table s i w here digit so_far) in
+      let above : bound < value table (take (run_len table s) s) = omega (arith, value_more table s i w here digit, value-take-le table s (i + 1) (run_len table s) longer) in
+      narrow_whole_is (run_len table s) (value table (take (run_len table s) s)) refl refl
       ∙ grind (arith, nat_tests)
 
   -- All bytes are digits.
   pub narrow_whole_end : (i number : ℕ) → i ≤ length s → length s ≤ i
-      → i + run_len t (drop i s) ≡ run_len t s → number ≡ value t (take i s) → number ≤ bound
-      → whole_magnitude t narrow bound limit skip s ≡ (if length s == 0 then Err empty else Ok number)
+      → i + run_len table (drop i s) ≡ run_len table s → number ≡ value table (take i s) → number ≤ bound
+      → whole_magnitude table narrow bound limit skip s ≡ (if length s == 0 then Err empty else Ok number)
   narrow_whole_end i number within all so_far is_number fits =
-      let no_more : run_len t (drop i s) ≡ 0 = prefix_len-drop_all (is_digit t) s i all in
+      let no_more : run_len table (drop i s) ≡ 0 = prefix_len-drop_all (is_digit table) s i all in
       narrow_whole_is i number (omega arith) (sym is_number)
       ∙ grind (arith, nat_tests)
 

@@ -7,8 +7,9 @@ use Rattle.std.proofs.lemmas.List.Sums.{prefix_len-le-length}
 use Rattle.atoi_core.specs.Digit.{Table, IsBelowTen, is_digit, is_zero}
 use Rattle.atoi_core.specs.Run.{run_len, run, zeros, value}
 use Rattle.atoi_core.specs.Refusal.{Refusal, empty, size, overflow}
-use Rattle.atoi_core.specs.Magnitude.{Class, narrow, HasDigits, skipped_zeros, refusal, unless_refused, prefix_magnitude}
+use Rattle.atoi_core.specs.Magnitude.{Class, narrow, HasDigits, prefix, skipped_zeros, unless_refused, prefix_magnitude}
 use Rattle.atoi_core.specs.Reading.{Reading, IsSkipped, significant_digits, cap, answer_by_digits}
+use Rattle.atoi_core.proofs.lemmas.Refusals.{refusal-is}
 use Rattle.atoi_core.proofs.lemmas.Runs.{prefix_len-take, prefix_len-drop, zeros-le, value-below, value-take-add, value-drop_zeros}
 use Rattle.std.proofs.lemmas.Bool.Decides.{nat_tests}
 
@@ -88,11 +89,12 @@ first_refusal a b c p q r v = refl
 by_all_digits : (table : Table) (class : Class) (bound limit : ℕ) (skip : Bool) (s : List ℕ) (skipped significant : ℕ) → limit < cap class
     → skipped_zeros table skip s ≡ skipped → run_len table s ≡ skipped + significant
     → prefix_magnitude table class bound limit skip s ≡ answer_by_digits class bound limit skipped significant (value table (run table s)) s
-unfolding refusal
 by_all_digits table narrow bound limit skip s skipped significant less zeros_are total = absurd (omega arith)
 by_all_digits table class bound limit skip s skipped significant less zeros_are total =
     let others : skipped + significant - skipped ≡ significant = omega arith in
-    rw (zeros_are, total, others) (first_refusal (eqb (skipped + significant) 0) (ltb limit significant) _ empty (size (skipped + min significant (cap class)) (drop skipped s)) (overflow (drop skipped s)) _)
+    let too_long = size (skipped + min significant (cap class)) (drop skipped s) in
+    rw (refusal-is table class bound limit prefix skip s, zeros_are, total, others)
+    (first_refusal (eqb (skipped + significant) 0) (ltb limit significant) _ empty too_long (overflow (drop skipped s)) _)
 
 by_many_digits : (class : Class) (bound limit skipped significant number : ℕ) (s : List ℕ) → limit < cap class → cap class ≤ significant
     → answer_by_digits class bound limit skipped significant number s ≡ Err (size (skipped + cap class) (drop skipped s))

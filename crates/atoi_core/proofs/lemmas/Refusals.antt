@@ -143,12 +143,10 @@ refused table int minus extent skip body = refusal table (class_of int) (bound_o
 -- For narrow prefixes the limit does not matter.
 pub narrow_prefix_limit : (table : Table) (bound limit : ℕ) (skip : Bool) (s : List ℕ)
     → refusal table narrow bound limit prefix skip s ≡ refusal table narrow bound 0 prefix skip s
-unfolding refusal
-narrow_prefix_limit table bound limit true s = refl
-narrow_prefix_limit table bound limit false s = refl
+narrow_prefix_limit table bound limit true s = rw (refusal-is table narrow bound limit prefix true s, refusal-is table narrow bound 0 prefix true s) refl
+narrow_prefix_limit table bound limit false s = rw (refusal-is table narrow bound limit prefix false s, refusal-is table narrow bound 0 prefix false s) refl
 
 -- For narrow whole slices neither the limit nor the flag matters.
 pub narrow_whole_limit : (table : Table) (bound limit : ℕ) (skip : Bool) (s : List ℕ)
     → refusal table narrow bound limit whole skip s ≡ refusal table narrow bound 0 whole false s
-unfolding refusal
-narrow_whole_limit table bound limit skip s = refl
+narrow_whole_limit table bound limit skip s = rw (refusal-is table narrow bound limit whole skip s, refusal-is table narrow bound 0 whole false s) refl

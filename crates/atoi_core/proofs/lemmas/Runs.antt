@@ -25,64 +25,64 @@ prefix_len-drop p (suc n) (b ∷ bs) =
     elim (p b) as (λ v. suc n ≤ cond v (1 + prefix_len p bs) 0 → cond v (1 + prefix_len p bs) 0 ≡ suc n + prefix_len p (drop n bs))
     [ true ↦ λ h. omega (arith, prefix_len-drop p n bs (omega arith)) | false ↦ λ h. absurd (omega arith) ]
 
-pub zeros-le : (t : Table) (s : List ℕ) → zeros t s ≤ run_len t s
-zeros-le t [] = omega arith
-zeros-le t (b ∷ bs) = grind (arith, nat_tests, zeros-le t bs)
+pub zeros-le : (table : Table) (s : List ℕ) → zeros table s ≤ run_len table s
+zeros-le table [] = omega arith
+zeros-le table (b ∷ bs) = grind (arith, nat_tests, zeros-le table bs)
 
 -- ---- Values of digits
 
-pub value-append : (t : Table) (xs ys : List ℕ) → value t (xs ++ ys) ≡ value t xs * 10 ^ length ys + value t ys
-value-append t [] ys = omega arith
-value-append t (x ∷ xs) ys =
-    let power : digit_value t x * 10 ^ length (xs ++ ys) ≡ digit_value t x * (10 ^ length xs * 10 ^ length ys) =
-    ap (λ (e : ℕ). digit_value t x * 10 ^ e) (length-append xs ys)
-    ∙ ap (λ (e : ℕ). digit_value t x * e) (pow-add 10 (length xs) (length ys)) in
-    omega (arith, power, value-append t xs ys)
+pub value-append : (table : Table) (xs ys : List ℕ) → value table (xs ++ ys) ≡ value table xs * 10 ^ length ys + value table ys
+value-append table [] ys = omega arith
+value-append table (x ∷ xs) ys =
+    let power : digit_value table x * 10 ^ length (xs ++ ys) ≡ digit_value table x * (10 ^ length xs * 10 ^ length ys) =
+    ap (λ (e : ℕ). digit_value table x * 10 ^ e) (length-append xs ys)
+    ∙ ap (λ (e : ℕ). digit_value table x * e) (pow-add 10 (length xs) (length ys)) in
+    omega (arith, power, value-append table xs ys)
 
-pub value-below : (t : Table) → IsBelowTen t → (xs : List ℕ) → value t xs < 10 ^ length xs
-value-below t below [] = omega arith
-value-below t below (x ∷ xs) =
-    let most : digit_value t x * 10 ^ length xs ≤ 9 * 10 ^ length xs =
+pub value-below : (table : Table) → IsBelowTen table → (xs : List ℕ) → value table xs < 10 ^ length xs
+value-below table below [] = omega arith
+value-below table below (x ∷ xs) =
+    let most : digit_value table x * 10 ^ length xs ≤ 9 * 10 ^ length xs =
     mul-le-mul_right (10 ^ length xs) (omega (arith, below x)) in
-    rw pow-succ' (omega (arith, value-below t below xs))
+    rw pow-succ' (omega (arith, value-below table below xs))
 
-pub value-take-add : (t : Table) (n k : ℕ) (s : List ℕ) → n + k ≤ length s →
-    value t (take (n + k) s) ≡ value t (take n s) * 10 ^ k + value t (take k (drop n s))
-value-take-add t n k s h =
+pub value-take-add : (table : Table) (n k : ℕ) (s : List ℕ) → n + k ≤ length s →
+    value table (take (n + k) s) ≡ value table (take n s) * 10 ^ k + value table (take k (drop n s))
+value-take-add table n k s h =
     let len : length (take k (drop n s)) ≡ k = length-take-le k (drop n s) (rw length-drop (omega arith)) in
-    ap (value t) (take-add n k s)
-    ∙ value-append t (take n s) (take k (drop n s))
-    ∙ ap (λ (e : ℕ). value t (take n s) * 10 ^ e + value t (take k (drop n s))) len
+    ap (value table) (take-add n k s)
+    ∙ value-append table (take n s) (take k (drop n s))
+    ∙ ap (λ (e : ℕ). value table (take n s) * 10 ^ e + value table (take k (drop n s))) len
 
 -- The digit value of a zero is 0.
-value_of_zero : (t : Table) (byte : ℕ) → is_zero t byte ≡ true → digit_value t byte ≡ 0
-value_of_zero t byte h = grind (arith, eqb_tells)
+value_of_zero : (table : Table) (byte : ℕ) → is_zero table byte ≡ true → digit_value table byte ≡ 0
+value_of_zero table byte h = grind (arith, eqb_tells)
 
-pub value-zeros : (t : Table) (n : ℕ) (s : List ℕ) → n ≤ zeros t s → value t (take n s) ≡ 0
-value-zeros t zero s = λ _. refl
-value-zeros t (suc n) [] = λ h. absurd (omega arith)
-value-zeros t (suc n) (b ∷ bs) =
-    (elim (is_zero t b) as (λ v. is_zero t b ≡ v → suc n ≤ cond v (1 + zeros t bs) 0 → digit_value t b * 10 ^ length (take n bs) + value t (take n bs) ≡ 0) [
-      | true ↦ λ e h. rw (value_of_zero t b e, value-zeros t n bs (omega arith)) (omega arith)
+pub value-zeros : (table : Table) (n : ℕ) (s : List ℕ) → n ≤ zeros table s → value table (take n s) ≡ 0
+value-zeros table zero s = λ _. refl
+value-zeros table (suc n) [] = λ h. absurd (omega arith)
+value-zeros table (suc n) (b ∷ bs) =
+    (elim (is_zero table b) as (λ v. is_zero table b ≡ v → suc n ≤ cond v (1 + zeros table bs) 0 → digit_value table b * 10 ^ length (take n bs) + value table (take n bs) ≡ 0) [
+      | true ↦ λ e h. rw (value_of_zero table b e, value-zeros table n bs (omega arith)) (omega arith)
       | false ↦ λ e h. absurd (omega arith)
     ]) refl
 
-pub value-drop_zeros : (t : Table) (n : ℕ) (s : List ℕ) → n ≤ zeros t s → value t (run t s) ≡ value t (run t (drop n s))
-value-drop_zeros t n s h =
-    let parts : run_len t s ≡ n + run_len t (drop n s) = prefix_len-drop (is_digit t) n s (omega (arith, zeros-le t s)) in
-    let within : run_len t s ≤ length s = prefix_len-le-length (is_digit t) s in
-    ap (λ (m : ℕ). value t (take m s)) parts
-    ∙ value-take-add t n (run_len t (drop n s)) s (omega arith)
-    ∙ omega (arith, ap (λ (e : ℕ). e * 10 ^ run_len t (drop n s)) (value-zeros t n s h))
+pub value-drop_zeros : (table : Table) (n : ℕ) (s : List ℕ) → n ≤ zeros table s → value table (run table s) ≡ value table (run table (drop n s))
+value-drop_zeros table n s h =
+    let parts : run_len table s ≡ n + run_len table (drop n s) = prefix_len-drop (is_digit table) n s (omega (arith, zeros-le table s)) in
+    let within : run_len table s ≤ length s = prefix_len-le-length (is_digit table) s in
+    ap (λ (m : ℕ). value table (take m s)) parts
+    ∙ value-take-add table n (run_len table (drop n s)) s (omega arith)
+    ∙ omega (arith, ap (λ (e : ℕ). e * 10 ^ run_len table (drop n s)) (value-zeros table n s h))
 
 -- n + 1 digits without a leading zero spell at least 10^n.
-pub value-least : (t : Table) (n : ℕ) (s : List ℕ) → suc n ≤ run_len t s → zeros t s ≡ 0 → 10 ^ n ≤ value t (take (suc n) s)
-value-least t n [] = λ h z. absurd (omega arith)
-value-least t n (b ∷ bs) = λ h z.
-    let some : 1 ≤ digit_value t b = grind (arith, nat_tests) in
-    let few : n ≤ run_len t bs = grind (arith, nat_tests) in
-    let len : length (take n bs) ≡ n = length-take-le n bs (omega (arith, prefix_len-le-length (is_digit t) bs)) in
-    let least : 1 * 10 ^ length (take n bs) ≤ digit_value t b * 10 ^ length (take n bs) = mul-le-mul_right (10 ^ length (take n bs)) some in
+pub value-least : (table : Table) (n : ℕ) (s : List ℕ) → suc n ≤ run_len table s → zeros table s ≡ 0 → 10 ^ n ≤ value table (take (suc n) s)
+value-least table n [] = λ h z. absurd (omega arith)
+value-least table n (b ∷ bs) = λ h z.
+    let some : 1 ≤ digit_value table b = grind (arith, nat_tests) in
+    let few : n ≤ run_len table bs = grind (arith, nat_tests) in
+    let len : length (take n bs) ≡ n = length-take-le n bs (omega (arith, prefix_len-le-length (is_digit table) bs)) in
+    let least : 1 * 10 ^ length (take n bs) ≤ digit_value table b * 10 ^ length (take n bs) = mul-le-mul_right (10 ^ length (take n bs)) some in
     omega (arith, ap (λ (m : ℕ). 10 ^ m) len)
 
 -- ---- Runs that are cut or joined
@@ -131,30 +131,30 @@ module _ (table : Table) where
 
 -- ---- Digit by digit
 
-pub value_more : (t : Table) (s : List ℕ) (i w : ℕ) → i < length s → t (get_or s i 0) ≡ Some w → value t (take (i + 1) s) ≡ value t (take i s) * 10 + w
-value_more t s i w here digit =
-    let e : digit_value t (get_or s i 0) ≡ w = ap (λ (o : Option ℕ). unwrap_or o 0) digit in
-    rw (take_more s i 0 here, value-append t (take i s) (get_or s i 0 ∷ []), ← e) (grind arith)
+pub value_more : (table : Table) (s : List ℕ) (i w : ℕ) → i < length s → table (get_or s i 0) ≡ Some w → value table (take (i + 1) s) ≡ value table (take i s) * 10 + w
+value_more table s i w here digit =
+    let e : digit_value table (get_or s i 0) ≡ w = ap (λ (o : Option ℕ). unwrap_or o 0) digit in
+    rw (take_more s i 0 here, value-append table (take i s) (get_or s i 0 ∷ []), ← e) (grind arith)
 
-pub value-append-le : (t : Table) (xs ys : List ℕ) → value t xs ≤ value t (xs ++ ys)
-value-append-le t xs ys =
+pub value-append-le : (table : Table) (xs ys : List ℕ) → value table xs ≤ value table (xs ++ ys)
+value-append-le table xs ys =
     let power : 1 ≤ 10 ^ length ys = one-le-pow (length ys) 10 (lit< tt) in
-    omega (arith, value-append t xs ys, mul-le-mul_left (value t xs) power)
+    omega (arith, value-append table xs ys, mul-le-mul_left (value table xs) power)
 
-pub value-take-le : (t : Table) (s : List ℕ) (i j : ℕ) → i ≤ j → value t (take i s) ≤ value t (take j s)
-value-take-le t s i j le =
+pub value-take-le : (table : Table) (s : List ℕ) (i j : ℕ) → i ≤ j → value table (take i s) ≤ value table (take j s)
+value-take-le table s i j le =
     rw (← take-append-drop i (take j s), take-take i j s le)
-    (value-append-le t (take i s) (drop i (take j s)))
+    (value-append-le table (take i s) (drop i (take j s)))
 
 -- A digit after i bytes of the run is in it.
-pub run_more : (t : Table) (s : List ℕ) (i w : ℕ) → i < length s → t (get_or s i 0) ≡ Some w → i + run_len t (drop i s) ≡ run_len t s → i + 1 + run_len t (drop (i + 1) s) ≡ run_len t s
-run_more t s i w here digit so_far =
-    let yes = prefix_len-drop_yes (is_digit t) s i 0 here (ap is_some digit) in
+pub run_more : (table : Table) (s : List ℕ) (i w : ℕ) → i < length s → table (get_or s i 0) ≡ Some w → i + run_len table (drop i s) ≡ run_len table s → i + 1 + run_len table (drop (i + 1) s) ≡ run_len table s
+run_more table s i w here digit so_far =
+    let yes = prefix_len-drop_yes (is_digit table) s i 0 here (ap is_some digit) in
     omega (arith, yes, so_far)
 
-pub run_ends : (t : Table) (s : List ℕ) (i : ℕ) → i < length s → t (get_or s i 0) ≡ None → i + run_len t (drop i s) ≡ run_len t s → run_len t s ≡ i
-run_ends t s i here none so_far =
-    let no = prefix_len-drop_no (is_digit t) s i 0 here (ap is_some none) in
+pub run_ends : (table : Table) (s : List ℕ) (i : ℕ) → i < length s → table (get_or s i 0) ≡ None → i + run_len table (drop i s) ≡ run_len table s → run_len table s ≡ i
+run_ends table s i here none so_far =
+    let no = prefix_len-drop_no (is_digit table) s i 0 here (ap is_some none) in
     omega (arith, no, so_far)
 
 pub decimal_below_ten : IsBelowTen decimal_table
@@ -169,7 +169,7 @@ sixteen_digits len number short small =
     let fits : 10 ^ 16 ≤ 2 ^ 64 = lit≤ tt in
     omega (arith, most, fits)
 
-pub digit_is_below_ten : (t : Table) → IsBelowTen t → (byte w : ℕ) → t byte ≡ Some w → w < 10
-digit_is_below_ten t small byte w digit =
+pub digit_is_below_ten : (table : Table) → IsBelowTen table → (byte w : ℕ) → table byte ≡ Some w → w < 10
+digit_is_below_ten table small byte w digit =
     let P : ℕ → Type 0 = λ n. n < 10 in
     subst P (ap (λ (o : Option ℕ). unwrap_or o 0) digit) (small byte)

@@ -27,8 +27,8 @@ pub record Shows (table : Table) (c : ℕ) (s : List ℕ) (w : Window) : Type 0 
   pub zeroes_of : w.len ≡ c → w.zeroes ≡ min c (zeros table s)
 
 -- Only a full window reports zeros.
-zeroes_cases : (n c z k : ℕ) → z ≡ min c k → (cond (n == c) z 0 ≤ k) × (0 < cond (n == c) z 0 → n ≡ c) × (n ≡ c → cond (n == c) z 0 ≡ min c k)
-zeroes_cases n c z k e = (grind (arith, nat_tests), λ some. grind (arith, nat_tests), λ full. grind (arith, nat_tests))
+zeros_cases : (n c z k : ℕ) → z ≡ min c k → (cond (n == c) z 0 ≤ k) × (0 < cond (n == c) z 0 → n ≡ c) × (n ≡ c → cond (n == c) z 0 ≡ min c k)
+zeros_cases n c z k e = (grind (arith, nat_tests), λ some. grind (arith, nat_tests), λ full. grind (arith, nat_tests))
 
 -- The leading zeros of two readings in a row.
 abbrev pub zeros_both : (c leading others : ℕ) → ℕ
@@ -60,7 +60,7 @@ module _ {table : Table} (ten : IsBelowTen table) where
       let len : n ≡ min c (run_len table s) = prefix_len-take (is_digit table) c s in
       let reading : Reading table c s n (zeros table (take c s)) (value table (take n (take c s))) =
       record { digits_are = refl; leading_are = refl; number_is = refl } in
-      let seen = zeroes_cases n c (zeros table (take c s)) (zeros table s) (prefix_len-take (is_zero table) c s) in
+      let seen = zeros_cases n c (zeros table (take c s)) (zeros table s) (prefix_len-take (is_zero table) c s) in
       record {
         reading = reading;
         len_is = len;
