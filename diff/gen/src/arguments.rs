@@ -16,7 +16,7 @@ pub struct Arguments {
     pub against: Option<String>,
     /// Builds of somebody else that are timed or counted too, as NAME=FILE.
     pub beside: Vec<String>,
-    /// Where the picture is drawn.
+    /// Where the picture is drawn, if not in docs.
     pub chart: Option<PathBuf>,
 }
 
@@ -33,6 +33,9 @@ pub enum Task {
     Count,
 }
 
+/// The processor that `rt` builds for unless it is told another.
+pub const DEFAULT_CPU: &str = "x86-64-v2";
+
 /// How the program is called.
 pub const USAGE: &str = "\
 cargo run --release -- [ARGUMENT..]
@@ -46,7 +49,7 @@ cargo run --release -- [ARGUMENT..]
   --passes N          how often everything is timed (5, at least 3)
   --seed N            which random numbers are taken (1)
   --texts N           on how many texts answers are compared (200000)
-  --chart FILE        where the picture is drawn (docs/input_lists.svg)";
+  --chart FILE        where the picture is drawn (docs/input_lists.svg, without --cpu)";
 
 impl Arguments {
     /// Reads the arguments. An error says what is wrong with them.
@@ -55,7 +58,7 @@ impl Arguments {
             task: Task::Everything,
             seed: 1,
             texts: 200_000,
-            cpu: String::from("x86-64-v2"),
+            cpu: String::from(DEFAULT_CPU),
             passes: 5,
             against: None,
             beside: Vec::new(),

@@ -26,7 +26,7 @@ mod texts;
 mod timing;
 
 use answer::Answers;
-use arguments::{Arguments, Task};
+use arguments::{Arguments, DEFAULT_CPU, Task};
 use builds::{Build, Cache, State};
 use chart::Row;
 use compare::Counts;
@@ -136,15 +136,20 @@ fn time(arguments: &Arguments, cache: &Cache, builds: &[Build]) -> Result<u64, S
     if arguments.against.is_none() {
         wrong += time_plus(&builds[..1], &input_lists, effort, &mut random)?;
     }
-    let rows = chart_rows(&input_lists, &lists, builds);
-    if rows.len() == input_lists.len() {
-        let default = || cache.repository().join("docs/input_lists.svg");
-        let file = arguments.chart.clone().unwrap_or_else(default);
-        fs::write(&file, chart::chart(&rows))
-            .map_err(|error| format!("{}: {error}", file.display()))?;
-        println!("drawn in {}", file.display());
-    }
+    draw(arguments, cache, &chart_rows(&input_lists, &lists, builds))?;
     Ok(wrong as u64)
+}
+
+// Draws the picture, if std was timed. The picture in docs is of the default processor.
+fn draw(arguments: &Arguments, cache: &Cache, rows: &[Row]) -> Result<(), String> {
+    let in_docs = || cache.repository().join("docs/input_lists.svg");
+    let default = (arguments.cpu == DEFAULT_CPU).then(in_docs);
+    let Some(file) = arguments.chart.clone().or(default).filter(|_| !rows.is_empty()) else {
+        return Ok(());
+    };
+    fs::write(&file, chart::chart(rows)).map_err(|error| format!("{}: {error}", file.display()))?;
+    println!("drawn in {}", file.display());
+    Ok(())
 }
 
 // Times our calls that skip a plus, without a plus and with one before half of the numbers.

@@ -13,7 +13,7 @@ const SLOWER: f64 = 1.02;
 pub struct Table {
     /// What a time is, as `nanoseconds per call`.
     pub unit: &'static str,
-    /// What a line has, as `input lists`.
+    /// What each line is for, as `input lists`.
     pub lines: &'static str,
     pub sides: Vec<Side>,
     pub times: Vec<Times>,
@@ -24,13 +24,18 @@ impl Table {
     pub fn print(&self) -> usize {
         let comparisons = self.comparisons();
         self.print_times(&comparisons);
-        println!("\nour time divided by theirs: geometric mean of the {} (slowest)", self.lines);
+        println!("\nour time divided by theirs: geometric mean of the {} (slowest)\n", self.lines);
+        let has_lanes = self.sides.iter().any(|side| side.form == Form::Lanes);
+        let forms = if has_lanes { "Root | Lanes" } else { "Ours" };
+        println!("| Compared with | {} | {forms} | Passes differ by |", self.lines);
+        println!("|---|---|---|---|{}", if has_lanes { "---|" } else { "" });
         let mut spread = 0.0;
         for pair in comparisons.chunk_by(|one, other| self.build(one) == self.build(other)) {
             spread = self.print_ratios(pair).max(spread);
         }
-        for comparison in &comparisons {
-            self.print_slower(comparison);
+        println!();
+        if !has_ratios(&comparisons) {
+            comparisons.iter().for_each(|comparison| self.print_slower(comparison));
         }
         if spread > BUSY {
             println!("the machine is busy: figures differ by {spread:.0} % between passes");
@@ -69,7 +74,7 @@ impl Table {
         for (side, letter) in self.sides.iter().zip('A'..) {
             println!("    {letter}  {}", self.name_of(side));
         }
-        let shown = if comparisons.len() <= 2 { comparisons } else { &[] };
+        let shown = if has_ratios(comparisons) { comparisons } else { &[] };
         let width = self.times.first().map_or(0, |times| times.name.len());
         print!("{:width$}", "");
         self.sides.iter().zip('A'..).for_each(|(_, letter)| print!("{letter:>7}"));
@@ -105,15 +110,12 @@ impl Table {
     fn print_ratios(&self, pair: &[Comparison]) -> f64 {
         let ratios: Vec<Ratios> =
             pair.iter().filter_map(|comparison| comparison.ratios(&self.times)).collect();
-        let spread = ratios.iter().map(Ratios::spread).fold(0.0, f64::max);
-        let shown: Vec<String> = ratios
-            .iter()
-            .map(|ratios| format!("{:.2} ({:.2})", ratios.mean, ratios.worst))
-            .collect();
+        let spread = ratios.iter().map(|ratios| ratios.spread).fold(0.0, f64::max);
+        let shown = |ratios: &Ratios| format!("{:.2} ({:.2})", ratios.mean, ratios.worst);
+        let shown: Vec<String> = ratios.iter().map(shown).collect();
         let count = ratios.first().map_or(0, |ratios| ratios.count);
         let name = &self.sides[pair[0].theirs].name;
-        let shown = shown.join("  ");
-        println!("{name:45} {count:3} {shown:26} passes differ by {spread:.1} %");
+        println!("| {name} | {count} | {} | {spread:.1} % |", shown.join(" | "));
         spread
     }
 
@@ -128,6 +130,11 @@ impl Table {
             }
         }
     }
+}
+
+// Whether the ratios of each line are printed beside its times.
+fn has_ratios(comparisons: &[Comparison]) -> bool {
+    comparisons.len() <= 2
 }
 
 /// Prints our times on input lists without a plus and on the same input lists with a plus before
