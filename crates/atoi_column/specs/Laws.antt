@@ -30,7 +30,8 @@ place_after texts = sum_by (λ text. length text + 1) texts
 
 -- After fields that are texts: `last` is empty if no other field is left, otherwise one item, the
 -- flaw of the next field, which is no text. `prefix` answers `rest`, the input from there on.
-abbrev pub EndsItems : IntType → (prefix : List ℕ → Result (ℤ × ℕ) Refusal) → (index place : ℕ) → (rest : List ℕ) → List (List ℕ) → List (Result ℤ Flaw) → Type 0
+abbrev pub EndsItems : IntType → (prefix : List ℕ → Result (ℤ × ℕ) Refusal) → (index place : ℕ) → (rest : List ℕ)
+    → List (List ℕ) → List (Result ℤ Flaw) → Type 0
 EndsItems int prefix index place rest [] last = last ≡ []
 EndsItems int prefix index place rest (text ∷ texts) last =
     ¬ IsText int text × (last ≡ Err (flaw_at index place (prefix rest)) ∷ [])

@@ -54,7 +54,8 @@ module _ (int : IntType) (separator : ℕ) (input : List ℕ) (has : HasItems in
   all_written : (numbers : List ℤ) (others : List (List ℕ)) (last : List (Result ℤ Flaw)) → fields_of separator input ≡ has.texts ++ others → ends others last
       → (numbers ≡ has.numbers) × ([] ≡ last) → AllZip (TextWrites int true) (fields_of separator input) numbers
   all_written numbers [] last parts end same =
-      subst (λ fields. AllZip (TextWrites int true) fields numbers) (sym (parts ∙ append-nil has.texts)) (subst (AllZip (TextWrites int true) has.texts) (sym same.0) has.written)
+      let written = subst (AllZip (TextWrites int true) has.texts) (sym same.0) has.written in
+      subst (λ fields. AllZip (TextWrites int true) fields numbers) (sym (parts ∙ append-nil has.texts)) written
   all_written numbers (field ∷ others) last parts end same = absurd (cc (end.1, same.1))
 
   bad_of : (flaw : Flaw) (others : List (List ℕ)) (last : List (Result ℤ Flaw)) → fields_of separator input ≡ has.texts ++ others → ends others last
@@ -63,6 +64,7 @@ module _ (int : IntType) (separator : ℕ) (input : List ℕ) (has : HasItems in
   bad_of flaw (field ∷ others) last parts end same =
       let read : Result (ℤ × ℕ) Refusal = parse_prefix_answer int true true (drop place input) in
       let flaw_is : flaw ≡ flaw_at (length has.texts) place read = cc (same, end.1) in
+      let index : index_of flaw ≡ length has.texts = ap index_of flaw_is ∙ index_of-flaw_at (length has.texts) place read in
       record {
         before = has.texts;
         field = field;
@@ -70,8 +72,8 @@ module _ (int : IntType) (separator : ℕ) (input : List ℕ) (has : HasItems in
         parts = parts;
         good = texts_of int has.texts has.numbers has.written;
         bad = end.0;
-        index_is = ap index_of flaw_is ∙ index_of-flaw_at (length has.texts) place read;
-        index_within = omega (arith, ap index_of flaw_is, index_of-flaw_at (length has.texts) place read, ap length parts, length-append has.texts (field ∷ others), length-fields_of separator input);
+        index_is = index;
+        index_within = omega (arith, index, ap length parts, length-append has.texts (field ∷ others), length-fields_of separator input);
         place_is = ap place_of flaw_is ∙ place_of-flaw_at (length has.texts) place read;
       }
 

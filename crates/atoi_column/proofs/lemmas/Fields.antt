@@ -9,7 +9,8 @@ use Rattle.std.proofs.lemmas.Bool.{ne_eqb}
 use Rattle.atoi_column.specs.Fields.{without_empty_last, fields_of}
 
 -- A piece before others is kept, even if it is empty.
-onto_first-last : (piece : List ℕ) (x : ℕ) (pieces : List (List ℕ)) → without_empty_last (piece ∷ onto_first x pieces) ≡ piece ∷ without_empty_last (onto_first x pieces)
+onto_first-last : (piece : List ℕ) (x : ℕ) (pieces : List (List ℕ))
+    → without_empty_last (piece ∷ onto_first x pieces) ≡ piece ∷ without_empty_last (onto_first x pieces)
 onto_first-last piece x [] = refl
 onto_first-last piece x (next ∷ pieces) = refl
 

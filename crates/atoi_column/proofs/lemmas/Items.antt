@@ -82,70 +82,85 @@ module _ (int : IntType) (separator index place : ℕ) where
         length-fields_of separator rest,
       )
 
-module _ (int : IntType) (separator index place : ℕ) (rest : List ℕ) (some : 0 < length rest) (law : FieldsArePrefixes int) (is : is_separator separator ≡ true) where
-  abbrev whole : List ℕ → Result ℤ Refusal
-  whole = parse_answer int true true
+abbrev whole : IntType → List ℕ → Result ℤ Refusal
+whole int = parse_answer int true true
 
-  abbrev prefix : List ℕ → Result (ℤ × ℕ) Refusal
-  prefix = parse_prefix_answer int true true
+abbrev prefix : IntType → List ℕ → Result (ℤ × ℕ) Refusal
+prefix int = parse_prefix_answer int true true
 
-  abbrev ends : ℕ → Bool
-  ends byte = byte == separator
+abbrev ends : (separator : ℕ) → ℕ → Bool
+ends separator byte = byte == separator
 
-  abbrev field_end : ℕ
-  field_end = position_or_len ends rest
+abbrev field_end : (separator : ℕ) → List ℕ → ℕ
+field_end separator rest = position_or_len (ends separator) rest
 
-  value_then : (v : ℤ) (count : ℕ) → prefix rest ≡ Ok (v, count) → count ≡ field_end
+-- A field begins at `place`, where `rest` begins, and the law about fields holds.
+pub record FieldBegins (int : IntType) (separator index place : ℕ) (rest : List ℕ) : Type 0 where
+  pub some : 0 < length rest
+  pub law : FieldsArePrefixes int
+  pub separates : is_separator separator ≡ true
+
+module _ {int : IntType} {separator index place : ℕ} {rest : List ℕ} (begins : FieldBegins int separator index place rest) where
+  value_then : (v : ℤ) (count : ℕ) → prefix int rest ≡ Ok (v, count) → count ≡ field_end separator rest
       → items_left int separator index place rest ≡ Ok v ∷ items_left int separator (index + 1) (place + count + 1) (drop (count + 1) rest)
   unfolding items_left
   value_then v count h at =
-      rw at (ap (items_from whole prefix index place rest) (fields_of_first separator rest some)
-      ∙ (items_from-ok whole prefix index place rest (before_first ends rest) (fields_of separator (after_first ends rest)) v ((law separator is rest).to_field v (rw at at h))
-      ∙ ap (λ n. Ok v ∷ items_from whole prefix (index + 1) (place + n + 1) (drop (n + 1) rest) (fields_of separator (after_first ends rest))) (length-prefix_len (λ byte. not (ends byte)) rest)))
+      let others = fields_of separator (after_first (ends separator) rest) in
+      let len : length (before_first (ends separator) rest) ≡ field_end separator rest = length-prefix_len (λ byte. not (ends separator byte)) rest in
+      let accepted = (begins.law separator begins.separates rest).to_field v (rw at at h) in
+      rw at (ap (items_from (whole int) (prefix int) index place rest) (fields_of_first separator rest begins.some)
+      ∙ (items_from-ok (whole int) (prefix int) index place rest (before_first (ends separator) rest) others v accepted
+      ∙ ap (λ n. Ok v ∷ items_from (whole int) (prefix int) (index + 1) (place + n + 1) (drop (n + 1) rest) others) len))
 
-  flaw_alone : ((v : ℤ) → prefix rest ≡ Ok (v, field_end) → ⊥) → items_left int separator index place rest ≡ Err (flaw_at index place (prefix rest)) ∷ items_left int separator index place []
+  flaw_alone : ((v : ℤ) → prefix int rest ≡ Ok (v, field_end separator rest) → ⊥)
+      → items_left int separator index place rest ≡ Err (flaw_at index place (prefix int rest)) ∷ items_left int separator index place []
   unfolding items_left
   flaw_alone none =
-      ap (items_from whole prefix index place rest) (fields_of_first separator rest some)
-      ∙ items_from-err whole prefix index place rest (before_first ends rest) (fields_of separator (after_first ends rest)) (λ v h. none v ((law separator is rest).to_prefix v h))
+      ap (items_from (whole int) (prefix int) index place rest) (fields_of_first separator rest begins.some)
+      ∙ items_from-err (whole int) (prefix int) index place rest (before_first (ends separator) rest) (fields_of separator (after_first (ends separator) rest))
+      (λ v h. none v ((begins.law separator begins.separates rest).to_prefix v h))
 
-  pub items_left-ended : (v : ℤ) (count : ℕ) (following : List ℕ) → prefix rest ≡ Ok (v, count) → drop count rest ≡ separator ∷ following
+  pub items_left-ended : (v : ℤ) (count : ℕ) (following : List ℕ) → prefix int rest ≡ Ok (v, count) → drop count rest ≡ separator ∷ following
       → items_left int separator index place rest ≡ Ok v ∷ items_left int separator (index + 1) (place + count + 1) following
   items_left-ended v count following h cut =
       let first = drop_first count rest separator following cut in
-      let within = (law separator is rest).within v count h in
-      let at : count ≡ field_end = elim (leb_tells field_end count) [
+      let within = (begins.law separator begins.separates rest).within v count h in
+      let at : count ≡ field_end separator rest = elim (leb_tells (field_end separator rest) count) [
         | inl past ↦ omega arith
-        | inr before ↦ absurd (false≢true (sym (fails_before_first ends rest count 0 before.1) ∙ eq-eqb (get_or rest count 0) separator first.1))
+        | inr before ↦ absurd (false≢true (sym (fails_before_first (ends separator) rest count 0 before.1) ∙ eq-eqb (get_or rest count 0) separator first.1))
       ] in
       value_then v count h at ∙ ap (λ t. Ok v ∷ items_left int separator (index + 1) (place + count + 1) t) first.2
 
-  pub items_left-last : (v : ℤ) (count : ℕ) → prefix rest ≡ Ok (v, count) → length (drop count rest) ≡ 0
+  pub items_left-last : (v : ℤ) (count : ℕ) → prefix int rest ≡ Ok (v, count) → length (drop count rest) ≡ 0
       → items_left int separator index place rest ≡ Ok v ∷ items_left int separator index place []
   items_left-last v count h all =
-      let within = (law separator is rest).within v count h in
-      let end = prefix_len-le-length (λ byte. not (ends byte)) rest in
+      let within = (begins.law separator begins.separates rest).within v count h in
+      let end = prefix_len-le-length (λ byte. not (ends separator byte)) rest in
+      let none : length (drop (count + 1) rest) ≡ 0 = omega (arith, length-drop count rest, length-drop (count + 1) rest) in
       value_then v count h (omega (arith, length-drop count rest))
-      ∙ ap (λ items. Ok v ∷ items) (items_left-empty int separator (index + 1) (place + count + 1) (drop (count + 1) rest) (omega (arith, length-drop count rest, length-drop (count + 1) rest))
+      ∙ ap (λ items. Ok v ∷ items) (items_left-empty int separator (index + 1) (place + count + 1) (drop (count + 1) rest) none
       ∙ sym (items_left-nil int separator index place))
 
-  pub items_left-trailing : (v : ℤ) (count byte : ℕ) (following : List ℕ) → prefix rest ≡ Ok (v, count) → drop count rest ≡ byte ∷ following → byte ≢ separator
+  pub items_left-trailing : (v : ℤ) (count byte : ℕ) (following : List ℕ) → prefix int rest ≡ Ok (v, count) → drop count rest ≡ byte ∷ following
+      → byte ≢ separator
       → items_left int separator index place rest ≡ Err (trailing index (place + count)) ∷ items_left int separator index place []
   items_left-trailing v count byte following h cut other =
       let first = drop_first count rest byte following cut in
-      let apart : (w : ℤ) → prefix rest ≡ Ok (w, field_end) → ⊥ = λ w k.
-      let at : count ≡ field_end = same_count (prefix rest) v w count field_end h k in
-      let found : field_end < length rest = omega (arith, first.0) in
-      other (sym first.1 ∙ (ap (λ n. get_or rest n 0) at ∙ eqb-true _ _ (passes_at_first ends rest 0 found))) in
+      let apart : (w : ℤ) → prefix int rest ≡ Ok (w, field_end separator rest) → ⊥ = λ w k.
+      let at : count ≡ field_end separator rest = same_count (prefix int rest) v w count (field_end separator rest) h k in
+      let found : field_end separator rest < length rest = omega (arith, first.0) in
+      other (sym first.1 ∙ (ap (λ n. get_or rest n 0) at ∙ eqb-true _ _ (passes_at_first (ends separator) rest 0 found))) in
       flaw_alone apart ∙ ap (λ r. Err (flaw_at index place r) ∷ items_left int separator index place []) h
 
-  pub items_left-refused : (reason : Refusal) → prefix rest ≡ Err reason → items_left int separator index place rest ≡ Err (field index place reason) ∷ items_left int separator index place []
-  items_left-refused reason h = flaw_alone (λ v ok. absurd (cc (h, ok))) ∙ ap (λ r. Err (flaw_at index place r) ∷ items_left int separator index place []) h
+  pub items_left-refused : (reason : Refusal) → prefix int rest ≡ Err reason
+      → items_left int separator index place rest ≡ Err (field index place reason) ∷ items_left int separator index place []
+  items_left-refused reason h =
+      flaw_alone (λ v ok. absurd (cc (h, ok))) ∙ ap (λ r. Err (flaw_at index place r) ∷ items_left int separator index place []) h
 
 -- Giving the first item leaves one less.
-pub one_item_less : {A B : Type 0} (can : List B → Type 0) → ((left : List B) → can left) → (before after : List B) (item : B) (given : A)
+pub one_item_less : {A B : Type 0} (can : List B → Type 0) → ((left : List B) → can left) → {before after : List B} {item : B} (given : A)
     → before ≡ item ∷ after → MakesProgress can (item_count (λ left. left)) before (Some given) after
-one_item_less can always before after item given first = record {
+one_item_less can always {before} {after} {item} given first = record {
   on = λ _. (always after, tt, subst (λ left. length after < length left) (sym first) (omega arith));
   keeps = always after;
   rests = λ _. tt;

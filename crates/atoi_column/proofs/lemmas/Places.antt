@@ -69,7 +69,9 @@ module _ (whole : List ℕ → Result ℤ Refusal) (prefix : List ℕ → Result
       let here : place + length rest ≤ bytes = room (omega arith) in
       let cut : place_after (text ∷ texts) ≡ length text + 1 + place_after texts = place_after-cons text texts in
       let left : length (drop (length text + 1) rest) ≡ length rest - (length text + 1) = length-drop (length text + 1) rest in
-      let following = items_from-inside (index + 1) (place + length text + 1) (drop (length text + 1) rest) texts (omega arith) (omega arith) (λ some. omega (arith, place_after-some texts some)) in
+      let following =
+      items_from-inside (index + 1) (place + length text + 1) (drop (length text + 1) rest) texts (omega arith) (omega arith)
+      (λ some. omega (arith, place_after-some texts some)) in
       items_from-cases whole prefix (All (IsInside bytes)) index place rest text texts
       (λ v. All-cons (IsInside bytes) (Ok v) _ tt following)
       (All-cons (IsInside bytes) (Err (flaw_at index place (prefix rest))) [] (flaw_at-inside index place rest here (omega arith)) (All-nil (IsInside bytes)))

@@ -110,15 +110,16 @@ fields_are_prefixes int is_whole of_cut rest_changes separator is rest =
     let text : List ℕ = before_first p rest in
     let ends : length text ≡ position_or_len p rest = length-prefix_len (λ byte. not (p byte)) rest in
     let same = rest_changes (looked_for true) true text rest (same_run_of_field int separator is rest) in
+    let of_text = prefix_call int (looked_for true) true text in
+    let of_rest = prefix_call int (looked_for true) true rest in
     record {
       to_prefix = λ value h.
-          same_outcome-ok (prefix_call int (looked_for true) true text) (prefix_call int (looked_for true) true rest) (value, position_or_len p rest) same
+          same_outcome-ok of_text of_rest (value, position_or_len p rest) same
           (rw ends at (is_whole.back (looked_for true) true text value (inl refl) h));
       to_field = λ value h.
           is_whole.whole (looked_for true) true text value
-          (rw ends (same_outcome-ok_back (prefix_call int (looked_for true) true text) (prefix_call int (looked_for true) true rest) (value, position_or_len p rest) same h));
+          (rw ends (same_outcome-ok_back of_text of_rest (value, position_or_len p rest) same h));
       within = λ value count h.
-          let cut = of_cut.cut (looked_for true) true text value count
-          (same_outcome-ok_back (prefix_call int (looked_for true) true text) (prefix_call int (looked_for true) true rest) (value, count) same h) in
+          let cut = of_cut.cut (looked_for true) true text value count (same_outcome-ok_back of_text of_rest (value, count) same h) in
           omega (arith, cut.1, ends);
     }

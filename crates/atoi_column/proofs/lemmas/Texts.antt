@@ -32,7 +32,8 @@ module _ (int : IntType) (whole : List ℕ → Result ℤ Refusal) (prefix : Lis
 
   -- One more accepted field does not change the end.
   ends_after : (index place : ℕ) (rest text : List ℕ) (texts others : List (List ℕ)) (last : List (Result ℤ Flaw))
-      → EndsItems int prefix (index + 1 + length texts) (place + length text + 1 + place_after texts) (drop (place_after texts) (drop (length text + 1) rest)) others last
+      → EndsItems int prefix (index + 1 + length texts) (place + length text + 1 + place_after texts)
+      (drop (place_after texts) (drop (length text + 1) rest)) others last
       → EndsItems int prefix (index + length (text ∷ texts)) (place + place_after (text ∷ texts)) (drop (place_after (text ∷ texts)) rest) others last
   ends_after index place rest text texts others last h =
       let further : place_after (text ∷ texts) ≡ length text + 1 + place_after texts = sum_by-cons (λ t. length t + 1) text texts in
@@ -83,7 +84,8 @@ module _ (int : IntType) (texts : AcceptedTexts int) (numbers : AcceptedNumbers 
 pub texts_and_items : (int : IntType) → AcceptedTexts int → AcceptedNumbers int → TextsAndItems int
 unfolding items_left
 texts_and_items int texts numbers separator input =
-    let from = has_items_from int (parse_answer int true true) (parse_prefix_answer int true true) (read_by_law int texts numbers) 0 0 input (fields_of separator input) in
+    let read = read_by_law int texts numbers in
+    let from = has_items_from int (parse_answer int true true) (parse_prefix_answer int true true) read 0 0 input (fields_of separator input) in
     record {
       texts = from.texts;
       others = from.others;
