@@ -36,14 +36,14 @@ pub enum Task {
 /// The processor that `rt` builds for unless it is told another.
 pub const DEFAULT_CPU: &str = "x86-64-v2";
 
-/// How the program is called.
+/// How the program is called: what `--help` prints.
 pub const USAGE: &str = "\
 cargo run --release -- [ARGUMENT..]
   (no argument)       compare the answers, then time the library beside other libraries
   --compare-only      only compare the answers
   --time-only         only time the library beside other libraries
   --against COMMIT    only time the library beside that of a commit
-  --count             count instructions, also beside --against and --beside
+  --count             only count instructions, beside other libraries or --against
   --beside NAME=FILE  time or count a build of your own too: FILE is a shared object
   --cpu CPU           build our library for a processor (x86-64-v2)
   --passes N          how often everything is timed (5, at least 3)
@@ -84,14 +84,14 @@ impl Arguments {
             "--seed" => self.seed = number(word, &value()?)?,
             "--texts" => self.texts = number(word, &value()?)?,
             "--chart" => self.chart = Some(PathBuf::from(value()?)),
-            _ => return Err(format!("there is no argument {word}\n{USAGE}")),
+            _ => return Err(format!("there is no argument {word}: --help lists all")),
         }
         Ok(())
     }
 
     fn does(&mut self, task: Task) -> Result<(), String> {
         if self.task != Task::Everything {
-            return Err(format!("only one of the arguments that say what is done\n{USAGE}"));
+            return Err(String::from("--compare-only, --time-only and --count exclude each other"));
         }
         self.task = task;
         Ok(())

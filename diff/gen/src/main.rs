@@ -49,6 +49,10 @@ fn main() -> ExitCode {
         // Valgrind runs the program in this way.
         ["--cells", file, "root"] => count::make_calls(Path::new(file), Form::Root).map(|()| 0),
         ["--cells", file, "lanes"] => count::make_calls(Path::new(file), Form::Lanes).map(|()| 0),
+        ["--help"] => {
+            println!("{}", arguments::USAGE);
+            Ok(0)
+        }
         _ => Arguments::read(words).and_then(|arguments| run(&arguments)),
     };
     match done {

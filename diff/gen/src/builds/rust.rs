@@ -48,8 +48,8 @@ pub static ALL: [RustLibrary; 6] = [
         splits: false,
         helpers: STANDARD,
     },
-    RustLibrary { name: "the Rust crate, portable, atoi_simd", cpu: "x86-64", ..ORIGINAL },
-    RustLibrary { name: "the Rust crate, AVX2, atoi_simd", cpu: "x86-64-v3", ..ORIGINAL },
+    RustLibrary { name: "the Rust crate's portable build", cpu: "x86-64", ..ORIGINAL },
+    RustLibrary { name: "the Rust crate's AVX2 build", cpu: "x86-64-v3", ..ORIGINAL },
     RustLibrary {
         name: "lexical-core",
         package: Some(("lexical-core", "1")),
