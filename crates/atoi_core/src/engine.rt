@@ -9,7 +9,7 @@ ghost use Rattle.atoi_core.specs.Window.{window_of};
 use crate::error::AtoiSimdError;
 use crate::powers::append_digits;
 use crate::steps::Steps;
-use crate::wide_answer::{answer_64, answer_128};
+use crate::wide_answer::{answer_64, answer_128, found_or_empty};
 use crate::window::Window;
 
 /// An *engine* reads windows, for one table of digits. Each read is one *load*. It may replace the
@@ -57,12 +57,7 @@ pub trait Engine {
             at += window.zeroes as usize; // At most 16 a turn.
         };
         if first.len < 16 {
-            let len = at + first.len as usize;
-            return if len == 0 {
-                Err(AtoiSimdError::Empty)
-            } else {
-                Ok((first.number, len))
-            };
+            return found_or_empty(first.number, at + first.len as usize);
         }
         let rest = &s[at..];
         let second = Self::window_8(&rest[16..], steps);
@@ -95,12 +90,7 @@ pub trait Engine {
             at += window.zeroes as usize;
         };
         if first.len < 16 {
-            let len = at + first.len as usize;
-            return if len == 0 {
-                Err(AtoiSimdError::Empty)
-            } else {
-                Ok((u128::from(first.number), len))
-            };
+            return found_or_empty(u128::from(first.number), at + first.len as usize);
         }
         let rest = &s[at..];
         let second = Self::window(&rest[16..], steps);

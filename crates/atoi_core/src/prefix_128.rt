@@ -1,16 +1,15 @@
 //! The parse of 128 bits at the start of a slice: two windows inlined, then the engine.
-ghost use Rattle.std.specs.Prelude.{◌≡◌, ◌+◌, ◌-◌, ◌<◌, ◌≤◌, ℕ, false, IsTrue, None, IfSome, Ok};
+ghost use Rattle.std.specs.Prelude.{◌≡◌, ◌+◌, ◌-◌, ◌<◌, ◌≤◌, ℕ, false, IsTrue, None, IfSome};
 ghost use Rattle.atoi_core.specs.Loads.{LoadsWithin, most_loads};
 ghost use Rattle.atoi_core.specs.Magnitude.{HasDigits, wide128, prefix_magnitude};
 ghost use Rattle.atoi_core.specs.Refusal.{answer_of};
 ghost use Rattle.atoi_core.specs.Run.{run_len};
-ghost use Rattle.atoi_core.specs.Window.{window_of};
 
 use crate::engine::Engine;
 use crate::error::AtoiSimdError;
 use crate::powers::append_digits;
 use crate::steps::Steps;
-use crate::window::Window;
+use crate::wide_answer::found_or_empty;
 
 /// As `Engine::prefix_128`, which is called after one full window if `WHOLE` is set and `s` has 32
 /// bytes or more, and loads again what was read here.
@@ -72,44 +71,18 @@ fn first_two_windows<'a, E: Engine, const WHOLE: bool>(
 {
     let first = E::window(s, steps);
     if WHOLE && first.len == 16 && s.len() >= 32 {
-        None
-    } else if first.len == 0 {
-        Some(Err(AtoiSimdError::Empty))
-    } else if first.len < 16 {
-        Some(Ok((u128::from(first.number), first.len as usize)))
-    } else {
-        match second_window::<E>(skip, first, s, steps) {
-            Some(found) => Some(Ok(found)),
-            None => None,
-        }
+        return None;
     }
-}
-
-// Returns the answer after a full first window, or `None` if there are zeros to skip or at least 32
-// digits.
-#[inline(always)]
-fn second_window<E: Engine>(
-    skip: bool,
-    first: Window,
-    s: &[u8],
-    steps: &mut Steps,
-) -> Option<(u128, usize)>
-    requires first_window { first ≡ window_of E.table 16 s.now }
-    requires full { first.len ≡ 16 }
-    ensures answer { IfSome result (λ found. (bound : ℕ) → HasDigits 39 bound
-        → Ok found ≡ prefix_magnitude E.table wide128 bound 39 skip s.now) }
-    ensures loads { IfSome result (λ found.
-        LoadsWithin (most_loads E.table wide128 s.now - 1) 1 E.table skip s.now steps.old steps.new) }
-    ensures none_only_from_32 { result ≡ None → skip ≡ false → 32 ≤ run_len E.table s.now }
-    ensures fewest { steps.old ≤ steps.new }
-    ensures most { steps.new ≤ steps.old + 1 }
-{
-    if !skip || first.zeroes == 0 {
-        let second = E::window(&s[16..], steps);
-        if second.len < 16 {
-            let number = append_digits(first.number, second.len, second.number);
-            return Some((number, 16 + second.len as usize));
-        }
+    if first.len < 16 {
+        return Some(found_or_empty(u128::from(first.number), first.len as usize));
+    }
+    if skip && first.zeroes > 0 {
+        return None;
+    }
+    let second = E::window(&s[16..], steps);
+    if second.len < 16 {
+        let number = append_digits(first.number, second.len, second.number);
+        return Some(Ok((number, 16 + second.len as usize)));
     }
     None
 }

@@ -1,11 +1,27 @@
 //! The answer of a wide parse, once its digits are read.
-ghost use Rattle.std.specs.Prelude.{◌≡◌, ◌+◌, ◌*◌, ◌^◌, ◌<◌, ◌≤◌, nat_lt, if◌then◌else◌, length};
+ghost use Rattle.std.specs.Prelude.{◌≡◌, ◌+◌, ◌*◌, ◌^◌, ◌<◌, ◌≤◌, ◌==◌, nat_lt, if◌then◌else◌, Ok, Err, length};
 ghost use Rattle.atoi_core.specs.Magnitude.{HasDigits, wide64, wide128};
 ghost use Rattle.atoi_core.specs.Reading.{answer_by_digits};
-ghost use Rattle.atoi_core.specs.Refusal.{answer_of};
+ghost use Rattle.atoi_core.specs.Refusal.{answer_of, empty};
 
 use crate::error::AtoiSimdError;
 use crate::powers::power_of_ten;
+
+/// Returns a number of `len` digits with this length.
+///
+/// # Errors
+///
+/// `Empty` if `len` is 0.
+#[inline(always)]
+pub fn found_or_empty<'a, N: Copy>(number: N, len: usize) -> Result<(N, usize), AtoiSimdError<'a>>
+    ensures { answer_of result ≡ (if len == 0 then Err empty else Ok (number, len)) }
+{
+    if len == 0 {
+        Err(AtoiSimdError::Empty)
+    } else {
+        Ok((number, len))
+    }
+}
 
 /// Returns the answer of `prefix_64` for `s`, which starts with `skipped` zeros and then
 /// `significant` digits that spell `number`.

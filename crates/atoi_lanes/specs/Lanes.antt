@@ -4,6 +4,7 @@ use Rattle.atoi_core.specs.Digit.{Table, decimal_table}
 use Rattle.atoi_core.specs.Reading.{Reading, IsSkipped}
 use Rattle.atoi_core.specs.Run.{run_len, run, zeros, value}
 use Rattle.atoi_core.specs.declared.window.Window.{Window}
+use Rattle.atoi_lanes.specs.declared.window_32.Window32.{Window32}
 
 -- The first `size` bytes; missing ones are 0.
 abbrev pub padded_start : ℕ → List ℕ → List ℕ
@@ -33,8 +34,8 @@ paired base (last ∷ []) = []
 paired base (high ∷ low ∷ rest) = (high * base + low) ∷ paired base rest
 
 -- 32 bytes after skipped zeros; if all are digits, the first is no zero to skip.
-pub record ReadsAfterZeros (skip : Bool) (s : List ℕ) (at len zeroes number : ℕ) : Type 0 where
+pub record ReadsAfterZeros (skip : Bool) (s : List ℕ) (at : ℕ) (w : Window32) : Type 0 where
   pub skipped : IsSkipped decimal_table skip s at
-  pub reading : Reading decimal_table 32 (drop at s) len zeroes number
-  pub within : at + len ≤ length s
-  pub ends : skip ≡ true → 32 ≤ len → zeroes ≡ 0
+  pub reading : Reading decimal_table 32 (drop at s) w.len w.zeroes w.number
+  pub within : at + w.len ≤ length s
+  pub ends : skip ≡ true → 32 ≤ w.len → w.zeroes ≡ 0

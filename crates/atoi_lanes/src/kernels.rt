@@ -21,7 +21,7 @@ const SHIFTS: [u8; 48] = [
 // The weights that join two pairs of digits, each in the upper byte of its 16 bits.
 const HUNDREDS: [u8; 16] = [0, 100, 0, 1, 0, 100, 0, 1, 0, 100, 0, 1, 0, 100, 0, 1];
 
-/// The first 16 bytes of `s`, the first in the first lane. A lane whose byte is missing is 0.
+/// Returns the first 16 bytes of `s`, the first in the first lane. A missing byte is 0.
 #[inline(always)]
 pub fn load_lanes(s: &[u8]) -> u8x16
     ensures { result ≡ padded_start 16 s.now }
@@ -35,7 +35,7 @@ pub fn load_lanes(s: &[u8]) -> u8x16
     }
 }
 
-/// How many digits the lanes begin with. The digits are the bytes 48 to 57.
+/// Returns how many digits the lanes begin with. The digits are the bytes 48 to 57.
 pub fn len_lanes(v: u8x16) -> u32
     ensures len { result ≡ run_len decimal_table v }
     ensures most { result ≤ 16 }
@@ -43,7 +43,7 @@ pub fn len_lanes(v: u8x16) -> u32
     digit_mask(v).trailing_ones()
 }
 
-// One bit for each lane, the lowest for the first: 1 if the lane is a digit.
+// Returns one bit for each lane, the lowest for the first: 1 if the lane is a digit.
 fn digit_mask(v: u8x16) -> u64
     ensures { result ≡ mask_l (map (is_digit decimal_table) v) }
 {
@@ -51,7 +51,7 @@ fn digit_mask(v: u8x16) -> u64
     digits.to_bitmask()
 }
 
-/// How many zeros the lanes begin with. A zero is the byte 48.
+/// Returns how many zeros the lanes begin with. A zero is the byte 48.
 pub fn zeroes_lanes(v: u8x16) -> u32
     ensures zeroes { result ≡ zeros decimal_table v }
     ensures most { result ≤ 16 }
@@ -59,8 +59,8 @@ pub fn zeroes_lanes(v: u8x16) -> u32
     v.simd_eq(u8x16::splat(b'0')).to_bitmask().trailing_ones()
 }
 
-/// The number that the first `len` lanes spell. They are digits; the lanes after them may hold any
-/// bytes.
+/// Returns the number that the first `len` lanes spell. They are digits; the lanes after them may
+/// hold any bytes.
 #[inline(always)]
 pub fn sum_lanes(v: u8x16, len: u32) -> u64
     requires within { len ≤ 16 }
@@ -72,7 +72,7 @@ pub fn sum_lanes(v: u8x16, len: u32) -> u64
     number_in_lanes(shuffle(digit_values, len as usize))
 }
 
-// The 16 lanes from place `p` of 16 lanes of 0, those of `v`, and 16 more lanes of 0.
+// Returns the 16 lanes from place `p` of 16 lanes of 0, those of `v`, and 16 more lanes of 0.
 pub(crate) fn shuffle(v: u8x16, p: usize) -> u8x16
     requires { p ≤ 32 }
     ensures { result ≡ take 16 (drop p (padded v)) }
@@ -80,7 +80,7 @@ pub(crate) fn shuffle(v: u8x16, p: usize) -> u8x16
     v.swizzle_dyn_within::<16>(u8x16::from_slice(&SHIFTS[p..]))
 }
 
-/// How many digits a slice of fewer than 8 bytes begins with, and the number that they spell.
+/// Returns how many digits a slice of fewer than 8 bytes begins with, and the number that they spell.
 #[inline(always)]
 pub fn read_short(s: &[u8]) -> (u32, u64)
     requires few { length s.now < 8 }
@@ -103,7 +103,7 @@ pub fn read_short(s: &[u8]) -> (u32, u64)
     (len, number_in_half(digits & u8x16::splat(0x0F)))
 }
 
-// The bytes of a word in the first eight lanes, the lowest first. The other lanes are 0.
+// Returns the bytes of a word in the first eight lanes, the lowest first. The other lanes are 0.
 fn half(word: u64) -> u8x16
     ensures { result ≡ digits_l 256 16 word }
 {

@@ -15,7 +15,7 @@ use std::simd::prelude::*;
 /// and 128 bits. Its digits are `b'0'` to `b'9'`.
 pub struct Lanes;
 
-// The window of `size` bytes, from lanes that hold at most these; the other lanes are 0.
+// Returns the window of `size` bytes, from lanes that hold at most these; the other lanes are 0.
 fn lane_window(lanes: u8x16, size: u32) -> Window
     ensures { result ≡ lane_window size lanes }
 {
@@ -32,32 +32,24 @@ fn lane_window(lanes: u8x16, size: u32) -> Window
 impl Engine for Lanes {
     ghost table = { decimal_table };
 
-    /// The window of 16 bytes.
+    /// Returns the window of 16 bytes.
     #[inline(always)]
     fn window(s: &[u8], steps: &mut Steps) -> Window {
         steps.tick();
         if s.len() < 8 {
             let (len, number) = read_short(s);
-            return Window {
-                len,
-                zeroes: 0,
-                number,
-            };
+            return Window::not_full(len, number);
         }
         lane_window(load_lanes(s), 16)
     }
 
-    /// The window of 8 bytes.
+    /// Returns the window of 8 bytes.
     #[inline(always)]
     fn window_8(s: &[u8], steps: &mut Steps) -> Window {
         steps.tick();
         // An empty slice needs no lanes.
         if s.is_empty() {
-            return Window {
-                len: 0,
-                zeroes: 0,
-                number: 0,
-            };
+            return Window::not_full(0, 0);
         }
         lane_window(load_lanes(&s[..s.len().min(8)]), 8)
     }

@@ -21,7 +21,7 @@ pub(crate) struct Window32 {
     pub(crate) number: u128,
 }
 
-/// The window of 32 bytes.
+/// Returns the window of 32 bytes.
 #[inline(always)]
 pub(crate) fn window_32(s: &[u8], steps: &mut Steps) -> Window32
     ensures reading { Reading decimal_table 32 s.now result.len result.zeroes result.number }
@@ -46,8 +46,8 @@ pub(crate) fn window_32(s: &[u8], steps: &mut Steps) -> Window32
     }
 }
 
-// The 16 bytes after the first 16, as `load_lanes` has them. The last 16 of 16 to 31 bytes contain
-// them, and one shuffle, without a branch on the length, moves them to the start.
+// Returns the 16 bytes after the first 16, as `load_lanes` has them. The last 16 of 16 to 31 bytes
+// contain them, and one shuffle, without a branch on the length, moves them to the start.
 fn load_after_16(s: &[u8]) -> u8x16
     ensures { result ≡ padded_start 16 (drop 16 s.now) }
 {
@@ -60,8 +60,8 @@ fn load_after_16(s: &[u8]) -> u8x16
     shuffle(u8x16::from_slice(&s[s.len() - 16..]), 48 - s.len())
 }
 
-// How many zeros the lanes of both begin with. Most slices begin with none, so the first lane is
-// tested first.
+// Returns how many zeros the lanes of both begin with. Most slices begin with none, so the first
+// lane is tested first.
 fn zeroes_of_two(first: u8x16, second: u8x16) -> u32
     ensures { result ≡ (if zeros decimal_table first == 16 then 16 + zeros decimal_table second
         else zeros decimal_table first) }
@@ -77,7 +77,7 @@ fn zeroes_of_two(first: u8x16, second: u8x16) -> u32
     }
 }
 
-// The number that the lanes of `first` and then the first `more` of `second` spell.
+// Returns the number that the lanes of `first` and then the first `more` of `second` spell.
 #[inline(always)]
 fn number_in_two(first: u8x16, second: u8x16, more: u32) -> u128
     requires within { more ≤ 16 }

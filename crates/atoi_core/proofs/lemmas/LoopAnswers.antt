@@ -49,14 +49,13 @@ pub answers_empty : {table : Table} (class : Class) (bound limit : ℕ) {skip : 
 answers_empty {table} class bound limit {skip} {s} after_skip none =
     rw (refused_empty table class bound limit prefix skip s (omega (arith, after_skip.run_is, after_skip.window.len_is))) refl
 
--- A last window that is not full holds the rest of the run: `Ok`.
+-- A last window that is not full holds the rest of the run, if there is any.
 pub answers_short : {table : Table} (class : Class) (bound limit : ℕ) {skip : Bool} {s : List ℕ} {at before now : ℕ} {w : Window} {number len : ℕ} →
-    limit < cap class → Skipped table skip s at before now w → w.len < 16 → 0 < at + w.len → 16 < limit → HasDigits limit bound →
-    number ≡ w.number → len ≡ at + w.len → Ok (number, len) ≡ prefix_magnitude table class bound limit skip s
-answers_short class bound limit {at = at} {w = w} less after_skip few some long digits number_is len_is =
+    limit < cap class → Skipped table skip s at before now w → w.len < 16 → 16 < limit → HasDigits limit bound → number ≡ w.number → len ≡ at + w.len →
+    (if len == 0 then Err empty else Ok (number, len)) ≡ prefix_magnitude table class bound limit skip s
+answers_short class bound limit less after_skip few long digits number_is len_is =
     let seen = after_skip.window in
-    let decides = short_below class bound limit less digits (is_skipped after_skip) seen.reading few (omega arith) seen.below in
-    rw (number_is, len_is) (sym (decides.1 ∙ rw (ne_eqb (at + w.len) 0 (omega arith)) refl))
+    rw (number_is, len_is) (sym (short_below class bound limit less digits (is_skipped after_skip) seen.reading few (omega arith) seen.below).1)
 
 -- So do a full window and one that is not: `Ok` for 128 bits.
 pub answers_two : {table : Table} → IsBelowTen table → (bound : ℕ) {skip : Bool} {s : List ℕ} {at before now : ℕ} {first second : Window} {number len : ℕ} →

@@ -53,6 +53,11 @@ pub Shows-join_two : {table : Table} {s : List ℕ} {first_window middle back : 
     ((first_window.number * 10 ^ 16 + middle.number) * 10 ^ back.len + back.number)
 Shows-join_two first full second more third = join_readings (join_readings (Shows-full first full) (Shows-full second more)) third.reading
 
+-- Two full windows are 32 digits.
+pub two_full : {table : Table} (s : List ℕ) {first second : Window} → Shows table 16 s first → 16 ≤ first.len → Shows table 16 (drop 16 s) second
+    → 16 ≤ second.len → 32 ≤ run_len table s
+two_full {table} s seen full next more = omega (arith, prefix_len-drop (is_digit table) 16 s (omega (arith, seen.len_is)), next.len_is)
+
 module _ {table : Table} (ten : IsBelowTen table) where
   shows_of : (c : ℕ) (s : List ℕ) → Shows table c s (window_of table c s)
   shows_of c s =
@@ -84,12 +89,6 @@ module _ {table : Table} (ten : IsBelowTen table) where
   shows_following c k s at e =
       shows_rest c (drop at s) k
       (e ∙ ap (λ (r : List ℕ). window_of table c (take (length r - k) (drop k r))) (take_rest s at))
-
-pub two_full : (table : Table) → IsBelowTen table → (s : List ℕ) {first second : Window} → first ≡ window_of table 16 s → first.len ≡ 16
-    → second ≡ window_of table 16 (take (length s - 16) (drop 16 s)) → 16 ≤ second.len → 32 ≤ run_len table s
-two_full table ten s is full next more =
-    let first_full = prefix_len-drop (is_digit table) 16 s (omega (arith, full, (shows ten 16 s is).len_is)) in
-    omega (arith, first_full, (shows_rest ten 16 s 16 next).len_is)
 
 -- ---- The loop that skips zeros
 

@@ -14,25 +14,25 @@ use Rattle.std.proofs.lemmas.Bool.{cases_lt, false≢true}
 use Rattle.atoi_core.specs.Magnitude.{wide64, wide128, prefix_magnitude}
 use Rattle.atoi_lanes.specs.declared.window_32.Window32.{Window32}
 
--- A full first window without a loop begins with no zero to skip.
-pub first-ends : (skip : Bool) (len leading : ℕ) → len ≤ 32
-    → ((skip ≡ true) × (0 < leading) × (len ≡ 32 → ⊥)) ⊎ (((skip ≡ true) × (leading ≤ 0)) ⊎ (skip ≡ false))
-    → skip ≡ true → 32 ≤ len → leading ≡ 0
-first-ends skip len leading most ends on full =
-    elim ends [
-      | inl short ↦ absurd (short.2 (omega arith))
-      | inr rest ↦ (elim rest [ inl none ↦ omega (arith, none.1) | inr off ↦ absurd (false≢true (sym off ∙ on)) ])
-    ]
+module _ {skip : Bool} {s : List ℕ} {w : Window32} (reading : Reading decimal_table 32 s w.len w.zeroes w.number) where
+  -- A first window that is the last: fewer than 32 zeros are skipped.
+  pub only_window : (skip ≡ true → 32 ≤ w.len → w.zeroes ≡ 0) → ReadsAfterZeros skip s 0 w × (skip ≡ true → zeros decimal_table s < 32)
+  only_window ends =
+      let reported : w.zeroes ≡ min 32 (zeros decimal_table s - 0) = reading.leading_are ∙ zeros_left decimal_table 32 s 0 (omega arith) in
+      let most = within reading in (
+        record { skipped = record { zeros_only = omega arith; asked = λ _. refl }; reading = reading; within = omega (arith, most.1); ends = ends },
+        λ on. elim (cases_lt w.len 32) [ inl less ↦ omega (arith, most.0, reported) | inr more ↦ omega (arith, ends on more, reported) ],
+      )
 
--- A first window that is the last: fewer than 32 zeros are skipped.
-pub only_window : (skip : Bool) (s : List ℕ) (len leading number : ℕ) → Reading decimal_table 32 s len leading number
-    → (skip ≡ true → 32 ≤ len → leading ≡ 0) → ReadsAfterZeros skip s 0 len leading number × (skip ≡ true → zeros decimal_table s < 32)
-only_window skip s len leading number reading ends =
-    let reported : leading ≡ min 32 (zeros decimal_table s - 0) = reading.leading_are ∙ zeros_left decimal_table 32 s 0 (omega arith) in
-    let most = within reading in (
-      record { skipped = record { zeros_only = omega arith; asked = λ _. refl }; reading = reading; within = omega (arith, most.1); ends = ends },
-      λ on. elim (cases_lt len 32) [ inl less ↦ omega (arith, most.0, reported) | inr more ↦ omega (arith, ends on more, reported) ],
-    )
+  -- A full first window without a loop begins with no zero to skip.
+  pub first_is_last : ((skip ≡ true) × (0 < w.zeroes) × (w.len ≡ 32 → ⊥)) ⊎ (((skip ≡ true) × (w.zeroes ≤ 0)) ⊎ (skip ≡ false))
+      → ReadsAfterZeros skip s 0 w × (skip ≡ true → zeros decimal_table s < 32)
+  first_is_last stops =
+      let most = within reading in
+      only_window (λ on full. elim stops [
+        | inl short ↦ absurd (short.2 (omega (arith, most.1)))
+        | inr rest ↦ (elim rest [ inl none ↦ omega (arith, none.1) | inr off ↦ absurd (false≢true (sym off ∙ on)) ])
+      ])
 
 -- Below 32 skipped zeros, one to `unskipped` loads are within all bounds.
 pub few_loads : (most unskipped : ℕ) (skip : Bool) (s : List ℕ) (before after : ℕ) → before < after → after ≤ before + unskipped → unskipped ≤ most
@@ -50,7 +50,7 @@ significant_are false len reported leading most is = elim is [ inl h ↦ absurd 
 
 -- For 64 bits, the last window decides the answer.
 pub decided_64 : (bound limit : ℕ) (skip : Bool) (s : List ℕ) (at leading : ℕ) (w : Window32) → limit ≤ 20
-    → ReadsAfterZeros skip s at w.len w.zeroes w.number → ((skip ≡ true) × (leading ≡ w.zeroes)) ⊎ ((skip ≡ false) × (leading ≡ 0))
+    → ReadsAfterZeros skip s at w → ((skip ≡ true) × (leading ≡ w.zeroes)) ⊎ ((skip ≡ false) × (leading ≡ 0))
     → answer_by_digits wide64 bound limit (at + leading) (w.len - leading) w.number s ≡ prefix_magnitude decimal_table wide64 bound limit skip s
 decided_64 bound limit skip s at leading w few front is =
     let most = within front.reading in
@@ -66,7 +66,7 @@ decided_64 bound limit skip s at leading w few front is =
 
 -- For 128 bits, a full window and 8 bytes decide.
 pub decided_full : (bound : ℕ) (skip : Bool) (s : List ℕ) (at : ℕ) (w : Window32) (back : Window)
-    → ReadsAfterZeros skip s at w.len w.zeroes w.number → 32 ≤ w.len
+    → ReadsAfterZeros skip s at w → 32 ≤ w.len
     → back ≡ window_of decimal_table 8 (take (length s - (at + 32)) (drop (at + 32) s))
     → (back.len ≤ 8) × (w.number * 10 ^ back.len + back.number < 10 ^ (32 + back.len)) × (at + (32 + back.len) ≤ length s) × (answer_by_digits wide128 bound 39 at (32 + back.len) (w.number * 10 ^ back.len + back.number) s ≡ prefix_magnitude decimal_table wide128 bound 39 skip s)
 decided_full bound skip s at w back after_skip full reported =

@@ -1,7 +1,9 @@
--- A first window that is not full holds the whole run.
-use Rattle.std.proofs.Common.{◌<◌, arith, lit<}
-use Rattle.atoi_core.proofs.lemmas.LoopAnswers.{answers_empty, answers_short}
-use Rattle.atoi_core.proofs.lemmas.Windows.{Skipped, Skipped-first, Skipped-loads}
+-- Two windows decide the answer, unless both are full or zeros are to be skipped.
+use Rattle.std.proofs.Common.{◌<◌, inl, inr, ◌∙◌, arith, lit<, rules}
+use Rattle.std.proofs.lemmas.List.Sums.{prefix_len-le-length}
+use Rattle.atoi_core.specs.Digit.{is_digit}
+use Rattle.atoi_core.proofs.lemmas.LoopAnswers.{answers_short, answers_two}
+use Rattle.atoi_core.proofs.lemmas.Windows.{Skipped, Skipped-at_once, Skipped-first, Skipped-loads, shows, shows_rest, two_full}
 use Rattle.atoi_core.proofs.prefix_128.first_two_windows.Goals as goal
 use Rattle.atoi_core.proofs.prefix_128.first_two_windows.Goals.{After-window-first}
 
@@ -11,16 +13,40 @@ short : (g : _) (c : After-window-first g) → c.window-first.result.len < 16
 short g c few =
     Skipped-first g.met.E.Engine.below_ten c.args.skip c.args.s.now c.window-first.ensures.window c.window-first.ensures.one_step few
 
-pub returns-then-first-eq0-clause-answer : goal.returns-then-first-eq0-clause-answer
-returns-then-first-eq0-clause-answer g c bound digits =
-    let at = (goal.at.returns-then-first-eq0-clause-answer g c).After-window-first in
-    answers_empty _ _ _ (short g at (omega arith)) (omega arith)
-
 pub returns-then-first-lt16-clause-answer : goal.returns-then-first-lt16-clause-answer
 returns-then-first-lt16-clause-answer g c bound digits =
     let at = (goal.at.returns-then-first-lt16-clause-answer g c).After-window-first in
-    answers_short _ bound 39 (lit< tt) (short g at c.if-first-lt16.true) c.if-first-lt16.true (omega arith) (lit< tt) digits c.from.ensures (omega arith)
+    c.found_or_empty.ensures ∙ answers_short _ bound 39 (lit< tt) (short g at c.if-first-lt16.true) c.if-first-lt16.true (lit< tt) digits c.from.ensures (omega arith)
 
 pub returns-then-first-lt16-clause-loads : goal.returns-then-first-lt16-clause-loads
 returns-then-first-lt16-clause-loads g c =
-    Skipped-loads (short g (goal.at.returns-then-first-lt16-clause-loads g c).After-window-first (omega arith)) 0 (omega arith) (omega arith) (omega arith)
+    Skipped-loads (short g (goal.at.returns-then-first-lt16-clause-loads g c).After-window-first c.if-first-lt16.true) 0 (omega arith) (omega arith) (omega arith)
+
+pub slice_bounds-window-start : goal.slice_bounds-window-start
+slice_bounds-window-start g c =
+    let seen = shows g.met.E.Engine.below_ten 16 c.args.s.now c.window-first.ensures.window in
+    omega (arith, seen.len_is, c.if-first-lt16.false, prefix_len-le-length (is_digit g.E.Engine.table) c.args.s.now)
+
+pub slice_bounds-window-count : goal.slice_bounds-window-count
+slice_bounds-window-count g c = slice_bounds-window-start g c
+
+pub returns-then-second-lt16 : goal.returns-then-second-lt16
+returns-then-second-lt16 g c =
+    let s = c.args.s.now in
+    let after_skip = Skipped-at_once g.met.E.Engine.below_ten c.args.skip s c.window-first.ensures.window c.window-first.ensures.one_step
+    (elim c.else-skip.either [ inl h ↦ inr (h.0, omega (arith, h.1)) | inr h ↦ inl h ]) in
+    let second = shows_rest g.met.E.Engine.below_ten 16 s 16 c.window-second.ensures.window in
+    record {
+      answer = λ bound digits. answers_two g.met.E.Engine.below_ten bound after_skip c.if-first-lt16.false second c.if-second-lt16.true digits (cc) (omega arith);
+      loads = Skipped-loads after_skip 1 (omega (arith, c.window-second.ensures.one_step)) (omega arith) (omega arith);
+      none_only_from_32 = search rules;
+      fewest = omega arith;
+      most = omega arith;
+    }
+
+pub returns-clause-none_only_from_32 : goal.returns-clause-none_only_from_32
+returns-clause-none_only_from_32 g c none off =
+    let s = c.args.s.now in
+    let first = shows g.met.E.Engine.below_ten 16 s c.window-first.ensures.window in
+    let second = shows_rest g.met.E.Engine.below_ten 16 s 16 c.window-second.ensures.window in
+    λ _. two_full s first c.if-first-lt16.false second c.if-second-lt16.false

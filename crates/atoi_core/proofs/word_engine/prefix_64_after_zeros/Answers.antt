@@ -1,8 +1,9 @@
 -- The answers follow from where the loop of `window_after_zeros` ends.
-use Rattle.std.proofs.Common.{◌+◌, ℕ, List, true, refl, ap, ◌∙◌, arith, drop}
+use Rattle.std.proofs.Common.{◌+◌, ℕ, List, true, refl, ap, ◌∙◌, arith, drop, ne_eqb}
 use Rattle.std.proofs.lemmas.List.{length-drop, take_rest}
 use Rattle.std.proofs.lemmas.List.Sums.{prefix_len-le-length}
 use Rattle.atoi_core.specs.Digit.{decimal_table, is_digit}
+use Rattle.atoi_core.specs.Magnitude.{wide64}
 use Rattle.atoi_core.specs.Window.{window_of}
 use Rattle.atoi_core.proofs.lemmas.Runs.{decimal_below_ten}
 use Rattle.atoi_core.proofs.lemmas.Windows.{Skipped, Skipped-after_zeros, Shows, shows}
@@ -20,7 +21,8 @@ ended c =
 pub returns-then-first-lt16-clause-answer : goal.returns-then-first-lt16-clause-answer
 returns-then-first-lt16-clause-answer c =
     let after_skip = ended (goal.at.returns-then-first-lt16-clause-answer c).After-window_after_zeros-at in
-    answers_short _ _ _ (omega arith) after_skip c.if-first-lt16.true (omega (arith, c.window_after_zeros-at.ensures.some)) (omega arith) c.requires.digits refl refl
+    let some = ne_eqb (c.window_after_zeros-at.result.0 + c.window_after_zeros-at.result.1.len) 0 (omega (arith, c.window_after_zeros-at.ensures.some)) in
+    rw some at (answers_short wide64 c.args.bound c.args.limit (omega arith) after_skip c.if-first-lt16.true (omega arith) c.requires.digits refl refl)
 
 pub window_after_16-back-requires : goal.window_after_16-back-requires
 window_after_16-back-requires c =

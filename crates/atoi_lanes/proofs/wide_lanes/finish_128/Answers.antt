@@ -1,7 +1,17 @@
--- A full window and the 8 bytes after it decide.
-use Rattle.std.proofs.Common.{◌∙◌}
+-- A window that is not full decides, or a full one and the 8 bytes after it.
+use Rattle.std.proofs.Common.{sym, ◌∙◌, arith, lit<}
+use Rattle.atoi_core.proofs.lemmas.Readings.{short}
+use Rattle.atoi_core.proofs.lemmas.Runs.{decimal_below_ten}
+use Rattle.atoi_core.specs.Magnitude.{wide128}
 use Rattle.atoi_lanes.proofs.lemmas.WideAnswers.{decided_full}
 use Rattle.atoi_lanes.proofs.wide_lanes.finish_128.Goals as goal
+
+pub returns-then-window-lt32-clause-answer : goal.returns-then-window-lt32-clause-answer
+returns-then-window-lt32-clause-answer c =
+    let r = c.requires in
+    let few = c.if-window-lt32.true in
+    c.found_or_empty.ensures
+    ∙ sym (short decimal_below_ten wide128 c.args.bound 39 (lit< tt) r.digits r.reached.skipped r.reached.reading few (omega (arith, few))).1
 
 pub answer_128-requires : goal.answer_128-requires
 answer_128-requires c =

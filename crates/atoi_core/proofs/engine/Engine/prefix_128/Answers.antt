@@ -1,13 +1,12 @@
 -- After the loop `Skipped` holds, and gives answers and loads.
-use Rattle.std.proofs.Common.{◌≤◌, ◌∙◌, ap, refl, arith, lit<, length, drop}
+use Rattle.std.proofs.Common.{◌∙◌, refl, arith, lit<, drop}
 use Rattle.std.proofs.lemmas.List.{take_rest}
 use Rattle.std.proofs.lemmas.List.Sums.{prefix_len-le-length}
 use Rattle.atoi_core.specs.Digit.{is_digit}
-use Rattle.atoi_core.proofs.lemmas.Runs.{prefix_len-drop}
-use Rattle.atoi_core.proofs.lemmas.Windows.{Shows, Skipping-none, Skipping-place, Skipping-loads, Skipped, Skipped-end, Skipped-loads, shows_following}
-use Rattle.atoi_core.proofs.lemmas.LoopAnswers.{answers_empty, answers_short, answers_two, answers_128}
+use Rattle.atoi_core.proofs.lemmas.Windows.{Shows, Skipping-none, Skipping-place, Skipping-loads, Skipped, Skipped-end, Skipped-loads, shows_following, two_full}
+use Rattle.atoi_core.proofs.lemmas.LoopAnswers.{answers_short, answers_two, answers_128}
 use Rattle.atoi_core.proofs.engine.Engine.prefix_128.Goals as goal
-use Rattle.atoi_core.proofs.engine.Engine.prefix_128.Goals.{After-window-second, After-window_8-third}
+use Rattle.atoi_core.proofs.engine.Engine.prefix_128.Goals.{Joined-then-not-skip, After-window-second, After-window_8-third}
 
 pub loop-window-init : goal.loop-window-init
 loop-window-init g c = Skipping-none _ c.args.skip c.args.s.now c.args.steps.now
@@ -24,27 +23,19 @@ loop-window-preserved g c =
           c.window-window.ensures.window c.window-window.ensures.one_step (omega arith) refl;
     }
 
-pub returns-then-len-eq0-clause-answer : goal.returns-then-len-eq0-clause-answer
-returns-then-len-eq0-clause-answer g c =
-    let after_skip = Skipped-end g.met.Self.Engine.below_ten c.loop-window.invariant
-    c.window-window.ensures.window c.window-window.ensures.one_step c.then-not-skip.either in
-    answers_empty _ _ _ after_skip c.if-len-eq0.true
-
-pub returns-else-len-eq0 : goal.returns-else-len-eq0
-returns-else-len-eq0 g c =
-    let after_skip = Skipped-end g.met.Self.Engine.below_ten c.loop-window.invariant
-    c.window-window.ensures.window c.window-window.ensures.one_step c.then-not-skip.either in
-    record {
-      answer = answers_short _ _ _ (lit< tt) after_skip c.if-first-lt16.true (omega arith) (lit< tt) c.requires.digits c.from.ensures refl;
-      loads = Skipped-loads after_skip 0 (omega arith) (omega arith) (omega arith);
-    }
-
--- The loop has ended at a full window.
-ended : (g : _) (c : After-window-second g)
+-- What holds after the loop.
+ended : (g : _) (c : Joined-then-not-skip g)
     → Skipped g.Self.Engine.table c.args.skip c.args.s.now c.loop-window.at c.args.steps.now c.window-window.new.steps c.window-window.result
 ended g c =
-    Skipped-end g.met.Self.Engine.below_ten c.loop-window.invariant
-    c.window-window.ensures.window c.window-window.ensures.one_step c.then-not-skip.either
+    Skipped-end g.met.Self.Engine.below_ten c.loop-window.invariant c.window-window.ensures.window c.window-window.ensures.one_step c.then-not-skip.either
+
+pub returns-then-first-lt16 : goal.returns-then-first-lt16
+returns-then-first-lt16 g c =
+    let after_skip = ended g (goal.at.returns-then-first-lt16 g c).Joined-then-not-skip in
+    record {
+      answer = c.found_or_empty.ensures ∙ answers_short _ _ _ (lit< tt) after_skip c.if-first-lt16.true (lit< tt) c.requires.digits c.from.ensures refl;
+      loads = Skipped-loads after_skip 0 (omega arith) (omega arith) (omega arith);
+    }
 
 middle : (g : _) (c : After-window-second g) → Shows g.Self.Engine.table 16 (drop 16 (drop c.loop-window.at c.args.s.now)) c.window-second.result
 middle g c =
@@ -56,35 +47,28 @@ third g c =
 
 pub returns-then-second-lt16 : goal.returns-then-second-lt16
 returns-then-second-lt16 g c =
-    let two = (goal.at.returns-then-second-lt16 g c).After-window-second in
+    let at = goal.at.returns-then-second-lt16 g c in
+    let after_skip = ended g at.Joined-then-not-skip in
     record {
-      answer = answers_two g.met.Self.Engine.below_ten _ (ended g two) c.if-first-lt16.false (middle g two) c.if-second-lt16.true c.requires.digits (cc) (omega arith);
-      loads = Skipped-loads (ended g two) 1 (omega (arith, c.window-second.ensures.one_step)) (omega arith) (omega arith);
+      answer = answers_two g.met.Self.Engine.below_ten _ after_skip c.if-first-lt16.false (middle g at.After-window-second) c.if-second-lt16.true c.requires.digits (cc) (omega arith);
+      loads = Skipped-loads after_skip 1 (omega (arith, c.window-second.ensures.one_step)) (omega arith) (omega arith);
     }
-
--- Two full windows are 32 bytes.
-two_long : (g : _) (c : After-window-second g) → 16 ≤ c.window-second.result.len → 32 ≤ length (drop c.loop-window.at c.args.s.now)
-two_long g c more =
-    let body = drop c.loop-window.at c.args.s.now in
-    let first = prefix_len-drop (is_digit g.Self.Engine.table) 16 body (omega (arith, c.if-first-lt16.false, (ended g c).window.len_is)) in
-    omega (arith, first, (middle g c).len_is, prefix_len-le-length (is_digit g.Self.Engine.table) body)
-
-pub slice_bounds-window_8-count : goal.slice_bounds-window_8-count
-slice_bounds-window_8-count g c =
-    let long = two_long g (goal.at.slice_bounds-window_8-count g c).After-window-second c.if-second-lt16.false in
-    omega (arith, ap length (take_rest c.args.s.now c.loop-window.at), long)
 
 pub slice_bounds-window_8-start : goal.slice_bounds-window_8-start
 slice_bounds-window_8-start g c =
-    let long = two_long g (goal.at.slice_bounds-window_8-start g c).After-window-second c.if-second-lt16.false in
-    rw (take_rest c.args.s.now c.loop-window.at) long
+    let at = goal.at.slice_bounds-window_8-start g c in
+    let body = drop c.loop-window.at c.args.s.now in
+    rw (take_rest c.args.s.now c.loop-window.at)
+    (omega (arith, two_full body (ended g at.Joined-then-not-skip).window c.if-first-lt16.false (middle g at.After-window-second) c.if-second-lt16.false, prefix_len-le-length (is_digit g.Self.Engine.table) body))
+
+pub slice_bounds-window_8-count : goal.slice_bounds-window_8-count
+slice_bounds-window_8-count g c = slice_bounds-window_8-start g c
 
 pub answer_128-requires : goal.answer_128-requires
 answer_128-requires g c =
     let at = goal.at.answer_128-requires g c in
-    let two = at.After-window-second in
     let back = third g at.After-window_8-third in
-    let all = answers_128 g.met.Self.Engine.below_ten c.args.bound (ended g two) c.if-first-lt16.false (middle g two) c.if-second-lt16.false back in
+    let all = answers_128 g.met.Self.Engine.below_ten c.args.bound (ended g at.Joined-then-not-skip) c.if-first-lt16.false (middle g at.After-window-second) c.if-second-lt16.false back in
     record {
       digits = c.requires.digits;
       few = omega (arith, back.len_is);
@@ -95,10 +79,10 @@ answer_128-requires g c =
 pub returns : goal.returns
 returns g c =
     let at = goal.at.returns g c in
-    let two = at.After-window-second in
-    let back = third g at.After-window_8-third in
-    let all = answers_128 g.met.Self.Engine.below_ten c.args.bound (ended g two) c.if-first-lt16.false (middle g two) c.if-second-lt16.false back in
+    let after_skip = ended g at.Joined-then-not-skip in
+    let middle_window = middle g at.After-window-second in
     record {
-      answer = rw c.append_digits-high.ensures at c.answer_128.ensures ∙ all.2;
-      loads = Skipped-loads (ended g two) 2 (omega (arith, c.window-second.ensures.one_step, c.window_8-third.ensures.one_step)) (omega arith) (omega arith);
+      answer = rw c.append_digits-high.ensures at c.answer_128.ensures
+          ∙ (answers_128 g.met.Self.Engine.below_ten c.args.bound after_skip c.if-first-lt16.false middle_window c.if-second-lt16.false (third g at.After-window_8-third)).2;
+      loads = Skipped-loads after_skip 2 (omega (arith, c.window-second.ensures.one_step, c.window_8-third.ensures.one_step)) (omega arith) (omega arith);
     }
