@@ -1,9 +1,7 @@
 pub mod Shuffles
 pub mod Masks
-pub mod LaneBytes
 pub mod JoinedDigits
 pub mod DigitLanes
-pub mod Padding
 pub mod ShortLanes
 pub mod LaneWindows
 pub mod WideAnswers

@@ -1,20 +1,22 @@
 -- Words that hold the bytes of a slice.
-use Rattle.std.proofs.Common.{◌≡◌, ℕ, zero, suc, ◌+◌, ◌-◌, ◌*◌, ◌/◌, ◌%◌, ◌^◌, ◌<◌, ◌≤◌, List, [], ◌∷◌, ◌++◌, length, take, drop, replicate, get_or, take-take, refl, sym, ap, ap₂, ◌∙◌, arith, min, Bool, true, false, cond, ◌==◌, if◌then◌else◌}
-use Rattle.std.proofs.Math.Nat.{mod-lt, div-one, zero-div, suc-mul, div-div-eq-div-mul}
-use Rattle.std.proofs.lemmas.List.{take_all, length-drop, get_or-drop, drop-drop, length-take-le}
+use Rattle.std.proofs.Common.{◌≡◌, ℕ, zero, suc, ◌+◌, ◌-◌, ◌*◌, ◌/◌, ◌%◌, ◌^◌, ◌<◌, ◌≤◌, List, [], ◌∷◌, ◌++◌, length, take, drop, replicate, get_or, take-take, inl, inr, refl, sym, ap, ap₂, ◌∙◌, arith, min, Bool, true, false, cond, ◌==◌, if◌then◌else◌}
+use Rattle.std.proofs.Math.Nat.{mod-lt, mod-le, div-one, zero-div, zero-mod, suc-mul, div-div-eq-div-mul}
+use Rattle.std.proofs.lemmas.List.{take_all, append-nil, drop_all, drop_more, length-drop, length-take, get_or-drop, drop-drop}
 use Rattle.std.proofs.lemmas.Nat.{pow_pos, pow-add, mod-pow-add, or_block, shr_split, div-mul-add}
 use Rattle.std.specs.Int.{from_le_bytes, w16, w32, w64}
 use Rattle.std.specs.Int.Bits.{bit_or, or_self, or_zero_r}
-use Rattle.std.specs.Simd.Lanes.{number_l, digits_l}
+use Rattle.std.specs.Simd.Lanes.{Each1, number_l, digits_l}
 use Rattle.atoi_core.specs.Words.{word_of, low_bytes, low_value}
+use Rattle.std.proofs.lemmas.Bool.{cases_lt}
 use Rattle.std.proofs.lemmas.Bool.Decides.{nat_tests}
+use Rattle.std.proofs.lemmas.Simd.{Each1-from_get_or, Each1-chunk}
 use Rattle.std.proofs.lemmas.List.Sums.{prefix_len-le-length}
 use Rattle.std.proofs.lemmas.List.Folds.{prefix_len-append}
 use Rattle.std.specs.List.{prefix_len}
 use Rattle.atoi_core.specs.Digit.{decimal_table, is_digit, is_zero, digit_value}
 use Rattle.atoi_core.specs.Run.{run_len, zeros, value}
 use Rattle.atoi_core.proofs.lemmas.Runs.{prefix_len-take}
-use Rattle.atoi_core.proofs.lemmas.WordFields.{length-digits}
+use Rattle.atoi_core.proofs.lemmas.WordFields.{shift_cut}
 use Rattle.atoi_core.proofs.lemmas.WordRuns.{first_passes}
 
 -- ---- Loading a word from a slice
@@ -108,77 +110,24 @@ last_bytes s last at enough inside few fits is =
     ∙ bytes_above missing back (λ i. rw get_or-drop (fits (length s - 8 + i)))
     ∙ ap word_of (drop-drop missing (length s - 8) s ∙ ap (λ n. drop n s) above ∙ sym rest)
 
--- `load_high` joins four overlapping parts; a part that is missing is 0.
-module _ (whole two first_four last_four last n r : ℕ) where
-  of_four : two ≡ first_four % 2 ^ 16 → first_four * 2 ^ n % 2 ^ 64 ≡ whole % 2 ^ (r + 32) → last_four * 2 ^ 32 % 2 ^ 64 ≡ whole / 2 ^ 32 * 2 ^ 32
-      → last * 2 ^ 56 % 2 ^ 64 ≡ whole / 2 ^ 56 * 2 ^ 56 → whole < 2 ^ 64
-      → bit_or (bit_or (bit_or two first_four * 2 ^ n % 2 ^ 64) (last_four * 2 ^ 32 % 2 ^ 64)) (last * 2 ^ 56 % 2 ^ 64) ≡ whole
-  of_four two_is front back high fits =
-      let first : bit_or two first_four ≡ first_four = overlap first_four two first_four 16 0 two_is (omega arith) in
-      let most : bit_or (bit_or two first_four * 2 ^ n % 2 ^ 64) (last_four * 2 ^ 32 % 2 ^ 64) ≡ whole =
-      overlap whole _ _ r 32 (ap (λ x. x * 2 ^ n % 2 ^ 64) first ∙ front) back in
-      overlap whole _ _ 8 56 (most ∙ omega arith) high
+-- Each byte is below 256.
+pub bytes : (s : List ℕ) → ((i : ℕ) → get_or s i 0 < 256) → Each1 (λ x. x < 256) s
+bytes s fits = Each1-from_get_or (λ x. x < 256) s 0 (λ i _. fits i)
 
-  of_two : first_four ≡ 0 → last_four ≡ 0 → two * 2 ^ n % 2 ^ 64 ≡ whole % 2 ^ (r + 56) → last * 2 ^ 56 % 2 ^ 64 ≡ whole / 2 ^ 56 * 2 ^ 56
-      → bit_or (bit_or (bit_or two first_four * 2 ^ n % 2 ^ 64) (last_four * 2 ^ 32 % 2 ^ 64)) (last * 2 ^ 56 % 2 ^ 64) ≡ whole
-  of_two none_first none_last front high =
-      let first : bit_or two first_four ≡ two = ap (bit_or two) none_first ∙ or_zero_r two in
-      let most : bit_or (bit_or two first_four * 2 ^ n % 2 ^ 64) (last_four * 2 ^ 32 % 2 ^ 64) ≡ two * 2 ^ n % 2 ^ 64 =
-      ap₂ (λ x y. bit_or (x * 2 ^ n % 2 ^ 64) (y * 2 ^ 32 % 2 ^ 64)) first none_last ∙ or_zero_r (two * 2 ^ n % 2 ^ 64) in
-      overlap whole _ _ r 56 (most ∙ front) high
+-- The lowest byte of a word, and the bytes above it.
+low_and_high : (b word : ℕ) → b < 256 → ((b + 256 * word) % 256 ≡ b) × ((b + 256 * word) / 256 ≡ word)
+low_and_high b word small = (omega arith, omega arith)
 
-pub four_or_more : (s : List ℕ) → 4 ≤ length s → length s ≤ 8 → ((i : ℕ) → get_or s i 0 < 256)
-    → bit_or (bit_or (bit_or (word_of (take 2 s)) (word_of (take 4 s)) * 2 ^ (64 - 8 * length s) % 2 ^ 64) (word_of (drop (length s - 4) s) * 2 ^ 32 % 2 ^ 64)) (get_or s (length s - 1) 0 * 2 ^ 56 % 2 ^ 64)
-    ≡ word_of (replicate (8 - length s) 0 ++ s)
+-- The lowest n bytes of a word: its first n.
+pub word_start : (n : ℕ) (s : List ℕ) → ((i : ℕ) → get_or s i 0 < 256) → word_of s % 2 ^ (n * 8) ≡ word_of (take n s)
 unfolding word_of
-four_or_more [] enough few fits = absurd (omega arith)
-four_or_more (a ∷ []) enough few fits = absurd (omega arith)
-four_or_more (a ∷ b ∷ []) enough few fits = absurd (omega arith)
-four_or_more (a ∷ b ∷ c ∷ []) enough few fits = absurd (omega arith)
-four_or_more (a ∷ b ∷ c ∷ d ∷ []) enough few fits =
-    let s : List ℕ = a ∷ b ∷ c ∷ d ∷ [] in
-    let a_fits : a < 256 = fits 0 in let b_fits : b < 256 = fits 1 in let c_fits : c < 256 = fits 2 in let d_fits : d < 256 = fits 3 in
-    of_four (word_of (replicate 4 0 ++ s)) (word_of (take 2 s)) (word_of (take 4 s)) (word_of (drop 0 s)) d 32 32 (omega arith) (omega arith) (omega arith) (omega arith) (omega arith)
-four_or_more (a ∷ b ∷ c ∷ d ∷ e ∷ []) enough few fits =
-    let s : List ℕ = a ∷ b ∷ c ∷ d ∷ e ∷ [] in
-    let a_fits : a < 256 = fits 0 in let b_fits : b < 256 = fits 1 in let c_fits : c < 256 = fits 2 in let d_fits : d < 256 = fits 3 in let e_fits : e < 256 = fits 4 in
-    of_four (word_of (replicate 3 0 ++ s)) (word_of (take 2 s)) (word_of (take 4 s)) (word_of (drop 1 s)) e 24 24 (omega arith) (omega arith) (omega arith) (omega arith) (omega arith)
-four_or_more (a ∷ b ∷ c ∷ d ∷ e ∷ f ∷ []) enough few fits =
-    let s : List ℕ = a ∷ b ∷ c ∷ d ∷ e ∷ f ∷ [] in
-    let a_fits : a < 256 = fits 0 in let b_fits : b < 256 = fits 1 in let c_fits : c < 256 = fits 2 in let d_fits : d < 256 = fits 3 in let e_fits : e < 256 = fits 4 in let f_fits : f < 256 = fits 5 in
-    of_four (word_of (replicate 2 0 ++ s)) (word_of (take 2 s)) (word_of (take 4 s)) (word_of (drop 2 s)) f 16 16 (omega arith) (omega arith) (omega arith) (omega arith) (omega arith)
-four_or_more (a ∷ b ∷ c ∷ d ∷ e ∷ f ∷ g ∷ []) enough few fits =
-    let s : List ℕ = a ∷ b ∷ c ∷ d ∷ e ∷ f ∷ g ∷ [] in
-    let a_fits : a < 256 = fits 0 in let b_fits : b < 256 = fits 1 in let c_fits : c < 256 = fits 2 in let d_fits : d < 256 = fits 3 in let e_fits : e < 256 = fits 4 in let f_fits : f < 256 = fits 5 in let g_fits : g < 256 = fits 6 in
-    of_four (word_of (replicate 1 0 ++ s)) (word_of (take 2 s)) (word_of (take 4 s)) (word_of (drop 3 s)) g 8 8 (omega arith) (omega arith) (omega arith) (omega arith) (omega arith)
-four_or_more (a ∷ b ∷ c ∷ d ∷ e ∷ f ∷ g ∷ h ∷ []) enough few fits =
-    let s : List ℕ = a ∷ b ∷ c ∷ d ∷ e ∷ f ∷ g ∷ h ∷ [] in
-    let a_fits : a < 256 = fits 0 in let b_fits : b < 256 = fits 1 in let c_fits : c < 256 = fits 2 in let d_fits : d < 256 = fits 3 in let e_fits : e < 256 = fits 4 in let f_fits : f < 256 = fits 5 in let g_fits : g < 256 = fits 6 in let h_fits : h < 256 = fits 7 in
-    of_four (word_of (replicate 0 0 ++ s)) (word_of (take 2 s)) (word_of (take 4 s)) (word_of (drop 4 s)) h 0 0 (omega arith) (omega arith) (omega arith) (omega arith) (omega arith)
-four_or_more (a ∷ b ∷ c ∷ d ∷ e ∷ f ∷ g ∷ h ∷ i ∷ rest) enough few fits = absurd (omega arith)
-
-pub below_four : (s : List ℕ) (two first_four last_four : ℕ) → 0 < length s → length s < 4 → ((i : ℕ) → get_or s i 0 < 256)
-    → (2 ≤ length s → two ≡ word_of (take 2 s)) → (length s < 2 → two ≡ 0) → first_four ≡ 0 → last_four ≡ 0
-    → bit_or (bit_or (bit_or two first_four * 2 ^ (64 - 8 * length s) % 2 ^ 64) (last_four * 2 ^ 32 % 2 ^ 64)) (get_or s (length s - 1) 0 * 2 ^ 56 % 2 ^ 64)
-    ≡ word_of (replicate (8 - length s) 0 ++ s)
-unfolding word_of
-below_four [] two first_four last_four some few fits is none none_first none_last = absurd (omega arith)
-below_four (a ∷ []) two first_four last_four some few fits is none none_first none_last =
-    let s : List ℕ = a ∷ [] in
-    let two_is : two ≡ 0 = none (omega arith) in
-    let a_fits : a < 256 = fits 0 in
-    of_two (word_of (replicate 7 0 ++ s)) two first_four last_four a 56 0 none_first none_last (omega arith) (omega arith)
-below_four (a ∷ b ∷ []) two first_four last_four some few fits is none none_first none_last =
-    let s : List ℕ = a ∷ b ∷ [] in
-    let two_is : two ≡ word_of (take 2 s) = is (omega arith) in
-    let a_fits : a < 256 = fits 0 in let b_fits : b < 256 = fits 1 in
-    of_two (word_of (replicate 6 0 ++ s)) two first_four last_four b 48 8 none_first none_last (omega arith) (omega arith)
-below_four (a ∷ b ∷ c ∷ []) two first_four last_four some few fits is none none_first none_last =
-    let s : List ℕ = a ∷ b ∷ c ∷ [] in
-    let two_is : two ≡ word_of (take 2 s) = is (omega arith) in
-    let a_fits : a < 256 = fits 0 in let b_fits : b < 256 = fits 1 in let c_fits : c < 256 = fits 2 in
-    of_two (word_of (replicate 5 0 ++ s)) two first_four last_four c 40 0 none_first none_last (omega arith) (omega arith)
-below_four (a ∷ b ∷ c ∷ d ∷ rest) two first_four last_four some few fits is none none_first none_last = absurd (omega arith)
+word_start zero s fits = omega arith
+word_start (suc n) [] fits = zero-mod (2 ^ (suc n * 8))
+word_start (suc n) (b ∷ bs) fits =
+    let word = b + 256 * number_l 256 bs in
+    let parts = low_and_high b (number_l 256 bs) (fits 0) in
+    ap (λ e. word % 2 ^ e) (suc-mul n 8) ∙ mod-pow-add word (n * 8) 8
+    ∙ ap₂ (λ x y. x % 2 ^ (n * 8) * 256 + y) parts.1 parts.0 ∙ omega (arith, word_start n bs (λ i. fits (suc i)))
 
 -- m bytes of 0 shift a word left.
 pub word_shifted : (m : ℕ) (s : List ℕ) → word_of (replicate m 0 ++ s) ≡ word_of s * 2 ^ (m * 8)
@@ -198,80 +147,148 @@ shifted_back s few =
     ∙ ap (λ x. x / up) (omega arith)
     ∙ div-mul-add (word_of s) up 0 (pow_pos ((8 - length s) * 8))
 
+-- ---- A slice of at most eight bytes, joined from overlapping parts
+
+-- The word whose highest bytes are those of the slice.
+abbrev pub high_word : List ℕ → ℕ
+high_word s = word_of (replicate (8 - length s) 0 ++ s)
+
+module _ (s : List ℕ) (few : length s ≤ 8) (fits : (i : ℕ) → get_or s i 0 < 256) where
+  high_cut : (k : ℕ) → high_word s % 2 ^ (k * 8 + (8 - length s) * 8) ≡ word_of (take k s) * 2 ^ ((8 - length s) * 8)
+  high_cut k =
+      let z = (8 - length s) * 8 in
+      ap (λ w. w % 2 ^ (k * 8 + z)) (word_shifted (8 - length s) s) ∙ shift_cut (word_of s) (k * 8) z ∙ ap (λ w. w * 2 ^ z) (word_start k s fits)
+
+  high_fits : high_word s % 2 ^ 64 ≡ high_word s
+  high_fits =
+      let z = (8 - length s) * 8 in
+      let all : 64 ≡ length s * 8 + z = omega arith in
+      ap (λ e. high_word s % 2 ^ e) all ∙ high_cut (length s)
+      ∙ ap (λ l. word_of l * 2 ^ z) (take_all (length s) s (omega arith)) ∙ sym (word_shifted (8 - length s) s)
+
+  -- Its first k bytes, shifted, are its lowest bits ..
+  high_front : (k x : ℕ) → x ≡ word_of (take k s) → x * 2 ^ (64 - 8 * length s) % 2 ^ 64 ≡ high_word s % 2 ^ (k * 8 + (8 - length s) * 8)
+  high_front k x is =
+      let places : 64 - 8 * length s ≡ (8 - length s) * 8 = omega arith in
+      let below = mod-le (high_word s) (2 ^ (k * 8 + (8 - length s) * 8)) in
+      ap (λ w. w % 2 ^ 64) (ap₂ (λ w e. w * 2 ^ e) is places ∙ sym (high_cut k)) ∙ omega (arith, below, high_fits)
+
+  -- .. and the bytes from j on its highest.
+  high_rest : (j k x : ℕ) → x ≡ word_of (drop j s) → 8 - length s + j ≡ k → x ≡ high_word s / 2 ^ (k * 8)
+  high_rest j k x is place =
+      let up : 2 ^ (64 - 8 * length s) * 2 ^ (j * 8) ≡ 2 ^ (k * 8) = sym (pow-add 2 (64 - 8 * length s) (j * 8)) ∙ ap (λ e. 2 ^ e) (omega arith) in
+      is ∙ sym (bytes_above j s fits) ∙ ap (λ w. w / 2 ^ (j * 8)) (sym (shifted_back s few))
+      ∙ div-div-eq-div-mul (high_word s) (2 ^ (64 - 8 * length s)) (2 ^ (j * 8)) ∙ ap (λ p. high_word s / p) up
+
+  last_byte : 0 < length s → get_or s (length s - 1) 0 ≡ word_of (drop (length s - 1) s)
+  unfolding word_of
+  last_byte some =
+      let one = drop_more s (length s - 1) 0 (omega arith) ∙ ap (λ l. get_or s (length s - 1) 0 ∷ l) (drop_all (length s - 1 + 1) s (omega arith)) in
+      sym (ap (number_l 256) one ∙ omega arith)
+
+  -- The last byte completes what has all others.
+  with_last : (low r : ℕ) → 0 < length s → low ≡ high_word s % 2 ^ (r + 56) → bit_or low (get_or s (length s - 1) 0 * 2 ^ 56 % 2 ^ 64) ≡ high_word s
+  with_last low r some low_is =
+      let top : get_or s (length s - 1) 0 ≡ high_word s / 2 ^ (7 * 8) = high_rest (length s - 1) 7 _ (last_byte some) (omega arith) in
+      overlap (high_word s) low _ r 56 low_is (omega (arith, top, high_fits))
+
+  -- Four bytes or more: the first four overlap the last four.
+  from_four : (two first last : ℕ) → 4 ≤ length s → two ≡ word_of (take 2 s) → first ≡ word_of (take 4 s) → last ≡ word_of (drop (length s - 4) s)
+      → bit_or (bit_or two first * 2 ^ (64 - 8 * length s) % 2 ^ 64) (last * 2 ^ 32 % 2 ^ 64) ≡ high_word s
+  from_four two first last enough two_is first_is last_is =
+      let z = (8 - length s) * 8 in
+      let low : two ≡ first % 2 ^ 16 = omega (arith, two_is, first_is, word_start 2 s fits, word_start 4 s fits) in
+      let front : bit_or two first ≡ first = overlap first two first 16 0 low (omega arith) in
+      let top : last ≡ high_word s / 2 ^ (4 * 8) = high_rest (length s - 4) 4 last last_is (omega arith) in
+      let places : 4 * 8 + z ≡ z + 32 = omega arith in
+      overlap (high_word s) _ _ z 32
+      (ap (λ x. x * 2 ^ (64 - 8 * length s) % 2 ^ 64) front ∙ high_front 4 first first_is ∙ ap (λ e. high_word s % 2 ^ e) places)
+      (omega (arith, top, high_fits))
+
+  -- Fewer: the first two, or none of them.
+  from_two : (k two first last : ℕ) → 7 ≤ 8 - length s + k → two ≡ word_of (take k s) → first ≡ 0 → last ≡ 0
+      → bit_or (bit_or two first * 2 ^ (64 - 8 * length s) % 2 ^ 64) (last * 2 ^ 32 % 2 ^ 64) ≡ high_word s % 2 ^ ((8 - length s + k - 7) * 8 + 56)
+  from_two k two first last enough two_is none none_last =
+      let places : k * 8 + (8 - length s) * 8 ≡ (8 - length s + k - 7) * 8 + 56 = omega arith in
+      ap₂ (λ x y. bit_or (x * 2 ^ (64 - 8 * length s) % 2 ^ 64) (y * 2 ^ 32 % 2 ^ 64)) (ap (bit_or two) none ∙ or_zero_r two) none_last
+      ∙ or_zero_r (two * 2 ^ (64 - 8 * length s) % 2 ^ 64) ∙ high_front k two two_is ∙ ap (λ e. high_word s % 2 ^ e) places
+
+  pub high_joined : (two first last : ℕ) → 0 < length s → (2 ≤ length s → two ≡ word_of (take 2 s)) → (length s < 2 → two ≡ 0)
+      → (4 ≤ length s → first ≡ word_of (take 4 s)) → (length s < 4 → first ≡ 0) → (4 ≤ length s → last ≡ word_of (drop (length s - 4) s)) → (length s < 4 → last ≡ 0)
+      → bit_or (bit_or (bit_or two first * 2 ^ (64 - 8 * length s) % 2 ^ 64) (last * 2 ^ 32 % 2 ^ 64)) (get_or s (length s - 1) 0 * 2 ^ 56 % 2 ^ 64) ≡ high_word s
+  unfolding word_of
+  high_joined two first last some two_is no_two first_is no_first last_is no_last =
+      elim (cases_lt (length s) 4) [
+        | inr four ↦ with_last _ 8 some (from_four two first last four (two_is (omega arith)) (first_is four) (last_is four) ∙ sym high_fits)
+        | inl short ↦ (elim (cases_lt (length s) 2) [
+          | inl one ↦ with_last _ _ some (from_two 0 two first last (omega arith) (no_two one) (no_first short) (no_last short))
+          | inr more ↦ with_last _ _ some (from_two 2 two first last (omega arith) (two_is more) (no_first short) (no_last short))
+        ])
+      ]
+
 -- ---- Digits and zeros of a loaded word
 
--- The lowest byte of a word, and the bytes above it.
-pub low_and_high : (b word : ℕ) → b < 256 → ((b + 256 * word) % 256 ≡ b) × ((b + 256 * word) / 256 ≡ word)
-low_and_high b word small = (omega arith, omega arith)
+-- The lowest n bytes of the word of `xs`, padded with zeros.
+pub digits-of_bytes : (n m : ℕ) (xs : List ℕ) → Each1 (λ x. x < 256) xs → n ≤ length xs + m → digits_l 256 n (number_l 256 xs) ≡ take n (xs ++ replicate m 0)
+digits-of_bytes zero m xs h room = refl
+digits-of_bytes (suc n) zero [] h room = absurd (omega arith)
+digits-of_bytes (suc n) (suc m) [] h room = ap (λ ds. 0 ∷ ds) (digits-of_bytes n m [] tt (omega arith))
+digits-of_bytes (suc n) m (x ∷ xs) h room =
+    let parts = low_and_high x (number_l 256 xs) h.0 in
+    ap₂ (λ d ds. d ∷ ds) parts.0 (ap (digits_l 256 n) parts.1 ∙ digits-of_bytes n m xs h.1 (omega arith))
 
--- If 0 fails a test, word and slice pass it equally far.
-loaded_start : (p : ℕ → Bool) → p 0 ≡ false → (k : ℕ) (s : List ℕ) → ((i : ℕ) → get_or s i 0 < 256)
-    → prefix_len p (digits_l 256 k (number_l 256 (take k s))) ≡ prefix_len p (take k s)
-loaded_start p stops zero s fits = refl
-loaded_start p stops (suc k) [] fits = ap (λ t. cond t (1 + prefix_len p (digits_l 256 k (0 / 256))) 0) stops
-loaded_start p stops (suc k) (b ∷ bs) fits =
-    let word = number_l 256 (take k bs) in
-    let parts = low_and_high b word (fits 0) in
-    ap₂ (λ x y. cond (p x) (1 + prefix_len p (digits_l 256 k y)) 0) parts.0 parts.1
-    ∙ ap (λ n. cond (p b) (1 + n) 0) (loaded_start p stops k bs (λ i. fits (suc i)))
+-- If 0 fails a test, zeros after a list do not change how far it passes.
+pub prefix_len-before_zeros : (p : ℕ → Bool) → p 0 ≡ false → (n : ℕ) (s : List ℕ) → prefix_len p (s ++ replicate n 0) ≡ prefix_len p s
+prefix_len-before_zeros p none zero [] = refl
+prefix_len-before_zeros p none (suc n) [] = ap (λ b. cond b (1 + prefix_len p (replicate n 0)) 0) none
+prefix_len-before_zeros p none n (x ∷ xs) = ap (λ k. cond (p x) (1 + k) 0) (prefix_len-before_zeros p none n xs)
 
--- The bytes of a full word are those of the slice.
-loaded_whole : (k : ℕ) (s : List ℕ) → k ≤ length s → ((i : ℕ) → get_or s i 0 < 256) → digits_l 256 k (number_l 256 (take k s)) ≡ take k s
-loaded_whole zero s enough fits = refl
-loaded_whole (suc k) [] enough fits = absurd (omega arith)
-loaded_whole (suc k) (b ∷ bs) enough fits =
-    let word = number_l 256 (take k bs) in
-    let parts = low_and_high b word (fits 0) in
-    ap₂ (λ x xs. x ∷ xs) parts.0 (ap (digits_l 256 k) parts.1 ∙ loaded_whole k bs (omega arith) (λ i. fits (suc i)))
+-- The same of the first n elements.
+pub prefix_len-padded : (p : ℕ → Bool) → p 0 ≡ false → (n m : ℕ) (s : List ℕ) → prefix_len p (take n (s ++ replicate m 0)) ≡ prefix_len p (take n s)
+prefix_len-padded p none n m s = prefix_len-take p n (s ++ replicate m 0) ∙ ap (min n) (prefix_len-before_zeros p none m s) ∙ sym (prefix_len-take p n s)
 
--- The lower half of a digit's byte is its digit value.
+-- The lower half of a digit's byte is its digit value, so digits spell the weighted sum of these.
 half_is_value : (b : ℕ) → is_digit decimal_table b ≡ true → b % 16 ≡ digit_value decimal_table b
 half_is_value b digit = grind (arith, nat_tests)
 
--- The weighted sum of leading digits is their value.
-loaded_value : (n k : ℕ) (s : List ℕ) → ((i : ℕ) → get_or s i 0 < 256) → n ≤ run_len decimal_table (take k s)
-    → low_value (digits_l 256 n (number_l 256 (take k s))) ≡ value decimal_table (take n (take k s))
-loaded_value zero k s fits digits = refl
-loaded_value (suc n) zero s fits digits = absurd (omega arith)
-loaded_value (suc n) (suc k) [] fits digits = absurd (omega arith)
-loaded_value (suc n) (suc k) (b ∷ bs) fits digits =
-    let word = number_l 256 (take k bs) in
-    let parts = low_and_high b word (fits 0) in
-    let passes = first_passes (is_digit decimal_table b) n (run_len decimal_table (take k bs)) digits in
-    let places : length (digits_l 256 n word) ≡ length (take n (take k bs)) =
-    length-digits 256 n word ∙ sym (length-take-le n (take k bs) (omega (arith, passes.1, prefix_len-le-length (is_digit decimal_table) (take k bs)))) in
-    ap₂ (λ x y. (x % 16) * 10 ^ length (digits_l 256 n y) + low_value (digits_l 256 n y)) parts.0 parts.1
-    ∙ ap₂ (λ x e. x * 10 ^ e + low_value (digits_l 256 n word)) (half_is_value b passes.0) places
-    ∙ ap (λ v. digit_value decimal_table b * 10 ^ length (take n (take k bs)) + v) (loaded_value n k bs (λ i. fits (suc i)) passes.1)
+low_value_is : (n : ℕ) (s : List ℕ) → n ≤ run_len decimal_table s → low_value (take n s) ≡ value decimal_table (take n s)
+low_value_is zero s digits = refl
+low_value_is (suc n) [] digits = absurd (omega arith)
+low_value_is (suc n) (b ∷ bs) digits =
+    let passes = first_passes (is_digit decimal_table b) n (run_len decimal_table bs) digits in
+    ap₂ (λ x v. x * 10 ^ length (take n bs) + v) (half_is_value b passes.0) (low_value_is n bs passes.1)
 
--- ---- Stated for words of eight bytes
+module _ (s : List ℕ) (fits : (i : ℕ) → get_or s i 0 < 256) (word : ℕ) (is : word ≡ word_of (take 8 s)) where
+  loaded_start : (p : ℕ → Bool) → p 0 ≡ false → prefix_len p (low_bytes 8 word) ≡ prefix_len p (take 8 s)
+  unfolding low_bytes word_of
+  loaded_start p stops =
+      ap (λ w. prefix_len p (digits_l 256 8 w)) is ∙ ap (prefix_len p) (digits-of_bytes 8 8 (take 8 s) (Each1-chunk _ 0 8 s (bytes s fits)) (omega arith))
+      ∙ prefix_len-padded p stops 8 8 (take 8 s) ∙ ap (prefix_len p) (take-take 8 8 s (omega arith))
 
-pub loaded_run : (s : List ℕ) → ((i : ℕ) → get_or s i 0 < 256) → (word : ℕ) → word ≡ word_of (take 8 s)
-    → run_len decimal_table (low_bytes 8 word) ≡ run_len decimal_table (take 8 s)
-unfolding low_bytes word_of
-loaded_run s fits word is = ap (λ w. run_len decimal_table (low_bytes 8 w)) is ∙ loaded_start (is_digit decimal_table) refl 8 s fits
+  pub loaded_run : run_len decimal_table (low_bytes 8 word) ≡ run_len decimal_table (take 8 s)
+  loaded_run = loaded_start (is_digit decimal_table) refl
 
-pub loaded_zeros : (s : List ℕ) → ((i : ℕ) → get_or s i 0 < 256) → (word : ℕ) → word ≡ word_of (take 8 s)
-    → zeros decimal_table (low_bytes 8 word) ≡ zeros decimal_table (take 8 s)
-unfolding low_bytes word_of
-loaded_zeros s fits word is = ap (λ w. zeros decimal_table (low_bytes 8 w)) is ∙ loaded_start (is_zero decimal_table) refl 8 s fits
+  pub loaded_zeros : zeros decimal_table (low_bytes 8 word) ≡ zeros decimal_table (take 8 s)
+  loaded_zeros = loaded_start (is_zero decimal_table) refl
 
-pub loaded_bytes : (s : List ℕ) → ((i : ℕ) → get_or s i 0 < 256) → (word : ℕ) → word ≡ word_of (take 8 s) → 8 ≤ length s
-    → low_bytes 8 word ≡ take 8 s
-unfolding low_bytes word_of
-loaded_bytes s fits word is enough = ap (low_bytes 8) is ∙ loaded_whole 8 s enough fits
+  -- The first bytes of the word are those of the slice.
+  loaded_first : (n : ℕ) → n ≤ 8 → n ≤ length s → low_bytes n word ≡ take n s
+  unfolding low_bytes word_of
+  loaded_first n few enough =
+      ap (digits_l 256 n) is ∙ digits-of_bytes n 0 (take 8 s) (Each1-chunk _ 0 8 s (bytes s fits)) (omega (arith, length-take 8 s))
+      ∙ ap (take n) (append-nil (take 8 s)) ∙ take-take n 8 s few
+
+  pub loaded_bytes : 8 ≤ length s → low_bytes 8 word ≡ take 8 s
+  loaded_bytes enough = loaded_first 8 (omega arith) enough
+
+  -- The weighted sum of all leading digits is their value.
+  pub loaded_sum : (len : ℕ) → len ≡ run_len decimal_table (low_bytes 8 word) → low_value (low_bytes len word) ≡ value decimal_table (take len s)
+  loaded_sum len len_is =
+      let digits : len ≡ min 8 (run_len decimal_table s) = len_is ∙ loaded_run ∙ prefix_len-take (is_digit decimal_table) 8 s in
+      ap low_value (loaded_first len (omega arith) (omega (arith, digits, prefix_len-le-length (is_digit decimal_table) s))) ∙ low_value_is len s (omega arith)
 
 pub fits_after : (s : List ℕ) → ((i : ℕ) → get_or s i 0 < 256) → (i : ℕ) → get_or (drop 8 s) i 0 < 256
 fits_after s fits i = rw get_or-drop (fits (8 + i))
-
--- The weighted sum of all leading digits is their value.
-pub loaded_sum : (s : List ℕ) → ((i : ℕ) → get_or s i 0 < 256) → (word len : ℕ) → word ≡ word_of (take 8 s) → len ≡ run_len decimal_table (low_bytes 8 word)
-    → low_value (low_bytes len word) ≡ value decimal_table (take len s)
-unfolding low_bytes word_of
-loaded_sum s fits word len is len_is =
-    let digits : len ≡ run_len decimal_table (take 8 s) = len_is ∙ loaded_run s fits word is in
-    let within : run_len decimal_table (take 8 s) ≡ min 8 (run_len decimal_table s) = prefix_len-take (is_digit decimal_table) 8 s in
-    ap (λ w. low_value (low_bytes len w)) is ∙ loaded_value len 8 s fits (omega arith) ∙ ap (value decimal_table) (take-take len 8 s (omega arith))
 
 -- The weighted sum of no bytes is 0.
 pub sum_of_none : (word len : ℕ) → len ≡ 0 → 0 ≡ low_value (low_bytes len word)

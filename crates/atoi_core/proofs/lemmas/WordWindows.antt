@@ -1,6 +1,6 @@
 -- Windows that are read by words.
-use Rattle.std.proofs.Common.{◌≡◌, ℕ, zero, suc, ◌+◌, ◌-◌, ◌*◌, ◌/◌, ◌%◌, ◌^◌, ◌<◌, ◌≤◌, List, [], ◌∷◌, ◌++◌, length, take, drop, replicate, get_or, take-take, refl, sym, ap, ap₂, ◌∙◌, arith, ◌≢◌, min, cond, ◌==◌, if◌then◌else◌}
-use Rattle.std.proofs.Math.Nat.{zero-add, suc-add, pow-suc}
+use Rattle.std.proofs.Common.{◌≡◌, ℕ, zero, suc, ◌+◌, ◌-◌, ◌*◌, ◌/◌, ◌%◌, ◌^◌, ◌<◌, ◌≤◌, List, ◌∷◌, ◌++◌, length, take, drop, replicate, get_or, take-take, refl, sym, ap, ap₂, ◌∙◌, arith, ◌≢◌, min, cond, ◌==◌, if◌then◌else◌}
+use Rattle.std.proofs.Math.Nat.{zero-add, suc-add}
 use Rattle.std.proofs.lemmas.List.{take_all, length-append, length-replicate, length-take}
 use Rattle.std.specs.Simd.Lanes.{number_l, digits_l}
 use Rattle.atoi_core.specs.Words.{word_of, low_bytes, low_value}
@@ -12,8 +12,8 @@ use Rattle.atoi_core.specs.Digit.{decimal_table, is_digit}
 use Rattle.atoi_core.specs.Run.{run_len, run, zeros, value}
 use Rattle.atoi_core.specs.Window.{window_of}
 use Rattle.atoi_core.specs.declared.window.Window.{Window}
-use Rattle.atoi_core.proofs.lemmas.Runs.{prefix_len-take, prefix_len-drop, value-take-add}
-use Rattle.atoi_core.proofs.lemmas.LoadedWords.{loaded_run, loaded_sum, loaded_zeros}
+use Rattle.atoi_core.proofs.lemmas.Runs.{prefix_len-take, prefix_len-drop, prefix_len-replicate_append, value-take-add}
+use Rattle.atoi_core.proofs.lemmas.LoadedWords.{word_start, loaded_run, loaded_sum, loaded_zeros}
 
 -- ---- Windows read by words
 
@@ -49,7 +49,7 @@ loaded_window s fits word w is len_is zeroes_are number_is =
     window_from 8 s w.len w.zeroes w.number
     (len_is ∙ loaded_run s fits word is)
     (zeroes_are ∙ ap (λ z. if w.len == 8 then z else 0) (loaded_zeros s fits word is))
-    (number_is ∙ loaded_sum s fits word w.len is len_is)
+    (number_is ∙ loaded_sum s fits word is w.len len_is)
 
 -- Without eight digits at the start, eight bytes determine the window of 16.
 pub window_short : (s : List ℕ) (len number : ℕ) → len ≡ run_len decimal_table (take 8 s) → len ≢ 8
@@ -105,14 +105,6 @@ unfolding word_of
 word_filled zero s = omega arith
 word_filled (suc m) s = omega (arith, word_filled m s)
 
--- The word of n bytes is below 256^n.
-word_most : (s : List ℕ) → ((i : ℕ) → get_or s i 0 < 256) → word_of s < 256 ^ length s
-unfolding word_of
-word_most [] fits = omega arith
-word_most (b ∷ bs) fits =
-    let up : 256 ^ suc (length bs) ≡ 256 ^ length bs * 256 = pow-suc 256 (length bs) in
-    omega (arith, fits 0, word_most bs (λ i. fits (suc i)))
-
 -- The elements are still bytes after zeros are put before them.
 filled_fit : (m : ℕ) (s : List ℕ) → ((i : ℕ) → get_or s i 0 < 256) → (i : ℕ) → get_or (replicate m 48 ++ s) i 0 < 256
 filled_fit zero s fits i = fits i
@@ -122,20 +114,14 @@ filled_fit (suc m) s fits (suc i) = filled_fit m s fits i
 filled_length : (m : ℕ) (s : List ℕ) → length (replicate m 48 ++ s) ≡ m + length s
 filled_length m s = length-append (replicate m 48) s ∙ ap (λ n. n + length s) (length-replicate m 48)
 
--- m zeros before a slice make its run longer by m.
-filled_run : (m : ℕ) (s : List ℕ) → run_len decimal_table (replicate m 48 ++ s) ≡ m + run_len decimal_table s
-filled_run zero s = omega arith
-filled_run (suc m) s = omega (arith, filled_run m s)
-
 -- The filled word fits in 64 bits.
 pub filled_fits : (s : List ℕ) → length s ≤ 8 → ((i : ℕ) → get_or s i 0 < 256)
     → word_of (replicate (8 - length s) 0 ++ s) + word_of (replicate (8 - length s) 48) < 2 ^ 64
 filled_fits s few fits =
     let m = 8 - length s in
-    let most = word_most (replicate m 48 ++ s) (filled_fit m s fits) in
-    let eight : length (replicate m 48 ++ s) ≡ 8 = filled_length m s ∙ omega arith in
-    let power : 256 ^ length (replicate m 48 ++ s) ≡ 256 ^ 8 = ap (λ n. 256 ^ n) eight in
-    omega (arith, word_filled m s)
+    let start = word_start 8 (replicate m 48 ++ s) (filled_fit m s fits) in
+    let all = ap word_of (take_all 8 (replicate m 48 ++ s) (omega (arith, filled_length m s))) in
+    omega (arith, word_filled m s, start, all)
 
 -- The filled word begins with its zeros, then the run.
 pub filled_digits : (s : List ℕ) → length s ≤ 8 → ((i : ℕ) → get_or s i 0 < 256) → (word filling digits : ℕ)
@@ -150,7 +136,7 @@ filled_digits s few fits word filling digits word_is filling_is digits_is =
     ∙ loaded_run filled (filled_fit m s fits) (word + filling)
     (ap₂ (λ x y. x + y) word_is filling_is ∙ word_filled m s ∙ ap word_of (sym all))
     ∙ ap (run_len decimal_table) all
-    ∙ filled_run m s
+    ∙ prefix_len-replicate_append (is_digit decimal_table) 48 refl m s
 
 -- Zeros before the other bytes add nothing to the weighted sum.
 low_value_filled : (z k : ℕ) (s : List ℕ) → low_value (digits_l 256 (z + k) (word_of (replicate z 48 ++ s))) ≡ low_value (digits_l 256 k (word_of s))
@@ -184,7 +170,7 @@ filled_window s few fits filled digits found number filled_is digits_is found_is
     let word_is : filled ≡ word_of (replicate m 48 ++ take 8 s) = filled_is ∙ ap (λ x. word_of (replicate m 48 ++ x)) (sym eight) in
     let sum : number ≡ value decimal_table (take len s) =
     number_is ∙ ap₂ (λ n w. low_value (digits_l 256 n w)) digits_is word_is ∙ low_value_filled m len (take 8 s)
-    ∙ loaded_sum s fits (word_of (take 8 s)) len refl run in
+    ∙ loaded_sum s fits (word_of (take 8 s)) refl len run in
     let left : found ≡ len = omega arith in
     ap (λ n. let w : Window = record { len = n; zeroes = 0; number = number } in w) left
     ∙ window_from 16 s len 0 number (ap (run_len decimal_table) (sym all)) (sym (reported_none len 16 (zeros decimal_table (take 16 s)) (omega arith))) sum

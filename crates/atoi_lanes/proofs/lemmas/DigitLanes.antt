@@ -1,18 +1,14 @@
 -- The digit values of lanes that hold digits.
-use Rattle.std.proofs.Common.{◌≡◌, ℕ, zero, suc, ◌+◌, ◌-◌, ◌*◌, ◌%◌, ◌^◌, ◌<◌, ◌≤◌, true, false, cond, List, [], ◌∷◌, ◌++◌, map, length, take, drop, replicate, refl, sym, ap, ap₂, subst, ◌∙◌, arith}
+use Rattle.std.proofs.Common.{◌≡◌, ℕ, zero, suc, ◌+◌, ◌-◌, ◌*◌, ◌%◌, ◌^◌, ◌<◌, ◌≤◌, true, false, cond, List, [], ◌∷◌, ◌++◌, map, length, take, drop, replicate, refl, sym, ap, ap₂, subst, ◌∙◌, arith, lit<}
 use Rattle.std.proofs.lemmas.Bool.Decides.{nat_tests}
 use Rattle.std.proofs.lemmas.List.{length-map, length-take}
 use Rattle.std.proofs.lemmas.Simd.{zip2_splat}
 use Rattle.atoi_core.specs.Digit.{decimal_table, is_digit, digit_value}
 use Rattle.atoi_core.specs.Run.{run_len, value}
+use Rattle.atoi_core.proofs.lemmas.Runs.{value-replicate}
 use Rattle.atoi_lanes.specs.Lanes.{itself, padded}
 use Rattle.atoi_lanes.proofs.lemmas.Shuffles.{first_at_end}
 use lib.Lanes.{Each1, zip2}
-
--- Zeros before digits add nothing to their value.
-pub value-after_zeros : (n : ℕ) (xs : List ℕ) → value itself (replicate n 0 ++ xs) ≡ value itself xs
-value-after_zeros zero xs = refl
-value-after_zeros (suc n) xs = omega (arith, value-after_zeros n xs)
 
 -- A byte minus 48, which wraps.
 abbrev pub above_zero : ℕ → ℕ
@@ -41,9 +37,10 @@ digits_value f makes (suc n) (x ∷ xs) h =
     let rest = digits_value f makes n xs passes.1 in
     (ap₂ (λ a b. a + b) (ap₂ (λ w m. w * 10 ^ m) first.0 count) rest.0, (first.1, rest.1))
 
-pub below_after_zeros : (n : ℕ) (xs : List ℕ) → Each1 (λ x. x < 10) xs → Each1 (λ x. x < 10) (replicate n 0 ++ xs)
-below_after_zeros zero xs h = h
-below_after_zeros (suc n) xs h = (omega arith, below_after_zeros n xs h)
+-- What holds of 0 and of each element holds after zeros are put before them.
+pub after_zeros : (P : ℕ → Type 0) → P 0 → (n : ℕ) (xs : List ℕ) → Each1 P xs → Each1 P (replicate n 0 ++ xs)
+after_zeros P holds zero xs h = h
+after_zeros P holds (suc n) xs h = (holds, after_zeros P holds n xs h)
 
 -- The first n lanes, less 48 and moved to the end, spell their value.
 pub moved_values : (n : ℕ) (v lanes : List ℕ) → n ≤ 16 → length v ≡ 16 → n ≤ run_len decimal_table v
@@ -54,6 +51,6 @@ moved_values n v lanes le long digits moved =
     let known = digits_value above_zero above_zero-digit n v digits in
     let all : lanes ≡ replicate (16 - n) 0 ++ take n values =
     moved ∙ ap (λ l. take 16 (drop n (padded l))) (zip2_splat (λ x y. (x + (2 ^ 8 - y)) % 2 ^ 8) v 16 48 long) ∙ first_at_end n values le (length-map v above_zero ∙ long) in (
-      ap (value itself) all ∙ value-after_zeros (16 - n) (take n values) ∙ known.0,
-      subst (Each1 (λ x. x < 10)) (sym all) (below_after_zeros (16 - n) _ known.1),
+      ap (value itself) all ∙ value-replicate itself 0 refl (16 - n) (take n values) ∙ known.0,
+      subst (Each1 (λ x. x < 10)) (sym all) (after_zeros (λ x. x < 10) (lit< tt) (16 - n) _ known.1),
     )

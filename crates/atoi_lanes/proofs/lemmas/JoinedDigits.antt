@@ -1,5 +1,5 @@
 -- Neighbouring digits of base t, joined to base t * t, spell the same number.
-use Rattle.std.proofs.Common.{◌≡◌, ℕ, zero, suc, ◌+◌, ◌*◌, ◌/◌, ◌%◌, ◌^◌, ◌<◌, ◌≤◌, List, [], ◌∷◌, map, length, take, get_or, refl, sym, ap, ap₂, subst, ◌∙◌, arith, Fits, w16}
+use Rattle.std.proofs.Common.{◌≡◌, ℕ, zero, suc, ◌+◌, ◌*◌, ◌/◌, ◌%◌, ◌^◌, ◌<◌, ◌≤◌, List, [], ◌∷◌, map, length, take, get_or, refl, ap, ap₂, subst, ◌∙◌, arith, Fits, w16}
 use Rattle.std.specs.List.{range_with_len}
 use Rattle.std.specs.Int.Bits.{bit_and}
 use Rattle.std.proofs.Math.Arith.{digits_lt}
@@ -7,7 +7,7 @@ use Rattle.std.proofs.Math.Nat.{pow-zero, pow-suc, mul-le-mul_right, div-add-mod
 use Rattle.std.proofs.lemmas.Nat.{div-mul-add, mod-mul-add, and_mask}
 use Rattle.std.proofs.lemmas.Simd.{Each1-weaker}
 use Rattle.atoi_core.specs.Run.{value}
-use Rattle.atoi_lanes.proofs.lemmas.Shuffles.{listed}
+use Rattle.std.proofs.lemmas.Simd.{pick_l_whole}
 use Rattle.atoi_lanes.specs.Lanes.{itself, paired}
 use lib.Lanes.{Each1, number_l, digits_l, dots}
 
@@ -33,7 +33,7 @@ spelled_16 : (f : ℕ → ℕ) → Spelled (map f (range_with_len 0 16))
 spelled_16 f below = (omega arith, omega arith, omega arith, omega arith)
 
 pub spelled : (xs : List ℕ) → length xs ≡ 16 → Spelled xs
-spelled xs long = subst Spelled (listed 16 0 xs (sym long)) (spelled_16 (λ i. get_or xs i 0))
+spelled xs long = subst Spelled (pick_l_whole 0 xs 16 long) (spelled_16 (λ i. get_or xs i 0))
 
 -- ---- Joining the two halves of each lane
 

@@ -1,13 +1,38 @@
--- Windows and readings from lanes.
-use Rattle.std.proofs.Common.{◌≡◌, ℕ, ◌<◌, ◌==◌, List, length, take, replicate, refl, sym, ap, ap₂, ◌∙◌, arith, if◌then◌else◌, ◌≤◌, drop}
+-- The lanes of a slice, and the windows and readings that they show.
+use Rattle.std.proofs.Common.{◌≡◌, ℕ, ◌+◌, ◌^◌, ◌<◌, ◌==◌, Bool, List, [], ◌∷◌, ◌++◌, length, take, replicate, get_or, min, refl, sym, ap, ap₂, ◌∙◌, arith, if◌then◌else◌, ◌≤◌, drop}
 use Rattle.std.proofs.lemmas.List.{take_all, length-take, take-append-le, length-drop}
 use Rattle.atoi_core.specs.Digit.{decimal_table, is_digit, is_zero}
 use Rattle.atoi_core.specs.Reading.{Reading}
 use Rattle.atoi_core.specs.Run.{run_len, run, zeros, value}
 use Rattle.atoi_core.specs.Window.{window_of}
+use Rattle.atoi_core.specs.Words.{word_of}
 use Rattle.atoi_core.specs.declared.window.Window.{Window}
-use Rattle.atoi_lanes.proofs.lemmas.Padding.{prefix_len-padded, prefix-padded}
+use Rattle.atoi_core.proofs.lemmas.LoadedWords.{bytes, bytes_above, digits-of_bytes, prefix_len-padded, word_start}
 use Rattle.atoi_lanes.specs.Lanes.{lane_window, padded_start}
+use lib.Lanes.{Each1, digits_l, number_l}
+use Rattle.std.specs.List.{prefix_len}
+use Rattle.std.proofs.lemmas.List.{take-take}
+use Rattle.std.proofs.lemmas.List.Sums.{prefix_len-le-length}
+
+-- The lanes of a word: its bytes, padded with zeros.
+pub lanes-of_bytes : (m : ℕ) (xs : List ℕ) → Each1 (λ x. x < 256) xs → 16 ≤ length xs + m → digits_l 256 16 (word_of xs) ≡ take 16 (xs ++ replicate m 0)
+unfolding word_of
+lanes-of_bytes m xs h room = digits-of_bytes 16 m xs h room
+
+-- Two words of a slice below 16 bytes make 16 lanes.
+pub lanes-of_words : (s : List ℕ) → ((i : ℕ) → get_or s i 0 < 256) → length s < 16
+    → digits_l 256 16 (number_l (2 ^ 64) (word_of (take 8 s) ∷ word_of (take 8 (drop 8 s)) ∷ [])) ≡ padded_start 16 s
+lanes-of_words s fits few =
+    let rest = ap word_of (take_all 8 (drop 8 s) (omega (arith, length-drop 8 s))) in
+    let all : number_l (2 ^ 64) (word_of (take 8 s) ∷ word_of (take 8 (drop 8 s)) ∷ []) ≡ word_of s = omega (arith, rest, word_start 8 s fits, bytes_above 8 s fits) in
+    ap (digits_l 256 16) all ∙ lanes-of_bytes 16 s (bytes s fits) (omega arith)
+
+-- With and without bytes after a slice, its first n elements begin with the same run.
+pub prefix-padded : (p : ℕ → Bool) (n : ℕ) (s zs : List ℕ) → take (prefix_len p (take n s)) (take n (s ++ zs)) ≡ take (prefix_len p (take n s)) (take n s)
+prefix-padded p n s zs =
+    let len = prefix_len p (take n s) in
+    let most : len ≤ min n (length s) = omega (arith, prefix_len-le-length p (take n s), length-take n s) in
+    take-take len n (s ++ zs) (omega arith) ∙ take-append-le len s zs (omega arith) ∙ sym (take-take len n s (omega arith))
 
 -- Lanes of 0 after the loaded bytes change nothing.
 lanes_show : (size : ℕ) (s : List ℕ) → lane_window size (padded_start 16 s) ≡ lane_window size (take 16 s)

@@ -1,11 +1,11 @@
 -- A slice below eight bytes at the end of the first half of a vector.
-use Rattle.std.proofs.Common.{◌≡◌, ℕ, zero, suc, ◌+◌, ◌-◌, ◌*◌, ◌/◌, ◌%◌, ◌^◌, ◌<◌, ◌≤◌, true, false, cond, List, [], ◌∷◌, ◌++◌, map, length, take, drop, replicate, get_or, refl, sym, ap, ap₂, subst, ◌∙◌, arith, Bool, w64}
+use Rattle.std.proofs.Common.{◌≡◌, ℕ, zero, suc, ◌+◌, ◌-◌, ◌*◌, ◌/◌, ◌%◌, ◌^◌, ◌<◌, ◌≤◌, true, false, cond, List, [], ◌∷◌, ◌++◌, map, length, take, drop, replicate, get_or, refl, sym, ap, ap₂, subst, ◌∙◌, arith, lit<, Bool, w64}
 use Rattle.std.specs.Int.{trailing_ones}
 use Rattle.std.specs.Int.Bits.{bit_and}
 use Rattle.std.specs.Int.RustNames.{count_ones}
 use Rattle.std.specs.List.{prefix_len, count_by}
 use Rattle.std.proofs.lemmas.Bool.Decides.{nat_tests}
-use Rattle.std.proofs.lemmas.List.{length-map, length-take, length-take-le, length-append, map-append, take_all, take-append-le, drop-append-le, drop-map}
+use Rattle.std.proofs.lemmas.List.{length-map, length-take, length-take-le, length-append, map-append, take_all, take-append-le, drop-append-le, drop-map, drop_at}
 use Rattle.std.proofs.lemmas.List.Sums.{count_by-le-length, prefix_len-le-length, sum_by-cons, sum_by-append}
 use Rattle.std.proofs.lemmas.List.Folds.{sum_by-replicate}
 use Rattle.std.proofs.lemmas.Nat.{pow-add, and_mask}
@@ -13,23 +13,19 @@ use Rattle.std.proofs.lemmas.Simd.{zip2_splat, Each1-chunk, length-replicate, on
 use Rattle.atoi_core.specs.Digit.{decimal_table, is_digit}
 use Rattle.atoi_core.specs.Run.{run_len, value, run}
 use Rattle.atoi_core.specs.Words.{word_of}
-use Rattle.atoi_core.proofs.lemmas.LoadedWords.{word_shifted}
-use Rattle.atoi_core.proofs.lemmas.Runs.{prefix_len-take}
+use Rattle.atoi_core.proofs.lemmas.LoadedWords.{bytes, high_word, prefix_len-before_zeros, word_shifted, word_start}
+use Rattle.atoi_core.proofs.lemmas.Runs.{prefix_len-take, value-replicate}
 use Rattle.atoi_core.proofs.lemmas.WordFields.{shift_cut}
 use Rattle.atoi_lanes.specs.Lanes.{itself}
-use Rattle.atoi_lanes.proofs.lemmas.DigitLanes.{GivesDigitValues, below_after_zeros, digits_value, value-after_zeros}
-use Rattle.atoi_lanes.proofs.lemmas.LaneBytes.{bytes, lanes-of_bytes, word_start}
+use Rattle.atoi_lanes.proofs.lemmas.DigitLanes.{GivesDigitValues, after_zeros, digits_value}
+use Rattle.atoi_lanes.proofs.lemmas.LaneWindows.{lanes-of_bytes}
 use Rattle.atoi_lanes.proofs.lemmas.Masks.{mask-drop, ones-of_mask}
-use Rattle.atoi_lanes.proofs.lemmas.Padding.{prefix_len-before_zeros}
 use lib.Lanes.{Each1, zip2, digits_l, mask_l}
+use lib.LanesLaws.{map-replicate}
 
 -- The 16 lanes of such a slice.
 abbrev in_half : List ℕ → List ℕ
 in_half s = (replicate (8 - length s) 0 ++ s) ++ replicate 8 0
-
-bytes-after_zeros : (n : ℕ) (s : List ℕ) → Each1 (λ x. x < 256) s → Each1 (λ x. x < 256) (replicate n 0 ++ s)
-bytes-after_zeros zero s h = h
-bytes-after_zeros (suc n) s h = (omega arith, bytes-after_zeros n s h)
 
 length-filled : (s : List ℕ) → length s ≤ 8 → length (replicate (8 - length s) 0 ++ s) ≡ 8
 length-filled s few = length-append (replicate (8 - length s) 0) s ∙ omega (arith, length-replicate {A = ℕ} (8 - length s) 0)
@@ -38,24 +34,24 @@ length-in_half : (s : List ℕ) → length s ≤ 8 → length (in_half s) ≡ 16
 length-in_half s few = length-append (replicate (8 - length s) 0 ++ s) (replicate 8 0) ∙ omega (arith, length-filled s few)
 
 -- The word from `load_high` has these lanes.
-half_of_word : (s : List ℕ) → Each1 (λ x. x < 256) s → length s ≤ 8 → digits_l 256 16 (word_of (replicate (8 - length s) 0 ++ s)) ≡ in_half s
+half_of_word : (s : List ℕ) → Each1 (λ x. x < 256) s → length s ≤ 8 → digits_l 256 16 (high_word s) ≡ in_half s
 half_of_word s h few =
-    lanes-of_bytes 8 (replicate (8 - length s) 0 ++ s) (bytes-after_zeros (8 - length s) s h) (omega (arith, length-filled s few))
+    lanes-of_bytes 8 (replicate (8 - length s) 0 ++ s) (after_zeros (λ x. x < 256) (lit< tt) (8 - length s) s h) (omega (arith, length-filled s few))
     ∙ take_all 16 (in_half s) (omega (arith, length-in_half s few))
 
 -- Shifted left, it is the word of its first `len` bytes.
 shifted_word : (len : ℕ) (s : List ℕ) → ((i : ℕ) → get_or s i 0 < 256) → len ≤ length s → length s ≤ 8
-    → word_of (replicate (8 - length s) 0 ++ s) * 2 ^ (8 * (length s - len)) % 2 ^ 64 ≡ word_of (replicate (8 - len) 0 ++ take len s)
+    → high_word s * 2 ^ (8 * (length s - len)) % 2 ^ 64 ≡ word_of (replicate (8 - len) 0 ++ take len s)
 shifted_word len s fits le few =
     let z = (8 - len) * 8 in
     let up : 2 ^ ((8 - length s) * 8) * 2 ^ (8 * (length s - len)) ≡ 2 ^ z = sym (pow-add 2 ((8 - length s) * 8) (8 * (length s - len))) ∙ ap (λ e. 2 ^ e) (omega arith) in
-    let moved : word_of (replicate (8 - length s) 0 ++ s) * 2 ^ (8 * (length s - len)) ≡ word_of s * 2 ^ z =
+    let moved : high_word s * 2 ^ (8 * (length s - len)) ≡ word_of s * 2 ^ z =
     ap (λ w. w * 2 ^ (8 * (length s - len))) (word_shifted (8 - length s) s) ∙ omega (arith, ap (λ p. word_of s * p) up) in
     let all : 64 ≡ len * 8 + z = omega arith in
     ap₂ (λ w e. w % 2 ^ e) moved all ∙ shift_cut (word_of s) (len * 8) z ∙ ap (λ w. w * 2 ^ z) (word_start len s fits) ∙ sym (word_shifted (8 - len) (take len s))
 
 half_of_start : (len : ℕ) (s : List ℕ) → ((i : ℕ) → get_or s i 0 < 256) → len ≤ length s → length s ≤ 8
-    → digits_l 256 16 (word_of (replicate (8 - length s) 0 ++ s) * 2 ^ (8 * (length s - len)) % 2 ^ 64) ≡ in_half (take len s)
+    → digits_l 256 16 (high_word s * 2 ^ (8 * (length s - len)) % 2 ^ 64) ≡ in_half (take len s)
 half_of_start len s fits le few =
     let count = length-take-le len s le in
     ap (digits_l 256 16) (shifted_word len s fits le few ∙ ap (λ k. word_of (replicate (8 - k) 0 ++ take len s)) (sym count))
@@ -87,17 +83,13 @@ all_pass p (x ∷ xs) h =
 counts_all : (s v : List ℕ) (mask : ℕ) → v ≡ in_half s → mask ≡ mask_l (map digit v) → count_ones mask ≡ length s → run_len decimal_table s ≡ length s
 counts_all s v mask is ones h = all_pass digit s (sym (ap count_ones ones ∙ ones-mask_l digit v ∙ ap (count_by digit) is ∙ count-in_half s) ∙ h)
 
-drop-zeros : (n : ℕ) (s : List ℕ) → drop n (replicate n 0 ++ s) ≡ s
-drop-zeros zero s = refl
-drop-zeros (suc n) s = drop-zeros n s
-
 -- The trailing ones after the lanes before the slice are its run.
 digits_first : (s v : List ℕ) (mask : ℕ) → length s ≤ 8 → v ≡ in_half s → mask ≡ mask_l (map digit v)
     → trailing_ones w64 (mask / 2 ^ (8 - length s)) ≡ run_len decimal_table s
 digits_first s v mask few is ones =
     let zeros = 8 - length s in
     let rest : drop zeros v ≡ s ++ replicate 8 0 =
-    ap (drop zeros) is ∙ drop-append-le zeros (replicate zeros 0 ++ s) (replicate 8 0) (omega (arith, length-filled s few)) ∙ ap (λ l. l ++ replicate 8 0) (drop-zeros zeros s) in
+    ap (drop zeros) is ∙ drop-append-le zeros (replicate zeros 0 ++ s) (replicate 8 0) (omega (arith, length-filled s few)) ∙ ap (λ l. l ++ replicate 8 0) (drop_at (replicate zeros 0) s zeros (length-replicate {A = ℕ} zeros 0)) in
     ones-of_mask digit (s ++ replicate 8 0) (omega (arith, length-append s (replicate 8 0))) _
     (ap (λ m. m / 2 ^ zeros) ones ∙ mask-drop zeros (map digit v) ∙ ap mask_l (drop-map digit zeros v ∙ ap (map digit) rest))
     ∙ prefix_len-before_zeros digit refl 8 s
@@ -111,10 +103,6 @@ low_half-digit : GivesDigitValues low_half
 low_half-digit x h =
     let half : bit_and x 15 ≡ x % 16 = and_mask x 4 in
     (half ∙ grind (arith, nat_tests), rw half (grind (arith, nat_tests)))
-
-low_half-zeros : (n : ℕ) → map low_half (replicate n 0) ≡ replicate n 0
-low_half-zeros zero = refl
-low_half-zeros (suc n) = ap (λ l. 0 ∷ l) (low_half-zeros n)
 
 before_zeros : (n : ℕ) (xs : List ℕ) → Each1 (λ x. x < 10) xs → Each1 (λ x. x < 10) (xs ++ replicate n 0)
 before_zeros zero [] h = tt
@@ -134,20 +122,20 @@ half_values s few digits v is =
     zip2_splat bit_and v 16 15 (ap length is ∙ length-in_half s few)
     ∙ ap (map low_half) is
     ∙ map-append low_half (replicate zeros 0 ++ s) (replicate 8 0)
-    ∙ ap₂ (λ a b. a ++ b) (map-append low_half (replicate zeros 0) s ∙ ap (λ l. l ++ values) (low_half-zeros zeros)) (low_half-zeros 8) in
+    ∙ ap₂ (λ a b. a ++ b) (map-append low_half (replicate zeros 0) s ∙ ap (λ l. l ++ values) (map-replicate low_half zeros 0)) (map-replicate low_half 8 0) in
     let count : length values ≡ length s = length-map s low_half in
     let eight : length filled ≡ 8 = length-append (replicate zeros 0) values ∙ omega (arith, count, length-replicate {A = ℕ} zeros 0) in
     let known = digits_value low_half low_half-digit (length s) s (omega (arith, digits)) in
     let whole : take (length s) values ≡ values = take_all (length s) values (omega (arith, count)) in (
       ap (λ l. value itself (take 8 l)) lanes
           ∙ ap (value itself) (take-append-le 8 filled (replicate 8 0) (omega (arith, eight)) ∙ take_all 8 filled (omega (arith, eight)))
-          ∙ value-after_zeros zeros values
+          ∙ value-replicate itself 0 refl zeros values
           ∙ sym (ap (value itself) whole) ∙ known.0 ∙ ap (value decimal_table) (take_all (length s) s (omega arith)),
-      subst (Each1 (λ x. x < 10)) (sym lanes) (before_zeros 8 _ (below_after_zeros zeros values (subst (Each1 (λ x. x < 10)) whole known.1))),
+      subst (Each1 (λ x. x < 10)) (sym lanes) (before_zeros 8 _ (after_zeros (λ x. x < 10) (lit< tt) zeros values (subst (Each1 (λ x. x < 10)) whole known.1))),
     )
 
 -- A full mask: the run is the slice, and the lanes spell it.
-pub all_digits : (s : List ℕ) → ((i : ℕ) → get_or s i 0 < 256) → length s < 8 → (word mask : ℕ) (v : List ℕ) → word ≡ word_of (replicate (8 - length s) 0 ++ s)
+pub all_digits : (s : List ℕ) → ((i : ℕ) → get_or s i 0 < 256) → length s < 8 → (word mask : ℕ) (v : List ℕ) → word ≡ high_word s
     → v ≡ digits_l 256 16 word → mask ≡ mask_l (map digit v) → count_ones mask ≡ length s
     → (length s ≡ run_len decimal_table s) × Written (run decimal_table s) v
 all_digits s fits few word mask v loaded lanes ones count =
@@ -157,7 +145,7 @@ all_digits s fits few word mask v loaded lanes ones count =
     (sym digits, subst (λ r. Written r v) (sym whole) (half_values s (omega arith) digits v is))
 
 -- Otherwise the shifted word's lanes spell the run.
-pub first_digits : (s : List ℕ) → ((i : ℕ) → get_or s i 0 < 256) → length s < 8 → (word mask len : ℕ) (v : List ℕ) → word ≡ word_of (replicate (8 - length s) 0 ++ s)
+pub first_digits : (s : List ℕ) → ((i : ℕ) → get_or s i 0 < 256) → length s < 8 → (word mask len : ℕ) (v : List ℕ) → word ≡ high_word s
     → v ≡ digits_l 256 16 word → mask ≡ mask_l (map digit v) → len ≡ trailing_ones w64 (mask / 2 ^ (8 - length s))
     → (len ≡ run_len decimal_table s) × (len ≤ length s)
     × ((w : List ℕ) → w ≡ digits_l 256 16 (word * 2 ^ (8 * (length s - len)) % 2 ^ 64) → Written (run decimal_table s) w)

@@ -1,9 +1,9 @@
 -- Shuffles: lanes from a place of a vector between zeros.
-use Rattle.std.proofs.Common.{◌≡◌, ℕ, zero, suc, ◌+◌, ◌-◌, ◌*◌, ◌/◌, ◌<◌, ◌≤◌, ◌||◌, cond, List, [], ◌∷◌, ◌++◌, map, length, take, drop, replicate, get_or, refl, sym, ap, ap₂, ◌∙◌, arith, rules, w8}
+use Rattle.std.proofs.Common.{◌≡◌, ℕ, suc, ◌+◌, ◌-◌, ◌*◌, ◌/◌, ◌<◌, ◌≤◌, ◌||◌, cond, List, [], ◌∷◌, ◌++◌, map, length, take, drop, replicate, get_or, refl, sym, ap, ap₂, ◌∙◌, arith, rules, w8}
 use Rattle.std.specs.List.{range_with_len}
 use Rattle.std.proofs.Math.Seq.{drop-append-add, take-append-add}
-use Rattle.std.proofs.lemmas.List.{drop-append-le, drop_all, drop-drop, drop-map, drop-replicate, drop_more, length-drop, length-take, take-append-le, take-map, take-take, take_all}
-use Rattle.std.proofs.lemmas.Simd.{Each1-chunk, SwzOk, SwzOk-from_Each1, length-replicate, swz_l}
+use Rattle.std.proofs.lemmas.List.{drop-append-le, drop-drop, drop-map, drop-replicate, length-drop, length-take, take-append-le, take-map, take-take, take_all}
+use Rattle.std.proofs.lemmas.Simd.{Each1-chunk, SwzOk, SwzOk-from_Each1, length-replicate, pick_l_whole, swz_l}
 use Rattle.atoi_lanes.specs.Lanes.{padded, padded_start}
 use lib.Dec.{T, leb, ltb}
 use lib.Lanes.{Each1}
@@ -24,14 +24,9 @@ swz-map v i (j ∷ js) few =
     let block : 16 * (i / 16) + j ≡ j = omega arith in
     ap₂ (λ l ls. l ∷ ls) (ap (λ k. cond (leb 128 j) 0 (get_or v k 0)) block) (swz-map v (suc i) js (omega arith))
 
--- The elements of a list, by their indices.
-pub listed : (n a : ℕ) (v : List ℕ) → a + n ≡ length v → map (λ i. get_or v i 0) (range_with_len a n) ≡ drop a v
-listed zero a v all = sym (drop_all a v (omega arith))
-listed (suc n) a v all = ap (λ ls. get_or v a 0 ∷ ls) (listed n (a + 1) v (omega arith)) ∙ sym (drop_more v a 0 (omega arith))
-
 -- So the whole table selects the vector between lanes of 0.
 selected-shifts : (v : List ℕ) → length v ≡ 16 → map (selected v) shifts ≡ padded v
-selected-shifts v long = ap (λ l. replicate 16 0 ++ (l ++ replicate 16 0)) (listed 16 0 v (sym long))
+selected-shifts v long = ap (λ l. replicate 16 0 ++ (l ++ replicate 16 0)) (pick_l_whole 0 v 16 long)
 
 -- The 16 entries of `SHIFTS` from place p on.
 pub shuffled : (p : ℕ) (v : List ℕ) → p ≤ 32 → length v ≡ 16 → swz_l w8 16 v 0 (take 16 (take (48 - p) (drop p shifts))) ≡ take 16 (drop p (padded v))

@@ -48,9 +48,9 @@ returns-then-more-eq8 c =
     ap₂ (λ (n p : ℕ). let w : Window = record { len = n; zeroes = c.zeroes_of_two.result; number = c.value_of.result * p + c.value_of-then-more-eq8.result } in w) len power
     ∙ window_joined s more c.zeroes_of_two.result c.value_of.result c.value_of-then-more-eq8.result (full at) (more_is at)
     (c.zeroes_of_two.ensures ∙ whole ∙ sym (reported_full more 8 all_zeros (sym eight)))
-    (c.value_of.ensures.sum ∙ loaded_sum s (bytes at) first 8 c.requires.loaded (sym c.requires.full))
+    (c.value_of.ensures.sum ∙ loaded_sum s (bytes at) first c.requires.loaded 8 (sym c.requires.full))
     (c.value_of-then-more-eq8.ensures.sum ∙ ap (λ (n : ℕ). low_value (low_bytes n next)) eight
-    ∙ loaded_sum (drop 8 s) (following at) next more c.load_from-next.ensures c.digits_of-more.ensures.len)
+    ∙ loaded_sum (drop 8 s) (following at) next c.load_from-next.ensures more c.digits_of-more.ensures.len)
 
 pub returns-else-more-eq8 : goal.returns-else-more-eq8
 returns-else-more-eq8 c =
@@ -61,5 +61,5 @@ returns-else-more-eq8 c =
     ∙ ap (λ (p : ℕ). let w : Window = record { len = 8 + more; zeroes = 0; number = c.value_of-else-more-eq8.result * p + c.value_of_fewer.result } in w) c.power_of_ten-else-more-eq8.ensures.power
     ∙ window_joined s more 0 c.value_of-else-more-eq8.result c.value_of_fewer.result (full at) (more_is at)
     (sym (reported_none more 8 (zeros decimal_table (take 8 s ++ take 8 (drop 8 s))) c.if-more-eq8.false))
-    (c.value_of-else-more-eq8.ensures.sum ∙ loaded_sum s (bytes at) c.args.first 8 c.requires.loaded (sym c.requires.full))
-    (c.value_of_fewer.ensures.sum ∙ loaded_sum (drop 8 s) (following at) c.load_from-next.result more c.load_from-next.ensures c.digits_of-more.ensures.len)
+    (c.value_of-else-more-eq8.ensures.sum ∙ loaded_sum s (bytes at) c.args.first c.requires.loaded 8 (sym c.requires.full))
+    (c.value_of_fewer.ensures.sum ∙ loaded_sum (drop 8 s) (following at) c.load_from-next.result c.load_from-next.ensures more c.digits_of-more.ensures.len)

@@ -3,7 +3,7 @@ use Rattle.std.proofs.lemmas.List.{drop_all, take-append-le}
 use Rattle.std.specs.Simd.Lanes.{number_l, digits_l}
 use Rattle.atoi_core.specs.Words.{word_of}
 use Rattle.atoi_core.proofs.lemmas.LoadedWords.{word_of_none}
-use Rattle.atoi_lanes.proofs.lemmas.LaneBytes.{lanes-of_words}
+use Rattle.atoi_lanes.proofs.lemmas.LaneWindows.{lanes-of_words}
 use Rattle.atoi_lanes.proofs.kernels.load_lanes.Goals as goal
 use Rattle.atoi_lanes.proofs.kernels.load_lanes.Goals.{in-Some, in-None, then-s-lt8, else-s-lt8}
 

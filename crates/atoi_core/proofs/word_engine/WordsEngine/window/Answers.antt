@@ -14,4 +14,4 @@ returns-else-len-eq8-clause-window c =
     ∙ window_short s len c.number_in_word.result
     (c.digits_of-len.ensures.len ∙ loaded_run s fits first c.load_full-first.ensures)
     c.if-len-eq8.false
-    (c.number_in_word.ensures.sum ∙ loaded_sum s fits first len c.load_full-first.ensures c.digits_of-len.ensures.len)
+    (c.number_in_word.ensures.sum ∙ loaded_sum s fits first c.load_full-first.ensures len c.digits_of-len.ensures.len)
