@@ -1,6 +1,6 @@
 -- Laws about what the parses return, over the definitions only. A law on a slice holds for every
 -- slice.
-use Rattle.std.specs.Prelude.{◌≡◌, ◌≢◌, ◌⊎◌, ◌↔◌, ℕ, ◌+◌, ◌-◌, ◌^◌, ◌<◌, ◌≤◌, Bool, true, false, if◌then◌else◌, IsTrue, IsFalse, List, ◌∷◌, ◌++◌, length, take, drop, replicate, slice_index, All, Option, Some, None, ℤ, pos, neg_ℤ, ◌≤ℤ◌, Result, Ok, Err, IsOk, IfOk, OnErr}
+use Rattle.std.specs.Prelude.{◌≡◌, ◌≢◌, ◌⊎◌, ◌↔◌, ℕ, ◌+◌, ◌-◌, ◌^◌, ◌<◌, ◌≤◌, Bool, true, false, if◌then◌else◌, IsTrue, IsFalse, List, ◌∷◌, ◌++◌, length, take, drop, replicate, slice_index, All, ℤ, pos, neg_ℤ, ◌≤ℤ◌, Result, Ok, Err, IsOk, IfOk, OnErr}
 use Rattle.std.specs.Fmt.{decimal, signed_decimal}
 use Rattle.std.specs.Char.{IsAsciiDigit}
 use Rattle.std.specs.Str.Parse.{AllDigits, digits_value}
@@ -8,7 +8,7 @@ use Rattle.std.specs.declared.cmp.Ordering.TheVariants.{Equal}
 use Rattle.atoi_core.specs.Digit.{decimal_table, is_digit}
 use Rattle.atoi_core.specs.Run.{run_len, run, value}
 use Rattle.atoi_core.specs.Refusal.{Refusal, empty, size, overflow, invalid64, invalid128, rank, input_of, refusal_cmp}
-use Rattle.atoi_core.specs.Magnitude.{Extent, whole, prefix, skipped_zeros, rule_of}
+use Rattle.atoi_core.specs.Magnitude.{Extent, whole, prefix, skipped_zeros, rule_of, is_above}
 use Rattle.atoi_core.specs.declared.error.AtoiSimdError.{AtoiSimdError}
 use Rattle.atoi_core.specs.IntType.{IntType, class_of, bound_of, limit_of}
 use Rattle.atoi_core.specs.Sign.{Sign, sign_of, with_sign}
@@ -244,16 +244,11 @@ pub record DecimalDigits : Type 0 where
   pub value_is : (s : List ℕ) → AllDigits 10 s → value decimal_table s ≡ digits_value 10 s
   pub below : (s : List ℕ) → value decimal_table s < 10 ^ length s
 
--- There is a limit, and `count` is above it.
-abbrev pub IsAbove : Option ℕ → ℕ → Type 0
-IsAbove None count = ⊥
-IsAbove (Some limit) count = limit < count
-
 -- Too many significant digits, by type, extent and flag.
 abbrev pub IsTooLong : IntType → Extent → (skip : Bool) → List ℕ → Type 0
 IsTooLong int extent skip body =
-    IsAbove (rule_of (class_of int) extent skip (limit_of int) 0 0).limit
-    (run_len decimal_table body - skipped_zeros decimal_table skip body)
+    IsTrue (is_above (rule_of (class_of int) extent skip (limit_of int) 0 0).limit
+    (run_len decimal_table body - skipped_zeros decimal_table skip body))
 
 -- The body starts with a digit, and few enough.
 pub record HasSomeDigits (int : IntType) (extent : Extent) (skip : Bool) (body : List ℕ) : Type 0 where

@@ -49,6 +49,7 @@ pub trait Engine {
             steps.old steps.new }
     {
         let mut at = 0;
+        // The loop stands here: a provided body may not pass `Self` to a function over engines.
         let first = loop {
             let window = Self::window(&s[at..], steps);
             if !skip || window.zeroes == 0 {

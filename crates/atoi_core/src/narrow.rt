@@ -1,8 +1,7 @@
 //! Parsers of integers of at most 32 bits, whose last window decides the answer.
 ghost use Rattle.std.specs.Prelude.{◌≡◌, ℕ, ◌+◌, ◌-◌, ◌<◌, ◌≤◌, ◌==◌, true, false, not, ◌&&◌, ◌||◌, nat_lt, if◌then◌else◌, Ok, Err, length, take, drop};
 ghost use Rattle.atoi_core.specs.Loads.{LoadsWithin, most_loads};
-ghost use Rattle.atoi_core.specs.Magnitude.{narrow, whole_magnitude, prefix_magnitude};
-ghost use Rattle.atoi_core.specs.Magnitude.{narrow_decision};
+ghost use Rattle.atoi_core.specs.Magnitude.{narrow, whole_magnitude, prefix_magnitude, narrow_decision};
 ghost use Rattle.atoi_core.specs.Refusal.{answer_of, overflow};
 ghost use Rattle.atoi_core.specs.Run.{run_len};
 ghost use Rattle.atoi_core.specs.Window.{window_of};
@@ -77,10 +76,10 @@ pub fn narrow_whole_windows<'a, E: Engine>(
 {
     if s.len() <= 8 {
         let window = E::window(s, steps);
-        decide(bound, window.len as usize, window.number, s)
+        narrow_answer(bound, window.len as usize, window.number, s)
     } else {
         let (len, number) = digits_of_long::<E>(s, steps);
-        decide(bound, len, number, s)
+        narrow_answer(bound, len, number, s)
     }
 }
 
@@ -102,7 +101,8 @@ fn digits_of_long<E: Engine>(s: &[u8], steps: &mut Steps) -> (usize, u64)
     (at + last.len as usize, last.number)
 }
 
-fn decide(bound: u64, len: usize, number: u64, s: &[u8]) -> Result<u64, AtoiSimdError<'_>>
+// The answer for all of `s`, of which `len` digits spell `number`.
+fn narrow_answer(bound: u64, len: usize, number: u64, s: &[u8]) -> Result<u64, AtoiSimdError<'_>>
     ensures { answer_of result ≡ narrow_decision bound len number s.now }
 {
     if len == 0 {
@@ -116,7 +116,7 @@ fn decide(bound: u64, len: usize, number: u64, s: &[u8]) -> Result<u64, AtoiSimd
     }
 }
 
-// The match keeps the result's stack slot from being cleared on the path without the call.
+// Cold: see DECISIONS.
 #[inline(always)]
 fn narrow_prefix_cold<'a, E: Engine>(
     bound: u64,

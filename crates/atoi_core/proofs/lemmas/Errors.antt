@@ -1,5 +1,5 @@
 -- Errors: their order, their slices, and what they say about the body.
-use Rattle.std.proofs.Common.{◌≡◌, ◌↔◌, refl, ℕ, ◌+◌, Bool, List, ◌++◌, take, drop, Some, Result, Ok, Err, ℤ, sym, ap, ◌∙◌, take-append-drop, drop-drop, ◌<◌, ◌≤◌, true, false, eqb, length, Option, None, arith, eqb-true, ltb-true, ltb-false}
+use Rattle.std.proofs.Common.{◌≡◌, ◌↔◌, refl, ℕ, ◌+◌, Bool, List, ◌++◌, take, drop, Some, Result, Ok, Err, ℤ, sym, ap, ◌∙◌, take-append-drop, drop-drop, ◌<◌, ◌≤◌, true, false, eqb, length, Option, arith, eqb-true, ltb-true, ltb-false}
 use Rattle.std.specs.declared.cmp.Ordering.{Ordering}
 use Rattle.std.specs.declared.cmp.Ordering.TheVariants.{Equal}
 use Rattle.std.specs.Ordering.{nat_cmp, ordering_then}
@@ -13,10 +13,10 @@ use Rattle.atoi_core.specs.Magnitude.{whole, prefix, refusal, Class, narrow, Ext
 use Rattle.atoi_core.specs.IntType.{IntType, class_of, bound_of, limit_of}
 use Rattle.atoi_core.specs.Sign.{with_sign}
 use Rattle.atoi_core.specs.Answer.{prefix_answer, with_more}
-use Rattle.atoi_core.specs.Laws.{SignForm, sign_in, whole_call, prefix_call, IsSuffix, OrderAndSuffix, IsAbove, HasSomeDigits, IsFollowed, Explains, ErrorsInOrder}
+use Rattle.atoi_core.specs.Laws.{SignForm, sign_in, whole_call, prefix_call, IsSuffix, OrderAndSuffix, HasSomeDigits, IsFollowed, Explains, ErrorsInOrder}
 use Rattle.atoi_core.proofs.lemmas.Calls.{drop-taken, counted_number, map_unless_err, whole_call-is, prefix_call-is}
 use Rattle.atoi_core.proofs.lemmas.Refusals.{refused, refusal-input, limit_at, significant_len, refusal-cases}
-use Rattle.std.proofs.lemmas.Bool.{eqb-false, not-true}
+use Rattle.std.proofs.lemmas.Bool.{eqb-false, false≢true, not-true}
 use Rattle.std.proofs.lemmas.List.Sums.{prefix_len-le-length}
 use Rattle.atoi_core.specs.Run.{run_len, run, value}
 
@@ -88,14 +88,6 @@ order_and_suffix int = record {
 
 -- ---- What an error says about the body
 
-above : (limit : Option ℕ) (count : ℕ) → is_above limit count ≡ true → IsAbove limit count
-above None count h = absurd (cc h)
-above (Some limit) count h = ltb-true limit count h
-
-pub not_above : (limit : Option ℕ) (count : ℕ) → is_above limit count ≡ false → ¬ IsAbove limit count
-not_above None count h = λ p. p
-not_above (Some limit) count h = λ p. absurd (omega (arith, ltb-false limit count h))
-
 rest_left : (extent : Extent) (digits length : ℕ) → digits ≤ length → leaves_rest extent digits length ≡ true → digits < length
 rest_left whole digits length le h = omega (arith, eqb-false digits length (not-true (eqb digits length) h))
 rest_left prefix digits length le h = absurd (cc h)
@@ -111,7 +103,7 @@ module _ (int : IntType) (extent : Extent) (is_negative skip : Bool) (body : Lis
       → HasSomeDigits int extent skip body
   begins some short = record {
     some = omega (arith, eqb-false (run_len decimal_table body) 0 some);
-    short = not_above (limit_at (class_of int) extent skip (limit_of int)) (significant_len decimal_table skip body) short;
+    short = λ long. absurd (false≢true (sym short ∙ long));
   }
 
   explained : (reason : Refusal) → refused decimal_table int is_negative extent skip body ≡ Some reason
@@ -122,7 +114,7 @@ module _ (int : IntType) (extent : Extent) (is_negative skip : Bool) (body : Lis
       refusal-cases decimal_table (class_of int) (bound_of int is_negative) (limit_of int) extent skip body
       (Explains int extent is_negative skip body)
       (λ e. eqb-true digits 0 e)
-      (λ e l. (omega (arith, eqb-false digits 0 e), above (limit_at (class_of int) extent skip (limit_of int)) (significant_len decimal_table skip body) l))
+      (λ e l. (omega (arith, eqb-false digits 0 e), l))
       (λ e l o. (begins e l, ltb-true (bound_of int is_negative) number o))
       (λ e l o f. invalid_explained (class_of int) number digits (record {
         begins = begins e l;

@@ -1,6 +1,6 @@
 -- What follows a number, and what an error says about digits.
-use Rattle.std.proofs.Common.{◌≡◌, ◌↔◌, ℕ, ◌<◌, Bool, true, IsFalse, List, [], ◌∷◌, ◌++◌, length, take, drop, get_or, get_or-drop, length-drop, Err, ℤ, refl, sym, ap, ◌∙◌, arith, inl, inr}
-use Rattle.std.proofs.lemmas.Bool.{cases_lt, cases_Bool}
+use Rattle.std.proofs.Common.{◌≡◌, ◌↔◌, ℕ, ◌<◌, Bool, true, false, IsFalse, List, [], ◌∷◌, ◌++◌, length, take, drop, get_or, get_or-drop, length-drop, Err, ℤ, refl, sym, ap, ◌∙◌, arith, inl, inr}
+use Rattle.std.proofs.lemmas.Bool.{cases_lt, cases_Bool, false≢true}
 use Rattle.std.proofs.lemmas.List.{take-append-drop}
 use Rattle.std.proofs.lemmas.List.Prefix.{front_rest}
 use Rattle.std.proofs.lemmas.List.Sums.{prefix_len-le-length, prefix_len_stops}
@@ -8,7 +8,7 @@ use Rattle.std.specs.Str.Parse.{AllDigits}
 use Rattle.atoi_core.specs.Digit.{decimal_table, is_digit}
 use Rattle.atoi_core.specs.Run.{run_len, run, value}
 use Rattle.atoi_core.specs.Refusal.{Refusal, empty, size, overflow, invalid64, invalid128}
-use Rattle.atoi_core.specs.Magnitude.{prefix}
+use Rattle.atoi_core.specs.Magnitude.{prefix, is_above}
 use Rattle.atoi_core.specs.IntType.{IntType, IsSized, class_of, bound_of, limit_of}
 use Rattle.atoi_core.specs.Laws.{SignForm, sign_in, prefix_call, Writes, NumberThenByte, OneNumber, PrefixBegins, NoneOrTooLarge, IsTooLong}
 use Rattle.atoi_core.specs.Text.{BeginsWithDigit, PrefixWrites, IsNumberThen, IsTooLarge}
@@ -17,7 +17,7 @@ use Rattle.atoi_core.proofs.lemmas.Refusals.{limit_at, significant_len}
 use Rattle.atoi_core.proofs.lemmas.Bounds.{limit_of_prefix, in_range_short}
 use Rattle.atoi_core.proofs.lemmas.Texts.{digit_is, own, to_std}
 use Rattle.atoi_core.proofs.lemmas.Prefixes.{prefixes_and_rests, accepted_numbers, run_before, no_digit}
-use Rattle.atoi_core.proofs.lemmas.Errors.{errors_in_order, not_above}
+use Rattle.atoi_core.proofs.lemmas.Errors.{errors_in_order}
 use Rattle.atoi_core.proofs.lemmas.Runs.{length-run, run_len-run, digits_all}
 
 -- ---- A number and what follows it
@@ -91,8 +91,9 @@ long_is_above int sized is_negative body long =
     elim (cases_lt (bound_of int is_negative) (value decimal_table (run decimal_table body))) [
       | inl lt ↦ lt
       | inr le ↦
-          absurd (not_above (limit_at (class_of int) prefix true (limit_of int)) (significant_len decimal_table true body)
-          (rw (limit_of_prefix int true (limit_of int) (inl refl)) (in_range_short decimal_table int sized is_negative body le)) long)
+          let short : is_above (limit_at (class_of int) prefix true (limit_of int)) (significant_len decimal_table true body) ≡ false =
+          rw (limit_of_prefix int true (limit_of int) (inl refl)) (in_range_short decimal_table int sized is_negative body le) in
+          absurd (false≢true (sym short ∙ long))
     ]
 
 module _ (int : IntType) (sized : IsSized int) (form : SignForm) (s : List ℕ) where

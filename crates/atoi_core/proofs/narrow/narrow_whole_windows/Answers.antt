@@ -5,10 +5,10 @@ use Rattle.atoi_core.specs.Digit.{is_digit}
 use Rattle.atoi_core.proofs.lemmas.LoopAnswers.{narrow_decides}
 use Rattle.atoi_core.proofs.lemmas.Windows.{Skipped, Skipped-first, Skipped-loads, shows}
 use Rattle.atoi_core.proofs.narrow.narrow_whole_windows.Goals as goal
-use Rattle.atoi_core.proofs.narrow.narrow_whole_windows.Goals.{After-decide}
+use Rattle.atoi_core.proofs.narrow.narrow_whole_windows.Goals.{After-narrow_answer}
 
 -- What holds after the window of a short slice.
-first : (g : _) (c : After-decide g)
+first : (g : _) (c : After-narrow_answer g)
     → Skipped g.E.Engine.table true c.args.s.now 0 c.args.steps.now c.window-window.new.steps c.window-window.result
 first g c =
     let e = c.window-window.ensures in
@@ -18,7 +18,7 @@ first g c =
     Skipped-first g.met.E.Engine.below_ten true c.args.s.now e.window e.one_step few
 
 pub returns-then-s-le8-clause-answer : goal.returns-then-s-le8-clause-answer
-returns-then-s-le8-clause-answer g c = c.decide.ensures ∙ narrow_decides (first g c) (omega arith) c.args.bound c.requires.high
+returns-then-s-le8-clause-answer g c = c.narrow_answer.ensures ∙ narrow_decides (first g c) (omega arith) c.args.bound c.requires.high
 
 pub returns-then-s-le8-clause-loads : goal.returns-then-s-le8-clause-loads
 returns-then-s-le8-clause-loads g c = Skipped-loads (first g c) 0 (omega arith) (omega arith) (omega arith)
