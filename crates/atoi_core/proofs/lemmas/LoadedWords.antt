@@ -214,8 +214,10 @@ module _ (s : List ℕ) (few : length s ≤ 8) (fits : (i : ℕ) → get_or s i 
       ∙ or_zero_r (two * 2 ^ (64 - 8 * length s) % 2 ^ 64) ∙ high_front k two two_is ∙ ap (λ e. high_word s % 2 ^ e) places
 
   pub high_joined : (two first last : ℕ) → 0 < length s → (2 ≤ length s → two ≡ word_of (take 2 s)) → (length s < 2 → two ≡ 0)
-      → (4 ≤ length s → first ≡ word_of (take 4 s)) → (length s < 4 → first ≡ 0) → (4 ≤ length s → last ≡ word_of (drop (length s - 4) s)) → (length s < 4 → last ≡ 0)
-      → bit_or (bit_or (bit_or two first * 2 ^ (64 - 8 * length s) % 2 ^ 64) (last * 2 ^ 32 % 2 ^ 64)) (get_or s (length s - 1) 0 * 2 ^ 56 % 2 ^ 64) ≡ high_word s
+      → (4 ≤ length s → first ≡ word_of (take 4 s)) → (length s < 4 → first ≡ 0)
+      → (4 ≤ length s → last ≡ word_of (drop (length s - 4) s)) → (length s < 4 → last ≡ 0)
+      → bit_or (bit_or (bit_or two first * 2 ^ (64 - 8 * length s) % 2 ^ 64) (last * 2 ^ 32 % 2 ^ 64))
+      (get_or s (length s - 1) 0 * 2 ^ 56 % 2 ^ 64) ≡ high_word s
   unfolding word_of
   high_joined two first last some two_is no_two first_is no_first last_is no_last =
       elim (cases_lt (length s) 4) [

@@ -24,7 +24,8 @@ pub lanes-of_words : (s : List ℕ) → ((i : ℕ) → get_or s i 0 < 256) → l
     → digits_l 256 16 (number_l (2 ^ 64) (word_of (take 8 s) ∷ word_of (take 8 (drop 8 s)) ∷ [])) ≡ padded_start 16 s
 lanes-of_words s fits few =
     let rest = ap word_of (take_all 8 (drop 8 s) (omega (arith, length-drop 8 s))) in
-    let all : number_l (2 ^ 64) (word_of (take 8 s) ∷ word_of (take 8 (drop 8 s)) ∷ []) ≡ word_of s = omega (arith, rest, word_start 8 s fits, bytes_above 8 s fits) in
+    let all : number_l (2 ^ 64) (word_of (take 8 s) ∷ word_of (take 8 (drop 8 s)) ∷ []) ≡ word_of s =
+    omega (arith, rest, word_start 8 s fits, bytes_above 8 s fits) in
     ap (digits_l 256 16) all ∙ lanes-of_bytes 16 s (bytes s fits) (omega arith)
 
 -- With and without bytes after a slice, its first n elements begin with the same run.

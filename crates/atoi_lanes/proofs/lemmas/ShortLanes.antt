@@ -44,7 +44,8 @@ shifted_word : (len : ℕ) (s : List ℕ) → ((i : ℕ) → get_or s i 0 < 256)
     → high_word s * 2 ^ (8 * (length s - len)) % 2 ^ 64 ≡ word_of (replicate (8 - len) 0 ++ take len s)
 shifted_word len s fits le few =
     let z = (8 - len) * 8 in
-    let up : 2 ^ ((8 - length s) * 8) * 2 ^ (8 * (length s - len)) ≡ 2 ^ z = sym (pow-add 2 ((8 - length s) * 8) (8 * (length s - len))) ∙ ap (λ e. 2 ^ e) (omega arith) in
+    let up : 2 ^ ((8 - length s) * 8) * 2 ^ (8 * (length s - len)) ≡ 2 ^ z =
+    sym (pow-add 2 ((8 - length s) * 8) (8 * (length s - len))) ∙ ap (λ e. 2 ^ e) (omega arith) in
     let moved : high_word s * 2 ^ (8 * (length s - len)) ≡ word_of s * 2 ^ z =
     ap (λ w. w * 2 ^ (8 * (length s - len))) (word_shifted (8 - length s) s) ∙ omega (arith, ap (λ p. word_of s * p) up) in
     let all : 64 ≡ len * 8 + z = omega arith in
@@ -89,7 +90,8 @@ digits_first : (s v : List ℕ) (mask : ℕ) → length s ≤ 8 → v ≡ in_hal
 digits_first s v mask few is ones =
     let zeros = 8 - length s in
     let rest : drop zeros v ≡ s ++ replicate 8 0 =
-    ap (drop zeros) is ∙ drop-append-le zeros (replicate zeros 0 ++ s) (replicate 8 0) (omega (arith, length-filled s few)) ∙ ap (λ l. l ++ replicate 8 0) (drop_at (replicate zeros 0) s zeros (length-replicate {A = ℕ} zeros 0)) in
+    ap (drop zeros) is ∙ drop-append-le zeros (replicate zeros 0 ++ s) (replicate 8 0) (omega (arith, length-filled s few))
+    ∙ ap (λ l. l ++ replicate 8 0) (drop_at (replicate zeros 0) s zeros (length-replicate {A = ℕ} zeros 0)) in
     ones-of_mask digit (s ++ replicate 8 0) (omega (arith, length-append s (replicate 8 0))) _
     (ap (λ m. m / 2 ^ zeros) ones ∙ mask-drop zeros (map digit v) ∙ ap mask_l (drop-map digit zeros v ∙ ap (map digit) rest))
     ∙ prefix_len-before_zeros digit refl 8 s

@@ -68,7 +68,8 @@ decided_64 bound limit skip s at leading w few front is =
 pub decided_full : (bound : ℕ) (skip : Bool) (s : List ℕ) (at : ℕ) (w : Window32) (back : Window)
     → ReadsAfterZeros skip s at w → 32 ≤ w.len
     → back ≡ window_of decimal_table 8 (take (length s - (at + 32)) (drop (at + 32) s))
-    → (back.len ≤ 8) × (w.number * 10 ^ back.len + back.number < 10 ^ (32 + back.len)) × (at + (32 + back.len) ≤ length s) × (answer_by_digits wide128 bound 39 at (32 + back.len) (w.number * 10 ^ back.len + back.number) s ≡ prefix_magnitude decimal_table wide128 bound 39 skip s)
+    → (back.len ≤ 8) × (w.number * 10 ^ back.len + back.number < 10 ^ (32 + back.len)) × (at + (32 + back.len) ≤ length s)
+    × (answer_by_digits wide128 bound 39 at (32 + back.len) (w.number * 10 ^ back.len + back.number) s ≡ prefix_magnitude decimal_table wide128 bound 39 skip s)
 decided_full bound skip s at w back after_skip full reported =
     let t = decimal_table in
     let e : back ≡ window_of t 8 (drop 32 (drop at s)) = reported ∙ ap (window_of t 8) (take_rest s (at + 32) ∙ sym (drop-drop 32 at s)) in

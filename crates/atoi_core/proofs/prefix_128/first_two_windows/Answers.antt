@@ -15,12 +15,13 @@ short g c few =
 
 pub returns-then-first-lt16-clause-answer : goal.returns-then-first-lt16-clause-answer
 returns-then-first-lt16-clause-answer g c bound digits =
-    let at = (goal.at.returns-then-first-lt16-clause-answer g c).After-window-first in
-    c.found_or_empty.ensures ∙ answers_short _ bound 39 (lit< tt) (short g at c.if-first-lt16.true) c.if-first-lt16.true (lit< tt) digits c.from.ensures (omega arith)
+    let after_skip = short g (goal.at.returns-then-first-lt16-clause-answer g c).After-window-first c.if-first-lt16.true in
+    c.found_or_empty.ensures ∙ answers_short _ bound 39 (lit< tt) after_skip c.if-first-lt16.true (lit< tt) digits c.from.ensures (omega arith)
 
 pub returns-then-first-lt16-clause-loads : goal.returns-then-first-lt16-clause-loads
 returns-then-first-lt16-clause-loads g c =
-    Skipped-loads (short g (goal.at.returns-then-first-lt16-clause-loads g c).After-window-first c.if-first-lt16.true) 0 (omega arith) (omega arith) (omega arith)
+    let after_skip = short g (goal.at.returns-then-first-lt16-clause-loads g c).After-window-first c.if-first-lt16.true in
+    Skipped-loads after_skip 0 (omega arith) (omega arith) (omega arith)
 
 pub slice_bounds-window-start : goal.slice_bounds-window-start
 slice_bounds-window-start g c =
@@ -37,7 +38,8 @@ returns-then-second-lt16 g c =
     (elim c.else-skip.either [ inl h ↦ inr (h.0, omega (arith, h.1)) | inr h ↦ inl h ]) in
     let second = shows_rest g.met.E.Engine.below_ten 16 s 16 c.window-second.ensures.window in
     record {
-      answer = λ bound digits. answers_two g.met.E.Engine.below_ten bound after_skip c.if-first-lt16.false second c.if-second-lt16.true digits (cc) (omega arith);
+      answer = λ bound digits.
+          answers_two g.met.E.Engine.below_ten bound after_skip c.if-first-lt16.false second c.if-second-lt16.true digits (cc) (omega arith);
       loads = Skipped-loads after_skip 1 (omega (arith, c.window-second.ensures.one_step)) (omega arith) (omega arith);
       none_only_from_32 = search rules;
       fewest = omega arith;

@@ -32,7 +32,8 @@ returns-then-s-lt16-clause-answer c =
 pub returns-then-s-lt16-clause-loads : goal.returns-then-s-lt16-clause-loads
 returns-then-s-lt16-clause-loads c =
     let step = c.window-only.ensures.one_step in
-    few_loads _ 1 _ _ _ _ (omega (arith, step)) (omega (arith, step)) (omega arith) (λ _. omega (arith, c.if-s-lt16.true, prefix_len-le-length (is_zero decimal_table) c.args.s.now))
+    few_loads _ 1 _ _ _ _ (omega (arith, step)) (omega (arith, step)) (omega arith)
+    (λ _. omega (arith, c.if-s-lt16.true, prefix_len-le-length (is_zero decimal_table) c.args.s.now))
 
 pub overflow_cast-first : goal.overflow_cast-first
 overflow_cast-first c =

@@ -50,7 +50,8 @@ returns-then-second-lt16 g c =
     let at = goal.at.returns-then-second-lt16 g c in
     let after_skip = ended g at.Joined-then-not-skip in
     record {
-      answer = answers_two g.met.Self.Engine.below_ten _ after_skip c.if-first-lt16.false (middle g at.After-window-second) c.if-second-lt16.true c.requires.digits (cc) (omega arith);
+      answer = answers_two g.met.Self.Engine.below_ten _ after_skip c.if-first-lt16.false
+          (middle g at.After-window-second) c.if-second-lt16.true c.requires.digits (cc) (omega arith);
       loads = Skipped-loads after_skip 1 (omega (arith, c.window-second.ensures.one_step)) (omega arith) (omega arith);
     }
 
@@ -58,8 +59,8 @@ pub slice_bounds-window_8-start : goal.slice_bounds-window_8-start
 slice_bounds-window_8-start g c =
     let at = goal.at.slice_bounds-window_8-start g c in
     let body = drop c.loop-window.at c.args.s.now in
-    rw (take_rest c.args.s.now c.loop-window.at)
-    (omega (arith, two_full body (ended g at.Joined-then-not-skip).window c.if-first-lt16.false (middle g at.After-window-second) c.if-second-lt16.false, prefix_len-le-length (is_digit g.Self.Engine.table) body))
+    let full = two_full body (ended g at.Joined-then-not-skip).window c.if-first-lt16.false (middle g at.After-window-second) c.if-second-lt16.false in
+    rw (take_rest c.args.s.now c.loop-window.at) (omega (arith, full, prefix_len-le-length (is_digit g.Self.Engine.table) body))
 
 pub slice_bounds-window_8-count : goal.slice_bounds-window_8-count
 slice_bounds-window_8-count g c = slice_bounds-window_8-start g c
@@ -68,7 +69,8 @@ pub answer_128-requires : goal.answer_128-requires
 answer_128-requires g c =
     let at = goal.at.answer_128-requires g c in
     let back = third g at.After-window_8-third in
-    let all = answers_128 g.met.Self.Engine.below_ten c.args.bound (ended g at.Joined-then-not-skip) c.if-first-lt16.false (middle g at.After-window-second) c.if-second-lt16.false back in
+    let after_skip = ended g at.Joined-then-not-skip in
+    let all = answers_128 g.met.Self.Engine.below_ten c.args.bound after_skip c.if-first-lt16.false (middle g at.After-window-second) c.if-second-lt16.false back in
     record {
       digits = c.requires.digits;
       few = omega (arith, back.len_is);
@@ -83,6 +85,7 @@ returns g c =
     let middle_window = middle g at.After-window-second in
     record {
       answer = rw c.append_digits-high.ensures at c.answer_128.ensures
-          ∙ (answers_128 g.met.Self.Engine.below_ten c.args.bound after_skip c.if-first-lt16.false middle_window c.if-second-lt16.false (third g at.After-window_8-third)).2;
+          ∙ (answers_128 g.met.Self.Engine.below_ten c.args.bound after_skip c.if-first-lt16.false middle_window c.if-second-lt16.false
+          (third g at.After-window_8-third)).2;
       loads = Skipped-loads after_skip 2 (omega (arith, c.window-second.ensures.one_step, c.window_8-third.ensures.one_step)) (omega arith) (omega arith);
     }

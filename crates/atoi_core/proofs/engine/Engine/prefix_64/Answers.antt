@@ -47,7 +47,8 @@ overflow_add-second g c = omega (arith, (following g (goal.at.overflow_add-secon
 pub answer_64-requires : goal.answer_64-requires
 answer_64-requires g c =
     let at = goal.at.answer_64-requires g c in
-    record { inside = (answers_64 c.args.bound c.args.limit (omega arith) (ended g at.Joined-then-not-skip) c.if-first-lt16.false (following g at.After-window_8-second)).0 }
+    let after_skip = ended g at.Joined-then-not-skip in
+    record { inside = (answers_64 c.args.bound c.args.limit (omega arith) after_skip c.if-first-lt16.false (following g at.After-window_8-second)).0 }
 
 pub returns : goal.returns
 returns g c =
