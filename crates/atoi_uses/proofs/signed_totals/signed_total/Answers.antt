@@ -8,7 +8,23 @@ use Rattle.atoi_column.specs.Items.{item_of, items_of}
 use Rattle.atoi_uses.proofs.signed_totals.signed_total.Goals as goal
 
 pub loop-item-init : goal.loop-item-init
-loop-item-init c = ([], ((search rules, refl), (omega (arith, ints), omega (arith, ints))))
+loop-item-init c = record {
+  numbers = [];
+  read = search rules;
+  sum = refl;
+  above = omega (arith, ints);
+  below = omega (arith, ints);
+}
+
+pub overflow_add-total : goal.overflow_add-total
+overflow_add-total c =
+    let fits : FitsSigned w64 c.in-Ok.number = search rules in
+    let value : c.from-total.result ≡ c.in-Ok.number = search rules in
+    let items = items_of i64_type c.args.separator c.args.input.now in
+    let before = c.loop-item.invariant in
+    let bytes : length items ≤ length c.args.input.now = search rules in
+    let few : length c.args.input.now < 2 ^ 64 = search rules in
+    omega (arith, ints, before.above, before.below, before.read.count)
 
 pub loop-item-preserved : goal.loop-item-preserved
 loop-item-preserved c =
@@ -18,16 +34,18 @@ loop-item-preserved c =
     let value : c.from-total.result ≡ number = search rules in
     let items = items_of i64_type c.args.separator c.args.input.now in
     let before = c.loop-item.invariant in
-    let step : c.loop-item.item-iterator ≡ Ok number ∷ c.next.new.self = c.in-Some.ensures.steps ∙ ap (λ item. item_of (λ n. n) item ∷ c.next.new.self) c.in-Ok.is in
-    let read = c.items_in_turn.ensures.more_values items c.loop-item.item-iterator c.next.new.self before.0 (number ∷ []) before.1.0.0 step in
+    let left = c.next.new.self in
+    let step : c.loop-item.item-iterator ≡ Ok number ∷ left = c.in-Some.ensures.steps ∙ ap (λ item. item_of (λ n. n) item ∷ left) c.in-Ok.is in
+    let read = c.items_in_turn.ensures.more_values items c.loop-item.item-iterator left before.numbers (number ∷ []) before.read step in
     let bytes : length items ≤ length c.args.input.now = search rules in
     let few : length c.args.input.now < 2 ^ 64 = search rules in
-    let more = length-append before.0 (number ∷ []) in
-    let sum : to_z w128 (of_z w128 (total +ℤ to_z w128 (of_z w128 c.from-total.result))) ≡ total +ℤ number = omega (arith, ints, before.1.1.0, before.1.1.1, read.count, more) in
-    rw sum (
-      before.0 ++ number ∷ [],
-      (
-        (read, ap (λ t. t +ℤ number) before.1.0.1 ∙ sym (fold-append ◌+ℤ◌ (pos 0) before.0 (number ∷ []))),
-        (omega (arith, ints, before.1.1.0, more), omega (arith, ints, before.1.1.1, more)),
-      ),
-    )
+    let more = length-append before.numbers (number ∷ []) in
+    let sum : to_z w128 (of_z w128 (total +ℤ to_z w128 (of_z w128 c.from-total.result))) ≡ total +ℤ number =
+    omega (arith, ints, before.above, before.below, read.count, more) in
+    rw sum (record {
+      numbers = before.numbers ++ number ∷ [];
+      read = read;
+      sum = ap (λ t. t +ℤ number) before.sum ∙ sym (fold-append ◌+ℤ◌ (pos 0) before.numbers (number ∷ []));
+      above = omega (arith, ints, before.above, more);
+      below = omega (arith, ints, before.below, more);
+    })
