@@ -9,9 +9,9 @@ use crate::parse_trait::Parse;
 use atoi_core::AtoiSimdError;
 use atoi_core::laws::{accepted_texts, prefix_results, whole_results};
 
-/// Parses all of `s`: a `-` if `T` is signed, or a `+` with `SKIP_PLUS`, then digits only. With
-/// `SKIP_ZEROES`, leading zeros do not count towards the limit of digits. With both flags, the
-/// accepted texts are those of `str::parse`, as compared by tests.
+/// Parses all of `s`: an optional sign, which is a `-` if `T` is signed or a `+` with `SKIP_PLUS`, then
+/// one or more digits. With `SKIP_ZEROES`, leading zeros do not count towards the limit of digits, and
+/// every such text is accepted if its value is in the range of `T`.
 ///
 /// `parse::<i64, false, false>(b"-2345")` returns `Ok(-2345)`.
 ///
