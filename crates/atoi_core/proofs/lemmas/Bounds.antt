@@ -29,7 +29,8 @@ pub long_as_whole : (class : Class) (skip : Bool) (limit count : ℕ) → is_abo
 long_as_whole narrow skip limit count h = refl
 long_as_whole class skip limit count h = h
 
-pub limit_of_prefix : (int : IntType) (skip : Bool) (limit : ℕ) → HasLimitOfWhole int skip → limit_at (class_of int) prefix skip limit ≡ limit_at (class_of int) whole skip limit
+pub limit_of_prefix : (int : IntType) (skip : Bool) (limit : ℕ) → HasLimitOfWhole int skip
+    → limit_at (class_of int) prefix skip limit ≡ limit_at (class_of int) whole skip limit
 limit_of_prefix int skip limit h =
     elim h [
       | inl e ↦ rw e (skipping (class_of int))

@@ -131,7 +131,8 @@ module _ (int : IntType) (minus skip : Bool) (body : List ℕ) where
       → AcceptedAs prefix × (v ≡ signed_value) × (count ≡ run_len decimal_table body)
   from_prefix v count h =
       let found = map_unless_ok (counted_number minus) _ _ (v, count) h in
-      (accepted decimal_table (class_of int) (bound_of int minus) (limit_of int) prefix skip body found.0, ap (λ (p : ℤ × ℕ). p.0) found.1, ap (λ (p : ℤ × ℕ). p.1) found.1)
+      let accepts = accepted decimal_table (class_of int) (bound_of int minus) (limit_of int) prefix skip body found.0 in
+      (accepts, ap (λ (p : ℤ × ℕ). p.0) found.1, ap (λ (p : ℤ × ℕ). p.1) found.1)
 
   pub to_prefix : AcceptedAs prefix → prefix_answer decimal_table int minus skip body ≡ Ok (signed_value, run_len decimal_table body)
   to_prefix h =
@@ -187,5 +188,6 @@ module _ (table : Table) (class : Class) (bound limit : ℕ) (skip : Bool) (s : 
 
   pub whole_in_bounds : (number : ℕ) → Ok number ≡ whole_magnitude table class bound limit skip s → number ≤ bound
   whole_in_bounds number found =
-      let both = map_unless_ok {A = ℕ} {B = ℕ} (λ x. x) (refusal table class bound limit whole skip s) _ number (ap (map_answer {A = ℕ} {B = ℕ} (λ x. x)) (sym found)) in
+      let unchanged = ap (map_answer {A = ℕ} {B = ℕ} (λ x. x)) (sym found) in
+      let both = map_unless_ok {A = ℕ} {B = ℕ} (λ x. x) (refusal table class bound limit whole skip s) _ number unchanged in
       omega (arith, both.1, (accepted table class bound limit whole skip s both.0).in_range)

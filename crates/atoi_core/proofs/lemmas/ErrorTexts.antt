@@ -75,8 +75,10 @@ IsAscii-size_text length input number slice = search (rules, IsAscii-append, IsA
 pub IsAscii-overflow_text : (input : List ℕ) → IsAscii (input_text input) → IsAscii (error_text (overflow input))
 IsAscii-overflow_text input slice = search (rules, IsAscii-append, IsAscii-literal, slice)
 
-pub IsAscii-invalid64_text : (number index : ℕ) (input : List ℕ) → IsAscii (decimal number) → IsAscii (decimal index) → IsAscii (input_text input) → IsAscii (error_text (invalid64 number index input))
+pub IsAscii-invalid64_text : (number index : ℕ) (input : List ℕ) → IsAscii (decimal number) → IsAscii (decimal index) → IsAscii (input_text input)
+    → IsAscii (error_text (invalid64 number index input))
 IsAscii-invalid64_text number index input value place slice = search (rules, IsAscii-append, IsAscii-literal, value, place, slice) depth 8
 
-pub IsAscii-invalid128_text : (number index : ℕ) (input : List ℕ) → IsAscii (decimal number) → IsAscii (decimal index) → IsAscii (input_text input) → IsAscii (error_text (invalid128 number index input))
+pub IsAscii-invalid128_text : (number index : ℕ) (input : List ℕ) → IsAscii (decimal number) → IsAscii (decimal index) → IsAscii (input_text input)
+    → IsAscii (error_text (invalid128 number index input))
 IsAscii-invalid128_text number index input value place slice = search (rules, IsAscii-append, IsAscii-literal, value, place, slice) depth 8

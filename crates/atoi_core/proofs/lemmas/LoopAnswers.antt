@@ -147,11 +147,13 @@ module _ (table : Table) (class : Class) (bound limit : ℕ) (skip : Bool) (s : 
   whole_invalid number len of_prefix rest = rw (whole_is table class bound limit skip s wide, ← of_prefix, ne_eqb len (length s) rest) refl
 
 pub whole_invalid64 : (table : Table) (bound limit : ℕ) (skip : Bool) (s : List ℕ) (number len : ℕ)
-    → Ok (number, len) ≡ prefix_magnitude table wide64 bound limit skip s → len ≢ length s → Err (invalid64 number len s) ≡ whole_magnitude table wide64 bound limit skip s
+    → Ok (number, len) ≡ prefix_magnitude table wide64 bound limit skip s → len ≢ length s
+    → Err (invalid64 number len s) ≡ whole_magnitude table wide64 bound limit skip s
 whole_invalid64 table bound limit skip s = whole_invalid table wide64 bound limit skip s wide_64
 
 pub whole_invalid128 : (table : Table) (bound limit : ℕ) (skip : Bool) (s : List ℕ) (number len : ℕ)
-    → Ok (number, len) ≡ prefix_magnitude table wide128 bound limit skip s → len ≢ length s → Err (invalid128 number len s) ≡ whole_magnitude table wide128 bound limit skip s
+    → Ok (number, len) ≡ prefix_magnitude table wide128 bound limit skip s → len ≢ length s
+    → Err (invalid128 number len s) ≡ whole_magnitude table wide128 bound limit skip s
 whole_invalid128 table bound limit skip s = whole_invalid table wide128 bound limit skip s wide_128
 
 -- ---- Narrow types
@@ -282,7 +284,8 @@ module _ (table : Table) (bound limit : ℕ) (skip : Bool) (s : List ℕ) where
       → whole_magnitude table narrow bound limit skip s ≡ Err (overflow s)
   narrow_whole_over i w here digit so_far over =
       let longer : i + 1 ≤ run_len table s = omega (arith, run_more table s i w here digit so_far) in
-      let above : bound < value table (take (run_len table s) s) = omega (arith, value_more table s i w here digit, value-take-le table s (i + 1) (run_len table s) longer) in
+      let most = value-take-le table s (i + 1) (run_len table s) longer in
+      let above : bound < value table (take (run_len table s) s) = omega (arith, value_more table s i w here digit, most) in
       narrow_whole_is (run_len table s) (value table (take (run_len table s) s)) refl refl
       ∙ grind (arith, nat_tests)
 

@@ -25,7 +25,8 @@ use Rattle.atoi_core.proofs.lemmas.Runs.{length-run, run_len-run, digits_all}
 not_digit : (byte : ℕ) (rest : List ℕ) → IsFalse (is_digit decimal_table byte) → ¬ BeginsWithDigit (byte ∷ rest)
 not_digit byte rest not = no_digit (byte ∷ rest) (λ some. not)
 
-module _ (int : IntType) (sized : IsSized int) (form : SignForm) (s : List ℕ) (number : ℤ) (byte : ℕ) (rest : List ℕ) (not : IsFalse (is_digit decimal_table byte)) where
+module _ (int : IntType) (sized : IsSized int) (form : SignForm) (s : List ℕ) (number : ℤ) (byte : ℕ) (rest : List ℕ)
+    (not : IsFalse (is_digit decimal_table byte)) where
   to_prefix : IsNumberThen (Writes int form) s number byte rest
       → (count : ℕ) × (PrefixWrites (Writes int form) s number count × (drop count s ≡ byte ∷ rest))
   to_prefix h = (
@@ -47,7 +48,8 @@ module _ (int : IntType) (sized : IsSized int) (form : SignForm) (s : List ℕ) 
       let parts = (prefixes_and_rests int sized).cut form s h.bytes (byte ∷ rest) number other count h.parts h.written (not_digit byte rest not) found in
       (parts.0, parts.1.1)
 
-one_way : (int : IntType) → IsSized int → (form : SignForm) (s : List ℕ) (number other : ℤ) (byte : ℕ) (rest more : List ℕ) → IsFalse (is_digit decimal_table byte)
+one_way : (int : IntType) → IsSized int → (form : SignForm) (s : List ℕ) (number other : ℤ) (byte : ℕ) (rest more : List ℕ)
+    → IsFalse (is_digit decimal_table byte)
     → IsNumberThen (Writes int form) s number byte rest → IsNumberThen (Writes int form) s other byte more → (number ≡ other) × (rest ≡ more)
 one_way int sized form s number other byte rest more not h k =
     let found = to_prefix int sized form s other byte more not k in
@@ -113,8 +115,10 @@ module _ (int : IntType) (sized : IsSized int) (form : SignForm) (s : List ℕ) 
   is_above_bound (size count rest) h some =
       long_is_above int sized (sign_in int form s).minus (sign_in int form s).body ((errors_in_order int).prefix form true s (size count rest) h).1
   is_above_bound (overflow rest) h some = ((errors_in_order int).prefix form true s (overflow rest) h).1
-  is_above_bound (invalid64 number index input) h some = absurd (omega (arith, (errors_in_order int).never_followed form true s (invalid64 number index input) h))
-  is_above_bound (invalid128 number index input) h some = absurd (omega (arith, (errors_in_order int).never_followed form true s (invalid128 number index input) h))
+  is_above_bound (invalid64 number index input) h some =
+      absurd (omega (arith, (errors_in_order int).never_followed form true s (invalid64 number index input) h))
+  is_above_bound (invalid128 number index input) h some =
+      absurd (omega (arith, (errors_in_order int).never_followed form true s (invalid128 number index input) h))
 
 -- All digits at the start, with a value above the bound, are too large.
 run_too_large : (int : IntType) (is_negative : Bool) (body : List ℕ) → 0 < run_len decimal_table body
@@ -145,7 +149,9 @@ split_once digits other rest more same all all_other ends ends_other =
 pub none_or_too_large : (int : IntType) → IsSized int → NoneOrTooLarge int
 none_or_too_large int sized = record {
   none = λ form skip s. is_none int sized form s skip;
-  too_large = λ form s reason h some. run_too_large int (sign_in int form s).minus (sign_in int form s).body some (is_above_bound int sized form s reason h some);
+  too_large = λ form s reason h some.
+      let sign = sign_in int form s in
+      run_too_large int sign.minus sign.body some (is_above_bound int sized form s reason h some);
   begins = λ s. (run_of_begins s, begins_of_run s);
   one_split = split_once;
 }

@@ -35,7 +35,7 @@ prefix_stops_at_rest int form skip s v count h =
       | inl lt ↦
           let stops = prefix_len_stops (is_digit decimal_table) g.body 0 lt in
           let here : get_or g.body n 0 ≡ get_or s count 0 =
-          ap (λ (body : List ℕ). get_or body n 0) (sym (drop-taken int form s)) ∙ get_or-drop g.taken s n 0 ∙ ap (λ (at : ℕ). get_or s at 0) (add_comm g.taken n ∙ sym counts)
+          cc (drop-taken int form s, get_or-drop g.taken s n 0, add_comm g.taken n, counts)
           in
           inr (omega arith, rw here at stops)
       | inr le ↦ inl (omega (arith, prefix_len-le-length (is_digit decimal_table) g.body))
@@ -64,7 +64,12 @@ prefix_of_whole int form skip s v limit h =
     let to_end = whole_is_run n (length g.body) body_is.ends in
     let parts = length-taken int form s in
     ok_prefix int form skip s v (length s) (record {
-      is_prefix = record { some = body_is.some; short = rw (limit_of_prefix int skip (limit_of int) limit) body_is.short; in_range = body_is.in_range; ends = refl };
+      is_prefix = record {
+        some = body_is.some;
+        short = rw (limit_of_prefix int skip (limit_of int) limit) body_is.short;
+        in_range = body_is.in_range;
+        ends = refl;
+      };
       number = found.1;
       count_is = omega arith;
     })
@@ -190,7 +195,9 @@ found_text int sized takes_plus s number count h =
     let some : 0 < run_len decimal_table (text.digits ++ rest) =
     omega (arith, run_len_before text.digits rest text.written.numeral.1 h.ends, text.written.numeral.0)
     in
-    let sign_is = ap (sign_of int.signed takes_plus) parts ∙ sign_of_text int.signed takes_plus text.sign (text.digits ++ rest) text.signed text.plus_taken some in
+    let sign_is =
+    ap (sign_of int.signed takes_plus) parts
+    ∙ sign_of_text int.signed takes_plus text.sign (text.digits ++ rest) text.signed text.plus_taken some in
     let len : length text.digits + length (sign_bytes text.sign) ≡ count =
     omega (arith, length-take-le count s h.within, simp length-append at (ap length text.parts))
     in
@@ -241,8 +248,8 @@ of_parts int form s prefix_bytes rest number parts written ends =
 
 -- Equal answers `Ok` have equal parts.
 same_answer : {E : Type 0} (a b : ℤ) (m n : ℕ) (answer : Result (ℤ × ℕ) E) → answer ≡ Ok (a, m) → answer ≡ Ok (b, n) → (a ≡ b) × (m ≡ n)
-same_answer a b m n answer h int =
-    let both = sym h ∙ int in
+same_answer a b m n answer one other =
+    let both = sym one ∙ other in
     let pair : (a, m) ≡ (b, n) = cc in (ap (λ (p : ℤ × ℕ). p.0) pair, ap (λ (p : ℤ × ℕ). p.1) pair)
 
 -- At most one prefix writes a number that no digit follows: a parse returns it.
@@ -335,9 +342,11 @@ module _ {T : Type 0} (int : IntType) (sized : IsSized int) (number : T → ℤ)
     no_text = λ plus s result is on.
         on_err number result (parse_answer int skip plus s) (TextWrites int plus s) is (λ any h. rw on (law.accepted (looked_for plus) s any h));
     digits = λ is_negative s result is.
-        if_ok number result (whole_answer decimal_table int is_negative skip s) (DigitsWrite int is_negative s) is (λ any h. law.written (given is_negative) skip s any h);
+        if_ok number result (whole_answer decimal_table int is_negative skip s) (DigitsWrite int is_negative s) is
+        (λ any h. law.written (given is_negative) skip s any h);
     no_digits = λ is_negative s result is on.
-        on_err number result (whole_answer decimal_table int is_negative skip s) (DigitsWrite int is_negative s) is (λ any h. rw on (law.accepted (given is_negative) s any h));
+        on_err number result (whole_answer decimal_table int is_negative skip s) (DigitsWrite int is_negative s) is
+        (λ any h. rw on (law.accepted (given is_negative) s any h));
   }
     where
       law : AcceptedNumbers int
@@ -347,13 +356,17 @@ module _ {T : Type 0} (int : IntType) (sized : IsSized int) (number : T → ℤ)
   pub prefix_results : PrefixResults int number skip
   prefix_results = record {
     text = λ plus s result is.
-        if_found number result (parse_prefix_answer int skip plus s) (PrefixWrites (TextWrites int plus) s) is (λ any count h. law.written (looked_for plus) skip s any count h);
+        if_found number result (parse_prefix_answer int skip plus s) (PrefixWrites (TextWrites int plus) s) is
+        (λ any count h. law.written (looked_for plus) skip s any count h);
     no_text = λ plus s result is on.
-        on_none number result (parse_prefix_answer int skip plus s) (PrefixWrites (TextWrites int plus) s) is (λ any count h. rw on (law.accepted (looked_for plus) s any count h));
+        on_none number result (parse_prefix_answer int skip plus s) (PrefixWrites (TextWrites int plus) s) is
+        (λ any count h. rw on (law.accepted (looked_for plus) s any count h));
     digits = λ is_negative s result is.
-        if_found number result (prefix_answer decimal_table int is_negative skip s) (PrefixWrites (DigitsWrite int is_negative) s) is (λ any count h. law.written (given is_negative) skip s any count h);
+        if_found number result (prefix_answer decimal_table int is_negative skip s) (PrefixWrites (DigitsWrite int is_negative) s) is
+        (λ any count h. law.written (given is_negative) skip s any count h);
     no_digits = λ is_negative s result is on.
-        on_none number result (prefix_answer decimal_table int is_negative skip s) (PrefixWrites (DigitsWrite int is_negative) s) is (λ any count h. rw on (law.accepted (given is_negative) s any count h));
+        on_none number result (prefix_answer decimal_table int is_negative skip s) (PrefixWrites (DigitsWrite int is_negative) s) is
+        (λ any count h. rw on (law.accepted (given is_negative) s any count h));
   }
     where
       law : AcceptedPrefixes int

@@ -78,7 +78,8 @@ module _ {table : Table} {count : ℕ} {s : List ℕ} {digits leading number : �
   pub below : IsBelowTen table → number < 10 ^ digits
   below ten =
       let front : List ℕ = take count s in
-      let len : length (run table front) ≡ digits = length-take-le (run_len table front) front (prefix_len-le-length (is_digit table) front) ∙ sym reading.digits_are in
+      let len : length (run table front) ≡ digits =
+      length-take-le (run_len table front) front (prefix_len-le-length (is_digit table) front) ∙ sym reading.digits_are in
       rw (reading.number_is, ← len) (value-below table ten (run table front))
 
 first_refusal : {A : Type 0} (a b c : Bool) (p q r : Refusal) (v : A)
@@ -130,16 +131,21 @@ module _ {table : Table} (class : Class) (bound limit : ℕ) (less : limit < cap
       ≡ answer_by_digits class bound limit (offset + (digits - significant_digits skip digits leading)) (significant_digits skip digits leading) number s
   decided {skip} {s} {offset} {count} {digits} {leading} {number} skipped reading enough =
       let body : List ℕ = drop offset s in
-      let run_is : run_len table s ≡ offset + run_len table body = prefix_len-drop (is_digit table) offset s (omega (arith, skipped.zeros_only, zeros-le table s)) in
+      let run_is : run_len table s ≡ offset + run_len table body =
+      prefix_len-drop (is_digit table) offset s (omega (arith, skipped.zeros_only, zeros-le table s)) in
       let zeros_are : zeros table s ≡ offset + zeros table body = prefix_len-drop (is_zero table) offset s skipped.zeros_only in
       let zeros_most : zeros table body ≤ run_len table body = zeros-le table body in
       let uncut = uncut_of reading in
       let significant : ℕ = significant_digits skip digits leading in
       let most : significant ≤ digits = counting_most skip digits leading in
       let all_zeros : skip ≡ true → zeros table s ≡ offset + leading =
-      λ on. elim enough [ inl ends ↦ omega (arith, uncut.digits_are, uncut.leading_are) | inr many ↦ omega (arith, uncut.digits_are, uncut.leading_are, rw on at many) ] in
+      λ on. elim enough [
+        | inl ends ↦ omega (arith, uncut.digits_are, uncut.leading_are)
+        | inr many ↦ omega (arith, uncut.digits_are, uncut.leading_are, rw on at many)
+      ] in
       let front : ℕ = offset + (digits - significant) in
-      let skipped_are : skipped_zeros table skip s ≡ front = skipped_is skip (zeros table s) offset digits leading (omega (arith, uncut.digits_are, uncut.leading_are)) skipped.asked all_zeros in
+      let few : leading ≤ digits = omega (arith, uncut.digits_are, uncut.leading_are) in
+      let skipped_are : skipped_zeros table skip s ≡ front = skipped_is skip (zeros table s) offset digits leading few skipped.asked all_zeros in
       elim enough [
         | inl ends ↦
             let all : run_len table body ≡ digits = omega (arith, uncut.digits_are) in

@@ -37,7 +37,8 @@ first_map a b c d p q r s = refl
 abbrev pub limit_at : Class → Extent → Bool → ℕ → Option ℕ
 limit_at class extent skip limit = (rule_of class extent skip limit 0 0).limit
 
-limit-is : (class : Class) (extent : Extent) (skip : Bool) (limit digits skipped : ℕ) → (rule_of class extent skip limit digits skipped).limit ≡ limit_at class extent skip limit
+limit-is : (class : Class) (extent : Extent) (skip : Bool) (limit digits skipped : ℕ)
+    → (rule_of class extent skip limit digits skipped).limit ≡ limit_at class extent skip limit
 limit-is narrow prefix true limit digits skipped = refl
 limit-is class extent skip limit digits skipped = refl
 

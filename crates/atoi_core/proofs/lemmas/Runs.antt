@@ -62,7 +62,8 @@ pub value-zeros : (table : Table) (n : ℕ) (s : List ℕ) → n ≤ zeros table
 value-zeros table zero s = λ _. refl
 value-zeros table (suc n) [] = λ h. absurd (omega arith)
 value-zeros table (suc n) (b ∷ bs) =
-    (elim (is_zero table b) as (λ v. is_zero table b ≡ v → suc n ≤ cond v (1 + zeros table bs) 0 → digit_value table b * 10 ^ length (take n bs) + value table (take n bs) ≡ 0) [
+    let number = digit_value table b * 10 ^ length (take n bs) + value table (take n bs) in
+    (elim (is_zero table b) as (λ v. is_zero table b ≡ v → suc n ≤ cond v (1 + zeros table bs) 0 → number ≡ 0) [
       | true ↦ λ e h. rw (value_of_zero table b e, value-zeros table n bs (omega arith)) (omega arith)
       | false ↦ λ e h. absurd (omega arith)
     ]) refl
@@ -131,7 +132,8 @@ module _ (table : Table) where
 
 -- ---- Digit by digit
 
-pub value_more : (table : Table) (s : List ℕ) (i w : ℕ) → i < length s → table (get_or s i 0) ≡ Some w → value table (take (i + 1) s) ≡ value table (take i s) * 10 + w
+pub value_more : (table : Table) (s : List ℕ) (i w : ℕ) → i < length s → table (get_or s i 0) ≡ Some w
+    → value table (take (i + 1) s) ≡ value table (take i s) * 10 + w
 value_more table s i w here digit =
     let e : digit_value table (get_or s i 0) ≡ w = ap (λ (o : Option ℕ). unwrap_or o 0) digit in
     rw (take_more s i 0 here, value-append table (take i s) (get_or s i 0 ∷ []), ← e) (grind arith)
@@ -147,12 +149,14 @@ value-take-le table s i j le =
     (value-append-le table (take i s) (drop i (take j s)))
 
 -- A digit after i bytes of the run is in it.
-pub run_more : (table : Table) (s : List ℕ) (i w : ℕ) → i < length s → table (get_or s i 0) ≡ Some w → i + run_len table (drop i s) ≡ run_len table s → i + 1 + run_len table (drop (i + 1) s) ≡ run_len table s
+pub run_more : (table : Table) (s : List ℕ) (i w : ℕ) → i < length s → table (get_or s i 0) ≡ Some w
+    → i + run_len table (drop i s) ≡ run_len table s → i + 1 + run_len table (drop (i + 1) s) ≡ run_len table s
 run_more table s i w here digit so_far =
     let yes = prefix_len-drop_yes (is_digit table) s i 0 here (ap is_some digit) in
     omega (arith, yes, so_far)
 
-pub run_ends : (table : Table) (s : List ℕ) (i : ℕ) → i < length s → table (get_or s i 0) ≡ None → i + run_len table (drop i s) ≡ run_len table s → run_len table s ≡ i
+pub run_ends : (table : Table) (s : List ℕ) (i : ℕ) → i < length s → table (get_or s i 0) ≡ None
+    → i + run_len table (drop i s) ≡ run_len table s → run_len table s ≡ i
 run_ends table s i here none so_far =
     let no = prefix_len-drop_no (is_digit table) s i 0 here (ap is_some none) in
     omega (arith, no, so_far)

@@ -59,7 +59,8 @@ same_reason : (int : IntType) (skip : Bool) (extent : Extent) (g h : Sign) → I
     → option_map rank (reason_at int skip extent g) ≡ option_map rank (reason_at int skip extent h)
 same_reason int skip extent g h alike =
     refusal-rank decimal_table (class_of int) (bound_of int g.minus) (limit_of int) extent skip g.body
-    ∙ (λ i. first_of (alike.is_empty i) (is_above (limit_at (class_of int) extent skip (limit_of int)) (alike.counts i)) (ltb (alike.bound i) (alike.number i)) (alike.followed i) 0 1 2 (rank (invalid (class_of int) 0 0 [])))
+    ∙ (λ i. first_of (alike.is_empty i) (is_above (limit_at (class_of int) extent skip (limit_of int)) (alike.counts i))
+    (ltb (alike.bound i) (alike.number i)) (alike.followed i) 0 1 2 (rank (invalid (class_of int) 0 0 [])))
     ∙ sym (refusal-rank decimal_table (class_of int) (bound_of int h.minus) (limit_of int) extent skip h.body)
 
 -- A prefix call with the sign `g` and its body.
@@ -99,7 +100,8 @@ same_run int skip g h minus taken runs =
 -- The law `RestChangesNothing`.
 pub rest_changes_nothing : (int : IntType) → RestChangesNothing int
 rest_changes_nothing int form skip s t same =
-    subst₂ (λ x y. HaveSameOutcome x y) (with_more-zero (prefix_at int skip (sign_in int form s)) ∙ sym (prefix_call-is int form skip s)) (sym (prefix_call-is int form skip t))
+    subst₂ (λ x y. HaveSameOutcome x y) (with_more-zero (prefix_at int skip (sign_in int form s)) ∙ sym (prefix_call-is int form skip s))
+    (sym (prefix_call-is int form skip t))
     (same_run int skip (sign_in int form s) (sign_in int form t) same.minus same.taken same.run)
 
 -- ---- Added leading zeros
@@ -141,7 +143,8 @@ eqb-add more m n = grind (arith, nat_tests)
 
 -- Another byte follows the digits in both bodies or in neither.
 followed-padded : (extent : Extent) (count : ℕ) (body : List ℕ)
-    → leaves_rest extent (run_len decimal_table body) (length body) ≡ leaves_rest extent (run_len decimal_table (padded count body)) (length (padded count body))
+    → leaves_rest extent (run_len decimal_table body) (length body)
+    ≡ leaves_rest extent (run_len decimal_table (padded count body)) (length (padded count body))
 followed-padded prefix count body = refl
 followed-padded whole count body =
     ap not (eqb-add count (run_len decimal_table body) (length body))

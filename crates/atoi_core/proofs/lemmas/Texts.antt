@@ -137,7 +137,8 @@ text_of_value int sized = record { parsed = parsed }
     parsed : (skip takes_plus : Bool) (x : ℤ) → least_of int ≤ℤ x → x ≤ℤ pos int.greatest → parse_answer int skip takes_plus (signed_decimal x) ≡ Ok x
     parsed skip takes_plus (pos n) low high =
         let text = decimal_text n (lt_of_le_of_lt (leb→le n int.greatest high.le) (bound_below-64 int sized false)) in
-        ap (λ (g : Sign). whole_answer decimal_table int g.minus skip g.body) (sign_of_digits int.signed takes_plus (decimal n) (omega (arith, text.all, text.some)))
+        ap (λ (g : Sign). whole_answer decimal_table int g.minus skip g.body)
+        (sign_of_digits int.signed takes_plus (decimal n) (omega (arith, text.all, text.some)))
         ∙ magnitude_text int sized false skip n (leb→le n int.greatest high.le)
     parsed skip takes_plus (negsuc n) low high =
         let within = negative_in_range int.signed int.greatest n low in
@@ -232,7 +233,8 @@ begins int is_negative [] number h = absurd (omega (arith, h.numeral.0))
 begins int is_negative (digit ∷ digits) number h = digit_from_value digit h.numeral.1.0
 
 -- `decimal n` writes a magnitude in range.
-decimal_writes : (int : IntType) → IsSized int → (is_negative : Bool) (n : ℕ) → n ≤ bound_of int is_negative → DigitsWrite int is_negative (decimal n) (with_sign is_negative n)
+decimal_writes : (int : IntType) → IsSized int → (is_negative : Bool) (n : ℕ) → n ≤ bound_of int is_negative
+    → DigitsWrite int is_negative (decimal n) (with_sign is_negative n)
 decimal_writes int sized is_negative n le =
     let numeral = decimal_is_IsNumeral_wide n (lt_of_le_of_lt le (bound_below-64 int sized is_negative)) in
     record { numeral = numeral.0; in_range = omega (arith, numeral.1); value_is = rw numeral.1 refl }
@@ -243,7 +245,9 @@ IsLed n digits = (0 < length digits) × (0 < n → 48 < get_or digits 0 0)
 
 led : (n : ℕ) → n < 10 ^ 64 → IsLed n (decimal n)
 led n small = decimal_by_steps_wide IsLed (λ m low. (omega arith, λ above. omega arith))
-    (λ m digits low h. (omega (arith, length-append digits ((48 + m % 10) ∷ [])), λ above. omega (arith, get_or-append digits ((48 + m % 10) ∷ []) 0 0 h.0, h.1 (omega arith)))) n small
+    (λ m digits low h.
+    let last = (48 + m % 10) ∷ [] in
+    (omega (arith, length-append digits last), λ above. omega (arith, get_or-append digits last 0 0 h.0, h.1 (omega arith)))) n small
 
 no_needless : (digits : List ℕ) → 48 < get_or digits 0 0 → IsFalse (has_needless_zero digits)
 no_needless [] h = refl
@@ -301,7 +305,8 @@ decimal_only int sized is_negative digits n h shortest =
     ∙ ap decimal (sym (with_sign-injective is_negative n (digits_value 10 digits) h.value_is))
 
 -- In range, `signed_decimal x` writes x.
-signed_writes : (int : IntType) → IsSized int → (takes_plus : Bool) (x : ℤ) → least_of int ≤ℤ x → x ≤ℤ pos int.greatest → TextWrites int takes_plus (signed_decimal x) x
+signed_writes : (int : IntType) → IsSized int → (takes_plus : Bool) (x : ℤ) → least_of int ≤ℤ x → x ≤ℤ pos int.greatest
+    → TextWrites int takes_plus (signed_decimal x) x
 signed_writes int sized takes_plus (pos n) low high = record {
   sign = no_sign;
   digits = decimal n;

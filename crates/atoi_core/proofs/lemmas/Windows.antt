@@ -204,7 +204,8 @@ module _ {table : Table} (ten : IsBelowTen table) where
       λ h. elim stops [ inl k ↦ absurd (false≢true (sym k ∙ h)) | inr k ↦ k.1 ] in
       let seen : Shows table 16 (drop at s) w = shows_rest ten 16 s at e in
       let zeros_are : zeros table s ≡ at + zeros table (drop at s) = prefix_len-drop (is_zero table) at s after_skip.place.bounded in
-      let run_is : run_len table s ≡ at + run_len table (drop at s) = prefix_len-drop (is_digit table) at s (omega (arith, after_skip.place.bounded, zeros-le table s)) in
+      let run_is : run_len table s ≡ at + run_len table (drop at s) =
+      prefix_len-drop (is_digit table) at s (omega (arith, after_skip.place.bounded, zeros-le table s)) in
       let zero_most : zeros table (drop at s) ≤ run_len table (drop at s) = zeros-le table (drop at s) in
       let full : skip ≡ true → w.len ≡ 16 → at ≡ zeros table s = λ h k. omega (arith, last h, seen.zeroes_of k) in
       let short : w.len < 16 → zeros table (drop at s) < 16 = λ h. omega (arith, seen.len_is) in

@@ -19,7 +19,7 @@ use Rattle.atoi_core.proofs.lemmas.WordFields.{trailing_bytes, repeated, or_byte
 -- A test of mapped elements.
 prefix_len-map : (p : ℕ → Bool) (f : ℕ → ℕ) (xs : List ℕ) → prefix_len p (map f xs) ≡ prefix_len (λ x. p (f x)) xs
 prefix_len-map p f [] = refl
-prefix_len-map p f (x ∷ xs) = ap (λ n. cond (p (f x)) (1 + n) 0) (prefix_len-map p f xs)
+prefix_len-map p f (x ∷ xs) = cc (prefix_len-map p f xs)
 
 -- ---- Counting zeros
 
@@ -31,16 +31,15 @@ combined_is_zero b h = agree_below_at (λ x. bit_xor x 48 == 0) (is_zero decimal
 prefix_len-agree : (p q : ℕ → Bool) → ((b : ℕ) → b < 256 → p b ≡ q b) → (k word : ℕ) → prefix_len p (digits_l 256 k word) ≡ prefix_len q (digits_l 256 k word)
 prefix_len-agree p q agree zero word = refl
 prefix_len-agree p q agree (suc k) word =
-    ap₂ (λ b n. cond b (1 + n) 0) (agree (word % 256) (mod-lt word (zero-lt-suc 255))) (prefix_len-agree p q agree k (word / 256))
+    cc (agree (word % 256) (mod-lt word (zero-lt-suc 255)), prefix_len-agree p q agree k (word / 256))
 
 -- After a xor with 48, trailing zero bits count the zeros.
 pub zeros_counted : (k word : ℕ) → count_trailing_zeros (k * 8) (bit_xor word (repeated 48 k)) / 8 ≡ zeros decimal_table (low_bytes k word)
 unfolding low_bytes
 zeros_counted k word =
-    trailing_bytes k (bit_xor word (repeated 48 k))
-    ∙ ap (prefix_len (λ b. b == 0)) (xor_repeated 48 (lit< tt) k word)
-    ∙ prefix_len-map (λ b. b == 0) (λ x. bit_xor x 48) (digits_l 256 k word)
-    ∙ prefix_len-agree (λ x. bit_xor x 48 == 0) (is_zero decimal_table) combined_is_zero k word
+    rw (trailing_bytes k (bit_xor word (repeated 48 k)), xor_repeated 48 (lit< tt) k word)
+    (prefix_len-map (λ b. b == 0) (λ x. bit_xor x 48) (digits_l 256 k word)
+    ∙ prefix_len-agree (λ x. bit_xor x 48 == 0) (is_zero decimal_table) combined_is_zero k word)
 
 -- Of eight bytes, and of sixteen.
 pub zeros_of_8 : (word : ℕ) → count_trailing_zeros 64 (bit_xor word 0x3030_3030_3030_3030) / 8 ≡ zeros decimal_table (low_bytes 8 word)
@@ -53,20 +52,20 @@ zeros_of_16 word = zeros_counted 16 word
 
 -- Lengths that are 0 unless a test passes, and equal where it does.
 run_goes_on : (t : Bool) (m n : ℕ) → (t ≡ true → m ≡ n) → cond t (1 + m) 0 ≡ cond t (1 + n) 0
-run_goes_on true m n e = ap (λ x. 1 + x) (e refl)
+run_goes_on true m n e = cc (e refl)
 run_goes_on false m n e = refl
 
 -- Mapping the results of a pairwise operation is one pairwise operation.
 marked : (h : ℕ → ℕ) (op : ℕ → ℕ → ℕ) (xs ys : List ℕ) → map h (zip2 op xs ys) ≡ zip2 (λ x y. h (op x y)) xs ys
 marked h op [] ys = refl
 marked h op (x ∷ xs) [] = refl
-marked h op (x ∷ xs) (y ∷ ys) = ap (λ zs. h (op x y) ∷ zs) (marked h op xs ys)
+marked h op (x ∷ xs) (y ∷ ys) = cc (marked h op xs ys)
 
 -- So is mapping both lists first.
 changed : (f g : ℕ → ℕ) (op : ℕ → ℕ → ℕ) (xs ys : List ℕ) → zip2 op (map f xs) (map g ys) ≡ zip2 (λ x y. op (f x) (g y)) xs ys
 changed f g op [] ys = refl
 changed f g op (x ∷ xs) [] = refl
-changed f g op (x ∷ xs) (y ∷ ys) = ap (λ zs. op (f x) (g y) ∷ zs) (changed f g op xs ys)
+changed f g op (x ∷ xs) (y ∷ ys) = cc (changed f g op xs ys)
 
 -- An addition to each byte at once: exact for the lowest byte (`low`), and a digit carries nothing
 -- (`rest`).
@@ -123,10 +122,9 @@ module _ (first second : Change) (mark : ℕ → ℕ → ℕ)
       let byte = word % 256 in
       let run : ℕ → ℕ → ℕ = λ x y. prefix_len (λ b. b == 0) (zip2 mark (digits_l 256 k x) (digits_l 256 k y)) in
       let now = run (first.of_word (suc k) word / 256) (second.of_word (suc k) word / 256) in
-      ap₂ (λ x y. cond (mark x y == 0) (1 + now) 0) (first.low k word) (second.low k word)
-      ∙ ap (λ t. cond t (1 + now) 0) (digit_byte byte (mod-lt word (zero-lt-suc 255)))
-      ∙ run_goes_on (is_digit decimal_table byte) now (prefix_len (is_digit decimal_table) (digits_l 256 k (word / 256)))
-      (λ e. ap₂ run (first.rest k word e) (second.rest k word e) ∙ carried_run k (word / 256))
+      rw (first.low k word, second.low k word, digit_byte byte (mod-lt word (zero-lt-suc 255)))
+      (run_goes_on (is_digit decimal_table byte) now (prefix_len (is_digit decimal_table) (digits_l 256 k (word / 256)))
+      (λ e. rw (first.rest k word e, second.rest k word e) (carried_run k (word / 256))))
 
 -- The mark that the kernel `check_len_8` computes for a byte.
 abbrev kernel_mark : ℕ → ℕ → ℕ
@@ -138,33 +136,35 @@ kernel_byte b h = agree_below_at (λ x. kernel_mark ((x + 6) % 256) x == 0) (is_
 
 -- Trailing zero bits of these marks count the digits.
 pub digits_counted : (k word : ℕ)
-    → count_trailing_zeros (k * 8) (bit_xor (bit_or (bit_and ((word + repeated 6 k) % 2 ^ (k * 8) / 16) (repeated 15 k)) (bit_and word (repeated 240 k))) (repeated 51 k)) / 8
+    → let high = bit_and ((word + repeated 6 k) % 2 ^ (k * 8) / 16) (repeated 15 k) in
+    count_trailing_zeros (k * 8) (bit_xor (bit_or high (bit_and word (repeated 240 k))) (repeated 51 k)) / 8
     ≡ run_len decimal_table (low_bytes k word)
 unfolding low_bytes
 digits_counted k word =
     let raised = (word + repeated 6 k) % 2 ^ (k * 8) in
     let high = bit_and (raised / 16) (repeated 15 k) in
     let low = bit_and word (repeated 240 k) in
-    trailing_bytes k (bit_xor (bit_or high low) (repeated 51 k))
-    ∙ ap (prefix_len (λ b. b == 0))
-    (xor_repeated 51 (lit< tt) k (bit_or high low)
-    ∙ ap (map (λ x. bit_xor x 51))
-    (or_bytes k high low
-    ∙ ap₂ (zip2 bit_or)
-    (upper_halves k raised ∙ ap (map (λ x. x / 16)) (digits_cut 8 k (word + repeated 6 k)))
-    (and_repeated 240 (lit< tt) k word)
-    ∙ changed (λ x. x / 16) (λ x. bit_and x 240) bit_or (digits_l 256 k (word + repeated 6 k)) (digits_l 256 k word))
-    ∙ marked (λ x. bit_xor x 51) (λ x y. bit_or (x / 16) (bit_and y 240)) (digits_l 256 k (word + repeated 6 k)) (digits_l 256 k word))
-    ∙ carried_run (added 6 (lit< tt)) unchanged kernel_mark kernel_byte k word
+    let above = digits_l 256 k (word + repeated 6 k) in
+    let below = digits_l 256 k word in
+    rw (
+      trailing_bytes k (bit_xor (bit_or high low) (repeated 51 k)),
+      xor_repeated 51 (lit< tt) k (bit_or high low),
+      or_bytes k high low,
+      upper_halves k raised,
+      digits_cut 8 k (word + repeated 6 k),
+      and_repeated 240 (lit< tt) k word,
+      changed (λ x. x / 16) (λ x. bit_and x 240) bit_or above below,
+      marked (λ x. bit_xor x 51) (λ x y. bit_or (x / 16) (bit_and y 240)) above below,
+    )
+    (carried_run (added 6 (lit< tt)) unchanged kernel_mark kernel_byte k word)
 
 -- The mask may come before the shift.
 pub digits_of_8 : (val : ℕ)
-    → count_trailing_zeros 64 (bit_xor (bit_or (bit_and ((val + 0x0606_0606_0606_0606) % 0x1_0000_0000_0000_0000) 0xF0F0_F0F0_F0F0_F0F0 / 16) (bit_and val 0xF0F0_F0F0_F0F0_F0F0)) 0x3333_3333_3333_3333) / 8
+    → let high = bit_and ((val + 0x0606_0606_0606_0606) % 0x1_0000_0000_0000_0000) 0xF0F0_F0F0_F0F0_F0F0 / 16 in
+    count_trailing_zeros 64 (bit_xor (bit_or high (bit_and val 0xF0F0_F0F0_F0F0_F0F0)) 0x3333_3333_3333_3333) / 8
     ≡ run_len decimal_table (low_bytes 8 val)
 digits_of_8 val =
-    ap (λ high. count_trailing_zeros 64 (bit_xor (bit_or high (bit_and val 0xF0F0_F0F0_F0F0_F0F0)) 0x3333_3333_3333_3333) / 8)
-    (and_shr ((val + 0x0606_0606_0606_0606) % 2 ^ 64) 0xF0F0_F0F0_F0F0_F0F0 4)
-    ∙ digits_counted 8 val
+    rw (and_shr ((val + 0x0606_0606_0606_0606) % 2 ^ 64) 0xF0F0_F0F0_F0F0_F0F0 4) (digits_counted 8 val)
 
 -- The mark that the word engine computes for a byte.
 abbrev engine_mark : ℕ → ℕ → ℕ
@@ -177,19 +177,22 @@ engine_byte b h =
 
 -- Trailing zero bits of the engine's marks count the digits too.
 pub marks_counted : (k word : ℕ)
-    → count_trailing_zeros (k * 8) (bit_and (bit_or ((word + repeated 70 k) % 2 ^ (k * 8)) ((word + without_48 k) % 2 ^ (k * 8))) (repeated 128 k)) / 8
+    → let above = (word + repeated 70 k) % 2 ^ (k * 8) in
+    count_trailing_zeros (k * 8) (bit_and (bit_or above ((word + without_48 k) % 2 ^ (k * 8))) (repeated 128 k)) / 8
     ≡ run_len decimal_table (low_bytes k word)
 unfolding low_bytes
 marks_counted k word =
     let above = (word + repeated 70 k) % 2 ^ (k * 8) in
     let below = (word + without_48 k) % 2 ^ (k * 8) in
-    trailing_bytes k (bit_and (bit_or above below) (repeated 128 k))
-    ∙ ap (prefix_len (λ b. b == 0))
-    (and_repeated 128 (lit< tt) k (bit_or above below)
-    ∙ ap (map (λ x. bit_and x 128))
-    (or_bytes k above below ∙ ap₂ (zip2 bit_or) (digits_cut 8 k (word + repeated 70 k)) (digits_cut 8 k (word + without_48 k)))
-    ∙ marked (λ x. bit_and x 128) bit_or (digits_l 256 k (word + repeated 70 k)) (digits_l 256 k (word + without_48 k)))
-    ∙ carried_run (added 70 (lit< tt)) lowered engine_mark engine_byte k word
+    rw (
+      trailing_bytes k (bit_and (bit_or above below) (repeated 128 k)),
+      and_repeated 128 (lit< tt) k (bit_or above below),
+      or_bytes k above below,
+      digits_cut 8 k (word + repeated 70 k),
+      digits_cut 8 k (word + without_48 k),
+      marked (λ x. bit_and x 128) bit_or (digits_l 256 k (word + repeated 70 k)) (digits_l 256 k (word + without_48 k)),
+    )
+    (carried_run (added 70 (lit< tt)) lowered engine_mark engine_byte k word)
 
 -- ---- The word with 48 subtracted from each byte
 
@@ -208,20 +211,18 @@ lowered_zeros (suc k) word =
     let byte = word % 256 in
     let fits : byte < 256 = mod-lt word (zero-lt-suc 255) in
     let now = prefix_len (λ b. b == 0) (digits_l 256 k ((word + without_48 (suc k)) / 256)) in
-    ap (λ x. cond (x == 0) (1 + now) 0) (lowered.low k word)
-    ∙ ap (λ t. cond t (1 + now) 0) (lowered_zero byte fits)
-    ∙ run_goes_on (is_zero decimal_table byte) now (prefix_len (is_zero decimal_table) (digits_l 256 k (word / 256)))
-    (λ e. ap (λ x. prefix_len (λ b. b == 0) (digits_l 256 k x)) (lowered.rest k word (zero_is_digit byte fits e)) ∙ lowered_zeros k (word / 256))
+    rw (lowered.low k word, lowered_zero byte fits)
+    (run_goes_on (is_zero decimal_table byte) now (prefix_len (is_zero decimal_table) (digits_l 256 k (word / 256)))
+    (λ e. rw (lowered.rest k word (zero_is_digit byte fits e)) (lowered_zeros k (word / 256))))
 
 -- Trailing zero bits of the difference count the zeros.
 pub lowered_zeros_counted : (k word : ℕ) → count_trailing_zeros (k * 8) ((word + without_48 k) % 2 ^ (k * 8)) / 8 ≡ zeros decimal_table (low_bytes k word)
 unfolding low_bytes
 lowered_zeros_counted k word =
-    trailing_bytes k ((word + without_48 k) % 2 ^ (k * 8))
-    ∙ ap (prefix_len (λ b. b == 0)) (digits_cut 8 k (word + without_48 k))
-    ∙ lowered_zeros k word
+    rw (trailing_bytes k ((word + without_48 k) % 2 ^ (k * 8)), digits_cut 8 k (word + without_48 k)) (lowered_zeros k word)
 
-pub lowered_zeros_of_8 : (word : ℕ) → count_trailing_zeros 64 ((word + 0xCFCF_CFCF_CFCF_CFD0) % 0x1_0000_0000_0000_0000) / 8 ≡ zeros decimal_table (low_bytes 8 word)
+pub lowered_zeros_of_8 : (word : ℕ)
+    → count_trailing_zeros 64 ((word + 0xCFCF_CFCF_CFCF_CFD0) % 0x1_0000_0000_0000_0000) / 8 ≡ zeros decimal_table (low_bytes 8 word)
 lowered_zeros_of_8 word = lowered_zeros_counted 8 word
 
 -- If n + 1 elements pass, so does the first, then n.
@@ -239,30 +240,33 @@ lowered_digits : (j k word : ℕ) → k ≤ prefix_len (is_digit decimal_table) 
 lowered_digits j zero word digits = omega (arith, and_zero_r (word % 2 ^ (zero * 8)))
 lowered_digits j (suc k) word digits =
     let byte = word % 256 in
-    let passes = first_passes (is_digit decimal_table byte) k (prefix_len (is_digit decimal_table) (digits_l 256 (k + j) (word / 256))) (rw (suc-add k j) at digits) in
+    let run = prefix_len (is_digit decimal_table) (digits_l 256 (k + j) (word / 256)) in
+    let passes = first_passes (is_digit decimal_table byte) k run (rw (suc-add k j) at digits) in
     let bits : suc k * 8 ≡ k * 8 + 8 = suc-mul k 8 in
     let lower = word + without_48 (suc (k + j)) in
-    ap (λ n. (word + without_48 n) % 2 ^ (suc k * 8)) (suc-add k j)
-    ∙ ap (λ e. lower % 2 ^ e) bits
-    ∙ mod-pow-add lower (k * 8) 8
-    ∙ ap₂ (λ x y. x % 2 ^ (k * 8) * 256 + y) (lowered.rest (k + j) word passes.0) (lowered.low (k + j) word ∙ sym (lower_half byte passes.0))
-    ∙ ap (λ x. x * 256 + bit_and byte 15) (lowered_digits j k (word / 256) passes.1)
-    ∙ sym (and_block 8 (word / 256 % 2 ^ (k * 8)) (repeated 15 k) byte 15 (mod-lt word (zero-lt-suc 255)) (lit< tt))
-    ∙ ap (λ x. bit_and x (repeated 15 (suc k))) (sym (mod-pow-add word (k * 8) 8))
-    ∙ ap (λ e. bit_and (word % 2 ^ e) (repeated 15 (suc k))) (sym bits)
+    let block = and_block 8 (word / 256 % 2 ^ (k * 8)) (repeated 15 k) byte 15 (mod-lt word (zero-lt-suc 255)) (lit< tt) in
+    cc (
+      suc-add k j,
+      bits,
+      mod-pow-add lower (k * 8) 8,
+      lowered.rest (k + j) word passes.0,
+      lowered.low (k + j) word,
+      lower_half byte passes.0,
+      lowered_digits j k (word / 256) passes.1,
+      block,
+      mod-pow-add word (k * 8) 8,
+    )
 
 -- A mask and a shift by whole bytes commute.
 shifted_halves : (z k word : ℕ) → bit_and word (repeated 15 k) * 2 ^ (z * 8) ≡ bit_and (word * 2 ^ (z * 8)) (repeated 15 (z + k))
 shifted_halves zero k word =
     let one : bit_and word (repeated 15 k) * 2 ^ (zero * 8) ≡ bit_and word (repeated 15 k) = omega arith in
     let same : word ≡ word * 2 ^ (zero * 8) = omega arith in
-    one ∙ ap₂ (λ x n. bit_and x (repeated 15 n)) same (sym (zero-add k))
+    cc (one, same, zero-add k)
 shifted_halves (suc z) k word =
-    let up : 2 ^ (suc z * 8) ≡ 2 ^ (z * 8) * 256 = ap (λ e. 2 ^ e) (suc-mul z 8) ∙ pow-add 2 (z * 8) 8 in
-    let next : word * 2 ^ (suc z * 8) ≡ word * 2 ^ (z * 8) * 256 + 0 = ap (λ p. word * p) up ∙ omega arith in
-    ap (λ p. bit_and word (repeated 15 k) * p) up
-    ∙ omega (arith, shifted_halves z k word, and_block 8 (word * 2 ^ (z * 8)) (repeated 15 (z + k)) 0 15 (lit< tt) (lit< tt))
-    ∙ ap₂ (λ x n. bit_and x (repeated 15 n)) (sym next) (sym (suc-add z k))
+    let up : 2 ^ (suc z * 8) ≡ 2 ^ (z * 8) * 256 = rw suc-mul (pow-add 2 (z * 8) 8) in
+    let next : word * 2 ^ (suc z * 8) ≡ word * 2 ^ (z * 8) * 256 + 0 = rw up (omega arith) in
+    rw (suc-add z k, next, up) (omega (arith, shifted_halves z k word, and_block 8 (word * 2 ^ (z * 8)) (repeated 15 (z + k)) 0 15 (lit< tt) (lit< tt)))
 
 -- For digits at the top of a word, subtracting 48 is the mask.
 pub lowered_at_top : (len word : ℕ) → len ≤ 8 → len ≤ run_len decimal_table (low_bytes 8 word)
@@ -275,7 +279,7 @@ lowered_at_top len word few digits =
     let bits : 64 ≡ len * 8 + z * 8 = omega arith in
     let lower = word + without_48 8 in
     let kept : lower % 2 ^ (len * 8) ≡ bit_and (word % 2 ^ (len * 8)) (repeated 15 len) =
-    ap (λ n. (word + without_48 n) % 2 ^ (len * 8)) (sym all) ∙ lowered_digits z len word (rw all digits) in
+    cc (all, lowered_digits z len word (rw all digits)) in
     let cut : (x : ℕ) → x * 2 ^ (64 - 8 * len) % 2 ^ 64 ≡ x % 2 ^ (len * 8) * 2 ^ (z * 8) =
     λ x. ap₂ (λ e f. x * 2 ^ e % 2 ^ f) places bits ∙ shift_cut x (len * 8) (z * 8) in
     cut (lower % 2 ^ 64)
@@ -285,13 +289,14 @@ lowered_at_top len word few digits =
     ∙ ap₂ (λ x n. bit_and x (repeated 15 n)) (sym (cut word)) (add_comm z len ∙ all)
 
 -- The shifted bytes are below 16, and keep the sum.
-pub lowered_value : (len word ones : ℕ) → len ≤ 8 → len ≤ run_len decimal_table (low_bytes 8 word) → ones ≡ (word + without_48 8) % 2 ^ 64 * 2 ^ (64 - 8 * len) % 2 ^ 64
+pub lowered_value : (len word ones : ℕ) → len ≤ 8 → len ≤ run_len decimal_table (low_bytes 8 word)
+    → ones ≡ (word + without_48 8) % 2 ^ 64 * 2 ^ (64 - 8 * len) % 2 ^ 64
     → (bit_and ones (repeated 15 8) ≡ ones) × (low_value (low_bytes 8 ones) ≡ low_value (low_bytes len word))
 unfolding low_bytes
 lowered_value len word ones few digits is =
     let at_top = word * 2 ^ (64 - 8 * len) % 2 ^ 64 in
     let e = is ∙ lowered_at_top len word few digits in (
-      ap (λ x. bit_and x (repeated 15 8)) e ∙ and_assoc (repeated 15 8) at_top (repeated 15 8) ∙ ap (bit_and at_top) (and_self (repeated 15 8)) ∙ sym e,
+      cc (e, and_assoc (repeated 15 8) at_top (repeated 15 8), and_self (repeated 15 8)),
       ap (λ x. low_value (digits_l 256 8 x)) e ∙ ap low_value (and_repeated 15 (lit< tt) 8 at_top) ∙ low_value_halves (digits_l 256 8 at_top)
           ∙ shifted_value (64 - 8 * len) 8 len word (omega arith) few,
     )
@@ -305,6 +310,7 @@ lowered_eight word ones full is = lowered_value 8 word ones (omega arith) (omega
 pub shifted_twice : (a len : ℕ) → len < 8 → a * 2 ^ (56 - 8 * len) % 2 ^ 64 * 2 ^ 8 % 2 ^ 64 ≡ a * 2 ^ (64 - 8 * len) % 2 ^ 64
 shifted_twice a len few =
     let p = 2 ^ (56 - 8 * len) in
-    let whole : p * 2 ^ 8 ≡ 2 ^ (64 - 8 * len) = sym (pow-add 2 (56 - 8 * len) 8) ∙ ap (λ e. 2 ^ e) (omega arith) in
+    let same : 56 - 8 * len + 8 ≡ 64 - 8 * len = omega arith in
+    let whole : p * 2 ^ 8 ≡ 2 ^ (64 - 8 * len) = cc (pow-add 2 (56 - 8 * len) 8, same) in
     let regroup : a * p * 2 ^ 8 ≡ a * (p * 2 ^ 8) = omega arith in
-    mul-mod_first (a * p) (2 ^ 8) (2 ^ 64) ∙ ap (λ x. x % 2 ^ 64) (regroup ∙ ap (λ x. a * x) whole)
+    cc (mul-mod_first (a * p) (2 ^ 8) (2 ^ 64), regroup, whole)

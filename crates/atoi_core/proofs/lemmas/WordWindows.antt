@@ -19,11 +19,11 @@ use Rattle.atoi_core.proofs.lemmas.LoadedWords.{word_start, loaded_run, loaded_s
 
 -- A window that is full of digits reports its zeros.
 pub reported_full : (n c z : ℕ) → n ≡ c → (if n == c then z else 0) ≡ z
-reported_full n c z e = ap (λ t. cond t z 0) (eq-eqb n c e)
+reported_full n c z e = rw (eq-eqb n c e)
 
 -- Any other window reports no zeros.
 pub reported_none : (n c z : ℕ) → n ≢ c → (if n == c then z else 0) ≡ 0
-reported_none n c z ne = ap (λ t. cond t z 0) (ne_eqb n c ne)
+reported_none n c z ne = rw (ne_eqb n c ne)
 
 -- A window of `c` bytes, by its three numbers.
 pub window_from : (c : ℕ) (s : List ℕ) (len leading number : ℕ)
@@ -34,9 +34,9 @@ pub window_from : (c : ℕ) (s : List ℕ) (len leading number : ℕ)
 window_from c s len leading number len_is leading_is number_is =
     let within : run_len decimal_table (take c s) ≡ min c (run_len decimal_table s) = prefix_len-take (is_digit decimal_table) c s in
     let same_leading : leading ≡ (if run_len decimal_table (take c s) == c then zeros decimal_table (take c s) else 0) =
-    leading_is ∙ ap (λ n. if n == c then zeros decimal_table (take c s) else 0) len_is in
+    rw (← len_is) leading_is in
     let same_number : number ≡ value decimal_table (take (run_len decimal_table (take c s)) (take c s)) =
-    number_is ∙ ap (value decimal_table) (sym (take-take len c s (omega arith)) ∙ ap (λ n. take n (take c s)) len_is) in
+    rw (← len_is, take-take len c s (omega arith)) number_is in
     λ i. record { len = len_is i; zeroes = same_leading i; number = same_number i }
 
 -- The window of eight bytes, from their word.
@@ -48,7 +48,7 @@ pub loaded_window : (s : List ℕ) → ((i : ℕ) → get_or s i 0 < 256) → (w
 loaded_window s fits word w is len_is zeroes_are number_is =
     window_from 8 s w.len w.zeroes w.number
     (len_is ∙ loaded_run s fits word is)
-    (zeroes_are ∙ ap (λ z. if w.len == 8 then z else 0) (loaded_zeros s fits word is))
+    (rw (loaded_zeros s fits word is) at zeroes_are)
     (number_is ∙ loaded_sum s fits word is w.len len_is)
 
 -- Without eight digits at the start, eight bytes determine the window of 16.
@@ -65,12 +65,8 @@ pub few_in_both : (s : List ℕ) → length s < 8 → window_of decimal_table 16
 few_in_both s few =
     let within : run_len decimal_table s ≤ length s = prefix_len-le-length (is_digit decimal_table) s in
     let sixteen : take 16 s ≡ s = take_all 16 s (omega arith) in
-    let eight : s ≡ take 8 s = sym (take_all 8 s (omega arith)) in
-    let none : (if run_len decimal_table s == 16 then zeros decimal_table s else 0) ≡ (if run_len decimal_table s == 8 then zeros decimal_table s else 0) =
-    reported_none (run_len decimal_table s) 16 (zeros decimal_table s) (omega arith) ∙ sym (reported_none (run_len decimal_table s) 8 (zeros decimal_table s) (omega arith)) in
-    ap (λ (r : List ℕ). let w : Window = record { len = run_len decimal_table r; zeroes = if run_len decimal_table r == 16 then zeros decimal_table r else 0; number = value decimal_table (run decimal_table r) } in w) sixteen
-    ∙ ap (λ (z : ℕ). let w : Window = record { len = run_len decimal_table s; zeroes = z; number = value decimal_table (run decimal_table s) } in w) none
-    ∙ ap (λ (r : List ℕ). let w : Window = record { len = run_len decimal_table r; zeroes = if run_len decimal_table r == 8 then zeros decimal_table r else 0; number = value decimal_table (run decimal_table r) } in w) eight
+    let eight : take 8 s ≡ s = take_all 8 s (omega arith) in
+    rw (sixteen, eight, ne_eqb (run_len decimal_table s) 16 (omega arith), ne_eqb (run_len decimal_table s) 8 (omega arith)) refl
 
 pub enough_bytes : (s : List ℕ) → run_len decimal_table (take 8 s) ≡ 8 → 8 ≤ length s
 enough_bytes s full = omega (arith, prefix_len-le-length (is_digit decimal_table) (take 8 s), length-take 8 s)
@@ -85,16 +81,16 @@ pub window_joined : (s : List ℕ) (more leading first next : ℕ)
     → ◌≡◌ {A = Window} (record { len = 8 + more; zeroes = leading; number = first * 10 ^ more + next }) (window_of decimal_table 16 s)
 window_joined s more leading first next full more_is leading_is first_is next_is =
     let few : run_len decimal_table (take 8 s) ≡ min 8 (run_len decimal_table s) = prefix_len-take (is_digit decimal_table) 8 s in
-    let following : run_len decimal_table (take 8 (drop 8 s)) ≡ min 8 (run_len decimal_table (drop 8 s)) = prefix_len-take (is_digit decimal_table) 8 (drop 8 s) in
+    let following = prefix_len-take (is_digit decimal_table) 8 (drop 8 s) in
     let all : run_len decimal_table (take 16 s) ≡ min 16 (run_len decimal_table s) = prefix_len-take (is_digit decimal_table) 16 s in
     let run_after_eight : run_len decimal_table s ≡ 8 + run_len decimal_table (drop 8 s) = prefix_len-drop (is_digit decimal_table) 8 s (omega arith) in
     let within : run_len decimal_table s ≤ length s = prefix_len-le-length (is_digit decimal_table) s in
     let sixteen : take 8 s ++ take 8 (drop 8 s) ≡ take 16 s = sym (take-add 8 8 s) in
     let same_test : (more == 8) ≡ (8 + more == 16) = grind (arith, nat_tests) in
     let same_leading : leading ≡ (if 8 + more == 16 then zeros decimal_table (take 16 s) else 0) =
-    leading_is ∙ ap₂ (λ t z. cond t z 0) same_test (ap (zeros decimal_table) sixteen) in
+    rw (← same_test, ← sixteen) leading_is in
     let same_number : first * 10 ^ more + next ≡ value decimal_table (take (8 + more) s) =
-    ap₂ (λ x y. x * 10 ^ more + y) first_is next_is ∙ sym (value-take-add decimal_table 8 more s (omega arith)) in
+    rw (first_is, next_is) (sym (value-take-add decimal_table 8 more s (omega arith))) in
     window_from 16 s (8 + more) leading (first * 10 ^ more + next) (omega arith) same_leading same_number
 
 -- ---- Short slices in the highest bytes of a word

@@ -18,7 +18,8 @@ returns-then-window-eq0-clause-decides g c =
 
 pub returns-then-window-eq0-clause-loads : goal.returns-then-window-eq0-clause-loads
 returns-then-window-eq0-clause-loads g c =
-    Skipped-loads (first g (goal.at.returns-then-window-eq0-clause-loads g c).After-window-window c.if-window-eq0.true) 0 (omega arith) (omega arith) (omega arith)
+    let after_skip = first g (goal.at.returns-then-window-eq0-clause-loads g c).After-window-window c.if-window-eq0.true in
+    Skipped-loads after_skip 0 (omega arith) (omega arith) (omega arith)
 
 pub returns-clause-decides : goal.returns-clause-decides
 returns-clause-decides g c =

@@ -30,7 +30,8 @@ pub returns-in_default-decimal_digit : goal.returns-in_default-decimal_digit
 returns-in_default-decimal_digit c =
     let s = c.args.s.now in
     let none : decimal_table (get_or s 0 0) ≡ None = sym c.decimal_digit.ensures ∙ c.in_default-decimal_digit.is in
-    record { answer = sym (narrow_whole_rest decimal_table c.args.bound 0 false s 0 0 (omega (arith, c.in-len1-up.len_at_least)) none (omega arith) refl (omega arith)) }
+    let some : 0 < length s = omega (arith, c.in-len1-up.len_at_least) in
+    record { answer = sym (narrow_whole_rest decimal_table c.args.bound 0 false s 0 0 some none (omega arith) refl (omega arith)) }
 
 pub loop-at-init : goal.loop-at-init
 loop-at-init c =
@@ -57,7 +58,7 @@ loop-at-preserved c =
     let here : i < length s = omega (arith, c.loop-at-test.true, rest_length s) in
     record {
       digits = run_more decimal_table s i c.in-Some-decimal_digit.digit_value here digit c.loop-at.invariant.digits;
-      number = ap (λ n. n * 10 + c.in-Some-decimal_digit.digit_value) c.loop-at.invariant.number ∙ sym (value_more decimal_table s i c.in-Some-decimal_digit.digit_value here digit);
+      number = rw c.loop-at.invariant.number (sym (value_more decimal_table s i c.in-Some-decimal_digit.digit_value here digit));
       bound = c.if-next-bound.false;
     }
 
@@ -79,8 +80,9 @@ returns-then-next-bound c =
     let digit = byte_after s c.loop-at.at _ (Some c.in-Some-decimal_digit.digit_value) c.decimal_digit-in-loop-at.ensures c.in-Some-decimal_digit.is in
     let i = c.loop-at.at + 1 in
     let here : i < length s = omega (arith, c.loop-at-test.true, rest_length s) in
-    let over : c.args.bound < value decimal_table (take i s) * 10 + c.in-Some-decimal_digit.digit_value = rw (← c.loop-at.invariant.number) c.if-next-bound.true in
-    record { answer = sym (narrow_whole_over decimal_table c.args.bound 0 false s i c.in-Some-decimal_digit.digit_value here digit c.loop-at.invariant.digits over) }
+    let w = c.in-Some-decimal_digit.digit_value in
+    let over : c.args.bound < value decimal_table (take i s) * 10 + w = rw (← c.loop-at.invariant.number) c.if-next-bound.true in
+    record { answer = sym (narrow_whole_over decimal_table c.args.bound 0 false s i w here digit c.loop-at.invariant.digits over) }
 
 pub returns : goal.returns
 returns c =

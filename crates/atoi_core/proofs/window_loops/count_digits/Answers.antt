@@ -23,7 +23,8 @@ returns-then-len-lt16-clause-count g c =
 pub returns-then-len-lt16-clause-loads : goal.returns-then-len-lt16-clause-loads
 returns-then-len-lt16-clause-loads g c =
     let before = c.loop-at.invariant.1 in
-    omega (arith, before.0, before.1.0, before.1.1, c.window-len.ensures.one_step, len_is _ c.args.s.now c.loop-at.at c.window-len.result before.0 c.window-len.ensures.window, c.if-len-lt16.true)
+    let len = len_is _ c.args.s.now c.loop-at.at c.window-len.result before.0 c.window-len.ensures.window in
+    omega (arith, before.0, before.1.0, before.1.1, c.window-len.ensures.one_step, len, c.if-len-lt16.true)
 
 pub loop-at-preserved : goal.loop-at-preserved
 loop-at-preserved g c =

@@ -1,5 +1,5 @@
 -- The result is compared with the word of zeros for each length.
-use Rattle.std.proofs.Common.{◌≡◌, ℕ, ◌-◌, ◌*◌, ◌%◌, ◌^◌, ◌<◌, ◌≤◌, ◌==◌, ◌∙◌, true, false, nat_lt, ltb-false, replicate, refl, ap, arith}
+use Rattle.std.proofs.Common.{◌≡◌, ℕ, ◌-◌, ◌*◌, ◌%◌, ◌^◌, ◌<◌, ◌≤◌, ◌==◌, ◌∙◌, Bool, true, false, nat_lt, ltb-false, replicate, refl, ap, arith}
 use Rattle.std.proofs.lemmas.Bool.{eqb-true, agree_below_at}
 use Rattle.atoi_core.specs.Words.{word_of}
 use Rattle.atoi_core.proofs.word_digits.fill_of_zeros.Goals as goal
@@ -7,7 +7,8 @@ use Rattle.atoi_core.proofs.word_digits.fill_of_zeros.Goals as goal
 left_out : (n : ℕ) → n < 8 → 0x3030_3030_3030_3030 - 0x3030_3030_3030_3030 * 2 ^ (8 * n) % 2 ^ 64 ≡ word_of (replicate n 48)
 unfolding word_of
 left_out n below =
-    eqb-true _ _ (agree_below_at (λ (k : ℕ). 0x3030_3030_3030_3030 - 0x3030_3030_3030_3030 * 2 ^ (8 * k) % 2 ^ 64 == word_of (replicate k 48)) (λ _. true) 8 n refl below)
+    let fits : ℕ → Bool = λ k. 0x3030_3030_3030_3030 - 0x3030_3030_3030_3030 * 2 ^ (8 * k) % 2 ^ 64 == word_of (replicate k 48) in
+    eqb-true _ _ (agree_below_at fits (λ _. true) 8 n refl below)
 
 shifted_fits : (n : ℕ) → n < 8 → 0x3030_3030_3030_3030 * 2 ^ (8 * n) % 2 ^ 64 ≤ 0x3030_3030_3030_3030
 shifted_fits n below =

@@ -45,7 +45,9 @@ returns-then-more-eq8 c =
     ap₂ (λ xs ys. zeros decimal_table (xs ++ ys))
     (loaded_bytes s (bytes at) first c.requires.loaded (enough_bytes s (full at)))
     (loaded_bytes (drop 8 s) (following at) next c.load_from-next.ensures (enough_bytes (drop 8 s) (sym (more_is at) ∙ sym eight))) in
-    ap₂ (λ (n p : ℕ). let w : Window = record { len = n; zeroes = c.zeroes_of_two.result; number = c.value_of.result * p + c.value_of-then-more-eq8.result } in w) len power
+    let window : ℕ → ℕ → Window =
+    λ n p. record { len = n; zeroes = c.zeroes_of_two.result; number = c.value_of.result * p + c.value_of-then-more-eq8.result } in
+    ap₂ window len power
     ∙ window_joined s more c.zeroes_of_two.result c.value_of.result c.value_of-then-more-eq8.result (full at) (more_is at)
     (c.zeroes_of_two.ensures ∙ whole ∙ sym (reported_full more 8 all_zeros (sym eight)))
     (c.value_of.ensures.sum ∙ loaded_sum s (bytes at) first c.requires.loaded 8 (sym c.requires.full))
@@ -58,7 +60,9 @@ returns-else-more-eq8 c =
     let s = c.args.s.now in
     let more = c.digits_of-more.result in
     c.not_full.ensures
-    ∙ ap (λ (p : ℕ). let w : Window = record { len = 8 + more; zeroes = 0; number = c.value_of-else-more-eq8.result * p + c.value_of_fewer.result } in w) c.power_of_ten-else-more-eq8.ensures.power
+    ∙ ap (λ (p : ℕ).
+    let w : Window = record { len = 8 + more; zeroes = 0; number = c.value_of-else-more-eq8.result * p + c.value_of_fewer.result } in w)
+    c.power_of_ten-else-more-eq8.ensures.power
     ∙ window_joined s more 0 c.value_of-else-more-eq8.result c.value_of_fewer.result (full at) (more_is at)
     (sym (reported_none more 8 (zeros decimal_table (take 8 s ++ take 8 (drop 8 s))) c.if-more-eq8.false))
     (c.value_of-else-more-eq8.ensures.sum ∙ loaded_sum s (bytes at) c.args.first c.requires.loaded 8 (sym c.requires.full))

@@ -13,7 +13,8 @@ use Rattle.atoi_core.proofs.word_engine.prefix_64_after_zeros.Goals.{After-windo
 
 -- What holds when that loop has ended.
 ended : (c : After-window_after_zeros-at)
-    → Skipped decimal_table true c.args.s.now c.window_after_zeros-at.result.0 c.args.steps.now (c.window_after_zeros-at.new.steps + 1) c.window_after_zeros-at.result.1
+    → let found = c.window_after_zeros-at.result in
+    Skipped decimal_table true c.args.s.now found.0 c.args.steps.now (c.window_after_zeros-at.new.steps + 1) found.1
 ended c =
     let e = c.window_after_zeros-at.ensures in
     Skipped-after_zeros decimal_below_ten c.args.s.now c.args.steps.now e.offset e.window e.no_zeros e.loads
@@ -32,10 +33,11 @@ window_after_16-back-requires c =
     (omega (arith, after_skip.window.len_is, prefix_len-le-length (is_digit decimal_table) (drop at c.args.s.now), length-drop at c.args.s.now))
 
 -- The window of the eight bytes after the last window of the loop.
-following : (c : After-window_after_16-back) → Shows decimal_table 8 (drop 16 (drop c.window_after_zeros-at.result.0 c.args.s.now)) c.window_after_16-back.result
+following : (c : After-window_after_16-back)
+    → Shows decimal_table 8 (drop 16 (drop c.window_after_zeros-at.result.0 c.args.s.now)) c.window_after_16-back.result
 following c =
-    shows decimal_below_ten 8 (drop 16 (drop c.window_after_zeros-at.result.0 c.args.s.now))
-    (c.window_after_16-back.ensures.window ∙ ap (λ (r : List ℕ). window_of decimal_table 8 (drop 16 r)) (take_rest c.args.s.now c.window_after_zeros-at.result.0))
+    let at = c.window_after_zeros-at.result.0 in
+    shows decimal_below_ten 8 (drop 16 (drop at c.args.s.now)) (rw take_rest at c.window_after_16-back.ensures.window)
 
 pub append_digits-number-requires : goal.append_digits-number-requires
 append_digits-number-requires c = omega (arith, (following (goal.at.append_digits-number-requires c).After-window_after_16-back).len_is)

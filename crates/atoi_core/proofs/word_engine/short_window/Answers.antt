@@ -45,7 +45,8 @@ returns-else-digits-eq8-clause-of_16 c =
     let s = c.args.s.now in
     let count = c.digits_of-digits.result in
     c.not_full-else-digits-eq8.ensures
-    ∙ filled_window s c.requires (λ i. (c.type_inv.s i).fits) _ count (count - (8 - length s)) c.number_in_word.result (filled at) (digits at) refl c.number_in_word.ensures.sum
+    ∙ filled_window s c.requires (λ i. (c.type_inv.s i).fits) _ count (count - (8 - length s)) c.number_in_word.result
+    (filled at) (digits at) refl c.number_in_word.ensures.sum
 
 pub returns-else-digits-eq8-clause-of_8 : goal.returns-else-digits-eq8-clause-of_8
 returns-else-digits-eq8-clause-of_8 c = λ fewer. returns-else-digits-eq8-clause-of_16 c ∙ few_in_both c.args.s.now fewer

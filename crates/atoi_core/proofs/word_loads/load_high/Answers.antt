@@ -8,7 +8,6 @@ pub returns : goal.returns
 returns c =
     let s = c.args.s.now in
     let front = c.first_two.ensures in
-    let others = bit_or (bit_or c.first_two.result c.first_four.result * 2 ^ (64 - 8 * length s) % 2 ^ 64) (c.last_four.result * 2 ^ 32 % 2 ^ 64) in
-    ap (λ b. bit_or others (b * 2 ^ 56 % 2 ^ 64)) c.from-last.ensures
-    ∙ high_joined s c.requires.few (λ i. (c.type_inv.s i).fits) _ _ _ c.requires.some
-    front.enough front.few c.first_four.ensures.enough c.first_four.ensures.few c.last_four.ensures.enough c.last_four.ensures.few
+    rw c.from-last.ensures
+    (high_joined s c.requires.few (λ i. (c.type_inv.s i).fits) _ _ _ c.requires.some
+    front.enough front.few c.first_four.ensures.enough c.first_four.ensures.few c.last_four.ensures.enough c.last_four.ensures.few)

@@ -13,8 +13,12 @@ returns-in-Overflow-clause-ascii c = rw c.in-Overflow.is (IsAscii-overflow_text 
 
 pub returns-in-Invalid64-clause-ascii : goal.returns-in-Invalid64-clause-ascii
 returns-in-Invalid64-clause-ascii c =
-    rw c.in-Invalid64.is (IsAscii-invalid64_text _ _ _ (IsAscii-decimal_wide _ (omega arith)) (IsAscii-decimal_wide _ (omega arith)) c.put_input-in-Invalid64.ensures.ascii)
+    let number = IsAscii-decimal_wide _ (omega arith) in
+    let index = IsAscii-decimal_wide _ (omega arith) in
+    rw c.in-Invalid64.is (IsAscii-invalid64_text _ _ _ number index c.put_input-in-Invalid64.ensures.ascii)
 
 pub returns-in-Invalid128-clause-ascii : goal.returns-in-Invalid128-clause-ascii
 returns-in-Invalid128-clause-ascii c =
-    rw c.in-Invalid128.is (IsAscii-invalid128_text _ _ _ (IsAscii-decimal_wide _ (omega arith)) (IsAscii-decimal_wide _ (omega arith)) c.put_input-in-Invalid128.ensures.ascii)
+    let number = IsAscii-decimal_wide _ (omega arith) in
+    let index = IsAscii-decimal_wide _ (omega arith) in
+    rw c.in-Invalid128.is (IsAscii-invalid128_text _ _ _ number index c.put_input-in-Invalid128.ensures.ascii)
