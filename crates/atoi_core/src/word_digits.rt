@@ -66,6 +66,7 @@ pub(crate) fn number_in_word(word: u64, len: u32) -> u64
 }
 
 // The number that the first `len` bytes of the word spell. They are digits, at least one.
+#[tactic(auto, using(crate::proofs::lemmas::WordRuns::lowered_value, crate::proofs::lemmas::WordRuns::lowered_sum))]
 pub(crate) fn value_of(word: u64, len: u32) -> u64
     requires some { 1 ≤ len }
     requires few { len ≤ 8 }
@@ -77,6 +78,7 @@ pub(crate) fn value_of(word: u64, len: u32) -> u64
 }
 
 // `value_of` for at most seven digits, or none: it shifts twice, as no shift is by 64 bits.
+#[tactic(auto, using(crate::proofs::lemmas::WordRuns::lowered_value, crate::proofs::lemmas::WordRuns::lowered_sum, crate::proofs::lemmas::WordRuns::shifted_twice))]
 pub(crate) fn value_of_fewer(word: u64, len: u32) -> u64
     requires few { len < 8 }
     requires digits { len ≤ run_len decimal_table (low_bytes 8 word) }

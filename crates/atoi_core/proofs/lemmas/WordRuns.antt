@@ -301,6 +301,10 @@ lowered_value len word ones few digits is =
           ∙ shifted_value (64 - 8 * len) 8 len word (omega arith) few,
     )
 
+pub lowered_sum : (len word ones number : ℕ) → number ≡ low_value (low_bytes 8 ones) → len ≤ 8 → len ≤ run_len decimal_table (low_bytes 8 word)
+    → ones ≡ (word + without_48 8) % 2 ^ 64 * 2 ^ (64 - 8 * len) % 2 ^ 64 → number ≡ low_value (low_bytes len word)
+lowered_sum len word ones number sum few digits is = sum ∙ (lowered_value len word ones few digits is).1
+
 -- Eight digits need no shift.
 pub lowered_eight : (word ones : ℕ) → run_len decimal_table (low_bytes 8 word) ≡ 8 → ones ≡ (word + without_48 8) % 2 ^ 64
     → (bit_and ones (repeated 15 8) ≡ ones) × (low_value (low_bytes 8 ones) ≡ low_value (low_bytes 8 word))

@@ -29,10 +29,13 @@ new_spec 𝓤 𝓛 𝓜 𝓡 wired =
     proved 𝓛 new.ended tt clauses 𝓜 𝓡 tt new.Key.name code.function (code.unfolded 𝓤 𝓛.H 𝓜 𝓡 wired)
     (λ κs. tt) (λ κs. tt) (λ κs qs bounds a g _.
     qed 𝓛 (raw (on_entry 𝓛 new.signature κs qs a tt) ∷ raw ((clauses κs a).requires g) ∷ []) ∵ keep ! [] $
+    -- The body: the marker is made, then the struct of it, which is the result.
     enter ! 𝓣.C 𝓣.Λ code.function [] _ $ alloc_all ! (λ l. pass_all ! refl tt $
     sets ! (agg ! (no_more !)) refl (tt, tt) $ sets ! (agg ! (and_then ! (get ! refl) (no_more !))) refl (tt, (tt, tt)) $
     returns ! (look_at ! 0 refl) $ free_all ! refl $
+    -- Its bytes are those of `fields`, of which the view reads 0.
     pure_i ! (the_row.own_val 0 (bytes ∷ [])) (λ _. (((λ _. (tt, ((λ _. (tt, tt)), tt))), tt), tt))
     ((fields, (refl, tt)), ((((vstruct vnil ∷ [], tt), (refl, ((tt, (refl, tt)), tt))), tt), tt)) $
+    -- So the clause holds where the function returns.
     suffices ! _ (ends_at 𝓛 new.ended tt clauses ((κs, qs, bounds, a, tt), g) bytes 0 tt tt) $ says ! refl $
     nothing ! $ join ! $ nothing ! $ done !))

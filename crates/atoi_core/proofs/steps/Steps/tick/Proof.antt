@@ -43,12 +43,15 @@ tick_spec 𝓤 𝓛 𝓜 𝓡 wired =
     qed 𝓛 (((‵ (flft κs.0 qs.0) ⊛ ‵ ftrue) ⊛ ‵ ((MutRef (named 0) κs.0 the_row).own_val a.0 vs) ⊛ ‵ ftrue) ∷ ‵ ftrue ∷ []) ∵
     split ! $ split ! $ move ! (2 ∷ []) $ split ! $ keep ! (0 ∷ 2 ∷ []) $
     enter ! _ _ _ _ _ $ alloc_all ! (λ l. pass_all ! refl ((tt, tt), tt) $
+    -- The borrow of `self` is opened: it holds fields that the view reads as n.
     fsplit3 ! $ move ! (1 ∷ 2 ∷ 3 ∷ []) $ opens ! tt the_row b o (λ us.
     sets ! (of_opd ! (unit_lit !)) refl (tt, tt) $
+    -- It is closed with fields of n + 1 over the same bytes.
     move ! (1 ∷ []) $ fpick ! (λ x. use1 𝓛 (‵ (owned (n + 1) us (next n x))) (id⊢ 𝓤 _) $
     fpack ! (Fields (n + 1)) (owned (n + 1) us) (next n x) $
     move ! (1 ∷ 0 ∷ []) $ closes ! tt the_row (n + 1) us b o $
     returns ! (look_at ! 0 refl) $ free_all ! refl $ move ! (3 ∷ []) $
+    -- So the clause holds where the function returns.
     suffices ! _ (ends_at 𝓛 tick.ended stayed clauses y vunit tt (n + 1, tt) (tt, tt)) $ says ! refl $
     group ! 3 $ nothing ! $ move ! (1 ∷ 0 ∷ []) $ join ! $ nothing ! $ move ! (2 ∷ 0 ∷ []) $ join ! $ frame ! $ frame ! $
     feq_i ! _ (vunit ∷ []) _ refl $ done !))))
