@@ -55,8 +55,8 @@ pub static ALL: [RustLibrary; 6] = [
         package: Some(("lexical-core", "1")),
         cpu: "x86-64",
         whole: |_| String::from("lexical_core::parse::<T>(text).ok()"),
-        // Version 0.7.6 reads a wrong value from a prefix of more than 18 digits as a `u128`.
-        prefix: |call| match takes_no_minus(call) || call.integer == Integer::U128 {
+        // Version 0.7.6 reads wrong values from prefixes of more than 18 digits at 128 bits.
+        prefix: |call| match takes_no_minus(call) || call.integer.bits() == 128 {
             true => String::new(),
             false => String::from("lexical_core::parse_partial::<T>(text).ok()"),
         },
