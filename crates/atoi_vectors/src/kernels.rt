@@ -1,5 +1,4 @@
 //! Public functions on words and vectors. The windows call the others.
-ghost use Rattle.std.specs.Prelude.{◌<◌};
 
 use crate::checks::gives;
 use crate::plain_rules;
@@ -23,25 +22,6 @@ fn check_lanes(rt: &impl Abort, bytes: [u8; 16]) {
     gives(rt, sum_lanes(lanes, 0), 0);
 }
 
-fn check_lanes_at(rt: &impl Abort, fill: u8, place: usize)
-    requires { place < 16 }
-{
-    let mut bytes = [fill; 16];
-    for byte in 0..=255u8 {
-        bytes[place] = byte;
-        check_lanes(rt, bytes);
-    }
-}
-
-#[test]
-fn every_byte_in_every_lane(rt: HostRuntime) {
-    for place in 0..16 {
-        check_lanes_at(&rt, b'0', place);
-        check_lanes_at(&rt, b'9', place);
-        check_lanes_at(&rt, 0xB5, place);
-    }
-}
-
 fn check_word(rt: &impl Abort, bytes: [u8; 8]) {
     let word = u64::from_le_bytes(bytes);
     let (len, _, number) = plain_rules::window(8, &bytes);
@@ -54,25 +34,6 @@ fn check_word(rt: &impl Abort, bytes: [u8; 8]) {
     );
     if reported > 0 {
         gives(rt, Some(u128::from(process_8(word, reported))), number);
-    }
-}
-
-fn check_word_at(rt: &impl Abort, fill: u8, place: usize)
-    requires { place < 8 }
-{
-    let mut bytes = [fill; 8];
-    for byte in 0..=255u8 {
-        bytes[place] = byte;
-        check_word(rt, bytes);
-    }
-}
-
-#[test]
-fn every_byte_in_a_word(rt: HostRuntime) {
-    for place in 0..8 {
-        check_word_at(&rt, b'0', place);
-        check_word_at(&rt, b'9', place);
-        check_word_at(&rt, 0xB5, place);
     }
 }
 
@@ -92,22 +53,34 @@ fn check_long_word(rt: &impl Abort, bytes: [u8; 16]) {
     }
 }
 
-fn check_long_word_at(rt: &impl Abort, fill: u8, place: usize)
-    requires { place < 16 }
-{
-    let mut bytes = [fill; 16];
-    for byte in 0..=255u8 {
-        bytes[place] = byte;
-        check_long_word(rt, bytes);
-    }
+// Calls `$check` on `$size` bytes with each of the 256 bytes at each offset, among equal bytes.
+macro_rules! every_byte {
+    ($rt:expr, $check:ident, $size:literal, $($fill:expr),*) => {
+        for place in 0..$size {
+            for fill in [$($fill),*] {
+                let mut bytes = [fill; $size];
+                for byte in 0..=255u8 {
+                    bytes[place] = byte;
+                    $check($rt, bytes);
+                }
+            }
+        }
+    };
+}
+
+#[test]
+fn every_byte_in_every_lane(rt: HostRuntime) {
+    every_byte!(&rt, check_lanes, 16, b'0', b'9', 0xB5);
+}
+
+#[test]
+fn every_byte_in_a_word(rt: HostRuntime) {
+    every_byte!(&rt, check_word, 8, b'0', b'9', 0xB5);
 }
 
 #[test]
 fn every_byte_in_a_long_word(rt: HostRuntime) {
-    for place in 0..16 {
-        check_long_word_at(&rt, b'0', place);
-        check_long_word_at(&rt, b'9', place);
-    }
+    every_byte!(&rt, check_long_word, 16, b'0', b'9');
 }
 
 // The first `N` bytes of `text`, with zero bytes after them if it has fewer.

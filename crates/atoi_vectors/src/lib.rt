@@ -16,8 +16,6 @@ mod differences;
 #[cfg(test)]
 mod error_texts;
 #[cfg(test)]
-mod every_byte;
-#[cfg(test)]
 mod kernels;
 #[cfg(test)]
 mod laws;

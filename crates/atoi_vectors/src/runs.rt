@@ -1,5 +1,6 @@
-//! Runs of up to 48 digits: every engine answers as the plain rules.
-ghost use Rattle.std.specs.Prelude.{◌≤◌};
+//! Runs of up to 48 digits, and runs with each of the 256 bytes at each offset: every engine answers as
+//! the plain rules.
+ghost use Rattle.std.specs.Prelude.{◌<◌, ◌≤◌};
 
 use crate::core_calls::check;
 use std::process::Abort;
@@ -41,5 +42,30 @@ fn check_carry(rt: &impl Abort, len: usize)
 fn before_a_byte_that_carries(rt: HostRuntime) {
     for len in 0..=16 {
         check_carry(&rt, len);
+    }
+}
+
+// Each byte in turn at the offset `place` of 41 bytes, among bytes `fill`.
+fn check_place(rt: &impl Abort, fill: u8, place: usize)
+    requires { place < 41 }
+{
+    let mut text = [fill; 41];
+    for byte in 0..=255u8 {
+        text[place] = byte;
+        check(rt, &text);
+    }
+}
+
+#[test]
+fn among_zeros(rt: HostRuntime) {
+    for place in 0..41 {
+        check_place(&rt, b'0', place);
+    }
+}
+
+#[test]
+fn among_ones(rt: HostRuntime) {
+    for place in 0..41 {
+        check_place(&rt, b'1', place);
     }
 }

@@ -11,16 +11,15 @@ fn parts_of(window: Window) -> (u32, u32, u64) {
     (window.len, window.zeroes, window.number)
 }
 
-fn check_windows<E: Engine>(rt: &impl Abort, rows: &[Row]) {
+// `size` is 8 or 16.
+fn check_windows<E: Engine>(rt: &impl Abort, size: usize, rows: &[Row]) {
     for (text, expected) in rows {
-        let window = E::window(text, &mut Steps::new());
-        assert_eq!(rt; parts_of(window), *expected, "of {text:?}");
-    }
-}
-
-fn check_windows_8<E: Engine>(rt: &impl Abort, rows: &[Row]) {
-    for (text, expected) in rows {
-        let window = E::window_8(text, &mut Steps::new());
+        let mut steps = Steps::new();
+        let window = if size == 8 {
+            E::window_8(text, &mut steps)
+        } else {
+            E::window(text, &mut steps)
+        };
         assert_eq!(rt; parts_of(window), *expected, "of {text:?}");
     }
 }
@@ -40,9 +39,9 @@ fn windows_of_sixteen_bytes(rt: HostRuntime) {
         (b"12345678/1234567", (8, 0, 12345678)),
         (b"12345678901", (11, 0, 12345678901)),
     ];
-    check_windows::<Plain>(&rt, &rows);
-    check_windows::<Words>(&rt, &rows);
-    check_windows::<Lanes>(&rt, &rows);
+    check_windows::<Plain>(&rt, 16, &rows);
+    check_windows::<Words>(&rt, 16, &rows);
+    check_windows::<Lanes>(&rt, 16, &rows);
 }
 
 #[test]
@@ -58,9 +57,9 @@ fn windows_of_eight_bytes(rt: HostRuntime) {
         (b"0001", (4, 0, 1)),
         (b":1234567", (0, 0, 0)),
     ];
-    check_windows_8::<Plain>(&rt, &rows);
-    check_windows_8::<Words>(&rt, &rows);
-    check_windows_8::<Lanes>(&rt, &rows);
+    check_windows::<Plain>(&rt, 8, &rows);
+    check_windows::<Words>(&rt, 8, &rows);
+    check_windows::<Lanes>(&rt, 8, &rows);
 }
 
 #[test]

@@ -28,6 +28,18 @@ fn the_examples_of_the_crate(rt: HostRuntime) {
 }
 
 #[test]
+fn the_functions_that_take_no_sign(rt: HostRuntime) {
+    on_both!(rt;
+        parse_pos::<u128, true>(b"0012") => Ok(12);
+        parse_neg::<i8, false>(b"128") => Ok(-128);
+        parse_prefix_pos::<u16, false>(b"80/tcp") => Ok((80, 2));
+        parse_prefix_neg::<i32, false>(b"12a") => Ok((-12, 2));
+        parse_any_pos::<u8>(b"255.") => Ok((255, 3));
+        parse_any_neg::<i16>(b"1-") => Ok((-1, 1));
+    );
+}
+
+#[test]
 fn each_method_of_the_public_traits(rt: HostRuntime) {
     let root = <i64 as Parse>::atoi_simd_parse(b"-2345", false, false);
     let on_lanes = <i64 as lanes::Parse>::atoi_simd_parse(b"-2345", false, false);
