@@ -1,5 +1,5 @@
 //! The text of an error, and the decimal and hexadecimal numbers in it, written into a slice.
-ghost use Rattle.std.specs.Prelude.{◌≡◌, ◌+◌, ◌-◌, ◌*◌, ◌^◌, ◌<◌, ◌≤◌, ◌∷◌, [], ◌++◌, true, Some, length, take, codes, decimal, IsAscii};
+ghost use Rattle.std.specs.Prelude.{◌≡◌, ◌+◌, ◌-◌, ◌*◌, ◌/◌, ◌%◌, ◌^◌, ◌<◌, ◌≤◌, ◌∷◌, [], ◌++◌, true, Some, length, take, codes, decimal, IsAscii};
 ghost use Rattle.std.specs.Fmt.{digit_glyph};
 ghost use Rattle.atoi_core.specs.ErrorText.{hex_text, hex_list, input_text, error_text};
 ghost use Rattle.atoi_core.specs.Refusal.{refusal_of};
@@ -123,7 +123,73 @@ fn put_byte(byte: u8, out: &mut [u8], at: usize) -> usize
     at + 1
 }
 
-#[tactic(auto, using(std::proofs::lemmas::Fmt::decimal_digit))]
+// Writes the two decimal digits of `value`, of which the first may be a zero.
+fn put_pair(value: u32, out: &mut [u8], at: usize) -> usize
+    requires below { value < 100 }
+    requires room { at + 2 ≤ length out.old }
+    ensures written { take result out.new ≡ take at out.old ++ (48 + value / 10) ∷ (48 + value % 10) ∷ [] }
+    ensures place { result ≡ at + 2 }
+{
+    put_bytes(
+        &[b'0' + (value / 10) as u8, b'0' + (value % 10) as u8],
+        out,
+        at,
+    )
+}
+
+// Writes the four decimal digits of `value`, of which the first may be zeros.
+fn put_four(value: u32, out: &mut [u8], at: usize) -> usize
+    requires below { value < 10000 }
+    requires room { at + 4 ≤ length out.old }
+    ensures written { take result out.new ≡ take at out.old
+        ++ (48 + value / 1000) ∷ (48 + value / 100 % 10) ∷ (48 + value / 10 % 10) ∷ (48 + value % 10) ∷ [] }
+    ensures place { result ≡ at + 4 }
+{
+    let end = put_pair(value / 100, out, at);
+    put_pair(value % 100, out, end)
+}
+
+// Writes the decimal digits of a value of one or two.
+fn put_one_or_two(value: u32, out: &mut [u8], at: usize) -> usize
+    requires below { value < 100 }
+    requires room { at + length (decimal value) ≤ length out.old }
+    ensures written { take result out.new ≡ take at out.old ++ decimal value }
+    ensures place { result ≡ at + length (decimal value) }
+{
+    if value < 10 {
+        put_byte(b'0' + value as u8, out, at)
+    } else {
+        put_pair(value, out, at)
+    }
+}
+
+// Writes the decimal digits of a value of one to four.
+fn put_one_to_four(value: u32, out: &mut [u8], at: usize) -> usize
+    requires below { value < 10000 }
+    requires room { at + length (decimal value) ≤ length out.old }
+    ensures written { take result out.new ≡ take at out.old ++ decimal value }
+    ensures place { result ≡ at + length (decimal value) }
+{
+    if value < 100 {
+        return put_one_or_two(value, out, at);
+    }
+    let end = put_one_or_two(value / 100, out, at);
+    put_pair(value % 100, out, end)
+}
+
+fn put_decimal_64(value: u64, out: &mut [u8], at: usize) -> usize
+    requires { at + length (decimal value) ≤ length out.old }
+    ensures written { take result out.new ≡ take at out.old ++ decimal value }
+    ensures place { result ≡ at + length (decimal value) }
+{
+    if value < 10_000 {
+        return put_one_to_four(value as u32, out, at);
+    }
+    let end = put_decimal_64(value / 10_000, out, at);
+    put_four((value % 10_000) as u32, out, end)
+}
+
+// Four digits at a time. A division of 128 bits is slow, so it is for larger values alone.
 fn put_decimal(value: u128, out: &mut [u8], at: usize) -> usize
     requires { at + 39 ≤ length out.old }
     ensures written { take result out.new ≡ take at out.old ++ decimal value }
@@ -132,12 +198,11 @@ fn put_decimal(value: u128, out: &mut [u8], at: usize) -> usize
     ensures fits_of_64_bits { value < 2 ^ 64 → result ≤ at + 20 }
     ensures ascii { IsAscii (decimal value) }
 {
-    let last = b'0' + (value % 10) as u8;
-    if value < 10 {
-        return put_byte(last, out, at);
+    if value <= u64::MAX as u128 {
+        return put_decimal_64(value as u64, out, at);
     }
-    let end = put_decimal(value / 10, out, at);
-    put_byte(last, out, end)
+    let end = put_decimal(value / 10_000, out, at);
+    put_four((value % 10_000) as u32, out, end)
 }
 
 #[tactic(auto, using(crate::proofs::lemmas::ErrorTexts::hex_text_of_one_digit))]

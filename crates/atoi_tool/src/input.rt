@@ -5,7 +5,7 @@ ghost use Rattle.atoi_tool.specs.ReadAll.{ReadAllCounts};
 
 use crate::source::Source;
 use crate::status::ToolError;
-use std::alloc::{Allocator, Global};
+use std::alloc::Global;
 
 // How many bytes `read_all` asks for in one call of `take`.
 const PART: usize = 4096;
@@ -17,16 +17,6 @@ const PART: usize = 4096;
 /// Returns `Read` if a call of `take` is refused, and `Memory` if the vector cannot grow, as in the
 /// end with a source that never ends. The bytes that were taken are then lost.
 pub fn read_all<S: Source>(alloc: Global, input: &mut S) -> Result<Vec<u8>, ToolError>
-    ensures all { IfOk result
-        (λ bytes. Consumes (S.rest input.old) (S.rest input.new) bytes.items) }
-    ensures end { OnOk result (IsAtEnd (S.rest input.new)) }
-    ensures reads { ReadAllCounts (S.failures input.old) (S.failures input.new) result }
-{
-    read_all_in(alloc, input)
-}
-
-// `read_all` with any allocator, since the tests use heaps of fixed sizes.
-fn read_all_in<S: Source, A: Allocator>(alloc: A, input: &mut S) -> Result<Vec<u8, A>, ToolError>
     ensures all { IfOk result
         (λ bytes. Consumes (S.rest input.old) (S.rest input.new) bytes.items) }
     ensures end { OnOk result (IsAtEnd (S.rest input.new)) }

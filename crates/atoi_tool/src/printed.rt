@@ -10,8 +10,7 @@ ghost use Rattle.atoi_tool.specs.Answer.{whole_text, prefix_text, refusal_text, 
 use crate::block::{Block, ROOM};
 use crate::put::LONGEST;
 use atoi_column::ColumnError;
-use atoi_core::{AtoiSimdError, Number};
-use itoa::Buffer;
+use atoi_core::{AtoiSimdError, Number, decimal};
 
 // The largest number of bytes that a number has: a minus and 39 digits.
 const NUMBER: usize = 40;
@@ -26,7 +25,9 @@ fn push_number<T: Number>(value: T, out: &mut Block)
     if minus {
         out.push(b"-");
     }
-    out.push(Buffer::new().format(magnitude).as_bytes());
+    let mut digits = [0; 39];
+    let count = decimal(magnitude, &mut digits);
+    out.push(&digits[..count]);
 }
 
 // Appends the text of an error, which has at most 332 bytes.

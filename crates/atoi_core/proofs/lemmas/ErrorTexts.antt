@@ -1,10 +1,10 @@
 -- The texts of errors: their numbers, and that they are ASCII.
-use Rattle.std.proofs.Common.{◌≡◌, refl, ℕ, ◌+◌, List, ◌++◌, ◌<◌, ◌≤◌, true, length, arith, ◌/◌, ◌%◌, ◌^◌, [], ◌∷◌, decimal, length-append, inl, inr, suc, codes, get_or, IsAscii, rules}
+use Rattle.std.proofs.Common.{◌≡◌, refl, ℕ, ◌+◌, List, ◌++◌, ◌<◌, ◌≤◌, true, length, arith, ◌/◌, ◌%◌, ◌^◌, [], ◌∷◌, decimal, length-append, inl, inr, suc, codes, get_or, IsAscii, rules, append_assoc}
 use Rattle.atoi_core.specs.Refusal.{size, overflow, invalid64, invalid128}
 use Rattle.std.proofs.lemmas.Bool.{cases_lt}
 use Rattle.atoi_core.specs.Run.{value}
 use Rattle.std.specs.Fmt.{digit_glyph}
-use Rattle.std.proofs.lemmas.Fmt.{decimal_step_wide, length-decimal-le_wide, hex_one_digit, hex_two_digits}
+use Rattle.std.proofs.lemmas.Fmt.{decimal_digit, decimal_step_wide, length-decimal-le_wide, hex_one_digit, hex_two_digits}
 use Rattle.atoi_core.specs.ErrorText.{hex_text, hex_list, input_text, error_text}
 use Rattle.std.specs.List.{list_all, flat_map}
 use Rattle.std.specs.Char.{is_ascii}
@@ -15,11 +15,42 @@ use Rattle.std.proofs.lemmas.Str.Ascii.{IsAscii-nil, IsAscii-cons}
 -- ---- Texts of numbers
 
 -- The last digit follows the text of the others.
-pub decimal_more : (n : ℕ) → 10 ≤ n → n < 2 ^ 128 → decimal n ≡ decimal (n / 10) ++ (48 + n % 10) ∷ []
+decimal_more : (n : ℕ) → 10 ≤ n → n < 2 ^ 128 → decimal n ≡ decimal (n / 10) ++ (48 + n % 10) ∷ []
 decimal_more n low high = decimal_step_wide n low (omega arith)
 
-pub length_decimal_more : (n : ℕ) → 10 ≤ n → n < 2 ^ 128 → length (decimal n) ≡ length (decimal (n / 10)) + 1
-length_decimal_more n low high = rw (decimal_more n low high) (omega (arith, length-append (decimal (n / 10)) ((48 + n % 10) ∷ [])))
+-- The last two digits follow the text of the others, and so do the last four.
+pub decimal_two_more : (n : ℕ) → 100 ≤ n → n < 2 ^ 128 → decimal n ≡ decimal (n / 100) ++ (48 + n % 100 / 10) ∷ (48 + n % 100 % 10) ∷ []
+decimal_two_more n low high =
+    let others : n / 10 / 10 ≡ n / 100 = omega arith in
+    let tens : n / 10 % 10 ≡ n % 100 / 10 = omega arith in
+    let ones : n % 10 ≡ n % 100 % 10 = omega arith in
+    rw (decimal_more n (omega arith) high, decimal_more (n / 10) (omega arith) (omega arith), append_assoc, others, tens, ones)
+
+pub decimal_four_more : (n : ℕ) → 10000 ≤ n → n < 2 ^ 128 → decimal n
+    ≡ decimal (n / 10000) ++ (48 + n % 10000 / 1000) ∷ (48 + n % 10000 / 100 % 10) ∷ (48 + n % 10000 / 10 % 10) ∷ (48 + n % 10000 % 10) ∷ []
+decimal_four_more n low high =
+    let others : n / 100 / 100 ≡ n / 10000 = omega arith in
+    let thousands : n / 100 % 100 / 10 ≡ n % 10000 / 1000 = omega arith in
+    let hundreds : n / 100 % 100 % 10 ≡ n % 10000 / 100 % 10 = omega arith in
+    let tens : n % 100 / 10 ≡ n % 10000 / 10 % 10 = omega arith in
+    let ones : n % 100 % 10 ≡ n % 10000 % 10 = omega arith in
+    rw (decimal_two_more n (omega arith) high, decimal_two_more (n / 100) (omega arith) (omega arith), append_assoc, others, thousands, hundreds, tens, ones)
+
+-- The text of two digits.
+pub decimal_of_two : (n : ℕ) → 10 ≤ n → n < 100 → decimal n ≡ (48 + n / 10) ∷ (48 + n % 10) ∷ []
+decimal_of_two n low high = rw (decimal_more n low (omega arith), decimal_digit (n / 10) (omega arith))
+
+pub length_decimal_two_more : (n : ℕ) → 100 ≤ n → n < 2 ^ 128 → length (decimal n) ≡ length (decimal (n / 100)) + 2
+length_decimal_two_more n low high =
+    rw (decimal_two_more n low high) (omega (arith, length-append (decimal (n / 100)) ((48 + n % 100 / 10) ∷ (48 + n % 100 % 10) ∷ [])))
+
+pub length_decimal_four_more : (n : ℕ) → 10000 ≤ n → n < 2 ^ 128 → length (decimal n) ≡ length (decimal (n / 10000)) + 4
+length_decimal_four_more n low high =
+    rw (decimal_four_more n low high) (omega (
+      arith,
+      length-append (decimal (n / 10000))
+          ((48 + n % 10000 / 1000) ∷ (48 + n % 10000 / 100 % 10) ∷ (48 + n % 10000 / 10 % 10) ∷ (48 + n % 10000 % 10) ∷ []),
+    ))
 
 pub length_decimal_of_128_bits : (n : ℕ) → n < 2 ^ 128 → length (decimal n) ≤ 39
 length_decimal_of_128_bits n small = length-decimal-le_wide 39 n (omega arith) (omega arith) (omega arith)
