@@ -2,7 +2,6 @@ pub mod Failures
 pub mod ToWriter
 pub mod FromReader
 pub mod Status
-pub mod ReadAll
 pub mod Request
 pub mod Row
 pub mod Answer

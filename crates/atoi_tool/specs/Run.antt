@@ -29,16 +29,16 @@ IsStopped rest rest_after contents contents_after Memory = Keeps contents conten
 IsStopped rest rest_after contents contents_after Read = Keeps contents contents_after
 IsStopped rest rest_after contents contents_after Write = IsCutShort rest rest_after contents contents_after
 
--- How many reads were refused in a run with this outcome.
-abbrev pub refused_reads : Result Bool ToolError → ℕ
-refused_reads (Ok is_good) = 0
+-- How many reads were refused where this is the outcome.
+abbrev pub refused_reads : {A : Type 0} → Result A ToolError → ℕ
+refused_reads (Ok value) = 0
 refused_reads (Err Memory) = 0
 refused_reads (Err Read) = 1
 refused_reads (Err Write) = 0
 
--- How many writes were refused in a run with this outcome.
-abbrev pub refused_writes : Result Bool ToolError → ℕ
-refused_writes (Ok is_good) = 0
+-- How many writes were refused where this is the outcome.
+abbrev pub refused_writes : {A : Type 0} → Result A ToolError → ℕ
+refused_writes (Ok value) = 0
 refused_writes (Err Memory) = 0
 refused_writes (Err Read) = 0
 refused_writes (Err Write) = 1

@@ -1,6 +1,10 @@
 //! The block in which answers wait until they are written, many at a time.
-ghost use Rattle.std.specs.Prelude.{◌≡◌, ◌+◌, ◌≤◌, ℕ, List, [], ◌++◌, length, take};
+ghost use Rattle.std.specs.Prelude.{◌≡◌, ◌+◌, ◌≤◌, ℕ, List, [], ◌++◌, length, take, OnOk};
+ghost use Rattle.atoi_tool.specs.Failures.{failures_of, PutAppends};
 
+use crate::answer_text::LONGEST;
+use crate::sink::{Sink, put_all};
+use crate::status::Refused;
 use std::marker::Model;
 
 /// How many bytes a `Block` can hold.
@@ -18,6 +22,7 @@ impl Model for Block {
 
     ghost view = { λ block. take block.len block.bytes };
 
+    // `ROOM`, which no ghost member can name.
     ghost invariant = { λ block. block.len ≤ 8192 };
 }
 
@@ -54,5 +59,29 @@ impl Block {
         ensures { self.new ≡ [] }
     {
         self.len = 0;
+    }
+
+    /// Leaves room for `LONGEST` bytes, after a write of all bytes to `output` if there is less.
+    pub fn make_room<S: Sink>(&mut self, output: &mut S) -> Result<(), Refused>
+        ensures output { PutAppends (S.contents output.old) (S.contents output.new) result self.old self.new }
+        ensures room { OnOk result (length self.new + LONGEST ≤ ROOM) }
+        ensures failures { S.failures output.new ≡ S.failures output.old + failures_of result }
+    {
+        if self.as_bytes().len() > ROOM - LONGEST {
+            put_all(self.as_bytes(), output)?;
+            self.clear();
+        }
+        Ok(())
+    }
+
+    /// Appends `bytes`, at most `LONGEST` of them, after a write to `output` if there is no room.
+    pub fn append<S: Sink>(&mut self, bytes: &[u8], output: &mut S) -> Result<(), Refused>
+        requires { length bytes.now ≤ LONGEST }
+        ensures output { PutAppends (S.contents output.old) (S.contents output.new) result (self.old ++ bytes.now) self.new }
+        ensures failures { S.failures output.new ≡ S.failures output.old + failures_of result }
+    {
+        self.make_room(output)?;
+        self.push(bytes);
+        Ok(())
     }
 }

@@ -1,16 +1,16 @@
 //! Appends the answer to a row about a column item by item, since it can have any length.
-ghost use Rattle.std.specs.Prelude.{◌≡◌, ◌+◌, ◌++◌, true, OnOk, OnErr};
+ghost use Rattle.std.specs.Prelude.{◌≡◌, ◌+◌, ◌++◌, true};
 ghost use Rattle.std.specs.List.{flat_map};
 ghost use Rattle.atoi_column.specs.Fields.{is_separator};
-ghost use Rattle.atoi_tool.specs.Failures.{failures_of, AppendsPrefix, AppendsUpTo};
+ghost use Rattle.atoi_tool.specs.Failures.{failures_of, PutAppends};
 ghost use Rattle.atoi_tool.specs.Request.{int_type_of};
 ghost use Rattle.atoi_tool.specs.Answer.{item_text, column_text};
 
+use crate::answer_text::push_item;
 use crate::block::Block;
-use crate::printed::push_item;
-use crate::put::{append, make_room};
 use crate::request::{Integer, by_type};
-use crate::sink::{Refused, Sink};
+use crate::sink::Sink;
+use crate::status::Refused;
 use atoi_column::Column;
 use atoi_simd::Parse;
 
@@ -20,14 +20,12 @@ fn put_items<T: Parse, S: Sink>(
     block: &mut Block,
     output: &mut S,
 ) -> Result<(), Refused>
-    ensures ok { OnOk result (AppendsUpTo (S.contents output.old) (S.contents output.new)
-        (block.old ++ flat_map item_text column.entry) block.new) }
-    ensures err { OnErr result (AppendsPrefix (S.contents output.old) (S.contents output.new)
-        (block.old ++ flat_map item_text column.entry)) }
+    ensures output { PutAppends (S.contents output.old) (S.contents output.new) result
+        (block.old ++ flat_map item_text column.entry) block.new }
     ensures failures { S.failures output.new ≡ S.failures output.old + failures_of result }
 {
     for item in column {
-        make_room(block, output)?;
+        block.make_room(output)?;
         push_item(item, block);
     }
     Ok(())
@@ -41,13 +39,11 @@ fn put_column_of<T: Parse, S: Sink>(
     output: &mut S,
 ) -> Result<(), Refused>
     requires { is_separator separator ≡ true }
-    ensures ok { OnOk result (AppendsUpTo (S.contents output.old) (S.contents output.new)
-        (block.old ++ column_text T.int_type separator text.now) block.new) }
-    ensures err { OnErr result (AppendsPrefix (S.contents output.old) (S.contents output.new)
-        (block.old ++ column_text T.int_type separator text.now)) }
+    ensures output { PutAppends (S.contents output.old) (S.contents output.new) result
+        (block.old ++ column_text T.int_type separator text.now) block.new }
     ensures failures { S.failures output.new ≡ S.failures output.old + failures_of result }
 {
-    append(b"col", block, output)?;
+    block.append(b"col", output)?;
     put_items(Column::<T>::new(text, separator), block, output)
 }
 
@@ -65,10 +61,8 @@ pub fn put_column<S: Sink>(
     output: &mut S,
 ) -> Result<(), Refused>
     requires { is_separator separator ≡ true }
-    ensures ok { OnOk result (AppendsUpTo (S.contents output.old) (S.contents output.new)
-        (block.old ++ column_text (int_type_of integer) separator text.now) block.new) }
-    ensures err { OnErr result (AppendsPrefix (S.contents output.old) (S.contents output.new)
-        (block.old ++ column_text (int_type_of integer) separator text.now)) }
+    ensures output { PutAppends (S.contents output.old) (S.contents output.new) result
+        (block.old ++ column_text (int_type_of integer) separator text.now) block.new }
     ensures failures { S.failures output.new ≡ S.failures output.old + failures_of result }
 {
     by_type!(integer, put_column_of, put_column_of, <S>, (separator, text, block, output))

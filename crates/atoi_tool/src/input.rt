@@ -1,7 +1,7 @@
 //! Reads the whole input into memory.
-ghost use Rattle.std.specs.Prelude.{◌≡◌, ◌≢◌, IfOk, IfErr, OnOk};
+ghost use Rattle.std.specs.Prelude.{◌≡◌, ◌≢◌, ◌+◌, IfOk, IfErr, OnOk};
 ghost use Rattle.std.specs.Io.KnownBytes.{Consumes, IsAtEnd};
-ghost use Rattle.atoi_tool.specs.ReadAll.{ReadAllCounts};
+ghost use Rattle.atoi_tool.specs.Run.{refused_reads};
 
 use crate::source::Source;
 use crate::status::ToolError;
@@ -17,10 +17,11 @@ const PART: usize = 4096;
 /// Returns `Read` if a call of `take` is refused, and `Memory` if the vector cannot grow, as in the
 /// end with a source that never ends. The bytes that were taken are then lost.
 pub fn read_all<S: Source>(alloc: Global, input: &mut S) -> Result<Vec<u8>, ToolError>
+    ensures reads { S.failures input.new ≡ S.failures input.old + refused_reads result }
     ensures all { IfOk result
         (λ bytes. Consumes (S.rest input.old) (S.rest input.new) bytes.items) }
     ensures end { OnOk result (IsAtEnd (S.rest input.new)) }
-    ensures reads { ReadAllCounts (S.failures input.old) (S.failures input.new) result }
+    ensures never_write { IfErr result (λ error. error ≢ ToolError.Write) }
 {
     let mut bytes = Vec::new(alloc);
     loop {

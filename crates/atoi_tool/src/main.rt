@@ -8,6 +8,7 @@ use crate::source::FromReader;
 use std::io::{Stdin, Stdout};
 
 mod answer;
+mod answer_text;
 mod block;
 mod calls;
 #[cfg(test)]
@@ -17,8 +18,6 @@ mod columns;
 mod devices;
 mod input;
 mod output;
-mod printed;
-mod put;
 mod request;
 mod row;
 mod run;

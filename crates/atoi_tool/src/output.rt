@@ -1,7 +1,7 @@
 //! Answers all lines of an input, and writes the answers to a sink.
-ghost use Rattle.std.specs.Prelude.{◌≡◌, ◌+◌, ◌<◌, ◌∷◌, ◌++◌, length, IfOk, IfErr, OnOk, OnErr};
+ghost use Rattle.std.specs.Prelude.{◌≡◌, ◌+◌, ◌<◌, ◌∷◌, ◌++◌, length, IfOk, IfErr, MatchResult};
 ghost use Rattle.std.specs.Io.KnownBytes.{Appends};
-ghost use Rattle.atoi_tool.specs.Failures.{failures_of, AppendsPrefix, AppendsUpTo};
+ghost use Rattle.atoi_tool.specs.Failures.{failures_of, AppendsPrefix, PutAppends};
 ghost use Rattle.atoi_tool.specs.Row.{HasAnswer};
 ghost use Rattle.atoi_tool.specs.Answer.{query_text, is_good_line};
 ghost use Rattle.atoi_tool.specs.Output.{lines_of, line_output, output_of, is_good_input};
@@ -9,11 +9,10 @@ ghost use Rattle.atoi_tool.specs.Output.{lines_of, line_output, output_of, is_go
 use crate::answer::answer_row;
 use crate::block::Block;
 use crate::columns::put_column;
-use crate::put::{append, make_room, put_all};
 use crate::request::Query;
 use crate::row::{cut, row_of};
-use crate::sink::{Refused, Sink};
-use crate::status::ToolError;
+use crate::sink::{Sink, put_all};
+use crate::status::{Refused, ToolError};
 use atoi_column::laws::first_field;
 
 // Returns the first line of an input of at least one byte, and what follows its newline.
@@ -37,15 +36,13 @@ fn put_query<S: Sink>(
     output: &mut S,
 ) -> Result<(), Refused>
     requires { HasAnswer query }
-    ensures ok { OnOk result (AppendsUpTo (S.contents output.old) (S.contents output.new)
-        (block.old ++ query_text query text.now) block.new) }
-    ensures err { OnErr result (AppendsPrefix (S.contents output.old) (S.contents output.new)
-        (block.old ++ query_text query text.now)) }
+    ensures output { PutAppends (S.contents output.old) (S.contents output.new) result
+        (block.old ++ query_text query text.now) block.new }
     ensures failures { S.failures output.new ≡ S.failures output.old + failures_of result }
 {
     match query {
         Query::Number(request) => {
-            make_room(block, output)?;
+            block.make_room(output)?;
             answer_row(&request, text, block);
             Ok(())
         }
@@ -55,21 +52,19 @@ fn put_query<S: Sink>(
 
 // Appends the answer to a line, and a newline after it. Returns whether the line is good.
 fn put_line<S: Sink>(line: &[u8], block: &mut Block, output: &mut S) -> Result<bool, Refused>
-    ensures ok { OnOk result (AppendsUpTo (S.contents output.old) (S.contents output.new)
-        (block.old ++ line_output line.now) block.new) }
+    ensures output { PutAppends (S.contents output.old) (S.contents output.new) result
+        (block.old ++ line_output line.now) block.new }
     ensures good { IfOk result (λ good. good ≡ is_good_line line.now) }
-    ensures err { OnErr result (AppendsPrefix (S.contents output.old) (S.contents output.new)
-        (block.old ++ line_output line.now)) }
     ensures failures { S.failures output.new ≡ S.failures output.old + failures_of result }
 {
     match row_of(line) {
         Some((query, text)) => {
             put_query(query, text, block, output)?;
-            append(b"\n", block, output)?;
+            block.append(b"\n", output)?;
             Ok(true)
         }
         None => {
-            append(b"bad row\n", block, output)?;
+            block.append(b"bad row\n", output)?;
             Ok(false)
         }
     }
@@ -82,13 +77,12 @@ fn put_line<S: Sink>(line: &[u8], block: &mut Block, output: &mut S) -> Result<b
 ///
 /// Returns `Write` if a call of `put` is refused, after a proper prefix of the output was written.
 pub fn answer_lines<S: Sink>(input: &[u8], output: &mut S) -> Result<bool, ToolError>
-    ensures output { OnOk result
-        (Appends (S.contents output.old) (S.contents output.new) (output_of input.now)) }
-    ensures good { IfOk result (λ good. good ≡ is_good_input input.now) }
-    ensures prefix { OnErr result
-        (AppendsPrefix (S.contents output.old) (S.contents output.new) (output_of input.now)) }
-    ensures write { IfErr result (λ error. error ≡ ToolError.Write) }
     ensures failures { S.failures output.new ≡ S.failures output.old + failures_of result }
+    ensures output { MatchResult result
+        (λ _. Appends (S.contents output.old) (S.contents output.new) (output_of input.now))
+        (λ _. AppendsPrefix (S.contents output.old) (S.contents output.new) (output_of input.now)) }
+    ensures good { IfOk result (λ good. good ≡ is_good_input input.now) }
+    ensures write { IfErr result (λ error. error ≡ ToolError.Write) }
 {
     let mut all_good = true;
     let mut block = Block::new();

@@ -1,14 +1,11 @@
 //! What the answers are written to.
-ghost use Rattle.std.specs.Prelude.{◌≡◌, ◌+◌, ◌<◌, ◌≤◌, ℕ, List, Option, None, length, IfOk};
-ghost use Rattle.std.specs.Io.KnownBytes.{WriteAppends};
-ghost use Rattle.atoi_tool.specs.Failures.{failures_of};
+ghost use Rattle.std.specs.Prelude.{◌≡◌, ◌+◌, ◌<◌, ◌≤◌, ℕ, List, Option, None, length, IfOk, MatchResult};
+ghost use Rattle.std.specs.Io.KnownBytes.{Appends, WriteAppends};
+ghost use Rattle.atoi_tool.specs.Failures.{failures_of, AppendsPrefix};
 
+use crate::status::Refused;
 use atoi_core::Steps;
 use std::io::Write;
-
-/// A call of `Source::take` or `Sink::put` was refused. The reason is not kept.
-#[derive(Drop)]
-pub struct Refused;
 
 /// A sink for bytes, which are appended to it one part after another.
 pub trait Sink {
@@ -27,6 +24,24 @@ pub trait Sink {
         ensures within { IfOk result (λ k. k ≤ length bytes.now) }
         ensures bytes { WriteAppends (contents self.old) (contents self.new) result bytes.now }
         ensures failures { failures self.new ≡ failures self.old + failures_of result };
+}
+
+/// Writes all of `bytes` to `output`, with as many calls of `put` as this needs.
+///
+/// # Errors
+///
+/// Returns `Refused` if a call of `put` is refused, after a proper prefix of `bytes` was written.
+pub fn put_all<S: Sink>(bytes: &[u8], output: &mut S) -> Result<(), Refused>
+    ensures output { MatchResult result
+        (λ _. Appends (S.contents output.old) (S.contents output.new) bytes.now)
+        (λ _. AppendsPrefix (S.contents output.old) (S.contents output.new) bytes.now) }
+    ensures failures { S.failures output.new ≡ S.failures output.old + failures_of result }
+{
+    let mut done = 0;
+    while done < bytes.len() {
+        done += output.put(&bytes[done..])?;
+    }
+    Ok(())
 }
 
 /// A writer of std as a sink, without a buffer.

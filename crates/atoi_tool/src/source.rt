@@ -3,7 +3,7 @@ ghost use Rattle.std.specs.Prelude.{◌≡◌, ◌+◌, ◌<◌, ◌≤◌, ℕ,
 ghost use Rattle.std.specs.Io.KnownBytes.{ReadConsumes};
 ghost use Rattle.atoi_tool.specs.Failures.{failures_of};
 
-use crate::sink::Refused;
+use crate::status::Refused;
 use atoi_core::Steps;
 use std::io::Read;
 

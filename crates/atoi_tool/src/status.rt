@@ -1,8 +1,12 @@
-//! The errors that stop the program, and its exit status.
-ghost use Rattle.std.specs.Prelude.{◌≡◌, Some};
+//! Refused calls, the errors that stop the program, and its exit status.
+ghost use Rattle.std.specs.Prelude.{◌≡◌, ◌↔◌, IsTrue, Some};
 ghost use Rattle.atoi_tool.specs.Status.{status_of, tool_error_text};
 
 use std::fmt;
+
+/// A call of `Source::take` or `Sink::put` was refused. The reason is not kept.
+#[derive(Drop)]
+pub struct Refused;
 
 /// An error that stops the program.
 #[derive(Debug, Drop, PartialEq)]
@@ -13,6 +17,15 @@ pub enum ToolError {
     Read,
     /// A write was refused.
     Write,
+}
+
+impl ToolError {
+    /// Returns what `==` returns.
+    pub fn is_same_as(&self, other: &ToolError) -> bool
+        ensures { IsTrue result ↔ (self.now ≡ other.now) }
+    {
+        self == other
+    }
 }
 
 impl fmt::Display for ToolError {

@@ -1,10 +1,10 @@
 -- Lemmas about appending one part after another.
-use Rattle.std.proofs.Common.{◌≡◌, ℕ, ◌+◌, List, ◌++◌, ◌≤◌, length, take, drop, Option, Result, Ok, Err, OnOk, OnErr, sym, ap, ◌∙◌, append_assoc, arith, length-append}
+use Rattle.std.proofs.Common.{◌≡◌, ℕ, ◌+◌, List, ◌++◌, ◌≤◌, length, take, drop, Option, Result, Ok, Err, sym, ap, ◌∙◌, append_assoc, arith, length-append}
 use Rattle.std.proofs.KnownBytes.{Appends-trans}
 use Rattle.std.proofs.lemmas.List.{take-append-le}
 use Rattle.std.proofs.Math.Seq.{take-add, take-append-add}
 use Rattle.std.specs.Io.KnownBytes.{Appends}
-use Rattle.atoi_tool.specs.Failures.{AppendsPrefix, AppendsUpTo}
+use Rattle.atoi_tool.specs.Failures.{AppendsPrefix, AppendsUpTo, PutAppends}
 
 -- The first `n` bytes of `xs`, and then the next `m`.
 pub Appends-take : (old mid new : Option (List ℕ)) (n m : ℕ) (xs : List ℕ) → Appends old mid (take n xs) → Appends mid new (take m (drop n xs)) → Appends old new (take (n + m) xs)
@@ -51,10 +51,6 @@ AppendsPrefix-next old mid new whole before part rest put refused =
     AppendsPrefix-rest old mid new whole (before ++ (part ++ rest)) put
     (rw (sym (append_assoc before part rest)) (AppendsPrefix-more mid new (before ++ part) rest refused))
 
-pub OnErr-any : {A E : Type 0} (P : Type 0) (r : Result A E) → P → OnErr r P
-OnErr-any P (Ok value) h = tt
-OnErr-any P (Err error) h = h
-
 -- Two parts, one after the other, when `mid` waits after the first.
 pub AppendsUpTo-then : (old mid new : Option (List ℕ)) (before xs ys waits after : List ℕ) → AppendsUpTo old mid (before ++ xs) waits
     → AppendsUpTo mid new (waits ++ ys) after → AppendsUpTo old new (before ++ (xs ++ ys)) after
@@ -72,12 +68,8 @@ AppendsPrefix-then old mid new before xs ys waits first refused =
     rw (sym (append_assoc before xs ys))
     (AppendsPrefix-rest old mid new ((before ++ xs) ++ ys) (waits ++ ys) (AppendsUpTo-more old mid (before ++ xs) waits ys first) refused)
 
-pub OnOk-then : {A E : Type 0} (old mid new : Option (List ℕ)) (before xs ys waits after : List ℕ) (r : Result A E) → AppendsUpTo old mid (before ++ xs) waits
-    → OnOk r (AppendsUpTo mid new (waits ++ ys) after) → OnOk r (AppendsUpTo old new (before ++ (xs ++ ys)) after)
-OnOk-then old mid new before xs ys waits after (Ok value) first second = AppendsUpTo-then old mid new before xs ys waits after first second
-OnOk-then old mid new before xs ys waits after (Err error) first second = tt
-
-pub OnErr-then : {A E : Type 0} (old mid new : Option (List ℕ)) (before xs ys waits : List ℕ) (r : Result A E) → AppendsUpTo old mid (before ++ xs) waits
-    → OnErr r (AppendsPrefix mid new (waits ++ ys)) → OnErr r (AppendsPrefix old new (before ++ (xs ++ ys)))
-OnErr-then old mid new before xs ys waits (Ok value) first refused = tt
-OnErr-then old mid new before xs ys waits (Err error) first refused = AppendsPrefix-then old mid new before xs ys waits first refused
+-- The same of what appends the second part.
+pub PutAppends-then : {A E : Type 0} (old mid new : Option (List ℕ)) (before xs ys waits after : List ℕ) (r : Result A E) → AppendsUpTo old mid (before ++ xs) waits
+    → PutAppends mid new r (waits ++ ys) after → PutAppends old new r (before ++ (xs ++ ys)) after
+PutAppends-then old mid new before xs ys waits after (Ok value) first second = AppendsUpTo-then old mid new before xs ys waits after first second
+PutAppends-then old mid new before xs ys waits after (Err error) first refused = AppendsPrefix-then old mid new before xs ys waits first refused

@@ -1,9 +1,8 @@
 //! Tests of `ToWriter` with more bytes than a block holds.
 
-use super::ToWriter;
+use super::{ToWriter, put_all};
 use crate::checks::gives;
 use crate::devices::{Full, LimitedWriter};
-use crate::put::put_all;
 use std::test::Fail;
 
 #[test]

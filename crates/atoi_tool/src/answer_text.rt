@@ -8,12 +8,18 @@ ghost use Rattle.atoi_column.specs.Items.{flaw_of, item_of};
 ghost use Rattle.atoi_tool.specs.Answer.{whole_text, prefix_text, refusal_text, refused_field_text, item_text};
 
 use crate::block::{Block, ROOM};
-use crate::put::LONGEST;
 use atoi_column::ColumnError;
 use atoi_core::{AtoiSimdError, Number, decimal};
 
 // The largest number of bytes that a number has: a minus and 39 digits.
-const NUMBER: usize = 40;
+const NUMBER: usize = 1 + 39;
+
+// The largest number of bytes that the text of an error has.
+const ERROR: usize = 332;
+
+/// The largest number of bytes that are appended to a block at once: " err field ", an index, " ", a
+/// place, ": " and the text of an error.
+pub const LONGEST: usize = 11 + NUMBER + 1 + NUMBER + 2 + ERROR;
 
 // Appends `value` in decimal.
 fn push_number<T: Number>(value: T, out: &mut Block)
@@ -30,9 +36,8 @@ fn push_number<T: Number>(value: T, out: &mut Block)
     out.push(&digits[..count]);
 }
 
-// Appends the text of an error, which has at most 332 bytes.
 fn push_error(error: &AtoiSimdError<'_>, out: &mut Block)
-    requires { length out.old + 332 ≤ ROOM }
+    requires { length out.old + ERROR ≤ ROOM }
     ensures { out.new ≡ out.old ++ error_text (refusal_of error.now) }
 {
     let mut text = [0; 400];

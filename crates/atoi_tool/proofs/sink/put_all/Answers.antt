@@ -2,7 +2,7 @@ use Rattle.std.proofs.Common.{arith, ◌≤◌, drop, length, length-drop}
 use Rattle.std.proofs.lemmas.Grind.{common_steps}
 use Rattle.std.proofs.lemmas.List.{take_rest}
 use Rattle.atoi_tool.proofs.lemmas.Appended.{Appends-take}
-use Rattle.atoi_tool.proofs.put.put_all.Goals as goal
+use Rattle.atoi_tool.proofs.sink.put_all.Goals as goal
 
 pub loop-done-preserved : goal.loop-done-preserved
 loop-done-preserved g c =
