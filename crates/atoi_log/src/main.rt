@@ -4,6 +4,7 @@
 
 use atoi_simd::{AtoiSimdError, Parse, parse_prefix};
 use std::io::{self, BufRead, BufReader};
+use std::str::from_utf8;
 
 fn reason(error: AtoiSimdError<'_>) -> &'static str {
     match error {
@@ -23,7 +24,8 @@ fn number_and_rest<T: Parse>(text: &[u8]) -> Result<(T, &[u8]), &'static str> {
 }
 
 // Returns the status and the size, which follow the request: `.. "GET / HTTP/1.1" 200 5316 ..`.
-fn status_and_size(line: &str) -> Result<(u16, u64), &'static str> {
+fn status_and_size(line: &[u8]) -> Result<(u16, u64), &'static str> {
+    let line = from_utf8(line.trim_ascii_end()).map_err(|_| "not UTF-8")?;
     let (_, numbers) = line.split_once("\" ").ok_or("no request")?;
     let (status, rest) = number_and_rest::<u16>(numbers.as_bytes())?;
     let (size, _) = number_and_rest::<u64>(rest)?;
@@ -32,9 +34,9 @@ fn status_and_size(line: &str) -> Result<(u16, u64), &'static str> {
 
 fn main(rt: HostRuntime) -> io::Result<()> {
     let (mut requests, mut failed, mut bytes, mut skipped) = (0u64, 0u64, 0u64, 0u64);
-    let lines = BufReader::new(rt.alloc(), rt.reader())?.lines(rt.alloc());
+    let lines = BufReader::new(rt.alloc(), rt.reader())?.split(rt.alloc(), b'\n');
     for (number, line) in (1u64..).zip(lines) {
-        match status_and_size(line?.as_str()) {
+        match status_and_size(&line?) {
             Ok((status, size)) => {
                 // A plain `+` needs a proof that it cannot overflow.
                 requests = requests.saturating_add(1);
