@@ -32,6 +32,9 @@ pub enum AtoiSimdError<'a> {
     Invalid128(u128, usize, &'a [u8]),
 }
 
+/// What a parse returns: a `T`, or why the slice was refused.
+pub type Parsed<'a, T> = Result<T, AtoiSimdError<'a>>;
+
 impl AtoiSimdError<'_> {
     /// Returns what `==` returns.
     pub fn is_same_as(&self, other: &AtoiSimdError<'_>) -> bool

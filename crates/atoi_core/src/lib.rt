@@ -26,7 +26,7 @@ pub mod words;
 pub use crate::alphabet::{Alphabet, front_of};
 pub use crate::core_calls::{prefix_neg, prefix_pos, whole_64, whole_128, whole_neg, whole_pos};
 pub use crate::engine::Engine;
-pub use crate::error::{AtoiSimdError, clones_are_the_same};
+pub use crate::error::{AtoiSimdError, Parsed, clones_are_the_same};
 pub use crate::narrow::{narrow_prefix, narrow_whole_windows};
 pub use crate::number::{Number, Signed};
 pub use crate::plain::{Plain, narrow_whole};

@@ -4,7 +4,7 @@ ghost use Rattle.atoi_core.specs.Answer.{typed_answer, typed_prefix_answer, whol
 ghost use Rattle.atoi_core.specs.Digit.{decimal_table};
 
 use crate::default_engine::DefaultEngine;
-use atoi_core::{AtoiSimdError, Number, Steps, prefix_pos, whole_pos};
+use atoi_core::{AtoiSimdError, Number, Parsed, Steps, prefix_pos, whole_pos};
 
 /// An integer type that is parsed from digits without a sign.
 pub trait ParsePos: Number {
@@ -33,180 +33,144 @@ pub trait ParsePos: Number {
 
 impl ParsePos for u8 {
     #[inline(always)]
-    fn atoi_simd_parse_pos(s: &[u8], skip_zeroes: bool) -> Result<u8, AtoiSimdError<'_>> {
+    fn atoi_simd_parse_pos(s: &[u8], skip_zeroes: bool) -> Parsed<'_, Self> {
         whole_pos::<DefaultEngine, u8>(skip_zeroes, s, &mut Steps::new())
     }
 
     #[inline(always)]
-    fn atoi_simd_parse_prefix_pos(
-        s: &[u8],
-        skip_zeroes: bool,
-    ) -> Result<(u8, usize), AtoiSimdError<'_>> {
+    fn atoi_simd_parse_prefix_pos(s: &[u8], skip_zeroes: bool) -> Parsed<'_, (Self, usize)> {
         prefix_pos::<DefaultEngine, u8>(skip_zeroes, s, &mut Steps::new())
     }
 }
 
 impl ParsePos for i8 {
     #[inline(always)]
-    fn atoi_simd_parse_pos(s: &[u8], skip_zeroes: bool) -> Result<i8, AtoiSimdError<'_>> {
+    fn atoi_simd_parse_pos(s: &[u8], skip_zeroes: bool) -> Parsed<'_, Self> {
         whole_pos::<DefaultEngine, i8>(skip_zeroes, s, &mut Steps::new())
     }
 
     #[inline(always)]
-    fn atoi_simd_parse_prefix_pos(
-        s: &[u8],
-        skip_zeroes: bool,
-    ) -> Result<(i8, usize), AtoiSimdError<'_>> {
+    fn atoi_simd_parse_prefix_pos(s: &[u8], skip_zeroes: bool) -> Parsed<'_, (Self, usize)> {
         prefix_pos::<DefaultEngine, i8>(skip_zeroes, s, &mut Steps::new())
     }
 }
 
 impl ParsePos for u16 {
     #[inline(always)]
-    fn atoi_simd_parse_pos(s: &[u8], skip_zeroes: bool) -> Result<u16, AtoiSimdError<'_>> {
+    fn atoi_simd_parse_pos(s: &[u8], skip_zeroes: bool) -> Parsed<'_, Self> {
         whole_pos::<DefaultEngine, u16>(skip_zeroes, s, &mut Steps::new())
     }
 
     #[inline(always)]
-    fn atoi_simd_parse_prefix_pos(
-        s: &[u8],
-        skip_zeroes: bool,
-    ) -> Result<(u16, usize), AtoiSimdError<'_>> {
+    fn atoi_simd_parse_prefix_pos(s: &[u8], skip_zeroes: bool) -> Parsed<'_, (Self, usize)> {
         prefix_pos::<DefaultEngine, u16>(skip_zeroes, s, &mut Steps::new())
     }
 }
 
 impl ParsePos for i16 {
     #[inline(always)]
-    fn atoi_simd_parse_pos(s: &[u8], skip_zeroes: bool) -> Result<i16, AtoiSimdError<'_>> {
+    fn atoi_simd_parse_pos(s: &[u8], skip_zeroes: bool) -> Parsed<'_, Self> {
         whole_pos::<DefaultEngine, i16>(skip_zeroes, s, &mut Steps::new())
     }
 
     #[inline(always)]
-    fn atoi_simd_parse_prefix_pos(
-        s: &[u8],
-        skip_zeroes: bool,
-    ) -> Result<(i16, usize), AtoiSimdError<'_>> {
+    fn atoi_simd_parse_prefix_pos(s: &[u8], skip_zeroes: bool) -> Parsed<'_, (Self, usize)> {
         prefix_pos::<DefaultEngine, i16>(skip_zeroes, s, &mut Steps::new())
     }
 }
 
 impl ParsePos for u32 {
     #[inline(always)]
-    fn atoi_simd_parse_pos(s: &[u8], skip_zeroes: bool) -> Result<u32, AtoiSimdError<'_>> {
+    fn atoi_simd_parse_pos(s: &[u8], skip_zeroes: bool) -> Parsed<'_, Self> {
         whole_pos::<DefaultEngine, u32>(skip_zeroes, s, &mut Steps::new())
     }
 
     #[inline(always)]
-    fn atoi_simd_parse_prefix_pos(
-        s: &[u8],
-        skip_zeroes: bool,
-    ) -> Result<(u32, usize), AtoiSimdError<'_>> {
+    fn atoi_simd_parse_prefix_pos(s: &[u8], skip_zeroes: bool) -> Parsed<'_, (Self, usize)> {
         prefix_pos::<DefaultEngine, u32>(skip_zeroes, s, &mut Steps::new())
     }
 }
 
 impl ParsePos for i32 {
     #[inline(always)]
-    fn atoi_simd_parse_pos(s: &[u8], skip_zeroes: bool) -> Result<i32, AtoiSimdError<'_>> {
+    fn atoi_simd_parse_pos(s: &[u8], skip_zeroes: bool) -> Parsed<'_, Self> {
         whole_pos::<DefaultEngine, i32>(skip_zeroes, s, &mut Steps::new())
     }
 
     #[inline(always)]
-    fn atoi_simd_parse_prefix_pos(
-        s: &[u8],
-        skip_zeroes: bool,
-    ) -> Result<(i32, usize), AtoiSimdError<'_>> {
+    fn atoi_simd_parse_prefix_pos(s: &[u8], skip_zeroes: bool) -> Parsed<'_, (Self, usize)> {
         prefix_pos::<DefaultEngine, i32>(skip_zeroes, s, &mut Steps::new())
     }
 }
 
 impl ParsePos for usize {
     #[inline(always)]
-    fn atoi_simd_parse_pos(s: &[u8], skip_zeroes: bool) -> Result<usize, AtoiSimdError<'_>> {
+    fn atoi_simd_parse_pos(s: &[u8], skip_zeroes: bool) -> Parsed<'_, Self> {
         whole_pos::<DefaultEngine, usize>(skip_zeroes, s, &mut Steps::new())
     }
 
     #[inline(always)]
-    fn atoi_simd_parse_prefix_pos(
-        s: &[u8],
-        skip_zeroes: bool,
-    ) -> Result<(usize, usize), AtoiSimdError<'_>> {
+    fn atoi_simd_parse_prefix_pos(s: &[u8], skip_zeroes: bool) -> Parsed<'_, (Self, usize)> {
         prefix_pos::<DefaultEngine, usize>(skip_zeroes, s, &mut Steps::new())
     }
 }
 
 impl ParsePos for isize {
     #[inline(always)]
-    fn atoi_simd_parse_pos(s: &[u8], skip_zeroes: bool) -> Result<isize, AtoiSimdError<'_>> {
+    fn atoi_simd_parse_pos(s: &[u8], skip_zeroes: bool) -> Parsed<'_, Self> {
         whole_pos::<DefaultEngine, isize>(skip_zeroes, s, &mut Steps::new())
     }
 
     #[inline(always)]
-    fn atoi_simd_parse_prefix_pos(
-        s: &[u8],
-        skip_zeroes: bool,
-    ) -> Result<(isize, usize), AtoiSimdError<'_>> {
+    fn atoi_simd_parse_prefix_pos(s: &[u8], skip_zeroes: bool) -> Parsed<'_, (Self, usize)> {
         prefix_pos::<DefaultEngine, isize>(skip_zeroes, s, &mut Steps::new())
     }
 }
 
 impl ParsePos for u64 {
     #[inline(always)]
-    fn atoi_simd_parse_pos(s: &[u8], skip_zeroes: bool) -> Result<u64, AtoiSimdError<'_>> {
+    fn atoi_simd_parse_pos(s: &[u8], skip_zeroes: bool) -> Parsed<'_, Self> {
         whole_pos::<DefaultEngine, u64>(skip_zeroes, s, &mut Steps::new())
     }
 
     #[inline(always)]
-    fn atoi_simd_parse_prefix_pos(
-        s: &[u8],
-        skip_zeroes: bool,
-    ) -> Result<(u64, usize), AtoiSimdError<'_>> {
+    fn atoi_simd_parse_prefix_pos(s: &[u8], skip_zeroes: bool) -> Parsed<'_, (Self, usize)> {
         prefix_pos::<DefaultEngine, u64>(skip_zeroes, s, &mut Steps::new())
     }
 }
 
 impl ParsePos for i64 {
     #[inline(always)]
-    fn atoi_simd_parse_pos(s: &[u8], skip_zeroes: bool) -> Result<i64, AtoiSimdError<'_>> {
+    fn atoi_simd_parse_pos(s: &[u8], skip_zeroes: bool) -> Parsed<'_, Self> {
         whole_pos::<DefaultEngine, i64>(skip_zeroes, s, &mut Steps::new())
     }
 
     #[inline(always)]
-    fn atoi_simd_parse_prefix_pos(
-        s: &[u8],
-        skip_zeroes: bool,
-    ) -> Result<(i64, usize), AtoiSimdError<'_>> {
+    fn atoi_simd_parse_prefix_pos(s: &[u8], skip_zeroes: bool) -> Parsed<'_, (Self, usize)> {
         prefix_pos::<DefaultEngine, i64>(skip_zeroes, s, &mut Steps::new())
     }
 }
 
 impl ParsePos for u128 {
     #[inline(always)]
-    fn atoi_simd_parse_pos(s: &[u8], skip_zeroes: bool) -> Result<u128, AtoiSimdError<'_>> {
+    fn atoi_simd_parse_pos(s: &[u8], skip_zeroes: bool) -> Parsed<'_, Self> {
         whole_pos::<DefaultEngine, u128>(skip_zeroes, s, &mut Steps::new())
     }
 
     #[inline(always)]
-    fn atoi_simd_parse_prefix_pos(
-        s: &[u8],
-        skip_zeroes: bool,
-    ) -> Result<(u128, usize), AtoiSimdError<'_>> {
+    fn atoi_simd_parse_prefix_pos(s: &[u8], skip_zeroes: bool) -> Parsed<'_, (Self, usize)> {
         prefix_pos::<DefaultEngine, u128>(skip_zeroes, s, &mut Steps::new())
     }
 }
 
 impl ParsePos for i128 {
     #[inline(always)]
-    fn atoi_simd_parse_pos(s: &[u8], skip_zeroes: bool) -> Result<i128, AtoiSimdError<'_>> {
+    fn atoi_simd_parse_pos(s: &[u8], skip_zeroes: bool) -> Parsed<'_, Self> {
         whole_pos::<DefaultEngine, i128>(skip_zeroes, s, &mut Steps::new())
     }
 
     #[inline(always)]
-    fn atoi_simd_parse_prefix_pos(
-        s: &[u8],
-        skip_zeroes: bool,
-    ) -> Result<(i128, usize), AtoiSimdError<'_>> {
+    fn atoi_simd_parse_prefix_pos(s: &[u8], skip_zeroes: bool) -> Parsed<'_, (Self, usize)> {
         prefix_pos::<DefaultEngine, i128>(skip_zeroes, s, &mut Steps::new())
     }
 }

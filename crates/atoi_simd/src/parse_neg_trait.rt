@@ -4,7 +4,7 @@ ghost use Rattle.atoi_core.specs.Answer.{typed_answer, typed_prefix_answer, whol
 ghost use Rattle.atoi_core.specs.Digit.{decimal_table};
 
 use crate::default_engine::DefaultEngine;
-use atoi_core::{AtoiSimdError, Signed, Steps, prefix_neg, whole_neg};
+use atoi_core::{AtoiSimdError, Parsed, Signed, Steps, prefix_neg, whole_neg};
 
 /// A signed type that is parsed from the digits of a negative number.
 pub trait ParseNeg: Signed {
@@ -33,90 +33,72 @@ pub trait ParseNeg: Signed {
 
 impl ParseNeg for i8 {
     #[inline(always)]
-    fn atoi_simd_parse_neg(s: &[u8], skip_zeroes: bool) -> Result<i8, AtoiSimdError<'_>> {
+    fn atoi_simd_parse_neg(s: &[u8], skip_zeroes: bool) -> Parsed<'_, Self> {
         whole_neg::<DefaultEngine, i8>(skip_zeroes, s, &mut Steps::new())
     }
 
     #[inline(always)]
-    fn atoi_simd_parse_prefix_neg(
-        s: &[u8],
-        skip_zeroes: bool,
-    ) -> Result<(i8, usize), AtoiSimdError<'_>> {
+    fn atoi_simd_parse_prefix_neg(s: &[u8], skip_zeroes: bool) -> Parsed<'_, (Self, usize)> {
         prefix_neg::<DefaultEngine, i8>(skip_zeroes, s, &mut Steps::new())
     }
 }
 
 impl ParseNeg for i16 {
     #[inline(always)]
-    fn atoi_simd_parse_neg(s: &[u8], skip_zeroes: bool) -> Result<i16, AtoiSimdError<'_>> {
+    fn atoi_simd_parse_neg(s: &[u8], skip_zeroes: bool) -> Parsed<'_, Self> {
         whole_neg::<DefaultEngine, i16>(skip_zeroes, s, &mut Steps::new())
     }
 
     #[inline(always)]
-    fn atoi_simd_parse_prefix_neg(
-        s: &[u8],
-        skip_zeroes: bool,
-    ) -> Result<(i16, usize), AtoiSimdError<'_>> {
+    fn atoi_simd_parse_prefix_neg(s: &[u8], skip_zeroes: bool) -> Parsed<'_, (Self, usize)> {
         prefix_neg::<DefaultEngine, i16>(skip_zeroes, s, &mut Steps::new())
     }
 }
 
 impl ParseNeg for i32 {
     #[inline(always)]
-    fn atoi_simd_parse_neg(s: &[u8], skip_zeroes: bool) -> Result<i32, AtoiSimdError<'_>> {
+    fn atoi_simd_parse_neg(s: &[u8], skip_zeroes: bool) -> Parsed<'_, Self> {
         whole_neg::<DefaultEngine, i32>(skip_zeroes, s, &mut Steps::new())
     }
 
     #[inline(always)]
-    fn atoi_simd_parse_prefix_neg(
-        s: &[u8],
-        skip_zeroes: bool,
-    ) -> Result<(i32, usize), AtoiSimdError<'_>> {
+    fn atoi_simd_parse_prefix_neg(s: &[u8], skip_zeroes: bool) -> Parsed<'_, (Self, usize)> {
         prefix_neg::<DefaultEngine, i32>(skip_zeroes, s, &mut Steps::new())
     }
 }
 
 impl ParseNeg for isize {
     #[inline(always)]
-    fn atoi_simd_parse_neg(s: &[u8], skip_zeroes: bool) -> Result<isize, AtoiSimdError<'_>> {
+    fn atoi_simd_parse_neg(s: &[u8], skip_zeroes: bool) -> Parsed<'_, Self> {
         whole_neg::<DefaultEngine, isize>(skip_zeroes, s, &mut Steps::new())
     }
 
     #[inline(always)]
-    fn atoi_simd_parse_prefix_neg(
-        s: &[u8],
-        skip_zeroes: bool,
-    ) -> Result<(isize, usize), AtoiSimdError<'_>> {
+    fn atoi_simd_parse_prefix_neg(s: &[u8], skip_zeroes: bool) -> Parsed<'_, (Self, usize)> {
         prefix_neg::<DefaultEngine, isize>(skip_zeroes, s, &mut Steps::new())
     }
 }
 
 impl ParseNeg for i64 {
     #[inline(always)]
-    fn atoi_simd_parse_neg(s: &[u8], skip_zeroes: bool) -> Result<i64, AtoiSimdError<'_>> {
+    fn atoi_simd_parse_neg(s: &[u8], skip_zeroes: bool) -> Parsed<'_, Self> {
         whole_neg::<DefaultEngine, i64>(skip_zeroes, s, &mut Steps::new())
     }
 
     #[inline(always)]
-    fn atoi_simd_parse_prefix_neg(
-        s: &[u8],
-        skip_zeroes: bool,
-    ) -> Result<(i64, usize), AtoiSimdError<'_>> {
+    fn atoi_simd_parse_prefix_neg(s: &[u8], skip_zeroes: bool) -> Parsed<'_, (Self, usize)> {
         prefix_neg::<DefaultEngine, i64>(skip_zeroes, s, &mut Steps::new())
     }
 }
 
 impl ParseNeg for i128 {
     #[inline(always)]
-    fn atoi_simd_parse_neg(s: &[u8], skip_zeroes: bool) -> Result<i128, AtoiSimdError<'_>> {
+    fn atoi_simd_parse_neg(s: &[u8], skip_zeroes: bool) -> Parsed<'_, Self> {
         whole_neg::<DefaultEngine, i128>(skip_zeroes, s, &mut Steps::new())
     }
 
     #[inline(always)]
-    fn atoi_simd_parse_prefix_neg(
-        s: &[u8],
-        skip_zeroes: bool,
-    ) -> Result<(i128, usize), AtoiSimdError<'_>> {
+    fn atoi_simd_parse_prefix_neg(s: &[u8], skip_zeroes: bool) -> Parsed<'_, (Self, usize)> {
         prefix_neg::<DefaultEngine, i128>(skip_zeroes, s, &mut Steps::new())
     }
 }

@@ -5,7 +5,8 @@ ghost use Rattle.atoi_core.specs.Answer.{typed_answer, typed_prefix_answer, pars
 use crate::default_engine::DefaultEngine;
 use crate::parse_pos_trait::ParsePos;
 use atoi_core::{
-    AtoiSimdError, Steps, parse_prefix_signed, parse_prefix_unsigned, parse_signed, parse_unsigned,
+    AtoiSimdError, Parsed, Steps, parse_prefix_signed, parse_prefix_unsigned, parse_signed,
+    parse_unsigned,
 };
 
 /// An integer type that is parsed with a sign. No other crate can implement it, since none can name
@@ -41,240 +42,144 @@ pub trait Parse: ParsePos {
 
 impl Parse for u8 {
     #[inline(always)]
-    fn atoi_simd_parse(
-        s: &[u8],
-        skip_zeroes: bool,
-        skip_plus: bool,
-    ) -> Result<u8, AtoiSimdError<'_>> {
-        parse_unsigned::<DefaultEngine, u8>(skip_zeroes, skip_plus, s, &mut Steps::new())
+    fn atoi_simd_parse(s: &[u8], skip: bool, skip_plus: bool) -> Parsed<'_, Self> {
+        parse_unsigned::<DefaultEngine, u8>(skip, skip_plus, s, &mut Steps::new())
     }
 
     #[inline(always)]
-    fn atoi_simd_parse_prefix(
-        s: &[u8],
-        skip_zeroes: bool,
-        skip_plus: bool,
-    ) -> Result<(u8, usize), AtoiSimdError<'_>> {
-        parse_prefix_unsigned::<DefaultEngine, u8>(skip_zeroes, skip_plus, s, &mut Steps::new())
+    fn atoi_simd_parse_prefix(s: &[u8], skip: bool, skip_plus: bool) -> Parsed<'_, (Self, usize)> {
+        parse_prefix_unsigned::<DefaultEngine, u8>(skip, skip_plus, s, &mut Steps::new())
     }
 }
 
 impl Parse for i8 {
     #[inline(always)]
-    fn atoi_simd_parse(
-        s: &[u8],
-        skip_zeroes: bool,
-        skip_plus: bool,
-    ) -> Result<i8, AtoiSimdError<'_>> {
-        parse_signed::<DefaultEngine, i8>(skip_zeroes, skip_plus, s, &mut Steps::new())
+    fn atoi_simd_parse(s: &[u8], skip: bool, skip_plus: bool) -> Parsed<'_, Self> {
+        parse_signed::<DefaultEngine, i8>(skip, skip_plus, s, &mut Steps::new())
     }
 
     #[inline(always)]
-    fn atoi_simd_parse_prefix(
-        s: &[u8],
-        skip_zeroes: bool,
-        skip_plus: bool,
-    ) -> Result<(i8, usize), AtoiSimdError<'_>> {
-        parse_prefix_signed::<DefaultEngine, i8>(skip_zeroes, skip_plus, s, &mut Steps::new())
+    fn atoi_simd_parse_prefix(s: &[u8], skip: bool, skip_plus: bool) -> Parsed<'_, (Self, usize)> {
+        parse_prefix_signed::<DefaultEngine, i8>(skip, skip_plus, s, &mut Steps::new())
     }
 }
 
 impl Parse for u16 {
     #[inline(always)]
-    fn atoi_simd_parse(
-        s: &[u8],
-        skip_zeroes: bool,
-        skip_plus: bool,
-    ) -> Result<u16, AtoiSimdError<'_>> {
-        parse_unsigned::<DefaultEngine, u16>(skip_zeroes, skip_plus, s, &mut Steps::new())
+    fn atoi_simd_parse(s: &[u8], skip: bool, skip_plus: bool) -> Parsed<'_, Self> {
+        parse_unsigned::<DefaultEngine, u16>(skip, skip_plus, s, &mut Steps::new())
     }
 
     #[inline(always)]
-    fn atoi_simd_parse_prefix(
-        s: &[u8],
-        skip_zeroes: bool,
-        skip_plus: bool,
-    ) -> Result<(u16, usize), AtoiSimdError<'_>> {
-        parse_prefix_unsigned::<DefaultEngine, u16>(skip_zeroes, skip_plus, s, &mut Steps::new())
+    fn atoi_simd_parse_prefix(s: &[u8], skip: bool, skip_plus: bool) -> Parsed<'_, (Self, usize)> {
+        parse_prefix_unsigned::<DefaultEngine, u16>(skip, skip_plus, s, &mut Steps::new())
     }
 }
 
 impl Parse for i16 {
     #[inline(always)]
-    fn atoi_simd_parse(
-        s: &[u8],
-        skip_zeroes: bool,
-        skip_plus: bool,
-    ) -> Result<i16, AtoiSimdError<'_>> {
-        parse_signed::<DefaultEngine, i16>(skip_zeroes, skip_plus, s, &mut Steps::new())
+    fn atoi_simd_parse(s: &[u8], skip: bool, skip_plus: bool) -> Parsed<'_, Self> {
+        parse_signed::<DefaultEngine, i16>(skip, skip_plus, s, &mut Steps::new())
     }
 
     #[inline(always)]
-    fn atoi_simd_parse_prefix(
-        s: &[u8],
-        skip_zeroes: bool,
-        skip_plus: bool,
-    ) -> Result<(i16, usize), AtoiSimdError<'_>> {
-        parse_prefix_signed::<DefaultEngine, i16>(skip_zeroes, skip_plus, s, &mut Steps::new())
+    fn atoi_simd_parse_prefix(s: &[u8], skip: bool, skip_plus: bool) -> Parsed<'_, (Self, usize)> {
+        parse_prefix_signed::<DefaultEngine, i16>(skip, skip_plus, s, &mut Steps::new())
     }
 }
 
 impl Parse for u32 {
     #[inline(always)]
-    fn atoi_simd_parse(
-        s: &[u8],
-        skip_zeroes: bool,
-        skip_plus: bool,
-    ) -> Result<u32, AtoiSimdError<'_>> {
-        parse_unsigned::<DefaultEngine, u32>(skip_zeroes, skip_plus, s, &mut Steps::new())
+    fn atoi_simd_parse(s: &[u8], skip: bool, skip_plus: bool) -> Parsed<'_, Self> {
+        parse_unsigned::<DefaultEngine, u32>(skip, skip_plus, s, &mut Steps::new())
     }
 
     #[inline(always)]
-    fn atoi_simd_parse_prefix(
-        s: &[u8],
-        skip_zeroes: bool,
-        skip_plus: bool,
-    ) -> Result<(u32, usize), AtoiSimdError<'_>> {
-        parse_prefix_unsigned::<DefaultEngine, u32>(skip_zeroes, skip_plus, s, &mut Steps::new())
+    fn atoi_simd_parse_prefix(s: &[u8], skip: bool, skip_plus: bool) -> Parsed<'_, (Self, usize)> {
+        parse_prefix_unsigned::<DefaultEngine, u32>(skip, skip_plus, s, &mut Steps::new())
     }
 }
 
 impl Parse for i32 {
     #[inline(always)]
-    fn atoi_simd_parse(
-        s: &[u8],
-        skip_zeroes: bool,
-        skip_plus: bool,
-    ) -> Result<i32, AtoiSimdError<'_>> {
-        parse_signed::<DefaultEngine, i32>(skip_zeroes, skip_plus, s, &mut Steps::new())
+    fn atoi_simd_parse(s: &[u8], skip: bool, skip_plus: bool) -> Parsed<'_, Self> {
+        parse_signed::<DefaultEngine, i32>(skip, skip_plus, s, &mut Steps::new())
     }
 
     #[inline(always)]
-    fn atoi_simd_parse_prefix(
-        s: &[u8],
-        skip_zeroes: bool,
-        skip_plus: bool,
-    ) -> Result<(i32, usize), AtoiSimdError<'_>> {
-        parse_prefix_signed::<DefaultEngine, i32>(skip_zeroes, skip_plus, s, &mut Steps::new())
+    fn atoi_simd_parse_prefix(s: &[u8], skip: bool, skip_plus: bool) -> Parsed<'_, (Self, usize)> {
+        parse_prefix_signed::<DefaultEngine, i32>(skip, skip_plus, s, &mut Steps::new())
     }
 }
 
 impl Parse for usize {
     #[inline(always)]
-    fn atoi_simd_parse(
-        s: &[u8],
-        skip_zeroes: bool,
-        skip_plus: bool,
-    ) -> Result<usize, AtoiSimdError<'_>> {
-        parse_unsigned::<DefaultEngine, usize>(skip_zeroes, skip_plus, s, &mut Steps::new())
+    fn atoi_simd_parse(s: &[u8], skip: bool, skip_plus: bool) -> Parsed<'_, Self> {
+        parse_unsigned::<DefaultEngine, usize>(skip, skip_plus, s, &mut Steps::new())
     }
 
     #[inline(always)]
-    fn atoi_simd_parse_prefix(
-        s: &[u8],
-        skip_zeroes: bool,
-        skip_plus: bool,
-    ) -> Result<(usize, usize), AtoiSimdError<'_>> {
-        parse_prefix_unsigned::<DefaultEngine, usize>(skip_zeroes, skip_plus, s, &mut Steps::new())
+    fn atoi_simd_parse_prefix(s: &[u8], skip: bool, skip_plus: bool) -> Parsed<'_, (Self, usize)> {
+        parse_prefix_unsigned::<DefaultEngine, usize>(skip, skip_plus, s, &mut Steps::new())
     }
 }
 
 impl Parse for isize {
     #[inline(always)]
-    fn atoi_simd_parse(
-        s: &[u8],
-        skip_zeroes: bool,
-        skip_plus: bool,
-    ) -> Result<isize, AtoiSimdError<'_>> {
-        parse_signed::<DefaultEngine, isize>(skip_zeroes, skip_plus, s, &mut Steps::new())
+    fn atoi_simd_parse(s: &[u8], skip: bool, skip_plus: bool) -> Parsed<'_, Self> {
+        parse_signed::<DefaultEngine, isize>(skip, skip_plus, s, &mut Steps::new())
     }
 
     #[inline(always)]
-    fn atoi_simd_parse_prefix(
-        s: &[u8],
-        skip_zeroes: bool,
-        skip_plus: bool,
-    ) -> Result<(isize, usize), AtoiSimdError<'_>> {
-        parse_prefix_signed::<DefaultEngine, isize>(skip_zeroes, skip_plus, s, &mut Steps::new())
+    fn atoi_simd_parse_prefix(s: &[u8], skip: bool, skip_plus: bool) -> Parsed<'_, (Self, usize)> {
+        parse_prefix_signed::<DefaultEngine, isize>(skip, skip_plus, s, &mut Steps::new())
     }
 }
 
 impl Parse for u64 {
     #[inline(always)]
-    fn atoi_simd_parse(
-        s: &[u8],
-        skip_zeroes: bool,
-        skip_plus: bool,
-    ) -> Result<u64, AtoiSimdError<'_>> {
-        parse_unsigned::<DefaultEngine, u64>(skip_zeroes, skip_plus, s, &mut Steps::new())
+    fn atoi_simd_parse(s: &[u8], skip: bool, skip_plus: bool) -> Parsed<'_, Self> {
+        parse_unsigned::<DefaultEngine, u64>(skip, skip_plus, s, &mut Steps::new())
     }
 
     #[inline(always)]
-    fn atoi_simd_parse_prefix(
-        s: &[u8],
-        skip_zeroes: bool,
-        skip_plus: bool,
-    ) -> Result<(u64, usize), AtoiSimdError<'_>> {
-        parse_prefix_unsigned::<DefaultEngine, u64>(skip_zeroes, skip_plus, s, &mut Steps::new())
+    fn atoi_simd_parse_prefix(s: &[u8], skip: bool, skip_plus: bool) -> Parsed<'_, (Self, usize)> {
+        parse_prefix_unsigned::<DefaultEngine, u64>(skip, skip_plus, s, &mut Steps::new())
     }
 }
 
 impl Parse for i64 {
     #[inline(always)]
-    fn atoi_simd_parse(
-        s: &[u8],
-        skip_zeroes: bool,
-        skip_plus: bool,
-    ) -> Result<i64, AtoiSimdError<'_>> {
-        parse_signed::<DefaultEngine, i64>(skip_zeroes, skip_plus, s, &mut Steps::new())
+    fn atoi_simd_parse(s: &[u8], skip: bool, skip_plus: bool) -> Parsed<'_, Self> {
+        parse_signed::<DefaultEngine, i64>(skip, skip_plus, s, &mut Steps::new())
     }
 
     #[inline(always)]
-    fn atoi_simd_parse_prefix(
-        s: &[u8],
-        skip_zeroes: bool,
-        skip_plus: bool,
-    ) -> Result<(i64, usize), AtoiSimdError<'_>> {
-        parse_prefix_signed::<DefaultEngine, i64>(skip_zeroes, skip_plus, s, &mut Steps::new())
+    fn atoi_simd_parse_prefix(s: &[u8], skip: bool, skip_plus: bool) -> Parsed<'_, (Self, usize)> {
+        parse_prefix_signed::<DefaultEngine, i64>(skip, skip_plus, s, &mut Steps::new())
     }
 }
 
 impl Parse for u128 {
     #[inline(always)]
-    fn atoi_simd_parse(
-        s: &[u8],
-        skip_zeroes: bool,
-        skip_plus: bool,
-    ) -> Result<u128, AtoiSimdError<'_>> {
-        parse_unsigned::<DefaultEngine, u128>(skip_zeroes, skip_plus, s, &mut Steps::new())
+    fn atoi_simd_parse(s: &[u8], skip: bool, skip_plus: bool) -> Parsed<'_, Self> {
+        parse_unsigned::<DefaultEngine, u128>(skip, skip_plus, s, &mut Steps::new())
     }
 
     #[inline(always)]
-    fn atoi_simd_parse_prefix(
-        s: &[u8],
-        skip_zeroes: bool,
-        skip_plus: bool,
-    ) -> Result<(u128, usize), AtoiSimdError<'_>> {
-        parse_prefix_unsigned::<DefaultEngine, u128>(skip_zeroes, skip_plus, s, &mut Steps::new())
+    fn atoi_simd_parse_prefix(s: &[u8], skip: bool, skip_plus: bool) -> Parsed<'_, (Self, usize)> {
+        parse_prefix_unsigned::<DefaultEngine, u128>(skip, skip_plus, s, &mut Steps::new())
     }
 }
 
 impl Parse for i128 {
     #[inline(always)]
-    fn atoi_simd_parse(
-        s: &[u8],
-        skip_zeroes: bool,
-        skip_plus: bool,
-    ) -> Result<i128, AtoiSimdError<'_>> {
-        parse_signed::<DefaultEngine, i128>(skip_zeroes, skip_plus, s, &mut Steps::new())
+    fn atoi_simd_parse(s: &[u8], skip: bool, skip_plus: bool) -> Parsed<'_, Self> {
+        parse_signed::<DefaultEngine, i128>(skip, skip_plus, s, &mut Steps::new())
     }
 
     #[inline(always)]
-    fn atoi_simd_parse_prefix(
-        s: &[u8],
-        skip_zeroes: bool,
-        skip_plus: bool,
-    ) -> Result<(i128, usize), AtoiSimdError<'_>> {
-        parse_prefix_signed::<DefaultEngine, i128>(skip_zeroes, skip_plus, s, &mut Steps::new())
+    fn atoi_simd_parse_prefix(s: &[u8], skip: bool, skip_plus: bool) -> Parsed<'_, (Self, usize)> {
+        parse_prefix_signed::<DefaultEngine, i128>(skip, skip_plus, s, &mut Steps::new())
     }
 }
