@@ -1,5 +1,5 @@
 -- What a parse needs to know of an integer type.
-use Rattle.std.specs.Prelude.{◌≡◌, ◌⊎◌, ℕ, ◌+◌, ◌-◌, ◌^◌, Bool, true, false, ◌==◌, nat_le, if◌then◌else◌}
+use Rattle.std.specs.Prelude.{◌≡◌, ℕ, ◌+◌, ◌-◌, ◌^◌, Bool, true, false, ◌==◌, ◌||◌, nat_le, if◌then◌else◌}
 use Rattle.atoi_core.specs.Magnitude.{Class, narrow, wide64, wide128}
 
 -- A type's bits, whether it is signed, and its largest value.
@@ -16,9 +16,12 @@ abbrev pub greatest_of : ℕ → Bool → ℕ
 greatest_of bits true = 2 ^ (bits - 1) - 1
 greatest_of bits false = 2 ^ bits - 1
 
+abbrev pub is_size : ℕ → Bool
+is_size bits = bits == 8 || bits == 16 || bits == 32 || bits == 64 || bits == 128
+
 -- One of the five sizes, with its largest value.
 pub record IsSized (int : IntType) : Type 0 where
-  pub bits : (int.bits ≡ 8) ⊎ ((int.bits ≡ 16) ⊎ ((int.bits ≡ 32) ⊎ ((int.bits ≡ 64) ⊎ (int.bits ≡ 128))))
+  pub bits : is_size int.bits ≡ true
   pub greatest : int.greatest ≡ greatest_of int.bits int.signed
 
 -- The fields of `int` are these constants of a type.

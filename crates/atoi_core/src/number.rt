@@ -1,6 +1,5 @@
 //! What a parse needs to know of an integer type.
 ghost use Rattle.std.specs.Prelude.{◌≡◌, ◌+◌, ◌^◌, ◌<◌, ◌≤◌, ◌<ℤ◌, ◌↔◌, ℕ, ℤ, pos, Bool, true, false, IsTrue, refl};
-ghost use Rattle.std.proofs.Common.{inl, inr};
 ghost use Rattle.atoi_core.specs.IntType.{IntType, IsSized, IsTypeOf, bound_of, limit_of, u8_type, i8_type, u16_type, i16_type, u32_type, i32_type, u64_type, i64_type, u128_type, i128_type, usize_type, isize_type};
 ghost use Rattle.atoi_core.specs.Magnitude.{HasDigits};
 ghost use Rattle.atoi_core.specs.Sign.{with_sign};
@@ -121,7 +120,7 @@ impl Number for u8 {
 
     ghost type_is = { record { bits_are = refl; sign_is = refl; greatest_is = refl } };
 
-    ghost sized = { record { bits = inl refl; greatest = refl } };
+    ghost sized = { record { bits = refl; greatest = refl } };
 }
 
 impl Number for i8 {
@@ -151,7 +150,7 @@ impl Number for i8 {
 
     ghost type_is = { record { bits_are = refl; sign_is = refl; greatest_is = refl } };
 
-    ghost sized = { record { bits = inl refl; greatest = refl } };
+    ghost sized = { record { bits = refl; greatest = refl } };
 }
 
 impl Signed for i8 {
@@ -195,7 +194,7 @@ impl Number for u16 {
 
     ghost type_is = { record { bits_are = refl; sign_is = refl; greatest_is = refl } };
 
-    ghost sized = { record { bits = inr (inl refl); greatest = refl } };
+    ghost sized = { record { bits = refl; greatest = refl } };
 }
 
 impl Number for i16 {
@@ -225,7 +224,7 @@ impl Number for i16 {
 
     ghost type_is = { record { bits_are = refl; sign_is = refl; greatest_is = refl } };
 
-    ghost sized = { record { bits = inr (inl refl); greatest = refl } };
+    ghost sized = { record { bits = refl; greatest = refl } };
 }
 
 impl Signed for i16 {
@@ -269,7 +268,7 @@ impl Number for u32 {
 
     ghost type_is = { record { bits_are = refl; sign_is = refl; greatest_is = refl } };
 
-    ghost sized = { record { bits = inr (inr (inl refl)); greatest = refl } };
+    ghost sized = { record { bits = refl; greatest = refl } };
 }
 
 impl Number for i32 {
@@ -299,7 +298,7 @@ impl Number for i32 {
 
     ghost type_is = { record { bits_are = refl; sign_is = refl; greatest_is = refl } };
 
-    ghost sized = { record { bits = inr (inr (inl refl)); greatest = refl } };
+    ghost sized = { record { bits = refl; greatest = refl } };
 }
 
 impl Signed for i32 {
@@ -343,7 +342,7 @@ impl Number for u64 {
 
     ghost type_is = { record { bits_are = refl; sign_is = refl; greatest_is = refl } };
 
-    ghost sized = { record { bits = inr (inr (inr (inl refl))); greatest = refl } };
+    ghost sized = { record { bits = refl; greatest = refl } };
 }
 
 impl Number for i64 {
@@ -373,7 +372,7 @@ impl Number for i64 {
 
     ghost type_is = { record { bits_are = refl; sign_is = refl; greatest_is = refl } };
 
-    ghost sized = { record { bits = inr (inr (inr (inl refl))); greatest = refl } };
+    ghost sized = { record { bits = refl; greatest = refl } };
 }
 
 impl Signed for i64 {
@@ -417,7 +416,7 @@ impl Number for u128 {
 
     ghost type_is = { record { bits_are = refl; sign_is = refl; greatest_is = refl } };
 
-    ghost sized = { record { bits = inr (inr (inr (inr refl))); greatest = refl } };
+    ghost sized = { record { bits = refl; greatest = refl } };
 }
 
 impl Number for i128 {
@@ -447,7 +446,7 @@ impl Number for i128 {
 
     ghost type_is = { record { bits_are = refl; sign_is = refl; greatest_is = refl } };
 
-    ghost sized = { record { bits = inr (inr (inr (inr refl))); greatest = refl } };
+    ghost sized = { record { bits = refl; greatest = refl } };
 }
 
 impl Signed for i128 {
@@ -496,7 +495,7 @@ impl Number for usize {
 
     ghost type_is = { record { bits_are = refl; sign_is = refl; greatest_is = refl } };
 
-    ghost sized = { record { bits = inr (inr (inr (inl refl))); greatest = refl } };
+    ghost sized = { record { bits = refl; greatest = refl } };
 }
 
 impl Number for isize {
@@ -526,7 +525,7 @@ impl Number for isize {
 
     ghost type_is = { record { bits_are = refl; sign_is = refl; greatest_is = refl } };
 
-    ghost sized = { record { bits = inr (inr (inr (inl refl))); greatest = refl } };
+    ghost sized = { record { bits = refl; greatest = refl } };
 }
 
 impl Signed for isize {

@@ -1,6 +1,5 @@
 //! A type of our own that the parsers can return.
 ghost use Rattle.std.specs.Prelude.{true, refl};
-ghost use Rattle.std.proofs.Common.{inl, inr};
 ghost use Rattle.atoi_core.specs.IntType.{i64_type};
 
 use atoi_core::{Number, Signed};
@@ -37,7 +36,7 @@ impl Number for Cents {
 
     ghost type_is = { record { bits_are = refl; sign_is = refl; greatest_is = refl } };
 
-    ghost sized = { record { bits = inr (inr (inr (inl refl))); greatest = refl } };
+    ghost sized = { record { bits = refl; greatest = refl } };
 }
 
 impl Signed for Cents {

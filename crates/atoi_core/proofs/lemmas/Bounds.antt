@@ -2,10 +2,11 @@
 use Rattle.std.proofs.Common.{◌≡◌, ◌⊎◌, ℕ, ◌+◌, ◌-◌, ◌^◌, ◌<◌, ◌≤◌, Bool, true, false, cond, eqb, List, Option, Some, None, refl, arith, inl, inr, lt_of_le_of_lt, le-ltb, ltb-false, lit<}
 use Rattle.std.proofs.Math.Nat.{pow-le-pow_right}
 use Rattle.std.proofs.lemmas.Bool.{cases_lt, lt-leb}
+use Rattle.std.proofs.lemmas.Bool.Decides.{nat_tests}
 use Rattle.atoi_core.specs.Digit.{Table}
 use Rattle.atoi_core.specs.Run.{run_len, run, zeros, value}
 use Rattle.atoi_core.specs.Magnitude.{Class, narrow, wide64, wide128, whole, prefix, is_above}
-use Rattle.atoi_core.specs.IntType.{IntType, IsSized, greatest_of, class_of, bound_of, limit_of}
+use Rattle.atoi_core.specs.IntType.{IntType, IsSized, is_size, greatest_of, class_of, bound_of, limit_of}
 use Rattle.atoi_core.specs.Laws.{HasLimitOfWhole}
 use Rattle.atoi_core.proofs.lemmas.Runs.{value-ge}
 use Rattle.atoi_core.proofs.lemmas.Refusals.{limit_at, significant_len}
@@ -57,10 +58,14 @@ bound-64 true true = omega arith
 bound-64 false true = omega arith
 bound-64 signed minus = omega arith
 
+sizes : (bits : ℕ) → is_size bits ≡ true
+    → (bits ≡ 8) ⊎ ((bits ≡ 16) ⊎ ((bits ≡ 32) ⊎ ((bits ≡ 64) ⊎ (bits ≡ 128))))
+sizes bits size = grind (arith, nat_tests)
+
 pub bound-limit : (int : IntType) → IsSized int → (minus : Bool)
     → (class_of int ≡ narrow) ⊎ (bound_of int minus < 10 ^ limit_of int)
 bound-limit int sized minus =
-    elim sized.bits [
+    elim (sizes int.bits sized.bits) [
       | inl e ↦ inl (rw e refl)
       | inr (inl e) ↦ inl (rw e refl)
       | inr (inr (inl e)) ↦ inl (rw e refl)
@@ -71,7 +76,7 @@ bound-limit int sized minus =
 pub bound_below-64 : (int : IntType) → IsSized int → (minus : Bool) → bound_of int minus < 10 ^ 64
 bound_below-64 int sized minus =
     let power : (bits : ℕ) → bits ≤ 128 → 2 ^ bits ≤ 2 ^ 128 = λ bits le. pow-le-pow_right (lit< tt) le in
-    let most : int.bits ≤ 128 = omega (arith, sized.bits) in
+    let most : int.bits ≤ 128 = omega (arith, sizes int.bits sized.bits) in
     rw sized.greatest
     (magnitude_below 64 int.bits int.signed minus (omega (arith, power (int.bits - 1) (omega arith))) (omega (arith, power int.bits most)))
 
