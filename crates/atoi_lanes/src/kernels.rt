@@ -62,6 +62,7 @@ pub fn zeroes_lanes(v: u8x16) -> u32
 /// Returns the number that the first `len` lanes spell. They are digits; the lanes after them may
 /// hold any bytes.
 #[inline(always)]
+#[tactic(auto, using(crate::proofs::lemmas::DigitLanes::moved_values))]
 pub fn sum_lanes(v: u8x16, len: u32) -> u64
     requires within { len ≤ 16 }
     requires digits { len ≤ run_len decimal_table v }
@@ -73,6 +74,7 @@ pub fn sum_lanes(v: u8x16, len: u32) -> u64
 }
 
 // Returns the 16 lanes from place `p` of 16 lanes of 0, those of `v`, and 16 more lanes of 0.
+#[tactic(auto, using(crate::proofs::lemmas::Shuffles::shuffled, crate::proofs::lemmas::Shuffles::shuffle_ok))]
 pub(crate) fn shuffle(v: u8x16, p: usize) -> u8x16
     requires { p ≤ 32 }
     ensures { result ≡ take 16 (drop p (padded v)) }
@@ -110,6 +112,7 @@ fn half(word: u64) -> u8x16
     u64x2::from_array([word, 0]).to_le_bytes()
 }
 
+#[tactic(auto, using(crate::proofs::lemmas::JoinedDigits::spelled))]
 fn number_in_half(digits: u8x16) -> u64
     requires { Each1 (λ digit. digit < 10) digits }
     ensures { result ≡ value itself (take 8 digits) }
@@ -118,6 +121,7 @@ fn number_in_half(digits: u8x16) -> u64
     number
 }
 
+#[tactic(auto, using(crate::proofs::lemmas::JoinedDigits::spelled))]
 fn number_in_lanes(digits: u8x16) -> u64
     requires { Each1 (λ digit. digit < 10) digits }
     ensures { result ≡ value itself digits }
@@ -127,6 +131,7 @@ fn number_in_lanes(digits: u8x16) -> u64
 }
 
 // Joins sixteen digit values to pairs, these to fours, and these to two numbers of eight digits.
+#[tactic(auto, using(crate::proofs::lemmas::JoinedDigits::all_levels))]
 fn eights(digits: u8x16) -> u64x2
     requires { Each1 (λ digit. digit < 10) digits }
     ensures { result ≡ paired 10000 (paired 100 (paired 10 digits)) }

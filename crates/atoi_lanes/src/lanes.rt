@@ -34,6 +34,7 @@ impl Engine for Lanes {
 
     /// Returns the window of 16 bytes.
     #[inline(always)]
+    #[tactic(auto, using(crate::proofs::lemmas::LaneWindows::window_of_lanes))]
     fn window(s: &[u8], steps: &mut Steps) -> Window {
         steps.tick();
         if s.len() < 8 {

@@ -46,8 +46,8 @@ lanes_show size s =
     ap₂ (λ n z. window n z (run decimal_table (padded_start 16 s))) len leading
     ∙ ap (window (run_len decimal_table (take 16 s)) (zeros decimal_table (take 16 s))) front
 
-pub window-of_lanes : (s : List ℕ) → lane_window 16 (padded_start 16 s) ≡ window_of decimal_table 16 s
-window-of_lanes s = lanes_show 16 s
+pub window_of_lanes : (s : List ℕ) → lane_window 16 (padded_start 16 s) ≡ window_of decimal_table 16 s
+window_of_lanes s = lanes_show 16 s
 
 pub window-of_half_the_lanes : (s : List ℕ) → lane_window 8 (padded_start 16 (take 8 s)) ≡ window_of decimal_table 8 s
 window-of_half_the_lanes s = lanes_show 8 (take 8 s) ∙ ap (lane_window 8) (take_all 16 (take 8 s) (omega (arith, length-take 8 s)))
