@@ -202,6 +202,7 @@ fn finish_128<'a>(
 // Returns the answer of `prefix_64_lanes` from the last window. With `skip`, the zeros that this
 // window begins with are skipped too.
 #[inline(always)]
+#[tactic(auto, using(crate::proofs::lemmas::WideAnswers::decided_64))]
 fn answer_from_window_64<'a>(
     bound: u64,
     limit: u32,
@@ -216,12 +217,6 @@ fn answer_from_window_64<'a>(
 {
     let leading = if skip { window.zeroes } else { 0 };
     let skipped = at + leading as usize;
-    answer_64(
-        bound,
-        limit,
-        skipped,
-        window.len - leading,
-        window.number,
-        s,
-    )
+    let significant = window.len - leading;
+    answer_64(bound, limit, skipped, significant, window.number, s)
 }
