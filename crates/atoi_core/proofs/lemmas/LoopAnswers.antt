@@ -8,7 +8,7 @@ use Rattle.atoi_core.specs.Run.{zeros, run_len, run, value}
 use Rattle.atoi_core.specs.Magnitude.{narrow_decision}
 use Rattle.atoi_core.specs.Refusal.{empty, Refusal, invalid64, invalid128, size, overflow}
 use Rattle.atoi_core.specs.Magnitude.{Class, wide64, wide128, Extent, prefix, rule_of, HasDigits, prefix_magnitude, narrow, whole, Rule, invalid, unless_refused, whole_magnitude, skipped_zeros, is_above}
-use Rattle.atoi_core.specs.Reading.{IsSkipped, cap, answer_by_digits}
+use Rattle.atoi_core.specs.Reading.{cap, answer_by_digits}
 use Rattle.atoi_core.specs.declared.window.Window.{Window}
 use Rattle.atoi_core.specs.Window.{window_of}
 use Rattle.atoi_core.proofs.lemmas.Refusals.{refusal-is, refused_empty, is_empty, is_long, is_over, too_long, over, limit_at, significant_len, IsAccepted, refusal-none, refused_size, refused_overflow}
@@ -33,10 +33,6 @@ wide_64 = record { rule = λ extent skip limit digits skipped. refl }
 pub wide_128 : IsWide wide128
 wide_128 = record { rule = λ extent skip limit digits skipped. refl }
 
--- All bytes before the last window are skipped zeros.
-is_skipped : {table : Table} {skip : Bool} {s : List ℕ} {at before now : ℕ} {w : Window} → Skipped table skip s at before now w → IsSkipped table skip s at
-is_skipped after_skip = record { zeros_only = omega (arith, after_skip.zeros_are); asked = after_skip.off }
-
 -- A full last window begins with no skipped zero.
 none_left : {table : Table} {skip : Bool} {s : List ℕ} {at before now : ℕ} {w : Window} → Skipped table skip s at before now w → 16 ≤ w.len
     → skip ≡ true → zeros table (take 16 (drop at s)) ≡ 0
@@ -55,7 +51,7 @@ pub answers_short : {table : Table} (class : Class) (bound limit : ℕ) {skip : 
     (if len == 0 then Err empty else Ok (number, len)) ≡ prefix_magnitude table class bound limit skip s
 answers_short class bound limit less after_skip few long digits number_is len_is =
     let seen = after_skip.window in
-    rw (number_is, len_is) (sym (short_below class bound limit less digits (is_skipped after_skip) seen.reading few (omega arith) seen.below).1)
+    rw (number_is, len_is) (sym (short_below class bound limit less digits after_skip.skipped seen.reading few (omega arith) seen.below).1)
 
 -- So do a full window and one that is not: `Ok` for 128 bits.
 pub answers_two : {table : Table} → IsBelowTen table → (bound : ℕ) {skip : Bool} {s : List ℕ} {at before now : ℕ} {first second : Window} {number len : ℕ} →
@@ -64,7 +60,7 @@ pub answers_two : {table : Table} → IsBelowTen table → (bound : ℕ) {skip :
     Ok (number, len) ≡ prefix_magnitude table wide128 bound 39 skip s
 answers_two ten bound {at = at} {second = second} after_skip full following few digits number_is len_is =
     let both = Shows-join after_skip.window full following in
-    let decides = short ten wide128 bound 39 (lit< tt) digits (is_skipped after_skip) both (omega arith) (omega arith) in
+    let decides = short ten wide128 bound 39 (lit< tt) digits after_skip.skipped both (omega arith) (omega arith) in
     rw (number_is, len_is) (sym (decides.1 ∙ rw (ne_eqb (at + (16 + second.len)) 0 (omega arith)) refl))
 
 -- For 64 bits, a full window and 8 bytes decide.
@@ -77,7 +73,7 @@ answers_64 {table} bound limit {skip} {s} {at} less after_skip full following =
     let none : skip ≡ true → zeros_both 16 (zeros table (take 16 (drop at s))) (zeros table (take 8 (drop 16 (drop at s)))) ≡ 0 =
     λ on. rw (none_left after_skip full on) refl in (
       omega (arith, after_skip.within, within both, length-drop at s),
-      sym (all_decide wide64 bound limit less (is_skipped after_skip) both none),
+      sym (all_decide wide64 bound limit less after_skip.skipped both none),
     )
 
 -- For 128 bits, two full windows and 8 bytes decide.
@@ -94,7 +90,7 @@ answers_128 {table} ten bound {skip} {s} {at} after_skip full next more followin
     λ on. rw (none_left after_skip full on) refl in (
       below all ten,
       omega (arith, after_skip.within, within all, length-drop at s),
-      sym (all_decide wide128 bound 39 (lit< tt) (is_skipped after_skip) all none),
+      sym (all_decide wide128 bound 39 (lit< tt) after_skip.skipped all none),
     )
 
 -- ---- From prefix to whole slice
@@ -161,7 +157,7 @@ whole_invalid128 table bound limit skip s = whole_invalid table wide128 bound li
 -- The slice of an overflow leaves out the zeros before the last window.
 pub dropped_is : {table : Table} (skip : Bool) (limit : ℕ) {s : List ℕ} {at before now : ℕ} {w : Window} →
     Skipped table skip s at before now w → (rule_of narrow prefix skip limit (run_len table s) (skipped_zeros table skip s)).dropped ≡ at
-dropped_is false limit after_skip = sym (after_skip.off refl)
+dropped_is false limit after_skip = sym (after_skip.skipped.asked refl)
 dropped_is {table} true limit {s} after_skip =
     elim (cases_lt (zeros table s / 16) (run_len table s / 16)) [
       | inl h ↦
@@ -194,7 +190,7 @@ not_too_long table false limit s few = le-ltb 16 (significant_len table false s)
 -- If its number fits in 32 bits, the last window ends with the run.
 ends : {table : Table} (skip : Bool) {s : List ℕ} {at before now : ℕ} {w : Window} →
     Skipped table skip s at before now w → (skip ≡ false → run_len table s ≤ 16) → w.number ≤ 4294967295 → run_len table (drop at s) ≡ w.len
-ends false after_skip few small = omega (arith, few refl, after_skip.off refl, after_skip.run_is, after_skip.window.len_is)
+ends false after_skip few small = omega (arith, few refl, after_skip.skipped.asked refl, after_skip.run_is, after_skip.window.len_is)
 ends true {w = w} after_skip few small =
     elim (cases_lt w.len 16) [
       | inl h ↦ omega (arith, after_skip.window.len_is)

@@ -6,7 +6,7 @@ use Rattle.std.proofs.lemmas.List.Sums.{prefix_len-le-length}
 use Rattle.atoi_core.specs.Digit.{Table, IsBelowTen, is_digit, is_zero}
 use Rattle.atoi_core.specs.Run.{run_len, run, zeros, value}
 use Rattle.atoi_core.specs.Magnitude.{narrow}
-use Rattle.atoi_core.specs.Reading.{Reading}
+use Rattle.atoi_core.specs.Reading.{Reading, IsSkipped}
 use Rattle.atoi_core.proofs.lemmas.Runs.{prefix_len-take, prefix_len-drop, zeros-le, value-drop_zeros}
 use Rattle.atoi_core.specs.Window.{window_of}
 use Rattle.atoi_core.specs.declared.window.Window.{Window}
@@ -92,12 +92,6 @@ module _ {table : Table} (ten : IsBelowTen table) where
 
 -- ---- The loop that skips zeros
 
--- Offset `at`, after skipped zeros only.
-pub record IsAfterZeros (table : Table) (skip : Bool) (s : List ℕ) (at : ℕ) : Type 0 where
-  pub bounded : at ≤ zeros table s
-  pub within : at ≤ length s
-  pub off : skip ≡ false → at ≡ 0
-
 -- One load for 16 skipped zeros each, and one for fewer at the end.
 pub record LoadsZeros (table : Table) (s : List ℕ) (at before now : ℕ) : Type 0 where
   pub most : 16 * now ≤ 16 * before + at + 15
@@ -106,20 +100,22 @@ pub record LoadsZeros (table : Table) (s : List ℕ) (at before now : ℕ) : Typ
 
 -- Before a load at offset `at`.
 pub record Skipping (table : Table) (skip : Bool) (s : List ℕ) (at before now : ℕ) : Type 0 where
-  pub place : IsAfterZeros table skip s at
+  pub skipped : IsSkipped table skip s at
+  pub within : at ≤ length s
   pub loads : LoadsZeros table s at before now
 
 pub Skipping-none : (table : Table) (skip : Bool) (s : List ℕ) (n : ℕ) → Skipping table skip s 0 n n
 Skipping-none table skip s n = record {
-  place = record { bounded = omega arith; within = omega arith; off = λ _. refl };
+  skipped = record { zeros_only = omega arith; asked = λ _. refl };
+  within = omega arith;
   loads = record { most = omega arith; least = omega arith; offset_is = inl (omega arith) };
 }
 
 -- After the loop: the last window is at `at`, and if full begins with a significant digit.
 pub record Skipped (table : Table) (skip : Bool) (s : List ℕ) (at before now : ℕ) (w : Window) : Type 0 where
   pub window : Shows table 16 (drop at s) w
+  pub skipped : IsSkipped table skip s at
   pub within : at ≤ length s
-  pub off : skip ≡ false → at ≡ 0
   pub run_is : run_len table s ≡ at + run_len table (drop at s)
   pub zeros_are : zeros table s ≡ at + zeros table (drop at s)
   pub value_is : value table (run table s) ≡ value table (run table (drop at s))
@@ -169,31 +165,25 @@ zeros_reported table ten s at w bounded e some =
     (omega arith, omega (arith, seen.full some, seen.len_is))
 
 module _ {table : Table} (ten : IsBelowTen table) where
-  -- Any of the zeros that a window reports may be skipped ..
-  pub Skipping-place : {skip : Bool} {s : List ℕ} {at after : ℕ} {w : Window} → IsAfterZeros table skip s at →
-      w ≡ window_of table 16 (take (length s - at) (drop at s)) → skip ≡ true → 0 < w.zeroes → after ≤ at + w.zeroes → IsAfterZeros table skip s after
-  Skipping-place {s = s} {at} {w = w} place e on some dropped =
-      let reported = zeros_reported table ten s at w place.bounded e some in
+  -- The zeros that a window reports are skipped by one load.
+  pub Skipping-next : {skip : Bool} {s : List ℕ} {at after before now next : ℕ} {w : Window} → Skipping table skip s at before now →
+      w ≡ window_of table 16 (take (length s - at) (drop at s)) → next ≡ now + 1 → skip ≡ true → 0 < w.zeroes → after ≡ at + w.zeroes →
+      Skipping table skip s after before next
+  Skipping-next {s = s} {at} {after} {before} {now} {next} {w} so_far e one on some turn =
+      let zeros_only = so_far.skipped.zeros_only in
+      let reported = zeros_reported table ten s at w zeros_only e some in
+      let exact : 16 * now ≡ 16 * before + at = elim so_far.loads.offset_is [ inl h ↦ h | inr h ↦ absurd (omega (arith, h.0, reported.0)) ] in
       record {
-        bounded = omega (arith, reported.0, place.bounded);
-        within = omega (arith, reported.0, place.bounded, zeros-le table s, prefix_len-le-length (is_digit table) s);
-        off = λ h. absurd (false≢true (sym h ∙ on));
-      }
-
-  -- .. and all of them, for the bound on loads.
-  pub Skipping-loads : {s : List ℕ} {at after before now next : ℕ} {w : Window} → at ≤ zeros table s → LoadsZeros table s at before now →
-      w ≡ window_of table 16 (take (length s - at) (drop at s)) → next ≡ now + 1 → 0 < w.zeroes → after ≡ at + w.zeroes →
-      LoadsZeros table s after before next
-  Skipping-loads {s} {at} {after} {before} {now} {next} {w} bounded loads e one some dropped =
-      let reported = zeros_reported table ten s at w bounded e some in
-      let exact : 16 * now ≡ 16 * before + at = elim loads.offset_is [ inl h ↦ h | inr h ↦ absurd (omega (arith, h.0, reported.0)) ] in
-      record {
-        most = omega (arith, reported.0);
-        least = omega (arith, reported.0);
-        offset_is = elim (cases_lt w.zeroes 16) [
-          | inl h ↦ inr (omega (arith, reported.0), omega (arith, reported))
-          | inr h ↦ inl (omega (arith, reported.0))
-        ];
+        skipped = record { zeros_only = omega (arith, reported.0); asked = λ h. absurd (false≢true (sym h ∙ on)) };
+        within = omega (arith, reported.0, zeros-le table s, prefix_len-le-length (is_digit table) s);
+        loads = record {
+          most = omega (arith, reported.0);
+          least = omega (arith, reported.0);
+          offset_is = elim (cases_lt w.zeroes 16) [
+            | inl h ↦ inr (omega (arith, reported.0), omega (arith, reported))
+            | inr h ↦ inl (omega (arith, reported.0))
+          ];
+        };
       }
 
   pub Skipped-end : {skip : Bool} {s : List ℕ} {at before now next : ℕ} {w : Window} →
@@ -203,24 +193,24 @@ module _ {table : Table} (ten : IsBelowTen table) where
       let last : skip ≡ true → w.zeroes ≡ 0 =
       λ h. elim stops [ inl k ↦ absurd (false≢true (sym k ∙ h)) | inr k ↦ k.1 ] in
       let seen : Shows table 16 (drop at s) w = shows_rest ten 16 s at e in
-      let zeros_are : zeros table s ≡ at + zeros table (drop at s) = prefix_len-drop (is_zero table) at s after_skip.place.bounded in
+      let zeros_are : zeros table s ≡ at + zeros table (drop at s) = prefix_len-drop (is_zero table) at s after_skip.skipped.zeros_only in
       let run_is : run_len table s ≡ at + run_len table (drop at s) =
-      prefix_len-drop (is_digit table) at s (omega (arith, after_skip.place.bounded, zeros-le table s)) in
+      prefix_len-drop (is_digit table) at s (omega (arith, after_skip.skipped.zeros_only, zeros-le table s)) in
       let zero_most : zeros table (drop at s) ≤ run_len table (drop at s) = zeros-le table (drop at s) in
       let full : skip ≡ true → w.len ≡ 16 → at ≡ zeros table s = λ h k. omega (arith, last h, seen.zeroes_of k) in
       let short : w.len < 16 → zeros table (drop at s) < 16 = λ h. omega (arith, seen.len_is) in
       record {
         window = seen;
-        within = after_skip.place.within;
-        off = after_skip.place.off;
+        skipped = after_skip.skipped;
+        within = after_skip.within;
         run_is = run_is;
         zeros_are = zeros_are;
-        value_is = value-drop_zeros table at s after_skip.place.bounded;
+        value_is = value-drop_zeros table at s after_skip.skipped.zeros_only;
         full = full;
         last = last;
         more = omega (arith, after_skip.loads.least);
-        most = omega (arith, after_skip.loads.most, after_skip.place.bounded);
-        unskipped = λ h. omega (arith, after_skip.place.off h, after_skip.loads.most);
+        most = omega (arith, after_skip.loads.most, after_skip.skipped.zeros_only);
+        unskipped = λ h. omega (arith, after_skip.skipped.asked h, after_skip.loads.most);
         least = λ h. elim (cases_lt w.len 16) [
           | inl k ↦ omega (arith, short k, after_skip.loads.least)
           | inr k ↦ omega (arith, full h (omega (arith, seen.len_is)), after_skip.loads.least)
@@ -241,11 +231,8 @@ module _ {table : Table} (ten : IsBelowTen table) where
   Skipped-after_zeros s {at} before {now} {w} offset e none loads =
       let skipping : Skipping table true s at before now =
       record {
-        place = record {
-          bounded = grind (arith, nat_tests);
-          within = grind (arith, nat_tests, zeros-le table s, prefix_len-le-length (is_digit table) s);
-          off = λ h. absurd (cc h);
-        };
+        skipped = record { zeros_only = grind (arith, nat_tests); asked = λ h. absurd (cc h) };
+        within = grind (arith, nat_tests, zeros-le table s, prefix_len-le-length (is_digit table) s);
         loads = record { most = omega arith; least = omega arith; offset_is = grind (arith, nat_tests) };
       } in
       Skipped-end skipping (e ∙ ap (window_of table 16) (sym (take_rest s at))) refl (inr (refl, none))
@@ -254,12 +241,8 @@ module _ {table : Table} (ten : IsBelowTen table) where
       Skipping table true s reported n (n + 1)
   Skipping-first_window s n reported e some =
       let w : Window = window_of table 16 s in
-      let start : Skipping table true s 0 n n = Skipping-none table true s n in
       let read : w ≡ window_of table 16 (take (length s - 0) (drop 0 s)) = ap (window_of table 16) (sym (take_rest s 0)) in
-      record {
-        place = Skipping-place start.place read refl (omega arith) (omega arith);
-        loads = Skipping-loads start.place.bounded start.loads read refl (omega arith) (omega arith);
-      }
+      Skipping-next (Skipping-none table true s n) read refl refl (omega arith) (omega arith)
 
   pub Skipped-at_once : (skip : Bool) (s : List ℕ) {before next : ℕ} {w : Window} →
       w ≡ window_of table 16 s → next ≡ before + 1 → (skip ≡ false) ⊎ ((skip ≡ true) × (w.zeroes ≡ 0)) → Skipped table skip s 0 before next w

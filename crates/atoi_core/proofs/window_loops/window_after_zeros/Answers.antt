@@ -1,6 +1,6 @@
 -- The loop goes on after the zeros of the first window.
 use Rattle.std.proofs.Common.{◌+◌, true, inr, refl, sym, arith}
-use Rattle.atoi_core.proofs.lemmas.Windows.{Skipping-first_window, Skipping-place, Skipping-loads, Skipped-end}
+use Rattle.atoi_core.proofs.lemmas.Windows.{Skipping-first_window, Skipping-next, Skipped-end}
 use Rattle.atoi_core.proofs.lemmas.LoopAnswers.{dropped_is}
 use Rattle.atoi_core.proofs.window_loops.window_after_zeros.Goals as goal
 
@@ -9,14 +9,10 @@ loop-window-init g c =
     (Skipping-first_window g.met.E.Engine.below_ten c.args.s.now _ _ c.requires.first_window c.requires.some, c.requires.some)
 
 pub loop-window-preserved : goal.loop-window-preserved
-loop-window-preserved g c =
-    let before = c.loop-window.invariant.0 in (
-      record {
-        place = Skipping-place g.met.E.Engine.below_ten before.place c.window-window.ensures.window refl (omega arith) (omega arith);
-        loads = Skipping-loads g.met.E.Engine.below_ten before.place.bounded before.loads c.window-window.ensures.window (omega arith) (omega arith) refl;
-      },
-      omega (arith, c.loop-window.invariant.1),
-    )
+loop-window-preserved g c = (
+  Skipping-next g.met.E.Engine.below_ten c.loop-window.invariant.0 c.window-window.ensures.window (omega arith) refl (omega arith) refl,
+  omega (arith, c.loop-window.invariant.1),
+)
 
 pub returns-then-window-eq0-clause-offset : goal.returns-then-window-eq0-clause-offset
 returns-then-window-eq0-clause-offset g c =

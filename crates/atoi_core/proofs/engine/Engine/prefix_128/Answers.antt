@@ -3,7 +3,7 @@ use Rattle.std.proofs.Common.{◌∙◌, refl, arith, lit<, drop}
 use Rattle.std.proofs.lemmas.List.{take_rest}
 use Rattle.std.proofs.lemmas.List.Sums.{prefix_len-le-length}
 use Rattle.atoi_core.specs.Digit.{is_digit}
-use Rattle.atoi_core.proofs.lemmas.Windows.{Shows, Skipping-none, Skipping-place, Skipping-loads, Skipped, Skipped-end, Skipped-loads, shows_following, two_full}
+use Rattle.atoi_core.proofs.lemmas.Windows.{Shows, Skipping-none, Skipping-next, Skipped, Skipped-end, Skipped-loads, shows_following, two_full}
 use Rattle.atoi_core.proofs.lemmas.LoopAnswers.{answers_short, answers_two, answers_128}
 use Rattle.atoi_core.proofs.engine.Engine.prefix_128.Goals as goal
 use Rattle.atoi_core.proofs.engine.Engine.prefix_128.Goals.{Joined-then-not-skip, After-window-second, After-window_8-third}
@@ -12,16 +12,12 @@ pub loop-window-init : goal.loop-window-init
 loop-window-init g c = Skipping-none _ c.args.skip c.args.s.now c.args.steps.now
 
 pub slice_bounds-window-count : goal.slice_bounds-window-count
-slice_bounds-window-count g c = c.loop-window.invariant.place.within
+slice_bounds-window-count g c = c.loop-window.invariant.within
 
 pub loop-window-preserved : goal.loop-window-preserved
 loop-window-preserved g c =
-    let before = c.loop-window.invariant in
-    record {
-      place = Skipping-place g.met.Self.Engine.below_ten before.place c.window-window.ensures.window c.if-not-skip.false (omega arith) (omega arith);
-      loads = Skipping-loads g.met.Self.Engine.below_ten before.place.bounded before.loads
-          c.window-window.ensures.window c.window-window.ensures.one_step (omega arith) refl;
-    }
+    Skipping-next g.met.Self.Engine.below_ten c.loop-window.invariant c.window-window.ensures.window c.window-window.ensures.one_step
+    c.if-not-skip.false (omega arith) refl
 
 -- What holds after the loop.
 ended : (g : _) (c : Joined-then-not-skip g)

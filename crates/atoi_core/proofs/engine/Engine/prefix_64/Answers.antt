@@ -1,6 +1,6 @@
 -- After the loop `Skipped` holds, and gives answers and loads.
 use Rattle.std.proofs.Common.{◌∙◌, refl, arith, drop}
-use Rattle.atoi_core.proofs.lemmas.Windows.{Shows, Skipping-none, Skipping-place, Skipping-loads, Skipped, Skipped-end, Skipped-loads, shows_following}
+use Rattle.atoi_core.proofs.lemmas.Windows.{Shows, Skipping-none, Skipping-next, Skipped, Skipped-end, Skipped-loads, shows_following}
 use Rattle.atoi_core.proofs.lemmas.LoopAnswers.{answers_short, answers_64}
 use Rattle.atoi_core.proofs.engine.Engine.prefix_64.Goals as goal
 use Rattle.atoi_core.proofs.engine.Engine.prefix_64.Goals.{Joined-then-not-skip, After-window_8-second}
@@ -9,16 +9,12 @@ pub loop-window-init : goal.loop-window-init
 loop-window-init g c = Skipping-none _ c.args.skip c.args.s.now c.args.steps.now
 
 pub slice_bounds-window-count : goal.slice_bounds-window-count
-slice_bounds-window-count g c = c.loop-window.invariant.place.within
+slice_bounds-window-count g c = c.loop-window.invariant.within
 
 pub loop-window-preserved : goal.loop-window-preserved
 loop-window-preserved g c =
-    let before = c.loop-window.invariant in
-    record {
-      place = Skipping-place g.met.Self.Engine.below_ten before.place c.window-window.ensures.window c.if-not-skip.false (omega arith) (omega arith);
-      loads = Skipping-loads g.met.Self.Engine.below_ten before.place.bounded before.loads
-          c.window-window.ensures.window c.window-window.ensures.one_step (omega arith) refl;
-    }
+    Skipping-next g.met.Self.Engine.below_ten c.loop-window.invariant c.window-window.ensures.window c.window-window.ensures.one_step
+    c.if-not-skip.false (omega arith) refl
 
 -- What holds after the loop.
 ended : (g : _) (c : Joined-then-not-skip g)
