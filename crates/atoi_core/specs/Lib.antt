@@ -9,7 +9,6 @@ pub mod Answer
 pub mod Text
 pub mod Laws
 pub mod Loads
-pub mod Window
 pub mod Reading
 pub mod Words
 pub mod Examples

@@ -1,9 +1,20 @@
--- What was read at the start of a slice, and the answer that it decides.
+-- What windows report about the start of a slice, and the answer that they decide.
 use Rattle.std.specs.Prelude.{◌≡◌, ℕ, ◌+◌, ◌-◌, ◌≤◌, min, Bool, true, false, ◌==◌, nat_lt, if◌then◌else◌, List, take, drop, Result, Ok, Err}
 use Rattle.atoi_core.specs.Digit.{Table}
 use Rattle.atoi_core.specs.Run.{run_len, run, zeros, value}
 use Rattle.atoi_core.specs.Refusal.{Refusal, empty, size, overflow}
 use Rattle.atoi_core.specs.Magnitude.{Class, prefix, rule_of}
+use Rattle.atoi_core.specs.declared.window.Window.{Window}
+
+-- A window: the run of the first `count` bytes, its value, and its zeros if it is full.
+abbrev pub window_of : Table → ℕ → List ℕ → Window
+window_of table count s =
+    let bytes = take count s in
+    record {
+      len = run_len table bytes;
+      zeroes = if run_len table bytes == count then zeros table bytes else 0;
+      number = value table (run table bytes);
+    }
 
 -- The first `count` bytes start with exactly `digits` digits, which spell `number`; `leading` of
 -- them are leading zeros.

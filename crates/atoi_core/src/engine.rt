@@ -4,7 +4,7 @@ ghost use Rattle.atoi_core.specs.Digit.{Table, IsBelowTen};
 ghost use Rattle.atoi_core.specs.Loads.{LoadsWithin, most_loads};
 ghost use Rattle.atoi_core.specs.Magnitude.{HasDigits, wide64, wide128, prefix_magnitude};
 ghost use Rattle.atoi_core.specs.Refusal.{answer_of};
-ghost use Rattle.atoi_core.specs.Window.{window_of};
+ghost use Rattle.atoi_core.specs.Reading.{window_of};
 
 use crate::error::AtoiSimdError;
 use crate::powers::append_digits;

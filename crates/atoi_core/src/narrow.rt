@@ -4,7 +4,7 @@ ghost use Rattle.atoi_core.specs.Loads.{LoadsWithin, most_loads};
 ghost use Rattle.atoi_core.specs.Magnitude.{narrow, whole_magnitude, prefix_magnitude, narrow_decision};
 ghost use Rattle.atoi_core.specs.Refusal.{answer_of, overflow};
 ghost use Rattle.atoi_core.specs.Run.{run_len};
-ghost use Rattle.atoi_core.specs.Window.{window_of};
+ghost use Rattle.atoi_core.specs.Reading.{window_of};
 
 use crate::engine::Engine;
 use crate::error::AtoiSimdError;

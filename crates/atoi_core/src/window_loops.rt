@@ -1,7 +1,7 @@
 //! Loops over an engine's windows: over leading zeros, and over digits.
 ghost use Rattle.std.specs.Prelude.{◌≡◌, ◌+◌, ◌*◌, ◌/◌, ◌<◌, ◌≤◌, nat_lt, if◌then◌else◌, length, drop};
 ghost use Rattle.atoi_core.specs.Run.{run_len, zeros};
-ghost use Rattle.atoi_core.specs.Window.{window_of};
+ghost use Rattle.atoi_core.specs.Reading.{window_of};
 
 use crate::engine::Engine;
 use crate::steps::Steps;

@@ -5,7 +5,7 @@ ghost use Rattle.atoi_core.specs.Loads.{LoadsWithin, most_loads};
 ghost use Rattle.atoi_core.specs.Magnitude.{HasDigits, wide64, prefix_magnitude};
 ghost use Rattle.atoi_core.specs.Refusal.{answer_of};
 ghost use Rattle.atoi_core.specs.Run.{run_len, zeros};
-ghost use Rattle.atoi_core.specs.Window.{window_of};
+ghost use Rattle.atoi_core.specs.Reading.{window_of};
 ghost use Rattle.atoi_core.specs.Words.{low_bytes, low_value, word_of};
 ghost use Rattle.std.proofs.Common.{arith};
 ghost use Rattle.std.proofs.lemmas.Bool.Decides.{nat_tests};

@@ -3,7 +3,7 @@ ghost use Rattle.std.specs.Prelude.{◌≡◌, ◌+◌};
 ghost use Rattle.std.proofs.Common.{arith};
 ghost use Rattle.std.proofs.lemmas.Bool.Decides.{nat_tests};
 ghost use Rattle.atoi_core.specs.Digit.{decimal_table};
-ghost use Rattle.atoi_core.specs.Window.{window_of};
+ghost use Rattle.atoi_core.specs.Reading.{window_of};
 ghost use Rattle.atoi_lanes.specs.Lanes.{lane_window};
 
 use crate::kernels::{len_lanes, load_lanes, read_short, sum_lanes, zeroes_lanes};

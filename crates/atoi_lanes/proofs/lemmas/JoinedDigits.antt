@@ -5,9 +5,8 @@ use Rattle.std.specs.Int.Bits.{bit_and}
 use Rattle.std.proofs.Math.Arith.{digits_lt}
 use Rattle.std.proofs.Math.Nat.{pow-zero, pow-suc, mul-le-mul_right, div-add-mod, div-lt_iff_lt-mul}
 use Rattle.std.proofs.lemmas.Nat.{div-mul-add, mod-mul-add, and_mask}
-use Rattle.std.proofs.lemmas.Simd.{Each1-weaker}
+use Rattle.std.proofs.lemmas.Simd.{Each1-weaker, pick_l_whole}
 use Rattle.atoi_core.specs.Run.{value}
-use Rattle.std.proofs.lemmas.Simd.{pick_l_whole}
 use Rattle.atoi_lanes.specs.Lanes.{itself, paired}
 use lib.Lanes.{Each1, number_l, digits_l, dots}
 

@@ -1,17 +1,15 @@
 -- The lanes of a slice, and the windows and readings that they show.
 use Rattle.std.proofs.Common.{◌≡◌, ℕ, ◌+◌, ◌^◌, ◌<◌, ◌==◌, Bool, List, [], ◌∷◌, ◌++◌, length, take, replicate, get_or, min, refl, sym, ap, ap₂, ◌∙◌, arith, if◌then◌else◌, ◌≤◌, drop}
-use Rattle.std.proofs.lemmas.List.{take_all, length-take, take-append-le, length-drop}
+use Rattle.std.proofs.lemmas.List.{take_all, length-take, take-append-le, length-drop, take-take}
 use Rattle.atoi_core.specs.Digit.{decimal_table, is_digit, is_zero}
-use Rattle.atoi_core.specs.Reading.{Reading}
+use Rattle.atoi_core.specs.Reading.{Reading, window_of}
 use Rattle.atoi_core.specs.Run.{run_len, run, zeros, value}
-use Rattle.atoi_core.specs.Window.{window_of}
 use Rattle.atoi_core.specs.Words.{word_of}
 use Rattle.atoi_core.specs.declared.window.Window.{Window}
 use Rattle.atoi_core.proofs.lemmas.LoadedWords.{bytes, bytes_above, digits-of_bytes, prefix_len-padded, word_start}
 use Rattle.atoi_lanes.specs.Lanes.{lane_window, padded_start}
 use lib.Lanes.{Each1, digits_l, number_l}
 use Rattle.std.specs.List.{prefix_len}
-use Rattle.std.proofs.lemmas.List.{take-take}
 use Rattle.std.proofs.lemmas.List.Sums.{prefix_len-le-length}
 
 -- The lanes of a word: its bytes, padded with zeros.

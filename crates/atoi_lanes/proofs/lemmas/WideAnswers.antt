@@ -3,11 +3,10 @@ use Rattle.std.proofs.Common.{◌≡◌, ℕ, ◌+◌, ◌<◌, Bool, true, fals
 use Rattle.std.proofs.lemmas.List.{drop-drop, length-drop, take_rest}
 use Rattle.atoi_core.specs.Digit.{decimal_table}
 use Rattle.atoi_core.specs.Loads.{LoadsWithin}
-use Rattle.atoi_core.specs.Reading.{Reading, significant_digits, answer_by_digits}
+use Rattle.atoi_core.specs.Reading.{Reading, significant_digits, answer_by_digits, window_of}
 use Rattle.atoi_core.proofs.lemmas.Runs.{decimal_below_ten}
 use Rattle.atoi_core.proofs.lemmas.Readings.{zeros_left, join_readings, within, below, decided, all_decide}
 use Rattle.atoi_core.specs.Run.{zeros}
-use Rattle.atoi_core.specs.Window.{window_of}
 use Rattle.atoi_core.specs.declared.window.Window.{Window}
 use Rattle.atoi_lanes.specs.Lanes.{ReadsAfterZeros}
 use Rattle.std.proofs.lemmas.Bool.{cases_lt, false≢true}

@@ -4,7 +4,7 @@ use Rattle.std.proofs.lemmas.List.{take_rest}
 use Rattle.std.proofs.lemmas.List.Sums.{prefix_len-le-length}
 use Rattle.atoi_core.specs.Digit.{Table, is_digit}
 use Rattle.atoi_core.specs.Run.{run_len}
-use Rattle.atoi_core.specs.Window.{window_of}
+use Rattle.atoi_core.specs.Reading.{window_of}
 use Rattle.atoi_core.specs.declared.window.Window.{Window}
 use Rattle.atoi_core.proofs.lemmas.Runs.{prefix_len-take, prefix_len-drop}
 use Rattle.atoi_core.proofs.window_loops.count_digits.Goals as goal
