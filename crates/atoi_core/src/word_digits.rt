@@ -9,6 +9,7 @@ ghost use Rattle.std.specs.Int.Bits.{bit_and};
 pub(crate) const ZEROS: u64 = 0x3030_3030_3030_3030;
 
 // The word of `8 - len` zeros.
+#[tactic(auto, using(crate::proofs::lemmas::WordWindows::zeros_shifted, crate::proofs::lemmas::WordWindows::zeros_left_out))]
 pub(crate) fn fill_of_zeros(len: usize) -> u64
     requires some { 0 < len }
     requires few { len ≤ 8 }
@@ -19,6 +20,7 @@ pub(crate) fn fill_of_zeros(len: usize) -> u64
 
 // `check_len_8` with fewer operations. A byte is no digit if adding 70 or subtracting 48 sets its top
 // bit. A carry or a borrow changes only bytes above the first that is no digit.
+#[tactic(auto, using(crate::proofs::lemmas::WordRuns::marks_of_8, crate::proofs::lemmas::WordRuns::none_marked))]
 pub(crate) fn digits_of(word: u64) -> u32
     ensures len { result ≡ run_len decimal_table (low_bytes 8 word) }
     ensures most { result ≤ 8 }

@@ -194,6 +194,18 @@ marks_counted k word =
     )
     (carried_run (added 70 (lit< tt)) lowered engine_mark engine_byte k word)
 
+-- The marks of eight bytes.
+abbrev marks_in : ℕ → ℕ
+marks_in word = bit_and (bit_or ((word + 0x4646_4646_4646_4646) % 2 ^ 64) ((word + 0xCFCF_CFCF_CFCF_CFD0) % 2 ^ 64)) 0x8080_8080_8080_8080
+
+pub marks_of_8 : (word : ℕ) → count_trailing_zeros 64 (marks_in word) / 8 ≡ run_len decimal_table (low_bytes 8 word)
+marks_of_8 word = marks_counted 8 word
+
+-- Without a mark, all eight are digits.
+pub none_marked : (word : ℕ) → marks_in word ≡ 0 → run_len decimal_table (low_bytes 8 word) ≡ 8
+unfolding count_trailing_zeros
+none_marked word none = sym (marks_of_8 word) ∙ ap (λ marks. count_trailing_zeros 64 marks / 8) none
+
 -- ---- The word with 48 subtracted from each byte
 
 -- A byte minus 48 is 0 exactly for the digit zero.

@@ -1,10 +1,10 @@
 -- Windows that are read by words.
-use Rattle.std.proofs.Common.{◌≡◌, ℕ, zero, suc, ◌+◌, ◌-◌, ◌*◌, ◌/◌, ◌%◌, ◌^◌, ◌<◌, ◌≤◌, List, ◌∷◌, ◌++◌, length, take, drop, replicate, get_or, take-take, refl, sym, ap, ap₂, ◌∙◌, arith, ◌≢◌, min, cond, ◌==◌, if◌then◌else◌}
+use Rattle.std.proofs.Common.{◌≡◌, ℕ, zero, suc, ◌+◌, ◌-◌, ◌*◌, ◌/◌, ◌%◌, ◌^◌, ◌<◌, ◌≤◌, List, ◌∷◌, ◌++◌, length, take, drop, replicate, get_or, take-take, refl, sym, ap, ap₂, ◌∙◌, arith, ◌≢◌, min, cond, ◌==◌, if◌then◌else◌, Bool, true, false, nat_lt, ltb-false}
 use Rattle.std.proofs.Math.Nat.{zero-add, suc-add}
 use Rattle.std.proofs.lemmas.List.{take_all, length-append, length-replicate, length-take}
 use Rattle.std.specs.Simd.Lanes.{number_l, digits_l}
 use Rattle.atoi_core.specs.Words.{word_of, low_bytes, low_value}
-use Rattle.std.proofs.lemmas.Bool.{eq-eqb, ne_eqb}
+use Rattle.std.proofs.lemmas.Bool.{eq-eqb, ne_eqb, eqb-true, agree_below_at}
 use Rattle.std.proofs.lemmas.Bool.Decides.{nat_tests}
 use Rattle.std.proofs.lemmas.List.Sums.{prefix_len-le-length}
 use Rattle.std.proofs.Math.Seq.{take-add}
@@ -94,6 +94,17 @@ window_joined s more leading first next full more_is leading_is first_is next_is
     window_from 16 s (8 + more) leading (first * 10 ^ more + next) (omega arith) same_leading same_number
 
 -- ---- Short slices in the highest bytes of a word
+
+-- What a shift leaves of eight zeros, compared for each length.
+pub zeros_shifted : (len : ℕ) → len ≤ 8 → 0x3030_3030_3030_3030 * 2 ^ (64 - 8 * len) % 2 ^ 64 ≤ 0x3030_3030_3030_3030
+zeros_shifted len few =
+    ltb-false _ _ (agree_below_at (λ n. nat_lt 0x3030_3030_3030_3030 (0x3030_3030_3030_3030 * 2 ^ (64 - 8 * n) % 2 ^ 64)) (λ _. false) 9 len refl (omega arith))
+
+pub zeros_left_out : (len : ℕ) → len ≤ 8 → 0x3030_3030_3030_3030 - 0x3030_3030_3030_3030 * 2 ^ (64 - 8 * len) % 2 ^ 64 ≡ word_of (replicate (8 - len) 48)
+unfolding word_of
+zeros_left_out len few =
+    let same : ℕ → Bool = λ n. 0x3030_3030_3030_3030 - 0x3030_3030_3030_3030 * 2 ^ (64 - 8 * n) % 2 ^ 64 == word_of (replicate (8 - n) 48) in
+    eqb-true _ _ (agree_below_at same (λ _. true) 9 len refl (omega arith))
 
 -- The word of m zeros fills m lowest bytes of 0.
 pub word_filled : (m : ℕ) (s : List ℕ) → word_of (replicate m 0 ++ s) + word_of (replicate m 48) ≡ word_of (replicate m 48 ++ s)
