@@ -161,6 +161,7 @@ fn window_after_16(s: &[u8], steps: &mut Steps) -> Window
 }
 
 // Fills a short slice to eight bytes with zeros before it: only an empty one has a branch of its own.
+#[tactic(auto, using(crate::proofs::lemmas::WordWindows::filled_fits, crate::proofs::lemmas::WordWindows::filled_digits))]
 fn short_window(s: &[u8]) -> Window
     requires { length s.now ≤ 8 }
     ensures of_16 { result ≡ window_of decimal_table 16 s.now }

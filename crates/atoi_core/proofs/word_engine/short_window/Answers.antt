@@ -3,13 +3,10 @@ use Rattle.std.proofs.Common.{◌≡◌, ◌+◌, ◌-◌, ◌++◌, ◌∙◌, 
 use Rattle.atoi_core.specs.Digit.{decimal_table}
 use Rattle.atoi_core.specs.Run.{run_len}
 use Rattle.atoi_core.specs.Words.{word_of}
-use Rattle.atoi_core.proofs.lemmas.WordWindows.{few_in_both, word_filled, filled_fits, filled_digits, filled_window}
+use Rattle.atoi_core.proofs.lemmas.WordWindows.{few_in_both, word_filled, filled_digits, filled_window}
 use Rattle.atoi_core.proofs.lemmas.WordRuns.{lowered_eight}
 use Rattle.atoi_core.proofs.word_engine.short_window.Goals as goal
 use Rattle.atoi_core.proofs.word_engine.short_window.Goals.{After-digits_of-digits}
-
-pub overflow_add-filled : goal.overflow_add-filled
-overflow_add-filled c = omega (arith, filled_fits c.args.s.now c.requires (λ i. (c.type_inv.s i).fits))
 
 -- The word after the zeros are added.
 filled : (c : After-digits_of-digits) → c.load_high.result + c.fill_of_zeros.result ≡ word_of (replicate (8 - length c.args.s.now) 48 ++ c.args.s.now)
@@ -20,9 +17,6 @@ digits : (c : After-digits_of-digits) → c.digits_of-digits.result ≡ 8 - leng
 digits c =
     filled_digits c.args.s.now c.requires (λ i. (c.type_inv.s i).fits) c.load_high.result c.fill_of_zeros.result
     c.digits_of-digits.result c.load_high.ensures c.fill_of_zeros.ensures c.digits_of-digits.ensures.len
-
-pub overflow_sub-len-else-digits-eq8 : goal.overflow_sub-len-else-digits-eq8
-overflow_sub-len-else-digits-eq8 c = omega (arith, digits (goal.at.overflow_sub-len-else-digits-eq8 c).After-digits_of-digits)
 
 pub sum_of-requires : goal.sum_of-requires
 sum_of-requires c = (lowered_eight _ _ (omega (arith, (goal.at.sum_of-requires c).After-digits_of-digits.digits_of-digits.ensures.len)) refl).0
