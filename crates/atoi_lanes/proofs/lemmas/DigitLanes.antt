@@ -50,7 +50,8 @@ moved_values n v lanes le long digits moved =
     let values = map above_zero v in
     let known = digits_value above_zero above_zero-digit n v digits in
     let all : lanes ≡ replicate (16 - n) 0 ++ take n values =
-    moved ∙ ap (λ l. take 16 (drop n (padded l))) (zip2_splat (λ x y. (x + (2 ^ 8 - y)) % 2 ^ 8) v 16 48 long) ∙ first_at_end n values le (length-map v above_zero ∙ long) in (
+    moved ∙ ap (λ l. take 16 (drop n (padded l))) (zip2_splat (λ x y. (x + (2 ^ 8 - y)) % 2 ^ 8) v 16 48 long)
+    ∙ first_at_end n values le (length-map v above_zero ∙ long) in (
       ap (value itself) all ∙ value-replicate itself 0 refl (16 - n) (take n values) ∙ known.0,
       subst (Each1 (λ x. x < 10)) (sym all) (after_zeros (λ x. x < 10) (lit< tt) (16 - n) _ known.1),
     )

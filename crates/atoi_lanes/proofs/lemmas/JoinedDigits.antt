@@ -113,7 +113,8 @@ pub all_levels : (digits : List ℕ) → length digits ≡ 16 → Each1 (λ x. x
     ≡ paired 10000 (paired 100 (paired 10 digits))
 all_levels digits long below =
     let lanes = map (λ field. field * 2561 % 65536) (digits_l 65536 8 (number_l 256 digits)) in
-    let pairs : map upper lanes ≡ paired 10 digits = join_lanes 256 10 (λ field. field * 2561 % 65536 / 256) (omega arith) (λ x y a b. omega arith) 8 digits long below in
+    let pairs : map upper lanes ≡ paired 10 digits =
+    join_lanes 256 10 (λ field. field * 2561 % 65536 / 256) (omega arith) (λ x y a b. omega arith) 8 digits long below in
     let xs = paired 100 (paired 10 digits) in
     let fours = weighed 4 lanes refl (wrapped 2561 (digits_l 65536 8 (number_l 256 digits))) ∙ ap (paired 100) pairs in
     let small : Each1 (λ x. x < 10000) xs = paired-below 100 (paired 10 digits) (paired-below 10 digits below) in

@@ -49,7 +49,8 @@ shifted_word len s fits le few =
     let moved : high_word s * 2 ^ (8 * (length s - len)) ≡ word_of s * 2 ^ z =
     ap (λ w. w * 2 ^ (8 * (length s - len))) (word_shifted (8 - length s) s) ∙ omega (arith, ap (λ p. word_of s * p) up) in
     let all : 64 ≡ len * 8 + z = omega arith in
-    ap₂ (λ w e. w % 2 ^ e) moved all ∙ shift_cut (word_of s) (len * 8) z ∙ ap (λ w. w * 2 ^ z) (word_start len s fits) ∙ sym (word_shifted (8 - len) (take len s))
+    ap₂ (λ w e. w % 2 ^ e) moved all ∙ shift_cut (word_of s) (len * 8) z
+    ∙ ap (λ w. w * 2 ^ z) (word_start len s fits) ∙ sym (word_shifted (8 - len) (take len s))
 
 half_of_start : (len : ℕ) (s : List ℕ) → ((i : ℕ) → get_or s i 0 < 256) → len ≤ length s → length s ≤ 8
     → digits_l 256 16 (high_word s * 2 ^ (8 * (length s - len)) % 2 ^ 64) ≡ in_half (take len s)

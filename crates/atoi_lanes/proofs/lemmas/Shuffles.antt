@@ -51,7 +51,8 @@ first_at_end n v le long =
     ∙ ap (λ l. replicate (16 - n) 0 ++ l) (take-append-le n v (replicate 16 0) (omega arith))
 
 -- The last 16 of 16 to 31 bytes, from place 48 - length s on, are those after the first 16.
-pub after_first_16 : (s : List ℕ) → 16 ≤ length s → length s < 32 → take 16 (drop (48 - length s) (padded (take 16 (drop (length s - 16) s)))) ≡ padded_start 16 (drop 16 s)
+pub after_first_16 : (s : List ℕ) → 16 ≤ length s → length s < 32
+    → take 16 (drop (48 - length s) (padded (take 16 (drop (length s - 16) s)))) ≡ padded_start 16 (drop 16 s)
 after_first_16 s enough short =
     let over : ℕ = 32 - length s in
     let last : List ℕ = take 16 (drop (length s - 16) s) in

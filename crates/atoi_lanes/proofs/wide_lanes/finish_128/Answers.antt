@@ -19,4 +19,6 @@ answer_128-requires c =
     record { digits = c.requires.digits; few = both.0; below = both.1; inside = both.2 }
 
 pub returns-clause-answer : goal.returns-clause-answer
-returns-clause-answer c = c.answer_128.ensures ∙ (decided_full c.args.bound _ _ _ _ _ c.requires.reached c.if-window-lt32.false c.window_8-back.ensures.window).3
+returns-clause-answer c =
+    c.answer_128.ensures
+    ∙ (decided_full c.args.bound _ _ _ _ _ c.requires.reached c.if-window-lt32.false c.window_8-back.ensures.window).3

@@ -37,7 +37,8 @@ returns-then-s-lt16-clause-loads c =
 
 pub overflow_cast-first : goal.overflow_cast-first
 overflow_cast-first c =
-    let few = few_digits c.args.skip c.args.bound c.args.limit c.requires.limit_high c.requires.digits c.window_32-first.ensures.reading c.if-first-limit.true in
+    let few = few_digits c.args.skip c.args.bound c.args.limit c.requires.limit_high c.requires.digits
+    c.window_32-first.ensures.reading c.if-first-limit.true in
     record { fits = omega (arith, few.0, c.ranges.bound.fits) }
 
 pub returns-then-first-limit-clause-answer : goal.returns-then-first-limit-clause-answer

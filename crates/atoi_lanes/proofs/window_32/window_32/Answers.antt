@@ -6,12 +6,14 @@ use Rattle.atoi_lanes.proofs.window_32.window_32.Goals as goal
 
 pub returns-then-len-lt16-clause-reading : goal.returns-then-len-lt16-clause-reading
 returns-then-len-lt16-clause-reading c =
-    let first = reading-of_lanes c.args.s.now c.load_lanes-first.result _ _ c.load_lanes-first.ensures c.len_lanes-len.ensures.len (c.from.ensures ∙ c.sum_lanes.ensures) in
+    let first = reading-of_lanes c.args.s.now c.load_lanes-first.result _ _ c.load_lanes-first.ensures c.len_lanes-len.ensures.len
+    (c.from.ensures ∙ c.sum_lanes.ensures) in
     rw c.zeroes_lanes.ensures.zeroes (widened first c.if-len-lt16.true (omega arith))
 
 pub returns-clause-reading : goal.returns-clause-reading
 returns-clause-reading c =
     let s = c.args.s.now in
-    let first = reading-of_lanes s c.load_lanes-first.result 16 _ c.load_lanes-first.ensures (omega (arith, c.len_lanes-len.ensures, c.if-len-lt16.false)) refl in
+    let first = reading-of_lanes s c.load_lanes-first.result 16 _ c.load_lanes-first.ensures
+    (omega (arith, c.len_lanes-len.ensures, c.if-len-lt16.false)) refl in
     let second = reading-of_lanes _ c.load_after_16-second.result _ _ c.load_after_16-second.ensures c.len_lanes-more.ensures.len refl in
     rw (c.zeroes_of_two.ensures, c.number_in_two.ensures) (join_readings first second)

@@ -66,7 +66,8 @@ answer_128-requires g c =
     let at = goal.at.answer_128-requires g c in
     let back = third g at.After-window_8-third in
     let after_skip = ended g at.Joined-then-not-skip in
-    let all = answers_128 g.met.Self.Engine.below_ten c.args.bound after_skip c.if-first-lt16.false (middle g at.After-window-second) c.if-second-lt16.false back in
+    let all = answers_128 g.met.Self.Engine.below_ten c.args.bound after_skip c.if-first-lt16.false
+    (middle g at.After-window-second) c.if-second-lt16.false back in
     record {
       digits = c.requires.digits;
       few = omega (arith, back.len_is);
