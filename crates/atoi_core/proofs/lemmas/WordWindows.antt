@@ -118,8 +118,8 @@ filled_fit zero s fits i = fits i
 filled_fit (suc m) s fits zero = omega arith
 filled_fit (suc m) s fits (suc i) = filled_fit m s fits i
 
-filled_length : (m : ℕ) (s : List ℕ) → length (replicate m 48 ++ s) ≡ m + length s
-filled_length m s = length-append (replicate m 48) s ∙ ap (λ n. n + length s) (length-replicate m 48)
+pub filled_length : (m x : ℕ) (s : List ℕ) → length (replicate m x ++ s) ≡ m + length s
+filled_length m x s = length-append (replicate m x) s ∙ ap (λ n. n + length s) (length-replicate m x)
 
 -- The filled word fits in 64 bits.
 pub filled_fits : (s : List ℕ) → length s ≤ 8 → ((i : ℕ) → get_or s i 0 < 256)
@@ -127,7 +127,7 @@ pub filled_fits : (s : List ℕ) → length s ≤ 8 → ((i : ℕ) → get_or s 
 filled_fits s few fits =
     let m = 8 - length s in
     let start = word_start 8 (replicate m 48 ++ s) (filled_fit m s fits) in
-    let all = ap word_of (take_all 8 (replicate m 48 ++ s) (omega (arith, filled_length m s))) in
+    let all = ap word_of (take_all 8 (replicate m 48 ++ s) (omega (arith, filled_length m 48 s))) in
     omega (arith, word_filled m s, start, all)
 
 -- The filled word begins with its zeros, then the run.
@@ -138,7 +138,7 @@ pub filled_digits : (s : List ℕ) → length s ≤ 8 → ((i : ℕ) → get_or 
 filled_digits s few fits word filling digits word_is filling_is digits_is =
     let m = 8 - length s in
     let filled = replicate m 48 ++ s in
-    let all : take 8 filled ≡ filled = take_all 8 filled (omega (arith, filled_length m s)) in
+    let all : take 8 filled ≡ filled = take_all 8 filled (omega (arith, filled_length m 48 s)) in
     digits_is
     ∙ loaded_run filled (filled_fit m s fits) (word + filling)
     (ap₂ (λ x y. x + y) word_is filling_is ∙ word_filled m s ∙ ap word_of (sym all))

@@ -16,6 +16,7 @@ use Rattle.atoi_core.specs.Words.{word_of}
 use Rattle.atoi_core.proofs.lemmas.LoadedWords.{bytes, high_word, prefix_len-before_zeros, word_shifted, word_start}
 use Rattle.atoi_core.proofs.lemmas.Runs.{prefix_len-take, value-replicate}
 use Rattle.atoi_core.proofs.lemmas.WordFields.{shift_cut}
+use Rattle.atoi_core.proofs.lemmas.WordWindows.{filled_length}
 use Rattle.atoi_lanes.specs.Lanes.{itself}
 use Rattle.atoi_lanes.proofs.lemmas.DigitLanes.{GivesDigitValues, after_zeros, digits_value}
 use Rattle.atoi_lanes.proofs.lemmas.LaneWindows.{lanes-of_bytes}
@@ -27,16 +28,13 @@ use lib.LanesLaws.{map-replicate}
 abbrev in_half : List ℕ → List ℕ
 in_half s = (replicate (8 - length s) 0 ++ s) ++ replicate 8 0
 
-length-filled : (s : List ℕ) → length s ≤ 8 → length (replicate (8 - length s) 0 ++ s) ≡ 8
-length-filled s few = length-append (replicate (8 - length s) 0) s ∙ omega (arith, length-replicate {A = ℕ} (8 - length s) 0)
-
 length-in_half : (s : List ℕ) → length s ≤ 8 → length (in_half s) ≡ 16
-length-in_half s few = length-append (replicate (8 - length s) 0 ++ s) (replicate 8 0) ∙ omega (arith, length-filled s few)
+length-in_half s few = length-append (replicate (8 - length s) 0 ++ s) (replicate 8 0) ∙ omega (arith, filled_length (8 - length s) 0 s)
 
 -- The word from `load_high` has these lanes.
 half_of_word : (s : List ℕ) → Each1 (λ x. x < 256) s → length s ≤ 8 → digits_l 256 16 (high_word s) ≡ in_half s
 half_of_word s h few =
-    lanes-of_bytes 8 (replicate (8 - length s) 0 ++ s) (after_zeros (λ x. x < 256) (lit< tt) (8 - length s) s h) (omega (arith, length-filled s few))
+    lanes-of_bytes 8 (replicate (8 - length s) 0 ++ s) (after_zeros (λ x. x < 256) (lit< tt) (8 - length s) s h) (omega (arith, filled_length (8 - length s) 0 s))
     ∙ take_all 16 (in_half s) (omega (arith, length-in_half s few))
 
 -- Shifted left, it is the word of its first `len` bytes.
@@ -91,7 +89,7 @@ digits_first : (s v : List ℕ) (mask : ℕ) → length s ≤ 8 → v ≡ in_hal
 digits_first s v mask few is ones =
     let zeros = 8 - length s in
     let rest : drop zeros v ≡ s ++ replicate 8 0 =
-    ap (drop zeros) is ∙ drop-append-le zeros (replicate zeros 0 ++ s) (replicate 8 0) (omega (arith, length-filled s few))
+    ap (drop zeros) is ∙ drop-append-le zeros (replicate zeros 0 ++ s) (replicate 8 0) (omega (arith, filled_length (8 - length s) 0 s))
     ∙ ap (λ l. l ++ replicate 8 0) (drop_at (replicate zeros 0) s zeros (length-replicate {A = ℕ} zeros 0)) in
     ones-of_mask digit (s ++ replicate 8 0) (omega (arith, length-append s (replicate 8 0))) _
     (ap (λ m. m / 2 ^ zeros) ones ∙ mask-drop zeros (map digit v) ∙ ap mask_l (drop-map digit zeros v ∙ ap (map digit) rest))
@@ -127,7 +125,7 @@ half_values s few digits v is =
     ∙ map-append low_half (replicate zeros 0 ++ s) (replicate 8 0)
     ∙ ap₂ (λ a b. a ++ b) (map-append low_half (replicate zeros 0) s ∙ ap (λ l. l ++ values) (map-replicate low_half zeros 0)) (map-replicate low_half 8 0) in
     let count : length values ≡ length s = length-map s low_half in
-    let eight : length filled ≡ 8 = length-append (replicate zeros 0) values ∙ omega (arith, count, length-replicate {A = ℕ} zeros 0) in
+    let eight : length filled ≡ 8 = omega (arith, count, filled_length zeros 0 values) in
     let known = digits_value low_half low_half-digit (length s) s (omega (arith, digits)) in
     let whole : take (length s) values ≡ values = take_all (length s) values (omega (arith, count)) in (
       ap (λ l. value itself (take 8 l)) lanes
