@@ -1,10 +1,9 @@
 -- The answers follow from where the loop of `window_after_zeros` ends.
-use Rattle.std.proofs.Common.{◌+◌, ℕ, List, true, refl, ap, ◌∙◌, arith, drop, ne_eqb}
+use Rattle.std.proofs.Common.{◌+◌, ℕ, true, refl, ◌∙◌, arith, drop, ne_eqb}
 use Rattle.std.proofs.lemmas.List.{length-drop, take_rest}
 use Rattle.std.proofs.lemmas.List.Sums.{prefix_len-le-length}
 use Rattle.atoi_core.specs.Digit.{decimal_table, is_digit}
 use Rattle.atoi_core.specs.Magnitude.{wide64}
-use Rattle.atoi_core.specs.Reading.{window_of}
 use Rattle.atoi_core.proofs.lemmas.Runs.{decimal_below_ten}
 use Rattle.atoi_core.proofs.lemmas.Windows.{Skipped, Skipped-after_zeros, Shows, shows}
 use Rattle.atoi_core.proofs.lemmas.LoopAnswers.{answers_short, answers_64}
