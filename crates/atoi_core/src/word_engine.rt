@@ -14,7 +14,7 @@ use crate::engine::Engine;
 use crate::error::AtoiSimdError;
 use crate::powers::{append_digits, power_of_ten};
 use crate::steps::Steps;
-use crate::wide_answer::{answer_64, found_or_empty};
+use crate::wide_answer::answer_64;
 use crate::window::Window;
 use crate::window_loops::window_after_zeros;
 use crate::word_digits::{
@@ -66,12 +66,16 @@ impl Engine for Words {
         if skip && first.zeroes > 0 {
             return prefix_64_cold(bound, limit, first.zeroes, s, steps);
         }
-        if first.len < 16 {
-            return found_or_empty(first.number, first.len as usize);
+        // Tests for no digit first: with `found_or_empty`, short prefixes would take one jump more.
+        if first.len == 0 {
+            Err(AtoiSimdError::Empty)
+        } else if first.len < 16 {
+            Ok((first.number, first.len as usize))
+        } else {
+            let back = window_after_16(s, steps);
+            let number = append_digits(first.number, back.len, back.number);
+            answer_64(bound, limit, 0, 16 + back.len, number, s)
         }
-        let back = window_after_16(s, steps);
-        let number = append_digits(first.number, back.len, back.number);
-        answer_64(bound, limit, 0, 16 + back.len, number, s)
     }
 
     ghost below_ten = { λ byte. Prim.grind (arith, nat_tests) };

@@ -1,10 +1,11 @@
 -- A first window without zeros to skip decides, if full with the 8 bytes after it.
-use Rattle.std.proofs.Common.{◌≡◌, ◌⊎◌, ◌≤◌, true, false, inl, inr, refl, ◌∙◌, arith, drop}
+use Rattle.std.proofs.Common.{◌≡◌, ℕ, ◌⊎◌, ◌≤◌, true, false, inl, inr, refl, ◌∙◌, arith, drop, ne_eqb}
 use Rattle.std.proofs.lemmas.List.Sums.{prefix_len-le-length}
 use Rattle.atoi_core.specs.Digit.{decimal_table, is_digit}
+use Rattle.atoi_core.specs.Magnitude.{wide64}
 use Rattle.atoi_core.proofs.lemmas.Runs.{decimal_below_ten}
 use Rattle.atoi_core.proofs.lemmas.Windows.{Skipped, Skipped-at_once, Skipped-loads, Shows, shows}
-use Rattle.atoi_core.proofs.lemmas.LoopAnswers.{answers_short, answers_64}
+use Rattle.atoi_core.proofs.lemmas.LoopAnswers.{answers_empty, answers_short, answers_64}
 use Rattle.atoi_core.proofs.word_engine.WordsEngine.prefix_64.Goals as goal
 use Rattle.atoi_core.proofs.word_engine.WordsEngine.prefix_64.Goals.{After-window-first, After-window_after_16-back}
 
@@ -15,10 +16,17 @@ last c stops =
     Skipped-at_once decimal_below_ten c.args.skip c.args.s.now c.window-first.ensures.window c.window-first.ensures.one_step
     (elim stops [ inl h ↦ inr (h.0, omega (arith, h.1)) | inr h ↦ inl h ])
 
+pub returns-then-first-eq0-clause-answer : goal.returns-then-first-eq0-clause-answer
+returns-then-first-eq0-clause-answer c =
+    let after_skip = last (goal.at.returns-then-first-eq0-clause-answer c).After-window-first c.else-skip.either in
+    answers_empty _ _ _ after_skip (omega arith)
+
 pub returns-then-first-lt16-clause-answer : goal.returns-then-first-lt16-clause-answer
 returns-then-first-lt16-clause-answer c =
     let after_skip = last (goal.at.returns-then-first-lt16-clause-answer c).After-window-first c.else-skip.either in
-    c.found_or_empty.ensures ∙ answers_short _ _ _ (omega arith) after_skip c.if-first-lt16.true (omega arith) c.requires.digits refl (omega arith)
+    let len : ℕ = c.window-first.result.len in
+    rw (ne_eqb len 0 c.if-first-eq0.false)
+    at (answers_short wide64 _ _ {len = len} (omega arith) after_skip c.if-first-lt16.true (omega arith) c.requires.digits refl (omega arith))
 
 pub returns-then-first-lt16-clause-loads : goal.returns-then-first-lt16-clause-loads
 returns-then-first-lt16-clause-loads c =
@@ -43,14 +51,14 @@ answer_64-requires c =
     let after_skip = last (goal.at.answer_64-requires c).After-window-first c.else-skip.either in
     record { inside = (answers_64 c.args.bound c.args.limit (omega arith) after_skip c.if-first-lt16.false back).0 }
 
-pub returns-clause-answer : goal.returns-clause-answer
-returns-clause-answer c =
-    let back = following (goal.at.returns-clause-answer c).After-window_after_16-back in
-    let after_skip = last (goal.at.returns-clause-answer c).After-window-first c.else-skip.either in
+pub returns-else-first-lt16-clause-answer : goal.returns-else-first-lt16-clause-answer
+returns-else-first-lt16-clause-answer c =
+    let back = following (goal.at.returns-else-first-lt16-clause-answer c).After-window_after_16-back in
+    let after_skip = last (goal.at.returns-else-first-lt16-clause-answer c).After-window-first c.else-skip.either in
     rw c.append_digits-number.ensures at c.answer_64.ensures
     ∙ (answers_64 c.args.bound c.args.limit (omega arith) after_skip c.if-first-lt16.false back).1
 
-pub returns-clause-loads : goal.returns-clause-loads
-returns-clause-loads c =
-    let after_skip = last (goal.at.returns-clause-loads c).After-window-first c.else-skip.either in
+pub returns-else-first-lt16-clause-loads : goal.returns-else-first-lt16-clause-loads
+returns-else-first-lt16-clause-loads c =
+    let after_skip = last (goal.at.returns-else-first-lt16-clause-loads c).After-window-first c.else-skip.either in
     Skipped-loads after_skip 1 (omega (arith, c.window_after_16-back.ensures.one_step)) (omega arith) (omega arith)
