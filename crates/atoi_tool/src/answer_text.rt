@@ -9,7 +9,7 @@ ghost use Rattle.atoi_tool.specs.Answer.{whole_text, prefix_text, refusal_text, 
 
 use crate::block::{Block, ROOM};
 use atoi_column::ColumnError;
-use atoi_core::{AtoiSimdError, Number, decimal};
+use atoi_core::{AtoiSimdError, Number};
 
 // The largest number of bytes that a number has: a minus and 39 digits.
 const NUMBER: usize = 1 + 39;
@@ -31,9 +31,7 @@ fn push_number<T: Number>(value: T, out: &mut Block)
     if minus {
         out.push(b"-");
     }
-    let mut digits = [0; 39];
-    let count = decimal(magnitude, &mut digits);
-    out.push(&digits[..count]);
+    out.push_decimal(magnitude);
 }
 
 fn push_error(error: &AtoiSimdError<'_>, out: &mut Block)

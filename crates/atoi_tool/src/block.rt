@@ -1,14 +1,18 @@
 //! The block in which answers wait until they are written, many at a time.
-ghost use Rattle.std.specs.Prelude.{◌≡◌, ◌+◌, ◌≤◌, ℕ, List, [], ◌++◌, length, take, OnOk};
+ghost use Rattle.std.specs.Prelude.{◌≡◌, ◌+◌, ◌≤◌, ℕ, List, [], ◌++◌, length, take, decimal, OnOk};
 ghost use Rattle.atoi_tool.specs.Failures.{failures_of, PutAppends};
 
 use crate::answer_text::LONGEST;
 use crate::sink::{Sink, put_all};
 use crate::status::Refused;
+use atoi_core::decimal;
 use std::marker::Model;
 
 /// How many bytes a `Block` can hold.
 pub const ROOM: usize = 8192;
+
+// The largest number of digits that a number has.
+const DIGITS: usize = 39;
 
 /// Bytes that are still to be written, at most `ROOM` of them.
 #[derive(Drop)]
@@ -54,6 +58,17 @@ impl Block {
         self.len = end;
     }
 
+    /// Appends `value` in decimal, for which there must be room.
+    #[tactic(auto, using(crate::proofs::lemmas::Appended::take_of_room))]
+    pub fn push_decimal(&mut self, value: u128)
+        requires { length self.old + DIGITS ≤ ROOM }
+        ensures text { self.new ≡ self.old ++ decimal value }
+        ensures length { length self.new ≤ length self.old + DIGITS }
+    {
+        let room = &mut self.bytes[self.len..self.len + DIGITS];
+        self.len += decimal_in(room, value);
+    }
+
     /// Removes all bytes.
     pub fn clear(&mut self)
         ensures { self.new ≡ [] }
@@ -83,5 +98,17 @@ impl Block {
         self.make_room(output)?;
         self.push(bytes);
         Ok(())
+    }
+}
+
+// Writes `value` in decimal to the start of `room`, and returns how many digits it has.
+fn decimal_in(room: &mut [u8], value: u128) -> usize
+    requires { length room.old ≡ DIGITS }
+    ensures digits { take result room.new ≡ decimal value }
+    ensures fits { result ≤ DIGITS }
+{
+    match room.as_mut_array() {
+        Some(digits) => decimal(value, digits),
+        None => unreachable!(),
     }
 }

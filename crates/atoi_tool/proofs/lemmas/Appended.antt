@@ -1,8 +1,9 @@
 -- Lemmas about appending one part after another.
 use Rattle.std.proofs.Common.{◌≡◌, ℕ, ◌+◌, List, ◌++◌, ◌≤◌, length, take, drop, Option, Result, Ok, Err, sym, ap, ◌∙◌, append_assoc, arith, length-append}
 use Rattle.std.proofs.KnownBytes.{Appends-trans}
-use Rattle.std.proofs.lemmas.List.{take-append-le}
+use Rattle.std.proofs.lemmas.List.{take-append-le, length-take-le}
 use Rattle.std.proofs.Math.Seq.{take-add, take-append-add}
+use borrow.Rule.Slice.PartMut.{put_mid, post_of}
 use Rattle.std.specs.Io.KnownBytes.{Appends}
 use Rattle.atoi_tool.specs.Failures.{AppendsPrefix, AppendsUpTo, PutAppends}
 
@@ -73,3 +74,9 @@ pub PutAppends-then : {A E : Type 0} (old mid new : Option (List ℕ)) (before x
     → PutAppends mid new r (waits ++ ys) after → PutAppends old new r (before ++ (xs ++ ys)) after
 PutAppends-then old mid new before xs ys waits after (Ok value) first second = AppendsUpTo-then old mid new before xs ys waits after first second
 PutAppends-then old mid new before xs ys waits after (Err error) first refused = AppendsPrefix-then old mid new before xs ys waits first refused
+
+-- The first `count` bytes of what was written behind the first `at`.
+pub take_of_room : (at count k : ℕ) (bytes room : List ℕ) → at ≤ length bytes → count ≤ length room → take (at + count) (put_mid at k bytes room) ≡ take at bytes ++ take count room
+take_of_room at count k bytes room within fits =
+    let front : length (take at bytes) ≡ at = length-take-le at bytes within in
+    rw (← take-append-le count room (post_of at k bytes) fits, ← take-append-add (take at bytes) (room ++ post_of at k bytes) count, front)
