@@ -138,14 +138,15 @@ static PAIRS: [[u8; 2]; 100] = [
 ];
 
 // Writes the two decimal digits of `value`, of which the first may be a zero.
-#[tactic(auto, using(crate::proofs::lemmas::ErrorTexts::pair_of_table))]
+#[tactic(auto, using(crate::proofs::lemmas::ErrorTexts::pair_of_table), unfolding(crate::specs::ErrorText::two_digits))]
 fn put_pair(value: u32, out: &mut [u8], at: usize) -> usize
     requires below { value < 100 }
     requires room { at + 2 ≤ length out.old }
     ensures written { take result out.new ≡ take at out.old ++ two_digits value }
     ensures place { result ≡ at + 2 }
 {
-    put_bytes(&PAIRS[value as usize], out, at)
+    let [tens, ones] = PAIRS[value as usize];
+    put_bytes(&[tens, ones], out, at)
 }
 
 // Writes the four decimal digits of `value`, of which the first may be zeros.
@@ -161,6 +162,7 @@ fn put_four(value: u32, out: &mut [u8], at: usize) -> usize
 }
 
 // Writes the decimal digits of a value of one to four.
+#[inline(always)]
 #[tactic(auto, using(crate::proofs::lemmas::ErrorTexts::of_one_to_four))]
 fn put_one_to_four(value: u32, out: &mut [u8], at: usize) -> usize
     requires below { value < 10000 }
