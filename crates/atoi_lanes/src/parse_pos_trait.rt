@@ -33,144 +33,144 @@ pub trait ParsePos: Number {
 
 impl ParsePos for u8 {
     #[inline(always)]
-    fn atoi_simd_parse_pos(s: &[u8], skip_zeroes: bool) -> Parsed<'_, Self> {
-        whole_pos::<DefaultEngine, u8>(skip_zeroes, s, &mut Steps::new())
+    fn atoi_simd_parse_pos(s: &[u8], skip: bool) -> Parsed<'_, Self> {
+        whole_pos::<DefaultEngine, u8>(skip, s, &mut Steps::new())
     }
 
     #[inline(always)]
-    fn atoi_simd_parse_prefix_pos(s: &[u8], skip_zeroes: bool) -> Parsed<'_, (Self, usize)> {
-        prefix_pos::<DefaultEngine, u8>(skip_zeroes, s, &mut Steps::new())
+    fn atoi_simd_parse_prefix_pos(s: &[u8], skip: bool) -> Parsed<'_, (Self, usize)> {
+        prefix_pos::<DefaultEngine, u8>(skip, s, &mut Steps::new())
     }
 }
 
 impl ParsePos for i8 {
     #[inline(always)]
-    fn atoi_simd_parse_pos(s: &[u8], skip_zeroes: bool) -> Parsed<'_, Self> {
-        whole_pos::<DefaultEngine, i8>(skip_zeroes, s, &mut Steps::new())
+    fn atoi_simd_parse_pos(s: &[u8], skip: bool) -> Parsed<'_, Self> {
+        whole_pos::<DefaultEngine, i8>(skip, s, &mut Steps::new())
     }
 
     #[inline(always)]
-    fn atoi_simd_parse_prefix_pos(s: &[u8], skip_zeroes: bool) -> Parsed<'_, (Self, usize)> {
-        prefix_pos::<DefaultEngine, i8>(skip_zeroes, s, &mut Steps::new())
+    fn atoi_simd_parse_prefix_pos(s: &[u8], skip: bool) -> Parsed<'_, (Self, usize)> {
+        prefix_pos::<DefaultEngine, i8>(skip, s, &mut Steps::new())
     }
 }
 
 impl ParsePos for u16 {
     #[inline(always)]
-    fn atoi_simd_parse_pos(s: &[u8], skip_zeroes: bool) -> Parsed<'_, Self> {
-        whole_pos::<DefaultEngine, u16>(skip_zeroes, s, &mut Steps::new())
+    fn atoi_simd_parse_pos(s: &[u8], skip: bool) -> Parsed<'_, Self> {
+        whole_pos::<DefaultEngine, u16>(skip, s, &mut Steps::new())
     }
 
     #[inline(always)]
-    fn atoi_simd_parse_prefix_pos(s: &[u8], skip_zeroes: bool) -> Parsed<'_, (Self, usize)> {
-        prefix_pos::<DefaultEngine, u16>(skip_zeroes, s, &mut Steps::new())
+    fn atoi_simd_parse_prefix_pos(s: &[u8], skip: bool) -> Parsed<'_, (Self, usize)> {
+        prefix_pos::<DefaultEngine, u16>(skip, s, &mut Steps::new())
     }
 }
 
 impl ParsePos for i16 {
     #[inline(always)]
-    fn atoi_simd_parse_pos(s: &[u8], skip_zeroes: bool) -> Parsed<'_, Self> {
-        whole_pos::<DefaultEngine, i16>(skip_zeroes, s, &mut Steps::new())
+    fn atoi_simd_parse_pos(s: &[u8], skip: bool) -> Parsed<'_, Self> {
+        whole_pos::<DefaultEngine, i16>(skip, s, &mut Steps::new())
     }
 
     #[inline(always)]
-    fn atoi_simd_parse_prefix_pos(s: &[u8], skip_zeroes: bool) -> Parsed<'_, (Self, usize)> {
-        prefix_pos::<DefaultEngine, i16>(skip_zeroes, s, &mut Steps::new())
+    fn atoi_simd_parse_prefix_pos(s: &[u8], skip: bool) -> Parsed<'_, (Self, usize)> {
+        prefix_pos::<DefaultEngine, i16>(skip, s, &mut Steps::new())
     }
 }
 
 impl ParsePos for u32 {
     #[inline(always)]
-    fn atoi_simd_parse_pos(s: &[u8], skip_zeroes: bool) -> Parsed<'_, Self> {
-        whole_pos::<DefaultEngine, u32>(skip_zeroes, s, &mut Steps::new())
+    fn atoi_simd_parse_pos(s: &[u8], skip: bool) -> Parsed<'_, Self> {
+        whole_pos::<DefaultEngine, u32>(skip, s, &mut Steps::new())
     }
 
     #[inline(always)]
-    fn atoi_simd_parse_prefix_pos(s: &[u8], skip_zeroes: bool) -> Parsed<'_, (Self, usize)> {
-        prefix_pos::<DefaultEngine, u32>(skip_zeroes, s, &mut Steps::new())
+    fn atoi_simd_parse_prefix_pos(s: &[u8], skip: bool) -> Parsed<'_, (Self, usize)> {
+        prefix_pos::<DefaultEngine, u32>(skip, s, &mut Steps::new())
     }
 }
 
 impl ParsePos for i32 {
     #[inline(always)]
-    fn atoi_simd_parse_pos(s: &[u8], skip_zeroes: bool) -> Parsed<'_, Self> {
-        whole_pos::<DefaultEngine, i32>(skip_zeroes, s, &mut Steps::new())
+    fn atoi_simd_parse_pos(s: &[u8], skip: bool) -> Parsed<'_, Self> {
+        whole_pos::<DefaultEngine, i32>(skip, s, &mut Steps::new())
     }
 
     #[inline(always)]
-    fn atoi_simd_parse_prefix_pos(s: &[u8], skip_zeroes: bool) -> Parsed<'_, (Self, usize)> {
-        prefix_pos::<DefaultEngine, i32>(skip_zeroes, s, &mut Steps::new())
+    fn atoi_simd_parse_prefix_pos(s: &[u8], skip: bool) -> Parsed<'_, (Self, usize)> {
+        prefix_pos::<DefaultEngine, i32>(skip, s, &mut Steps::new())
     }
 }
 
 impl ParsePos for usize {
     #[inline(always)]
-    fn atoi_simd_parse_pos(s: &[u8], skip_zeroes: bool) -> Parsed<'_, Self> {
-        whole_pos::<DefaultEngine, usize>(skip_zeroes, s, &mut Steps::new())
+    fn atoi_simd_parse_pos(s: &[u8], skip: bool) -> Parsed<'_, Self> {
+        whole_pos::<DefaultEngine, usize>(skip, s, &mut Steps::new())
     }
 
     #[inline(always)]
-    fn atoi_simd_parse_prefix_pos(s: &[u8], skip_zeroes: bool) -> Parsed<'_, (Self, usize)> {
-        prefix_pos::<DefaultEngine, usize>(skip_zeroes, s, &mut Steps::new())
+    fn atoi_simd_parse_prefix_pos(s: &[u8], skip: bool) -> Parsed<'_, (Self, usize)> {
+        prefix_pos::<DefaultEngine, usize>(skip, s, &mut Steps::new())
     }
 }
 
 impl ParsePos for isize {
     #[inline(always)]
-    fn atoi_simd_parse_pos(s: &[u8], skip_zeroes: bool) -> Parsed<'_, Self> {
-        whole_pos::<DefaultEngine, isize>(skip_zeroes, s, &mut Steps::new())
+    fn atoi_simd_parse_pos(s: &[u8], skip: bool) -> Parsed<'_, Self> {
+        whole_pos::<DefaultEngine, isize>(skip, s, &mut Steps::new())
     }
 
     #[inline(always)]
-    fn atoi_simd_parse_prefix_pos(s: &[u8], skip_zeroes: bool) -> Parsed<'_, (Self, usize)> {
-        prefix_pos::<DefaultEngine, isize>(skip_zeroes, s, &mut Steps::new())
+    fn atoi_simd_parse_prefix_pos(s: &[u8], skip: bool) -> Parsed<'_, (Self, usize)> {
+        prefix_pos::<DefaultEngine, isize>(skip, s, &mut Steps::new())
     }
 }
 
 impl ParsePos for u64 {
     #[inline(always)]
-    fn atoi_simd_parse_pos(s: &[u8], skip_zeroes: bool) -> Parsed<'_, Self> {
-        whole_pos::<DefaultEngine, u64>(skip_zeroes, s, &mut Steps::new())
+    fn atoi_simd_parse_pos(s: &[u8], skip: bool) -> Parsed<'_, Self> {
+        whole_pos::<DefaultEngine, u64>(skip, s, &mut Steps::new())
     }
 
     #[inline(always)]
-    fn atoi_simd_parse_prefix_pos(s: &[u8], skip_zeroes: bool) -> Parsed<'_, (Self, usize)> {
-        prefix_pos::<DefaultEngine, u64>(skip_zeroes, s, &mut Steps::new())
+    fn atoi_simd_parse_prefix_pos(s: &[u8], skip: bool) -> Parsed<'_, (Self, usize)> {
+        prefix_pos::<DefaultEngine, u64>(skip, s, &mut Steps::new())
     }
 }
 
 impl ParsePos for i64 {
     #[inline(always)]
-    fn atoi_simd_parse_pos(s: &[u8], skip_zeroes: bool) -> Parsed<'_, Self> {
-        whole_pos::<DefaultEngine, i64>(skip_zeroes, s, &mut Steps::new())
+    fn atoi_simd_parse_pos(s: &[u8], skip: bool) -> Parsed<'_, Self> {
+        whole_pos::<DefaultEngine, i64>(skip, s, &mut Steps::new())
     }
 
     #[inline(always)]
-    fn atoi_simd_parse_prefix_pos(s: &[u8], skip_zeroes: bool) -> Parsed<'_, (Self, usize)> {
-        prefix_pos::<DefaultEngine, i64>(skip_zeroes, s, &mut Steps::new())
+    fn atoi_simd_parse_prefix_pos(s: &[u8], skip: bool) -> Parsed<'_, (Self, usize)> {
+        prefix_pos::<DefaultEngine, i64>(skip, s, &mut Steps::new())
     }
 }
 
 impl ParsePos for u128 {
     #[inline(always)]
-    fn atoi_simd_parse_pos(s: &[u8], skip_zeroes: bool) -> Parsed<'_, Self> {
-        whole_pos::<DefaultEngine, u128>(skip_zeroes, s, &mut Steps::new())
+    fn atoi_simd_parse_pos(s: &[u8], skip: bool) -> Parsed<'_, Self> {
+        whole_pos::<DefaultEngine, u128>(skip, s, &mut Steps::new())
     }
 
     #[inline(always)]
-    fn atoi_simd_parse_prefix_pos(s: &[u8], skip_zeroes: bool) -> Parsed<'_, (Self, usize)> {
-        prefix_pos::<DefaultEngine, u128>(skip_zeroes, s, &mut Steps::new())
+    fn atoi_simd_parse_prefix_pos(s: &[u8], skip: bool) -> Parsed<'_, (Self, usize)> {
+        prefix_pos::<DefaultEngine, u128>(skip, s, &mut Steps::new())
     }
 }
 
 impl ParsePos for i128 {
     #[inline(always)]
-    fn atoi_simd_parse_pos(s: &[u8], skip_zeroes: bool) -> Parsed<'_, Self> {
-        whole_pos::<DefaultEngine, i128>(skip_zeroes, s, &mut Steps::new())
+    fn atoi_simd_parse_pos(s: &[u8], skip: bool) -> Parsed<'_, Self> {
+        whole_pos::<DefaultEngine, i128>(skip, s, &mut Steps::new())
     }
 
     #[inline(always)]
-    fn atoi_simd_parse_prefix_pos(s: &[u8], skip_zeroes: bool) -> Parsed<'_, (Self, usize)> {
-        prefix_pos::<DefaultEngine, i128>(skip_zeroes, s, &mut Steps::new())
+    fn atoi_simd_parse_prefix_pos(s: &[u8], skip: bool) -> Parsed<'_, (Self, usize)> {
+        prefix_pos::<DefaultEngine, i128>(skip, s, &mut Steps::new())
     }
 }

@@ -33,72 +33,72 @@ pub trait ParseNeg: Signed {
 
 impl ParseNeg for i8 {
     #[inline(always)]
-    fn atoi_simd_parse_neg(s: &[u8], skip_zeroes: bool) -> Parsed<'_, Self> {
-        whole_neg::<DefaultEngine, i8>(skip_zeroes, s, &mut Steps::new())
+    fn atoi_simd_parse_neg(s: &[u8], skip: bool) -> Parsed<'_, Self> {
+        whole_neg::<DefaultEngine, i8>(skip, s, &mut Steps::new())
     }
 
     #[inline(always)]
-    fn atoi_simd_parse_prefix_neg(s: &[u8], skip_zeroes: bool) -> Parsed<'_, (Self, usize)> {
-        prefix_neg::<DefaultEngine, i8>(skip_zeroes, s, &mut Steps::new())
+    fn atoi_simd_parse_prefix_neg(s: &[u8], skip: bool) -> Parsed<'_, (Self, usize)> {
+        prefix_neg::<DefaultEngine, i8>(skip, s, &mut Steps::new())
     }
 }
 
 impl ParseNeg for i16 {
     #[inline(always)]
-    fn atoi_simd_parse_neg(s: &[u8], skip_zeroes: bool) -> Parsed<'_, Self> {
-        whole_neg::<DefaultEngine, i16>(skip_zeroes, s, &mut Steps::new())
+    fn atoi_simd_parse_neg(s: &[u8], skip: bool) -> Parsed<'_, Self> {
+        whole_neg::<DefaultEngine, i16>(skip, s, &mut Steps::new())
     }
 
     #[inline(always)]
-    fn atoi_simd_parse_prefix_neg(s: &[u8], skip_zeroes: bool) -> Parsed<'_, (Self, usize)> {
-        prefix_neg::<DefaultEngine, i16>(skip_zeroes, s, &mut Steps::new())
+    fn atoi_simd_parse_prefix_neg(s: &[u8], skip: bool) -> Parsed<'_, (Self, usize)> {
+        prefix_neg::<DefaultEngine, i16>(skip, s, &mut Steps::new())
     }
 }
 
 impl ParseNeg for i32 {
     #[inline(always)]
-    fn atoi_simd_parse_neg(s: &[u8], skip_zeroes: bool) -> Parsed<'_, Self> {
-        whole_neg::<DefaultEngine, i32>(skip_zeroes, s, &mut Steps::new())
+    fn atoi_simd_parse_neg(s: &[u8], skip: bool) -> Parsed<'_, Self> {
+        whole_neg::<DefaultEngine, i32>(skip, s, &mut Steps::new())
     }
 
     #[inline(always)]
-    fn atoi_simd_parse_prefix_neg(s: &[u8], skip_zeroes: bool) -> Parsed<'_, (Self, usize)> {
-        prefix_neg::<DefaultEngine, i32>(skip_zeroes, s, &mut Steps::new())
+    fn atoi_simd_parse_prefix_neg(s: &[u8], skip: bool) -> Parsed<'_, (Self, usize)> {
+        prefix_neg::<DefaultEngine, i32>(skip, s, &mut Steps::new())
     }
 }
 
 impl ParseNeg for isize {
     #[inline(always)]
-    fn atoi_simd_parse_neg(s: &[u8], skip_zeroes: bool) -> Parsed<'_, Self> {
-        whole_neg::<DefaultEngine, isize>(skip_zeroes, s, &mut Steps::new())
+    fn atoi_simd_parse_neg(s: &[u8], skip: bool) -> Parsed<'_, Self> {
+        whole_neg::<DefaultEngine, isize>(skip, s, &mut Steps::new())
     }
 
     #[inline(always)]
-    fn atoi_simd_parse_prefix_neg(s: &[u8], skip_zeroes: bool) -> Parsed<'_, (Self, usize)> {
-        prefix_neg::<DefaultEngine, isize>(skip_zeroes, s, &mut Steps::new())
+    fn atoi_simd_parse_prefix_neg(s: &[u8], skip: bool) -> Parsed<'_, (Self, usize)> {
+        prefix_neg::<DefaultEngine, isize>(skip, s, &mut Steps::new())
     }
 }
 
 impl ParseNeg for i64 {
     #[inline(always)]
-    fn atoi_simd_parse_neg(s: &[u8], skip_zeroes: bool) -> Parsed<'_, Self> {
-        whole_neg::<DefaultEngine, i64>(skip_zeroes, s, &mut Steps::new())
+    fn atoi_simd_parse_neg(s: &[u8], skip: bool) -> Parsed<'_, Self> {
+        whole_neg::<DefaultEngine, i64>(skip, s, &mut Steps::new())
     }
 
     #[inline(always)]
-    fn atoi_simd_parse_prefix_neg(s: &[u8], skip_zeroes: bool) -> Parsed<'_, (Self, usize)> {
-        prefix_neg::<DefaultEngine, i64>(skip_zeroes, s, &mut Steps::new())
+    fn atoi_simd_parse_prefix_neg(s: &[u8], skip: bool) -> Parsed<'_, (Self, usize)> {
+        prefix_neg::<DefaultEngine, i64>(skip, s, &mut Steps::new())
     }
 }
 
 impl ParseNeg for i128 {
     #[inline(always)]
-    fn atoi_simd_parse_neg(s: &[u8], skip_zeroes: bool) -> Parsed<'_, Self> {
-        whole_neg::<DefaultEngine, i128>(skip_zeroes, s, &mut Steps::new())
+    fn atoi_simd_parse_neg(s: &[u8], skip: bool) -> Parsed<'_, Self> {
+        whole_neg::<DefaultEngine, i128>(skip, s, &mut Steps::new())
     }
 
     #[inline(always)]
-    fn atoi_simd_parse_prefix_neg(s: &[u8], skip_zeroes: bool) -> Parsed<'_, (Self, usize)> {
-        prefix_neg::<DefaultEngine, i128>(skip_zeroes, s, &mut Steps::new())
+    fn atoi_simd_parse_prefix_neg(s: &[u8], skip: bool) -> Parsed<'_, (Self, usize)> {
+        prefix_neg::<DefaultEngine, i128>(skip, s, &mut Steps::new())
     }
 }
