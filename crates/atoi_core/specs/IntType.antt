@@ -16,6 +16,7 @@ abbrev pub greatest_of : ℕ → Bool → ℕ
 greatest_of bits true = 2 ^ (bits - 1) - 1
 greatest_of bits false = 2 ^ bits - 1
 
+-- The number of bits of a type that a parse can return.
 abbrev pub is_size : ℕ → Bool
 is_size bits = bits == 8 || bits == 16 || bits == 32 || bits == 64 || bits == 128
 
