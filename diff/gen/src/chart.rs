@@ -46,7 +46,7 @@ pub fn chart(rows: &[Row]) -> String {
     let mut body = legend();
     let mut y = TOP;
     for (heading, rows) in [
-        ("Whole texts, compared with str::parse", whole),
+        ("Whole slices, compared with str::parse", whole),
         ("Prefixes, compared with a search for their end and str::parse", prefix),
     ] {
         let (panel, end) = panel(heading, &rows, scale, y);
@@ -86,7 +86,7 @@ fn legend() -> String {
         legend += &text(x + 18.0, 48.0, name);
         x += 180.0;
     }
-    legend += &bold(&text(WIDTH - RIGHT + 30.0, 48.0, "faster form"));
+    legend += &bold(&text(WIDTH - RIGHT + 30.0, 48.0, "faster"));
     legend
 }
 

@@ -40,7 +40,7 @@ pub static ALL: [RustLibrary; 6] = [
         helpers: STANDARD,
     },
     RustLibrary {
-        name: "std on the digits of a prefix",
+        name: "str::parse after a search for the last digit",
         package: None,
         cpu: "x86-64",
         whole: |_| String::new(),
