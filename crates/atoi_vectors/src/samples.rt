@@ -40,7 +40,7 @@ fn errors_of_a_parse(rt: HostRuntime) {
         parse::<i64, false, false>(b"09223372036854775807"),
         Err(AtoiSimdError::Size(20, b"09223372036854775807"))
     );
-    // Out of range. With 16 digits the slice leaves out skipped zeros, with 15 it keeps them.
+    // Out of range. The first slice leaves out the skipped zeros. With one zero fewer, it keeps them.
     assert_eq!(rt;
         parse_prefix::<u8, true, false>(b"0000000000000999x"),
         Err(AtoiSimdError::Overflow(b"999x"))

@@ -191,7 +191,7 @@ fn print_counts(counts: &Counts) {
     print("the rules of docs/SPECIFICATION.md", &counts.rules);
     print("str::parse", &counts.standard);
     if counts.original.compared > 0 {
-        print("the Rust crate 0.18.1", &counts.original);
+        print("the original 0.18.1", &counts.original);
     }
     for (name, times) in &counts.named {
         println!("    {times} more differ as docs/DIFFERENCES.md says: {name}");

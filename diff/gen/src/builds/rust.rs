@@ -40,7 +40,7 @@ pub static ALL: [RustLibrary; 6] = [
         helpers: STANDARD,
     },
     RustLibrary {
-        name: "str::parse after a search for the last digit",
+        name: "str::parse on the leading digits",
         package: None,
         cpu: "x86-64",
         whole: |_| String::new(),
@@ -48,8 +48,8 @@ pub static ALL: [RustLibrary; 6] = [
         splits: false,
         helpers: STANDARD,
     },
-    RustLibrary { name: "the Rust crate's portable build", cpu: "x86-64", ..ORIGINAL },
-    RustLibrary { name: "the Rust crate's AVX2 build", cpu: "x86-64-v3", ..ORIGINAL },
+    RustLibrary { name: "the original, portable build", cpu: "x86-64", ..ORIGINAL },
+    RustLibrary { name: "the original, AVX2 build", cpu: "x86-64-v3", ..ORIGINAL },
     RustLibrary {
         name: "lexical-core",
         package: Some(("lexical-core", "1")),
