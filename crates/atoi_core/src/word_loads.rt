@@ -33,9 +33,9 @@ pub fn load_high(s: &[u8]) -> u64
     requires few { length s.now ≤ 8 }
     ensures { result ≡ word_of (replicate (8 - length s.now) 0 ++ s.now) }
 {
-    let front = first_two(s) | first_four(s);
-    let last = u64::from(s[s.len() - 1]);
-    (front << (64 - 8 * s.len())) | (last_four(s) << 32) | (last << 56)
+    let (first, last) = both_fours(s);
+    let end = u64::from(s[s.len() - 1]);
+    ((first_two(s) | first) << (64 - 8 * s.len())) | (last << 32) | (end << 56)
 }
 
 /// The word of the first 8 bytes from `at` on, or of all from there on if there are fewer, from the
@@ -68,18 +68,22 @@ pub(crate) fn load_full(s: &[u8]) -> u64
     }
 }
 
-// The word of the first four bytes, or 0 if there are fewer. Here and below, LLVM compiles a choice
-// between two arrays, not two numbers, without a branch.
+// The words of the first and of the last four bytes, or 0 if there are fewer. Compilers turn a choice
+// between arrays, here and below, into no branch, but two equal tests into a single one.
 #[tactic(auto, using(crate::proofs::lemmas::LoadedWords::word_from_four))]
-fn first_four(s: &[u8]) -> u64
-    ensures enough { 4 ≤ length s.now → result ≡ word_of (take 4 s.now) }
-    ensures few { length s.now < 4 → result ≡ 0 }
+fn both_fours(s: &[u8]) -> (u64, u64)
+    ensures first { 4 ≤ length s.now → result.0 ≡ word_of (take 4 s.now) }
+    ensures last { 4 ≤ length s.now → result.1 ≡ word_of (drop (length s.now - 4) s.now) }
+    ensures few { length s.now < 4 → result ≡ (0, 0) }
 {
-    let bytes = match s.first_chunk::<4>() {
-        Some(bytes) => bytes,
-        None => &[0; 4],
+    let (first, last) = match (s.first_chunk::<4>(), s.last_chunk::<4>()) {
+        (Some(first), Some(last)) => (first, last),
+        _ => (&[0; 4], &[0; 4]),
     };
-    u64::from(u32::from_le_bytes(*bytes))
+    (
+        u64::from(u32::from_le_bytes(*first)),
+        u64::from(u32::from_le_bytes(*last)),
+    )
 }
 
 #[tactic(auto, using(crate::proofs::lemmas::LoadedWords::word_from_two))]
@@ -92,16 +96,4 @@ fn first_two(s: &[u8]) -> u64
         None => &[0; 2],
     };
     u64::from(u16::from_le_bytes(*bytes))
-}
-
-#[tactic(auto, using(crate::proofs::lemmas::LoadedWords::word_from_four))]
-fn last_four(s: &[u8]) -> u64
-    ensures enough { 4 ≤ length s.now → result ≡ word_of (drop (length s.now - 4) s.now) }
-    ensures few { length s.now < 4 → result ≡ 0 }
-{
-    let bytes = match s.last_chunk::<4>() {
-        Some(bytes) => bytes,
-        None => &[0; 4],
-    };
-    u64::from(u32::from_le_bytes(*bytes))
 }
