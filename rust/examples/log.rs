@@ -1,0 +1,54 @@
+//! Adds up the requests of a web server's access log, which it reads from standard input. Skips the
+//! lines that have no status and size, and says why.
+
+use std::io::{self, BufRead};
+use std::str::from_utf8;
+use torkettle::{AtoiSimdError, Parse, parse_prefix};
+
+fn reason(error: AtoiSimdError<'_>) -> &'static str {
+    match error {
+        AtoiSimdError::Empty => "no digit",
+        _ => "number out of range",
+    }
+}
+
+// Returns the number at the start of `text`, and what follows the space after it.
+fn number_and_rest<T: Parse>(text: &[u8]) -> Result<(T, &[u8]), &'static str> {
+    let (number, len) = parse_prefix::<T, true, false>(text).map_err(reason)?;
+    match &text[len..] {
+        [] => Ok((number, &[])),
+        [b' ', rest @ ..] => Ok((number, rest)),
+        _ => Err("no space after the number"),
+    }
+}
+
+// Returns the status and the size, which follow the request: `.. "GET / HTTP/1.1" 200 5316 ..`.
+fn status_and_size(line: &[u8]) -> Result<(u16, u64), &'static str> {
+    let line = from_utf8(line.trim_ascii_end()).map_err(|_| "not UTF-8")?;
+    let (_, numbers) = line.split_once("\" ").ok_or("no request")?;
+    let (status, rest) = number_and_rest::<u16>(numbers.as_bytes())?;
+    let (size, _) = number_and_rest::<u64>(rest)?;
+    Ok((status, size))
+}
+
+fn main() -> io::Result<()> {
+    let (mut requests, mut failed, mut bytes, mut skipped) = (0_u64, 0_u64, 0_u64, 0_u64);
+    for (number, line) in (1..).zip(io::stdin().lock().split(b'\n')) {
+        match status_and_size(&line?) {
+            Ok((status, size)) => {
+                requests += 1;
+                failed += u64::from(status >= 400);
+                bytes = bytes.saturating_add(size);
+            }
+            Err(reason) => {
+                println!("line {number} is skipped: {reason}");
+                skipped += 1;
+            }
+        }
+    }
+    println!("requests {requests:10}");
+    println!("failed   {failed:10}");
+    println!("bytes    {bytes:10}");
+    println!("skipped  {skipped:10}");
+    Ok(())
+}

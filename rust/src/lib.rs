@@ -1,0 +1,111 @@
+//! Parses decimal integers from byte slices, for the twelve integer types of Rust: exactly, without
+//! allocation, without `std` and without `unsafe` code.
+//!
+//! ```
+//! use torkettle::{AtoiSimdError, parse, parse_prefix};
+//!
+//! assert_eq!(parse::<u16, false, false>(b"8080"), Ok(8080));
+//! assert_eq!(parse::<i8, false, false>(b"-128"), Ok(-128));
+//! assert_eq!(parse_prefix::<i32, true, true>(b"+0042,7"), Ok((42, 5)));
+//! assert_eq!(parse::<u8, false, false>(b"256x"), Err(AtoiSimdError::Overflow(b"256x")));
+//! ```
+//!
+//! `parse` reads a whole slice. `parse_prefix` reads the number at the start of a slice, and also
+//! returns the length of that number in bytes. The two `bool` parameters are flags. The first,
+//! `SKIP_ZEROES`, allows any number of leading zeros: without it, they count as digits, of which some
+//! types have a limit. The second, `SKIP_PLUS`, allows a `+` before the digits.
+//!
+//! Names, signatures and results are those of the crate `atoi_simd` 0.18.1, apart from [a few
+//! differences][differences]. To use this crate in its place, change one line of `Cargo.toml`:
+//!
+//! ```toml
+//! [dependencies]
+//! atoi_simd = { package = "torkettle", version = "0.1" }
+//! ```
+//!
+//! Where a number ends, the rest begins:
+//!
+//! ```
+//! use torkettle::{AtoiSimdError, parse_prefix};
+//!
+//! // Reads the numbers of `7x42`.
+//! fn size(text: &[u8]) -> Result<Option<(u32, u32)>, AtoiSimdError<'_>> {
+//!     let (width, count) = parse_prefix::<u32, false, false>(text)?;
+//!     let Some(rest) = text[count..].strip_prefix(b"x") else { return Ok(None) };
+//!     let (height, count) = parse_prefix::<u32, false, false>(rest)?;
+//!     Ok(rest[count..].is_empty().then_some((width, height)))
+//! }
+//!
+//! assert_eq!(size(b"7x42"), Ok(Some((7, 42))));
+//! assert_eq!(size(b"7x"), Err(AtoiSimdError::Empty));
+//! assert_eq!(size(b"7-42"), Ok(None));
+//! ```
+//!
+//! # What is proved
+//!
+//! The sources are written in Rattle, which is Rust with contracts, and a proof checker has verified
+//! that every function there returns exactly what its contract says. A build script leaves the
+//! contracts out, and this crate is what remains. What the proofs do not cover is that script, rustc,
+//! and that Rust's `core` means what Rattle's `std` says. Tests compare the results of this crate with
+//! the rules, with `str::parse`, with `atoi_simd`, and with the build of the checker's own compiler.
+//!
+//! # Features
+//!
+//! - `std`, which is on by default, changes nothing. The crate never uses `std`.
+//! - `lanes` adds the module `lanes`, which has the ten functions on `core::simd`. It needs a nightly
+//!   compiler, and no version promises that it stays as it is.
+//!
+//! [differences]: https://docs.rs/crate/torkettle/latest/source/docs/DIFFERENCES.md
+#![no_std]
+#![cfg_attr(not(feature = "lanes"), forbid(unsafe_code))]
+#![cfg_attr(feature = "lanes", feature(portable_simd), deny(unsafe_code))]
+#![warn(missing_docs)]
+
+#[cfg(not(target_pointer_width = "64"))]
+compile_error!("torkettle needs a target with 64-bit pointers: its proofs are for no others");
+
+// Public there is also what only the crates themselves call, with conditions that their proofs meet.
+#[cfg(target_pointer_width = "64")]
+#[allow(dead_code, unused_imports, unused_variables, missing_docs, clippy::all)]
+mod proved {
+    include!(concat!(env!("OUT_DIR"), "/proved.rs"));
+}
+
+#[cfg(all(target_pointer_width = "64", feature = "lanes"))]
+mod simd;
+
+#[cfg(target_pointer_width = "64")]
+pub use proved::atoi_simd::{
+    AtoiSimdError, Parse, ParseNeg, parse, parse_any, parse_any_neg, parse_any_pos, parse_neg,
+    parse_pos, parse_prefix, parse_prefix_neg, parse_prefix_pos, parse_skipped,
+};
+
+/// Columns: the numbers of a byte slice that are separated by one byte, such as a comma.
+///
+/// ```
+/// use torkettle::column::{Column, ColumnError};
+///
+/// let mut column = Column::<u16>::new(b"80,443,8080", b',');
+/// assert_eq!(column.next(), Some(Ok(80)));
+/// assert_eq!(column.sum::<Result<u16, ColumnError>>(), Ok(8523));
+///
+/// let mut column = Column::<u16>::new(b"80,44x,8080", b',');
+/// assert_eq!(column.next(), Some(Ok(80)));
+/// assert_eq!(column.next(), Some(Err(ColumnError::Trailing { index: 1, place: 5 })));
+/// assert_eq!(column.next(), None);
+/// ```
+#[cfg(target_pointer_width = "64")]
+pub mod column {
+    pub use crate::proved::atoi_column::{Column, ColumnError, is_separator};
+}
+
+/// The ten functions with the same results, computed with vectors of sixteen bytes.
+///
+/// This module needs a nightly compiler, and no version promises that it stays as it is.
+#[cfg(all(target_pointer_width = "64", feature = "lanes"))]
+pub mod lanes {
+    pub use crate::proved::atoi_lanes::{
+        AtoiSimdError, Parse, ParseNeg, parse, parse_any, parse_any_neg, parse_any_pos, parse_neg,
+        parse_pos, parse_prefix, parse_prefix_neg, parse_prefix_pos, parse_skipped,
+    };
+}
