@@ -3,7 +3,6 @@
 use super::place::{Placed, place};
 use std::env;
 use std::fs;
-use std::hash::{DefaultHasher, Hash, Hasher};
 use std::path::{Path, PathBuf};
 
 /// The folder, and the repository that it is for.
@@ -67,13 +66,6 @@ impl Cache {
         }
         Ok(Placed::in_folder(&folder))
     }
-}
-
-/// A number that is the same for equal values.
-pub fn stamp(value: &impl Hash) -> u64 {
-    let mut hasher = DefaultHasher::new();
-    value.hash(&mut hasher);
-    hasher.finish()
 }
 
 /// The message for a file or a folder that could not be read or written.

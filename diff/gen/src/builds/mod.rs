@@ -10,6 +10,7 @@ mod exports;
 mod other;
 mod place;
 mod rust;
+mod stamp;
 mod workspace;
 
 pub use cache::Cache;
@@ -19,6 +20,7 @@ pub use other::all as others;
 use crate::question::Integer;
 use crate::tables::{self, Form, Shape};
 use place::{PLACES, Placed};
+use stamp::Stamp;
 use std::path::{Path, PathBuf};
 use workspace::{Library, Sources, Workspace};
 
@@ -106,8 +108,8 @@ impl State<'_> {
 
     // Builds a library of exports, unless the cache has it.
     fn placed(&self, library: &Library, names: &[String]) -> Result<Placed, String> {
-        let stamp = cache::stamp(&(&self.sources, library, self.cpu, kit()?));
-        let name = format!("{}-{stamp:016x}", library.name);
+        let stamp = library.stamp(self.sources.stamp(Stamp::new()));
+        let name = format!("{}-{}", library.name, stamp.with(self.cpu).with(kit()?));
         self.cache.placed(&name, names, |_| {
             let workspace = Workspace::new(&self.workspace, &self.sources)?;
             Ok(vec![workspace.build(library, self.cpu)?])

@@ -1,8 +1,9 @@
 //! The other libraries that ours is compared with. Each is optional: one that cannot be built on
 //! this machine is left out, with one line that says why.
 
-use super::cache::{stamp, write};
+use super::cache::write;
 use super::command::reason;
+use super::stamp::Stamp;
 use super::workspace::{Sources, Workspace};
 use super::{Build, Cache, cpp, exports, kit, run, rust};
 use crate::tables;
@@ -34,7 +35,7 @@ pub fn all(cache: &Cache) -> (Vec<Build>, Vec<LeftOut>) {
 fn from_chars(cache: &Cache) -> Result<Build, String> {
     let version = run(Command::new("g++").arg("-dumpfullversion"))?;
     let (text, names) = cpp::from_chars(&tables::calls()?, &tables::column_types()?);
-    let name = format!("from_chars-{:016x}", stamp(&(&text, &version)));
+    let name = format!("from_chars-{}", Stamp::new().with(&text).with(&version));
     let placed = cache.placed(&name, &names, |room| {
         let (source, object) = (room.join("from_chars.cc"), room.join("from_chars.o"));
         write(&source, &text)?;
@@ -49,7 +50,7 @@ fn from_chars(cache: &Cache) -> Result<Build, String> {
 // The two integer calls of the kit's crate `fast_float`.
 fn fast_float(cache: &Cache) -> Result<Build, String> {
     let (library, names) = exports::fast_float(&tables::calls()?);
-    let name = format!("fast_float-{:016x}", stamp(&(&library, kit()?)));
+    let name = format!("fast_float-{}", library.stamp(Stamp::new()).with(kit()?));
     let placed = cache.placed(&name, &names, |_| {
         let (folder, sources) = (cache.folder("kit"), Sources::default());
         Ok(vec![Workspace::new(&folder, &sources)?.build(&library, "x86-64-v2")?])

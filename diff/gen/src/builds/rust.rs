@@ -1,6 +1,7 @@
 //! The exports of other Rust code: std, and crates from a registry, which cargo compiles.
 
-use super::cache::{stamp, write};
+use super::cache::write;
+use super::stamp::Stamp;
 use super::{Build, Cache, run};
 use crate::question::Integer;
 use crate::tables::{self, Form, Function, Shape, TimedCall};
@@ -137,9 +138,11 @@ impl RustLibrary {
         let version = run(Command::new("rustc").arg("--version"))?;
         let (text, names) = self.source()?;
         let debian = self.package.and_then(|(name, _)| debian_version(name));
-        let stamp = stamp(&(&text, self.cpu, self.package, &version, &debian));
-        let folder = cache.folder("rust").join(format!("{stamp:016x}"));
-        let placed = cache.placed(&format!("rust-{stamp:016x}"), &names, |_| {
+        let (package, wanted) = self.package.unwrap_or_default();
+        let stamp = Stamp::new().with(&text).with(self.cpu).with(package).with(wanted);
+        let stamp = stamp.with(&version).with(debian.as_deref().unwrap_or_default());
+        let folder = cache.folder("rust").join(stamp.to_string());
+        let placed = cache.placed(&format!("rust-{stamp}"), &names, |_| {
             Ok(vec![self.compile(&folder, &text, debian.as_deref())?])
         })?;
         let name = match self.package {

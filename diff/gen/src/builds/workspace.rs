@@ -4,6 +4,7 @@
 
 use super::cache::{failed, write};
 use super::run;
+use super::stamp::Stamp;
 use std::collections::{BTreeMap, BTreeSet};
 use std::fs;
 use std::path::{Path, PathBuf};
@@ -13,7 +14,6 @@ use std::process::Command;
 const ROOTS: [&str; 2] = ["atoi_simd", "atoi_column"];
 
 /// A static library of exports.
-#[derive(Hash)]
 pub struct Library {
     pub name: &'static str,
     /// The libraries that it uses.
@@ -22,8 +22,16 @@ pub struct Library {
     pub files: Vec<(&'static str, String)>,
 }
 
+impl Library {
+    /// Adds everything that the library is made of.
+    pub fn stamp(&self, stamp: Stamp) -> Stamp {
+        let stamp = stamp.with(self.name).with(self.uses);
+        self.files.iter().fold(stamp, |stamp, (name, text)| stamp.with(name).with(text))
+    }
+}
+
 /// The texts of the crates that the exports need.
-#[derive(Hash, Default)]
+#[derive(Default)]
 pub struct Sources {
     // What each crate uses: its lines of `crates.txt`.
     uses: BTreeMap<String, String>,
@@ -53,6 +61,15 @@ impl Sources {
             }
         }
         Ok(sources)
+    }
+
+    /// Adds every crate and every file.
+    pub fn stamp(&self, stamp: Stamp) -> Stamp {
+        let stamp = self.uses.iter().fold(stamp, |stamp, (name, uses)| stamp.with(name).with(uses));
+        let add = |stamp: Stamp, (path, text): (&PathBuf, &Vec<u8>)| {
+            stamp.with(path.to_string_lossy().as_bytes()).with(text)
+        };
+        self.files.iter().fold(stamp, add)
     }
 
     // Reads every file below a folder, if there is such a folder.
