@@ -1,9 +1,4 @@
-//! What a call answers, and how the exports are asked.
-
-use crate::question::{Library, Question};
-use crate::timing::Object;
-use std::ffi::c_void;
-use std::path::Path;
+//! What a call answers, and how an export passes it on.
 
 /// What a call answers. `place` is the number of bytes of the text before the error's slice, and
 /// this slice is the rest of the text.
@@ -45,9 +40,10 @@ impl Answer {
     }
 }
 
-/// An answer as `torkettle_answer` writes it. The fields are those of `Answer` in `diff/exports`.
+/// An answer as `torkettle_answer` writes it. The fields are those of `Answer` in
+/// `diff/exports/answer.rt.in`.
 #[repr(C)]
-#[derive(Clone, Copy, PartialEq, Eq, Debug, Default)]
+#[derive(Clone, Copy, PartialEq, Eq, Debug)]
 pub struct RawAnswer {
     variant: u32,
     negative: bool,
@@ -58,53 +54,85 @@ pub struct RawAnswer {
     place: usize,
 }
 
-// Rattle passes a slice as the address of its first byte and its length. The order is: whether it
-// is a call of `lanes`, the numbers of the call and of the type, both flags, text and answer.
-type Export = unsafe extern "C" fn(bool, u32, u32, bool, bool, *const u8, usize, *mut RawAnswer);
+impl RawAnswer {
+    /// What no call should answer.
+    pub const UNLIKE: RawAnswer = RawAnswer::plain(6);
 
-/// The export that makes any call of both forms: `torkettle_answer` of `diff/exports`.
-pub struct Answers(Export);
-
-impl Answers {
-    /// Loads it.
-    pub fn open(file: &Path) -> Result<Answers, String> {
-        let address = Object::open(file)?.address("torkettle_answer");
-        let address = address.ok_or("diff/exports has no torkettle_answer")?;
-        // SAFETY: `diff/exports` declares the function with this type.
-        Ok(Answers(unsafe { std::mem::transmute::<*mut c_void, Export>(address.as_ptr()) }))
+    const fn plain(variant: u32) -> RawAnswer {
+        RawAnswer {
+            variant,
+            negative: false,
+            ends_the_text: false,
+            low: 0,
+            high: 0,
+            count: 0,
+            place: 0,
+        }
     }
 
-    /// What a library answers to a question about a text.
-    pub fn of(&self, library: Library, question: &Question, text: &[u8]) -> Answer {
-        let mut answer = RawAnswer::default();
-        // SAFETY: the address and the length are of one slice, which the call only reads, and
-        // `RawAnswer` has the fields of the struct that the call writes.
-        unsafe {
-            (self.0)(
-                library == Library::Lanes,
-                question.call as u32,
-                question.integer as u32,
-                question.skip_zeroes,
-                question.skip_plus,
-                text.as_ptr(),
-                text.len(),
-                &mut answer,
-            );
-        }
-        from_raw(answer)
+    // The answer for an error that has a slice.
+    fn refused(variant: u32, number: u128, count: usize, place: usize) -> RawAnswer {
+        RawAnswer { ends_the_text: true, count, place, ..RawAnswer::plain(variant) }.of(number)
+    }
+
+    fn of(self, number: u128) -> RawAnswer {
+        RawAnswer { low: number as u64, high: (number >> 64) as u64, ..self }
     }
 }
 
-fn from_raw(raw: RawAnswer) -> Answer {
-    let RawAnswer { count, place, .. } = raw;
-    let number = u128::from(raw.high) << 64 | u128::from(raw.low);
-    match (raw.variant, raw.ends_the_text) {
-        (0, false) => Answer::Value { negative: raw.negative, magnitude: number, count },
-        (1, false) => Answer::Empty,
-        (2, true) => Answer::Size { length: count, place },
-        (3, true) => Answer::Overflow { place },
-        (4, true) => Answer::Invalid64 { number, index: count, place },
-        (5, true) => Answer::Invalid128 { number, index: count, place },
-        _ => Answer::Unlike(raw),
+impl From<RawAnswer> for Answer {
+    fn from(raw: RawAnswer) -> Answer {
+        let RawAnswer { count, place, .. } = raw;
+        let number = u128::from(raw.high) << 64 | u128::from(raw.low);
+        match (raw.variant, raw.ends_the_text) {
+            (0, false) => Answer::Value { negative: raw.negative, magnitude: number, count },
+            (1, false) => Answer::Empty,
+            (2, true) => Answer::Size { length: count, place },
+            (3, true) => Answer::Overflow { place },
+            (4, true) => Answer::Invalid64 { number, index: count, place },
+            (5, true) => Answer::Invalid128 { number, index: count, place },
+            _ => Answer::Unlike(raw),
+        }
+    }
+}
+
+impl From<Answer> for RawAnswer {
+    fn from(answer: Answer) -> RawAnswer {
+        match answer {
+            Answer::Value { negative, magnitude, count } => {
+                RawAnswer { negative, count, ..RawAnswer::plain(0) }.of(magnitude)
+            }
+            Answer::Empty => RawAnswer::plain(1),
+            Answer::Size { length, place } => RawAnswer::refused(2, 0, length, place),
+            Answer::Overflow { place } => RawAnswer::refused(3, 0, 0, place),
+            Answer::Invalid64 { number, index, place } => {
+                RawAnswer::refused(4, number, index, place)
+            }
+            Answer::Invalid128 { number, index, place } => {
+                RawAnswer::refused(5, number, index, place)
+            }
+            Answer::Unlike(raw) => raw,
+        }
+    }
+}
+
+#[cfg(test)]
+mod tests {
+    use super::{Answer, RawAnswer};
+
+    #[test]
+    fn every_answer_comes_back() {
+        let number = u128::MAX - 5;
+        for answer in [
+            Answer::value(true, number, 7),
+            Answer::Empty,
+            Answer::Size { length: 17, place: 2 },
+            Answer::Overflow { place: 3 },
+            Answer::Invalid64 { number, index: 4, place: 1 },
+            Answer::Invalid128 { number, index: 4, place: 0 },
+            Answer::Unlike(RawAnswer::UNLIKE),
+        ] {
+            assert_eq!(Answer::from(RawAnswer::from(answer)), answer);
+        }
     }
 }

@@ -1,30 +1,66 @@
-//! The comparison of both libraries with the rules, with `str::parse` and, if the feature
-//! `original` is on, with the Rust crate.
+//! The comparison of the answers of our builds with the rules, with `str::parse`, with the original,
+//! and with each other.
 
-use crate::answer::{Answer, Answers};
-#[cfg(feature = "original")]
-use crate::original;
+use crate::answer::Answer;
+use crate::answers::Answers;
 use crate::question::{Library, Question};
 use crate::random::Random;
-use crate::{rules, standard, texts};
+use crate::{original, rules, standard, texts};
+use std::fmt;
 use std::time::{Duration, Instant};
 
 // The largest number of differences that are printed. All differences are counted.
 const PRINTED: u64 = 20;
 
-/// How many answers were compared with one side, and how many differed.
-#[derive(Default)]
+/// What is compared.
+pub struct Sides {
+    pub ours: Vec<Ours>,
+    /// The Rust crate, if it is there.
+    pub original: Option<Answers>,
+}
+
+/// One of the two libraries in one of our builds.
+pub struct Ours {
+    pub build: &'static str,
+    pub library: Library,
+    pub answers: Answers,
+}
+
+impl fmt::Display for Ours {
+    fn fmt(&self, f: &mut fmt::Formatter<'_>) -> fmt::Result {
+        let library = if self.library == Library::Words { "root" } else { "lanes" };
+        write!(f, "{library} of {}", self.build)
+    }
+}
+
+/// With what an answer of ours is compared.
+#[derive(Clone, Copy, PartialEq, Eq)]
+pub enum Beside {
+    Rules,
+    Standard,
+    Original,
+    /// The same library in the first of our builds that has it.
+    FirstBuild,
+}
+
+impl Beside {
+    /// All of them.
+    pub const ALL: [Beside; 4] =
+        [Beside::Rules, Beside::Standard, Beside::Original, Beside::FirstBuild];
+}
+
+/// How many answers were compared, and how many differed in a way that docs/DIFFERENCES.md does not
+/// name.
+#[derive(Clone, Copy, Default)]
 pub struct Count {
     pub compared: u64,
     pub differences: u64,
 }
 
 /// The result of a comparison.
-#[derive(Default)]
 pub struct Counts {
-    pub rules: Count,
-    pub standard: Count,
-    pub original: Count,
+    // For each of ours, in the order of `Beside::ALL`.
+    counts: Vec<[Count; 4]>,
     /// The differences from the Rust crate that docs/DIFFERENCES.md lists: the name of each, and
     /// how often it was found.
     pub named: Vec<(&'static str, u64)>,
@@ -32,36 +68,37 @@ pub struct Counts {
 }
 
 impl Counts {
-    /// How many answers were compared.
-    pub fn compared(&self) -> u64 {
-        self.rules.compared + self.standard.compared + self.original.compared
+    fn new(sides: &Sides) -> Counts {
+        let counts = vec![[Count::default(); 4]; sides.ours.len()];
+        Counts { counts, named: Vec::new(), time: Duration::ZERO }
     }
 
-    /// How many answers differed in a way that docs/DIFFERENCES.md does not name.
-    pub fn differences(&self) -> u64 {
-        self.rules.differences + self.standard.differences + self.original.differences
+    /// What was counted for one of ours.
+    pub fn of(&self, ours: usize, beside: Beside) -> Count {
+        self.counts[ours][beside as usize]
+    }
+
+    /// Everything that was counted.
+    pub fn total(&self) -> Count {
+        self.counts.iter().flatten().fold(Count::default(), |total, count| Count {
+            compared: total.compared + count.compared,
+            differences: total.differences + count.differences,
+        })
     }
 
     fn print_progress(&self, percent: u64) {
-        let (compared, differences) = (self.compared(), self.differences());
+        let Count { compared, differences } = self.total();
         eprintln!("{percent:3} % {compared:>11} compared, {differences} differ");
     }
 
-    // Counts a comparison. If the answers differ, counts the difference, and prints it if fewer
-    // than `PRINTED` were counted before.
-    fn count(&mut self, side: fn(&mut Counts) -> &mut Count, differs: Option<Difference<'_>>) {
-        let printed = self.differences();
-        let count = side(self);
+    // Counts a comparison. Says whether a difference has to be printed.
+    fn count(&mut self, ours: usize, beside: Beside, differs: bool) -> bool {
+        let count = &mut self.counts[ours][beside as usize];
         count.compared += 1;
-        if let Some(difference) = differs {
-            count.differences += 1;
-            if printed < PRINTED {
-                difference.print();
-            }
-        }
+        count.differences += u64::from(differs);
+        differs && self.total().differences <= PRINTED
     }
 
-    #[cfg(feature = "original")]
     fn name(&mut self, name: &'static str) {
         match self.named.iter_mut().find(|(known, _)| *known == name) {
             Some((_, times)) => *times += 1,
@@ -70,41 +107,18 @@ impl Counts {
     }
 }
 
-// An answer of ours that differs from that of another side. For `str::parse`, `theirs` is `None`.
-struct Difference<'a> {
-    question: &'a Question,
-    library: Library,
-    text: &'a [u8],
-    ours: Answer,
-    beside: &'static str,
-    theirs: Option<Answer>,
-}
-
-impl Difference<'_> {
-    fn print(&self) {
-        let library = if self.library == Library::Words { "root" } else { "lanes" };
-        let text = self.text.escape_ascii();
-        println!("differs from {}: {} of {library} on \"{text}\"", self.beside, self.question);
-        println!("    here  {:?}", self.ours);
-        if let Some(theirs) = self.theirs {
-            println!("    there {theirs:?}");
-        }
-    }
-}
-
-/// Asks both libraries every question about each of `texts` random texts, which depend only on
-/// `seed`.
-pub fn compare(answers: &Answers, seed: u64, texts: u64) -> Counts {
+/// Asks every question about each of `texts` random texts, which depend only on `seed`.
+pub fn compare(sides: &Sides, seed: u64, texts: u64) -> Counts {
     let questions = Question::all();
     let mut random = Random::new(seed);
-    let mut counts = Counts::default();
+    let mut counts = Counts::new(sides);
     let mut signed = Vec::new();
     let from = Instant::now();
     for number in 1..=texts {
         signed.clear();
         signed.push(b'-');
         texts::push_text(&mut random, &mut signed);
-        questions.iter().for_each(|question| ask(answers, question, &signed, &mut counts));
+        questions.iter().for_each(|question| ask(sides, question, &signed, &mut counts));
         if number % (texts / 20).max(1) == 0 {
             counts.print_progress(100 * number / texts);
         }
@@ -113,35 +127,61 @@ pub fn compare(answers: &Answers, seed: u64, texts: u64) -> Counts {
     counts
 }
 
-// Compares the answers of both libraries to one question with the answers of the rules, of
-// `str::parse` and, if the feature `original` is on, of the Rust crate. `signed` is a minus and
-// then the text.
-fn ask(answers: &Answers, question: &Question, signed: &[u8], counts: &mut Counts) {
+// Asks one question. `signed` is a minus and then the text.
+fn ask(sides: &Sides, question: &Question, signed: &[u8], counts: &mut Counts) {
     let text = &signed[1..];
     let expected = rules::answer(question, text);
-    #[cfg(feature = "original")]
-    let original = original::answer(question, text);
-    for library in [Library::Words, Library::Lanes] {
-        let ours = answers.of(library, question, text);
-        let beside = |beside, theirs| Difference { question, library, text, ours, beside, theirs };
-
-        let differs = (ours != expected).then(|| beside("the rules", Some(expected)));
-        counts.count(|counts| &mut counts.rules, differs);
-
-        if let Some(agrees) = standard::agrees(question, &ours, text, signed) {
-            let differs = (!agrees).then(|| beside("str::parse", None));
-            counts.count(|counts| &mut counts.standard, differs);
+    let original = sides.original.map(|answers| answers.of(Library::Words, question, text));
+    let mut first = [None; 2];
+    for (number, ours) in sides.ours.iter().enumerate() {
+        let answer = ours.answers.of(ours.library, question, text);
+        let mut count = |beside, differs, theirs| {
+            if counts.count(number, beside, differs) {
+                Difference { ours, question, text, answer, beside, theirs }.print();
+            }
+        };
+        count(Beside::Rules, answer != expected, Some(expected));
+        if let Some(agrees) = standard::agrees(question, &answer, text, signed) {
+            count(Beside::Standard, !agrees, None);
         }
-
-        #[cfg(feature = "original")]
-        {
-            let kind = original::beside(question, text, &ours, &original);
-            let differs = matches!(kind, original::Kind::Unnamed)
-                .then(|| beside("the Rust crate", Some(original)));
-            counts.count(|counts| &mut counts.original, differs);
+        match &mut first[ours.library as usize] {
+            Some(first) => count(Beside::FirstBuild, answer != *first, Some(*first)),
+            none => *none = Some(answer),
+        }
+        if let Some(original) = original {
+            let kind = original::beside(question, text, &answer, &original);
+            let differs = matches!(kind, original::Kind::Unnamed);
+            count(Beside::Original, differs, Some(original));
             if let original::Kind::Named(name) = kind {
                 counts.name(name);
             }
+        }
+    }
+}
+
+// An answer of ours that differs from another. `theirs` is `None` for `str::parse`.
+struct Difference<'a> {
+    ours: &'a Ours,
+    question: &'a Question,
+    text: &'a [u8],
+    answer: Answer,
+    beside: Beside,
+    theirs: Option<Answer>,
+}
+
+impl Difference<'_> {
+    fn print(&self) {
+        let beside = match self.beside {
+            Beside::Rules => "the rules",
+            Beside::Standard => "str::parse",
+            Beside::Original => "the original",
+            Beside::FirstBuild => "the kit's build",
+        };
+        let text = self.text.escape_ascii();
+        println!("{} differs from {beside}: {} on \"{text}\"", self.ours, self.question);
+        println!("    here  {:?}", self.answer);
+        if let Some(theirs) = self.theirs {
+            println!("    there {theirs:?}");
         }
     }
 }

@@ -1,35 +1,35 @@
-//! Compares the answers of `atoi_simd` and its module `lanes` with the rules of
-//! docs/SPECIFICATION.md and with `str::parse`, times them beside an earlier state and beside other
-//! libraries, and counts their instructions. With the feature `original`, it also compares the
-//! answers with those of the Rust crate `atoi_simd`.
+//! Compares the answers of `atoi_simd` and its module `lanes`, built by the kit and as the Cargo
+//! package, with the rules of docs/SPECIFICATION.md, with `str::parse`, with the Rust crate
+//! `atoi_simd`, and with each other. Times them beside an earlier state and beside other libraries,
+//! through exports and inlined, and counts their instructions.
 //!
 //! `arguments::USAGE` lists the arguments. The status is 1 if an answer differs in a way that
 //! docs/DIFFERENCES.md does not name, 2 if something that was asked for cannot be done, and 0
 //! otherwise.
 
 mod answer;
+mod answers;
 mod arguments;
 mod builds;
 mod chart;
 mod compare;
 mod count;
 mod numbers;
-#[cfg(feature = "original")]
 mod original;
 mod question;
 mod random;
 mod report;
 mod rules;
+mod sides;
 mod standard;
 mod tables;
 mod texts;
 mod timing;
 
-use answer::Answers;
 use arguments::{Arguments, DEFAULT_CPU, Task};
-use builds::{Build, Cache, State};
+use builds::{Build, Cache, Inlined, Package, State};
 use chart::Row;
-use compare::Counts;
+use compare::{Beside, Counts, Sides};
 use question::Integer;
 use random::Random;
 use report::Table;
@@ -37,11 +37,8 @@ use std::env;
 use std::fs;
 use std::path::Path;
 use std::process::ExitCode;
-use tables::{Form, InputList};
+use tables::{Form, InputList, Shape};
 use timing::{Effort, Side, Times};
-
-// How many rounds each pass has.
-const ROUNDS: usize = 60;
 
 fn main() -> ExitCode {
     let words: Vec<String> = env::args().skip(1).collect();
@@ -68,29 +65,48 @@ fn main() -> ExitCode {
 // Does what the arguments say, and returns how many answers differed.
 fn run(arguments: &Arguments) -> Result<u64, String> {
     let cache = Cache::new()?;
-    let state = State::of_checkout(&cache, &arguments.cpu)?;
+    let task = arguments.task;
     let mut differences = 0;
-    if matches!(arguments.task, Task::Everything | Task::Compare) {
-        differences += compare(arguments, &state)?;
+    if task.includes(Task::Compare) {
+        differences += compare(arguments, &cache)?;
     }
-    if arguments.task != Task::Compare {
-        let builds = builds_of(arguments, &cache, &state)?;
-        println!("{}; ours is built for {}", builds::kit()?, arguments.cpu);
+    if task != Task::Compare {
         println!("timed or counted on {}", timing::Processor);
-        differences += match arguments.task {
-            Task::Count => count(&cache, &builds)?,
-            _ => time(arguments, &cache, &builds)?,
-        };
+    }
+    if task.includes(Task::Exports) || task == Task::Count {
+        differences += exports(arguments, &cache)?;
+    }
+    if task.includes(Task::Inlined) {
+        differences += inlined(arguments, &cache)?;
     }
     Ok(differences)
 }
 
-fn compare(arguments: &Arguments, state: &State) -> Result<u64, String> {
+fn compare(arguments: &Arguments, cache: &Cache) -> Result<u64, String> {
     println!("seed {}, {} texts", arguments.seed, arguments.texts);
-    let answers = Answers::open(&state.answers()?)?;
-    let counts = compare::compare(&answers, arguments.seed, arguments.texts);
-    print_counts(&counts);
-    Ok(counts.differences())
+    let sides = sides::open(arguments, cache)?;
+    let counts = compare::compare(&sides, arguments.seed, arguments.texts);
+    print_counts(&sides, &counts);
+    Ok(counts.total().differences)
+}
+
+// Times or counts the exports of the kit's build. Without the kit there are none.
+fn exports(arguments: &Arguments, cache: &Cache) -> Result<u64, String> {
+    let kit = match builds::kit() {
+        Ok(kit) => kit,
+        Err(fault) if matches!(arguments.task, Task::Everything | Task::Time) => {
+            builds::print_left_out("the times of exports", &fault);
+            return Ok(0);
+        }
+        Err(fault) => return Err(fault),
+    };
+    let state = State::of_checkout(cache, &arguments.cpu)?;
+    let builds = builds_of(arguments, cache, &state)?;
+    println!("{kit}; ours is built for {}", arguments.cpu);
+    match arguments.task {
+        Task::Count => count(cache, &builds),
+        _ => time(arguments, cache, &builds),
+    }
 }
 
 // What is timed or counted. Our library is the first.
@@ -106,11 +122,7 @@ fn builds_of(arguments: &Arguments, cache: &Cache, state: &State) -> Result<Vec<
         let copies = cache.empty_folder("copies")?;
         builds.push(state.timed(&name)?.copied(&copies)?);
     } else {
-        let (others, left_out) = builds::others(cache);
-        builds.extend(others);
-        for left_out in left_out {
-            println!("left out: {}: {}", left_out.name, left_out.reason);
-        }
+        builds.extend(builds::others(cache, arguments.original.as_deref()));
     }
     builds.extend(beside);
     Ok(builds)
@@ -124,24 +136,75 @@ fn count(cache: &Cache, builds: &[Build]) -> Result<u64, String> {
     Ok(count::print(&counts)? as u64)
 }
 
+// The input lists and the columns that are timed.
+fn timed_lines(arguments: &Arguments) -> Result<(Vec<InputList>, Vec<Shape>), String> {
+    let (mut lists, mut shapes) = (tables::input_lists()?, tables::shapes()?);
+    lists.retain(|list| arguments.has(&list.to_string()));
+    shapes.retain(|shape| arguments.has(&format!("column {shape}")));
+    match lists.is_empty() && shapes.is_empty() {
+        true => Err(String::from("no input list and no column has what --only says")),
+        false => Ok((lists, shapes)),
+    }
+}
+
 fn time(arguments: &Arguments, cache: &Cache, builds: &[Build]) -> Result<u64, String> {
-    timing::pin();
-    let effort = Effort { passes: arguments.passes, rounds: ROUNDS };
+    let effort = timing::effort(arguments.passes);
     let mut random = Random::new(arguments.seed);
-    let input_lists = tables::input_lists()?;
+    let (input_lists, shapes) = timed_lines(arguments)?;
     let (sides, tasks) = timing::lists(builds, &input_lists, false, &mut random)?;
-    let times = timing::time(&tasks, effort);
-    let lists = Table { unit: "nanoseconds per call", lines: "input lists", sides, times };
+    let lists = Table::of_lists("", sides, timing::time(&tasks, effort));
     let mut wrong = lists.print();
-    let (sides, tasks) = timing::columns(builds, &tables::shapes()?, &mut random)?;
-    let times = timing::time(&tasks, effort);
-    let columns = Table { unit: "nanoseconds per field", lines: "columns", sides, times };
-    wrong += columns.print();
+    let (sides, tasks) = timing::columns(builds, &shapes, false, &mut random)?;
+    wrong += Table::of_columns("", sides, timing::time(&tasks, effort)).print();
     if arguments.against.is_none() {
         wrong += time_plus(&builds[..1], &input_lists, effort, &mut random)?;
     }
-    draw(arguments, cache, &chart_rows(&input_lists, &lists, builds))?;
+    if arguments.only.is_none() {
+        draw(arguments, cache, &chart_rows(&input_lists, &lists, builds))?;
+    }
     Ok(wrong as u64)
+}
+
+// Times the calls that are inlined in Rust: for each processor, beside others or beside a commit.
+fn inlined(arguments: &Arguments, cache: &Cache) -> Result<u64, String> {
+    let ours = Package::of_folder(cache.repository())?;
+    let mut wrong = 0;
+    for cpu in ["x86-64", "x86-64-v3"] {
+        let built = match &arguments.against {
+            Some(commit) => {
+                let (theirs, name) = Package::of_commit(cache, commit)?;
+                builds::beside_other(cache, &ours, (&theirs, &name), cpu, arguments.has_lanes)
+            }
+            None => {
+                let original = arguments.original.as_deref();
+                builds::beside_others(cache, &ours, original, cpu, arguments.has_lanes)
+            }
+        };
+        wrong += time_inlined(arguments, &built?, cpu)?;
+    }
+    Ok(wrong as u64)
+}
+
+fn time_inlined(arguments: &Arguments, built: &Inlined, cpu: &str) -> Result<usize, String> {
+    let effort = timing::effort(arguments.passes);
+    let mut random = Random::new(arguments.seed);
+    let (lists, shapes) = timed_lines(arguments)?;
+    let how = format!(", inlined in Rust, built for {cpu}");
+    let (sides, tasks) = timing::lists(&built.builds, &lists, false, &mut random)?;
+    let mut wrong = Table::of_lists(&how, sides, timing::time(&tasks, effort)).print();
+    let mut columns = |builds: &[Build], has_errors, how: &str| {
+        let (sides, tasks) = timing::columns(builds, &shapes, has_errors, &mut random)?;
+        wrong += Table::of_columns(how, sides, timing::time(&tasks, effort)).print();
+        Ok::<(), String>(())
+    };
+    columns(&built.builds, false, &how)?;
+    if !built.going_on.is_empty() {
+        columns(&built.going_on, false, &format!("{how}, going on after an error"))?;
+        let (fields, rest) = (&built.going_on[..1], &built.going_on[2..]);
+        let how = format!("{how}, one field in ten is no number");
+        columns(&[fields, rest].concat(), true, &how)?;
+    }
+    Ok(wrong)
 }
 
 // Draws the picture, if std was timed. The picture in docs is of the default processor.
@@ -184,23 +247,30 @@ fn chart_rows<'a>(lists: &'a [InputList], table: &Table, builds: &[Build]) -> Ve
     lists.iter().zip(&table.times).filter_map(row).collect()
 }
 
-fn print_counts(counts: &Counts) {
-    let print = |side: &str, count: &compare::Count| {
-        println!("compared with {side}: {} answers, {} differ", count.compared, count.differences);
-    };
-    print("the rules of docs/SPECIFICATION.md", &counts.rules);
-    print("str::parse", &counts.standard);
-    if counts.original.compared > 0 {
-        print("the original 0.18.1", &counts.original);
+fn print_counts(sides: &Sides, counts: &Counts) {
+    for (number, ours) in sides.ours.iter().enumerate() {
+        println!("{ours}, compared with");
+        for beside in Beside::ALL {
+            let name = match beside {
+                Beside::Rules => "the rules of docs/SPECIFICATION.md",
+                Beside::Standard => "str::parse",
+                Beside::Original => "the original 0.18.1",
+                Beside::FirstBuild => sides::KIT,
+            };
+            let count = counts.of(number, beside);
+            if count.compared > 0 {
+                println!("    {name}: {} answers, {} differ", count.compared, count.differences);
+            }
+        }
     }
     for (name, times) in &counts.named {
         println!("    {times} more differ as docs/DIFFERENCES.md says: {name}");
     }
-    #[cfg(feature = "original")]
-    if !original::IS_PORTABLE {
-        println!("    the crate is built with vector instructions, so it may answer otherwise");
+    if sides.original.is_some() && !original::IS_PORTABLE {
+        println!("    the original is built with vector instructions, so it may answer otherwise");
     }
-    let (compared, differences) = (counts.compared(), counts.differences());
-    let speed = compared as f64 / counts.time.as_secs_f64() / 1e6;
+    let total = counts.total();
+    let speed = total.compared as f64 / counts.time.as_secs_f64() / 1e6;
+    let (compared, differences) = (total.compared, total.differences);
     println!("{compared} comparisons, {speed:.1} million per second; {differences} differ");
 }

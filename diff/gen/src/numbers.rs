@@ -16,6 +16,15 @@ pub enum Digits {
 }
 
 impl Digits {
+    /// Whether all numbers have the same number of digits.
+    pub fn is_one_width(&self) -> bool {
+        match self {
+            Digits::Log => false,
+            Digits::Range(least, most) => least == most,
+            Digits::OneOf(all) => all.len() == 1,
+        }
+    }
+
     fn pick(&self, random: &mut Random) -> usize {
         match self {
             Digits::Log => (1..10).find(|_| random.one_in(2)).unwrap_or(10),

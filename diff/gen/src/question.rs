@@ -39,7 +39,8 @@ pub enum Sign {
 }
 
 impl Call {
-    const ALL: [Call; 10] = [
+    /// Every call, in the order of their numbers.
+    pub const ALL: [Call; 10] = [
         Call::Parse,
         Call::Pos,
         Call::Neg,
@@ -172,7 +173,8 @@ macro_rules! at_type {
 pub(crate) use at_type;
 
 impl Integer {
-    const ALL: [Integer; 12] = [
+    /// Every type, in the order of their numbers.
+    pub const ALL: [Integer; 12] = [
         Integer::U8,
         Integer::I8,
         Integer::U16,

@@ -9,17 +9,30 @@ const BUSY: f64 = 3.0;
 // A ratio above this one is told. One nearer to 1 may be chance.
 const SLOWER: f64 = 1.02;
 
+// If more sides are compared, their ratios are not printed for each line.
+const SHOWN: usize = 6;
+
 /// The times of several sides.
 pub struct Table {
     /// What a time is, as `nanoseconds per call`.
-    pub unit: &'static str,
+    unit: String,
     /// What each line is for, as `input lists`.
-    pub lines: &'static str,
+    lines: &'static str,
     pub sides: Vec<Side>,
     pub times: Vec<Times>,
 }
 
 impl Table {
+    /// The times on input lists. `how` says how the calls were made.
+    pub fn of_lists(how: &str, sides: Vec<Side>, times: Vec<Times>) -> Table {
+        Table { unit: format!("nanoseconds per call{how}"), lines: "input lists", sides, times }
+    }
+
+    /// The times on columns.
+    pub fn of_columns(how: &str, sides: Vec<Side>, times: Vec<Times>) -> Table {
+        Table { unit: format!("nanoseconds per field{how}"), lines: "columns", sides, times }
+    }
+
     /// Prints everything, and returns how many sides answered otherwise than they should.
     pub fn print(&self) -> usize {
         let comparisons = self.comparisons();
@@ -27,7 +40,7 @@ impl Table {
         println!("\nour time divided by theirs: geometric mean of the {} (slowest)\n", self.lines);
         let has_lanes = self.sides.iter().any(|side| side.form == Form::Lanes);
         let forms = if has_lanes { "Root | Lanes" } else { "Ours" };
-        println!("| Compared with | {} | {forms} | Passes differ by |", self.lines);
+        println!("| Compared with | {} | {forms} | passes differ by |", self.lines);
         println!("|---|---|---|---|{}", if has_lanes { "---|" } else { "" });
         let mut spread = 0.0;
         for pair in comparisons.chunk_by(|one, other| self.build(one) == self.build(other)) {
@@ -106,17 +119,19 @@ impl Table {
         }
     }
 
-    // Prints the line of one build, and returns by how many percent the passes differ at most.
+    // Prints the lines of one build, and returns by how many percent the passes differ at most. If
+    // some lists have numbers of one width and some have not, each group has a line too.
     fn print_ratios(&self, pair: &[Comparison]) -> f64 {
-        let ratios: Vec<Ratios> =
-            pair.iter().filter_map(|comparison| comparison.ratios(&self.times)).collect();
-        let spread = ratios.iter().map(|ratios| ratios.spread).fold(0.0, f64::max);
-        let shown = |ratios: &Ratios| format!("{:.2} ({:.2})", ratios.mean, ratios.worst);
-        let shown: Vec<String> = ratios.iter().map(shown).collect();
-        let count = ratios.first().map_or(0, |ratios| ratios.count);
+        let has_both = |times: &&Times| pair.iter().all(|it| it.ratio(times).is_some());
+        let all: Vec<&Times> = self.times.iter().filter(has_both).collect();
+        let (one_width, mixed): (Vec<&Times>, Vec<&Times>) =
+            all.iter().partition(|times| times.is_one_width);
         let name = &self.sides[pair[0].theirs].name;
-        println!("| {name} | {count} | {} | {spread:.1} % |", shown.join(" | "));
-        spread
+        if !one_width.is_empty() && !mixed.is_empty() {
+            print_group(pair, &format!("{name} | {} mixed", mixed.len()), &mixed);
+            print_group(pair, &format!("{name} | {} of one width", one_width.len()), &one_width);
+        }
+        print_group(pair, &format!("{name} | {}", all.len()), &all)
     }
 
     // Prints the lines on which we are slower.
@@ -132,9 +147,20 @@ impl Table {
     }
 }
 
+// Prints the line of one build for a group of lists, and returns by how many percent the passes
+// differ at most.
+fn print_group(pair: &[Comparison], name: &str, times: &[&Times]) -> f64 {
+    let ratios: Vec<Ratios> = pair.iter().filter_map(|it| it.ratios(times)).collect();
+    let spread = ratios.iter().map(|ratios| ratios.spread).fold(0.0, f64::max);
+    let shown = |ratios: &Ratios| format!("{:.2} ({:.2})", ratios.mean, ratios.worst);
+    let shown: Vec<String> = ratios.iter().map(shown).collect();
+    println!("| {name} | {} | {spread:.1} % |", shown.join(" | "));
+    spread
+}
+
 // Whether the ratios of each line are printed beside its times.
 fn has_ratios(comparisons: &[Comparison]) -> bool {
-    comparisons.len() <= 2
+    comparisons.len() <= SHOWN
 }
 
 /// Prints our times on input lists without a plus and on the same input lists with a plus before

@@ -106,6 +106,12 @@ pub struct InputList {
     pub digits: Digits,
 }
 
+impl fmt::Display for InputList {
+    fn fmt(&self, f: &mut fmt::Formatter<'_>) -> fmt::Result {
+        write!(f, "{} {:6}", self.call, self.digits)
+    }
+}
+
 /// A column of numbers of one type.
 pub struct Shape {
     pub integer: Integer,
@@ -116,6 +122,12 @@ impl Shape {
     /// The name under which a build exports the sum of a column of this type.
     pub fn export(integer: Integer) -> String {
         format!("column_{}", integer.name())
+    }
+}
+
+impl fmt::Display for Shape {
+    fn fmt(&self, f: &mut fmt::Formatter<'_>) -> fmt::Result {
+        write!(f, "{:4} {:6}", self.integer.name(), self.digits)
     }
 }
 

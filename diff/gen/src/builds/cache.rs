@@ -47,6 +47,16 @@ impl Cache {
         Ok(folder)
     }
 
+    /// Keeps a file that was built under another name.
+    pub fn keep(&self, built: &Path, file: &Path) -> Result<(), String> {
+        let copy = self.folder("copy");
+        write(&copy, fs::read(built).map_err(|error| failed(built, error))?)?;
+        if let Some(folder) = file.parent() {
+            fs::create_dir_all(folder).map_err(|error| failed(folder, error))?;
+        }
+        fs::rename(&copy, file).map_err(|error| failed(file, error))
+    }
+
     /// The placed shared objects of this name. If the cache does not have them yet, `compile`
     /// makes the object files and archives that are linked. It is given an empty folder.
     pub fn placed(

@@ -2,33 +2,47 @@
 //! library of another commit, and other libraries. All builds export their calls under the same
 //! names (`TimedCall::export`), so that each is called in the same way.
 
+mod asked;
 mod cache;
+mod cargo;
 mod command;
 mod commit;
 mod cpp;
 mod exports;
+mod inlined;
+mod original;
 mod other;
+mod package;
 mod place;
 mod rust;
+mod source;
 mod stamp;
 mod workspace;
 
+pub use asked::{Settings, answers_of_original, answers_of_package};
 pub use cache::Cache;
 pub use command::run;
+pub use inlined::{Inlined, beside_other, beside_others};
 pub use other::all as others;
+pub use package::Package;
 
 use crate::question::Integer;
-use crate::tables::{self, Form, Shape};
+use crate::tables::{self, Form, Shape, TimedCall};
 use place::{PLACES, Placed};
 use stamp::Stamp;
 use std::path::{Path, PathBuf};
 use workspace::{Library, Sources, Workspace};
 
 /// Code that is timed and counted, under the name that the tables have.
+#[derive(Clone)]
 pub struct Build {
     pub name: String,
     /// Whether it is std.
     pub is_standard: bool,
+    /// What the names of its exports begin with.
+    prefix: &'static str,
+    /// Whether an export takes all rows of an input list, and makes the calls itself.
+    pub has_loops: bool,
     /// Shared objects with the calls, each at another placement.
     pub calls: Option<Placed>,
     /// Shared objects with the columns, each at another placement.
@@ -38,8 +52,22 @@ pub struct Build {
 impl Build {
     /// A build whose calls and columns are in the same files.
     fn of_both(name: String, placed: Placed) -> Build {
+        Build { calls: Some(placed.clone()), columns: Some(placed), ..Build::empty(name) }
+    }
+
+    fn empty(name: String) -> Build {
         let is_standard = false;
-        Build { name, is_standard, calls: Some(placed.clone()), columns: Some(placed) }
+        Build { name, is_standard, prefix: "", has_loops: false, calls: None, columns: None }
+    }
+
+    /// The name under which it exports a call, or the loop of these calls.
+    pub fn call(&self, call: &TimedCall, form: Form) -> String {
+        format!("{}{}", self.prefix, call.export(form))
+    }
+
+    /// The name under which it exports the sum of a column of this type.
+    pub fn column(&self, integer: Integer) -> String {
+        format!("{}{}", self.prefix, Shape::export(integer))
     }
 
     /// The same files at other paths. If the code of a commit is that of this checkout, it is
@@ -90,10 +118,9 @@ impl State<'_> {
         let names: Vec<String> = names.collect();
         let columns: Vec<String> = types.iter().map(|integer| Shape::export(*integer)).collect();
         Ok(Build {
-            name: name.to_string(),
-            is_standard: false,
             calls: Some(self.placed(&exports::calls(&calls), &names)?),
             columns: Some(self.placed(&exports::columns(&types), &columns)?),
+            ..Build::empty(name.to_string())
         })
     }
 
@@ -103,7 +130,7 @@ impl State<'_> {
         let (library, names) = exports::two_loops(integer);
         let name = format!("one of two loops over {}", integer.name());
         let columns = Some(self.placed(&library, &names)?);
-        Ok(Build { name, is_standard: false, calls: None, columns })
+        Ok(Build { columns, ..Build::empty(name) })
     }
 
     // Builds a library of exports, unless the cache has it.
@@ -115,6 +142,11 @@ impl State<'_> {
             Ok(vec![workspace.build(library, self.cpu)?])
         })
     }
+}
+
+/// Says that something is not there, and why.
+pub fn print_left_out(name: &str, fault: &str) {
+    println!("left out: {name}: {}", command::reason(fault));
 }
 
 /// Which kit builds the library, in one line.

@@ -2,33 +2,26 @@
 //! this machine is left out, with one line that says why.
 
 use super::cache::write;
-use super::command::reason;
 use super::stamp::Stamp;
 use super::workspace::{Sources, Workspace};
-use super::{Build, Cache, cpp, exports, kit, run, rust};
+use super::{Build, Cache, cpp, exports, kit, print_left_out, run, rust};
 use crate::tables;
+use std::path::Path;
 use std::process::Command;
 
-/// A library that was left out, and why.
-pub struct LeftOut {
-    pub name: &'static str,
-    pub reason: String,
-}
-
-/// Builds each of the other libraries.
-pub fn all(cache: &Cache) -> (Vec<Build>, Vec<LeftOut>) {
+/// Builds each of the other libraries. The original comes from a folder if there is one.
+pub fn all(cache: &Cache, original: Option<&Path>) -> Vec<Build> {
     let mut built = Vec::new();
-    let mut left_out = Vec::new();
     let mut keep = |name, build: Result<Build, String>| match build {
         Ok(build) => built.push(build),
-        Err(error) => left_out.push(LeftOut { name, reason: reason(&error).to_string() }),
+        Err(fault) => print_left_out(name, &fault),
     };
     for library in &rust::ALL {
-        keep(library.name, library.build(cache));
+        keep(library.name, library.build(cache, original));
     }
     keep("C++ std::from_chars", from_chars(cache));
     keep("the kit's fast_float", fast_float(cache));
-    (built, left_out)
+    built
 }
 
 // The functions of C++'s standard library, compiled by g++.

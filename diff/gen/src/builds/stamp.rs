@@ -1,7 +1,10 @@
 //! The names of what the cache keeps. Equal contents have the same name, whichever compiler built
 //! this program.
 
+use super::cache::failed;
 use std::fmt;
+use std::fs;
+use std::path::{Path, PathBuf};
 
 /// The hash FNV-1a, with 64 bits, of what was added.
 #[derive(Clone, Copy)]
@@ -17,6 +20,26 @@ impl Stamp {
     pub fn with(self, part: impl AsRef<[u8]>) -> Stamp {
         let part = part.as_ref();
         self.bytes(part).bytes(&(part.len() as u64).to_le_bytes())
+    }
+
+    /// Adds each file below a folder, except what cargo and `rt` make there.
+    pub fn with_folder(self, folder: &Path) -> Result<Stamp, String> {
+        let entries = fs::read_dir(folder).map_err(|error| failed(folder, error))?;
+        let paths = entries.map(|entry| entry.map(|entry| entry.path()));
+        let mut paths: Vec<PathBuf> =
+            paths.collect::<Result<_, _>>().map_err(|error| failed(folder, error))?;
+        paths.sort();
+        paths.iter().try_fold(self, |stamp, path| {
+            let name = path.file_name().unwrap_or_default().to_string_lossy();
+            match path.is_dir() {
+                true if name == "target" || name == "out" => Ok(stamp),
+                true => stamp.with(name.as_bytes()).with_folder(path),
+                false => {
+                    let text = fs::read(path).map_err(|error| failed(path, error))?;
+                    Ok(stamp.with(name.as_bytes()).with(text))
+                }
+            }
+        })
     }
 
     fn bytes(self, bytes: &[u8]) -> Stamp {

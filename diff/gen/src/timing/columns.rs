@@ -20,16 +20,22 @@ struct Column {
 
 impl Column {
     // A column of this shape, with a comma after each field except the last. About half of the
-    // numbers of a signed type are negative.
-    fn new(shape: &Shape, random: &mut Random) -> Column {
+    // numbers of a signed type are negative. One field in ten is no number if `has_errors`, and
+    // counts as 1.
+    fn new(shape: &Shape, has_errors: bool, random: &mut Random) -> Column {
         let sign = shape.integer.is_signed().then_some(b'-');
         let mut column = Column { text: Vec::new(), fields: 0, expected: 0 };
         while column.text.len() < BYTES {
             if column.fields > 0 {
                 column.text.push(b',');
             }
+            let start = column.text.len();
             let written = push_number(random, &shape.digits, sign, &mut column.text);
-            let value = low_bits(shape.integer, &written);
+            let mut value = low_bits(shape.integer, &written);
+            if has_errors && random.one_in(10) {
+                spoil(&mut column.text[start..], random);
+                value = 1;
+            }
             column.expected = column.expected.wrapping_add(value);
             column.fields += 1;
         }
@@ -37,10 +43,16 @@ impl Column {
     }
 }
 
+// Makes one byte of a field one that no number has.
+fn spoil(field: &mut [u8], random: &mut Random) {
+    field[random.below(field.len())] = random.pick(b"x.; /:");
+}
+
 /// The sides that the builds have on columns, and what they do on each column.
 pub fn columns(
     builds: &[Build],
     shapes: &[Shape],
+    has_errors: bool,
     random: &mut Random,
 ) -> Result<(Vec<Side>, Vec<Task>), String> {
     let mut sides = Vec::new();
@@ -48,20 +60,23 @@ pub fn columns(
     for (number, build) in builds.iter().enumerate() {
         let Some(placed) = &build.columns else { continue };
         let opened: Vec<Object> = placed.files().map(Object::open).collect::<Result<_, _>>()?;
-        let has_column = |shape: &Shape| opened[0].call(&Shape::export(shape.integer)).is_some();
+        let has_column = |shape: &Shape| opened[0].call(&build.column(shape.integer)).is_some();
         if shapes.iter().any(has_column) {
             sides.push(Side { build: number, form: Form::Root, name: build.name.clone() });
             objects.push(opened);
         }
     }
     let task = |shape: &Shape| {
-        let column = Rc::new(Column::new(shape, random));
-        let runs = |objects: &Vec<Object>| runs(&column, objects, &Shape::export(shape.integer));
+        let column = Rc::new(Column::new(shape, has_errors, random));
+        let runs = |(side, objects): (&Side, &Vec<Object>)| {
+            runs(&column, objects, &builds[side.build].column(shape.integer))
+        };
         Task {
-            name: format!("{:4} {:6}", shape.integer.name(), shape.digits),
+            name: shape.to_string(),
+            is_one_width: shape.digits.is_one_width(),
             items: column.fields,
             expected: column.expected,
-            sides: objects.iter().map(runs).collect(),
+            sides: sides.iter().zip(&objects).map(runs).collect(),
         }
     };
     let tasks = shapes.iter().map(task).collect();

@@ -14,8 +14,15 @@ const ROOM: usize = 96;
 
 /// Texts with their lengths, and the sum of the answers that they have.
 pub struct Rows {
-    texts: Vec<([u8; ROOM], usize)>,
+    rows: Vec<Row>,
     pub expected: u64,
+}
+
+// A text, in the form in which a loop of `builds` reads it.
+#[repr(C)]
+struct Row {
+    bytes: [u8; ROOM],
+    length: usize,
 }
 
 impl Rows {
@@ -27,7 +34,7 @@ impl Rows {
             true => Some(b'+'),
             false => list.call.takes_minus().then_some(b'-'),
         };
-        let mut rows = Rows { texts: Vec::with_capacity(count), expected: 0 };
+        let mut rows = Rows { rows: Vec::with_capacity(count), expected: 0 };
         for _ in 0..count {
             let mut text = Vec::with_capacity(ROOM);
             let written = push_number(random, &list.digits, sign, &mut text);
@@ -38,7 +45,7 @@ impl Rows {
             }
             let length = text.len();
             text.resize(ROOM, 0);
-            rows.texts.push((text.try_into().expect("a text has room"), length));
+            rows.rows.push(Row { bytes: text.try_into().expect("a text has room"), length });
         }
         rows
     }
@@ -47,8 +54,14 @@ impl Rows {
     #[inline(never)]
     pub fn sum(&self, call: Call) -> u64 {
         // SAFETY: an export reads as many bytes of the text as the length says.
-        let answer = |(text, length): &([u8; ROOM], usize)| unsafe { call(text.as_ptr(), *length) };
-        self.texts.iter().map(answer).fold(0, u64::wrapping_add)
+        let answer = |row: &Row| unsafe { call(row.bytes.as_ptr(), row.length) };
+        self.rows.iter().map(answer).fold(0, u64::wrapping_add)
+    }
+
+    /// Calls an export that makes the calls itself, and returns the sum of the answers.
+    pub fn sum_in_loop(&self, call: Call) -> u64 {
+        // SAFETY: a loop reads as many rows as the length says, of the form that they have.
+        unsafe { call(self.rows.as_ptr().cast(), self.rows.len()) }
     }
 }
 
@@ -81,7 +94,8 @@ pub fn lists(
         let Some(placed) = &build.calls else { continue };
         let opened: Vec<Object> = placed.files().map(Object::open).collect::<Result<_, _>>()?;
         for form in [Form::Root, Form::Lanes] {
-            let has_form = |list: &InputList| opened[0].call(&list.call.export(form)).is_some();
+            let has_form =
+                |list: &InputList| opened[0].call(&build.call(&list.call, form)).is_some();
             if lists.iter().any(has_form) {
                 sides.push(Side { build: number, form, name: build.name.clone() });
                 objects.push(opened.clone());
@@ -91,10 +105,13 @@ pub fn lists(
     let task = |list: &InputList| {
         let rows = Rc::new(Rows::new(list, has_plus, ROWS, random));
         let runs = |(side, objects): (&Side, &Vec<Object>)| {
-            runs(&rows, objects, &list.call.export(side.form))
+            let build = &builds[side.build];
+            let way = if build.has_loops { Rows::sum_in_loop } else { Rows::sum };
+            runs(&rows, way, objects, &build.call(&list.call, side.form))
         };
         Task {
-            name: format!("{} {:6}", list.call, list.digits),
+            name: list.to_string(),
+            is_one_width: list.digits.is_one_width(),
             items: ROWS,
             expected: rows.expected,
             sides: sides.iter().zip(&objects).map(runs).collect(),
@@ -108,10 +125,15 @@ pub fn lists(
 const ROWS: usize = 4096;
 
 // What one side does at each placement.
-fn runs(rows: &Rc<Rows>, objects: &[Object], export: &str) -> Option<[Run; PLACES]> {
+fn runs(
+    rows: &Rc<Rows>,
+    way: fn(&Rows, Call) -> u64,
+    objects: &[Object],
+    export: &str,
+) -> Option<[Run; PLACES]> {
     let run = |object: &Object| {
         let (rows, call) = (Rc::clone(rows), object.call(export)?);
-        let run: Run = Box::new(move || rows.sum(call));
+        let run: Run = Box::new(move || way(&rows, call));
         Some(run)
     };
     objects.iter().map(run).collect::<Option<Vec<Run>>>()?.try_into().ok()

@@ -10,7 +10,9 @@ mod ratios;
 pub use columns::columns;
 pub use lists::{Rows, lists};
 pub use object::Object;
-pub use processor::{Processor, pin};
+use processor::pin;
+
+pub use processor::Processor;
 pub use ratios::{Comparison, Ratios};
 
 use crate::tables::Form;
@@ -29,6 +31,16 @@ pub struct Effort {
     pub rounds: usize,
 }
 
+/// The effort of so many passes. Nothing else runs on the processor meanwhile, as far as the system
+/// can see to it.
+pub fn effort(passes: usize) -> Effort {
+    pin();
+    Effort { passes, rounds: ROUNDS }
+}
+
+// How many rounds each pass has.
+const ROUNDS: usize = 60;
+
 /// One side of a table.
 #[derive(Clone)]
 pub struct Side {
@@ -41,6 +53,8 @@ pub struct Side {
 /// What the sides do on one input list or column.
 pub struct Task {
     pub name: String,
+    // Whether all numbers have the same number of digits.
+    is_one_width: bool,
     // How many calls or fields it has, by which its time is divided.
     items: usize,
     // The sum of the answers that every side has to give.
@@ -54,6 +68,8 @@ type Run = Box<dyn Fn() -> u64>;
 /// The times of all sides on one input list or column.
 pub struct Times {
     pub name: String,
+    /// Whether all numbers have the same number of digits.
+    pub is_one_width: bool,
     // For each pass and side, the best round at each placement.
     passes: Vec<Vec<Option<[f64; PLACES]>>>,
     // For each side, whether one of its sums was not the expected one.
@@ -83,7 +99,8 @@ impl Times {
 
     fn new(task: &Task) -> Times {
         let is_wrong = vec![false; task.sides.len()];
-        Times { name: task.name.clone(), passes: Vec::new(), is_wrong }
+        let (name, is_one_width) = (task.name.clone(), task.is_one_width);
+        Times { name, is_one_width, passes: Vec::new(), is_wrong }
     }
 
     // Runs one pass of one task.

@@ -16,10 +16,9 @@ impl Comparison {
     }
 
     /// The ratios of all input lists or columns that both sides have. None if there are none.
-    pub fn ratios(&self, times: &[Times]) -> Option<Ratios> {
+    pub fn ratios(&self, times: &[&Times]) -> Option<Ratios> {
         let all: Vec<f64> = times.iter().filter_map(|times| self.ratio(times)).collect();
         (!all.is_empty()).then(|| Ratios {
-            count: all.len(),
             mean: mean(&all),
             worst: all.iter().copied().fold(0.0, f64::max),
             spread: self.spread(times),
@@ -28,7 +27,7 @@ impl Comparison {
 
     // By how many percent the passes differ at most: in the mean of the ratios, and in the mean of
     // each side's times.
-    fn spread(&self, times: &[Times]) -> f64 {
+    fn spread(&self, times: &[&Times]) -> f64 {
         let ratio = |times: &Times, pass| {
             Some(times.in_pass(self.ours, pass)? / times.in_pass(self.theirs, pass)?)
         };
@@ -39,7 +38,7 @@ impl Comparison {
 }
 
 // By how many percent the means of a figure differ between the passes.
-fn spread(times: &[Times], figure: impl Fn(&Times, usize) -> Option<f64>) -> f64 {
+fn spread(times: &[&Times], figure: impl Fn(&Times, usize) -> Option<f64>) -> f64 {
     let passes = times.first().map_or(0, |times| times.passes.len());
     let in_pass =
         |pass| mean(&times.iter().filter_map(|times| figure(times, pass)).collect::<Vec<_>>());
@@ -51,8 +50,6 @@ fn spread(times: &[Times], figure: impl Fn(&Times, usize) -> Option<f64>) -> f64
 
 /// The ratios of one comparison.
 pub struct Ratios {
-    /// On how many input lists or columns.
-    pub count: usize,
     /// The geometric mean.
     pub mean: f64,
     /// The largest ratio.

@@ -1,0 +1,196 @@
+//! A Rust library in which the calls of several crates are inlined into loops, as they are in a
+//! program that uses them. It is built in four layouts, since the layout of a loop alone moves its
+//! time by up to 18 %.
+
+use super::cargo::{Dependency, Generated, Kind};
+use super::package::Package;
+use super::place::{PLACES, Placed};
+use super::rust::{ORIGINAL, STANDARD, STANDARD_PREFIX};
+use super::source::{Calls, Column, HEAD};
+use super::{Build, Cache, original, run};
+use crate::tables::{self, Form, Shape};
+use std::path::Path;
+use std::process::Command;
+
+// What rustc is told for each layout.
+const LAYOUTS: [&str; PLACES.len()] = [
+    "",
+    " -C llvm-args=-align-all-nofallthru-blocks=5",
+    " -C llvm-args=-align-all-nofallthru-blocks=6",
+    " -C llvm-args=-align-all-blocks=4",
+];
+
+/// A program with inlined calls, and what is timed of it.
+pub struct Inlined {
+    /// Both forms of ours, and then the libraries beside it.
+    pub builds: Vec<Build>,
+    /// The iterator that goes on after an error, and then what is beside it. It is empty if the
+    /// package has no such iterator.
+    pub going_on: Vec<Build>,
+}
+
+// One library in the program.
+struct Part {
+    name: String,
+    // What the names of its exports begin with.
+    prefix: &'static str,
+    calls: Calls,
+    lanes: Option<Calls>,
+    use_of: Use,
+}
+
+// What is timed of a library.
+#[derive(Clone, Copy, PartialEq, Eq)]
+enum Use {
+    CallsAndColumns,
+    ColumnsThatGoOn,
+}
+
+/// The package beside the original and std, built for a processor.
+pub fn beside_others(
+    cache: &Cache,
+    package: &Package,
+    original: Option<&Path>,
+    cpu: &str,
+    has_lanes: bool,
+) -> Result<Inlined, String> {
+    let ours = package.dependency("ours");
+    let ours = if has_lanes { ours.with_nightly_feature("lanes") } else { ours };
+    let version = run(Command::new("rustc").arg("--version"))?;
+    let version = version.split_whitespace().nth(1).unwrap_or_default().to_string();
+    let kind = if cpu == "x86-64" { "portable" } else { "AVX2" };
+    let name = format!("the original, {kind} build {}", original::VERSION);
+    let mut parts = vec![
+        Part { lanes: has_lanes.then_some(OURS_LANES), ..part("the package", "ours_", OURS) },
+        part(&name, "original_", ORIGINAL),
+        part(&format!("str::parse, rustc {version}"), "std_", STANDARD),
+        part(&format!("str::parse on the leading digits, {version}"), "digits_", STANDARD_PREFIX),
+    ];
+    if package.has("Fields") {
+        let name = "split and str::parse, counting errors";
+        parts.push(Part { use_of: Use::ColumnsThatGoOn, ..part("Fields", "fields_", FIELDS) });
+        parts.push(Part { use_of: Use::ColumnsThatGoOn, ..part(name, "split_", SPLIT_GOES_ON) });
+    }
+    program(cache, cpu, vec![ours, original::dependency(original)?], &parts)
+}
+
+/// The package beside that of another state, built for a processor.
+pub fn beside_other(
+    cache: &Cache,
+    ours: &Package,
+    (theirs, name): (&Package, &str),
+    cpu: &str,
+    has_lanes: bool,
+) -> Result<Inlined, String> {
+    let with_lanes = |dependency: Dependency| match has_lanes {
+        true => dependency.with_nightly_feature("lanes"),
+        false => dependency,
+    };
+    let parts = [
+        Part { lanes: has_lanes.then_some(OURS_LANES), ..part("this checkout", "ours_", OURS) },
+        Part { lanes: has_lanes.then_some(THEIRS_LANES), ..part(name, "theirs_", THEIRS) },
+    ];
+    let dependencies =
+        [ours.dependency("ours"), theirs.dependency("theirs")].map(with_lanes).to_vec();
+    program(cache, cpu, dependencies, &parts)
+}
+
+fn part(name: &str, prefix: &'static str, calls: Calls) -> Part {
+    Part { name: name.to_string(), prefix, calls, lanes: None, use_of: Use::CallsAndColumns }
+}
+
+// Builds the program in each layout.
+fn program(
+    cache: &Cache,
+    cpu: &str,
+    dependencies: Vec<Dependency>,
+    parts: &[Part],
+) -> Result<Inlined, String> {
+    let mut text = String::from(HEAD) + STANDARD.helpers;
+    for part in parts {
+        text += &part.source()?;
+    }
+    let mut files = Vec::new();
+    for layout in LAYOUTS {
+        let generated = Generated {
+            kind: Kind::SharedObject,
+            dependencies: dependencies.clone(),
+            files: vec![("lib.rs", text.clone())],
+            flags: format!("-C target-cpu={cpu}{layout}"),
+        };
+        files.push(generated.shared_object(cache, "inlined")?);
+    }
+    let placed = Placed::new(files);
+    let builds_of = |use_of| {
+        let parts = parts.iter().filter(|part| part.use_of == use_of);
+        parts.map(|part| part.build(&placed)).collect()
+    };
+    let mut going_on: Vec<Build> = builds_of(Use::ColumnsThatGoOn);
+    let builds: Vec<Build> = builds_of(Use::CallsAndColumns);
+    if !going_on.is_empty() {
+        going_on.insert(1, parts[0].build(&placed));
+    }
+    Ok(Inlined { builds, going_on })
+}
+
+impl Part {
+    fn build(&self, placed: &Placed) -> Build {
+        let is_standard = false;
+        let build = Build::of_both(self.name.clone(), placed.clone());
+        Build { prefix: self.prefix, has_loops: true, is_standard, ..build }
+    }
+
+    // The loops. Each is in a module of its own, and so in a unit of code of its own: then LLVM
+    // inlines as much into it as into a program that has only this loop.
+    fn source(&self) -> Result<String, String> {
+        let mut loops = Vec::new();
+        if self.use_of == Use::CallsAndColumns {
+            for call in tables::calls()? {
+                let form = |form, calls: &Calls| {
+                    let name = format!("{}{}", self.prefix, call.export(form));
+                    calls.rows(&name, &call).map(|text| (name, text))
+                };
+                loops.extend(form(Form::Root, &self.calls));
+                loops.extend(self.lanes.and_then(|lanes| form(Form::Lanes, &lanes)));
+            }
+        }
+        for integer in tables::column_types()? {
+            let name = format!("{}{}", self.prefix, Shape::export(integer));
+            loops.extend(self.calls.column(&name, integer).map(|text| (name, text)));
+        }
+        let module = |(name, text): &(String, String)| {
+            format!("\nmod {name} {{\n    use super::*;\n{text}}}\n")
+        };
+        Ok(loops.iter().map(module).collect())
+    }
+}
+
+const OURS: Calls = Calls {
+    whole: |call| format!("ours::{}(text).ok()", call.path()),
+    prefix: |call| format!("ours::{}(text).ok()", call.path()),
+    column: Column::Iterator("ours::column::Column"),
+    helpers: "",
+};
+
+const OURS_LANES: Calls = Calls {
+    whole: |call| format!("ours::lanes::{}(text).ok()", call.path()),
+    prefix: |call| format!("ours::lanes::{}(text).ok()", call.path()),
+    ..OURS
+};
+
+const THEIRS: Calls = Calls {
+    whole: |call| format!("theirs::{}(text).ok()", call.path()),
+    prefix: |call| format!("theirs::{}(text).ok()", call.path()),
+    column: Column::Iterator("theirs::column::Column"),
+    helpers: "",
+};
+
+const THEIRS_LANES: Calls = Calls {
+    whole: |call| format!("theirs::lanes::{}(text).ok()", call.path()),
+    prefix: |call| format!("theirs::lanes::{}(text).ok()", call.path()),
+    ..THEIRS
+};
+
+const FIELDS: Calls = Calls { column: Column::IteratorGoesOn("ours::column::Fields"), ..OURS };
+
+const SPLIT_GOES_ON: Calls = Calls { column: Column::SplitGoesOn, ..STANDARD };

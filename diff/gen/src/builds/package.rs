@@ -1,0 +1,72 @@
+//! The Cargo package at the top of the repository.
+
+use super::cache::failed;
+use super::cargo::Dependency;
+use super::stamp::Stamp;
+use super::{Cache, commit, run};
+use std::fs;
+use std::path::{Path, PathBuf};
+use std::process::Command;
+
+/// The name of the package.
+pub const PACKAGE: &str = "torkettle";
+
+/// The Cargo package of one state of the repository.
+#[derive(Clone)]
+pub struct Package {
+    folder: PathBuf,
+    contents: Stamp,
+}
+
+impl Package {
+    /// The package whose manifest is in this folder.
+    pub fn of_folder(folder: &Path) -> Result<Package, String> {
+        let manifest = folder.join("Cargo.toml");
+        let text = fs::read(&manifest).map_err(|error| failed(&manifest, error))?;
+        let mut contents = Stamp::new().with(text);
+        for part in ["rust/build", "rust/src"] {
+            contents = contents.with_folder(&folder.join(part))?;
+        }
+        for source in sources(&folder.join("crates"))? {
+            contents = contents.with(source.to_string_lossy().as_bytes()).with_folder(&source)?;
+        }
+        Ok(Package { folder: folder.to_path_buf(), contents })
+    }
+
+    /// The package of a commit, and the short name of that commit. A commit without the package gets
+    /// what makes one of its crates from this checkout.
+    pub fn of_commit(cache: &Cache, commit: &str) -> Result<(Package, String), String> {
+        let (room, name) = commit::files(cache, commit)?;
+        if !room.join("Cargo.toml").is_file() {
+            let top = cache.repository();
+            run(Command::new("cp")
+                .arg("-r")
+                .arg(top.join("Cargo.toml"))
+                .arg(top.join("rust"))
+                .arg(&room))?;
+        }
+        Ok((Package::of_folder(&room)?, name))
+    }
+
+    /// Whether the public interface has an item of this name.
+    pub fn has(&self, item: &str) -> bool {
+        let text = fs::read_to_string(self.folder.join("rust/src/lib.rs")).unwrap_or_default();
+        text.split(|c: char| !c.is_alphanumeric()).any(|word| word == item)
+    }
+
+    /// What a generated crate writes into its manifest to use the package under this name.
+    pub fn dependency(&self, name: &str) -> Dependency {
+        Dependency::of_folder(PACKAGE, name, &self.folder, self.contents)
+    }
+}
+
+// The folders with the code of the crates.
+fn sources(crates: &Path) -> Result<Vec<PathBuf>, String> {
+    let entries = fs::read_dir(crates).map_err(|error| failed(crates, error))?;
+    let sources = entries.map(|entry| entry.map(|entry| entry.path().join("src")));
+    let mut sources: Vec<PathBuf> =
+        sources.collect::<Result<_, _>>().map_err(|error| failed(crates, error))?;
+    sources.retain(|source| source.is_dir());
+    sources.sort();
+    Ok(sources)
+}

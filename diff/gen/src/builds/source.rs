@@ -1,0 +1,173 @@
+//! The text of the exports of libraries in Rust: a call, a loop over an input list, and a loop over
+//! a column.
+
+use crate::question::Integer;
+use crate::tables::{Form, Function, TimedCall};
+
+/// How the calls of a library are written.
+#[derive(Clone, Copy)]
+pub struct Calls {
+    /// An expression whose value is an `Option<T>`, in which `T` is the type and `text` the whole
+    /// text. It is empty if the library has no such call.
+    pub whole: fn(&TimedCall) -> String,
+    /// An expression whose value is an `Option<(T, usize)>`.
+    pub prefix: fn(&TimedCall) -> String,
+    /// How a column is added up.
+    pub column: Column,
+    /// Functions that the expressions use.
+    pub helpers: &'static str,
+}
+
+/// How a column is added up.
+#[derive(Clone, Copy)]
+pub enum Column {
+    /// Its fields are split at commas, and then parsed as whole texts.
+    Split,
+    /// The same, but a field that is no number counts as 1.
+    SplitGoesOn,
+    /// A prefix is parsed, and then the comma taken, as often as there are fields.
+    Prefixes,
+    /// This iterator, which ends at an error.
+    Iterator(&'static str),
+    /// This iterator, which goes on. An error counts as 1.
+    IteratorGoesOn(&'static str),
+}
+
+/// The first lines of a source.
+pub const HEAD: &str = "//! What is timed: `diff/gen` wrote this file.
+#![allow(dead_code)]
+
+const ERROR: u64 = 0x8000_0000_0000_0001;
+
+#[repr(C)]
+struct Row {
+    bytes: [u8; 96],
+    length: usize,
+}
+";
+
+impl Calls {
+    // The expression for a call. None if the library has no such call.
+    fn parse(&self, call: &TimedCall) -> Option<String> {
+        let parse = if call.is_whole() { (self.whole)(call) } else { (self.prefix)(call) };
+        (!parse.is_empty()).then_some(parse)
+    }
+
+    /// An export that makes one call. None if the library has no such call.
+    pub fn call(&self, call: &TimedCall) -> Option<String> {
+        let found = found(call);
+        let body = format!(
+            "\n    match {} {{\n        {found}\n        None => ERROR,\n    }}",
+            self.parse(call)?
+        );
+        Some(export(&call.export(Form::Root), call.integer, &body))
+    }
+
+    /// An export that makes the same call with each row of an input list.
+    pub fn rows(&self, name: &str, call: &TimedCall) -> Option<String> {
+        let parse = self.parse(call)?;
+        let body = ROWS.replace("PARSE", &parse).replace("FOUND", found(call));
+        Some(export(name, call.integer, &body))
+    }
+
+    /// An export that adds up a column. None if the library has no call for it.
+    pub fn column(&self, name: &str, integer: Integer) -> Option<String> {
+        let call = |function| TimedCall { function, integer, skip_zeroes: true, skip_plus: true };
+        let body = match self.column {
+            Column::Split => SPLIT.replace("PARSE", &self.parse(&call(Function::Parse))?),
+            Column::SplitGoesOn => {
+                SPLIT_GOES_ON.replace("PARSE", &self.parse(&call(Function::Parse))?)
+            }
+            Column::Prefixes => PREFIXES.replace("PARSE", &self.parse(&call(Function::Prefix))?),
+            Column::Iterator(iterator) => ITERATOR.replace("ITERATOR", iterator),
+            Column::IteratorGoesOn(iterator) => ITERATOR_GOES_ON.replace("ITERATOR", iterator),
+        };
+        Some(export(name, integer, &body))
+    }
+}
+
+// The arm of a `match` for a value.
+fn found(call: &TimedCall) -> &'static str {
+    match call.is_whole() {
+        true => "Some(value) => value as Unsigned as u64,",
+        false => "Some((value, length)) => (value as Unsigned as u64).wrapping_add(length as u64),",
+    }
+}
+
+fn export(name: &str, integer: Integer, body: &str) -> String {
+    let integer = integer.name();
+    let unsigned = integer.replacen('i', "u", usize::from(integer.starts_with('i')));
+    format!(
+        "
+/// # Safety
+/// As many bytes, or rows, as the length says must be readable.
+#[unsafe(no_mangle)]
+pub unsafe extern \"C\" fn {name}(text: *const u8, length: usize) -> u64 {{
+    type T = {integer};
+    type Unsigned = {unsigned};
+    let text = unsafe {{ std::slice::from_raw_parts(text, length) }};{body}
+}}
+"
+    )
+}
+
+// Here the length is that of the list, and `text` is first its rows.
+const ROWS: &str = "
+    let rows = unsafe { std::slice::from_raw_parts(text.as_ptr().cast::<Row>(), length) };
+    let mut sum = 0_u64;
+    for row in rows {
+        let text = unsafe { row.bytes.get_unchecked(..row.length) };
+        sum = sum.wrapping_add(match PARSE {
+            FOUND
+            None => ERROR,
+        });
+    }
+    sum";
+
+const SPLIT: &str = "
+    let mut sum = 0_u64;
+    for text in text.split(|byte| *byte == b',') {
+        let Some(value) = PARSE else { return ERROR };
+        sum = sum.wrapping_add(value as Unsigned as u64);
+    }
+    sum";
+
+const SPLIT_GOES_ON: &str = "
+    let mut sum = 0_u64;
+    for text in text.split(|byte| *byte == b',') {
+        sum = sum.wrapping_add(match PARSE {
+            Some(value) => value as Unsigned as u64,
+            None => 1,
+        });
+    }
+    sum";
+
+const PREFIXES: &str = "
+    let (mut text, mut sum) = (text, 0_u64);
+    loop {
+        let Some((value, length)) = PARSE else { return ERROR };
+        sum = sum.wrapping_add(value as Unsigned as u64);
+        match &text[length..] {
+            [] => return sum,
+            [b',', rest @ ..] => text = rest,
+            _ => return ERROR,
+        }
+    }";
+
+const ITERATOR: &str = "
+    let mut sum = 0_u64;
+    for item in ITERATOR::<T>::new(text, b',') {
+        let Ok(value) = item else { return ERROR };
+        sum = sum.wrapping_add(value as Unsigned as u64);
+    }
+    sum";
+
+const ITERATOR_GOES_ON: &str = "
+    let mut sum = 0_u64;
+    for item in ITERATOR::<T>::new(text, b',') {
+        sum = sum.wrapping_add(match item {
+            Ok(value) => value as Unsigned as u64,
+            Err(_) => 1,
+        });
+    }
+    sum";
