@@ -2,8 +2,9 @@
 
 use crate::core_calls::check_all;
 use crate::differences::{LONG_ROWS, PLUS_ROWS};
-use crate::original::ROWS;
+use crate::original::{ROWS, answer_and_row};
 use std::process::Abort;
+use std::test::Fail;
 
 // Slices of worked examples, without their signs, and slices of the tests of windows, one on each
 // line.
@@ -82,16 +83,18 @@ fn on_every_worked_slice(rt: HostRuntime) {
 }
 
 // Checks the text of each row. The text follows the first four words of the row.
-fn check_texts(rt: &impl Abort, rows: &[u8]) {
-    for row in rows.split(is_end) {
+fn check_texts(rt: &impl Abort, lines: &[u8]) -> Result<(), Fail> {
+    for line in lines.split(is_end).filter(|line| !line.is_empty()) {
+        let (_, row) = answer_and_row(line).ok_or("no columns")?;
         let text = row.splitn(5, |byte| *byte == b' ').nth(4);
-        check_all(rt, text.unwrap_or(row));
+        check_all(rt, text.ok_or("no text")?);
     }
+    Ok(())
 }
 
 #[test]
-fn on_every_text_of_the_original(rt: HostRuntime) {
-    check_texts(&rt, ROWS);
-    check_texts(&rt, PLUS_ROWS);
-    check_texts(&rt, LONG_ROWS);
+fn on_every_text_of_the_original(rt: HostRuntime) -> Result<(), Fail> {
+    check_texts(&rt, ROWS)?;
+    check_texts(&rt, PLUS_ROWS)?;
+    check_texts(&rt, LONG_ROWS)
 }
