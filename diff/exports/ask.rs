@@ -33,7 +33,8 @@ pub unsafe extern "C" fn torkettle_answer(
     unsafe { answer.write(ask(&question, text).into()) };
 }
 
-fn ask(question: &Question, text: &[u8]) -> Answer {
+/// Returns what a call returns for a text.
+pub fn ask(question: &Question, text: &[u8]) -> Answer {
     match question.integer {
         Integer::U8 => every::<u8>(question, text),
         Integer::I8 => signed::<i8>(question, text),

@@ -15,9 +15,8 @@ pub fn answer(question: &Question, text: &[u8]) -> Answer {
     if digits == 0 {
         return Answer::Empty;
     }
-    if let Some((limit, most)) = limits(question)
-        && digits - skipped > limit
-    {
+    let exceeded = limits(question).filter(|&(limit, _)| digits - skipped > limit);
+    if let Some((_, most)) = exceeded {
         let length = skipped + most.min(digits - skipped);
         return Answer::Size { length, place: taken + skipped };
     }

@@ -2,11 +2,12 @@
 
 use crate::answer::Answer;
 use crate::question::{Integer, Question, Sign, at_type};
+use std::str::from_utf8;
 
 /// Returns the sign and the magnitude of the value that `str::parse` reads from a text as a type,
 /// or `None` if it returns an error or the text is not UTF-8.
 pub fn parse(integer: Integer, text: &[u8]) -> Option<(bool, u128)> {
-    let text = str::from_utf8(text).ok()?;
+    let text = from_utf8(text).ok()?;
     at_type!(integer, T => text.parse::<T>().ok().map(|value| value.parts()))
 }
 

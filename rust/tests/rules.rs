@@ -1,0 +1,65 @@
+//! Compares the results of generated calls with the rules of `docs/SPECIFICATION.md`, which `diff/gen`
+//! states digit by digit, and with `str::parse`. With the feature `lanes`, the calls are those of
+//! `lanes`.
+//!
+//! `TORKETTLE_TEXTS` sets how many texts are generated. Every call, type and choice of flags is asked
+//! about each of them.
+
+// The texts, the rules and the calls are those of `diff/gen`, which uses more of them.
+#![allow(dead_code)]
+
+#[path = "../../diff/gen/src/answer.rs"]
+mod answer;
+#[path = "../../diff/exports/ask.rs"]
+mod ask;
+#[path = "../../diff/gen/src/question.rs"]
+mod question;
+#[path = "../../diff/gen/src/random.rs"]
+mod random;
+#[path = "../../diff/gen/src/rules.rs"]
+mod rules;
+#[path = "../../diff/gen/src/standard.rs"]
+mod standard;
+#[path = "../../diff/gen/src/texts.rs"]
+mod texts;
+
+mod calls {
+    #[cfg(feature = "lanes")]
+    pub use torkettle::lanes::*;
+    #[cfg(not(feature = "lanes"))]
+    pub use torkettle::*;
+}
+
+use question::Question;
+use random::Random;
+
+// With 210 questions about each, these are more than five million results.
+const TEXTS: usize = 25_000;
+
+#[test]
+fn results_are_those_of_the_rules() {
+    let texts = std::env::var("TORKETTLE_TEXTS")
+        .map_or(TEXTS, |texts| texts.parse().expect("TORKETTLE_TEXTS is not a number of texts"));
+    let questions = Question::all();
+    let mut random = Random::new(55);
+    let mut signed = Vec::new();
+    for _ in 0..texts {
+        // The text is all but the first byte. With that, it is what std reads for a negative number.
+        signed.clear();
+        signed.push(b'-');
+        texts::push_text(&mut random, &mut signed);
+        for question in &questions {
+            check(question, &signed);
+        }
+    }
+    println!("{} results of {texts} texts are those of the rules", texts * questions.len());
+}
+
+fn check(question: &Question, signed: &[u8]) {
+    let text = &signed[1..];
+    let found = ask::ask(question, text);
+    let shown = text.escape_ascii();
+    assert_eq!(found, rules::answer(question, text), "{question} of \"{shown}\"");
+    let agrees = standard::agrees(question, &found, text, signed);
+    assert_ne!(agrees, Some(false), "{question} of \"{shown}\" and str::parse: {found:?}");
+}
