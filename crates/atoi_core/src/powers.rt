@@ -22,8 +22,8 @@ const POWERS: [u64; 17] = [
     10_000_000_000_000_000,
 ];
 
-/// Returns ten to the power of `digits`, which is at most 16.
-pub fn power_of_ten(digits: u32) -> u64
+// Returns ten to the power of `digits`, which is at most 16.
+pub(crate) fn power_of_ten(digits: u32) -> u64
     requires { digits ≤ 16 }
     ensures power { result ≡ 10 ^ digits }
     ensures most { result ≤ 10000000000000000 }

@@ -82,9 +82,9 @@ pub(crate) fn shuffle(v: u8x16, p: usize) -> u8x16
     v.swizzle_dyn_within::<16>(u8x16::from_slice(&SHIFTS[p..]))
 }
 
-/// Returns how many digits a slice of fewer than 8 bytes begins with, and the number that they spell.
+// Returns how many digits a slice of fewer than 8 bytes begins with, and the number that they spell.
 #[inline(always)]
-pub fn read_short(s: &[u8]) -> (u32, u64)
+pub(crate) fn read_short(s: &[u8]) -> (u32, u64)
     requires few { length s.now < 8 }
     ensures len { result.0 ≡ run_len decimal_table s.now }
     ensures number { result.1 ≡ value decimal_table (run decimal_table s.now) }

@@ -80,7 +80,7 @@ bound_below-64 int sized minus =
     rw sized.greatest
     (magnitude_below 64 int.bits int.signed minus (omega (arith, power (int.bits - 1) (omega arith))) (omega (arith, power int.bits most)))
 
-pub places-le : (table : Table) (s : List ℕ) (limit : ℕ) → value table (run table s) < 10 ^ limit → run_len table s - zeros table s ≤ limit
+places-le : (table : Table) (s : List ℕ) (limit : ℕ) → value table (run table s) < 10 ^ limit → run_len table s - zeros table s ≤ limit
 places-le table s limit h =
     elim (cases_lt limit (run_len table s - zeros table s)) [
       | inl more ↦

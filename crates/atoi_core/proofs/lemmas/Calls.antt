@@ -88,7 +88,7 @@ prefix_call-is int (given is_negative) skip s = sym (with_more-zero (prefix_answ
 abbrev pub counted_number : Bool → ℕ × ℕ → ℤ × ℕ
 counted_number minus found = (with_sign minus found.0, found.1)
 
-pub map_unless_ok : {A B : Type 0} (f : A → B) (r : Option Refusal) (x : A) (y : B)
+map_unless_ok : {A B : Type 0} (f : A → B) (r : Option Refusal) (x : A) (y : B)
     → map_answer f (unless_refused r x) ≡ Ok y → (r ≡ None) × (y ≡ f x)
 map_unless_ok f None x y h = (refl, cc)
 map_unless_ok f (Some reason) x y h = absurd (cc h)

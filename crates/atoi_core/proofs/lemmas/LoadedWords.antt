@@ -22,7 +22,7 @@ use Rattle.atoi_core.proofs.lemmas.WordRuns.{first_passes}
 -- ---- Loading a word from a slice
 
 -- Eight bytes, little-endian, are their word; a missing byte is 0.
-pub word_from_bytes : (s : List ℕ) → from_le_bytes w64 s ≡ word_of (take 8 s)
+word_from_bytes : (s : List ℕ) → from_le_bytes w64 s ≡ word_of (take 8 s)
 unfolding word_of
 word_from_bytes [] = omega arith
 word_from_bytes (a ∷ []) = omega arith

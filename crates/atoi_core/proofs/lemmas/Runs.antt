@@ -31,7 +31,7 @@ zeros-le table (b ∷ bs) = grind (arith, nat_tests, zeros-le table bs)
 
 -- ---- Values of digits
 
-pub value-append : (table : Table) (xs ys : List ℕ) → value table (xs ++ ys) ≡ value table xs * 10 ^ length ys + value table ys
+value-append : (table : Table) (xs ys : List ℕ) → value table (xs ++ ys) ≡ value table xs * 10 ^ length ys + value table ys
 value-append table [] ys = omega arith
 value-append table (x ∷ xs) ys =
     let power : digit_value table x * 10 ^ length (xs ++ ys) ≡ digit_value table x * (10 ^ length xs * 10 ^ length ys) =
@@ -58,7 +58,7 @@ value-take-add table n k s h =
 value_of_zero : (table : Table) (byte : ℕ) → is_zero table byte ≡ true → digit_value table byte ≡ 0
 value_of_zero table byte h = grind (arith, eqb_tells)
 
-pub value-zeros : (table : Table) (n : ℕ) (s : List ℕ) → n ≤ zeros table s → value table (take n s) ≡ 0
+value-zeros : (table : Table) (n : ℕ) (s : List ℕ) → n ≤ zeros table s → value table (take n s) ≡ 0
 value-zeros table zero s = λ _. refl
 value-zeros table (suc n) [] = λ h. absurd (omega arith)
 value-zeros table (suc n) (b ∷ bs) =
@@ -138,7 +138,7 @@ value_more table s i w here digit =
     let e : digit_value table (get_or s i 0) ≡ w = ap (λ (o : Option ℕ). unwrap_or o 0) digit in
     rw (take_more s i 0 here, value-append table (take i s) (get_or s i 0 ∷ []), ← e) (grind arith)
 
-pub value-append-le : (table : Table) (xs ys : List ℕ) → value table xs ≤ value table (xs ++ ys)
+value-append-le : (table : Table) (xs ys : List ℕ) → value table xs ≤ value table (xs ++ ys)
 value-append-le table xs ys =
     let power : 1 ≤ 10 ^ length ys = one-le-pow (length ys) 10 (lit< tt) in
     omega (arith, value-append table xs ys, mul-le-mul_left (value table xs) power)

@@ -16,22 +16,22 @@ use Rattle.std.specs.Int.Count.{count_trailing_zeros, under}
 -- A round joins neighbouring digits of base t: a mask, a product by 1 + t * 2^(h + h), a shift.
 
 -- The lower halves of k fields, lowest first.
-abbrev pub lower_halves : ℕ → ℕ → ℕ → List ℕ
+abbrev lower_halves : ℕ → ℕ → ℕ → List ℕ
 lower_halves h zero word = []
 lower_halves h (suc k) word = (word % 2 ^ h) ∷ lower_halves h k (word / 2 ^ (h + h))
 
 -- The mask that keeps these lower halves.
-abbrev pub masks : ℕ → ℕ → ℕ
+abbrev masks : ℕ → ℕ → ℕ
 masks h zero = 0
 masks h (suc k) = masks h k * 2 ^ (h + h) + (2 ^ h - 1)
 
 -- Twice m, by two steps for each step of m.
-abbrev pub twice : ℕ → ℕ
+abbrev twice : ℕ → ℕ
 twice zero = zero
 twice (suc m) = suc (suc (twice m))
 
 -- Neighbouring digits in pairs, the higher one first.
-abbrev pub pairs : ℕ → List ℕ → List ℕ
+abbrev pairs : ℕ → List ℕ → List ℕ
 pairs t [] = []
 pairs t (x ∷ []) = x ∷ []
 pairs t (x ∷ y ∷ rest) = (y + x * t) ∷ pairs t rest
@@ -58,7 +58,7 @@ masked_low h (suc k) word =
     rw (mask_step h k word, mod-mul-add (bit_and (word / 2 ^ (h + h)) (masks h k)) (2 ^ (h + h)) (word % 2 ^ h) fits) low
 
 -- The word after the multiplication and the shift, if nothing wraps.
-pub spread : ℕ → ℕ → ℕ → ℕ
+spread : ℕ → ℕ → ℕ → ℕ
 spread b t word = word / b + word * t
 
 product_shifted : (b t word : ℕ) → 0 < b → word * (1 + t * b) / b ≡ spread b t word
@@ -132,7 +132,7 @@ shift_after_cut g (suc m) word =
     cc (low, high, shift_after_cut g m (word / w), swap word)
 
 -- A round turns 2 * m lower halves into m sums.
-pub round : (h t : ℕ) → (2 ^ h - 1) * (1 + t) < 2 ^ (h + h) → (m word : ℕ)
+round : (h t : ℕ) → (2 ^ h - 1) * (1 + t) < 2 ^ (h + h) → (m word : ℕ)
     → let product = bit_and word (masks h (twice m)) * (1 + t * 2 ^ (h + h)) in
     lower_halves (h + h) m (product % 2 ^ (m * ((h + h) + (h + h))) / 2 ^ (h + h)) ≡ pairs t (lower_halves h (twice m) word)
 round h t room m word =
@@ -140,11 +140,11 @@ round h t room m word =
     cc (shift_after_cut (h + h) m (kept * (1 + t * 2 ^ (h + h))), product_shifted (2 ^ (h + h)) t kept (pow_pos (h + h)), spread_masked h t room m word)
 
 -- What digits spell in base t, the highest first.
-abbrev pub in_base : ℕ → List ℕ → ℕ
+abbrev in_base : ℕ → List ℕ → ℕ
 in_base t [] = 0
 in_base t (digit ∷ digits) = digit * t ^ length digits + in_base t digits
 
-pub length-lower_halves : (h k word : ℕ) → length (lower_halves h k word) ≡ k
+length-lower_halves : (h k word : ℕ) → length (lower_halves h k word) ≡ k
 length-lower_halves h zero word = refl
 length-lower_halves h (suc k) word = cc (length-lower_halves h k (word / 2 ^ (h + h)))
 
@@ -172,7 +172,7 @@ in_base-pairs h t (suc m) word =
     rw (length-pairs h t m rest, power_of_square t m, in_base-pairs h t m rest, length-lower_halves h (twice m) rest, pow-suc t (twice m)) regroup
 
 -- So a round keeps the number that is spelled.
-pub round_number : (h t : ℕ) → (2 ^ h - 1) * (1 + t) < 2 ^ (h + h) → (m word : ℕ)
+round_number : (h t : ℕ) → (2 ^ h - 1) * (1 + t) < 2 ^ (h + h) → (m word : ℕ)
     → let product = bit_and word (masks h (twice m)) * (1 + t * 2 ^ (h + h)) in
     in_base (t * t) (lower_halves (h + h) m (product % 2 ^ (m * ((h + h) + (h + h))) / 2 ^ (h + h))) ≡ in_base t (lower_halves h (twice m) word)
 round_number h t room m word = rw (round h t room m word) (in_base-pairs h t m word)
@@ -180,7 +180,7 @@ round_number h t room m word = rw (round h t room m word) (in_base-pairs h t m w
 -- ---- Fields of a word are its digits in a base 2^k
 
 -- The list of the lowest k fields has k elements.
-pub length-digits : (base k word : ℕ) → length (digits_l base k word) ≡ k
+length-digits : (base k word : ℕ) → length (digits_l base k word) ≡ k
 length-digits base zero word = refl
 length-digits base (suc k) word = cc (length-digits base k (word / base))
 
@@ -195,7 +195,7 @@ digits_cut g (suc k) word =
     cc (cut, mod-mul-add rest b (word % b) small, div-mul-add rest b (word % b) small, digits_cut g k (word / b))
 
 -- Lowest bytes of 0 keep the weighted sum.
-pub low_value_shifted : (z k word : ℕ) → low_value (digits_l 256 (z + k) (word * 2 ^ (z * 8))) ≡ low_value (digits_l 256 k word)
+low_value_shifted : (z k word : ℕ) → low_value (digits_l 256 (z + k) (word * 2 ^ (z * 8))) ≡ low_value (digits_l 256 k word)
 low_value_shifted zero k word = cc (zero-add k, mul-one word)
 low_value_shifted (suc z) k word =
     let up : word * 2 ^ (suc z * 8) ≡ word * 2 ^ (z * 8) * 256 + 0 = rw (suc-mul z 8, pow-add 2 (z * 8) 8) (omega arith) in

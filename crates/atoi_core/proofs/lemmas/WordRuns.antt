@@ -34,7 +34,7 @@ prefix_len-agree p q agree (suc k) word =
     cc (agree (word % 256) (mod-lt word (zero-lt-suc 255)), prefix_len-agree p q agree k (word / 256))
 
 -- After a xor with 48, trailing zero bits count the zeros.
-pub zeros_counted : (k word : ℕ) → count_trailing_zeros (k * 8) (bit_xor word (repeated 48 k)) / 8 ≡ zeros decimal_table (low_bytes k word)
+zeros_counted : (k word : ℕ) → count_trailing_zeros (k * 8) (bit_xor word (repeated 48 k)) / 8 ≡ zeros decimal_table (low_bytes k word)
 unfolding low_bytes
 zeros_counted k word =
     rw (trailing_bytes k (bit_xor word (repeated 48 k)), xor_repeated 48 (lit< tt) k word)
@@ -90,7 +90,7 @@ added c h =
     }
 
 -- This constant subtracts 48 from each of k bytes.
-abbrev pub without_48 : ℕ → ℕ
+abbrev without_48 : ℕ → ℕ
 without_48 zero = 1
 without_48 (suc k) = 256 * without_48 k - 48
 
@@ -135,7 +135,7 @@ kernel_byte : (b : ℕ) → b < 256 → (kernel_mark ((b + 6) % 256) b == 0) ≡
 kernel_byte b h = agree_below_at (λ x. kernel_mark ((x + 6) % 256) x == 0) (is_digit decimal_table) 256 b refl h
 
 -- Trailing zero bits of these marks count the digits.
-pub digits_counted : (k word : ℕ)
+digits_counted : (k word : ℕ)
     → let high = bit_and ((word + repeated 6 k) % 2 ^ (k * 8) / 16) (repeated 15 k) in
     count_trailing_zeros (k * 8) (bit_xor (bit_or high (bit_and word (repeated 240 k))) (repeated 51 k)) / 8
     ≡ run_len decimal_table (low_bytes k word)
@@ -176,7 +176,7 @@ engine_byte b h =
     agree_below_at (λ x. engine_mark ((x + 70) % 256) ((x + 208) % 256) == 0) (is_digit decimal_table) 256 b refl h
 
 -- Trailing zero bits of the engine's marks count the digits too.
-pub marks_counted : (k word : ℕ)
+marks_counted : (k word : ℕ)
     → let above = (word + repeated 70 k) % 2 ^ (k * 8) in
     count_trailing_zeros (k * 8) (bit_and (bit_or above ((word + without_48 k) % 2 ^ (k * 8))) (repeated 128 k)) / 8
     ≡ run_len decimal_table (low_bytes k word)
@@ -228,7 +228,7 @@ lowered_zeros (suc k) word =
     (λ e. rw (lowered.rest k word (zero_is_digit byte fits e)) (lowered_zeros k (word / 256))))
 
 -- Trailing zero bits of the difference count the zeros.
-pub lowered_zeros_counted : (k word : ℕ) → count_trailing_zeros (k * 8) ((word + without_48 k) % 2 ^ (k * 8)) / 8 ≡ zeros decimal_table (low_bytes k word)
+lowered_zeros_counted : (k word : ℕ) → count_trailing_zeros (k * 8) ((word + without_48 k) % 2 ^ (k * 8)) / 8 ≡ zeros decimal_table (low_bytes k word)
 unfolding low_bytes
 lowered_zeros_counted k word =
     rw (trailing_bytes k ((word + without_48 k) % 2 ^ (k * 8)), digits_cut 8 k (word + without_48 k)) (lowered_zeros k word)
@@ -281,7 +281,7 @@ shifted_halves (suc z) k word =
     rw (suc-add z k, next, up) (omega (arith, shifted_halves z k word, and_block 8 (word * 2 ^ (z * 8)) (repeated 15 (z + k)) 0 15 (lit< tt) (lit< tt)))
 
 -- For digits at the top of a word, subtracting 48 is the mask.
-pub lowered_at_top : (len word : ℕ) → len ≤ 8 → len ≤ run_len decimal_table (low_bytes 8 word)
+lowered_at_top : (len word : ℕ) → len ≤ 8 → len ≤ run_len decimal_table (low_bytes 8 word)
     → (word + without_48 8) % 2 ^ 64 * 2 ^ (64 - 8 * len) % 2 ^ 64 ≡ bit_and (word * 2 ^ (64 - 8 * len) % 2 ^ 64) (repeated 15 8)
 unfolding low_bytes
 lowered_at_top len word few digits =

@@ -26,7 +26,7 @@ pub reported_none : (n c z : ℕ) → n ≢ c → (if n == c then z else 0) ≡ 
 reported_none n c z ne = rw (ne_eqb n c ne)
 
 -- A window of `c` bytes, by its three numbers.
-pub window_from : (c : ℕ) (s : List ℕ) (len leading number : ℕ)
+window_from : (c : ℕ) (s : List ℕ) (len leading number : ℕ)
     → len ≡ run_len decimal_table (take c s)
     → leading ≡ (if len == c then zeros decimal_table (take c s) else 0)
     → number ≡ value decimal_table (take len s)

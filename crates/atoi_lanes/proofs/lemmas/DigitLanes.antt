@@ -11,7 +11,7 @@ use Rattle.atoi_lanes.proofs.lemmas.Shuffles.{first_at_end}
 use lib.Lanes.{Each1, zip2}
 
 -- A byte minus 48, which wraps.
-abbrev pub above_zero : ℕ → ℕ
+abbrev above_zero : ℕ → ℕ
 above_zero x = (x + (2 ^ 8 - 48)) % 2 ^ 8
 
 above_zero-digit : (x : ℕ) → is_digit decimal_table x ≡ true → (above_zero x ≡ digit_value decimal_table x) × (above_zero x < 10)

@@ -10,12 +10,12 @@ use Rattle.atoi_core.specs.Run.{value}
 use Rattle.atoi_lanes.specs.Lanes.{itself, paired}
 use lib.Lanes.{Each1, number_l, digits_l, dots}
 
-pub paired-below : (t : ℕ) (xs : List ℕ) → Each1 (λ x. x < t) xs → Each1 (λ x. x < t * t) (paired t xs)
+paired-below : (t : ℕ) (xs : List ℕ) → Each1 (λ x. x < t) xs → Each1 (λ x. x < t * t) (paired t xs)
 paired-below t [] h = tt
 paired-below t (x ∷ []) h = tt
 paired-below t (x ∷ y ∷ rest) h = (digits_lt {q = x} {m = t} h.0 h.1.0, paired-below t rest h.1.1)
 
-pub length-paired : (t m : ℕ) (xs : List ℕ) → length xs ≡ m + m → length (paired t xs) ≡ m
+length-paired : (t m : ℕ) (xs : List ℕ) → length xs ≡ m + m → length (paired t xs) ≡ m
 length-paired t m [] long = omega arith
 length-paired t m (x ∷ []) long = absurd (omega arith)
 length-paired t zero (x ∷ y ∷ rest) long = absurd (omega arith)

@@ -27,7 +27,7 @@ lanes-of_words s fits few =
     ap (digits_l 256 16) all ∙ lanes-of_bytes 16 s (bytes s fits) (omega arith)
 
 -- With and without bytes after a slice, its first n elements begin with the same run.
-pub prefix-padded : (p : ℕ → Bool) (n : ℕ) (s zs : List ℕ) → take (prefix_len p (take n s)) (take n (s ++ zs)) ≡ take (prefix_len p (take n s)) (take n s)
+prefix-padded : (p : ℕ → Bool) (n : ℕ) (s zs : List ℕ) → take (prefix_len p (take n s)) (take n (s ++ zs)) ≡ take (prefix_len p (take n s)) (take n s)
 prefix-padded p n s zs =
     let len = prefix_len p (take n s) in
     let most : len ≤ min n (length s) = omega (arith, prefix_len-le-length p (take n s), length-take n s) in
