@@ -7,6 +7,9 @@ ghost use Rattle.atoi_core.specs.Words.{low_bytes, low_value};
 
 pub use crate::word_loads::load_8;
 
+// The upper half of each byte.
+const UPPER_HALVES: u64 = 0xF0F0_F0F0_F0F0_F0F0;
+
 /// Returns how many bytes of `val`, from the lowest on, are digits.
 #[tactic(auto, using(crate::proofs::lemmas::WordRuns::digits_of_8))]
 pub fn check_len_8(val: u64) -> u32
@@ -14,9 +17,11 @@ pub fn check_len_8(val: u64) -> u32
     ensures most { result ≤ 8 }
 {
     // A digit has 3 as its upper half, and keeps it when six is added. A byte that carries is none.
-    let high = (val.wrapping_add(0x0606_0606_0606_0606) & 0xF0F0_F0F0_F0F0_F0F0) >> 4;
-    let low = val & 0xF0F0_F0F0_F0F0_F0F0;
-    ((high | low) ^ 0x3333_3333_3333_3333).trailing_zeros() / 8
+    let upper_halves = val & UPPER_HALVES;
+    let with_six = val.wrapping_add(0x0606_0606_0606_0606);
+    let upper_with_six = (with_six & UPPER_HALVES) >> 4;
+    let marks = (upper_with_six | upper_halves) ^ 0x3333_3333_3333_3333;
+    marks.trailing_zeros() / 8
 }
 
 /// Returns the number that the lowest `len` bytes of `val` spell, the lowest byte first. Each byte
