@@ -1,16 +1,14 @@
 -- Laws about what the parses return, over the definitions only. A law on a slice holds for every
 -- slice.
-use Rattle.std.specs.Prelude.{◌≡◌, ◌≢◌, ◌⊎◌, ◌↔◌, ℕ, ◌+◌, ◌-◌, ◌^◌, ◌<◌, ◌≤◌, Bool, true, false, if◌then◌else◌, IsTrue, IsFalse, List, ◌∷◌, ◌++◌, length, take, drop, replicate, slice_index, All, ℤ, pos, neg_ℤ, ◌≤ℤ◌, Result, Ok, Err, IsOk, IfOk, OnErr}
+use Rattle.std.specs.Prelude.{◌≡◌, ◌≢◌, ◌⊎◌, ◌↔◌, ℕ, ◌+◌, ◌<◌, ◌≤◌, Bool, true, false, if◌then◌else◌, IsTrue, IsFalse, List, ◌∷◌, ◌++◌, length, take, drop, replicate, slice_index, ℤ, pos, neg_ℤ, ◌≤ℤ◌, Result, Ok, Err, IsOk, IfOk, OnErr}
 use Rattle.std.specs.Fmt.{decimal, signed_decimal}
-use Rattle.std.specs.Char.{IsAsciiDigit}
-use Rattle.std.specs.Str.Parse.{AllDigits, digits_value}
+use Rattle.std.specs.Str.Parse.{AllDigits}
 use Rattle.std.specs.declared.cmp.Ordering.TheVariants.{Equal}
 use Rattle.atoi_core.specs.Digit.{decimal_table, is_digit}
-use Rattle.atoi_core.specs.Run.{run_len, run, value}
-use Rattle.atoi_core.specs.Refusal.{Refusal, empty, size, overflow, invalid64, invalid128, rank, input_of, refusal_cmp}
-use Rattle.atoi_core.specs.Magnitude.{Extent, whole, prefix, skipped_zeros, rule_of, is_above}
+use Rattle.atoi_core.specs.Run.{run_len, run}
+use Rattle.atoi_core.specs.Refusal.{Refusal, empty, rank, input_of, refusal_cmp}
 use Rattle.atoi_core.specs.declared.error.AtoiSimdError.{AtoiSimdError}
-use Rattle.atoi_core.specs.IntType.{IntType, class_of, bound_of, limit_of}
+use Rattle.atoi_core.specs.IntType.{IntType, bound_of}
 use Rattle.atoi_core.specs.Sign.{Sign, sign_of, with_sign}
 use Rattle.atoi_core.specs.Answer.{typed_answer, typed_prefix_answer, whole_answer, prefix_answer, with_more, parse_answer, parse_prefix_answer}
 use Rattle.atoi_core.specs.Text.{IsText, is_minus, DigitsWrite, TextWrites, BeginsWithDigit, PrefixWrites, IsNumberThen, IsTooLarge, has_needless_zero}
@@ -111,16 +109,8 @@ pub record WholeResults {T : Type 0} (int : IntType) (number : T → ℤ) (skip 
       → typed_answer number result ≡ whole_answer decimal_table int is_negative skip s
       → IsTrue skip → OnErr result ((any : ℤ) → ¬ DigitsWrite int is_negative s any)
 
--- A prefix parse returns only a number and the length of a prefix that writes it, with no digit
--- after it; with zeros skipped, it finds each such prefix.
-pub record AcceptedPrefixes (int : IntType) : Type 0 where
-  pub written : (form : SignForm) (skip : Bool) (s : List ℕ) (number : ℤ) (count : ℕ)
-      → prefix_call int form skip s ≡ Ok (number, count) → PrefixWrites (Writes int form) s number count
-  pub accepted : (form : SignForm) (s : List ℕ) (number : ℤ) (count : ℕ)
-      → PrefixWrites (Writes int form) s number count → prefix_call int form true s ≡ Ok (number, count)
-
--- The same of a Rust `Result`; with zeros skipped, an error means that a digit follows each prefix
--- that writes a number.
+-- A prefix parse returns only a number and the length of a prefix that writes it, with no digit after
+-- it; with zeros skipped, an error means that a digit follows each prefix that writes a number.
 pub record PrefixResults {T : Type 0} (int : IntType) (number : T → ℤ) (skip : Bool) : Type 0 where
   pub text : (plus : Bool) (s : List ℕ) (result : Result (T × ℕ) AtoiSimdError)
       → typed_prefix_answer number result ≡ parse_prefix_answer int skip plus s
@@ -235,51 +225,6 @@ pub record ZerosChangeNothing (int : IntType) : Type 0 where
   pub prefix : (form : SignForm) (s : List ℕ) (count : ℕ)
       → 0 < run_len decimal_table (sign_in int form s).body
       → HaveSameOutcome (with_more count (prefix_call int form true s)) (prefix_call int form true (with_zeros int form count s))
-
--- Digits and their values are std's; the value of `n` bytes is below `10 ^ n`.
-pub record DecimalDigits : Type 0 where
-  pub byte : (byte : ℕ) → IsTrue (is_digit decimal_table byte) ↔ IsAsciiDigit byte
-  pub to_std : (s : List ℕ) → All (λ byte. IsTrue (is_digit decimal_table byte)) s → AllDigits 10 s
-  pub from_std : (s : List ℕ) → AllDigits 10 s → All (λ byte. IsTrue (is_digit decimal_table byte)) s
-  pub value_is : (s : List ℕ) → AllDigits 10 s → value decimal_table s ≡ digits_value 10 s
-  pub below : (s : List ℕ) → value decimal_table s < 10 ^ length s
-
--- Too many significant digits, by type, extent and flag.
-abbrev pub IsTooLong : IntType → Extent → (skip : Bool) → List ℕ → Type 0
-IsTooLong int extent skip body =
-    IsTrue (is_above (rule_of (class_of int) extent skip (limit_of int) 0 0).limit
-    (run_len decimal_table body - skipped_zeros decimal_table skip body))
-
--- The body starts with a digit, and few enough.
-pub record HasSomeDigits (int : IntType) (extent : Extent) (skip : Bool) (body : List ℕ) : Type 0 where
-  pub some : 0 < run_len decimal_table body
-  pub short : ¬ IsTooLong int extent skip body
-
--- Few enough digits in range, then another byte: the error holds their value and its index.
-pub record IsFollowed (int : IntType) (extent : Extent) (is_negative skip : Bool) (body : List ℕ) (number index : ℕ) : Type 0 where
-  pub begins : HasSomeDigits int extent skip body
-  pub in_range : value decimal_table (run decimal_table body) ≤ bound_of int is_negative
-  pub follows : run_len decimal_table body < length body
-  pub number_is : number ≡ value decimal_table (run decimal_table body)
-  pub index_is : index ≡ run_len decimal_table body
-
--- What each error says: no digit; too many significant digits; a value out of range; another byte
--- after the digits.
-abbrev pub Explains : IntType → Extent → (is_negative skip : Bool) → List ℕ → Refusal → Type 0
-Explains int extent is_negative skip body empty = run_len decimal_table body ≡ 0
-Explains int extent is_negative skip body (size count rest) = (0 < run_len decimal_table body) × IsTooLong int extent skip body
-Explains int extent is_negative skip body (overflow rest) =
-    HasSomeDigits int extent skip body × (bound_of int is_negative < value decimal_table (run decimal_table body))
-Explains int extent is_negative skip body (invalid64 number index input) = IsFollowed int extent is_negative skip body number index
-Explains int extent is_negative skip body (invalid128 number index input) = IsFollowed int extent is_negative skip body number index
-
--- An error explains why the body is refused. A prefix is never refused for a byte after it.
-pub record ErrorsInOrder (int : IntType) : Type 0 where
-  pub whole : (form : SignForm) (skip : Bool) (s : List ℕ) (reason : Refusal) → whole_call int form skip s ≡ Err reason
-      → Explains int whole (sign_in int form s).minus skip (sign_in int form s).body reason
-  pub prefix : (form : SignForm) (skip : Bool) (s : List ℕ) (reason : Refusal) → prefix_call int form skip s ≡ Err reason
-      → Explains int prefix (sign_in int form s).minus skip (sign_in int form s).body reason
-  pub never_followed : (form : SignForm) (skip : Bool) (s : List ℕ) (reason : Refusal) → prefix_call int form skip s ≡ Err reason → rank reason ≤ 2
 
 -- Unsigned bytes that write a number start with a digit. `decimal n` is the only text without a
 -- needless zero; `signed_decimal x` the only one without a plus, minus zero or needless zero.

@@ -1,7 +1,7 @@
 //! Laws about what the parses return, for the proofs of callers. A law is a function whose contract
 //! is a fact, and which does nothing when the program runs; `specs/Laws.antt` says each in words.
 ghost use Rattle.atoi_core.specs.IntType.{int_type};
-ghost use Rattle.atoi_core.specs.Laws.{TextOfValue, AcceptedTexts, AcceptedNumbers, WholeResults, AcceptedPrefixes, PrefixResults, PrefixesAndRests, NumberThenByte, OneNumber, PrefixBegins, NoneOrTooLarge, DecimalDigits, DecimalTexts, ErrorsInOrder, PrefixIsWhole, PrefixOfCut, PrefixStopsAtRest, RestChangesNothing, SkippingAgrees, OrderAndSuffix, ZerosChangeNothing};
+ghost use Rattle.atoi_core.specs.Laws.{TextOfValue, AcceptedTexts, AcceptedNumbers, WholeResults, PrefixResults, PrefixesAndRests, NumberThenByte, OneNumber, PrefixBegins, NoneOrTooLarge, DecimalTexts, PrefixIsWhole, PrefixOfCut, PrefixStopsAtRest, RestChangesNothing, SkippingAgrees, OrderAndSuffix, ZerosChangeNothing};
 
 use crate::number::Number;
 
@@ -21,12 +21,6 @@ pub fn accepted_texts<T: Number>()
 #[tactic(auto, using(crate::proofs::lemmas::Prefixes::accepted_numbers))]
 pub fn accepted_numbers<T: Number>()
     ensures { AcceptedNumbers T.int_type }
-{}
-
-/// A prefix parse returns only a prefix that writes a number; with zeros skipped, each of them.
-#[tactic(auto, using(crate::proofs::lemmas::Prefixes::accepted_prefixes))]
-pub fn accepted_prefixes<T: Number>()
-    ensures { AcceptedPrefixes T.int_type }
 {}
 
 /// What the `Result` of a whole parse says about its slice.
@@ -105,18 +99,6 @@ pub fn skipping_agrees<T: Number>()
 #[tactic(auto, using(crate::proofs::lemmas::Errors::order_and_suffix))]
 pub fn order_and_suffix<T: Number>()
     ensures { OrderAndSuffix T.int_type }
-{}
-
-/// Each error gives the first reason to refuse the body.
-#[tactic(auto, using(crate::proofs::lemmas::Errors::errors_in_order))]
-pub fn errors_in_order<T: Number>()
-    ensures { ErrorsInOrder T.int_type }
-{}
-
-/// Digits and their values are those of std.
-#[tactic(auto, using(crate::proofs::lemmas::Texts::decimal_digits))]
-pub fn decimal_digits()
-    ensures { DecimalDigits }
 {}
 
 /// The text that `{}` prints is the only one without a sign or a zero that could be left out.

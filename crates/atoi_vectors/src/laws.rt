@@ -2,10 +2,9 @@
 
 use atoi_column::laws::{first_field, items_decide, items_in_turn, texts_and_items};
 use atoi_core::laws::{
-    accepted_numbers, accepted_prefixes, accepted_texts, decimal_digits, decimal_texts,
-    errors_in_order, order_and_suffix, prefix_is_whole, prefix_of_cut, prefix_results,
-    prefix_stops_at_rest, prefixes_and_rests, rest_changes_nothing, skipping_agrees, text_of_value,
-    whole_results, zeros_change_nothing,
+    accepted_numbers, accepted_texts, decimal_texts, order_and_suffix, prefix_is_whole,
+    prefix_of_cut, prefix_results, prefix_stops_at_rest, prefixes_and_rests, rest_changes_nothing,
+    skipping_agrees, text_of_value, whole_results, zeros_change_nothing,
 };
 
 #[test]
@@ -13,12 +12,10 @@ fn each_law_at_64_bits() {
     text_of_value::<i64>();
     accepted_texts::<i64>();
     accepted_numbers::<i64>();
-    accepted_prefixes::<i64>();
     skipping_agrees::<i64>();
     whole_results::<i64, true>();
     prefix_results::<i64, true>();
     decimal_texts::<i64>();
-    decimal_digits();
     prefix_is_whole::<i64>();
     prefix_of_cut::<i64>();
     prefix_stops_at_rest::<i64>();
@@ -26,7 +23,6 @@ fn each_law_at_64_bits() {
     rest_changes_nothing::<i64>();
     zeros_change_nothing::<i64>();
     order_and_suffix::<i64>();
-    errors_in_order::<i64>();
 }
 
 #[test]

@@ -1,5 +1,5 @@
--- Errors: their order, their slices, and what they say about the body.
-use Rattle.std.proofs.Common.{◌≡◌, ◌↔◌, refl, ℕ, ◌+◌, Bool, List, ◌++◌, take, drop, Some, Result, Ok, Err, ℤ, sym, ap, ◌∙◌, take-append-drop, drop-drop, ◌<◌, ◌≤◌, true, false, eqb, length, Option, arith, eqb-true, ltb-true, ltb-false}
+-- Errors: their order, and their slices.
+use Rattle.std.proofs.Common.{◌≡◌, ◌↔◌, refl, ℕ, ◌+◌, Bool, List, ◌++◌, take, drop, Some, Result, Ok, Err, ℤ, sym, ap, ◌∙◌, take-append-drop, drop-drop, Option}
 use Rattle.std.specs.declared.cmp.Ordering.{Ordering}
 use Rattle.std.specs.declared.cmp.Ordering.TheVariants.{Equal}
 use Rattle.std.specs.Ordering.{nat_cmp, ordering_then}
@@ -8,17 +8,14 @@ use Rattle.std.specs.Cmp.{IsTotalOrder}
 use Rattle.std.proofs.lemmas.Cmp.{nat_cmp_total, nat_list_cmp_total, on_total, then_total, tied_itself}
 use Rattle.std.proofs.lemmas.Map.Lookups.{exact_bytes}
 use Rattle.atoi_core.specs.Refusal.{Refusal, empty, size, overflow, invalid64, invalid128, rank, numbers, input_of, refusal_cmp}
-use Rattle.atoi_core.specs.Digit.{decimal_table, Table, is_digit}
-use Rattle.atoi_core.specs.Magnitude.{whole, prefix, refusal, Class, narrow, Extent, is_above, leaves_rest, invalid}
+use Rattle.atoi_core.specs.Digit.{decimal_table}
+use Rattle.atoi_core.specs.Magnitude.{whole, prefix, Extent}
 use Rattle.atoi_core.specs.IntType.{IntType, class_of, bound_of, limit_of}
 use Rattle.atoi_core.specs.Sign.{with_sign}
 use Rattle.atoi_core.specs.Answer.{prefix_answer, with_more}
-use Rattle.atoi_core.specs.Laws.{SignForm, sign_in, whole_call, prefix_call, IsSuffix, OrderAndSuffix, HasSomeDigits, IsFollowed, Explains, ErrorsInOrder}
+use Rattle.atoi_core.specs.Laws.{SignForm, sign_in, whole_call, prefix_call, IsSuffix, OrderAndSuffix}
 use Rattle.atoi_core.proofs.lemmas.Calls.{drop-taken, counted_number, map_unless_err, whole_call-is, prefix_call-is}
-use Rattle.atoi_core.proofs.lemmas.Refusals.{refused, refusal-input, limit_at, significant_len, refusal-cases}
-use Rattle.std.proofs.lemmas.Bool.{eqb-false, false≢true, not-true}
-use Rattle.std.proofs.lemmas.List.Sums.{prefix_len-le-length}
-use Rattle.atoi_core.specs.Run.{run_len, run, value}
+use Rattle.atoi_core.proofs.lemmas.Refusals.{refused, refusal-input}
 
 -- ---- The order of errors
 
@@ -26,7 +23,7 @@ then_both : (first rest : Ordering) → ordering_then first rest ≡ Equal → (
 then_both Equal rest equal = (refl, equal)
 then_both first rest equal = absurd (cc equal)
 
-pub refusal_cmp-total : IsTotalOrder refusal_cmp
+refusal_cmp-total : IsTotalOrder refusal_cmp
 refusal_cmp-total =
     then_total (on_total rank nat_cmp_total)
     (then_total (on_total numbers nat_list_cmp_total) (on_total input_of nat_list_cmp_total))
@@ -45,7 +42,7 @@ same-refusal_cmp (invalid64 m i s) (invalid64 n j t) equal = let e = same_fields
 same-refusal_cmp (invalid128 m i s) (invalid128 n j t) equal = let e = same_fields (invalid128 m i s) (invalid128 n j t) equal in cc
 same-refusal_cmp a b equal = cc
 
-pub refusal_cmp-Equal : (a b : Refusal) → (refusal_cmp a b ≡ Equal) ↔ (a ≡ b)
+refusal_cmp-Equal : (a b : Refusal) → (refusal_cmp a b ≡ Equal) ↔ (a ≡ b)
 refusal_cmp-Equal a b = (same-refusal_cmp a b, λ same. rw (← same) (tied_itself refusal_cmp-total a))
 
 -- ---- Slices in errors
@@ -68,7 +65,7 @@ module _ (int : IntType) (form : SignForm) (skip : Bool) (s : List ℕ) where
   whole_refused : (reason : Refusal) → whole_call int form skip s ≡ Err reason → body_refused whole ≡ Some reason
   whole_refused reason h = map_unless_err (with_sign (sign_in int form s).minus) _ _ reason (sym (whole_call-is int form skip s) ∙ h)
 
-  prefix_refused : (reason : Refusal) → prefix_call int form skip s ≡ Err reason → body_refused prefix ≡ Some reason
+  pub prefix_refused : (reason : Refusal) → prefix_call int form skip s ≡ Err reason → body_refused prefix ≡ Some reason
   prefix_refused reason h =
       let g = sign_in int form s in
       map_unless_err (counted_number g.minus) _ _ reason
@@ -84,59 +81,4 @@ order_and_suffix int = record {
   order = refusal_cmp-Equal;
   whole = λ form skip s reason h. suffix_in int form skip s whole reason (whole_refused int form skip s reason h);
   prefix = λ form skip s reason h. suffix_in int form skip s prefix reason (prefix_refused int form skip s reason h);
-}
-
--- ---- What an error says about the body
-
-rest_left : (extent : Extent) (digits length : ℕ) → digits ≤ length → leaves_rest extent digits length ≡ true → digits < length
-rest_left whole digits length le h = omega (arith, eqb-false digits length (not-true (eqb digits length) h))
-rest_left prefix digits length le h = absurd (cc h)
-
-module _ (int : IntType) (extent : Extent) (is_negative skip : Bool) (body : List ℕ) where
-  invalid_explained : (class : Class) (number index : ℕ) → IsFollowed int extent is_negative skip body number index
-      → Explains int extent is_negative skip body (invalid class number index body)
-  invalid_explained narrow number index h = h
-  invalid_explained class number index h = h
-
-  begins : eqb (run_len decimal_table body) 0 ≡ false
-      → is_above (limit_at (class_of int) extent skip (limit_of int)) (significant_len decimal_table skip body) ≡ false
-      → HasSomeDigits int extent skip body
-  begins some short = record {
-    some = omega (arith, eqb-false (run_len decimal_table body) 0 some);
-    short = λ long. absurd (false≢true (sym short ∙ long));
-  }
-
-  explained : (reason : Refusal) → refused decimal_table int is_negative extent skip body ≡ Some reason
-      → Explains int extent is_negative skip body reason
-  explained reason h =
-      let number = value decimal_table (run decimal_table body) in
-      let digits = run_len decimal_table body in
-      refusal-cases decimal_table (class_of int) (bound_of int is_negative) (limit_of int) extent skip body
-      (Explains int extent is_negative skip body)
-      (λ e. eqb-true digits 0 e)
-      (λ e l. (omega (arith, eqb-false digits 0 e), l))
-      (λ e l o. (begins e l, ltb-true (bound_of int is_negative) number o))
-      (λ e l o f. invalid_explained (class_of int) number digits (record {
-        begins = begins e l;
-        in_range = ltb-false (bound_of int is_negative) number o;
-        follows = rest_left extent digits (length body) (prefix_len-le-length (is_digit decimal_table) body) f;
-        number_is = refl;
-        index_is = refl;
-      }))
-      reason h
-
--- A prefix is never refused for a byte after it.
-not_followed : (table : Table) (class : Class) (bound limit : ℕ) (skip : Bool) (body : List ℕ) (reason : Refusal)
-    → refusal table class bound limit prefix skip body ≡ Some reason → rank reason ≤ 2
-not_followed table class bound limit skip body reason h =
-    refusal-cases table class bound limit prefix skip body (λ r. rank r ≤ 2)
-    (λ e. omega arith) (λ e l. omega arith) (λ e l o. omega arith) (λ e l o f. absurd (cc f)) reason h
-
-pub errors_in_order : (int : IntType) → ErrorsInOrder int
-errors_in_order int = record {
-  whole = λ form skip s reason h. let g = sign_in int form s in explained int whole g.minus skip g.body reason (whole_refused int form skip s reason h);
-  prefix = λ form skip s reason h. let g = sign_in int form s in explained int prefix g.minus skip g.body reason (prefix_refused int form skip s reason h);
-  never_followed = λ form skip s reason h.
-      let g = sign_in int form s in
-      not_followed decimal_table (class_of int) (bound_of int g.minus) (limit_of int) skip g.body reason (prefix_refused int form skip s reason h);
 }

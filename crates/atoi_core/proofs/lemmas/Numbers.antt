@@ -1,23 +1,23 @@
 -- What follows a number, and what an error says about digits.
-use Rattle.std.proofs.Common.{◌≡◌, ◌↔◌, ℕ, ◌<◌, Bool, true, false, IsFalse, List, [], ◌∷◌, ◌++◌, length, take, drop, get_or, get_or-drop, length-drop, Err, ℤ, refl, sym, ap, ◌∙◌, arith, inl, inr}
-use Rattle.std.proofs.lemmas.Bool.{cases_lt, cases_Bool, false≢true}
+use Rattle.std.proofs.Common.{◌≡◌, ◌≢◌, ◌↔◌, ℕ, eqb, eqb-true, ltb-true, ◌<◌, Bool, true, false, IsFalse, List, [], ◌∷◌, ◌++◌, length, take, drop, get_or, get_or-drop, length-drop, Err, ℤ, refl, sym, ap, ◌∙◌, arith, inl, inr}
+use Rattle.std.proofs.lemmas.Bool.{cases_lt, cases_Bool, eqb-false, false≢true}
 use Rattle.std.proofs.lemmas.List.{take-append-drop}
 use Rattle.std.proofs.lemmas.List.Prefix.{front_rest}
 use Rattle.std.proofs.lemmas.List.Sums.{prefix_len-le-length, prefix_len_stops}
 use Rattle.std.specs.Str.Parse.{AllDigits}
 use Rattle.atoi_core.specs.Digit.{decimal_table, is_digit}
 use Rattle.atoi_core.specs.Run.{run_len, run, value}
-use Rattle.atoi_core.specs.Refusal.{Refusal, empty, size, overflow, invalid64, invalid128}
+use Rattle.atoi_core.specs.Refusal.{Refusal, empty}
 use Rattle.atoi_core.specs.Magnitude.{prefix, is_above}
 use Rattle.atoi_core.specs.IntType.{IntType, IsSized, class_of, bound_of, limit_of}
-use Rattle.atoi_core.specs.Laws.{SignForm, sign_in, prefix_call, Writes, NumberThenByte, OneNumber, PrefixBegins, NoneOrTooLarge, IsTooLong}
+use Rattle.atoi_core.specs.Laws.{SignForm, sign_in, prefix_call, Writes, NumberThenByte, OneNumber, PrefixBegins, NoneOrTooLarge}
 use Rattle.atoi_core.specs.Text.{BeginsWithDigit, PrefixWrites, IsNumberThen, IsTooLarge}
 use Rattle.atoi_core.proofs.lemmas.Calls.{digit_in_range, found_prefix}
-use Rattle.atoi_core.proofs.lemmas.Refusals.{limit_at, significant_len}
+use Rattle.atoi_core.proofs.lemmas.Refusals.{limit_at, significant_len, refusal-cases}
 use Rattle.atoi_core.proofs.lemmas.Bounds.{limit_of_prefix, in_range_short}
 use Rattle.atoi_core.proofs.lemmas.Texts.{digit_is, own, to_std}
 use Rattle.atoi_core.proofs.lemmas.Prefixes.{prefixes_and_rests, accepted_numbers, run_before, no_digit}
-use Rattle.atoi_core.proofs.lemmas.Errors.{errors_in_order}
+use Rattle.atoi_core.proofs.lemmas.Errors.{prefix_refused}
 use Rattle.atoi_core.proofs.lemmas.Runs.{length-run, run_len-run, digits_all}
 
 -- ---- A number and what follows it
@@ -87,7 +87,8 @@ prefix_begins int form skip s found h =
     begins_of_run (sign_in int form s).body (found_prefix int form skip s found.0 found.1 h).is_prefix.some
 
 -- A number in range has few enough digits.
-long_is_above : (int : IntType) → IsSized int → (is_negative : Bool) (body : List ℕ) → IsTooLong int prefix true body
+long_is_above : (int : IntType) → IsSized int → (is_negative : Bool) (body : List ℕ)
+    → is_above (limit_at (class_of int) prefix true (limit_of int)) (significant_len decimal_table true body) ≡ true
     → bound_of int is_negative < value decimal_table (run decimal_table body)
 long_is_above int sized is_negative body long =
     elim (cases_lt (bound_of int is_negative) (value decimal_table (run decimal_table body))) [
@@ -98,27 +99,34 @@ long_is_above int sized is_negative body long =
           absurd (false≢true (sym short ∙ long))
     ]
 
-module _ (int : IntType) (sized : IsSized int) (form : SignForm) (s : List ℕ) where
-  is_none : (skip : Bool) (reason : Refusal) → prefix_call int form skip s ≡ Err reason
+module _ (int : IntType) (form : SignForm) (s : List ℕ) (reason : Refusal) where
+  is_none : (skip : Bool) → prefix_call int form skip s ≡ Err reason
       → (reason ≡ empty) ↔ (run_len decimal_table (sign_in int form s).body ≡ 0)
-  is_none skip empty h = (λ same. (errors_in_order int).prefix form skip s empty h, λ not. refl)
-  is_none skip (size count rest) h =
-      (λ same. absurd (cc same), λ not. absurd (omega (arith, not, ((errors_in_order int).prefix form skip s (size count rest) h).0)))
-  is_none skip (overflow rest) h =
-      (λ same. absurd (cc same), λ not. absurd (omega (arith, not, ((errors_in_order int).prefix form skip s (overflow rest) h).0.some)))
-  is_none skip (invalid64 number index input) h = absurd (omega (arith, (errors_in_order int).never_followed form skip s (invalid64 number index input) h))
-  is_none skip (invalid128 number index input) h = absurd (omega (arith, (errors_in_order int).never_followed form skip s (invalid128 number index input) h))
+  is_none skip h =
+      let g = sign_in int form s in
+      let digits = run_len decimal_table g.body in
+      let some : eqb digits 0 ≡ false → digits ≢ 0 = eqb-false digits 0 in
+      refusal-cases decimal_table (class_of int) (bound_of int g.minus) (limit_of int) prefix skip g.body
+      (λ r. (r ≡ empty) ↔ (digits ≡ 0))
+      (λ e. (λ same. eqb-true digits 0 e, λ none. refl))
+      (λ e l. (λ same. absurd (cc same), λ none. absurd (some e none)))
+      (λ e l o. (λ same. absurd (cc same), λ none. absurd (some e none)))
+      (λ e l o f. absurd (cc f))
+      reason (prefix_refused int form skip s reason h)
 
-  is_above_bound : (reason : Refusal) → prefix_call int form true s ≡ Err reason → 0 < run_len decimal_table (sign_in int form s).body
+  is_above_bound : IsSized int → prefix_call int form true s ≡ Err reason → 0 < run_len decimal_table (sign_in int form s).body
       → bound_of int (sign_in int form s).minus < value decimal_table (run decimal_table (sign_in int form s).body)
-  is_above_bound empty h some = absurd (omega (arith, some, (errors_in_order int).prefix form true s empty h))
-  is_above_bound (size count rest) h some =
-      long_is_above int sized (sign_in int form s).minus (sign_in int form s).body ((errors_in_order int).prefix form true s (size count rest) h).1
-  is_above_bound (overflow rest) h some = ((errors_in_order int).prefix form true s (overflow rest) h).1
-  is_above_bound (invalid64 number index input) h some =
-      absurd (omega (arith, (errors_in_order int).never_followed form true s (invalid64 number index input) h))
-  is_above_bound (invalid128 number index input) h some =
-      absurd (omega (arith, (errors_in_order int).never_followed form true s (invalid128 number index input) h))
+  is_above_bound sized h some =
+      let g = sign_in int form s in
+      let digits = run_len decimal_table g.body in
+      let number = value decimal_table (run decimal_table g.body) in
+      refusal-cases decimal_table (class_of int) (bound_of int g.minus) (limit_of int) prefix true g.body
+      (λ r. bound_of int g.minus < number)
+      (λ e. absurd (omega (arith, some, eqb-true digits 0 e)))
+      (λ e l. long_is_above int sized g.minus g.body l)
+      (λ e l o. ltb-true (bound_of int g.minus) number o)
+      (λ e l o f. absurd (cc f))
+      reason (prefix_refused int form true s reason h)
 
 -- All digits at the start, with a value above the bound, are too large.
 run_too_large : (int : IntType) (is_negative : Bool) (body : List ℕ) → 0 < run_len decimal_table body
@@ -148,10 +156,10 @@ split_once digits other rest more same all all_other ends ends_other =
 -- The law `NoneOrTooLarge`.
 pub none_or_too_large : (int : IntType) → IsSized int → NoneOrTooLarge int
 none_or_too_large int sized = record {
-  none = λ form skip s. is_none int sized form s skip;
+  none = λ form skip s reason h. is_none int form s reason skip h;
   too_large = λ form s reason h some.
       let sign = sign_in int form s in
-      run_too_large int sign.minus sign.body some (is_above_bound int sized form s reason h some);
+      run_too_large int sign.minus sign.body some (is_above_bound int form s reason sized h some);
   begins = λ s. (run_of_begins s, begins_of_run s);
   one_split = split_once;
 }

@@ -6,7 +6,7 @@ use Rattle.atoi_core.specs.Digit.{decimal_table, is_digit}
 use Rattle.atoi_core.specs.Run.{run_len, run, value}
 use Rattle.atoi_core.specs.IntType.{IntType, class_of, limit_of, IsSized, bound_of}
 use Rattle.atoi_core.specs.Sign.{Sign, sign_of}
-use Rattle.atoi_core.specs.Laws.{SignForm, sign_in, whole_call, prefix_call, HasLimitOfWhole, PrefixIsWhole, PrefixOfCut, PrefixStopsAtRest, looked_for, given, Writes, AcceptedPrefixes, PrefixesAndRests, AcceptedNumbers, AcceptedTexts, WholeResults, PrefixResults}
+use Rattle.atoi_core.specs.Laws.{SignForm, sign_in, whole_call, prefix_call, HasLimitOfWhole, PrefixIsWhole, PrefixOfCut, PrefixStopsAtRest, looked_for, given, Writes, PrefixesAndRests, AcceptedNumbers, AcceptedTexts, WholeResults, PrefixResults}
 use Rattle.atoi_core.proofs.lemmas.Runs.{length-run, run_len-run, zeros-run, run_all}
 use Rattle.atoi_core.proofs.lemmas.Calls.{drop-taken, length-taken, sign_again, digit_in_range, whole_call-is, from_whole, to_whole, is_whole, whole_is_run, IsFound, found_prefix, ok_prefix}
 use Rattle.atoi_core.proofs.lemmas.Refusals.{significant_len}
@@ -204,8 +204,15 @@ found_text int sized takes_plus s number count h =
     subst (λ (g : Sign). IsFound int g true number count) (sym sign_is)
     (rw len at (prefix_found int sized (is_minus text.sign) (length (sign_bytes text.sign)) text.digits rest number text.written h.ends))
 
--- The law `AcceptedPrefixes`.
-pub accepted_prefixes : (int : IntType) → IsSized int → AcceptedPrefixes int
+-- A prefix parse returns only a number and the length of a prefix that writes it, with no digit
+-- after it; with zeros skipped, it finds each such prefix.
+record AcceptedPrefixes (int : IntType) : Type 0 where
+  written : (form : SignForm) (skip : Bool) (s : List ℕ) (number : ℤ) (count : ℕ)
+      → prefix_call int form skip s ≡ Ok (number, count) → PrefixWrites (Writes int form) s number count
+  accepted : (form : SignForm) (s : List ℕ) (number : ℤ) (count : ℕ)
+      → PrefixWrites (Writes int form) s number count → prefix_call int form true s ≡ Ok (number, count)
+
+accepted_prefixes : (int : IntType) → IsSized int → AcceptedPrefixes int
 accepted_prefixes int sized = record { written = written; accepted = accepted }
   where
     written : (form : SignForm) (skip : Bool) (s : List ℕ) (number : ℤ) (count : ℕ)

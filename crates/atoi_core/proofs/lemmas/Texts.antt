@@ -10,8 +10,8 @@ use Rattle.atoi_core.specs.Magnitude.{whole, is_above}
 use Rattle.atoi_core.specs.IntType.{IntType, IsSized, class_of, bound_of, limit_of}
 use Rattle.atoi_core.specs.Sign.{Sign, sign_of, with_sign, plus_sign, minus_sign}
 use Rattle.atoi_core.specs.Answer.{whole_answer, parse_answer}
-use Rattle.atoi_core.specs.Laws.{sign_in, least_of, TextOfValue, SkippingAgrees, DecimalDigits, SignForm, looked_for, given, whole_call, Writes, DecimalTexts}
-use Rattle.atoi_core.proofs.lemmas.Runs.{run_all, digits_all, decimal_below_ten, value-below}
+use Rattle.atoi_core.specs.Laws.{sign_in, least_of, TextOfValue, SkippingAgrees, SignForm, looked_for, given, whole_call, Writes, DecimalTexts}
+use Rattle.atoi_core.proofs.lemmas.Runs.{run_all, digits_all}
 use Rattle.atoi_core.proofs.lemmas.Calls.{sign_of_digits, digit_in_range, sign_cases, whole_call-is, from_whole, to_whole, is_whole, whole_is_run}
 use Rattle.atoi_core.proofs.lemmas.Refusals.{limit_at, significant_len}
 use Rattle.atoi_core.proofs.lemmas.Bounds.{shorter, short_enough, limit_of_whole, bound-limit, bound_below-64}
@@ -125,7 +125,7 @@ sign_of_minus signed true digits h = rw h refl
 sign_of_minus signed false digits h = rw h refl
 
 -- A negative number in range has a signed type and a magnitude in range.
-pub negative_in_range : (signed : Bool) (greatest n : ℕ) → cond signed (neg_ℤ (pos (greatest + 1))) (pos 0) ≤ℤ negsuc n
+negative_in_range : (signed : Bool) (greatest n : ℕ) → cond signed (neg_ℤ (pos (greatest + 1))) (pos 0) ≤ℤ negsuc n
     → (signed ≡ true) × (n ≤ greatest)
 negative_in_range false greatest n h = absurd h.le
 negative_in_range true greatest n h = let within = rw add-one at h in (refl, leb→le n greatest within.le)
@@ -152,16 +152,6 @@ pub to_std : (s : List ℕ) → All (λ byte. IsTrue (is_digit decimal_table byt
 to_std [] h = tt
 to_std (byte ∷ bytes) h =
     tells_digits.more byte bytes (digit_in_range byte (h 0 0 (omega arith))) (to_std bytes (λ i d lt. h (suc i) d (omega arith)))
-
--- The law `DecimalDigits`.
-pub decimal_digits : DecimalDigits
-decimal_digits = record {
-  byte = λ byte. (digit_in_range byte, λ r. rw (digit_is byte r.0 r.1) refl);
-  to_std = to_std;
-  from_std = λ s h. digits_all decimal_table s (run_of_digits s h);
-  value_is = own.same;
-  below = value-below decimal_table decimal_below_ten;
-}
 
 -- ---- What a whole parse accepts
 
