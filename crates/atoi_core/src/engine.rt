@@ -66,7 +66,8 @@ pub trait Engine {
         answer_64(bound, limit, at, 16 + second.len, number, s)
     }
 
-    /// As `prefix_64` for 128 bits, where the limit is 39 digits.
+    /// Like `prefix_64`, but for 128 bits, where the limit is 39 digits. May make two loads less than a
+    /// core call, which may load two windows before it calls this method.
     ///
     /// # Errors
     ///
