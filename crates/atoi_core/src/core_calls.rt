@@ -1,5 +1,5 @@
 //! The four *core calls*: each parses digits without a sign as an integer of any type, with the
-//! parser for its size. Each `match` costs fewer instructions than `?` would.
+//! parser for its size.
 ghost use Rattle.std.specs.Prelude.{◌≡◌, ◌≤◌, true, false, IfOk, length};
 ghost use Rattle.atoi_core.specs.Answer.{typed_answer, typed_prefix_answer, whole_answer, prefix_answer};
 ghost use Rattle.atoi_core.specs.IntType.{class_of, bound_of, limit_of};
@@ -19,7 +19,7 @@ use crate::steps::Steps;
 ///
 /// # Errors
 ///
-/// Those of `AtoiSimdError`, for `s` as the body.
+/// Every kind of `AtoiSimdError`; `s` is the body.
 #[inline(always)]
 #[tactic(auto, using(crate::proofs::lemmas::Calls::whole_in_bounds))]
 pub fn whole_pos<'a, E: Engine, T: Number>(
@@ -30,17 +30,14 @@ pub fn whole_pos<'a, E: Engine, T: Number>(
     ensures answer { typed_answer T.number result ≡ whole_answer E.table T.int_type false skip s.now }
     ensures loads { TypedLoads E.table T.int_type whole skip s.now steps.old steps.new }
 {
+    // Here and below, a `match` takes fewer instructions than `?`.
     match whole_by_size::<E, T>(false, skip, s, steps) {
         Ok(magnitude) => Ok(T::from_pos(magnitude)),
         Err(error) => Err(error),
     }
 }
 
-/// As `whole_pos`, for the digits of a negative number.
-///
-/// # Errors
-///
-/// Those of `whole_pos`.
+/// Like `whole_pos`, but returns minus the value of the digits. The errors are the same.
 #[inline(always)]
 pub fn whole_neg<'a, E: Engine, T: Signed>(
     skip: bool,
@@ -53,7 +50,7 @@ pub fn whole_neg<'a, E: Engine, T: Signed>(
     whole_of::<E, T>(true, skip, s, steps)
 }
 
-/// As `whole_neg` if `minus` is set, otherwise as `whole_pos`.
+// Like `whole_neg` if `minus` is set, otherwise like `whole_pos`.
 #[inline(always)]
 #[tactic(auto, using(crate::proofs::lemmas::Calls::whole_in_bounds))]
 pub(crate) fn whole_of<'a, E: Engine, T: Signed>(
@@ -71,7 +68,7 @@ pub(crate) fn whole_of<'a, E: Engine, T: Signed>(
     }
 }
 
-/// As `whole_pos`, for the digits at the start of `s`. Returns how many they are too.
+/// Like `whole_pos`, but for the digits at the start of `s`. Also returns how many there are.
 ///
 /// # Errors
 ///
@@ -94,11 +91,7 @@ pub fn prefix_pos<'a, E: Engine, T: Number>(
     }
 }
 
-/// As `prefix_pos`, for the digits of a negative number.
-///
-/// # Errors
-///
-/// Those of `prefix_pos`.
+/// Like `prefix_pos`, but returns minus the value of the digits. The errors are the same.
 #[inline(always)]
 pub fn prefix_neg<'a, E: Engine, T: Signed>(
     skip: bool,
@@ -113,7 +106,7 @@ pub fn prefix_neg<'a, E: Engine, T: Signed>(
     prefix_of::<E, T>(true, skip, s, steps)
 }
 
-/// As `prefix_neg` if `minus` is set, otherwise as `prefix_pos`.
+// Like `prefix_neg` if `minus` is set, otherwise like `prefix_pos`.
 #[inline(always)]
 #[tactic(auto, using(crate::proofs::lemmas::Calls::prefix_within, crate::proofs::lemmas::Calls::prefix_in_bounds))]
 pub(crate) fn prefix_of<'a, E: Engine, T: Signed>(
@@ -133,7 +126,7 @@ pub(crate) fn prefix_of<'a, E: Engine, T: Signed>(
     }
 }
 
-// Returns the magnitude, up to that of `T::MIN` if `minus` is set.
+// Returns the magnitude, at most `greatest_magnitude::<T>(minus)`.
 #[inline(always)]
 #[tactic(auto, using(crate::proofs::lemmas::Refusals::narrow_whole_limit))]
 fn whole_by_size<'a, E: Engine, T: Number>(
@@ -190,7 +183,7 @@ fn prefix_by_size<'a, E: Engine, T: Number>(
     }
 }
 
-/// As `Engine::prefix_64`, for all of `s`.
+/// Like `Engine::prefix_64`, but for all of `s`.
 ///
 /// # Errors
 ///
@@ -219,7 +212,7 @@ pub fn whole_64<'a, E: Engine>(
     }
 }
 
-/// As `Engine::prefix_128`, for all of `s`.
+/// Like `Engine::prefix_128`, but for all of `s`.
 ///
 /// # Errors
 ///

@@ -55,7 +55,7 @@ pub trait Engine {
             if !skip || window.zeroes == 0 {
                 break window;
             }
-            at += window.zeroes as usize; // At most 16 a turn.
+            at += window.zeroes as usize;
         };
         if first.len < 16 {
             return found_or_empty(first.number, at + first.len as usize);

@@ -5,19 +5,19 @@ ghost use Rattle.atoi_core.specs.Refusal.{refusal_of, refusal_cmp};
 use std::cmp::Ordering;
 use std::error::Error;
 
-/// Why a slice was refused: the first variant here that applies. Numbers, indexes and slices are
-/// those of the *body*, the slice after its sign. Errors are ordered by variant, then by their
-/// numbers from left to right, then by their slices.
+/// Why a slice was refused: the first variant here that applies. Numbers, offsets and slices are about
+/// the *body*, the slice after its sign. Errors are ordered by variant, then by their numbers from left
+/// to right, then by their slices.
 #[derive(Debug, Clone, Copy, PartialOrd, Ord, PartialEq, Eq)]
 pub enum AtoiSimdError<'a> {
     /// The body does not start with a digit.
     Empty,
     /// More than 19 *significant* digits for `i64` and `isize`, 20 for `u64` and `usize`, 39 for
-    /// types of 128 bits, or 16 for a prefix of a narrower type without skipped zeros. Significant
-    /// are the digits after the skipped zeros.
+    /// types of 128 bits, or 16 for a prefix of a narrower type without skipped zeros. Digits are
+    /// significant after the skipped zeros.
     ///
-    /// Holds the number of skipped zeros plus that of significant digits, of which at most 24, 40
-    /// or 17 are counted, and the body from its first significant digit on.
+    /// Holds how many zeros are skipped plus how many digits are significant, counted up to 24 for 64
+    /// bits, 40 for 128, and 17 for a narrower prefix. Then the body from its first significant digit.
     Size(usize, &'a [u8]),
     /// The value does not fit in the type.
     ///
@@ -26,9 +26,9 @@ pub enum AtoiSimdError<'a> {
     /// digit, or at that digit if the block is full of digits.
     Overflow(&'a [u8]),
     /// Another byte follows the digits, where all of the body is parsed, for types of at most 64
-    /// bits. Holds the value of the digits, the index of that byte, and the body.
+    /// bits. Holds the value of the digits, the offset of that byte, and the body.
     Invalid64(u64, usize, &'a [u8]),
-    /// As `Invalid64`, for types of 128 bits.
+    /// Like `Invalid64`, but for types of 128 bits.
     Invalid128(u128, usize, &'a [u8]),
 }
 

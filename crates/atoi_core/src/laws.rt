@@ -41,7 +41,7 @@ pub fn prefixes_and_rests<T: Number>()
     ensures { PrefixesAndRests T.int_type }
 {}
 
-/// A number and a byte that is no digit: one way to read them, which is that of a prefix parse.
+/// A number and a byte that is no digit can be read in one way, which a prefix parse finds.
 #[tactic(auto, using(crate::proofs::lemmas::Numbers::number_then_byte))]
 pub fn number_then_byte<T: Number>()
     ensures { NumberThenByte T.int_type }

@@ -17,7 +17,8 @@ use crate::window_loops::window_after_zeros;
 /// # Errors
 ///
 /// `Empty`, `Size(17, s)` for more than 16 digits without `skip`, or `Overflow` with `s`. With `skip`,
-/// this slice leaves out zeros in blocks of 16, and all of them if 16 digits follow these blocks.
+/// the slice leaves out leading zeros in whole blocks of 16, or all of them if the block in which they
+/// end is full of digits.
 #[inline(always)]
 #[tactic(auto, using(crate::proofs::lemmas::LoopAnswers::narrow_size))]
 pub fn narrow_prefix<'a, E: Engine>(
@@ -61,7 +62,7 @@ fn is_too_long<E: Engine>(skip: bool, s: &[u8], steps: &mut Steps) -> bool
 ///
 /// # Errors
 ///
-/// Those of `narrow_whole`, in the same order.
+/// `Empty`, `Overflow` and `Invalid64`.
 #[inline(always)]
 pub fn narrow_whole_windows<'a, E: Engine>(
     bound: u64,
@@ -116,7 +117,7 @@ fn narrow_answer(bound: u64, len: usize, number: u64, s: &[u8]) -> Result<u64, A
     }
 }
 
-// Cold: see DECISIONS.
+// Inlined, around a function that is not: only this path zeroes the stack slot of the result.
 #[inline(always)]
 fn narrow_prefix_cold<'a, E: Engine>(
     bound: u64,

@@ -12,6 +12,7 @@ pub trait Number: Copy {
 
     ghost BITS: { ℕ };
 
+    /// Whether the type has negative values.
     const SIGNED: bool;
 
     ghost SIGNED: { Bool };
@@ -25,6 +26,7 @@ pub trait Number: Copy {
 
     ghost number: { Self → ℤ };
 
+    /// Returns `value` as a number of the type.
     fn from_pos(value: u128) -> Self
         requires { value ≤ GREATEST }
         ensures { number result ≡ pos value };

@@ -11,12 +11,8 @@ use crate::powers::append_digits;
 use crate::steps::Steps;
 use crate::wide_answer::found_or_empty;
 
-/// As `Engine::prefix_128`, which is called after one full window if `WHOLE` is set and `s` has 32
-/// bytes or more, and loads again what was read here.
-///
-/// # Errors
-///
-/// `Empty`, `Size` and `Overflow`.
+// Like `Engine::prefix_128`, which reads what two windows do not answer. With `WHOLE`, a slice of 32
+// bytes or more whose first window is full goes to the engine at once. The engine starts over.
 #[inline(always)]
 pub(crate) fn prefix_128_inline<'a, E: Engine, const WHOLE: bool>(
     bound: u128,
@@ -35,7 +31,7 @@ pub(crate) fn prefix_128_inline<'a, E: Engine, const WHOLE: bool>(
     }
 }
 
-// Cold: see DECISIONS.
+// Inlined, around a function that is not: only this path zeroes the stack slot of the result.
 #[inline(always)]
 fn prefix_128_cold<'a, E: Engine>(
     bound: u128,

@@ -41,11 +41,8 @@ fn without_first(s: &[u8]) -> &[u8]
     &s[1..]
 }
 
-/// Parses all of `s` as at most one sign and digits.
-///
-/// # Errors
-///
-/// Those of `whole_neg` if there is a `-`, otherwise those of `whole_pos`, for the body.
+/// Parses all of `s` as at most one sign and digits. Returns the errors of `whole_pos` for the
+/// body.
 #[inline(always)]
 pub fn parse_signed<'a, E: Engine, T: Signed>(
     skip: bool,
@@ -61,11 +58,8 @@ pub fn parse_signed<'a, E: Engine, T: Signed>(
     whole_of::<E, T>(minus, skip, body, steps)
 }
 
-/// Parses all of `s` as an optional `+`, if `skip_plus` is on, and digits.
-///
-/// # Errors
-///
-/// Those of `whole_pos`, for the body.
+/// Parses all of `s` as an optional `+`, if `skip_plus` is on, and digits. Returns the errors of
+/// `whole_pos` for the body.
 #[inline(always)]
 pub fn parse_unsigned<'a, E: Engine, T: Number>(
     skip: bool,
@@ -82,12 +76,8 @@ pub fn parse_unsigned<'a, E: Engine, T: Number>(
     whole_pos::<E, T>(skip, body, steps)
 }
 
-/// Parses the number at the start of `s`, and returns it with the count of its bytes, the sign
-/// included.
-///
-/// # Errors
-///
-/// Those of `prefix_neg` if there is a `-`, otherwise those of `prefix_pos`, for the body.
+/// Parses the number at the start of `s`, and returns it with its length, the sign included. Returns the
+/// errors of `prefix_pos` for the body.
 #[inline(always)]
 pub fn parse_prefix_signed<'a, E: Engine, T: Signed>(
     skip: bool,
@@ -106,11 +96,7 @@ pub fn parse_prefix_signed<'a, E: Engine, T: Signed>(
     Ok(count_sign(found, body, s))
 }
 
-/// `parse_prefix_signed` for an unsigned type, which accepts no `-`.
-///
-/// # Errors
-///
-/// Those of `prefix_pos`, for the body.
+/// Like `parse_prefix_signed`, but for an unsigned type, which accepts no `-`. The errors are the same.
 #[inline(always)]
 pub fn parse_prefix_unsigned<'a, E: Engine, T: Number>(
     skip: bool,
@@ -130,7 +116,7 @@ pub fn parse_prefix_unsigned<'a, E: Engine, T: Number>(
     Ok(count_sign(found, body, s))
 }
 
-// Adds the bytes of `s` before `body` to the count.
+// Adds the bytes of `s` before `body` to the length.
 fn count_sign<T>(found: (T, usize), body: &[u8], s: &[u8]) -> (T, usize)
     requires inside { found.1 ≤ length body.now }
     requires shorter { length body.now ≤ length s.now }

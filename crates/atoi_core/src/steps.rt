@@ -21,6 +21,7 @@ impl Model for Steps {
 }
 
 impl Steps {
+    /// Returns a count of 0.
     #[inline(always)]
     pub fn new() -> Steps
         ensures { result ≡ 0 }
@@ -30,6 +31,7 @@ impl Steps {
         }
     }
 
+    /// Counts one step more.
     #[inline(always)]
     pub fn tick(&mut self)
         ensures { self.new ≡ self.old + 1 }

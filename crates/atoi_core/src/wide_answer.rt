@@ -7,7 +7,7 @@ ghost use Rattle.atoi_core.specs.Refusal.{answer_of, empty};
 use crate::error::AtoiSimdError;
 use crate::powers::power_of_ten;
 
-/// Returns a number of `len` digits with this length.
+/// Returns `number`, which has `len` digits, with `len`.
 ///
 /// # Errors
 ///

@@ -35,7 +35,7 @@ pub(crate) fn digits_of(word: u64) -> u32
     }
 }
 
-// `len_zeroes`, with the same difference as in `digits_of` and `value_of`.
+// `len_zeroes`, but with the difference that `digits_of` and `value_of` use too.
 #[tactic(auto, using(crate::proofs::lemmas::WordRuns::lowered_zeros_of_8))]
 pub(crate) fn zeroes_of(word: u64) -> u32
     ensures zeroes { result ≡ zeros decimal_table (low_bytes 8 word) }

@@ -100,7 +100,7 @@ impl Engine for WordWindows {
     ghost below_ten = { λ byte. Prim.grind (arith, nat_tests) };
 }
 
-// Cold: see DECISIONS.
+// Inlined, around a function that is not: only this path zeroes the stack slot of the result.
 #[inline(always)]
 fn prefix_64_cold<'a>(
     bound: u64,

@@ -38,8 +38,8 @@ pub fn load_high(s: &[u8]) -> u64
     ((first_two(s) | first) << (64 - 8 * s.len())) | (last << 32) | (end << 56)
 }
 
-/// The word of the first 8 bytes from `at` on, or of all from there on if there are fewer, from the
-/// last 8 bytes by a shift. It may be by all 64 bits, so there are two.
+/// Returns the word of the first 8 bytes from `at` on. If fewer follow, shifts the last 8 bytes of `s`
+/// down. The shift may be by 64 bits, so it is done in two steps.
 #[inline(always)]
 pub fn load_from(s: &[u8], at: usize) -> u64
     requires enough { 8 ≤ length s.now }

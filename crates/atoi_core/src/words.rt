@@ -1,5 +1,5 @@
-//! The functions on words of the Rust crate `atoi_simd`. No public parse runs them but `load_8`. A *word*
-//! is an integer that holds eight or sixteen bytes, the first one lowest.
+//! The functions on words of the Rust crate `atoi_simd`, for comparison with it. Parses run the forms in
+//! `word_digits`, and lanes run `load_8`. A *word* holds eight or sixteen bytes, the first one lowest.
 ghost use Rattle.std.specs.Prelude.{◌≡◌, ◌≤◌};
 ghost use Rattle.atoi_core.specs.Digit.{decimal_table};
 ghost use Rattle.atoi_core.specs.Run.{run_len, zeros};
@@ -16,7 +16,7 @@ pub fn check_len_8(val: u64) -> u32
     ensures len { result ≡ run_len decimal_table (low_bytes 8 val) }
     ensures most { result ≤ 8 }
 {
-    // A digit has 3 as its upper half, and keeps it when six is added. A byte that carries is none.
+    // A digit has 3 as its upper half, and keeps it when six is added. A byte that carries is no digit.
     let upper_halves = val & UPPER_HALVES;
     let with_six = val.wrapping_add(0x0606_0606_0606_0606);
     let upper_with_six = (with_six & UPPER_HALVES) >> 4;

@@ -39,13 +39,9 @@ pub fn parse<T: Parse, const SKIP_ZEROES: bool, const SKIP_PLUS: bool>(
     T::atoi_simd_parse(s, SKIP_ZEROES, SKIP_PLUS)
 }
 
-/// As `parse`, for digits without a sign.
+/// Like `parse`, but for digits without a sign. The errors are the same.
 ///
 /// `parse_pos::<u128, true>(b"0012")` returns `Ok(12)`.
-///
-/// # Errors
-///
-/// Those of `parse`.
 #[inline(always)]
 pub fn parse_pos<T: Parse, const SKIP_ZEROES: bool>(s: &[u8]) -> Result<T, AtoiSimdError<'_>>
     ensures answer { typed_answer T.number result
@@ -58,13 +54,10 @@ pub fn parse_pos<T: Parse, const SKIP_ZEROES: bool>(s: &[u8]) -> Result<T, AtoiS
     T::atoi_simd_parse_pos(s, SKIP_ZEROES)
 }
 
-/// As `parse_pos`, for the digits of a negative number, which the result negates.
+/// Like `parse_pos`, but returns minus the value of the digits. `s` holds no `-`. The errors are the
+/// same.
 ///
 /// `parse_neg::<i8, false>(b"128")` returns `Ok(-128)`.
-///
-/// # Errors
-///
-/// Those of `parse`.
 #[inline(always)]
 pub fn parse_neg<T: ParseNeg, const SKIP_ZEROES: bool>(s: &[u8]) -> Result<T, AtoiSimdError<'_>>
     ensures answer { typed_answer T.number result
@@ -77,8 +70,8 @@ pub fn parse_neg<T: ParseNeg, const SKIP_ZEROES: bool>(s: &[u8]) -> Result<T, At
     T::atoi_simd_parse_neg(s, SKIP_ZEROES)
 }
 
-/// As `parse`, for the number at the start of `s`, up to its first other byte. Returns the number and
-/// how many bytes it has, a sign and leading zeros included.
+/// Like `parse`, but for the number at the start of `s`, up to the first other byte. Returns the number
+/// and how many bytes it has, a sign and leading zeros included.
 ///
 /// `parse_prefix::<u64, false, false>(b"123something_else")` returns `Ok((123, 3))`.
 ///
@@ -102,13 +95,9 @@ pub fn parse_prefix<T: Parse, const SKIP_ZEROES: bool, const SKIP_PLUS: bool>(
     T::atoi_simd_parse_prefix(s, SKIP_ZEROES, SKIP_PLUS)
 }
 
-/// As `parse_prefix`, for digits without a sign.
+/// Like `parse_prefix`, but for digits without a sign. The errors are the same.
 ///
 /// `parse_prefix_pos::<u16, false>(b"80/tcp")` returns `Ok((80, 2))`.
-///
-/// # Errors
-///
-/// Those of `parse_prefix`.
 #[inline(always)]
 pub fn parse_prefix_pos<T: Parse, const SKIP_ZEROES: bool>(
     s: &[u8],
@@ -125,13 +114,10 @@ pub fn parse_prefix_pos<T: Parse, const SKIP_ZEROES: bool>(
     T::atoi_simd_parse_prefix_pos(s, SKIP_ZEROES)
 }
 
-/// As `parse_prefix_pos`, for the digits of a negative number, which the result negates.
+/// Like `parse_prefix_pos`, but returns minus the value of the digits. `s` holds no `-`. The errors are
+/// the same.
 ///
 /// `parse_prefix_neg::<i32, false>(b"12a")` returns `Ok((-12, 2))`.
-///
-/// # Errors
-///
-/// Those of `parse_prefix`.
 #[inline(always)]
 pub fn parse_prefix_neg<T: ParseNeg, const SKIP_ZEROES: bool>(
     s: &[u8],
@@ -148,13 +134,9 @@ pub fn parse_prefix_neg<T: ParseNeg, const SKIP_ZEROES: bool>(
     T::atoi_simd_parse_prefix_neg(s, SKIP_ZEROES)
 }
 
-/// The old name of `parse::<T, true, true>`.
+/// The old name of `parse::<T, true, true>`, with the same errors.
 ///
 /// `parse_skipped::<isize>(b"+007")` returns `Ok(7)`.
-///
-/// # Errors
-///
-/// Those of `parse`.
 #[inline(always)]
 pub fn parse_skipped<T: Parse>(s: &[u8]) -> Result<T, AtoiSimdError<'_>>
     ensures answer { typed_answer T.number result ≡ parse_answer T.int_type true true s.now }
@@ -165,13 +147,9 @@ pub fn parse_skipped<T: Parse>(s: &[u8]) -> Result<T, AtoiSimdError<'_>>
     parse::<T, true, true>(s)
 }
 
-/// The old name of `parse_prefix::<T, false, false>`.
+/// The old name of `parse_prefix::<T, false, false>`, with the same errors.
 ///
 /// `parse_any::<usize>(b"7 ")` returns `Ok((7, 1))`.
-///
-/// # Errors
-///
-/// Those of `parse_prefix`.
 #[inline(always)]
 pub fn parse_any<T: Parse>(s: &[u8]) -> Result<(T, usize), AtoiSimdError<'_>>
     ensures answer { typed_prefix_answer T.number result
@@ -183,13 +161,9 @@ pub fn parse_any<T: Parse>(s: &[u8]) -> Result<(T, usize), AtoiSimdError<'_>>
     parse_prefix::<T, false, false>(s)
 }
 
-/// The old name of `parse_prefix_pos::<T, false>`.
+/// The old name of `parse_prefix_pos::<T, false>`, with the same errors.
 ///
 /// `parse_any_pos::<u8>(b"255.")` returns `Ok((255, 3))`.
-///
-/// # Errors
-///
-/// Those of `parse_prefix`.
 #[inline(always)]
 pub fn parse_any_pos<T: Parse>(s: &[u8]) -> Result<(T, usize), AtoiSimdError<'_>>
     ensures answer { typed_prefix_answer T.number result
@@ -201,13 +175,9 @@ pub fn parse_any_pos<T: Parse>(s: &[u8]) -> Result<(T, usize), AtoiSimdError<'_>
     parse_prefix_pos::<T, false>(s)
 }
 
-/// The old name of `parse_prefix_neg::<T, false>`.
+/// The old name of `parse_prefix_neg::<T, false>`, with the same errors.
 ///
 /// `parse_any_neg::<i16>(b"1-")` returns `Ok((-1, 1))`.
-///
-/// # Errors
-///
-/// Those of `parse_prefix`.
 #[inline(always)]
 pub fn parse_any_neg<T: ParseNeg>(s: &[u8]) -> Result<(T, usize), AtoiSimdError<'_>>
     ensures answer { typed_prefix_answer T.number result

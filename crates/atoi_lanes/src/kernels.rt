@@ -11,7 +11,7 @@ use std::simd::prelude::*;
 
 const LANES: usize = 16;
 
-// The indices of the shuffles. The index 128 selects no lane, and gives a lane of 0.
+// Shuffle indices. Index 128 selects no lane and yields 0.
 const SHIFTS: [u8; 48] = [
     128, 128, 128, 128, 128, 128, 128, 128, 128, 128, 128, 128, 128, 128, 128, 128, 0, 1, 2, 3, 4,
     5, 6, 7, 8, 9, 10, 11, 12, 13, 14, 15, 128, 128, 128, 128, 128, 128, 128, 128, 128, 128, 128,
@@ -73,7 +73,7 @@ pub fn sum_lanes(v: u8x16, len: u32) -> u64
     number_in_lanes(shuffle(digit_values, len as usize))
 }
 
-// Returns the 16 lanes from place `p` of 16 lanes of 0, those of `v`, and 16 more lanes of 0.
+// Returns 16 of 48 lanes, from lane `p` on: 16 lanes of 0, the lanes of `v`, and 16 lanes of 0.
 #[tactic(auto, using(crate::proofs::lemmas::Shuffles::shuffled, crate::proofs::lemmas::Shuffles::shuffle_ok))]
 pub(crate) fn shuffle(v: u8x16, p: usize) -> u8x16
     requires { p ≤ 32 }

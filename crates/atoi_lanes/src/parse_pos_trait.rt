@@ -8,20 +8,12 @@ use atoi_core::{AtoiSimdError, Number, Parsed, Steps, prefix_pos, whole_pos};
 
 /// An integer type that is parsed from digits without a sign.
 pub trait ParsePos: Number {
-    /// The function `parse_pos`, with its flag as an argument.
-    ///
-    /// # Errors
-    ///
-    /// Those of `parse`.
+    /// The function `parse_pos`, with its flag as an argument, and with the same errors.
     fn atoi_simd_parse_pos(s: &[u8], skip_zeroes: bool) -> Result<Self, AtoiSimdError<'_>>
         ensures answer { typed_answer Self.number result
             ≡ whole_answer decimal_table Self.int_type false skip_zeroes s.now };
 
-    /// The function `parse_prefix_pos`, with its flag as an argument.
-    ///
-    /// # Errors
-    ///
-    /// Those of `parse_prefix`.
+    /// The function `parse_prefix_pos`, with its flag as an argument, and with the same errors.
     fn atoi_simd_parse_prefix_pos(
         s: &[u8],
         skip_zeroes: bool,

@@ -12,11 +12,7 @@ use atoi_core::{
 /// An integer type that is parsed with a sign. No other crate can implement it, since none can name
 /// `ParsePos`.
 pub trait Parse: ParsePos {
-    /// The function `parse`, with its flags as arguments.
-    ///
-    /// # Errors
-    ///
-    /// Those of `parse`.
+    /// The function `parse`, with its flags as arguments, and with the same errors.
     fn atoi_simd_parse(
         s: &[u8],
         skip_zeroes: bool,
@@ -25,11 +21,7 @@ pub trait Parse: ParsePos {
         ensures answer { typed_answer Self.number result
             ≡ parse_answer Self.int_type skip_zeroes skip_plus s.now };
 
-    /// The function `parse_prefix`, with its flags as arguments.
-    ///
-    /// # Errors
-    ///
-    /// Those of `parse_prefix`.
+    /// The function `parse_prefix`, with its flags as arguments, and with the same errors.
     fn atoi_simd_parse_prefix(
         s: &[u8],
         skip_zeroes: bool,

@@ -71,7 +71,7 @@ pub fn prefix_128_lanes<'a>(
     finish_128(bound, skip, 0, first, s, steps)
 }
 
-// Cold: see DECISIONS.
+// Inlined, around a function that is not: only this path zeroes the stack slot of the result.
 #[inline(always)]
 fn prefix_64_cold<'a>(
     bound: u64,
@@ -94,7 +94,7 @@ fn prefix_64_cold<'a>(
     }
 }
 
-// Cold: see DECISIONS.
+// Inlined, around a function that is not: only this path zeroes the stack slot of the result.
 #[inline(always)]
 fn prefix_128_cold<'a>(
     bound: u128,
@@ -137,7 +137,7 @@ fn prefix_64_after_zeros<'a>(
     answer_from_window_64(bound, limit, true, at, window, s)
 }
 
-// `prefix_128_lanes` with `skip`, after such a window.
+// The same for `prefix_128_lanes`.
 #[inline(never)]
 fn prefix_128_after_zeros<'a>(
     bound: u128,

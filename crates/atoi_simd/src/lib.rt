@@ -1,14 +1,14 @@
 //! Decimal integers from byte slices, for the twelve integer types of Rust, exact and without
 //! allocation.
 //!
-//! Names, flags, results and errors are those of the Rust crate `atoi_simd` 0.18.1, as compared by
+//! Names, flags, results and errors are as in the Rust crate `atoi_simd` 0.18.1, as compared by
 //! tests; `docs/DIFFERENCES.md` lists what differs.
 //!
 //! `parse::<u16, false, false>(b"8080")` returns `Ok(8080)`, and
 //! `parse_prefix::<i32, true, true>(b"+0042,7")` returns `Ok((42, 5))`.
 //!
-//! These functions read eight bytes at a time. Those of `lanes` have the same results, read 16 or 32
-//! bytes, and are faster for long numbers of 64 and 128 bits.
+//! These functions read eight bytes at a time. The functions in `lanes` return the same results, read 16
+//! or 32 bytes at a time, and are faster for long numbers of 64 and 128 bits.
 #![tactic(auto)]
 
 mod default_engine;

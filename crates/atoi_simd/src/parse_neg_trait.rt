@@ -8,20 +8,12 @@ use atoi_core::{AtoiSimdError, Parsed, Signed, Steps, prefix_neg, whole_neg};
 
 /// A signed type that is parsed from the digits of a negative number.
 pub trait ParseNeg: Signed {
-    /// The function `parse_neg`, with its flag as an argument.
-    ///
-    /// # Errors
-    ///
-    /// Those of `parse`.
+    /// The function `parse_neg`, with its flag as an argument, and with the same errors.
     fn atoi_simd_parse_neg(s: &[u8], skip_zeroes: bool) -> Result<Self, AtoiSimdError<'_>>
         ensures answer { typed_answer Self.number result
             ≡ whole_answer decimal_table Self.int_type true skip_zeroes s.now };
 
-    /// The function `parse_prefix_neg`, with its flag as an argument.
-    ///
-    /// # Errors
-    ///
-    /// Those of `parse_prefix`.
+    /// The function `parse_prefix_neg`, with its flag as an argument, and with the same errors.
     fn atoi_simd_parse_prefix_neg(
         s: &[u8],
         skip_zeroes: bool,

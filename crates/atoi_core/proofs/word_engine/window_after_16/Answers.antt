@@ -1,4 +1,4 @@
--- The window of the word is that of its bytes.
+-- The window of the word is the window of its bytes.
 use Rattle.std.proofs.Common.{◌+◌, drop}
 use Rattle.std.proofs.lemmas.List.{get_or-drop}
 use Rattle.atoi_core.proofs.lemmas.WordWindows.{loaded_window}

@@ -1,4 +1,4 @@
--- The window of the word is that of its bytes.
+-- The window of the word is the window of its bytes.
 use Rattle.atoi_core.proofs.lemmas.WordWindows.{loaded_window}
 use Rattle.atoi_core.proofs.word_engine.WordsEngine.window_8.Goals as goal
 
