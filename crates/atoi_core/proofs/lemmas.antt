@@ -1,4 +1,5 @@
 pub mod Runs
+pub mod ClosedValue
 pub mod Errors
 pub mod ErrorTexts
 pub mod Refusals

@@ -83,10 +83,3 @@ whole_magnitude table class bound limit skip body =
 abbrev pub prefix_magnitude : Table → Class → (bound limit : ℕ) → Bool → List ℕ → Result (ℕ × ℕ) Refusal
 prefix_magnitude table class bound limit skip body =
     unless_refused (refusal table class bound limit prefix skip body) (value table (run table body), run_len table body)
-
--- The answer to a narrow whole body, if `len` digits spell `number`.
-abbrev pub narrow_decision : (bound len number : ℕ) → List ℕ → Result ℕ Refusal
-narrow_decision bound len number body =
-    if len == 0 then Err empty
-    else (if nat_lt bound number then Err (overflow body)
-    else (if len == length body then Ok number else Err (invalid64 number len body)))

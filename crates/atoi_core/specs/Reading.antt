@@ -1,8 +1,8 @@
 -- What windows report about the start of a slice, and the answer that they decide.
-use Rattle.std.specs.Prelude.{◌≡◌, ℕ, ◌+◌, ◌-◌, ◌≤◌, min, Bool, true, false, ◌==◌, nat_lt, if◌then◌else◌, List, take, drop, Result, Ok, Err}
+use Rattle.std.specs.Prelude.{◌≡◌, ℕ, ◌+◌, ◌-◌, ◌≤◌, min, Bool, true, false, ◌==◌, nat_lt, if◌then◌else◌, List, length, take, drop, Result, Ok, Err}
 use Rattle.atoi_core.specs.Digit.{Table}
 use Rattle.atoi_core.specs.Run.{run_len, run, zeros, value}
-use Rattle.atoi_core.specs.Refusal.{Refusal, empty, size, overflow}
+use Rattle.atoi_core.specs.Refusal.{Refusal, empty, size, overflow, invalid64}
 use Rattle.atoi_core.specs.Magnitude.{Class, prefix, rule_of}
 use Rattle.atoi_core.specs.declared.window.Window.{Window}
 
@@ -44,3 +44,10 @@ answer_by_digits class bound limit skipped significant number s =
     else (if nat_lt limit significant then Err (size (skipped + min significant (cap class)) (drop skipped s))
     else (if nat_lt bound number then Err (overflow (drop skipped s))
     else Ok (number, skipped + significant)))
+
+-- The answer to a narrow whole body, if `len` digits spell `number`.
+abbrev pub narrow_decision : (bound len number : ℕ) → List ℕ → Result ℕ Refusal
+narrow_decision bound len number body =
+    if len == 0 then Err empty
+    else (if nat_lt bound number then Err (overflow body)
+    else (if len == length body then Ok number else Err (invalid64 number len body)))

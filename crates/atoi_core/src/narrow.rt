@@ -1,10 +1,10 @@
 //! Parsers of integers of at most 32 bits, whose last window decides the answer.
 ghost use Rattle.std.specs.Prelude.{◌≡◌, ℕ, ◌+◌, ◌-◌, ◌<◌, ◌≤◌, ◌==◌, true, false, not, ◌&&◌, ◌||◌, nat_lt, if◌then◌else◌, Ok, Err, length, take, drop};
 ghost use Rattle.atoi_core.specs.Loads.{LoadsWithin, most_loads};
-ghost use Rattle.atoi_core.specs.Magnitude.{narrow, whole_magnitude, prefix_magnitude, narrow_decision};
+ghost use Rattle.atoi_core.specs.Magnitude.{narrow, whole_magnitude, prefix_magnitude};
 ghost use Rattle.atoi_core.specs.Refusal.{answer_of, overflow};
 ghost use Rattle.atoi_core.specs.Run.{run_len};
-ghost use Rattle.atoi_core.specs.Reading.{window_of};
+ghost use Rattle.atoi_core.specs.Reading.{window_of, narrow_decision};
 
 use crate::engine::Engine;
 use crate::error::AtoiSimdError;

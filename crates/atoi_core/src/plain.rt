@@ -61,15 +61,13 @@ pub fn narrow_whole(bound: u64, s: &[u8]) -> Result<u64, AtoiSimdError<'_>>
     requires high { bound ≤ 4294967295 }
     ensures answer { answer_of result ≡ whole_magnitude decimal_table narrow bound 0 false s.now }
 {
-    let [first, rest @ ..] = s else {
-        return Err(AtoiSimdError::Empty);
-    };
-    let Some(mut number) = decimal_digit(*first) else {
-        return Err(AtoiSimdError::Empty);
-    };
-    for (at, byte) in rest.iter().enumerate() {
+    let mut number = 0;
+    for (at, byte) in s.iter().enumerate() {
         let Some(digit_value) = decimal_digit(*byte) else {
-            return Err(AtoiSimdError::Invalid64(number, at + 1, s));
+            if at == 0 {
+                return Err(AtoiSimdError::Empty);
+            }
+            return Err(AtoiSimdError::Invalid64(number, at, s));
         };
         let next = number * 10 + digit_value;
         if next > bound {
@@ -77,5 +75,9 @@ pub fn narrow_whole(bound: u64, s: &[u8]) -> Result<u64, AtoiSimdError<'_>>
         }
         number = next;
     }
-    Ok(number)
+    if s.is_empty() {
+        Err(AtoiSimdError::Empty)
+    } else {
+        Ok(number)
+    }
 }

@@ -5,9 +5,9 @@ use Rattle.std.proofs.lemmas.List.{length-drop, take_rest}
 use Rattle.std.proofs.lemmas.List.Sums.{prefix_len-drop_all}
 use Rattle.atoi_core.specs.Digit.{Table, IsBelowTen, is_zero, is_digit}
 use Rattle.atoi_core.specs.Run.{zeros, run_len, run, value}
-use Rattle.atoi_core.specs.Magnitude.{narrow_decision, Class, wide64, wide128, Extent, prefix, rule_of, HasDigits, prefix_magnitude, narrow, whole, Rule, invalid, unless_refused, whole_magnitude, skipped_zeros, is_above}
+use Rattle.atoi_core.specs.Magnitude.{Class, wide64, wide128, Extent, prefix, rule_of, HasDigits, prefix_magnitude, narrow, whole, Rule, invalid, unless_refused, whole_magnitude, skipped_zeros, is_above}
 use Rattle.atoi_core.specs.Refusal.{empty, Refusal, invalid64, invalid128, size, overflow}
-use Rattle.atoi_core.specs.Reading.{cap, answer_by_digits, window_of}
+use Rattle.atoi_core.specs.Reading.{cap, answer_by_digits, window_of, narrow_decision}
 use Rattle.atoi_core.specs.declared.window.Window.{Window}
 use Rattle.atoi_core.proofs.lemmas.Refusals.{refusal-is, refused_empty, is_empty, is_long, is_over, too_long, over, limit_at, significant_len, IsAccepted, refusal-none, refused_size, refused_overflow}
 use Rattle.atoi_core.proofs.lemmas.Runs.{prefix_len-take, prefix_len-drop, value-take-le, value-least, run_ends, run_more, value_more}

@@ -1,4 +1,4 @@
--- The bytes so far are digits, and `number` is within the bound.
+-- The bytes so far are digits that spell `number`, which is within the bound.
 use Rattle.std.proofs.Common.{◌≡◌, ◌≤◌, ◌+◌, take, drop}
 use Rattle.atoi_core.specs.Digit.{decimal_table}
 use Rattle.atoi_core.specs.Run.{run_len, value}
@@ -6,7 +6,7 @@ use Rattle.atoi_core.proofs.plain.narrow_whole.Given as goal
 
 abbrev pub invariant-loop-at : goal.invariant-loop-at
 invariant-loop-at l = record {
-  digits : l.at + 1 + run_len decimal_table (drop (l.at + 1) l.s) ≡ run_len decimal_table l.s;
-  number : l.number ≡ value decimal_table (take (l.at + 1) l.s);
+  digits : l.at + run_len decimal_table (drop l.at l.s) ≡ run_len decimal_table l.s;
+  number : l.number ≡ value decimal_table (take l.at l.s);
   bound : l.number ≤ l.bound;
 }
