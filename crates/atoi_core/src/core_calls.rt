@@ -9,9 +9,9 @@ ghost use Rattle.atoi_core.specs.Refusal.{answer_of};
 
 use crate::engine::Engine;
 use crate::error::AtoiSimdError;
+use crate::first_windows::prefix_128_inline;
 use crate::narrow::{narrow_prefix, narrow_whole_windows};
 use crate::number::{Number, Signed, greatest_magnitude, limit_64, number_of};
-use crate::prefix_128::prefix_128_inline;
 use crate::steps::Steps;
 
 /// Parses all of `s`, digits without a sign, as a `T` that is not negative. With `skip`, leading

@@ -4,8 +4,8 @@ use Rattle.std.proofs.lemmas.List.Sums.{prefix_len-le-length}
 use Rattle.atoi_core.specs.Digit.{is_digit}
 use Rattle.atoi_core.proofs.lemmas.LoopAnswers.{answers_short, answers_two}
 use Rattle.atoi_core.proofs.lemmas.Windows.{Skipped, Skipped-at_once, Skipped-first, Skipped-loads, shows, shows_rest, two_full}
-use Rattle.atoi_core.proofs.prefix_128.first_two_windows.Goals as goal
-use Rattle.atoi_core.proofs.prefix_128.first_two_windows.Goals.{After-window-first}
+use Rattle.atoi_core.proofs.first_windows.first_two_windows.Goals as goal
+use Rattle.atoi_core.proofs.first_windows.first_two_windows.Goals.{After-window-first}
 
 -- What holds after a first window that is not full.
 short : (g : _) (c : After-window-first g) → c.window-first.result.len < 16
