@@ -25,6 +25,15 @@ impl Digits {
         }
     }
 
+    /// The largest number of digits.
+    pub fn longest(&self) -> usize {
+        match self {
+            Digits::Log => 10,
+            Digits::Range(_, most) => *most,
+            Digits::OneOf(all) => all.iter().copied().max().unwrap_or_default(),
+        }
+    }
+
     fn pick(&self, random: &mut Random) -> usize {
         match self {
             Digits::Log => (1..10).find(|_| random.one_in(2)).unwrap_or(10),

@@ -33,8 +33,11 @@ impl Table {
         Table { unit: format!("nanoseconds per field{how}"), lines: "columns", sides, times }
     }
 
-    /// Prints everything, and returns how many sides answered otherwise than they should.
+    /// Prints everything, if anything was timed, and returns how many sides answered otherwise than they should.
     pub fn print(&self) -> usize {
+        if self.times.is_empty() {
+            return 0;
+        }
         let comparisons = self.comparisons();
         self.print_times(&comparisons);
         println!("\nour time divided by theirs: geometric mean of the {} (slowest)\n", self.lines);

@@ -17,7 +17,9 @@ pub fn open(arguments: &Arguments, cache: &Cache) -> Result<Sides, String> {
     if ours.is_empty() {
         return Err(String::from("there is neither a kit nor a Cargo package to compare"));
     }
-    Ok(Sides { ours, original: original(arguments, cache)? })
+    let original = builds::find_original(cache, arguments.original.as_deref())?;
+    let original = original.map(|(_, file)| Answers::open(&file)).transpose()?;
+    Ok(Sides { ours, original })
 }
 
 // Both libraries, compiled by the kit, if it is there.
@@ -57,17 +59,4 @@ fn of_package(arguments: &Arguments, cache: &Cache) -> Result<Vec<Ours>, String>
         }
     }
     Ok(ours)
-}
-
-// The original. If no folder was named and it cannot be downloaded, it is left out.
-fn original(arguments: &Arguments, cache: &Cache) -> Result<Option<Answers>, String> {
-    let folder = arguments.original.as_deref();
-    match builds::answers_of_original(cache, folder) {
-        Ok(file) => Ok(Some(Answers::open(&file)?)),
-        Err(fault) if folder.is_some() => Err(fault),
-        Err(fault) => {
-            builds::print_left_out("the original, since there was no --original FOLDER", &fault);
-            Ok(None)
-        }
-    }
 }

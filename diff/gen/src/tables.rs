@@ -147,6 +147,18 @@ pub fn shapes() -> Result<Vec<Shape>, String> {
     rows("diff/columns.txt", include_str!("../../columns.txt"), shape)
 }
 
+/// What is timed from C and C++: two calls for each line of the file.
+pub fn c_lists() -> Result<Vec<InputList>, String> {
+    let numbers = rows("diff/c_lists.txt", include_str!("../../c_lists.txt"), shape)?;
+    let list = |shape: &Shape, function| {
+        let Shape { integer, digits } = shape;
+        let call = TimedCall { function, integer: *integer, skip_zeroes: false, skip_plus: false };
+        InputList { call, digits: digits.clone() }
+    };
+    let of = |function| numbers.iter().map(move |shape| list(shape, function));
+    Ok(of(Function::Parse).chain(of(Function::Prefix)).collect())
+}
+
 /// The cells whose instructions are counted: five calls for each line of the file.
 pub fn cells() -> Result<Vec<InputList>, String> {
     let numbers = rows("diff/cells.txt", include_str!("../../cells.txt"), shape)?;

@@ -1,9 +1,8 @@
 //! The shared objects that answer any call: of the Cargo package and of the original.
 
-use super::Cache;
 use super::cargo::{Dependency, Generated, Kind};
-use super::original;
 use super::package::{PACKAGE, Package};
+use super::{Cache, original, print_left_out};
 use crate::question::Library;
 use std::path::{Path, PathBuf};
 
@@ -39,11 +38,23 @@ const LANES: &str = "mod calls {
 }
 ";
 
-/// The calls of the original. It comes from a folder if there is one.
-pub fn answers_of_original(cache: &Cache, folder: Option<&Path>) -> Result<PathBuf, String> {
+/// The original, and the shared object with its calls. It comes from a folder if one is named. If
+/// none is and it cannot be downloaded, it is left out.
+pub fn find_original(
+    cache: &Cache,
+    folder: Option<&Path>,
+) -> Result<Option<(Dependency, PathBuf)>, String> {
     let dependency = original::dependency(folder)?;
     let head = "use atoi_simd as calls;\n";
-    generated(dependency, head, Kind::SharedObject, String::new()).shared_object(cache, "original")
+    let generated = generated(dependency.clone(), head, Kind::SharedObject, String::new());
+    match generated.shared_object(cache, "original") {
+        Ok(file) => Ok(Some((dependency, file))),
+        Err(fault) if folder.is_some() => Err(fault),
+        Err(fault) => {
+            print_left_out("the original, since there is no --original FOLDER", &fault);
+            Ok(None)
+        }
+    }
 }
 
 fn generated(dependency: Dependency, head: &str, kind: Kind, flags: String) -> Generated {

@@ -49,11 +49,8 @@ impl Cache {
 
     /// Keeps a file that was built under another name.
     pub fn keep(&self, built: &Path, file: &Path) -> Result<(), String> {
-        let copy = self.folder("copy");
+        let copy = file.with_extension("part");
         write(&copy, fs::read(built).map_err(|error| failed(built, error))?)?;
-        if let Some(folder) = file.parent() {
-            fs::create_dir_all(folder).map_err(|error| failed(folder, error))?;
-        }
         fs::rename(&copy, file).map_err(|error| failed(file, error))
     }
 

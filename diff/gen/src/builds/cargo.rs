@@ -1,7 +1,7 @@
 //! Crates that this program writes to the cache, and that cargo builds there. They need no network
 //! if each crate that they use is in a folder.
 
-use super::cache::{Cache, write};
+use super::cache::{Cache, failed, write};
 use super::run;
 use super::stamp::Stamp;
 use std::fs;
@@ -121,8 +121,9 @@ impl Generated {
         let file = cache.folder("objects").join(format!("{name}.so"));
         if !file.is_file() {
             eprintln!("building {name}");
-            let built = self.build(&cache.empty_folder("crate")?)?;
-            cache.keep(&built, &file)?;
+            let folder = cache.empty_folder(&name)?;
+            cache.keep(&self.build(&folder)?, &file)?;
+            fs::remove_dir_all(&folder).map_err(|error| failed(&folder, error))?;
         }
         Ok(file)
     }
@@ -140,6 +141,14 @@ impl Generated {
              [workspace]\n\n[dependencies]\n{dependencies}\n"
         )
     }
+}
+
+/// Builds a crate of the repository in release mode, and returns the folder with what cargo made.
+pub fn release_of(folder: &Path, target: &Path) -> Result<PathBuf, String> {
+    let mut cargo = Command::new("cargo");
+    cargo.args(["build", "--release", "--quiet"]).current_dir(folder);
+    run(cargo.env("CARGO_TARGET_DIR", target).env("RUSTFLAGS", ""))?;
+    Ok(target.join("release"))
 }
 
 // The version of a crate that Debian's packages have put on this machine.

@@ -17,7 +17,7 @@ pub fn from_chars(calls: &[TimedCall], types: &[Integer]) -> (String, Vec<String
     let calls: Vec<&TimedCall> = calls.iter().filter(has_call).collect();
     let mut text = String::from(HEAD);
     calls.iter().for_each(|call| text += &function(call));
-    types.iter().for_each(|integer| text += &column(*integer));
+    types.iter().for_each(|integer| text += &column(&Shape::export(*integer), *integer));
     let names = calls.iter().map(|call| call.export(Form::Root));
     (text, names.chain(types.iter().map(|integer| Shape::export(*integer))).collect())
 }
@@ -42,8 +42,9 @@ extern "C" uint64_t {name}(const uint8_t *text, size_t size) {{
     )
 }
 
-fn column(integer: Integer) -> String {
-    let (name, [integer, unsigned]) = (Shape::export(integer), types(integer));
+/// A loop over the fields of a column.
+pub fn column(name: &str, integer: Integer) -> String {
+    let [integer, unsigned] = types(integer);
     format!(
         r#"
 extern "C" uint64_t {name}(const uint8_t *text, size_t size) {{
@@ -63,8 +64,8 @@ extern "C" uint64_t {name}(const uint8_t *text, size_t size) {{
     )
 }
 
-// The C++ type of an integer type, and the unsigned type of its size.
-fn types(integer: Integer) -> [&'static str; 2] {
+/// The C++ type of an integer type, and the unsigned type of its size.
+pub fn types(integer: Integer) -> [&'static str; 2] {
     match integer {
         Integer::U8 => ["uint8_t", "uint8_t"],
         Integer::I8 => ["int8_t", "uint8_t"],

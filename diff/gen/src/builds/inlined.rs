@@ -9,7 +9,6 @@ use super::rust::{ORIGINAL, STANDARD, STANDARD_PREFIX};
 use super::source::{Calls, Column, HEAD};
 use super::{Build, Cache, original, run};
 use crate::tables::{self, Form, Shape};
-use std::path::Path;
 use std::process::Command;
 
 // What rustc is told for each layout.
@@ -46,39 +45,26 @@ enum Use {
     ColumnsThatGoOn,
 }
 
-/// The package beside the original and std, built for a processor.
-pub fn beside_others(
-    cache: &Cache,
-    package: &Package,
-    original: Option<&Path>,
-    cpu: &str,
-    has_lanes: bool,
-) -> Result<Inlined, String> {
-    let ours = package.dependency("ours");
-    let ours = if has_lanes { ours.with_nightly_feature("lanes") } else { ours };
-    let version = run(Command::new("rustc").arg("--version"))?;
-    let version = version.split_whitespace().nth(1).unwrap_or_default().to_string();
-    let kind = if cpu == "x86-64" { "portable" } else { "AVX2" };
-    let name = format!("the original, {kind} build {}", original::VERSION);
-    let mut parts = vec![
-        Part { lanes: has_lanes.then_some(OURS_LANES), ..part("the package", "ours_", OURS) },
-        part(&name, "original_", ORIGINAL),
-        part(&format!("str::parse, rustc {version}"), "std_", STANDARD),
-        part(&format!("str::parse on the leading digits, {version}"), "digits_", STANDARD_PREFIX),
-    ];
-    if package.has("Fields") {
-        let name = "split and str::parse, counting errors";
-        parts.push(Part { use_of: Use::ColumnsThatGoOn, ..part("Fields", "fields_", FIELDS) });
-        parts.push(Part { use_of: Use::ColumnsThatGoOn, ..part(name, "split_", SPLIT_GOES_ON) });
-    }
-    program(cache, cpu, vec![ours, original::dependency(original)?], &parts)
+/// What the package is timed beside.
+pub enum Beside {
+    /// std and, if it is there, the original.
+    Others { original: Option<Dependency> },
+    /// The package of another state, which has a name.
+    Other { package: Package, name: String },
 }
 
-/// The package beside that of another state, built for a processor.
-pub fn beside_other(
+impl Beside {
+    /// The package of a commit.
+    pub fn commit((package, name): (Package, String)) -> Beside {
+        Beside::Other { package, name }
+    }
+}
+
+/// The package and what it is timed beside, built for a processor.
+pub fn inlined(
     cache: &Cache,
     ours: &Package,
-    (theirs, name): (&Package, &str),
+    beside: &Beside,
     cpu: &str,
     has_lanes: bool,
 ) -> Result<Inlined, String> {
@@ -86,13 +72,45 @@ pub fn beside_other(
         true => dependency.with_nightly_feature("lanes"),
         false => dependency,
     };
-    let parts = [
-        Part { lanes: has_lanes.then_some(OURS_LANES), ..part("this checkout", "ours_", OURS) },
-        Part { lanes: has_lanes.then_some(THEIRS_LANES), ..part(name, "theirs_", THEIRS) },
-    ];
-    let dependencies =
-        [ours.dependency("ours"), theirs.dependency("theirs")].map(with_lanes).to_vec();
+    let mut dependencies = vec![with_lanes(ours.dependency("ours"))];
+    let lanes = has_lanes.then_some(OURS_LANES);
+    let mut parts = vec![Part { lanes, ..part("the package", "ours_", OURS) }];
+    match beside {
+        Beside::Others { original } => {
+            dependencies.extend(original.clone());
+            parts.extend(others(original.is_some(), cpu)?);
+            if ours.has("Fields") {
+                parts.extend(going_on());
+            }
+        }
+        Beside::Other { package, name } => {
+            dependencies.push(with_lanes(package.dependency("theirs")));
+            let lanes = has_lanes.then_some(THEIRS_LANES);
+            parts.push(Part { lanes, ..part(name, "theirs_", THEIRS) });
+        }
+    }
     program(cache, cpu, dependencies, &parts)
+}
+
+// The original, if it is there, and std.
+fn others(has_original: bool, cpu: &str) -> Result<Vec<Part>, String> {
+    let kind = if cpu == "x86-64" { "portable" } else { "AVX2" };
+    let original = format!("the original, {kind} build {}", original::VERSION);
+    let original = has_original.then(|| part(&original, "original_", ORIGINAL));
+    let version = run(Command::new("rustc").arg("--version"))?;
+    let version = version.split_whitespace().nth(1).unwrap_or_default().to_string();
+    let standard = [
+        part(&format!("str::parse, rustc {version}"), "std_", STANDARD),
+        part(&format!("str::parse on the leading digits, {version}"), "digits_", STANDARD_PREFIX),
+    ];
+    Ok(original.into_iter().chain(standard).collect())
+}
+
+// The iterator that goes on after an error, and what does the same with std.
+fn going_on() -> [Part; 2] {
+    let name = "split and str::parse, counting errors";
+    [part("Fields", "fields_", FIELDS), part(name, "split_", SPLIT_GOES_ON)]
+        .map(|part| Part { use_of: Use::ColumnsThatGoOn, ..part })
 }
 
 fn part(name: &str, prefix: &'static str, calls: Calls) -> Part {

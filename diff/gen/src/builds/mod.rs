@@ -3,6 +3,7 @@
 //! names (`TimedCall::export`), so that each is called in the same way.
 
 mod asked;
+mod c;
 mod cache;
 mod cargo;
 mod command;
@@ -19,10 +20,11 @@ mod source;
 mod stamp;
 mod workspace;
 
-pub use asked::{Settings, answers_of_original, answers_of_package};
+pub use asked::{Settings, answers_of_package, find_original};
+pub use c::builds as of_c;
 pub use cache::Cache;
 pub use command::run;
-pub use inlined::{Inlined, beside_other, beside_others};
+pub use inlined::{Beside, Inlined, inlined};
 pub use other::all as others;
 pub use package::Package;
 

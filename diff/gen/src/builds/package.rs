@@ -1,6 +1,6 @@
 //! The Cargo package at the top of the repository.
 
-use super::cache::failed;
+use super::cache::{failed, write};
 use super::cargo::Dependency;
 use super::stamp::Stamp;
 use super::{Cache, commit, run};
@@ -37,15 +37,25 @@ impl Package {
     /// what makes one of its crates from this checkout.
     pub fn of_commit(cache: &Cache, commit: &str) -> Result<(Package, String), String> {
         let (room, name) = commit::files(cache, commit)?;
-        if !room.join("Cargo.toml").is_file() {
+        let manifest = room.join("Cargo.toml");
+        if !manifest.is_file() {
             let top = cache.repository();
-            run(Command::new("cp")
-                .arg("-r")
-                .arg(top.join("Cargo.toml"))
-                .arg(top.join("rust"))
-                .arg(&room))?;
+            let mut copy = Command::new("cp");
+            run(copy.arg("-r").arg(top.join("Cargo.toml")).arg(top.join("rust")).arg(&room))?;
         }
+        // Cargo takes two packages of one name only if their versions differ.
+        let text = fs::read_to_string(&manifest).map_err(|error| failed(&manifest, error))?;
+        let version = |line: &str| match line.strip_prefix("version = \"") {
+            Some(version) => format!("version = \"{}+{name}\"\n", version.trim_end_matches('"')),
+            None => format!("{line}\n"),
+        };
+        write(&manifest, text.lines().map(version).collect::<String>())?;
         Ok((Package::of_folder(&room)?, name))
+    }
+
+    /// Everything that it is made of.
+    pub fn stamp(&self) -> Stamp {
+        self.contents
     }
 
     /// Whether the public interface has an item of this name.

@@ -1,0 +1,165 @@
+//! The C library beside `std::from_chars`, called from one C++ program, and its column from C.
+
+use super::cargo::release_of;
+use super::package::Package;
+use super::stamp::Stamp;
+use super::{Build, Cache, cpp, run};
+use crate::question::Integer;
+use crate::tables::{self, Form, Shape, TimedCall};
+use std::path::{Path, PathBuf};
+use std::process::Command;
+
+const OURS: &str = "ours_";
+const STANDARD: &str = "std_";
+
+/// The C library, and then what is beside it.
+pub fn builds(cache: &Cache, package: &Package) -> Result<Vec<Build>, String> {
+    let compilers = [version("g++")?, version("cc")?];
+    let calls: Vec<TimedCall> = tables::c_lists()?.iter().map(|list| list.call).collect();
+    let sources = Sources::new(&calls, &tables::column_types()?);
+    let folder = cache.repository().join("c");
+    let stamp = package.stamp().with_folder(&folder)?.with(&sources.cpp).with(&sources.c);
+    let stamp = compilers.iter().fold(stamp, |stamp: Stamp, version| stamp.with(version));
+    let placed = cache.placed(&format!("c-{stamp}"), &sources.names, |room| {
+        let include = folder.join("include");
+        let loops = room.join("loops.o");
+        let cpp = ["-std=c++17", "-O3", "-fPIC", "-ffunction-sections"];
+        compile("g++", &cpp, &include, &room.join("loops.cc"), &sources.cpp, &loops)?;
+        let columns = room.join("columns.o");
+        let c = ["-std=c99", "-O3", "-fPIC", "-ffunction-sections"];
+        compile("cc", &c, &include, &room.join("columns.c"), &sources.c, &columns)?;
+        Ok(vec![loops, columns, library(cache, &folder)?])
+    })?;
+    let build = |name: String, prefix| {
+        let build = Build::of_both(name, placed.clone());
+        Build { prefix, has_loops: true, ..build }
+    };
+    Ok(vec![
+        build(String::from("torkettle::from_chars, and the column in C"), OURS),
+        build(format!("std::from_chars, g++ {}", compilers[0]), STANDARD),
+    ])
+}
+
+// The static library, as cargo builds it.
+fn library(cache: &Cache, folder: &Path) -> Result<PathBuf, String> {
+    let release = release_of(folder, &cache.folder("c"))?;
+    let library = release.join("libtorkettle.a");
+    match library.is_file() {
+        true => Ok(library),
+        false => Err(format!("cargo made no {}", library.display())),
+    }
+}
+
+fn version(compiler: &str) -> Result<String, String> {
+    Ok(run(Command::new(compiler).arg("-dumpfullversion"))?.trim().to_string())
+}
+
+fn compile(
+    compiler: &str,
+    arguments: &[&str],
+    include: &Path,
+    source: &Path,
+    text: &str,
+    object: &Path,
+) -> Result<(), String> {
+    super::cache::write(source, text)?;
+    let mut command = Command::new(compiler);
+    command.args(arguments).arg("-I").arg(include).arg("-c").arg("-o").arg(object).arg(source);
+    run(&mut command).map(|_| ())
+}
+
+// The texts of the programs, and the names of their exports.
+struct Sources {
+    cpp: String,
+    c: String,
+    names: Vec<String>,
+}
+
+impl Sources {
+    fn new(calls: &[TimedCall], types: &[Integer]) -> Sources {
+        let (mut cpp, mut c) = (String::from(CPP), String::from(C));
+        let mut names = Vec::new();
+        let mut calls = calls.to_vec();
+        calls.dedup();
+        for call in &calls {
+            for (prefix, space) in [(OURS, "torkettle"), (STANDARD, "std")] {
+                let name = format!("{prefix}{}", call.export(Form::Root));
+                if !names.contains(&name) {
+                    cpp += &rows(&name, space, call);
+                    names.push(name);
+                }
+            }
+        }
+        for integer in types {
+            let name = Shape::export(*integer);
+            c += &column(&format!("{OURS}{name}"), *integer);
+            cpp += &cpp::column(&format!("{STANDARD}{name}"), *integer);
+            names.extend([format!("{OURS}{name}"), format!("{STANDARD}{name}")]);
+        }
+        Sources { cpp, c, names }
+    }
+}
+
+const CPP: &str = r#"#include <charconv>
+#include <cstddef>
+#include <cstdint>
+#include "torkettle.hpp"
+
+static const uint64_t ERROR = 0x8000000000000001;
+
+struct Row {
+    char bytes[96];
+    size_t length;
+};
+"#;
+
+const C: &str = r#"#include <stddef.h>
+#include <stdint.h>
+#include "torkettle.h"
+
+static const uint64_t ERROR = 0x8000000000000001;
+"#;
+
+// A loop over the rows of an input list.
+fn rows(name: &str, space: &str, call: &TimedCall) -> String {
+    let [integer, unsigned] = cpp::types(call.integer);
+    let (condition, length) = match call.is_whole() {
+        true => ("error != std::errc() || stop != end", ""),
+        false => ("error != std::errc()", " + static_cast<uint64_t>(stop - start)"),
+    };
+    format!(
+        r#"
+extern "C" uint64_t {name}(const uint8_t *text, size_t size) {{
+    const Row *row = reinterpret_cast<const Row *>(text);
+    uint64_t sum = 0;
+    for (const Row *last = row + size; row != last; ++row) {{
+        const char *start = row->bytes, *end = start + row->length;
+        {integer} value;
+        auto [stop, error] = {space}::from_chars(start, end, value);
+        if ({condition}) return ERROR;
+        sum += static_cast<uint64_t>(static_cast<{unsigned}>(value)){length};
+    }}
+    return sum;
+}}
+"#
+    )
+}
+
+// A loop over a column, in C.
+fn column(name: &str, integer: Integer) -> String {
+    let [c_type, unsigned] = cpp::types(integer);
+    let column = format!("torkettle_column_{}", integer.name());
+    format!(
+        r#"
+uint64_t {name}(const uint8_t *text, size_t size) {{
+    {column} column;
+    {c_type} value;
+    uint64_t sum = 0;
+    {column}_init(&column, (const char *)text, size, ',');
+    while ({column}_next(&column, &value))
+        sum += (uint64_t)({unsigned})value;
+    return column.status == TORKETTLE_OK ? sum : ERROR;
+}}
+"#
+    )
+}
