@@ -1,7 +1,10 @@
 pub mod Fields
 pub mod Prefixes
 pub mod Items
+pub mod FieldItems
+pub mod FoundFields
 pub mod Texts
 pub mod Places
 pub mod Decides
 pub mod Turns
+pub mod FieldsDecide

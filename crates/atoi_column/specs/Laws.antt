@@ -1,12 +1,15 @@
 -- Laws about fields and items, over the definitions only.
 use Rattle.std.specs.Prelude.{◌≡◌, ℕ, ◌+◌, ◌<◌, ◌≤◌, ◌==◌, true, List, [], ◌∷◌, ◌++◌, length, drop, map, All, ℤ, Result, Ok, Err}
+use Rattle.std.specs.Bool.{⊤}
 use Rattle.std.specs.List.{AllZip, before_first, after_first, position_or_len, sum_by}
+use Rattle.std.specs.Str.Lines.{lines}
 use Rattle.atoi_core.specs.Refusal.{Refusal}
 use Rattle.atoi_core.specs.IntType.{IntType}
 use Rattle.atoi_core.specs.Answer.{parse_answer, parse_prefix_answer}
 use Rattle.atoi_core.specs.Text.{IsText, TextWrites}
 use Rattle.atoi_column.specs.Fields.{is_separator, fields_of}
 use Rattle.atoi_column.specs.Items.{Flaw, flaw_at, index_of, place_of, items_of}
+use Rattle.atoi_column.specs.FieldItems.{BadField, field_items, line_items}
 
 -- `whole` accepts the first field of `rest` exactly if `prefix` finds a number that ends with it,
 -- with the same value. No found number extends past the field.
@@ -107,3 +110,26 @@ pub record ItemsInTurn : Type 0 where
   pub at_error : (int : IntType) (separator : ℕ) (input : List ℕ) (numbers : List ℤ) (left after : List (Result ℤ Flaw)) (flaw : Flaw)
       → HaveRead (items_of int separator input) numbers left → left ≡ Err flaw ∷ after
       → items_of int separator input ≡ map Ok numbers ++ Err flaw ∷ []
+
+-- A text writes the number that is its item, or its item is an error about it, and it writes none.
+abbrev pub DecidesText : IntType → List ℕ → Result ℤ BadField → Type 0
+DecidesText int text (Ok number) = TextWrites int true text number
+DecidesText int text (Err bad) = (bad.text ≡ text) × ¬ IsText int text
+
+-- The items of `Fields` decide the fields of an input, or its lines, one by one.
+pub record FieldsDecide (int : IntType) : Type 0 where
+  pub fields : (separator : ℕ) (input : List ℕ) → AllZip (DecidesText int) (fields_of separator input) (field_items int separator input)
+  pub lines : (input : List ℕ) → AllZip (DecidesText int) (lines input) (line_items int input)
+
+-- The items of a column are the items of `Fields` up to the first error, which is about the same
+-- field and ends the column.
+abbrev pub StopsAtError : (column : List (Result ℤ Flaw)) (fields : List (Result ℤ BadField)) → Type 0
+StopsAtError [] [] = ⊤
+StopsAtError (Ok number ∷ column) (Ok other ∷ fields) = (number ≡ other) × StopsAtError column fields
+StopsAtError (Err flaw ∷ column) (Err bad ∷ fields) =
+    (index_of flaw ≡ bad.index) × (bad.place ≤ place_of flaw) × (column ≡ [])
+StopsAtError column fields = ⊥
+
+-- `StopsAtError` holds for every input, with any byte as the separator.
+abbrev pub ColumnStopsAtError : IntType → Type 0
+ColumnStopsAtError int = (separator : ℕ) (input : List ℕ) → StopsAtError (items_of int separator input) (field_items int separator input)

@@ -1,5 +1,6 @@
 pub mod Fields
 pub mod Items
+pub mod FieldItems
 pub mod Position
 pub mod Laws
 pub mod ErrorText

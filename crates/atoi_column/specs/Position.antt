@@ -1,4 +1,4 @@
--- Where a column is between two reads.
+-- Where an iterator is between two reads.
 use Rattle.std.specs.Prelude.{◌≡◌, ℕ, ◌+◌, ◌^◌, ◌<◌, ◌≤◌, true, List, length}
 use Rattle.atoi_column.specs.Fields.{is_separator}
 
@@ -7,3 +7,8 @@ pub record IsPosition (separator index place : ℕ) (rest : List ℕ) : Type 0 w
   pub separates : is_separator separator ≡ true
   pub fewer : index ≤ place
   pub within : place + length rest < 2 ^ 64
+
+-- The field `index` begins where `rest` begins, and `rest` ends at the offset `end`.
+pub record IsBeforeEnd (separator index end : ℕ) (rest : List ℕ) : Type 0 where
+  pub separates : is_separator separator ≡ true
+  pub fewer : index + length rest ≤ end

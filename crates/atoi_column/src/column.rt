@@ -74,7 +74,7 @@ impl<'a, T: Parse> Column<'a, T> {
 // A field is accepted if and only if the number at the start of the rest ends where the field ends,
 // so the end of a field is never looked for.
 #[tactic(auto, using(crate::proofs::lemmas::Prefixes::fields_are_prefixes))]
-fn fields_are_prefixes<T: Number>()
+pub(crate) fn fields_are_prefixes<T: Number>()
     ensures { FieldsArePrefixes T.int_type }
 {
     prefix_is_whole::<T>();

@@ -1,5 +1,5 @@
-//! Laws about columns, for the proofs of callers; `specs/Laws.antt` says each in words.
-ghost use Rattle.atoi_column.specs.Laws.{TextsAndItems, ItemsDecide, ItemsInTurn, FirstField};
+//! Laws about columns and fields, for the proofs of callers; `specs/Laws.antt` says each in words.
+ghost use Rattle.atoi_column.specs.Laws.{TextsAndItems, ItemsDecide, ItemsInTurn, FirstField, FieldsDecide, ColumnStopsAtError};
 
 use atoi_core::Number;
 use atoi_core::laws::{accepted_numbers, accepted_texts};
@@ -31,4 +31,19 @@ pub fn items_in_turn()
 #[tactic(auto, using(crate::proofs::lemmas::Fields::fields_of_first))]
 pub fn first_field()
     ensures { FirstField }
+{}
+
+/// What the items of `Fields` say about the fields and the lines of an input.
+#[tactic(auto, using(crate::proofs::lemmas::FieldsDecide::fields_decide))]
+pub fn fields_decide<T: Number>()
+    ensures { FieldsDecide T.int_type }
+{
+    accepted_texts::<T>();
+    accepted_numbers::<T>();
+}
+
+/// The items of a column are the items of `Fields` up to the first error.
+#[tactic(auto, using(crate::proofs::lemmas::FieldsDecide::column_stops_at_error))]
+pub fn column_stops_at_error<T: Number>()
+    ensures { ColumnStopsAtError T.int_type }
 {}

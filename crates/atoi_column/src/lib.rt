@@ -4,7 +4,11 @@
 
 mod column;
 mod error;
+mod field_error;
+mod fields;
 pub mod laws;
 
 pub use crate::column::{Column, is_separator};
 pub use crate::error::ColumnError;
+pub use crate::field_error::FieldError;
+pub use crate::fields::Fields;

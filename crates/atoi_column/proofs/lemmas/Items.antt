@@ -53,7 +53,7 @@ module _ (whole : List ℕ → Result ℤ Refusal) (prefix : List ℕ → Result
       (omega arith)
 
 -- If dropping `n` leaves `b` first, `b` is at index `n`.
-drop_first : (n : ℕ) (xs : List ℕ) (b : ℕ) (ys : List ℕ) → drop n xs ≡ b ∷ ys
+pub drop_first : (n : ℕ) (xs : List ℕ) (b : ℕ) (ys : List ℕ) → drop n xs ≡ b ∷ ys
     → (n < length xs) × (get_or xs n 0 ≡ b) × (drop (n + 1) xs ≡ ys)
 drop_first n xs b ys h =
     elim (leb_tells (length xs) n) [

@@ -1,0 +1,55 @@
+//! What is wrong with a field that `Fields` refuses.
+ghost use Rattle.std.specs.Prelude.{◌≡◌, ◌↔◌, IsTrue};
+ghost use Rattle.atoi_column.specs.FieldItems.{bad_field_of};
+
+use atoi_core::clones_are_the_same;
+use atoi_simd::AtoiSimdError;
+use std::error::Error;
+use std::fmt;
+
+/// A field that is not a number of the type, and why.
+#[derive(Debug, Clone, Copy, PartialEq, Eq)]
+pub struct FieldError<'a> {
+    /// How many fields precede it.
+    pub index: usize,
+    /// The offset of its first byte in the input.
+    pub place: usize,
+    /// Its bytes.
+    pub text: &'a [u8],
+    /// What `parse` returned for `text`. A slice in it ends where `text` ends.
+    pub cause: AtoiSimdError<'a>,
+}
+
+impl FieldError<'_> {
+    /// Returns what `==` returns, with a contract.
+    pub fn is_same_as(&self, other: &FieldError<'_>) -> bool
+        ensures { IsTrue result ↔ (bad_field_of self.now ≡ bad_field_of other.now) }
+    {
+        self == other
+    }
+}
+
+// A clone is the same value.
+fn clones() {
+    clones_are_the_same::<FieldError<'_>>();
+}
+
+impl fmt::Display for FieldError<'_> {
+    ghost use Rattle.std.specs.Prelude.{Some};
+    ghost use Rattle.atoi_column.specs.ErrorText.{bad_field_text};
+    ghost use Rattle.atoi_column.specs.FieldItems.{bad_field_of};
+
+    ghost output = { λ error. Some (bad_field_text (bad_field_of error)) };
+
+    fn fmt<W: fmt::Write>(&self, f: &mut fmt::Formatter<W>) -> fmt::Result {
+        let FieldError {
+            index,
+            place,
+            cause,
+            ..
+        } = *self;
+        write!(f, "field {index} at byte {place} is not a number: {cause}")
+    }
+}
+
+impl Error for FieldError<'_> {}

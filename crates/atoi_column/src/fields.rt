@@ -1,0 +1,206 @@
+//! An iterator over all fields of a byte slice, which goes on after a field that is not a number.
+ghost use Rattle.std.specs.Prelude.{◌≡◌, ◌≤◌, ◌==◌, true, Ok, length, IfSome};
+ghost use Rattle.std.specs.Iterator.{YieldsFirstBy, item_count};
+ghost use Rattle.std.specs.List.{position_or_len, before_first, after_first};
+ghost use Rattle.atoi_core.specs.Answer.{parse_answer};
+ghost use Rattle.atoi_column.specs.Fields.{is_separator};
+ghost use Rattle.atoi_column.specs.FieldItems.{cut_of, field_item, field_item_of, field_items, first_text, line_items};
+
+use crate::column::fields_are_prefixes;
+use crate::field_error::FieldError;
+use atoi_core::laws::accepted_texts;
+use atoi_simd::{Parse, parse, parse_prefix};
+use std::iter::FusedIterator;
+use std::marker::{Model, PhantomData};
+
+/// The fields of a byte slice, each but the last ended by a separator: the value of each, or an error
+/// for a field that `atoi_simd::parse::<T, true, true>` refuses. `1,x,3` has the items `Ok(1)`, an
+/// error and `Ok(3)`.
+#[derive(Drop)]
+pub struct Fields<'a, T: Parse> {
+    // What is still to be read.
+    rest: &'a [u8],
+    separator: u8,
+    // A carriage return before the separator is no part of the field.
+    trims: bool,
+    // The index of the first field of `rest`, and the length of the whole input.
+    index: usize,
+    end: usize,
+    values: PhantomData<T>,
+}
+
+impl<'a, T: Parse> Model for Fields<'a, T> {
+    ghost use Rattle.std.specs.Prelude.{List, Result, ℤ};
+    ghost use Rattle.atoi_column.specs.FieldItems.{BadField};
+
+    ghost Value = { List (Result ℤ BadField) };
+
+    ghost use Rattle.atoi_column.specs.FieldItems.{field_items_left};
+    ghost use Rattle.atoi_column.specs.Position.{IsBeforeEnd};
+
+    ghost view = { λ fields. field_items_left T.int_type fields.trims
+        fields.separator fields.index fields.end fields.rest.now };
+
+    ghost invariant = { λ fields. IsBeforeEnd fields.separator fields.index fields.end
+        fields.rest.now };
+}
+
+impl<'a, T: Parse> Fields<'a, T> {
+    /// The fields of `input`, with a separator between them. One more may follow the last field.
+    #[inline]
+    pub fn new(input: &'a [u8], separator: u8) -> Fields<'a, T>
+        requires { is_separator separator ≡ true }
+        ensures items { result ≡ field_items T.int_type separator input.now }
+        ensures fits { length result ≤ length input.now }
+    {
+        Fields {
+            rest: input,
+            separator,
+            trims: false,
+            index: 0,
+            end: input.len(),
+            values: PhantomData,
+        }
+    }
+
+    /// The lines of `input`, as `str::lines` splits them: a line ends with `\n` or `\r\n`, which are
+    /// no part of it.
+    #[inline]
+    pub fn lines(input: &'a [u8]) -> Fields<'a, T>
+        ensures items { result ≡ line_items T.int_type input.now }
+        ensures fits { length result ≤ length input.now }
+    {
+        Fields {
+            rest: input,
+            separator: b'\n',
+            trims: true,
+            index: 0,
+            end: input.len(),
+            values: PhantomData,
+        }
+    }
+}
+
+// There is no `size_hint`: the number of fields is not known before they are read.
+impl<'a, T: Parse> Iterator for Fields<'a, T> {
+    type Item = Result<T, FieldError<'a>>;
+
+    ghost next_gives = { YieldsFirstBy (field_item_of T.number) (λ left. left) };
+
+    ghost remaining = { item_count (λ left. left) };
+
+    /// Returns the value of the next field, or an error that says why it has none. Returns `None`
+    /// at the end.
+    #[inline(always)]
+    fn next(&mut self) -> Option<Result<T, FieldError<'a>>> {
+        let (rest, index) = (self.rest, self.index);
+        if rest.is_empty() {
+            return None;
+        }
+        self.index = index + 1;
+        match accepted_field::<T>(rest, self.separator, self.trims) {
+            Some((value, following)) => {
+                self.rest = following;
+                Some(Ok(value))
+            }
+            None => {
+                let place = self.end - rest.len();
+                let (item, following) = read_field::<T>(
+                    rest,
+                    self.separator,
+                    self.trims,
+                    index,
+                    place,
+                );
+                self.rest = following;
+                Some(item)
+            }
+        }
+    }
+}
+
+impl<'a, T: Parse> FusedIterator for Fields<'a, T> {}
+
+// Returns the value of the first field of `rest` and what follows its separator, if the field ends
+// where the number at its start ends: then its end need not be looked for.
+#[tactic(auto, using(crate::proofs::lemmas::FoundFields::cut_of_text))]
+#[inline(always)]
+fn accepted_field<T: Parse>(rest: &[u8], separator: u8, trims: bool) -> Option<(T, &[u8])>
+    requires { is_separator separator ≡ true }
+    ensures accepted { IfSome result (λ found. parse_answer T.int_type true true
+        (first_text (cut_of trims) separator rest.now) ≡ Ok (T.number found.0)) }
+    ensures following { IfSome result (λ found.
+        found.1.now ≡ after_first (λ byte. byte == separator) rest.now) }
+{
+    fields_are_prefixes::<T>();
+    accepted_texts::<T>();
+    let (value, count) = match parse_prefix::<T, true, true>(rest) {
+        Ok(found) => found,
+        Err(_) => return None,
+    };
+    let tail = &rest[count..];
+    match tail.split_first() {
+        None => Some((value, tail)),
+        Some((byte, following)) if *byte == separator => Some((value, following)),
+        Some(_) => None,
+    }
+}
+
+// Returns the item of the first field of `rest`, and what follows its separator. Never inlined: only
+// a field that is not accepted needs it.
+#[inline(never)]
+fn read_field<'a, T: Parse>(
+    rest: &'a [u8],
+    separator: u8,
+    trims: bool,
+    index: usize,
+    place: usize,
+) -> (Result<T, FieldError<'a>>, &'a [u8])
+    ensures item { field_item_of T.number result.0
+        ≡ field_item index place (first_text (cut_of trims) separator rest.now)
+        (parse_answer T.int_type true true (first_text (cut_of trims) separator rest.now)) }
+    ensures following { result.1.now ≡ after_first (λ byte. byte == separator) rest.now }
+{
+    let (text, following) = first_field(rest, separator, trims);
+    match parse::<T, true, true>(text) {
+        Ok(value) => (Ok(value), following),
+        Err(cause) => {
+            let error = FieldError {
+                index,
+                place,
+                text,
+                cause,
+            };
+            (Err(error), following)
+        }
+    }
+}
+
+// Returns the text of the first field of `rest`, and what follows its separator.
+fn first_field(rest: &[u8], separator: u8, trims: bool) -> (&[u8], &[u8])
+    ensures text { result.0.now ≡ first_text (cut_of trims) separator rest.now }
+    ensures following { result.1.now ≡ after_first (λ byte. byte == separator) rest.now }
+{
+    let (field, tail) = rest.split_at(field_len(rest, separator));
+    match tail.split_first() {
+        None => (field, tail),
+        Some((_, following)) => (text_of(field, trims), following),
+    }
+}
+
+// Returns the length of the first field of `rest`.
+fn field_len(rest: &[u8], separator: u8) -> usize
+    ensures { result ≡ position_or_len (λ byte. byte == separator) rest.now }
+{
+    rest.iter().take_while(|byte| **byte != separator).count()
+}
+
+// Returns the text of a field that a separator ends.
+fn text_of(field: &[u8], trims: bool) -> &[u8]
+    ensures { result.now ≡ cut_of trims field.now }
+{
+    match field {
+        [text @ .., b'\r'] if trims => text,
+        _ => field,
+    }
+}
