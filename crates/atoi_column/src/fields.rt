@@ -1,10 +1,11 @@
 //! An iterator over all fields of a byte slice, which goes on after a field that is not a number.
-ghost use Rattle.std.specs.Prelude.{◌≡◌, ◌≤◌, ◌==◌, true, Ok, length, IfSome};
+ghost use Rattle.std.specs.Prelude.{◌≡◌, ◌≤◌, ◌==◌, true, length, IfSome};
 ghost use Rattle.std.specs.Iterator.{YieldsFirstBy, item_count};
+ghost use Rattle.std.specs.Option.{option_map};
 ghost use Rattle.std.specs.List.{position_or_len, before_first, after_first};
 ghost use Rattle.atoi_core.specs.Answer.{parse_answer};
 ghost use Rattle.atoi_column.specs.Fields.{is_separator};
-ghost use Rattle.atoi_column.specs.FieldItems.{cut_of, field_item, field_item_of, field_items, first_text, line_items};
+ghost use Rattle.atoi_column.specs.FieldItems.{after_field, cut_of, field_item, field_item_of, field_items, first_text, line_items, IsAcceptedField};
 
 use crate::column::fields_are_prefixes;
 use crate::field_error::FieldError;
@@ -123,14 +124,10 @@ impl<'a, T: Parse> FusedIterator for Fields<'a, T> {}
 
 // Returns the value of the first field of `rest` and what follows its separator, if the field ends
 // where the number at its start ends: then its end need not be looked for.
-#[tactic(auto, using(crate::proofs::lemmas::FoundFields::cut_of_text))]
 #[inline(always)]
 fn accepted_field<T: Parse>(rest: &[u8], separator: u8, trims: bool) -> Option<(T, &[u8])>
-    requires { is_separator separator ≡ true }
-    ensures accepted { IfSome result (λ found. parse_answer T.int_type true true
-        (first_text (cut_of trims) separator rest.now) ≡ Ok (T.number found.0)) }
-    ensures following { IfSome result (λ found.
-        found.1.now ≡ after_first (λ byte. byte == separator) rest.now) }
+    ensures { is_separator separator ≡ true → IfSome result (λ found. IsAcceptedField T.int_type
+        trims separator rest.now (T.number found.0) found.1.now) }
 {
     fields_are_prefixes::<T>();
     accepted_texts::<T>();
@@ -138,11 +135,23 @@ fn accepted_field<T: Parse>(rest: &[u8], separator: u8, trims: bool) -> Option<(
         Ok(found) => found,
         Err(_) => return None,
     };
-    let tail = &rest[count..];
-    match tail.split_first() {
-        None => Some((value, tail)),
-        Some((byte, following)) if *byte == separator => Some((value, following)),
-        Some(_) => None,
+    match after_field(&rest[count..], separator, trims) {
+        Some(following) => Some((value, following)),
+        None => None,
+    }
+}
+
+// Returns what follows a field that ends before `tail`, or `None` if no field does.
+#[inline(always)]
+fn after_field(tail: &[u8], separator: u8, trims: bool) -> Option<&[u8]>
+    ensures { option_map (λ following. following.now) result
+        ≡ after_field trims separator tail.now }
+{
+    match tail {
+        [] => Some(tail),
+        [byte, following @ ..] if *byte == separator => Some(following),
+        [b'\r', byte, following @ ..] if trims && *byte == separator => Some(following),
+        _ => None,
     }
 }
 

@@ -1,18 +1,18 @@
 -- A number that a field's separator or the end of the input follows is the whole field.
-use Rattle.std.proofs.Common.{◌≡◌, ◌≢◌, ℕ, suc, ◌+◌, ◌-◌, ◌<◌, ◌≤◌, ◌==◌, true, false, not, inl, inr, Bool, List, [], ◌∷◌, ◌++◌, length, take, drop, get_or, length-drop, ℤ, Ok, refl, sym, subst, ◌∙◌, arith}
-use Rattle.std.specs.List.{position_or_len, after_first}
+use Rattle.std.proofs.Common.{◌≡◌, ◌≢◌, ℕ, suc, ◌+◌, ◌-◌, ◌<◌, ◌≤◌, ◌==◌, ◌&&◌, if◌then◌else◌, None, Some, true, false, not, inl, inr, Bool, List, [], ◌∷◌, ◌++◌, length, take, drop, get_or, length-drop, ℤ, Ok, refl, sym, ap, subst, ◌∙◌, arith}
+use Rattle.std.specs.List.{position_or_len}
 use Rattle.std.specs.Char.{digit_value}
 use Rattle.std.specs.Str.Parse.{AllDigits}
-use Rattle.std.proofs.lemmas.List.{take_all, drop_all}
-use Rattle.std.proofs.lemmas.List.Sums.{prefix_len-le-length, fails_before_first}
+use Rattle.std.proofs.lemmas.List.{take_all, drop_all, get_or-take, length-take-le, take-take}
+use Rattle.std.proofs.lemmas.List.Sums.{prefix_len-le-length, fails_before_first, position_or_len_is}
 use Rattle.std.proofs.lemmas.Bool.{eq-eqb, ne_eqb, false≢true}
-use Rattle.std.proofs.lemmas.Bool.Decides.{leb_tells}
+use Rattle.std.proofs.lemmas.Bool.Decides.{leb_tells, eqb_tells}
 use Rattle.atoi_core.specs.IntType.{IntType}
-use Rattle.atoi_core.specs.Answer.{parse_answer, parse_prefix_answer}
+use Rattle.atoi_core.specs.Answer.{parse_prefix_answer}
 use Rattle.atoi_core.specs.Text.{SignMark, no_sign, plus, minus, sign_bytes, TextWrites}
 use Rattle.atoi_core.specs.Laws.{AcceptedTexts}
 use Rattle.atoi_column.specs.Fields.{is_separator}
-use Rattle.atoi_column.specs.FieldItems.{cut_of, first_text}
+use Rattle.atoi_column.specs.FieldItems.{after_separator, after_field, cut_of, IsAcceptedField}
 use Rattle.atoi_column.specs.Laws.{FieldsArePrefixes}
 use Rattle.atoi_column.proofs.lemmas.Items.{drop_first}
 
@@ -33,12 +33,20 @@ last_of_text no_sign digits some all = last_digit digits some all
 last_of_text plus digits some all = rw (last_byte-cons 43 digits some) (last_digit digits some all)
 last_of_text minus digits some all = rw (last_byte-cons 45 digits some) (last_digit digits some all)
 
-pub cut_of_text : {int : IntType} {text : List ℕ} {number : ℤ} (trims : Bool) → TextWrites int true text number → cut_of trims text ≡ text
+cut_of_text : {int : IntType} {text : List ℕ} {number : ℤ} (trims : Bool) → TextWrites int true text number → cut_of trims text ≡ text
 cut_of_text false writes = refl
 cut_of_text {int} {text} {number} true writes =
     let digit : digit_value (last_byte text) < 10 = rw writes.parts (last_of_text writes.sign writes.digits writes.written.numeral.0 writes.written.numeral.1) in
     let apart : last_byte text ≢ 13 = λ same. let none : digit_value 13 < 10 = subst (λ byte. digit_value byte < 10) same digit in omega arith in
     rw (ne_eqb _ _ apart) refl
+
+separator_then : {separator : ℕ} {following : List ℕ} (bytes : List ℕ) → after_separator separator bytes ≡ Some following → bytes ≡ separator ∷ following
+separator_then [] end = absurd (cc end)
+separator_then {separator} {following} (byte ∷ bytes) end =
+    elim (eqb_tells byte separator) [
+      | inl same ↦ let next : Some bytes ≡ Some following = rw same.0 at end in cc
+      | inr other ↦ let none : None ≡ Some following = rw other.0 at end in absurd (cc)
+    ]
 
 -- The number at the start of `rest`, which `count` bytes write.
 pub record HasNumber (int : IntType) (separator : ℕ) (rest : List ℕ) (number : ℤ) (count : ℕ) : Type 0 where
@@ -48,29 +56,24 @@ pub record HasNumber (int : IntType) (separator : ℕ) (rest : List ℕ) (number
   pub texts : AcceptedTexts int
   pub separates : is_separator separator ≡ true
 
--- The first field is a text of `number`, and `following` comes after it.
-pub record IsWholeField (int : IntType) (trims : Bool) (separator : ℕ) (rest : List ℕ) (number : ℤ) (following : List ℕ) : Type 0 where
-  pub accepted : parse_answer int true true (first_text (cut_of trims) separator rest) ≡ Ok number
-  pub after : following ≡ after_first (λ byte. byte == separator) rest
-
 module _ {int : IntType} {separator : ℕ} {rest : List ℕ} {number : ℤ} {count : ℕ} (trims : Bool) (has : HasNumber int separator rest number count) where
   abbrev ends : ℕ → Bool
   ends byte = byte == separator
 
-  pub whole_at_end : length (drop count rest) ≡ 0 → IsWholeField int trims separator rest number (drop count rest)
-  whole_at_end none =
+  accepted_at_end : {following : List ℕ} → drop count rest ≡ [] → following ≡ [] → IsAcceptedField int trims separator rest number following
+  accepted_at_end cut none =
       let within = (has.law separator has.separates rest).within number count has.prefix in
       let left = prefix_len-le-length (λ byte. not (ends byte)) rest in
-      let all : length rest ≤ count = omega (arith, length-drop count rest) in
+      let all : length rest ≤ count = omega (arith, length-drop count rest, ap length cut) in
       let end : position_or_len ends rest ≡ length rest = omega arith in
       record {
         accepted = rw (eq-eqb _ _ end) (has.texts.number rest number (rw (take_all count rest all) at has.written));
-        after = drop_all count rest all ∙ sym (drop_all (position_or_len ends rest + 1) rest (omega arith));
+        after = none ∙ sym (drop_all (position_or_len ends rest + 1) rest (omega arith));
       }
 
-  pub whole_before : (byte : ℕ) (following : List ℕ) → drop count rest ≡ byte ∷ following → byte ≡ separator
-      → IsWholeField int trims separator rest number following
-  whole_before byte following cut same =
+  accepted_before : (byte : ℕ) (following : List ℕ) → drop count rest ≡ byte ∷ following → byte ≡ separator
+      → IsAcceptedField int trims separator rest number following
+  accepted_before byte following cut same =
       let first = drop_first count rest byte following cut in
       let within = (has.law separator has.separates rest).within number count has.prefix in
       let at : position_or_len ends rest ≡ count = elim (leb_tells (position_or_len ends rest) count) [
@@ -82,3 +85,47 @@ module _ {int : IntType} {separator : ℕ} {rest : List ℕ} {number : ℤ} {cou
         accepted = rw (ne_eqb _ _ apart, at, cut_of_text trims has.written) (has.texts.number (take count rest) number has.written);
         after = rw at (sym first.2);
       }
+
+  -- A carriage return before the separator is cut.
+  accepted_line : (following : List ℕ) → trims ≡ true → drop count rest ≡ 13 ∷ separator ∷ following → 13 ≢ separator
+      → IsAcceptedField int trims separator rest number following
+  accepted_line following cuts cut apart =
+      let return = drop_first count rest 13 (separator ∷ following) cut in
+      let first = drop_first (count + 1) rest separator following return.2 in
+      let within = (has.law separator has.separates rest).within number count has.prefix in
+      let at : position_or_len ends rest ≡ count + 1 = position_or_len_is ends rest (count + 1) 0 (omega arith)
+      (λ k below. elim (leb_tells count k) [
+        | inl last ↦ let same : k ≡ count = omega (arith, last.1) in rw same (ne_eqb _ _ (λ e. apart (sym return.1 ∙ e)))
+        | inr before ↦ fails_before_first ends rest k 0 (omega (arith, before.1))
+      ]) (λ _. eq-eqb _ _ first.1) in
+      let other : position_or_len ends rest ≢ length rest = omega (arith, first.0) in
+      let line : length (take (count + 1) rest) ≡ count + 1 = length-take-le (count + 1) rest (omega (arith, first.0)) in
+      let place : count + 1 - 1 ≡ count = omega arith in
+      let last : last_byte (take (count + 1) rest) ≡ 13 = rw (line, place, get_or-take (count + 1) rest count 0 (omega arith)) return.1 in
+      record {
+        accepted = rw (ne_eqb _ _ other, at, cuts, eq-eqb _ _ last, line, place, take-take count (count + 1) rest (omega arith))
+            (has.texts.number (take count rest) number has.written);
+        after = rw at (sym first.2);
+      }
+
+  accepted_byte : (cuts : Bool) {byte : ℕ} {bytes following : List ℕ} → trims ≡ cuts → byte ≢ separator → drop count rest ≡ byte ∷ bytes
+      → (if cuts && byte == 13 then after_separator separator bytes else None) ≡ Some following → IsAcceptedField int trims separator rest number following
+  accepted_byte false cuts apart cut end = absurd (cc end)
+  accepted_byte true {byte} {bytes} {following} cuts apart cut end =
+      elim (eqb_tells byte 13) [
+        | inl same ↦
+            let next : bytes ≡ separator ∷ following = separator_then bytes (rw same.0 at end) in
+            accepted_line following cuts (cc) (λ e. apart (same.1 ∙ e))
+        | inr other ↦ let none : None ≡ Some following = rw other.0 at end in absurd (cc)
+      ]
+
+  pub accepted : {following : List ℕ} (tail : List ℕ) → drop count rest ≡ tail → after_field trims separator tail ≡ Some following
+      → IsAcceptedField int trims separator rest number following
+  accepted [] cut end = accepted_at_end cut (cc)
+  accepted {following} (byte ∷ bytes) cut end =
+      elim (eqb_tells byte separator) [
+        | inl same ↦
+            let next : Some bytes ≡ Some following = rw same.0 at end in
+            accepted_before byte following (cc) same.1
+        | inr apart ↦ accepted_byte trims refl apart.1 cut (rw apart.0 at end)
+      ]
