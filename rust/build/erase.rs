@@ -11,8 +11,16 @@ pub const CRATES: [&str; 4] = ["atoi_core", "atoi_lanes", "atoi_simd", "atoi_col
 
 /// The conditions of public functions that callers must meet, as contracts state them, and what
 /// tests them in Rust, where no checker does. A crate whose functions users call has no others.
-const CONDITIONS: [(&str, &str); 1] =
-    [("is_separator separator ≡ true", "assert!(is_separator(separator));")];
+const CONDITIONS: [(&str, &str); 2] = [
+    (
+        "is_separator separator ≡ true",
+        "assert!(crate::column::is_separator(separator), \"a sign or a digit separates fields\");",
+    ),
+    (
+        "IsFalse (is_digit decimal_table byte)",
+        "assert!(!byte.is_ascii_digit(), \"a digit is to follow the number\");",
+    ),
+];
 
 /// The crates whose public functions users can call.
 const CALLED: [&str; 2] = ["atoi_simd", "atoi_column"];

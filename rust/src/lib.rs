@@ -82,21 +82,40 @@ pub use proved::atoi_simd::{
 
 /// Columns: the numbers of a byte slice that are separated by one byte, such as a comma.
 ///
+/// [`Fields`](column::Fields) gives an item for every field, and goes on after a field that is not a
+/// number. `Fields::lines` does the same for the lines of a file, which end with `\n` or `\r\n`.
+///
+/// ```
+/// use torkettle::column::Fields;
+///
+/// let mut total = 0;
+/// for (line, item) in (1..).zip(Fields::<u64>::lines(b"80\r\n44x\r\n8080\r\n")) {
+///     match item {
+///         Ok(number) => total += number,
+///         Err(error) => assert_eq!((line, error.place, error.text), (2, 4, &b"44x"[..])),
+///     }
+/// }
+/// assert_eq!(total, 8160);
+/// ```
+///
+/// [`Column`](column::Column) ends after the first field that is not a number, and says why:
+///
 /// ```
 /// use torkettle::column::{Column, ColumnError};
 ///
-/// let mut column = Column::<u16>::new(b"80,443,8080", b',');
-/// assert_eq!(column.next(), Some(Ok(80)));
-/// assert_eq!(column.sum::<Result<u16, ColumnError>>(), Ok(8523));
+/// let total: Result<u16, ColumnError> = Column::<u16>::new(b"80,443,8080", b',').sum();
+/// assert_eq!(total, Ok(8603));
 ///
 /// let mut column = Column::<u16>::new(b"80,44x,8080", b',');
 /// assert_eq!(column.next(), Some(Ok(80)));
 /// assert_eq!(column.next(), Some(Err(ColumnError::Trailing { index: 1, place: 5 })));
 /// assert_eq!(column.next(), None);
 /// ```
+///
+/// The separator must not be a digit, `+` or `-`. Both constructors panic otherwise.
 #[cfg(target_pointer_width = "64")]
 pub mod column {
-    pub use crate::proved::atoi_column::{Column, ColumnError, is_separator};
+    pub use crate::proved::atoi_column::{Column, ColumnError, FieldError, Fields, is_separator};
 }
 
 /// The ten functions with the same results, computed with vectors of sixteen bytes.
