@@ -109,7 +109,7 @@ fn others(has_original: bool, cpu: &str) -> Result<Vec<Part>, String> {
 // The iterator that goes on after an error, and what does the same with std.
 fn going_on() -> [Part; 2] {
     let name = "split and str::parse, counting errors";
-    [part("Fields", "fields_", FIELDS), part(name, "split_", SPLIT_GOES_ON)]
+    [part("Fields, which goes on", "fields_", FIELDS), part(name, "split_", SPLIT_GOES_ON)]
         .map(|part| Part { use_of: Use::ColumnsThatGoOn, ..part })
 }
 
@@ -146,7 +146,7 @@ fn program(
     let mut going_on: Vec<Build> = builds_of(Use::ColumnsThatGoOn);
     let builds: Vec<Build> = builds_of(Use::CallsAndColumns);
     if !going_on.is_empty() {
-        going_on.insert(1, parts[0].build(&placed));
+        going_on.insert(1, Build { name: String::from("Column"), ..parts[0].build(&placed) });
     }
     Ok(Inlined { builds, going_on })
 }

@@ -43,7 +43,7 @@ fn time(arguments: &Arguments, built: &Inlined, cpu: &str) -> Result<usize, Stri
     };
     columns(&built.builds, false, &how)?;
     if !built.going_on.is_empty() {
-        columns(&built.going_on, false, &format!("{how}, going on after an error"))?;
+        columns(&built.going_on, false, &format!("{how}, all fields are numbers"))?;
         let (fields, rest) = (&built.going_on[..1], &built.going_on[2..]);
         let how = format!("{how}, one field in ten is no number");
         columns(&[fields, rest].concat(), true, &how)?;
