@@ -1,13 +1,14 @@
-//! Which bytes are digits, and windows that are read byte by byte.
+//! Which bytes are digits. Each alphabet is an engine that reads its windows byte by byte.
 ghost use Rattle.std.specs.Prelude.{◌≡◌, ◌≤◌, length};
 ghost use Rattle.atoi_core.specs.Digit.{Table, IsBelowTen};
 ghost use Rattle.atoi_core.specs.Run.{run_len, run, value, zeros};
 ghost use Rattle.atoi_core.specs.Reading.{window_of};
 
+use crate::engine::Engine;
+use crate::steps::Steps;
 use crate::window::Window;
 
-/// A table of digits that code can look up. An engine with these digits may read its windows with
-/// `front_of`.
+/// A table of digits that code can look up, and so an engine for these digits.
 pub trait Alphabet {
     ghost table: { Table };
 
@@ -18,10 +19,24 @@ pub trait Alphabet {
     ghost below_ten: { IsBelowTen table };
 }
 
-/// Returns the window of the first `size` bytes of `s`, at most 16.
-///
-/// `front_of::<Plain>(8, b"00000012x")` has `len` 8, `zeroes` 6 and `number` 12.
-pub fn front_of<A: Alphabet>(size: usize, s: &[u8]) -> Window
+impl<A: Alphabet> Engine for A {
+    ghost table = { A.table };
+
+    fn window(s: &[u8], steps: &mut Steps) -> Window {
+        steps.tick();
+        front_of::<A>(16, s)
+    }
+
+    fn window_8(s: &[u8], steps: &mut Steps) -> Window {
+        steps.tick();
+        front_of::<A>(8, s)
+    }
+
+    ghost below_ten = { A.below_ten };
+}
+
+// Returns the window of the first `size` bytes of `s`, at most 16.
+fn front_of<A: Alphabet>(size: usize, s: &[u8]) -> Window
     requires { size ≤ 16 }
     ensures { result ≡ window_of A.table size s.now }
 {

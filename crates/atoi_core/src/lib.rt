@@ -23,7 +23,7 @@ mod word_engine;
 pub mod word_loads;
 pub mod words;
 
-pub use crate::alphabet::{Alphabet, front_of};
+pub use crate::alphabet::Alphabet;
 pub use crate::core_calls::{prefix_neg, prefix_pos, whole_64, whole_128, whole_neg, whole_pos};
 pub use crate::engine::Engine;
 pub use crate::error::{AtoiSimdError, Parsed, clones_are_the_same};

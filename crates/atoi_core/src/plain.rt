@@ -6,13 +6,10 @@ ghost use Rattle.atoi_core.specs.Magnitude.{narrow, whole_magnitude};
 ghost use Rattle.std.proofs.Common.{arith};
 ghost use Rattle.std.proofs.lemmas.Bool.Decides.{nat_tests};
 
-use crate::alphabet::{Alphabet, front_of};
-use crate::engine::Engine;
+use crate::alphabet::Alphabet;
 use crate::error::AtoiSimdError;
-use crate::steps::Steps;
-use crate::window::Window;
 
-/// The engine that reads decimal digits byte by byte.
+/// The alphabet of decimal digits, and so the engine that reads them byte by byte.
 pub struct Plain;
 
 impl Alphabet for Plain {
@@ -21,22 +18,6 @@ impl Alphabet for Plain {
     #[inline(always)]
     fn digit_value(byte: u8) -> Option<u64> {
         decimal_digit(byte)
-    }
-
-    ghost below_ten = { λ byte. Prim.grind (arith, nat_tests) };
-}
-
-impl Engine for Plain {
-    ghost table = { decimal_table };
-
-    fn window(s: &[u8], steps: &mut Steps) -> Window {
-        steps.tick();
-        front_of::<Plain>(16, s)
-    }
-
-    fn window_8(s: &[u8], steps: &mut Steps) -> Window {
-        steps.tick();
-        front_of::<Plain>(8, s)
     }
 
     ghost below_ten = { λ byte. Prim.grind (arith, nat_tests) };

@@ -1,4 +1,4 @@
-//! An engine of our own, for numbers in EBCDIC, the character code of mainframes.
+//! Digits of our own, for numbers in EBCDIC, the character code of mainframes.
 ghost use Rattle.std.specs.Prelude.{◌≡◌, ◌≤◌, true, false, IfOk, length};
 ghost use Rattle.std.proofs.Common.{arith};
 ghost use Rattle.std.proofs.lemmas.Bool.Decides.{nat_tests};
@@ -7,10 +7,10 @@ ghost use Rattle.atoi_core.specs.IntType.{i64_type};
 ghost use Rattle.atoi_uses.specs.OwnEngine.{ebcdic_table};
 
 use crate::cents::Cents;
-use atoi_core::{Alphabet, Engine, Steps, Window, front_of, prefix_pos};
+use atoi_core::{Alphabet, Steps, prefix_pos};
 use atoi_simd::AtoiSimdError;
 
-/// The engine of EBCDIC. Its digits are the bytes `0xF0` to `0xF9`, and it reads byte by byte.
+/// The alphabet of EBCDIC: its digits are the bytes `0xF0` to `0xF9`. As an engine, it reads byte by byte.
 pub struct Ebcdic;
 
 impl Alphabet for Ebcdic {
@@ -21,22 +21,6 @@ impl Alphabet for Ebcdic {
             0xF0..=0xF9 => Some(u64::from(byte - 0xF0)),
             _ => None,
         }
-    }
-
-    ghost below_ten = { λ byte. Prim.grind (arith, nat_tests) };
-}
-
-impl Engine for Ebcdic {
-    ghost table = { ebcdic_table };
-
-    fn window(s: &[u8], steps: &mut Steps) -> Window {
-        steps.tick();
-        front_of::<Ebcdic>(16, s)
-    }
-
-    fn window_8(s: &[u8], steps: &mut Steps) -> Window {
-        steps.tick();
-        front_of::<Ebcdic>(8, s)
     }
 
     ghost below_ten = { λ byte. Prim.grind (arith, nat_tests) };

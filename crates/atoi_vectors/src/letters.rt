@@ -1,11 +1,11 @@
-//! Two engines whose digits are letters, since the calls work with any table of digits.
+//! Two alphabets of letters, since the calls work with any table of digits.
 ghost use Rattle.std.proofs.Common.{arith};
 ghost use Rattle.std.proofs.lemmas.Bool.Decides.{nat_tests};
 ghost use Rattle.std.specs.Prelude.{◌-◌, ◌&&◌, nat_le, Some, None, if◌then◌else◌};
 
-use atoi_core::{Alphabet, Engine, Steps, Window, front_of};
+use atoi_core::Alphabet;
 
-/// The engine whose digits are the letters `A` to `J`, with the values 0 to 9.
+/// The letters `A` to `J` as digits, with the values 0 to 9.
 pub(crate) struct Letters;
 
 impl Alphabet for Letters {
@@ -21,23 +21,7 @@ impl Alphabet for Letters {
     ghost below_ten = { λ byte. Prim.grind (arith, nat_tests) };
 }
 
-impl Engine for Letters {
-    ghost table = { ⟦<Letters as Alphabet>⟧.table };
-
-    fn window(s: &[u8], steps: &mut Steps) -> Window {
-        steps.tick();
-        front_of::<Letters>(16, s)
-    }
-
-    fn window_8(s: &[u8], steps: &mut Steps) -> Window {
-        steps.tick();
-        front_of::<Letters>(8, s)
-    }
-
-    ghost below_ten = { λ byte. Prim.grind (arith, nat_tests) };
-}
-
-/// The engine whose digits are the letters `A` to `J` and `a` to `j`: two bytes for each value.
+/// The letters `A` to `J` and `a` to `j` as digits: two bytes for each value.
 pub(crate) struct BothCases;
 
 impl Alphabet for BothCases {
@@ -51,22 +35,6 @@ impl Alphabet for BothCases {
             b'a'..=b'j' => Some(u64::from(byte - b'a')),
             _ => None,
         }
-    }
-
-    ghost below_ten = { λ byte. Prim.grind (arith, nat_tests) };
-}
-
-impl Engine for BothCases {
-    ghost table = { ⟦<BothCases as Alphabet>⟧.table };
-
-    fn window(s: &[u8], steps: &mut Steps) -> Window {
-        steps.tick();
-        front_of::<BothCases>(16, s)
-    }
-
-    fn window_8(s: &[u8], steps: &mut Steps) -> Window {
-        steps.tick();
-        front_of::<BothCases>(8, s)
     }
 
     ghost below_ten = { λ byte. Prim.grind (arith, nat_tests) };

@@ -1,6 +1,6 @@
 //! Worked examples of windows, over each engine: the digits that the first 8 or 16 bytes begin with.
 
-use atoi_core::{Engine, Plain, Steps, Window, Words, front_of};
+use atoi_core::{Engine, Plain, Steps, Window, Words};
 use atoi_simd::lanes::Lanes;
 use std::process::Abort;
 
@@ -54,18 +54,13 @@ fn windows_of_eight_bytes(rt: HostRuntime) {
         (b"1\0\0\0\0\0\0\0", (1, 0, 1)),
         (b"12\0\0\0\0\0\0", (2, 0, 12)),
         (b"00000123456789", (8, 5, 123)),
+        (b"00000012x", (8, 6, 12)),
         (b"0001", (4, 0, 1)),
         (b":1234567", (0, 0, 0)),
     ];
     check_windows::<Plain>(&rt, 8, &rows);
     check_windows::<Words>(&rt, 8, &rows);
     check_windows::<Lanes>(&rt, 8, &rows);
-}
-
-#[test]
-fn a_window_of_a_size(rt: HostRuntime) {
-    let window = front_of::<Plain>(8, b"00000012x");
-    assert_eq!(rt; parts_of(window), (8, 6, 12));
 }
 
 #[test]
