@@ -1,5 +1,5 @@
 //! How many digits and zeros a word begins with, and the number that they spell.
-ghost use Rattle.std.specs.Prelude.{◌≡◌, ◌-◌, ◌<◌, ◌≤◌, ◌++◌, replicate};
+ghost use Rattle.std.specs.Prelude.{◌≡◌, ◌-◌, ◌<◌, ◌≤◌, ◌++◌, nat_lt, replicate};
 ghost use Rattle.atoi_core.specs.Digit.{decimal_table};
 ghost use Rattle.atoi_core.specs.Run.{run_len, zeros};
 ghost use Rattle.atoi_core.specs.Words.{low_bytes, low_value, word_of};
@@ -33,6 +33,14 @@ pub(crate) fn digits_of(word: u64) -> u32
     } else {
         marks.trailing_zeros() / 8
     }
+}
+
+// Whether the word begins with a digit, which one byte tells.
+#[tactic(auto, using(crate::proofs::lemmas::WordRuns::first_byte))]
+pub(crate) fn starts_with_digit(word: u64) -> bool
+    ensures { result ≡ nat_lt 0 (run_len decimal_table (low_bytes 8 word)) }
+{
+    ((word & 0xFF) as u8).is_ascii_digit()
 }
 
 // `len_zeroes`, but with the difference that `digits_of` and `value_of` use too.

@@ -17,8 +17,8 @@ use crate::steps::Steps;
 use crate::wide_answer::answer_64;
 use crate::window::Window;
 use crate::word_digits::{
-    ZEROS, digits_of, fill_of_zeros, number_in_word, sum_of, value_of, value_of_fewer, zeroes_of,
-    zeroes_of_two,
+    ZEROS, digits_of, fill_of_zeros, number_in_word, starts_with_digit, sum_of, value_of,
+    value_of_fewer, zeroes_of, zeroes_of_two,
 };
 use crate::word_loads::{load_from, load_full, load_high};
 
@@ -72,6 +72,10 @@ impl Engine for Words {
             Ok((first.number, first.len as usize))
         } else {
             let back = window_after_16(s, steps);
+            // Sixteen digits fit in any type of 64 bits.
+            if back.len == 0 {
+                return Ok((first.number, 16));
+            }
             let number = append_digits(first.number, back.len, back.number);
             answer_64(bound, limit, 0, 16 + back.len, number, s)
         }
@@ -141,7 +145,12 @@ fn window_after_16(s: &[u8], steps: &mut Steps) -> Window
     ensures one_step { steps.new ≡ steps.old + 1 }
 {
     steps.tick();
-    window_of_word(load_from(s, 16))
+    let word = load_from(s, 16);
+    if starts_with_digit(word) {
+        window_of_word(word)
+    } else {
+        Window::not_full(0, 0)
+    }
 }
 
 // Fills a short slice to eight bytes with zeros before it: only an empty one has a branch of its own.

@@ -1,11 +1,12 @@
 -- How many digits and zeros a word begins with.
-use Rattle.std.proofs.Common.{◌≡◌, ℕ, zero, suc, ◌+◌, ◌*◌, ◌/◌, ◌%◌, ◌^◌, ◌<◌, ◌≤◌, ◌-◌, Bool, true, false, cond, ◌==◌, List, [], ◌∷◌, map, refl, sym, ap, ap₂, ◌∙◌, arith, mod-lt, zero-lt-suc}
+use Rattle.std.proofs.Common.{◌≡◌, ℕ, zero, suc, ◌+◌, ◌*◌, ◌/◌, ◌%◌, ◌^◌, ◌<◌, ◌≤◌, ◌-◌, Bool, true, false, cond, ◌==◌, nat_lt, List, [], ◌∷◌, map, refl, sym, ap, ap₂, ◌∙◌, arith, mod-lt, zero-lt-suc}
 use Rattle.std.proofs.Math.Dec.{lit<}
-use Rattle.std.proofs.lemmas.Bool.{agree_below_at}
+use Rattle.std.proofs.lemmas.Bool.{agree_below_at, lt-ltb}
 use Rattle.std.proofs.lemmas.Nat.{and_shr, pow-add, mod-pow-add, and_mask, and_block, and_assoc, mul-mod_first}
 use Rattle.std.proofs.Math.Nat.{zero-add, suc-mul, suc-add, add_comm}
 use Rattle.std.proofs.Math.Pow.{mod-mod-pow}
 use Rattle.std.proofs.lemmas.Bool.Decides.{nat_tests}
+use Rattle.std.specs.Char.{is_ascii_digit}
 use Rattle.std.specs.List.{prefix_len}
 use Rattle.std.specs.Int.Bits.{bit_and, bit_or, bit_xor, and_zero_r, and_self}
 use Rattle.std.specs.Int.Count.{count_trailing_zeros}
@@ -330,3 +331,17 @@ shifted_twice a len few =
     let whole : p * 2 ^ 8 ≡ 2 ^ (64 - 8 * len) = cc (pow-add 2 (56 - 8 * len) 8, same) in
     let regroup : a * p * 2 ^ 8 ≡ a * (p * 2 ^ 8) = omega arith in
     cc (mul-mod_first (a * p) (2 ^ 8) (2 ^ 64), regroup, whole)
+
+-- A test that fails leaves nothing to count.
+some_if : (t : Bool) (n : ℕ) → nat_lt 0 (cond t (1 + n) 0) ≡ t
+some_if true n = lt-ltb 0 (1 + n) (omega arith)
+some_if false n = refl
+
+-- The lowest byte decides whether the word begins with a digit.
+pub first_byte : (word : ℕ) → is_ascii_digit (bit_and word 255) ≡ nat_lt 0 (run_len decimal_table (low_bytes 8 word))
+unfolding low_bytes
+first_byte word =
+    let byte = word % 256 in
+    ap is_ascii_digit (and_mask word 8)
+    ∙ agree_below_at is_ascii_digit (is_digit decimal_table) 256 byte refl (mod-lt word (zero-lt-suc 255))
+    ∙ sym (some_if (is_digit decimal_table byte) (run_len decimal_table (digits_l 256 7 (word / 256))))

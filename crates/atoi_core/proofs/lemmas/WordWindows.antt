@@ -181,3 +181,8 @@ filled_window s few fits filled digits found number filled_is digits_is found_is
     let left : found ≡ len = omega arith in
     ap (λ n. let w : Window = record { len = n; zeroes = 0; number = number } in w) left
     ∙ window_from 16 s len 0 number (ap (run_len decimal_table) (sym all)) (sym (reported_none len 16 (zeros decimal_table (take 16 s)) (omega arith))) sum
+
+-- The window of a word that begins with no digit.
+pub loaded_no_digit : (s : List ℕ) → ((i : ℕ) → get_or s i 0 < 256) → (word : ℕ) → word ≡ word_of (take 8 s) → run_len decimal_table (low_bytes 8 word) ≡ 0
+    → ◌≡◌ {A = Window} (record { len = 0; zeroes = 0; number = 0 }) (window_of decimal_table 8 s)
+loaded_no_digit s fits word is none = window_from 8 s 0 0 0 (sym none ∙ loaded_run s fits word is) refl refl
