@@ -7,8 +7,8 @@ use crate::answer::Answer;
 use crate::question::Question;
 use crate::rules;
 
-/// Whether the crate is compared in its portable configuration. It is built without target features,
-/// and the other processors have vector instructions that it uses even then.
+/// Whether the crate is compared in its portable configuration. Other processors than x86-64 have
+/// vector instructions that the crate always uses.
 pub const IS_PORTABLE: bool = cfg!(target_arch = "x86_64");
 
 /// How an answer of the crate compares with one of this repository.

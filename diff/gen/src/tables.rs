@@ -226,3 +226,29 @@ fn rows<T>(
     };
     lines.map(row).collect()
 }
+
+#[cfg(test)]
+mod tests {
+    use super::{c_lists, calls, cells, input_lists, shapes};
+
+    #[test]
+    fn every_line_is_read() {
+        assert_eq!(input_lists().map(|lists| lists.len() >= 30), Ok(true));
+        assert_eq!(shapes().map(|shapes| shapes.len() >= 8), Ok(true));
+        assert_eq!(cells().map(|cells| cells.len() % 5), Ok(0));
+        assert_eq!(c_lists().map(|lists| lists.len() % 2), Ok(0));
+    }
+
+    #[test]
+    fn exports_have_names_of_their_own() {
+        let names = calls()
+            .unwrap()
+            .into_iter()
+            .flat_map(|call| [super::Form::Root, super::Form::Lanes].map(|form| call.export(form)));
+        let mut names: Vec<String> = names.collect();
+        let count = names.len();
+        names.sort();
+        names.dedup();
+        assert_eq!(names.len(), count);
+    }
+}

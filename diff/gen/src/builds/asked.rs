@@ -3,6 +3,7 @@
 use super::cargo::{Dependency, Generated, Kind};
 use super::package::{PACKAGE, Package};
 use super::{Cache, original, print_left_out};
+use crate::original::IS_PORTABLE;
 use crate::question::Library;
 use std::path::{Path, PathBuf};
 
@@ -46,7 +47,8 @@ pub fn find_original(
 ) -> Result<Option<(Dependency, PathBuf)>, String> {
     let dependency = original::dependency(folder)?;
     let head = "use atoi_simd as calls;\n";
-    let generated = generated(dependency.clone(), head, Kind::SharedObject, String::new());
+    let flags = String::from(if IS_PORTABLE { "-C target-cpu=x86-64" } else { "" });
+    let generated = generated(dependency.clone(), head, Kind::SharedObject, flags);
     match generated.shared_object(cache, "original") {
         Ok(file) => Ok(Some((dependency, file))),
         Err(fault) if folder.is_some() => Err(fault),
