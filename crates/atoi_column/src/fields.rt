@@ -106,7 +106,7 @@ impl<'a, T: Parse> Iterator for Fields<'a, T> {
             }
             None => {
                 let place = self.end - rest.len();
-                let (item, following) = read_field::<T>(
+                let (item, following) = read_field_cold::<T>(
                     rest,
                     self.separator,
                     self.trims,
@@ -152,6 +152,26 @@ fn after_field(tail: &[u8], separator: u8, trims: bool) -> Option<&[u8]>
         [byte, following @ ..] if *byte == separator => Some(following),
         [b'\r', byte, following @ ..] if trims && *byte == separator => Some(following),
         _ => None,
+    }
+}
+
+// Cold: see DECISIONS.
+#[inline(always)]
+fn read_field_cold<'a, T: Parse>(
+    rest: &'a [u8],
+    separator: u8,
+    trims: bool,
+    index: usize,
+    place: usize,
+) -> (Result<T, FieldError<'a>>, &'a [u8])
+    ensures item { field_item_of T.number result.0
+        ≡ field_item index place (first_text (cut_of trims) separator rest.now)
+        (parse_answer T.int_type true true (first_text (cut_of trims) separator rest.now)) }
+    ensures following { result.1.now ≡ after_first (λ byte. byte == separator) rest.now }
+{
+    match read_field::<T>(rest, separator, trims, index, place) {
+        (Ok(value), following) => (Ok(value), following),
+        (Err(error), following) => (Err(error), following),
     }
 }
 

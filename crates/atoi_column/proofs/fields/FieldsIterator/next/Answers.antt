@@ -26,7 +26,7 @@ returns-in-None-clause-steps g c =
     let inside = c.self.inside in
     let some : 0 < length inside.rest.now = grind (arith, nat_tests) in
     sym c.self.view_is ∙ field_items_left-next g.T.Number.int_type inside.trims inside.separator inside.index inside.end inside.rest.now
-    some (omega (arith, c.self.invariant.fewer)) c.read_field-item.ensures.item c.read_field-item.ensures.following
+    some (omega (arith, c.self.invariant.fewer)) c.read_field_cold-item.ensures.item c.read_field_cold-item.ensures.following
 
 pub returns-in-Some-clause-goes : goal.returns-in-Some-clause-goes
 returns-in-Some-clause-goes g c = one_item_less _ (λ _. tt) _ (returns-in-Some-clause-steps g c)
