@@ -1,11 +1,11 @@
 -- Worked examples, each computed from the definitions by the check.
 use Rattle.std.specs.Fmt.{digits}
-use Rattle.std.specs.Prelude.{◌≡◌, [], true, false, ◌∷◌, length, replicate, decimal, pos, negsuc, codes, Ok, Err, refl}
+use Rattle.std.specs.Prelude.{◌≡◌, Bool, [], true, false, ◌∷◌, length, replicate, decimal, pos, negsuc, codes, Ok, Err, refl}
 use Rattle.atoi_core.specs.Digit.{decimal_table}
 use Rattle.atoi_core.specs.Refusal.{empty, size, overflow, invalid64, invalid128, refusal_cmp}
 use Rattle.atoi_core.specs.ErrorText.{error_text}
 use Rattle.atoi_core.specs.Magnitude.{refusal}
-use Rattle.atoi_core.specs.IntType.{bound_of, limit_of, u8_type, i8_type, u32_type, i32_type, u64_type, i64_type, u128_type, i128_type}
+use Rattle.atoi_core.specs.IntType.{IntType, bound_of, limit_of, u8_type, i8_type, u32_type, i32_type, u64_type, i64_type, u128_type, i128_type}
 use Rattle.atoi_core.specs.Answer.{parse_answer, parse_prefix_answer, whole_answer}
 use Rattle.atoi_core.specs.Sign.{sign_of}
 use Rattle.std.specs.declared.cmp.Ordering.TheVariants.{Less}
@@ -257,26 +257,10 @@ pub second_sign_stays : sign_of true true (codes "+-5") ≡ record { minus = fal
 second_sign_stays = refl
 
 -- A wide type's limit is its largest magnitude's number of digits.
-pub limit_u64 : limit_of u64_type ≡ length (decimal (bound_of u64_type false))
-unfolding digits
-limit_u64 = refl
+abbrev pub HasLimitOfDigits : IntType → Bool → Type 0
+HasLimitOfDigits int is_negative = limit_of int ≡ length (decimal (bound_of int is_negative))
 
-pub limit_i64 : limit_of i64_type ≡ length (decimal (bound_of i64_type false))
+pub wide_limits : HasLimitOfDigits u64_type false × (HasLimitOfDigits i64_type false × (HasLimitOfDigits i64_type true
+    × (HasLimitOfDigits u128_type false × (HasLimitOfDigits i128_type false × HasLimitOfDigits i128_type true))))
 unfolding digits
-limit_i64 = refl
-
-pub limit_i64_negative : limit_of i64_type ≡ length (decimal (bound_of i64_type true))
-unfolding digits
-limit_i64_negative = refl
-
-pub limit_u128 : limit_of u128_type ≡ length (decimal (bound_of u128_type false))
-unfolding digits
-limit_u128 = refl
-
-pub limit_i128 : limit_of i128_type ≡ length (decimal (bound_of i128_type false))
-unfolding digits
-limit_i128 = refl
-
-pub limit_i128_negative : limit_of i128_type ≡ length (decimal (bound_of i128_type true))
-unfolding digits
-limit_i128_negative = refl
+wide_limits = (refl, (refl, (refl, (refl, (refl, refl)))))

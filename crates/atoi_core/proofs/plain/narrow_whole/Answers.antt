@@ -1,5 +1,5 @@
 -- The digits end at another byte, above the bound, or at the end.
-use Rattle.std.proofs.Common.{◌≡◌, length, Ok, Err, if◌then◌else◌, ◌<◌, ◌+◌, ◌*◌, ap, ◌∙◌, sym, Some, None, get_or, take, false}
+use Rattle.std.proofs.Common.{Ok, Err, if◌then◌else◌, ◌<◌, ◌+◌, ◌*◌, ap, ◌∙◌, sym, take, false}
 use Rattle.std.proofs.lemmas.Bool.{eq-eqb, ne_eqb}
 use Rattle.atoi_core.specs.Digit.{decimal_table}
 use Rattle.atoi_core.specs.Run.{value}
