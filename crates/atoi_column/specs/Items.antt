@@ -7,8 +7,8 @@ use Rattle.atoi_column.specs.declared.error.ColumnError.{ColumnError}
 use Rattle.atoi_column.specs.declared.error.ColumnError.TheVariants.{Field, Trailing}
 use Rattle.atoi_column.specs.Fields.{fields_of}
 
--- Why a field is refused: its index, an offset, and for `field` the reason. The offset is that of
--- the field, or for `trailing` of the byte after its number.
+-- Why a field is refused: its index, an offset, and for `field` the reason. At the offset, the field
+-- begins, or for `trailing` the byte after its number stands.
 pub data Flaw : Type 0 where
   field : ℕ → ℕ → Refusal → Flaw
   trailing : ℕ → ℕ → Flaw

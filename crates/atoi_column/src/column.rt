@@ -12,7 +12,7 @@ use atoi_simd::{Parse, parse_prefix};
 use std::iter::FusedIterator;
 use std::marker::{Model, PhantomData};
 
-/// Says whether `byte` may separate fields: any byte but a digit, `+` or `-`.
+/// Returns whether `byte` may separate fields: any byte except a digit, `+` or `-`.
 #[inline]
 pub fn is_separator(byte: u8) -> bool
     ensures { result ≡ is_separator byte }

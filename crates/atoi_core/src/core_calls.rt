@@ -68,7 +68,7 @@ pub(crate) fn whole_of<'a, E: Engine, T: Signed>(
     }
 }
 
-/// Like `whole_pos`, but for the digits at the start of `s`. Also returns how many there are.
+/// Like `whole_pos`, but parses the digits at the start of `s`. Also returns how many there are.
 ///
 /// # Errors
 ///
@@ -183,7 +183,7 @@ fn prefix_by_size<'a, E: Engine, T: Number>(
     }
 }
 
-/// Like `Engine::prefix_64`, but for all of `s`.
+/// Like `Engine::prefix_64`, but parses all of `s`.
 ///
 /// # Errors
 ///
@@ -212,7 +212,7 @@ pub fn whole_64<'a, E: Engine>(
     }
 }
 
-/// Like `Engine::prefix_128`, but for all of `s`.
+/// Like `Engine::prefix_128`, but parses all of `s`.
 ///
 /// # Errors
 ///

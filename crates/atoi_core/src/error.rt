@@ -28,7 +28,7 @@ pub enum AtoiSimdError<'a> {
     /// Another byte follows the digits, where all of the body is parsed, for types of at most 64
     /// bits. Holds the value of the digits, the offset of that byte, and the body.
     Invalid64(u64, usize, &'a [u8]),
-    /// Like `Invalid64`, but for types of 128 bits.
+    /// The same as `Invalid64`, for types of 128 bits.
     Invalid128(u128, usize, &'a [u8]),
 }
 

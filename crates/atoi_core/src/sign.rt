@@ -96,7 +96,7 @@ pub fn parse_prefix_signed<'a, E: Engine, T: Signed>(
     Ok(count_sign(found, body, s))
 }
 
-/// Like `parse_prefix_signed`, but for an unsigned type, which accepts no `-`. The errors are the same.
+/// The same for an unsigned type, which accepts no `-`. The errors are the same too.
 #[inline(always)]
 pub fn parse_prefix_unsigned<'a, E: Engine, T: Number>(
     skip: bool,

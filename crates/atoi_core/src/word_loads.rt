@@ -25,7 +25,7 @@ fn load_part(s: &[u8]) -> u64
     }
 }
 
-/// Returns the word whose highest bytes are those of `s`, without a branch on the length.
+/// Returns the word whose highest bytes are the bytes of `s`, without a branch on the length.
 #[inline(always)]
 #[tactic(auto, using(crate::proofs::lemmas::LoadedWords::high_joined))]
 pub fn load_high(s: &[u8]) -> u64

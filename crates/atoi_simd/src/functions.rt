@@ -39,7 +39,7 @@ pub fn parse<T: Parse, const SKIP_ZEROES: bool, const SKIP_PLUS: bool>(
     T::atoi_simd_parse(s, SKIP_ZEROES, SKIP_PLUS)
 }
 
-/// Like `parse`, but for digits without a sign. The errors are the same.
+/// Like `parse`, but accepts no sign. The errors are the same.
 ///
 /// `parse_pos::<u128, true>(b"0012")` returns `Ok(12)`.
 #[inline(always)]
@@ -70,8 +70,8 @@ pub fn parse_neg<T: ParseNeg, const SKIP_ZEROES: bool>(s: &[u8]) -> Result<T, At
     T::atoi_simd_parse_neg(s, SKIP_ZEROES)
 }
 
-/// Like `parse`, but for the number at the start of `s`, up to the first other byte. Returns the number
-/// and how many bytes it has, a sign and leading zeros included.
+/// Like `parse`, but parses the number at the start of `s`, up to the first other byte. Returns the
+/// number and how many bytes it has, a sign and leading zeros included.
 ///
 /// `parse_prefix::<u64, false, false>(b"123something_else")` returns `Ok((123, 3))`.
 ///
@@ -95,7 +95,7 @@ pub fn parse_prefix<T: Parse, const SKIP_ZEROES: bool, const SKIP_PLUS: bool>(
     T::atoi_simd_parse_prefix(s, SKIP_ZEROES, SKIP_PLUS)
 }
 
-/// Like `parse_prefix`, but for digits without a sign. The errors are the same.
+/// Like `parse_prefix`, but accepts no sign. The errors are the same.
 ///
 /// `parse_prefix_pos::<u16, false>(b"80/tcp")` returns `Ok((80, 2))`.
 #[inline(always)]

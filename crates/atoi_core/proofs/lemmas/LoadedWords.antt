@@ -149,7 +149,7 @@ shifted_back s few =
 
 -- ---- A slice of at most eight bytes, joined from overlapping parts
 
--- The word whose highest bytes are those of the slice.
+-- The word whose highest bytes are the slice.
 abbrev pub high_word : List ℕ → ℕ
 high_word s = word_of (replicate (8 - length s) 0 ++ s)
 
@@ -273,7 +273,7 @@ module _ (s : List ℕ) (fits : (i : ℕ) → get_or s i 0 < 256) (word : ℕ) (
   pub loaded_zeros : zeros decimal_table (low_bytes 8 word) ≡ zeros decimal_table (take 8 s)
   loaded_zeros = loaded_start (is_zero decimal_table) refl
 
-  -- The first bytes of the word are those of the slice.
+  -- The first bytes of the word are the slice.
   loaded_first : (n : ℕ) → n ≤ 8 → n ≤ length s → low_bytes n word ≡ take n s
   unfolding low_bytes word_of
   loaded_first n few enough =

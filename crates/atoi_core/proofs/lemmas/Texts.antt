@@ -145,7 +145,7 @@ text_of_value int sized = record { parsed = parsed }
         ap (λ (g : Sign). whole_answer decimal_table int g.minus skip g.body) (sign_of_minus int.signed takes_plus (decimal (suc n)) within.0)
         ∙ magnitude_text int sized true skip (suc n) (omega (arith, within.1))
 
--- ---- Decimal digits and their values are those of std
+-- ---- Decimal digits are std's
 
 -- Our digits are std's.
 pub to_std : (s : List ℕ) → All (λ byte. IsTrue (is_digit decimal_table byte)) s → AllDigits 10 s

@@ -41,7 +41,7 @@ few_loads most unskipped skip s before after one few room zeros_few =
 
 -- ---- Windows of 32 bytes decide the answers
 
--- The digits of a window are significant, but for skipped zeros.
+-- The digits of a window are significant, except for skipped zeros.
 significant_are : (skip : Bool) (len reported leading : ℕ) → reported ≤ len → ((skip ≡ true) × (leading ≡ reported)) ⊎ ((skip ≡ false) × (leading ≡ 0))
     → (significant_digits skip len reported ≡ len - leading) × (len - significant_digits skip len reported ≡ leading)
 significant_are true len reported leading most is = elim is [ inl h ↦ (omega (arith, h), omega (arith, h)) | inr h ↦ absurd (false≢true (sym h.0)) ]

@@ -1,4 +1,4 @@
--- The window before the call is counted with those of the loop.
+-- The count includes the window before the call.
 use Rattle.std.proofs.Common.{length, ◌-◌, ◌+◌, ◌<◌, true}
 use Rattle.atoi_core.proofs.lemmas.Windows.{Skipping}
 use Rattle.atoi_core.proofs.engine.Engine.window_after_zeros.Given as goal

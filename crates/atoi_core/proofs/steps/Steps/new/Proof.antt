@@ -33,7 +33,7 @@ new_spec 𝓤 𝓛 𝓜 𝓡 wired =
     enter ! 𝓣.C 𝓣.Λ code.function [] _ $ alloc_all ! (λ l. pass_all ! refl tt $
     sets ! (agg ! (no_more !)) refl (tt, tt) $ sets ! (agg ! (and_then ! (get ! refl) (no_more !))) refl (tt, (tt, tt)) $
     returns ! (look_at ! 0 refl) $ free_all ! refl $
-    -- Its bytes are those of `fields`, of which the view reads 0.
+    -- Its bytes are the bytes of `fields`, of which the view reads 0.
     pure_i ! (the_row.own_val 0 (bytes ∷ [])) (λ _. (((λ _. (tt, ((λ _. (tt, tt)), tt))), tt), tt))
     ((fields, (refl, tt)), ((((vstruct vnil ∷ [], tt), (refl, ((tt, (refl, tt)), tt))), tt), tt)) $
     -- So the clause holds where the function returns.
