@@ -11,8 +11,11 @@ use atoi_simd::parse;
 /// A point in space.
 #[derive(Clone, Copy, Debug, PartialEq, Eq)]
 pub struct Point {
+    /// The first coordinate.
     pub x: i64,
+    /// The second coordinate.
     pub y: i64,
+    /// The third coordinate.
     pub z: i64,
 }
 
