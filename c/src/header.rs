@@ -1,0 +1,168 @@
+//! Whether `include/torkettle.h` declares each function as it is exported, and each struct as it is
+//! laid out: a C compiler compares them.
+
+use crate::{CheckedColumn, Error, Found};
+use std::ffi::{c_char, c_uint};
+use std::io::Write;
+use std::mem::offset_of;
+use std::process::{Command, Stdio};
+use torkettle::Parse;
+
+/// A type, as C names it.
+trait InC {
+    fn name() -> String;
+}
+
+macro_rules! names {
+    ($($type:ty = $name:literal)*) => { $(
+        impl InC for $type {
+            fn name() -> String {
+                $name.to_owned()
+            }
+        }
+    )* };
+}
+
+names! {
+    () = "void"
+    usize = "size_t"
+    c_uint = "unsigned"
+    c_char = "char"
+    *const c_char = "const char *"
+    *mut c_char = "char *"
+    Error = "torkettle_error"
+    *const Error = "const torkettle_error *"
+}
+
+/// An integer type: the end of the names of its functions, and its name in C.
+trait Integer: Parse {
+    const NAME: &'static str;
+    const IN_C: &'static str;
+}
+
+macro_rules! integers {
+    ($($type:ident = $name:literal)*) => {
+        $(impl Integer for $type {
+            const NAME: &'static str = stringify!($type);
+            const IN_C: &'static str = $name;
+        })*
+
+        fn layouts() -> Vec<String> {
+            [layout_of_error(), $(layouts_of::<$type>()),*].concat()
+        }
+    };
+}
+
+integers! {
+    i8 = "int8_t"
+    u8 = "uint8_t"
+    i16 = "int16_t"
+    u16 = "uint16_t"
+    i32 = "int32_t"
+    u32 = "uint32_t"
+    i64 = "int64_t"
+    u64 = "uint64_t"
+    i128 = "torkettle_i128"
+    u128 = "torkettle_u128"
+}
+
+impl<T: Integer> InC for Found<T> {
+    fn name() -> String {
+        format!("torkettle_found_{}", T::NAME)
+    }
+}
+
+impl<T: Integer> InC for *mut CheckedColumn<'_, T> {
+    fn name() -> String {
+        format!("torkettle_column_{} *", T::NAME)
+    }
+}
+
+/// A function that C calls.
+pub trait Function {
+    /// Its type in C.
+    fn in_c() -> String;
+}
+
+macro_rules! functions {
+    ($(($($argument:ident)*))*) => { $(
+        impl<R: InC, $($argument: InC),*> Function for unsafe extern "C" fn($($argument),*) -> R {
+            fn in_c() -> String {
+                let arguments: Vec<String> = vec![$($argument::name()),*];
+                let list = if arguments.is_empty() { "void".into() } else { arguments.join(", ") };
+                format!("{}({list})", R::name())
+            }
+        }
+    )* };
+}
+
+functions! { () (A) (A B) (A B C) (A B C D) (A B C D E) }
+
+/// An assertion in C that the function is declared with its type.
+pub fn declaration<F: Function>(name: &str, _: F) -> String {
+    same_types(&format!("__typeof__({name})"), &F::in_c())
+}
+
+fn same_types(left: &str, right: &str) -> String {
+    asserted(&format!("__builtin_types_compatible_p({left}, {right})"))
+}
+
+fn asserted(condition: &str) -> String {
+    format!("_Static_assert({condition}, \"differs\");\n")
+}
+
+fn size(name: &str, bytes: usize) -> String {
+    asserted(&format!("sizeof({name}) == {bytes}"))
+}
+
+// A field, by the name that Rust and C both have for it.
+macro_rules! field {
+    ($name:expr, $type:ty, $field:ident, $in_c:expr) => {{
+        let (name, field, place) = ($name, stringify!($field), offset_of!($type, $field));
+        let types = same_types(&format!("__typeof__((({name} *)0)->{field})"), $in_c);
+        asserted(&format!("offsetof({name}, {field}) == {place}")) + &types
+    }};
+}
+
+fn layout_of_error() -> Vec<String> {
+    let name = "torkettle_error";
+    vec![
+        size(name, size_of::<Error>()),
+        field!(name, Error, status, "torkettle_status"),
+        field!(name, Error, bits, "unsigned"),
+        field!(name, Error, offset, "size_t"),
+        field!(name, Error, count, "size_t"),
+        field!(name, Error, value_low, "uint64_t"),
+        field!(name, Error, value_high, "uint64_t"),
+        asserted("TORKETTLE_SKIP_ZEROES == 1 && TORKETTLE_SKIP_PLUS == 2"),
+        asserted("TORKETTLE_OK == 0 && TORKETTLE_EMPTY == 1 && TORKETTLE_SIZE == 2"),
+        asserted("TORKETTLE_OVERFLOW == 3 && TORKETTLE_INVALID == 4"),
+    ]
+}
+
+fn layouts_of<T: Integer>() -> Vec<String> {
+    let (found, column) = (Found::<T>::name(), format!("torkettle_column_{}", T::NAME));
+    vec![
+        size(&found, size_of::<Found<T>>()),
+        field!(&found, Found<T>, value, T::IN_C),
+        field!(&found, Found<T>, length, "size_t"),
+        size(&column, size_of::<CheckedColumn<'_, T>>()),
+        field!(&column, CheckedColumn<'_, T>, status, "torkettle_status"),
+        field!(&column, CheckedColumn<'_, T>, index, "size_t"),
+        field!(&column, CheckedColumn<'_, T>, offset, "size_t"),
+    ]
+}
+
+#[test]
+fn header_declares_what_is_exported() {
+    let assertions = [layouts(), crate::declarations_of_types(), crate::others::declarations()];
+    let text = format!("#include \"torkettle.h\"\n{}", assertions.concat().concat());
+    let folder = concat!(env!("CARGO_MANIFEST_DIR"), "/include");
+    let mut compiler = Command::new("cc")
+        .args(["-std=c11", "-fsyntax-only", "-I", folder, "-x", "c", "-"])
+        .stdin(Stdio::piped())
+        .spawn()
+        .expect("there is a C compiler, cc");
+    compiler.stdin.take().unwrap().write_all(text.as_bytes()).unwrap();
+    assert!(compiler.wait().unwrap().success(), "the header differs from the exports");
+}

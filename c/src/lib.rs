@@ -1,0 +1,367 @@
+//! What `include/torkettle.h` calls: the parsers of the crate `torkettle` as C functions.
+//!
+//! The header documents each function. A number comes back with its length in two registers, and no
+//! function that accepts a text writes to memory. For each type there is one function per choice of
+//! the flags, and one that parses a refused text again and says why.
+#![cfg_attr(not(test), no_std)]
+
+#[cfg(test)]
+mod header;
+
+use core::ffi::{CStr, c_char, c_uint};
+use core::slice::{from_raw_parts, from_raw_parts_mut};
+use torkettle::column::{Column, ColumnError, is_separator};
+use torkettle::{AtoiSimdError, Parse, parse, parse_prefix};
+
+/// A number and the length of the text that it was read from, which is 0 for a refused text.
+#[repr(C)]
+pub struct Found<T> {
+    value: T,
+    length: usize,
+}
+
+const SKIP_ZEROES: c_uint = 1;
+const SKIP_PLUS: c_uint = 2;
+
+// The values of `torkettle_status`.
+const OK: c_uint = 0;
+const EMPTY: c_uint = 1;
+const SIZE: c_uint = 2;
+const OVERFLOW: c_uint = 3;
+const INVALID: c_uint = 4;
+
+/// `torkettle_error`. What a status does not use is 0.
+#[repr(C)]
+#[derive(Clone, Copy, Default)]
+pub struct Error {
+    status: c_uint,
+    // The width of the error's number: 64, or 128 for types of 128 bits.
+    bits: c_uint,
+    // Where the slice of the error starts. It reaches to the end of the text.
+    offset: usize,
+    count: usize,
+    value_low: u64,
+    value_high: u64,
+}
+
+/// `torkettle_column_i64`, and so on.
+#[repr(C)]
+pub struct CheckedColumn<'a, T: Parse> {
+    status: c_uint,
+    index: usize,
+    offset: usize,
+    column: Column<'a, T>,
+}
+
+// C says how many words a column has.
+const _: () = assert!(size_of::<Column<'_, i128>>() == size_of::<[u64; 5]>());
+
+/// # Safety
+///
+/// `text` points to `length` bytes that nothing writes while the slice lives, or `length` is 0.
+#[inline(always)]
+unsafe fn bytes<'a>(text: *const c_char, length: usize) -> &'a [u8] {
+    if length == 0 { &[] } else { unsafe { from_raw_parts(text.cast(), length) } }
+}
+
+// A short text is parsed in few registers, and the others by a jump. It has fewer digits than any
+// limit, so zeros are not skipped in it.
+#[inline(always)]
+fn is_short<T: Parse>(text: &[u8]) -> bool {
+    text.len() <= 8 + usize::from(T::SIGNED)
+}
+
+#[inline(always)]
+fn whole<T: Parse + Default, const ZEROES: bool, const PLUS: bool>(text: &[u8]) -> Found<T> {
+    if is_short::<T>(text) {
+        found_whole(parse::<T, false, PLUS>(text), text)
+    } else {
+        whole_of_long::<T, ZEROES, PLUS>(text)
+    }
+}
+
+#[inline(never)]
+fn whole_of_long<T: Parse + Default, const ZEROES: bool, const PLUS: bool>(
+    text: &[u8],
+) -> Found<T> {
+    found_whole(parse::<T, ZEROES, PLUS>(text), text)
+}
+
+#[inline(always)]
+fn found_whole<T: Default>(answer: Result<T, AtoiSimdError<'_>>, text: &[u8]) -> Found<T> {
+    match answer {
+        Ok(value) => Found { value, length: text.len() },
+        Err(_) => Found { value: T::default(), length: 0 },
+    }
+}
+
+#[inline(always)]
+fn prefix<T: Parse + Default, const ZEROES: bool, const PLUS: bool>(text: &[u8]) -> Found<T> {
+    if is_short::<T>(text) {
+        found_prefix(parse_prefix::<T, false, PLUS>(text))
+    } else {
+        prefix_of_long::<T, ZEROES, PLUS>(text)
+    }
+}
+
+#[inline(never)]
+fn prefix_of_long<T: Parse + Default, const ZEROES: bool, const PLUS: bool>(
+    text: &[u8],
+) -> Found<T> {
+    let found = found_prefix(parse_prefix::<T, false, PLUS>(text));
+    if ZEROES && found.length == 0 { prefix_after_zeros::<T, PLUS>(text) } else { found }
+}
+
+#[cold]
+#[inline(never)]
+fn prefix_after_zeros<T: Parse + Default, const PLUS: bool>(text: &[u8]) -> Found<T> {
+    found_prefix(parse_prefix::<T, true, PLUS>(text))
+}
+
+#[inline(always)]
+fn found_prefix<T: Default>(answer: Result<(T, usize), AtoiSimdError<'_>>) -> Found<T> {
+    match answer {
+        Ok((value, length)) => Found { value, length },
+        Err(_) => Found { value: T::default(), length: 0 },
+    }
+}
+
+#[cold]
+fn whole_error<T: Parse>(text: &[u8], flags: c_uint) -> Error {
+    error(T::atoi_simd_parse(text, flags & SKIP_ZEROES != 0, flags & SKIP_PLUS != 0), text)
+}
+
+#[cold]
+fn prefix_error<T: Parse>(text: &[u8], flags: c_uint) -> Error {
+    error(T::atoi_simd_parse_prefix(text, flags & SKIP_ZEROES != 0, flags & SKIP_PLUS != 0), text)
+}
+
+fn error<T>(answer: Result<T, AtoiSimdError<'_>>, text: &[u8]) -> Error {
+    let Err(error) = answer else { return Error::default() };
+    let none = Error { status: status(&error), bits: 64, ..Error::default() };
+    // Every slice of an error reaches to the end of the text.
+    let offset = |slice: &[u8]| text.len() - slice.len();
+    match error {
+        AtoiSimdError::Empty => none,
+        AtoiSimdError::Size(count, slice) => Error { offset: offset(slice), count, ..none },
+        AtoiSimdError::Overflow(slice) => Error { offset: offset(slice), ..none },
+        AtoiSimdError::Invalid64(value, count, slice) => {
+            Error { offset: offset(slice), count, value_low: value, ..none }
+        }
+        AtoiSimdError::Invalid128(value, count, slice) => Error {
+            bits: 128,
+            offset: offset(slice),
+            count,
+            value_low: value as u64,
+            value_high: (value >> 64) as u64,
+            ..none
+        },
+    }
+}
+
+fn status(error: &AtoiSimdError<'_>) -> c_uint {
+    match error {
+        AtoiSimdError::Empty => EMPTY,
+        AtoiSimdError::Size(..) => SIZE,
+        AtoiSimdError::Overflow(_) => OVERFLOW,
+        AtoiSimdError::Invalid64(..) | AtoiSimdError::Invalid128(..) => INVALID,
+    }
+}
+
+impl Error {
+    // The error that this one was made from.
+    fn of_text<'a>(&self, text: &'a [u8]) -> Option<AtoiSimdError<'a>> {
+        let slice = text.get(self.offset..).unwrap_or_default();
+        match (self.status, self.bits) {
+            (EMPTY, _) => Some(AtoiSimdError::Empty),
+            (SIZE, _) => Some(AtoiSimdError::Size(self.count, slice)),
+            (OVERFLOW, _) => Some(AtoiSimdError::Overflow(slice)),
+            (INVALID, 128) => {
+                let value = u128::from(self.value_high) << 64 | u128::from(self.value_low);
+                Some(AtoiSimdError::Invalid128(value, self.count, slice))
+            }
+            (INVALID, _) => Some(AtoiSimdError::Invalid64(self.value_low, self.count, slice)),
+            _ => None,
+        }
+    }
+}
+
+impl<'a, T: Parse> CheckedColumn<'a, T> {
+    // No field can be separated by a digit or a sign, which is an error of no field.
+    fn new(text: &'a [u8], separator: u8) -> Self {
+        if is_separator(separator) {
+            let column = Column::new(text, separator);
+            CheckedColumn { status: OK, index: 0, offset: 0, column }
+        } else {
+            let column = Column::new(&[], b',');
+            CheckedColumn { status: INVALID, index: usize::MAX, offset: usize::MAX, column }
+        }
+    }
+
+    #[inline(always)]
+    fn next(&mut self) -> Option<T> {
+        match self.column.next()? {
+            Ok(value) => Some(value),
+            Err(error) => {
+                self.refuse(&error);
+                None
+            }
+        }
+    }
+
+    #[cold]
+    fn refuse(&mut self, error: &ColumnError<'_>) {
+        self.index = error.index();
+        self.offset = error.place();
+        self.status = match error {
+            ColumnError::Field { cause, .. } => status(cause),
+            ColumnError::Trailing { .. } => INVALID,
+        };
+    }
+}
+
+// Defines functions that C calls, and for a test a list of their declarations in C.
+macro_rules! exports {
+    ($module:ident: $(
+        $name:expr => fn $function:ident($($argument:ident: $type:ty),*) -> $result:ty $body:block
+    )*) => {
+        mod $module {
+            use super::*;
+
+            $(
+                #[unsafe(export_name = $name)]
+                #[allow(unused_unsafe)]
+                unsafe extern "C" fn $function($($argument: $type),*) -> $result {
+                    unsafe { $body }
+                }
+            )*
+
+            #[cfg(test)]
+            pub fn declarations() -> Vec<String> {
+                vec![$(
+                    header::declaration($name, $function as unsafe extern "C" fn($($type),*) -> _)
+                ),*]
+            }
+        }
+    };
+}
+
+macro_rules! exports_of_types {
+    ($($type:ident)*) => {
+        $(exports! { $type:
+            concat!("torkettle_whole_", stringify!($type)) =>
+            fn whole_plain(text: *const c_char, length: usize) -> Found<$type> {
+                whole::<$type, false, false>(bytes(text, length))
+            }
+            concat!("torkettle_whole_zeroes_", stringify!($type)) =>
+            fn whole_zeroes(text: *const c_char, length: usize) -> Found<$type> {
+                whole::<$type, true, false>(bytes(text, length))
+            }
+            concat!("torkettle_whole_plus_", stringify!($type)) =>
+            fn whole_plus(text: *const c_char, length: usize) -> Found<$type> {
+                whole::<$type, false, true>(bytes(text, length))
+            }
+            concat!("torkettle_whole_zeroes_plus_", stringify!($type)) =>
+            fn whole_zeroes_plus(text: *const c_char, length: usize) -> Found<$type> {
+                whole::<$type, true, true>(bytes(text, length))
+            }
+            concat!("torkettle_prefix_", stringify!($type)) =>
+            fn prefix_plain(text: *const c_char, length: usize) -> Found<$type> {
+                prefix::<$type, false, false>(bytes(text, length))
+            }
+            concat!("torkettle_prefix_zeroes_", stringify!($type)) =>
+            fn prefix_zeroes(text: *const c_char, length: usize) -> Found<$type> {
+                prefix::<$type, true, false>(bytes(text, length))
+            }
+            concat!("torkettle_prefix_plus_", stringify!($type)) =>
+            fn prefix_plus(text: *const c_char, length: usize) -> Found<$type> {
+                prefix::<$type, false, true>(bytes(text, length))
+            }
+            concat!("torkettle_prefix_zeroes_plus_", stringify!($type)) =>
+            fn prefix_zeroes_plus(text: *const c_char, length: usize) -> Found<$type> {
+                prefix::<$type, true, true>(bytes(text, length))
+            }
+            concat!("torkettle_parse_error_", stringify!($type)) =>
+            fn explain_whole(text: *const c_char, length: usize, flags: c_uint) -> Error {
+                whole_error::<$type>(bytes(text, length), flags)
+            }
+            concat!("torkettle_parse_prefix_error_", stringify!($type)) =>
+            fn explain_prefix(text: *const c_char, length: usize, flags: c_uint) -> Error {
+                prefix_error::<$type>(bytes(text, length), flags)
+            }
+            concat!("torkettle_column_", stringify!($type), "_init") =>
+            fn start(
+                column: *mut CheckedColumn<'static, $type>,
+                text: *const c_char,
+                length: usize,
+                separator: c_char
+            ) -> () {
+                column.write(CheckedColumn::new(bytes(text, length), separator as u8));
+            }
+            concat!("torkettle_next_", stringify!($type)) =>
+            fn next(column: *mut CheckedColumn<'static, $type>) -> Found<$type> {
+                match (*column).next() {
+                    Some(value) => Found { value, length: 1 },
+                    None => Found { value: 0, length: 0 },
+                }
+            }
+        })*
+
+        #[cfg(test)]
+        fn declarations_of_types() -> Vec<String> {
+            [$($type::declarations()),*].concat()
+        }
+    };
+}
+
+exports_of_types!(i8 u8 i16 u16 i32 u32 i64 u64 i128 u128);
+
+exports! { others:
+    "torkettle_version" =>
+    fn version() -> *const c_char {
+        VERSION.as_ptr()
+    }
+    "torkettle_error_text" =>
+    fn error_text(
+        buffer: *mut c_char,
+        size: usize,
+        error: *const Error,
+        text: *const c_char,
+        length: usize
+    ) -> usize {
+        let mut out = [0; 400];
+        let length = match (*error).of_text(bytes(text, length)) {
+            Some(error) => error.text(&mut out),
+            None => 0,
+        };
+        if size > 0 {
+            let shown = length.min(size - 1);
+            let buffer = from_raw_parts_mut(buffer.cast::<u8>(), shown + 1);
+            buffer[..shown].copy_from_slice(&out[..shown]);
+            buffer[shown] = 0;
+        }
+        length
+    }
+}
+
+const VERSION: &CStr =
+    match CStr::from_bytes_with_nul(concat!(env!("CARGO_PKG_VERSION"), "\0").as_bytes()) {
+        Ok(version) => version,
+        Err(_) => panic!(),
+    };
+
+// Nothing panics, since the parsers are proved not to, but the compiler does not know it everywhere.
+#[cfg(not(test))]
+#[panic_handler]
+fn stop(_: &core::panic::PanicInfo<'_>) -> ! {
+    #[cfg(target_arch = "x86_64")]
+    unsafe {
+        core::arch::asm!("ud2", options(noreturn, nomem, nostack))
+    }
+    #[cfg(target_arch = "aarch64")]
+    unsafe {
+        core::arch::asm!("brk #1", options(noreturn, nomem, nostack))
+    }
+    #[cfg(not(any(target_arch = "x86_64", target_arch = "aarch64")))]
+    loop {}
+}

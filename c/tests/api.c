@@ -1,0 +1,406 @@
+/*
+ * Calls each function of torkettle.h for each type: for numbers, for each status, and at the bounds of the type. Each
+ * text has an allocation of exactly its size, so that valgrind sees every byte that is read outside of it.
+ *
+ * This file is C99 and C++.
+ */
+#include "torkettle.h"
+
+#include <stdio.h>
+#include <stdlib.h>
+#include <string.h>
+
+static int checks = 0;
+static int failures = 0;
+
+#define CHECK(condition)                                                                                               \
+    do {                                                                                                               \
+        checks++;                                                                                                      \
+        if (!(condition)) {                                                                                            \
+            failures++;                                                                                                \
+            fprintf(stderr, "%s:%d: %s: %s\n", __FILE__, __LINE__, type_name, #condition);                             \
+        }                                                                                                              \
+    } while (0)
+
+/* Where the compiler knows the flags, it calls one function. Here it does not know them. */
+static volatile unsigned any_flags;
+
+static const unsigned ZEROES = TORKETTLE_SKIP_ZEROES;
+static const unsigned PLUS = TORKETTLE_SKIP_PLUS;
+static const unsigned BOTH = TORKETTLE_SKIP_ZEROES | TORKETTLE_SKIP_PLUS;
+
+/* 41 zeros: more than the limit of digits for each type. */
+#define ZEROS "00000000000000000000000000000000000000000"
+#define SIXTEEN_ZEROS "0000000000000000"
+
+static char *exact(const char *text)
+{
+    size_t length = strlen(text);
+    char *copy = (char *)malloc(length);
+    if (length > 0)
+        memcpy(copy, text, length);
+    return copy;
+}
+
+static int is_message(const torkettle_error *error, const char *text, const char *message)
+{
+    char buffer[TORKETTLE_ERROR_TEXT_SIZE];
+    char *copy = exact(text);
+    size_t length = torkettle_error_text(buffer, sizeof buffer, error, copy, strlen(text));
+    free(copy);
+    if (strcmp(buffer, message) != 0)
+        fprintf(stderr, "the message is: %s\n", buffer);
+    return length == strlen(message) && strcmp(buffer, message) == 0;
+}
+
+static int is_error(torkettle_error error, torkettle_status status, unsigned bits, size_t offset, size_t count,
+                    uint64_t value_low)
+{
+    return error.status == status && error.bits == bits && error.offset == offset && error.count == count &&
+           error.value_low == value_low && error.value_high == 0;
+}
+
+/*
+ * Defines the checks for a type. UNTOUCHED is a value that no text here spells. WIDTH is 32, 64 or 128: types of at
+ * most 32 bits have no limit of digits, except for prefixes without skipped zeros.
+ */
+#define DEFINE_CHECKS(name, type, is_signed, width, digits)                                                            \
+    static const type UNTOUCHED_##name = 99;                                                                           \
+                                                                                                                       \
+    /* Parses all of a text, and the same with flags that the compiler does not know. */                               \
+    static torkettle_status whole_##name(const char *text, unsigned flags, type *value)                                \
+    {                                                                                                                  \
+        const char *type_name = #name;                                                                                 \
+        char *copy = exact(text);                                                                                      \
+        type again = UNTOUCHED_##name;                                                                                 \
+        torkettle_status status, other;                                                                                \
+        *value = UNTOUCHED_##name;                                                                                     \
+        any_flags = flags;                                                                                             \
+        other = torkettle_parse_##name(copy, strlen(text), any_flags, &again);                                         \
+        if (flags == 0)                                                                                                \
+            status = torkettle_parse_##name(copy, strlen(text), 0, value);                                             \
+        else if (flags == TORKETTLE_SKIP_ZEROES)                                                                       \
+            status = torkettle_parse_##name(copy, strlen(text), TORKETTLE_SKIP_ZEROES, value);                         \
+        else if (flags == TORKETTLE_SKIP_PLUS)                                                                         \
+            status = torkettle_parse_##name(copy, strlen(text), TORKETTLE_SKIP_PLUS, value);                           \
+        else                                                                                                           \
+            status = torkettle_parse_##name(copy, strlen(text), TORKETTLE_SKIP_ZEROES | TORKETTLE_SKIP_PLUS, value);   \
+        CHECK(status == other && *value == again);                                                                     \
+        CHECK(status == torkettle_parse_error_##name(copy, strlen(text), flags).status);                               \
+        free(copy);                                                                                                    \
+        return status;                                                                                                 \
+    }                                                                                                                  \
+                                                                                                                       \
+    static torkettle_status prefix_##name(const char *text, unsigned flags, type *value, size_t *count)                \
+    {                                                                                                                  \
+        const char *type_name = #name;                                                                                 \
+        char *copy = exact(text);                                                                                      \
+        type again = UNTOUCHED_##name;                                                                                 \
+        size_t length = 999;                                                                                           \
+        torkettle_status status, other;                                                                                \
+        *value = UNTOUCHED_##name;                                                                                     \
+        *count = 999;                                                                                                  \
+        any_flags = flags;                                                                                             \
+        other = torkettle_parse_prefix_##name(copy, strlen(text), any_flags, &again, &length);                         \
+        if (flags == 0)                                                                                                \
+            status = torkettle_parse_prefix_##name(copy, strlen(text), 0, value, count);                               \
+        else if (flags == TORKETTLE_SKIP_ZEROES)                                                                       \
+            status = torkettle_parse_prefix_##name(copy, strlen(text), TORKETTLE_SKIP_ZEROES, value, count);           \
+        else if (flags == TORKETTLE_SKIP_PLUS)                                                                         \
+            status = torkettle_parse_prefix_##name(copy, strlen(text), TORKETTLE_SKIP_PLUS, value, count);             \
+        else                                                                                                           \
+            status = torkettle_parse_prefix_##name(copy, strlen(text), TORKETTLE_SKIP_ZEROES | TORKETTLE_SKIP_PLUS,    \
+                                                   value, count);                                                      \
+        CHECK(status == other && *value == again && *count == length);                                                 \
+        CHECK(status == torkettle_parse_prefix_error_##name(copy, strlen(text), flags).status);                        \
+        free(copy);                                                                                                    \
+        return status;                                                                                                 \
+    }                                                                                                                  \
+                                                                                                                       \
+    static int accepts_##name(const char *text, unsigned flags, type value)                                            \
+    {                                                                                                                  \
+        type found;                                                                                                    \
+        return whole_##name(text, flags, &found) == TORKETTLE_OK && found == value;                                    \
+    }                                                                                                                  \
+                                                                                                                       \
+    static int refuses_##name(const char *text, unsigned flags, torkettle_status status)                               \
+    {                                                                                                                  \
+        type found;                                                                                                    \
+        return whole_##name(text, flags, &found) == status && found == UNTOUCHED_##name;                               \
+    }                                                                                                                  \
+                                                                                                                       \
+    static int accepts_prefix_##name(const char *text, unsigned flags, type value, size_t length)                      \
+    {                                                                                                                  \
+        type found;                                                                                                    \
+        size_t count;                                                                                                  \
+        return prefix_##name(text, flags, &found, &count) == TORKETTLE_OK && found == value && count == length;        \
+    }                                                                                                                  \
+                                                                                                                       \
+    static int refuses_prefix_##name(const char *text, unsigned flags, torkettle_status status)                        \
+    {                                                                                                                  \
+        type found;                                                                                                    \
+        size_t count;                                                                                                  \
+        return prefix_##name(text, flags, &found, &count) == status && found == UNTOUCHED_##name && count == 999;      \
+    }                                                                                                                  \
+                                                                                                                       \
+    static void check_flags_##name(void)                                                                               \
+    {                                                                                                                  \
+        const char *type_name = #name;                                                                                 \
+        const unsigned each[] = {0, ZEROES, PLUS, BOTH};                                                               \
+        size_t at;                                                                                                     \
+        for (at = 0; at < 4; at++) {                                                                                   \
+            unsigned flags = each[at];                                                                                 \
+            torkettle_status size = flags & TORKETTLE_SKIP_ZEROES ? TORKETTLE_OK : TORKETTLE_SIZE;                     \
+            torkettle_status wide = width == 32 ? TORKETTLE_OK : size;                                                 \
+            type value;                                                                                                \
+            size_t count;                                                                                              \
+            CHECK(accepts_##name("42", flags, 42) && accepts_##name("007", flags, 7));                                 \
+            CHECK(accepts_prefix_##name("42,7", flags, 42, 2) && accepts_prefix_##name("7", flags, 7, 1));             \
+            CHECK(accepts_##name("0", flags, 0) && accepts_##name("120", flags, 120));                                 \
+            if (flags & TORKETTLE_SKIP_PLUS) {                                                                         \
+                CHECK(accepts_##name("+7", flags, 7) && accepts_prefix_##name("+42,7", flags, 42, 3));                 \
+                CHECK(refuses_##name("+", flags, TORKETTLE_EMPTY) && refuses_##name("+-7", flags, TORKETTLE_EMPTY));   \
+                CHECK(whole_##name("+" ZEROS "7", flags, &value) == wide);                                             \
+            } else {                                                                                                   \
+                CHECK(refuses_##name("+7", flags, TORKETTLE_EMPTY));                                                   \
+                CHECK(refuses_prefix_##name("+42,7", flags, TORKETTLE_EMPTY));                                         \
+                CHECK(whole_##name("+" ZEROS "7", flags, &value) == TORKETTLE_EMPTY);                                  \
+            }                                                                                                          \
+            CHECK(whole_##name(ZEROS "7", flags, &value) == wide && value == (wide ? UNTOUCHED_##name : 7));           \
+            CHECK(prefix_##name(ZEROS "7 ", flags, &value, &count) == size);                                           \
+            CHECK(size ? value == UNTOUCHED_##name &&count == 999 : value == 7 && count == 42);                        \
+            CHECK(is_signed ? accepts_##name("-42", flags, (type)-42)                                                  \
+                            : refuses_##name("-42", flags, TORKETTLE_EMPTY));                                          \
+            CHECK(is_signed ? accepts_prefix_##name("-9;", flags, (type)-9, 2)                                         \
+                            : refuses_prefix_##name("-9;", flags, TORKETTLE_EMPTY));                                   \
+            CHECK(refuses_##name("", flags, TORKETTLE_EMPTY) && refuses_prefix_##name("", flags, TORKETTLE_EMPTY));    \
+            CHECK(refuses_##name(" 1", flags, TORKETTLE_EMPTY) && refuses_##name("-", flags, TORKETTLE_EMPTY));        \
+            CHECK(refuses_##name("x", flags, TORKETTLE_EMPTY) && refuses_prefix_##name("x", flags, TORKETTLE_EMPTY));  \
+            CHECK(refuses_##name("42x", flags, TORKETTLE_INVALID) && accepts_prefix_##name("42x", flags, 42, 2));      \
+            value = UNTOUCHED_##name;                                                                                  \
+            CHECK(torkettle_parse_##name(NULL, 0, flags, &value) == TORKETTLE_EMPTY && value == UNTOUCHED_##name);     \
+            count = 999;                                                                                               \
+            CHECK(torkettle_parse_prefix_##name(NULL, 0, flags, &value, &count) == TORKETTLE_EMPTY && count == 999);   \
+            CHECK(is_error(torkettle_parse_error_##name(NULL, 0, flags), TORKETTLE_EMPTY, 64, 0, 0, 0));               \
+        }                                                                                                              \
+    }                                                                                                                  \
+                                                                                                                       \
+    static void check_bounds_##name(const char *smallest, const char *below, type min, const char *largest,            \
+                                    const char *above, type max)                                                       \
+    {                                                                                                                  \
+        const char *type_name = #name;                                                                                 \
+        const unsigned each[] = {0, ZEROES, PLUS, BOTH};                                                               \
+        size_t at;                                                                                                     \
+        for (at = 0; at < 4; at++) {                                                                                   \
+            unsigned flags = each[at];                                                                                 \
+            CHECK(accepts_##name(largest, flags, max) && accepts_prefix_##name(largest, flags, max, strlen(largest))); \
+            CHECK(refuses_##name(above, flags, TORKETTLE_OVERFLOW));                                                   \
+            CHECK(refuses_prefix_##name(above, flags, TORKETTLE_OVERFLOW));                                            \
+            CHECK(accepts_##name(smallest, flags, min));                                                               \
+            CHECK(accepts_prefix_##name(smallest, flags, min, strlen(smallest)));                                      \
+            CHECK(refuses_##name(below, flags, is_signed ? TORKETTLE_OVERFLOW : TORKETTLE_EMPTY));                     \
+            CHECK(refuses_prefix_##name(below, flags, is_signed ? TORKETTLE_OVERFLOW : TORKETTLE_EMPTY));              \
+        }                                                                                                              \
+    }                                                                                                                  \
+                                                                                                                       \
+    static void check_errors_##name(const char *above)                                                                 \
+    {                                                                                                                  \
+        const char *type_name = #name;                                                                                 \
+        const unsigned bits = width == 128 ? 128 : 64;                                                                 \
+        const char *nines = "9999999999999999999999999999999999999999x";                                               \
+        torkettle_error error = torkettle_parse_error_##name("42x", 3, 0);                                             \
+        CHECK(is_error(error, TORKETTLE_INVALID, bits, 0, 2, 42));                                                     \
+        CHECK(is_message(&error, "42x",                                                                                \
+                         width == 128 ? "atoi_simd invalid at index: 2 it must contain only digits, "                  \
+                                        "starting with: 42 input: [34, 32, 78]"                                        \
+                                      : "atoi_simd invalid at index: 2 it must contain only digits, "                  \
+                                        "starting with: 42  input: [34, 32, 78]"));                                    \
+        error = torkettle_parse_error_##name("+07,", 4, BOTH);                                                         \
+        CHECK(is_error(error, TORKETTLE_INVALID, bits, 1, 2, 7));                                                      \
+        CHECK(is_error(torkettle_parse_error_##name("+07,", 4, ZEROES), TORKETTLE_EMPTY, 64, 0, 0, 0));                \
+        error = torkettle_parse_prefix_error_##name("x", 1, 0);                                                        \
+        CHECK(is_error(error, TORKETTLE_EMPTY, 64, 0, 0, 0) && is_message(&error, "x", "atoi_simd string is empty"));  \
+        CHECK(is_error(torkettle_parse_error_##name(above, strlen(above), 0), TORKETTLE_OVERFLOW, 64, 0, 0, 0));       \
+        error = torkettle_parse_error_##name("42", 2, 0);                                                              \
+        CHECK(is_error(error, TORKETTLE_OK, 0, 0, 0, 0) && is_message(&error, "42", ""));                              \
+        CHECK(is_error(torkettle_parse_prefix_error_##name("42,", 3, 0), TORKETTLE_OK, 0, 0, 0, 0));                   \
+        error = torkettle_parse_prefix_error_##name(SIXTEEN_ZEROS "7", 17, 0);                                         \
+        if (width == 32) {                                                                                             \
+            CHECK(is_error(error, TORKETTLE_SIZE, 64, 0, 17, 0));                                                      \
+            CHECK(is_error(torkettle_parse_prefix_error_##name(SIXTEEN_ZEROS "7", 17, ZEROES), TORKETTLE_OK, 0, 0, 0,  \
+                           0));                                                                                        \
+        } else {                                                                                                       \
+            CHECK(is_error(error, TORKETTLE_OK, 0, 0, 0, 0));                                                          \
+            error = torkettle_parse_error_##name(nines, digits + 1, 0);                                                \
+            CHECK(is_error(error, TORKETTLE_SIZE, 64, 0, digits + 1, 0));                                              \
+            CHECK(refuses_##name(nines, BOTH, TORKETTLE_SIZE) && refuses_prefix_##name(nines, 0, TORKETTLE_SIZE));     \
+            error = torkettle_parse_error_##name("+000123456789012345678901234567890123456789012345", 49, BOTH);       \
+            CHECK(is_error(error, TORKETTLE_SIZE, 64, 4, width == 64 ? 27 : 43, 0));                                   \
+        }                                                                                                              \
+    }                                                                                                                  \
+                                                                                                                       \
+    /* Whether the column has these numbers before it ends so. */                                                      \
+    static int column_##name(const char *text, char separator, size_t numbers, const type *values,                     \
+                             torkettle_status status, size_t index, size_t offset)                                     \
+    {                                                                                                                  \
+        torkettle_column_##name column;                                                                                \
+        char *copy = exact(text);                                                                                      \
+        int is_right = 1;                                                                                              \
+        size_t at;                                                                                                     \
+        type value = UNTOUCHED_##name;                                                                                 \
+        memset(&column, 0x5A, sizeof column);                                                                          \
+        torkettle_column_##name##_init(&column, copy, strlen(text), separator);                                        \
+        for (at = 0; at < numbers; at++) {                                                                             \
+            is_right &= torkettle_column_##name##_next(&column, &value) && value == values[at];                        \
+            value = UNTOUCHED_##name;                                                                                  \
+        }                                                                                                              \
+        for (at = 0; at < 3; at++) {                                                                                   \
+            is_right &= !torkettle_column_##name##_next(&column, &value) && value == UNTOUCHED_##name;                 \
+            is_right &= column.status == status && column.index == index && column.offset == offset;                   \
+        }                                                                                                              \
+        free(copy);                                                                                                    \
+        return is_right;                                                                                               \
+    }                                                                                                                  \
+                                                                                                                       \
+    static void check_columns_##name(const char *above)                                                                \
+    {                                                                                                                  \
+        const char *type_name = #name;                                                                                 \
+        const type three[] = {1, 2, 3};                                                                                \
+        const type minus[] = {is_signed ? (type)-5 : (type)5, 6};                                                      \
+        char text[80];                                                                                                 \
+        int byte;                                                                                                      \
+        CHECK(column_##name("1,002,+3", ',', 3, three, TORKETTLE_OK, 0, 0));                                           \
+        CHECK(column_##name("1;" ZEROS "2;+3;", ';', 3, three, TORKETTLE_OK, 0, 0));                                   \
+        CHECK(column_##name(is_signed ? "-5\n6\n" : "5\n6\n", '\n', 2, minus, TORKETTLE_OK, 0, 0));                    \
+        CHECK(column_##name("", ',', 0, three, TORKETTLE_OK, 0, 0));                                                   \
+        CHECK(column_##name("1,,2", ',', 1, three, TORKETTLE_EMPTY, 1, 2));                                            \
+        CHECK(column_##name("1,2, 3", ',', 2, three, TORKETTLE_EMPTY, 2, 4));                                          \
+        CHECK(column_##name("1,2,3x,4", ',', 2, three, TORKETTLE_INVALID, 2, 5));                                      \
+        CHECK(column_##name("1;2,3", ',', 0, three, TORKETTLE_INVALID, 0, 1));                                         \
+        snprintf(text, sizeof text, "1\t%s\t2", above);                                                                \
+        CHECK(column_##name(text, '\t', 1, three, TORKETTLE_OVERFLOW, 1, 2));                                          \
+        if (width > 32)                                                                                                \
+            CHECK(column_##name("1,9999999999999999999999999999999999999999,2", ',', 1, three, TORKETTLE_SIZE, 1, 2)); \
+        for (byte = -128; byte < 128; byte++) {                                                                        \
+            char separator = (char)byte;                                                                               \
+            if (('0' <= separator && separator <= '9') || separator == '+' || separator == '-') {                      \
+                CHECK(column_##name("1", separator, 0, three, TORKETTLE_INVALID, SIZE_MAX, SIZE_MAX));                 \
+            } else if (separator != 0) {                                                                               \
+                snprintf(text, sizeof text, "1%c2%c3", separator, separator);                                          \
+                CHECK(column_##name(text, separator, 3, three, TORKETTLE_OK, 0, 0));                                   \
+            }                                                                                                          \
+        }                                                                                                              \
+        {                                                                                                              \
+            torkettle_column_##name column, copy;                                                                      \
+            type value = 0;                                                                                            \
+            torkettle_column_##name##_init(&column, NULL, 0, ',');                                                     \
+            CHECK(!torkettle_column_##name##_next(&column, &value) && column.status == TORKETTLE_OK);                  \
+            torkettle_column_##name##_init(&column, "1\0002\0003", 5, '\0');                                           \
+            CHECK(torkettle_column_##name##_next(&column, &value) && value == 1);                                      \
+            copy = column;                                                                                             \
+            CHECK(torkettle_column_##name##_next(&column, &value) && value == 2);                                      \
+            CHECK(torkettle_column_##name##_next(&copy, &value) && value == 2);                                        \
+            CHECK(torkettle_column_##name##_next(&copy, &value) && value == 3);                                        \
+        }                                                                                                              \
+    }                                                                                                                  \
+                                                                                                                       \
+    static void check_##name(const char *smallest, const char *below, type min, const char *largest,                   \
+                             const char *above, type max)                                                              \
+    {                                                                                                                  \
+        check_flags_##name();                                                                                          \
+        check_bounds_##name(smallest, below, min, largest, above, max);                                                \
+        check_errors_##name(above);                                                                                    \
+        check_columns_##name(above);                                                                                   \
+    }
+
+DEFINE_CHECKS(i8, int8_t, true, 32, 0)
+DEFINE_CHECKS(u8, uint8_t, false, 32, 0)
+DEFINE_CHECKS(i16, int16_t, true, 32, 0)
+DEFINE_CHECKS(u16, uint16_t, false, 32, 0)
+DEFINE_CHECKS(i32, int32_t, true, 32, 0)
+DEFINE_CHECKS(u32, uint32_t, false, 32, 0)
+DEFINE_CHECKS(i64, int64_t, true, 64, 19)
+DEFINE_CHECKS(u64, uint64_t, false, 64, 20)
+#ifdef __SIZEOF_INT128__
+DEFINE_CHECKS(i128, torkettle_i128, true, 128, 39)
+DEFINE_CHECKS(u128, torkettle_u128, false, 128, 39)
+#endif
+
+static void check_messages(void)
+{
+    const char *type_name = "messages";
+    const char *message = "atoi_simd overflow, input: [32, 35, 36]";
+    torkettle_error error = torkettle_parse_error_u8("256", 3, 0);
+    char buffer[64];
+    char *input;
+    size_t size, at;
+    CHECK(is_message(&error, "256", message));
+    /* Every size of a buffer: what fits is written, with a NUL behind it, and no byte more. */
+    for (size = 0; size <= sizeof buffer; size++) {
+        size_t shown = size <= strlen(message) ? size - 1 : strlen(message);
+        memset(buffer, '#', sizeof buffer);
+        CHECK(torkettle_error_text(size > 0 ? buffer : NULL, size, &error, "256", 3) == strlen(message));
+        if (size > 0)
+            CHECK(memcmp(buffer, message, shown) == 0 && buffer[shown] == 0);
+        for (at = size > 0 ? shown + 1 : 0; at < sizeof buffer; at++)
+            CHECK(buffer[at] == '#');
+    }
+    error = torkettle_parse_error_u64("123456789012345678901", 21, 0);
+    CHECK(is_message(&error, "123456789012345678901",
+                     "atoi_simd wrong size: 21 input: [31, 32, 33, 34, 35, 36, 37, 38, 39, 30, 31, 32, 33, 34, 35, 36, "
+                     "37, 38, 39, 30, 31]"));
+    /* No message is longer than the constant says, and none reads outside of the text. */
+    input = (char *)malloc(60);
+    memset(input, '#', 60);
+    memset(&error, 0xFF, sizeof error);
+    error.offset = 0;
+    for (at = 0; at < 6; at++) {
+        char most[TORKETTLE_ERROR_TEXT_SIZE];
+        error.status = (torkettle_status)at;
+        error.bits = 128;
+        CHECK(torkettle_error_text(most, sizeof most, &error, input, 60) < sizeof most);
+        CHECK((torkettle_error_text(most, sizeof most, &error, input, 60) == 0) == (at == 0 || at == 5));
+    }
+    error.status = TORKETTLE_OVERFLOW;
+    error.offset = 61;
+    free(input);
+    CHECK(is_message(&error, "256", "atoi_simd overflow, input: []"));
+#ifdef __SIZEOF_INT128__
+    error = torkettle_parse_error_u128("340282366920938463463374607431768211455;", 40, 0);
+    CHECK(error.bits == 128 && error.count == 39);
+    CHECK(error.value_high == UINT64_MAX && error.value_low == UINT64_MAX);
+    error = torkettle_parse_error_i128("-36893488147419103233 ", 22, 0);
+    CHECK(error.offset == 1 && error.count == 20 && error.value_high == 2 && error.value_low == 1);
+    CHECK(is_message(&error, "-36893488147419103233 ",
+                     "atoi_simd invalid at index: 20 it must contain only digits, starting with: 36893488147419103233 "
+                     "input: [33, 36, 38, 39, 33, 34, 38, 38, 31, 34, 37, 34, 31, 39, 31, 30, 33, 32, 33, 33, 20]"));
+#endif
+}
+
+int main(void)
+{
+    const char *type_name = "version";
+    CHECK(strcmp(torkettle_version(), TORKETTLE_VERSION) == 0);
+    check_i8("-128", "-129", INT8_MIN, "127", "128", INT8_MAX);
+    check_u8("0", "-1", 0, "255", "256", UINT8_MAX);
+    check_i16("-32768", "-32769", INT16_MIN, "32767", "32768", INT16_MAX);
+    check_u16("0", "-1", 0, "65535", "65536", UINT16_MAX);
+    check_i32("-2147483648", "-2147483649", INT32_MIN, "2147483647", "2147483648", INT32_MAX);
+    check_u32("0", "-1", 0, "4294967295", "4294967296", UINT32_MAX);
+    check_i64("-9223372036854775808", "-9223372036854775809", INT64_MIN, "9223372036854775807", "9223372036854775808",
+              INT64_MAX);
+    check_u64("0", "-1", 0, "18446744073709551615", "18446744073709551616", UINT64_MAX);
+#ifdef __SIZEOF_INT128__
+    {
+        torkettle_u128 max = ~(torkettle_u128)0;
+        torkettle_i128 half = (torkettle_i128)(max / 2);
+        check_i128("-170141183460469231731687303715884105728", "-170141183460469231731687303715884105729", -half - 1,
+                   "170141183460469231731687303715884105727", "170141183460469231731687303715884105728", half);
+        check_u128("0", "-1", 0, "340282366920938463463374607431768211455", "340282366920938463463374607431768211456",
+                   max);
+    }
+#endif
+    check_messages();
+    printf("%d checks, %d failed\n", checks, failures);
+    return failures > 0;
+}
