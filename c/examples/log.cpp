@@ -1,0 +1,77 @@
+// Adds up the requests of a web server's access log, which it reads from standard input. Skips the lines that have no
+// status and size, and says why.
+//
+//     $ c++ -O2 -std=c++17 log.cpp $(pkg-config --cflags --libs torkettle) -o log
+//     $ ./log < ../../crates/atoi_log/stdin
+//     line 7 is skipped: no digit
+//     line 10 is skipped: number out of range
+//     line 15 is skipped: no space after the number
+//     requests         17
+//     failed            4
+//     bytes    4831941775
+//     skipped           3
+//
+// ../../crates/atoi_log/stdout has what the second command prints.
+#include <torkettle.hpp>
+
+#include <cstdint>
+#include <cstdio>
+#include <iostream>
+#include <string>
+#include <string_view>
+
+namespace {
+
+// Reads the number at the start of `text` and the space after it, and moves `text` behind them. Returns why it cannot,
+// or null.
+template <class T>
+const char *take_number(std::string_view &text, T &number)
+{
+    const char *const last = text.data() + text.size();
+    const auto [end, error] = torkettle::from_chars(text.data(), last, number);
+    if (error == std::errc::invalid_argument)
+        return "no digit";
+    if (error == std::errc::result_out_of_range)
+        return "number out of range";
+    if (end != last && *end != ' ')
+        return "no space after the number";
+    text.remove_prefix(static_cast<std::size_t>(end - text.data()) + (end != last));
+    return nullptr;
+}
+
+// Reads the status and the size, which follow the request: `.. "GET / HTTP/1.1" 200 5316 ..`.
+const char *take_status_and_size(std::string_view line, std::uint16_t &status, std::uint64_t &size)
+{
+    constexpr std::string_view quote = "\" ", space = " \t\r";
+    line = line.substr(0, line.find_last_not_of(space) + 1);
+    const std::size_t at = line.find(quote);
+    if (at == line.npos)
+        return "no request";
+    std::string_view numbers = line.substr(at + quote.size());
+    const char *const reason = take_number(numbers, status);
+    return reason ? reason : take_number(numbers, size);
+}
+
+} // namespace
+
+int main()
+{
+    std::uint64_t number = 0, requests = 0, failed = 0, bytes = 0, skipped = 0;
+    for (std::string line; std::getline(std::cin, line);) {
+        std::uint16_t status = 0;
+        std::uint64_t size = 0;
+        number++;
+        if (const char *const reason = take_status_and_size(line, status, size)) {
+            std::cout << "line " << number << " is skipped: " << reason << '\n';
+            skipped++;
+            continue;
+        }
+        requests++;
+        failed += status >= 400;
+        bytes = bytes > UINT64_MAX - size ? UINT64_MAX : bytes + size;
+    }
+    std::printf("requests %10llu\n", static_cast<unsigned long long>(requests));
+    std::printf("failed   %10llu\n", static_cast<unsigned long long>(failed));
+    std::printf("bytes    %10llu\n", static_cast<unsigned long long>(bytes));
+    std::printf("skipped  %10llu\n", static_cast<unsigned long long>(skipped));
+}
