@@ -1,0 +1,22 @@
+-- The prefix that writes a number, and the byte after it, are those of the clauses.
+use Rattle.std.proofs.Common.{true, refl, rules}
+use Rattle.atoi_core.specs.Laws.{looked_for}
+use Rattle.atoi_formats.specs.Formats.{IsNumber}
+use Rattle.atoi_formats.proofs.lemmas.Then.{has_prefix, only_prefix}
+use Rattle.atoi_formats.proofs.numbers_then.number_then.Goals as goal
+
+pub returns-in_default-clause-none : goal.returns-in_default-clause-none
+unfolding IsNumber
+returns-in_default-clause-none g c = λ number bytes rest written parts.
+    let found = has_prefix c.number_then_byte.ensures (looked_for true) c.args.byte c.requires bytes rest written parts in
+    c.in_default.ensures.refused refl number found.0 found.1
+
+pub returns-in_err-rest-clause-none : goal.returns-in_err-rest-clause-none
+unfolding IsNumber
+returns-in_err-rest-clause-none g c = rw c.from_residual.ensures (λ number bytes rest written parts.
+    let same = only_prefix c.number_then_byte.ensures (looked_for true) c.args.byte c.requires bytes rest written parts c.in-Ok.ensures.prefix in search rules)
+
+pub returns-clause-only : goal.returns-clause-only
+unfolding IsNumber
+returns-clause-only g c = λ number bytes rest written parts.
+    let same = only_prefix c.number_then_byte.ensures (looked_for true) c.args.byte c.requires bytes rest written parts c.in-Ok.ensures.prefix in search rules

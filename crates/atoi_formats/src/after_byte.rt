@@ -1,0 +1,21 @@
+//! Steps over one expected byte.
+ghost use Rattle.std.specs.Prelude.{◌≡◌, ℕ, List, ◌∷◌, IfSome, IfNone};
+
+/// Returns what follows `byte`, if `text` begins with it.
+///
+/// ```
+/// use torkettle::formats::after;
+///
+/// assert_eq!(after(b":80", b':'), Some(&b"80"[..]));
+/// assert_eq!(after(b"80", b':'), None);
+/// ```
+#[inline]
+pub fn after(text: &[u8], byte: u8) -> Option<&[u8]>
+    ensures some { IfSome result (λ rest. text.now ≡ byte ∷ rest.now) }
+    ensures none { IfNone result ((rest : List ℕ) → ¬ (text.now ≡ byte ∷ rest)) }
+{
+    match text {
+        [first, rest @ ..] if *first == byte => Some(rest),
+        _ => None,
+    }
+}

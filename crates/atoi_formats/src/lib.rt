@@ -1,0 +1,18 @@
+//! Numbers in the formats of files and protocols: a number and the byte after it, a number of a
+//! fixed width, a number as `{}` prints it. Allocates no memory and copies nothing.
+//!
+//! Every function serves the twelve integer types of Rust. It returns `Some` exactly if the text has
+//! its format, which a caller proves from its clauses alone.
+#![tactic(auto)]
+
+mod after_byte;
+mod canonical_numbers;
+mod fixed_widths;
+mod numbers;
+mod numbers_then;
+
+pub use crate::after_byte::after;
+pub use crate::canonical_numbers::{canonical, canonical_then};
+pub use crate::fixed_widths::fixed_width;
+pub use crate::numbers::number;
+pub use crate::numbers_then::{digits_then, number_then};
