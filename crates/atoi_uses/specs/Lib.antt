@@ -4,5 +4,6 @@ pub mod Versions
 pub mod SignedTotals
 pub mod Addresses
 pub mod StatusLines
+pub mod Pairs
 pub mod Points
 pub mod Durations

@@ -1,22 +1,15 @@
 -- Points, written as three numbers with commas between them.
-use Rattle.std.specs.Prelude.{◌≡◌, ℕ, true, List, ◌∷◌, drop, ℤ, Ok}
-use Rattle.atoi_simd.specs.Answer.{parse_answer, parse_prefix_answer}
+use Rattle.std.specs.Prelude.{◌≡◌, List, ℕ, ◌++◌, codes}
+use Rattle.atoi_formats.specs.Formats.{IsNumber}
 use Rattle.atoi_simd.specs.IntType.{i64_type}
 use Rattle.atoi_uses.specs.declared.points.Point.{Point}
 
-abbrev pub comma : ℕ
-comma = 44
-
--- A number as `parse_prefix` reads it, a comma, then `rest`.
-pub record HasField (text : List ℕ) (number : ℤ) (rest : List ℕ) : Type 0 where
-  pub count : ℕ
-  pub parsed : parse_prefix_answer i64_type true true text ≡ Ok (number, count)
-  pub parts : drop count text ≡ comma ∷ rest
-
--- The point's three numbers, and nothing else.
+-- Three `i64` with commas between them, and nothing else. Each may have a sign and leading zeros.
 pub record IsPoint (text : List ℕ) (point : Point) : Type 0 where
-  pub after_x : List ℕ
-  pub after_y : List ℕ
-  pub x : HasField text point.x after_x
-  pub y : HasField after_x point.y after_y
-  pub z : parse_answer i64_type true true after_y ≡ Ok point.z
+  pub x : List ℕ
+  pub y : List ℕ
+  pub z : List ℕ
+  pub parts : text ≡ x ++ (codes "," ++ (y ++ (codes "," ++ z)))
+  pub x_is : IsNumber i64_type x point.x
+  pub y_is : IsNumber i64_type y point.y
+  pub z_is : IsNumber i64_type z point.z

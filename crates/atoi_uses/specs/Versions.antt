@@ -1,11 +1,8 @@
 -- Versions such as `1.22.333`.
-use Rattle.std.specs.Prelude.{◌≡◌, ℕ, false, List, ◌++◌, pos, codes}
+use Rattle.std.specs.Prelude.{◌≡◌, false, List, ℕ, ◌++◌, pos, codes}
 use Rattle.atoi_simd.specs.IntType.{u32_type}
 use Rattle.atoi_simd.specs.Text.{DigitsWrite}
 use Rattle.atoi_uses.specs.declared.versions.Version.{Version}
-
-abbrev pub dot : ℕ
-dot = 46
 
 -- Three `u32` with dots between them, and nothing else.
 pub record IsVersion (text : List ℕ) (version : Version) : Type 0 where

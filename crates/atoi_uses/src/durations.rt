@@ -3,9 +3,9 @@ ghost use Rattle.std.specs.Prelude.{◌≡◌, ◌<◌, ◌^◌, ◌≤◌, ◌+
 ghost use Rattle.std.specs.Str.Parse.{IsNumeral};
 ghost use Rattle.atoi_uses.specs.Durations.{AreLeadingDigits, HasParts, IsDuration, IsNoDuration, capped, total_of};
 
-use crate::after_byte::after;
 use atoi_core::laws::none_or_too_large;
 use atoi_core::{Steps, Words, count_digits};
+use atoi_formats::after;
 use atoi_simd::parse_prefix_pos;
 
 /// Why a text is no duration.

@@ -1,13 +1,13 @@
-//! Example callers of `atoi_core`, `atoi_simd` and `atoi_column`. They are proved from the public
-//! clauses and laws of these crates, and from nothing else in them.
+//! Example callers of `atoi_core`, `atoi_simd`, `atoi_formats` and `atoi_column`. They are proved from
+//! the public clauses and laws of these crates, and from nothing else in them.
 #![tactic(auto)]
 
 mod addresses;
-mod after_byte;
 mod cents;
 mod commands;
 mod durations;
 mod own_engine;
+mod pairs;
 mod points;
 mod signed_number;
 mod signed_totals;
@@ -15,11 +15,11 @@ mod status_line;
 mod versions;
 
 pub use crate::addresses::{Address, parse_address};
-pub use crate::after_byte::after;
 pub use crate::cents::Cents;
 pub use crate::commands::{Command, CommandError, Word, read_command};
 pub use crate::durations::{DurationError, duration};
 pub use crate::own_engine::{Ebcdic, amount};
+pub use crate::pairs::total_of_pairs;
 pub use crate::points::{Point, parse_point};
 pub use crate::signed_number::number_and_rest;
 pub use crate::signed_totals::{SignedTotalError, signed_total};
