@@ -7,7 +7,8 @@
 use crate::tokens::{Kind, Scanner, Token};
 
 /// The crates whose sources refer to one another by these names.
-pub const CRATES: [&str; 4] = ["atoi_core", "atoi_lanes", "atoi_simd", "atoi_column"];
+pub const CRATES: [&str; 5] =
+    ["atoi_core", "atoi_lanes", "atoi_simd", "atoi_column", "atoi_formats"];
 
 /// The conditions of public functions that callers must meet, as contracts state them, and what
 /// tests them in Rust, where no checker does. A crate whose functions users call has no others.
@@ -23,7 +24,7 @@ const CONDITIONS: [(&str, &str); 2] = [
 ];
 
 /// The crates whose public functions users can call.
-const CALLED: [&str; 2] = ["atoi_simd", "atoi_column"];
+const CALLED: [&str; 3] = ["atoi_simd", "atoi_column", "atoi_formats"];
 
 /// Words that do not exist in Rust, that mean something else there, or that the package forbids.
 const REFUSED: [&str; 12] = [

@@ -118,6 +118,44 @@ pub mod column {
     pub use crate::proved::atoi_column::{Column, ColumnError, FieldError, Fields, is_separator};
 }
 
+/// Numbers in the formats of files and protocols: a number and the byte after it, a number with a
+/// fixed number of digits, a number exactly as `{}` prints it.
+///
+/// Each function returns `None` if the text does not have the format. To parse a format of your own,
+/// call them one after another:
+///
+/// ```
+/// use torkettle::formats::{digits_then, fixed_width};
+/// use torkettle::parse_pos;
+///
+/// fn version(text: &[u8]) -> Option<(u32, u32, u32)> {
+///     let (major, rest) = digits_then(text, b'.')?;
+///     let (minor, rest) = digits_then(rest, b'.')?;
+///     Some((major, minor, parse_pos::<u32, true>(rest).ok()?))
+/// }
+///
+/// // `20240229`
+/// fn date(text: &[u8]) -> Option<(u16, u8, u8)> {
+///     let (year, rest) = fixed_width(text, 4)?;
+///     let (month, rest) = fixed_width(rest, 2)?;
+///     let (day, rest) = fixed_width(rest, 2)?;
+///     rest.is_empty().then_some((year, month, day))
+/// }
+///
+/// assert_eq!(version(b"1.22.333"), Some((1, 22, 333)));
+/// assert_eq!(version(b"1.22"), None);
+/// assert_eq!(date(b"20240229"), Some((2024, 2, 29)));
+/// assert_eq!(date(b"2024-2-9"), None);
+/// ```
+///
+/// The byte after a number must not be a digit. The functions panic otherwise.
+#[cfg(target_pointer_width = "64")]
+pub mod formats {
+    pub use crate::proved::atoi_formats::{
+        after, canonical, canonical_then, digits_then, fixed_width, number, number_then,
+    };
+}
+
 /// The ten functions with the same results, computed with vectors of sixteen bytes.
 ///
 /// This module needs a nightly compiler, and no version promises that it stays as it is.

@@ -1,0 +1,86 @@
+//! Compares the functions for formats with what std gives for the same bytes.
+
+use std::fmt::{Debug, Display};
+use std::panic::catch_unwind;
+use std::str::FromStr;
+use torkettle::Parse;
+use torkettle::formats::{
+    after, canonical, canonical_then, digits_then, fixed_width, number, number_then,
+};
+
+// Parts of texts: every text of up to four of them is tried.
+const PARTS: [&str; 13] =
+    ["0", "7", "12", "255", "128", "+", "-", ".", ",", " ", "x", "00", "18446744073709551616"];
+
+fn each_text(mut check: impl FnMut(&str)) {
+    check("");
+    let mut texts = vec![String::new()];
+    for _ in 0..4 {
+        let longer = |text: &String| PARTS.map(|part| format!("{text}{part}"));
+        texts = texts.iter().flat_map(longer).collect();
+        texts.iter().for_each(|text| check(text));
+    }
+}
+
+// What `{}` prints, and nothing else.
+fn printed<T: FromStr + Display>(text: &str) -> Option<T> {
+    text.parse().ok().filter(|value: &T| value.to_string() == text)
+}
+
+// What `read` finds before the first `.`, and the bytes after it.
+fn before_dot<T>(text: &str, read: impl Fn(&str) -> Option<T>) -> Option<(T, &[u8])> {
+    let (before, rest) = text.split_once('.')?;
+    Some((read(before)?, rest.as_bytes()))
+}
+
+fn check<T: Parse + FromStr + Display + PartialEq + Debug>(text: &str) {
+    let bytes = text.as_bytes();
+    let parsed = |text: &str| text.parse::<T>().ok();
+    let digits =
+        |text: &str| parsed(text).filter(|_| text.starts_with(|c: char| c.is_ascii_digit()));
+    assert_eq!(number::<T>(bytes), parsed(text), "number of {text:?}");
+    assert_eq!(number_then(bytes, b'.'), before_dot(text, parsed), "number_then of {text:?}");
+    assert_eq!(digits_then(bytes, b'.'), before_dot(text, digits), "digits_then of {text:?}");
+    assert_eq!(canonical::<T>(bytes), printed(text), "canonical of {text:?}");
+    let expected = before_dot(text, printed::<T>);
+    assert_eq!(canonical_then(bytes, b'.'), expected, "canonical_then of {text:?}");
+    for width in [0, 1, 2, 3, 21, usize::MAX] {
+        let is_digits = |front: &&str| front.bytes().all(|byte| byte.is_ascii_digit());
+        let front = text.get(..width).filter(is_digits);
+        let expected = front.and_then(parsed).map(|value| (value, &bytes[width..]));
+        assert_eq!(fixed_width(bytes, width), expected, "{width} bytes of {text:?}");
+    }
+}
+
+#[test]
+fn formats_are_those_of_std() {
+    each_text(|text| {
+        check::<u8>(text);
+        check::<i8>(text);
+        check::<u64>(text);
+        check::<i128>(text);
+    });
+}
+
+#[test]
+fn the_byte_is_there() {
+    assert_eq!(after(b".5", b'.'), Some(&b"5"[..]));
+    assert_eq!(after(b"..5", b'.'), Some(&b".5"[..]));
+    assert_eq!(after(b"5.", b'.'), None);
+    assert_eq!(after(b"", b'.'), None);
+}
+
+#[test]
+fn no_digit_ends_a_number() {
+    std::panic::set_hook(Box::new(|_| {}));
+    for byte in 0..=255_u8 {
+        let found = [
+            catch_unwind(|| number_then::<u8>(b"1", byte).is_some()),
+            catch_unwind(|| digits_then::<u8>(b"1", byte).is_some()),
+            catch_unwind(|| canonical_then::<u8>(b"1", byte).is_some()),
+        ];
+        let is_refused = |result: &Result<bool, _>| result.is_err();
+        assert_eq!(found.iter().all(is_refused), byte.is_ascii_digit(), "{byte}");
+        assert_eq!(found.iter().any(is_refused), byte.is_ascii_digit(), "{byte}");
+    }
+}
