@@ -6,6 +6,7 @@ mod cents;
 mod commands;
 mod durations;
 mod own_engine;
+mod pairs;
 mod points;
 mod signed_number;
 mod signed_totals;

@@ -1,7 +1,7 @@
 //! Tests of the reader of points.
 
 use crate::checks::gives;
-use atoi_uses::{Point, after, parse_point};
+use atoi_uses::{Point, parse_point};
 
 #[test]
 fn three_signed_numbers(rt: HostRuntime) {
@@ -17,11 +17,4 @@ fn what_is_no_point(rt: HostRuntime) {
     gives(&rt, parse_point(b" 1,2,3"), None);
     gives(&rt, parse_point(b"1,2,3,"), None);
     gives(&rt, parse_point(b"1,9223372036854775808,3"), None);
-}
-
-#[test]
-fn the_rest_after_a_byte(rt: HostRuntime) {
-    gives(&rt, after(b",7", b','), Some(b"7".as_slice()));
-    gives(&rt, after(b"7", b','), None);
-    gives(&rt, after(b"", b','), None);
 }
