@@ -3,8 +3,8 @@ ghost use Rattle.std.specs.Prelude.{◌≡◌, ◌+◌, ◌≤◌, ◌++◌, tru
 ghost use Rattle.atoi_tool.specs.Request.{is_known, is_negative};
 ghost use Rattle.atoi_tool.specs.Answer.{call_text, row_text};
 
-use crate::answer_text::{LONGEST, push_prefix, push_whole};
-use crate::block::{Block, ROOM};
+use crate::answer_text::{push_prefix, push_whole};
+use crate::block::{Block, LONGEST, ROOM};
 use crate::calls;
 use crate::request::{Call, Integer, Request, by_type};
 use atoi_simd::lanes;

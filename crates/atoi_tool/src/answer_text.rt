@@ -7,19 +7,9 @@ ghost use Rattle.atoi_core.specs.ErrorText.{error_text};
 ghost use Rattle.atoi_column.specs.Items.{flaw_of, item_of};
 ghost use Rattle.atoi_tool.specs.Answer.{whole_text, prefix_text, refusal_text, refused_field_text, item_text};
 
-use crate::block::{Block, ROOM};
+use crate::block::{Block, ERROR, LONGEST, NUMBER, ROOM};
 use atoi_column::ColumnError;
 use atoi_core::{AtoiSimdError, Number};
-
-// The largest number of bytes that a number has: a minus and 39 digits.
-const NUMBER: usize = 1 + 39;
-
-// The largest number of bytes that the text of an error has.
-const ERROR: usize = 332;
-
-/// The largest number of bytes that are appended to a block at once: " err field ", an index, " ", a
-/// place, ": " and the text of an error.
-pub const LONGEST: usize = 11 + NUMBER + 1 + NUMBER + 2 + ERROR;
 
 // Appends `value` in decimal.
 fn push_number<T: Number>(value: T, out: &mut Block)
@@ -39,8 +29,8 @@ fn push_error(error: &AtoiSimdError<'_>, out: &mut Block)
     ensures { out.new ≡ out.old ++ error_text (refusal_of error.now) }
 {
     let mut text = [0; 400];
-    let count = error.text(&mut text);
-    out.push(&text[..count]);
+    let len = error.text(&mut text);
+    out.push(&text[..len]);
 }
 
 fn push_refusal(error: &AtoiSimdError<'_>, out: &mut Block)
@@ -71,11 +61,11 @@ pub fn push_prefix<T: Number>(outcome: Result<(T, usize), AtoiSimdError<'_>>, ou
     ensures { out.new ≡ out.old ++ prefix_text (typed_prefix_answer T.number outcome.entry) }
 {
     match outcome {
-        Ok((value, count)) => {
+        Ok((value, len)) => {
             out.push(b"ok ");
             push_number(value, out);
             out.push(b" ");
-            push_number(count, out);
+            push_number(len, out);
         }
         Err(error) => push_refusal(&error, out),
     }

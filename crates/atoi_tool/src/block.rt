@@ -2,7 +2,6 @@
 ghost use Rattle.std.specs.Prelude.{◌≡◌, ◌+◌, ◌≤◌, ℕ, List, [], ◌++◌, length, take, decimal, OnOk};
 ghost use Rattle.atoi_tool.specs.Failures.{failures_of, PutAppends};
 
-use crate::answer_text::LONGEST;
 use crate::sink::{Sink, put_all};
 use crate::status::Refused;
 use atoi_core::decimal;
@@ -13,6 +12,16 @@ pub const ROOM: usize = 8192;
 
 // The largest number of digits that a number has.
 const DIGITS: usize = 39;
+
+/// The largest number of bytes that a number has: a minus and 39 digits.
+pub const NUMBER: usize = 1 + DIGITS;
+
+/// The largest number of bytes that the text of an error has.
+pub const ERROR: usize = 332;
+
+/// The largest number of bytes that are appended to a block at once: " err field ", an index, " ", a
+/// place, ": " and the text of an error.
+pub const LONGEST: usize = 11 + NUMBER + 1 + NUMBER + 2 + ERROR;
 
 /// Bytes that are still to be written, at most `ROOM` of them.
 #[derive(Drop)]

@@ -71,7 +71,7 @@ pub fn parse_neg<T: atoi_simd::ParseNeg + lanes::ParseNeg>(
     by_zeroes!(parse_neg, engine, flags, text)
 }
 
-/// Parses the number at the start of `text`, which may start with a sign. The count includes the
+/// Parses the number at the start of `text`, which may start with a sign. The length includes the
 /// sign.
 pub fn parse_prefix<T: atoi_simd::Parse + lanes::Parse>(
     engine: Engine,

@@ -6,14 +6,18 @@ use std::fmt::Display;
 use std::io;
 use std::io::{ErrorKind, Read, Write};
 
-/// A reader of `rest` that returns at most `part` bytes a call. Call number `failing`, counted from
-/// 1, fails with `error`; 0 is no call.
+/// A reader of which one call fails.
 #[derive(Drop)]
 pub(crate) struct FailingReader<'a> {
+    /// The bytes that are still to come.
     pub(crate) rest: &'a [u8],
+    /// The largest number of bytes that a call returns.
     pub(crate) part: usize,
+    /// Which call from here on fails, counted from 1; 0 is no call.
     pub(crate) failing: usize,
+    /// The error of this call.
     pub(crate) error: ErrorKind,
+    /// How many calls there were.
     pub(crate) reads: usize,
 }
 
@@ -38,10 +42,10 @@ impl Read for FailingReader<'_> {
             return Err(io::Error::from(self.error));
         }
         self.failing = self.failing.saturating_sub(1);
-        let count = self.part.min(self.rest.len()).min(space.len());
-        space[..count].copy_from_slice(&self.rest[..count]);
-        self.rest = &self.rest[count..];
-        Ok(count)
+        let len = self.part.min(self.rest.len()).min(space.len());
+        space[..len].copy_from_slice(&self.rest[..len]);
+        self.rest = &self.rest[len..];
+        Ok(len)
     }
 }
 
@@ -53,16 +57,22 @@ pub(crate) enum Full {
     TakesNone,
 }
 
-/// A writer that accepts at most `part` bytes a call, and `room` bytes until it is full. A call on a
-/// full writer accepts nothing, and then there is room for `room_then` more bytes.
+/// A writer that can be full.
 #[derive(Drop)]
 pub(crate) struct LimitedWriter {
+    /// The bytes that were written.
     pub(crate) contents: Vec<u8>,
+    /// The largest number of bytes that a call accepts.
     pub(crate) part: usize,
+    /// How many bytes there is room for.
     pub(crate) room: usize,
+    /// The same after a call that found no room.
     pub(crate) room_then: usize,
+    /// What such a call does.
     pub(crate) full: Full,
+    /// How many calls of `write` there were.
     pub(crate) writes: usize,
+    /// How many calls of `flush` there were.
     pub(crate) flushes: usize,
 }
 
@@ -84,8 +94,8 @@ impl LimitedWriter {
 impl Write for LimitedWriter {
     fn write(&mut self, bytes: &[u8]) -> io::Result<usize> {
         self.writes = self.writes.saturating_add(1);
-        let count = bytes.len().min(self.part).min(self.room);
-        if count == 0 {
+        let len = bytes.len().min(self.part).min(self.room);
+        if len == 0 {
             self.room = self.room_then;
             return match self.full {
                 Full::Fails => Err(io::Error::from(ErrorKind::BrokenPipe)),
@@ -93,9 +103,9 @@ impl Write for LimitedWriter {
                 Full::TakesNone => Ok(0),
             };
         }
-        self.contents.extend_from_slice(&bytes[..count])?;
-        self.room -= count;
-        Ok(count)
+        self.contents.extend_from_slice(&bytes[..len])?;
+        self.room -= len;
+        Ok(len)
     }
 
     fn flush(&mut self) -> io::Result<()> {
@@ -104,11 +114,14 @@ impl Write for LimitedWriter {
     }
 }
 
-/// A stream of standard error whose calls fail until call number `first`, counted from 1.
+/// A stream of standard error whose first calls can fail.
 #[derive(Drop)]
 pub(crate) struct Errors {
+    /// What was printed.
     pub(crate) reported: RefCell<Vec<u8>>,
+    /// How many calls there were.
     pub(crate) calls: Cell<usize>,
+    /// The first call that does not fail, counted from 1.
     pub(crate) first: usize,
 }
 

@@ -24,15 +24,15 @@ pub fn read_all<S: Source>(alloc: Global, input: &mut S) -> Result<Vec<u8>, Tool
     ensures never_write { IfErr result (λ error. error ≢ ToolError.Write) }
 {
     let mut bytes = Vec::new(alloc);
+    let mut part = [0u8; PART];
     loop {
-        let mut part = [0u8; PART];
-        let Ok(count) = input.take(&mut part) else {
+        let Ok(len) = input.take(&mut part) else {
             return Err(ToolError::Read);
         };
-        if count == 0 {
+        if len == 0 {
             return Ok(bytes);
         }
-        if bytes.extend_from_slice(&part[..count]).is_err() {
+        if bytes.extend_from_slice(&part[..len]).is_err() {
             return Err(ToolError::Memory);
         }
     }

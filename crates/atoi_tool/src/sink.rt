@@ -87,7 +87,7 @@ impl<W: Write> Sink for ToWriter<W> {
                 self.failures.tick();
                 Err(Refused)
             }
-            Ok(count) => Ok(count),
+            Ok(len) => Ok(len),
         }
     }
 }

@@ -65,7 +65,7 @@ impl<R: Read> Source for FromReader<R> {
     /// Calls `read` once. An error, even an interruption, is a refusal.
     fn take(&mut self, space: &mut [u8]) -> Result<usize, Refused> {
         match self.inner.read(space) {
-            Ok(count) => Ok(count),
+            Ok(len) => Ok(len),
             Err(_) => {
                 self.failures.tick();
                 Err(Refused)

@@ -10,8 +10,8 @@ fn takes_into_space_of_any_size(rt: HostRuntime) {
     for room in [1, 2, 4095, 4097, 9000] {
         let input = [b'7'; 9000];
         let mut source = FromReader::new(FailingReader::new(&input, 9000));
-        let count = source.take(&mut space[..room]);
-        gives(&rt, count.ok(), Some(room));
+        let len = source.take(&mut space[..room]);
+        gives(&rt, len.ok(), Some(room));
         assert!(rt; space[..room] == input[..room]);
         gives(&rt, source.into_inner().reads, 1);
     }
