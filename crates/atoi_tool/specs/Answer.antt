@@ -8,8 +8,10 @@ use Rattle.atoi_core.specs.Refusal.{Refusal}
 use Rattle.atoi_core.specs.ErrorText.{error_text}
 use Rattle.atoi_core.specs.IntType.{IntType}
 use Rattle.atoi_core.specs.Answer.{parse_answer, parse_prefix_answer, whole_answer, prefix_answer}
-use Rattle.atoi_tool.specs.declared.request.Call.{Call}
-use Rattle.atoi_tool.specs.declared.request.Call.TheVariants.{Parse, Pos, Neg, Prefix, PrefixPos, PrefixNeg}
+use Rattle.atoi_tool.specs.declared.request.Sign.{Sign}
+use Rattle.atoi_tool.specs.declared.request.Sign.TheVariants.{InText, Positive, Negative}
+use Rattle.atoi_tool.specs.declared.request.Extent.{Extent}
+use Rattle.atoi_tool.specs.declared.request.Extent.TheVariants.{Whole, Prefix}
 use Rattle.atoi_tool.specs.declared.request.Flags.{Flags}
 use Rattle.atoi_column.specs.Items.{Flaw, field, trailing, items_of}
 use Rattle.atoi_tool.specs.declared.request.Request.{Request}
@@ -33,17 +35,17 @@ prefix_text (Ok found) = codes "ok " ++ signed_decimal found.0 ++ codes " " ++ d
 prefix_text (Err reason) = refusal_text reason
 
 -- The answer to a call for the slice `text`.
-abbrev pub call_text : Call → IntType → Flags → List ℕ → List ℕ
-call_text Parse int flags text = whole_text (parse_answer int flags.zeroes flags.plus text)
-call_text Pos int flags text = whole_text (whole_answer decimal_table int false flags.zeroes text)
-call_text Neg int flags text = whole_text (whole_answer decimal_table int true flags.zeroes text)
-call_text Prefix int flags text = prefix_text (parse_prefix_answer int flags.zeroes flags.plus text)
-call_text PrefixPos int flags text = prefix_text (prefix_answer decimal_table int false flags.zeroes text)
-call_text PrefixNeg int flags text = prefix_text (prefix_answer decimal_table int true flags.zeroes text)
+abbrev pub call_text : Sign → Extent → IntType → Flags → List ℕ → List ℕ
+call_text InText Whole int flags text = whole_text (parse_answer int flags.zeroes flags.plus text)
+call_text Positive Whole int flags text = whole_text (whole_answer decimal_table int false flags.zeroes text)
+call_text Negative Whole int flags text = whole_text (whole_answer decimal_table int true flags.zeroes text)
+call_text InText Prefix int flags text = prefix_text (parse_prefix_answer int flags.zeroes flags.plus text)
+call_text Positive Prefix int flags text = prefix_text (prefix_answer decimal_table int false flags.zeroes text)
+call_text Negative Prefix int flags text = prefix_text (prefix_answer decimal_table int true flags.zeroes text)
 
 -- The answer to a number's row, on either engine.
 abbrev pub row_text : Request → List ℕ → List ℕ
-row_text request text = call_text request.call (int_type_of request.integer) request.flags text
+row_text request text = call_text request.sign request.extent (int_type_of request.integer) request.flags text
 
 -- Why a field has no value, with the offset of the field or of the byte after its number.
 abbrev pub refused_field_text : Flaw → List ℕ

@@ -1,11 +1,13 @@
 -- What a row's words name, and which rows have answers.
-use Rattle.std.specs.Prelude.{Option, Some, None, Bool, true, false, List, ℕ, codes, ◌&&◌, if◌then◌else◌}
+use Rattle.std.specs.Prelude.{Option, Some, None, Bool, true, false, List, ℕ, codes, ◌&&◌, not, if◌then◌else◌}
 use Rattle.std.specs.Str.{bytes_eq}
 use Rattle.atoi_core.specs.IntType.{IntType, u8_type, i8_type, u16_type, i16_type, u32_type, i32_type, u64_type, i64_type, u128_type, i128_type, usize_type, isize_type}
 use Rattle.atoi_tool.specs.declared.request.Engine.{Engine}
 use Rattle.atoi_tool.specs.declared.request.Engine.TheVariants.{Words, Lanes}
-use Rattle.atoi_tool.specs.declared.request.Call.{Call}
-use Rattle.atoi_tool.specs.declared.request.Call.TheVariants.{Parse, Pos, Neg, Prefix, PrefixPos, PrefixNeg}
+use Rattle.atoi_tool.specs.declared.request.Sign.{Sign}
+use Rattle.atoi_tool.specs.declared.request.Sign.TheVariants.{InText, Positive, Negative}
+use Rattle.atoi_tool.specs.declared.request.Extent.{Extent}
+use Rattle.atoi_tool.specs.declared.request.Extent.TheVariants.{Whole, Prefix}
 use Rattle.atoi_tool.specs.declared.request.Integer.{Integer}
 use Rattle.atoi_tool.specs.declared.request.Integer.TheVariants.{U8, I8, U16, I16, U32, I32, U64, I64, U128, I128, Usize, Isize}
 use Rattle.atoi_tool.specs.declared.request.Flags.{Flags}
@@ -18,12 +20,12 @@ engine_of word =
     else None)
 
 -- The call that a word names.
-abbrev pub call_of : List ℕ → Option Call
+abbrev pub call_of : List ℕ → Option (Sign × Extent)
 call_of word =
-    if bytes_eq word (codes "parse") then Some Parse else (if bytes_eq word (codes "pos") then Some Pos
-    else (if bytes_eq word (codes "neg") then Some Neg else (if bytes_eq word (codes "prefix") then Some Prefix
-    else (if bytes_eq word (codes "prefix_pos") then Some PrefixPos
-    else (if bytes_eq word (codes "prefix_neg") then Some PrefixNeg else None)))))
+    if bytes_eq word (codes "parse") then Some (InText, Whole) else (if bytes_eq word (codes "pos") then Some (Positive, Whole)
+    else (if bytes_eq word (codes "neg") then Some (Negative, Whole) else (if bytes_eq word (codes "prefix") then Some (InText, Prefix)
+    else (if bytes_eq word (codes "prefix_pos") then Some (Positive, Prefix)
+    else (if bytes_eq word (codes "prefix_neg") then Some (Negative, Prefix) else None)))))
 
 -- The integer type that a word names.
 abbrev pub integer_of : List ℕ → Option Integer
@@ -62,20 +64,12 @@ int_type_of I128 = i128_type
 int_type_of Usize = usize_type
 int_type_of Isize = isize_type
 
--- The text may start with a sign.
-abbrev pub takes_sign : Call → Bool
-takes_sign Parse = true
-takes_sign Prefix = true
-takes_sign call = false
+-- A plus needs a sign in the text, and a negative number needs a signed type.
+abbrev allows : Sign → (plus signed : Bool) → Bool
+allows InText plus signed = true
+allows Positive plus signed = not plus
+allows Negative plus signed = not plus && signed
 
--- A negative number's digits, or zero's.
-abbrev pub is_negative : Call → Bool
-is_negative Neg = true
-is_negative PrefixNeg = true
-is_negative call = false
-
--- A plus needs a call with a sign, `neg` and `prefix_neg` a signed type.
+-- A row with this request has an answer.
 abbrev pub is_known : Request → Bool
-is_known request =
-    (if request.flags.plus then takes_sign request.call else true)
-    && (if is_negative request.call then (int_type_of request.integer).signed else true)
+is_known request = allows request.sign request.flags.plus (int_type_of request.integer).signed

@@ -20,7 +20,7 @@ cut separator bytes =
 abbrev pub named_request : (engine_word call_word integer_word flags_word : List ℕ) → Option Request
 named_request engine_word call_word integer_word flags_word =
     option_and_then (λ engine. option_and_then (λ call. option_and_then (λ integer. option_map
-    (λ flags. record { engine = engine; call = call; integer = integer; flags = flags })
+    (λ flags. record { engine = engine; sign = call.0; extent = call.1; integer = integer; flags = flags })
     (flags_of flags_word)) (integer_of integer_word)) (call_of call_word)) (engine_of engine_word)
 
 -- What four words ask for, if answered.

@@ -1,6 +1,6 @@
 //! What a row asks for, and the words that name it.
 ghost use Rattle.std.specs.Prelude.{◌≡◌};
-ghost use Rattle.atoi_tool.specs.Request.{engine_of, call_of, integer_of, flags_of, int_type_of, takes_sign, is_negative, is_known};
+ghost use Rattle.atoi_tool.specs.Request.{engine_of, call_of, integer_of, flags_of, int_type_of, is_known};
 
 /// Which library parses.
 #[derive(Clone, Copy)]
@@ -11,37 +11,24 @@ pub enum Engine {
     Lanes,
 }
 
-/// Which function parses.
+/// Which sign the number has.
 #[derive(Clone, Copy)]
-pub enum Call {
-    /// The whole text, which may start with a sign.
-    Parse,
-    /// The whole text, without a sign.
-    Pos,
-    /// The whole text, without a sign, as the digits of a number that is negative or zero.
-    Neg,
-    /// As `Parse`, for the number at the start of the text.
-    Prefix,
-    /// As `Pos`, for the number at the start of the text.
-    PrefixPos,
-    /// As `Neg`, for the number at the start of the text.
-    PrefixNeg,
+pub enum Sign {
+    /// The sign with which the text may start.
+    InText,
+    /// The text has no sign, and the number is not negative.
+    Positive,
+    /// The text has no sign, and the number is negative or zero.
+    Negative,
 }
 
-impl Call {
-    /// Says whether the text may start with a sign.
-    pub fn takes_sign(self) -> bool
-        ensures { result ≡ takes_sign self }
-    {
-        matches!(self, Call::Parse | Call::Prefix)
-    }
-
-    /// Says whether the digits are those of a number that is negative or zero.
-    pub fn is_negative(self) -> bool
-        ensures { result ≡ is_negative self }
-    {
-        matches!(self, Call::Neg | Call::PrefixNeg)
-    }
+/// How much of the text is parsed.
+#[derive(Clone, Copy)]
+pub enum Extent {
+    /// All of it.
+    Whole,
+    /// The number at its start.
+    Prefix,
 }
 
 /// Which type the call returns.
@@ -62,7 +49,7 @@ pub enum Integer {
 }
 
 impl Integer {
-    /// Says whether the type is signed.
+    /// Returns whether the type is signed.
     pub fn is_signed(self) -> bool
         ensures { result ≡ (int_type_of self).signed }
     {
@@ -120,17 +107,17 @@ pub fn engine_of(word: &[u8]) -> Option<Engine>
     }
 }
 
-/// Returns the call that a word names.
-pub fn call_of(word: &[u8]) -> Option<Call>
+/// Returns the sign and the extent of the call that a word names.
+pub fn call_of(word: &[u8]) -> Option<(Sign, Extent)>
     ensures { result ≡ call_of word.now }
 {
     match word {
-        b"parse" => Some(Call::Parse),
-        b"pos" => Some(Call::Pos),
-        b"neg" => Some(Call::Neg),
-        b"prefix" => Some(Call::Prefix),
-        b"prefix_pos" => Some(Call::PrefixPos),
-        b"prefix_neg" => Some(Call::PrefixNeg),
+        b"parse" => Some((Sign::InText, Extent::Whole)),
+        b"pos" => Some((Sign::Positive, Extent::Whole)),
+        b"neg" => Some((Sign::Negative, Extent::Whole)),
+        b"prefix" => Some((Sign::InText, Extent::Prefix)),
+        b"prefix_pos" => Some((Sign::Positive, Extent::Prefix)),
+        b"prefix_neg" => Some((Sign::Negative, Extent::Prefix)),
         _ => None,
     }
 }
@@ -173,20 +160,29 @@ pub fn flags_of(word: &[u8]) -> Option<Flags>
 /// What a row about one number asks for, without its text.
 #[derive(Clone, Copy)]
 pub struct Request {
+    /// The library that parses.
     pub engine: Engine,
-    pub call: Call,
+    /// The sign, which with `extent` names the function.
+    pub sign: Sign,
+    /// The part of the text that is parsed.
+    pub extent: Extent,
+    /// The type of the number.
     pub integer: Integer,
+    /// What is skipped at the start of the text.
     pub flags: Flags,
 }
 
 impl Request {
-    /// Says whether such a row has an answer. It has none if a plus is allowed where the call takes
-    /// no sign, or if the call is `neg` or `prefix_neg` and the type is unsigned.
+    /// Returns whether such a row has an answer. It has none if a plus is allowed where the text has
+    /// no sign, or if the number is negative and the type is unsigned.
     pub fn is_known(&self) -> bool
         ensures { result ≡ is_known self.now }
     {
-        (!self.flags.plus || self.call.takes_sign())
-            && (!self.call.is_negative() || self.integer.is_signed())
+        match self.sign {
+            Sign::InText => true,
+            Sign::Positive => !self.flags.plus,
+            Sign::Negative => !self.flags.plus && self.integer.is_signed(),
+        }
     }
 }
 
@@ -195,6 +191,11 @@ impl Request {
 pub enum Query {
     /// One number.
     Number(Request),
-    /// All numbers of a column, whose separator is any byte except a digit, `+` and `-`.
-    Column { integer: Integer, separator: u8 },
+    /// All numbers of a column.
+    Column {
+        /// The type of the numbers.
+        integer: Integer,
+        /// The byte between two fields: any byte except a digit, `+` and `-`.
+        separator: u8,
+    },
 }

@@ -27,9 +27,12 @@ fn request_of(engine: &[u8], call: &[u8], integer: &[u8], flags: &[u8]) -> Optio
     ensures request { result ≡ request_of engine.now call.now integer.now flags.now }
     ensures known { IfSome result (λ request. is_known request ≡ true) }
 {
+    let engine = engine_of(engine)?;
+    let (sign, extent) = call_of(call)?;
     let request = Request {
-        engine: engine_of(engine)?,
-        call: call_of(call)?,
+        engine,
+        sign,
+        extent,
         integer: integer_of(integer)?,
         flags: flags_of(flags)?,
     };
