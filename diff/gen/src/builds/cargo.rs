@@ -121,7 +121,8 @@ impl Generated {
         let file = cache.folder("objects").join(format!("{name}.so"));
         if !file.is_file() {
             eprintln!("building {name}");
-            let folder = cache.empty_folder(&name)?;
+            // Another run of this program may build the same crate meanwhile.
+            let folder = cache.empty_folder(&format!("{name}-{}", std::process::id()))?;
             cache.keep(&self.build(&folder)?, &file)?;
             fs::remove_dir_all(&folder).map_err(|error| failed(&folder, error))?;
         }
