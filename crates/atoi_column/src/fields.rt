@@ -1,8 +1,8 @@
 //! An iterator over all fields of a byte slice, which goes on after a field that is not a number.
-ghost use Rattle.std.specs.Prelude.{◌≡◌, ◌≤◌, ◌==◌, true, length, IfSome};
+ghost use Rattle.std.specs.Prelude.{◌≡◌, ◌<◌, ◌≤◌, ◌==◌, true, length, All, IfSome, IfErr};
 ghost use Rattle.std.specs.Iterator.{YieldsFirstBy, item_count};
 ghost use Rattle.std.specs.Option.{option_map};
-ghost use Rattle.std.specs.List.{position_or_len, before_first, after_first};
+ghost use Rattle.std.specs.List.{position_or_len, after_first};
 ghost use Rattle.atoi_core.specs.Answer.{parse_answer};
 ghost use Rattle.atoi_column.specs.Fields.{is_separator};
 ghost use Rattle.atoi_column.specs.FieldItems.{after_field, cut_of, field_item, field_item_of, field_items, first_text, line_items, IsAcceptedField};
@@ -53,6 +53,8 @@ impl<'a, T: Parse> Fields<'a, T> {
         requires { is_separator separator ≡ true }
         ensures items { result ≡ field_items T.int_type separator input.now }
         ensures fits { length result ≤ length input.now }
+        ensures places { All (λ item. IfErr item (λ bad.
+            (bad.place ≤ length input.now) × (bad.index < length input.now))) result }
     {
         Fields {
             rest: input,
@@ -70,6 +72,8 @@ impl<'a, T: Parse> Fields<'a, T> {
     pub fn lines(input: &'a [u8]) -> Fields<'a, T>
         ensures items { result ≡ line_items T.int_type input.now }
         ensures fits { length result ≤ length input.now }
+        ensures places { All (λ item. IfErr item (λ bad.
+            (bad.place ≤ length input.now) × (bad.index < length input.now))) result }
     {
         Fields {
             rest: input,

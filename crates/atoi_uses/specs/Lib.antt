@@ -7,3 +7,4 @@ pub mod StatusLines
 pub mod Pairs
 pub mod Points
 pub mod Durations
+pub mod BadFields

@@ -3,6 +3,7 @@
 #![tactic(auto)]
 
 mod addresses;
+mod bad_fields;
 mod cents;
 mod commands;
 mod durations;
@@ -15,6 +16,7 @@ mod status_line;
 mod versions;
 
 pub use crate::addresses::{Address, parse_address};
+pub use crate::bad_fields::count_bad_fields;
 pub use crate::cents::Cents;
 pub use crate::commands::{Command, CommandError, Word, read_command};
 pub use crate::durations::{DurationError, duration};

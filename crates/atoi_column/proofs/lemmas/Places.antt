@@ -1,16 +1,18 @@
 -- Places and indices of errors are inside the input.
-use Rattle.std.proofs.Common.{◌≡◌, ℕ, ◌+◌, ◌-◌, ◌<◌, ◌≤◌, ◌==◌, true, false, if◌then◌else◌, Bool, List, [], ◌∷◌, length, drop, ℤ, Result, Ok, Err, refl, arith, length-drop}
+use Rattle.std.proofs.Common.{◌≡◌, inl, inr, ℕ, ◌+◌, ◌-◌, ◌<◌, ◌≤◌, ◌==◌, true, false, if◌then◌else◌, Bool, List, [], ◌∷◌, length, drop, ℤ, Result, Ok, Err, refl, arith, length-drop}
 use Rattle.std.specs.Prelude.{IfErr}
 use Rattle.std.specs.List.{All, slice_split, onto_first}
 use Rattle.std.proofs.lemmas.List.Elements.{All-nil, All-cons}
 use Rattle.std.proofs.lemmas.List.Splits.{length-slice_split}
 use Rattle.std.proofs.lemmas.List.Sums.{sum_by-cons}
+use Rattle.std.proofs.lemmas.Bool.Decides.{eqb_tells}
 use Rattle.atoi_core.specs.Refusal.{Refusal}
 use Rattle.atoi_core.specs.IntType.{IntType}
 use Rattle.atoi_core.specs.Answer.{parse_answer, parse_prefix_answer}
 use Rattle.atoi_core.specs.Laws.{PrefixOfCut, looked_for}
 use Rattle.atoi_column.specs.Fields.{without_empty_last, fields_of}
 use Rattle.atoi_column.specs.Items.{Flaw, flaw_at, index_of, place_of, items_from, items_left}
+use Rattle.atoi_column.specs.FieldItems.{BadField, cut_of, field_item, items_of_parts, field_items_left}
 use Rattle.atoi_column.specs.Laws.{place_after}
 use Rattle.atoi_column.proofs.lemmas.Fields.{length-fields_of}
 use Rattle.atoi_column.proofs.lemmas.Items.{items_from-cases}
@@ -83,3 +85,34 @@ items_left-inside int law separator input =
     items_from-inside (parse_answer int true true) (parse_prefix_answer int true true)
     (λ rest v count h. (law.cut (looked_for true) true rest v count h).1) (length input) 0 0 input (fields_of separator input)
     (fields_of-place separator input) (omega (arith, length-fields_of separator input)) (λ some. omega arith)
+
+module _ (cut : List ℕ → List ℕ) (answer : List ℕ → Result ℤ Refusal) (bytes : ℕ) where
+  abbrev IsBadInside : Result ℤ BadField → Type 0
+  IsBadInside item = IfErr item (λ bad. (bad.place ≤ bytes) × (bad.index < bytes))
+
+  field_item-inside : (index place : ℕ) (text : List ℕ) (r : Result ℤ Refusal) → place ≤ bytes → index < bytes → IsBadInside (field_item index place text r)
+  field_item-inside index place text (Ok number) within fewer = tt
+  field_item-inside index place text (Err reason) within fewer = (within, fewer)
+
+  items_of_parts-inside : (index place : ℕ) (parts : List (List ℕ)) → index ≤ place → place + place_after parts ≤ bytes + 1
+      → All IsBadInside (items_of_parts cut answer index place parts)
+  items_of_parts-inside index place [] fewer room = All-nil IsBadInside
+  items_of_parts-inside index place (part ∷ []) fewer room =
+      elim (eqb_tells (length part) 0) [
+        | inl none ↦ rw none.0 (All-nil IsBadInside)
+        | inr some ↦
+            let within : place + length part ≤ bytes = omega (arith, place_after-cons part []) in
+            rw some.0 (All-cons IsBadInside _ [] (field_item-inside index place part (answer part) (omega arith) (omega (arith, some.1))) (All-nil IsBadInside))
+      ]
+  items_of_parts-inside index place (part ∷ next ∷ parts) fewer room =
+      let within : place + length part + 1 + place_after (next ∷ parts) ≤ bytes + 1 = omega (arith, place_after-cons part (next ∷ parts)) in
+      let more : 0 < place_after (next ∷ parts) = place_after-some (next ∷ parts) (omega arith) in
+      All-cons IsBadInside _ _ (field_item-inside index place (cut part) (answer (cut part)) (omega arith) (omega arith))
+      (items_of_parts-inside (index + 1) (place + length part + 1) (next ∷ parts) (omega arith) within)
+
+pub field_items_left-inside : (int : IntType) (trims : Bool) (separator : ℕ) (input : List ℕ)
+    → All (λ item. IfErr item (λ bad. (bad.place ≤ length input) × (bad.index < length input))) (field_items_left int trims separator 0 (length input) input)
+unfolding field_items_left
+field_items_left-inside int trims separator input =
+    items_of_parts-inside (cut_of trims) (parse_answer int true true) (length input) 0 (length input - length input) (slice_split (λ byte. byte == separator) input)
+    (omega arith) (omega (arith, split-place (λ byte. byte == separator) input))
