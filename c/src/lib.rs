@@ -4,6 +4,8 @@
 //! function that accepts a text writes to memory. For each type there is one function per choice of
 //! the flags, and one that parses a refused text again and says why.
 #![cfg_attr(not(test), no_std)]
+// rustc before 1.89 warns of 128 bits, which have the layout of C since 1.77.
+#![allow(improper_ctypes_definitions)]
 
 #[cfg(test)]
 mod header;
