@@ -20,8 +20,6 @@ mod formats;
 #[cfg(test)]
 mod kernels;
 #[cfg(test)]
-mod laws;
-#[cfg(test)]
 mod letters;
 #[cfg(test)]
 mod loops;
