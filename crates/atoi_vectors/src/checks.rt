@@ -10,6 +10,15 @@ pub(crate) fn gives<A: Copy + Debug + PartialEq>(rt: &impl Abort, answer: A, exp
     assert_eq!(rt; answer, expected);
 }
 
+/// Checks that each call returned the answer on its right.
+macro_rules! give {
+    ($rt:expr; $($call:expr => $answer:expr;)*) => {
+        $( crate::checks::gives($rt, $call, $answer); )*
+    };
+}
+
+pub(crate) use give;
+
 /// Checks that the root of `atoi_simd` and its module `lanes` returned `expected`.
 pub(crate) fn both_give<A: Copy + Debug + PartialEq>(
     rt: &impl Abort,

@@ -1,7 +1,7 @@
 //! Compares each call over an engine with the plain rules.
 ghost use Rattle.std.specs.Prelude.{◌<◌};
 
-use crate::checks::gives;
+use crate::checks::{give, gives};
 use crate::plain_rules::{self, Body, Class};
 use atoi_core::{
     AtoiSimdError, Engine, Number, Plain, Signed, Steps, Window, Words, narrow_prefix,
@@ -32,10 +32,9 @@ pub(crate) fn check_all(rt: &impl Abort, text: &[u8]) {
 fn check_digit_loop(rt: &impl Abort, text: &[u8]) {
     let body = Body::of(text);
     for bound in [255, 4294967295] {
-        gives(
-            rt,
-            narrow_whole(bound, text).map(u128::from),
-            body.whole(Class::Narrow, u128::from(bound), true),
+        give!(rt;
+            narrow_whole(bound, text).map(u128::from)
+                => body.whole(Class::Narrow, u128::from(bound), true);
         );
     }
 }
@@ -76,15 +75,11 @@ fn widened((number, len): (u64, usize)) -> (u128, usize) {
 fn check_narrow<E: Engine>(rt: &impl Abort, skip: bool, body: Body<'_>) {
     let mut steps = Steps::new();
     for bound in [255, 4294967295] {
-        gives(
-            rt,
-            narrow_prefix::<E>(bound, skip, body.bytes, &mut steps).map(widened),
-            body.prefix(Class::Narrow, u128::from(bound), skip),
-        );
-        gives(
-            rt,
-            narrow_whole_windows::<E>(bound, body.bytes, &mut steps).map(u128::from),
-            body.whole(Class::Narrow, u128::from(bound), skip),
+        give!(rt;
+            narrow_prefix::<E>(bound, skip, body.bytes, &mut steps).map(widened)
+                => body.prefix(Class::Narrow, u128::from(bound), skip);
+            narrow_whole_windows::<E>(bound, body.bytes, &mut steps).map(u128::from)
+                => body.whole(Class::Narrow, u128::from(bound), skip);
         );
     }
 }
@@ -97,15 +92,11 @@ fn check_64<E: Engine>(rt: &impl Abort, skip: bool, body: Body<'_>) {
         (9223372036854775808, 19),
     ] {
         let class = Class::Wide64(limit as usize);
-        gives(
-            rt,
-            E::prefix_64(bound, limit, skip, body.bytes, &mut steps).map(widened),
-            body.prefix(class, u128::from(bound), skip),
-        );
-        gives(
-            rt,
-            whole_64::<E>(bound, limit, skip, body.bytes, &mut steps).map(u128::from),
-            body.whole(class, u128::from(bound), skip),
+        give!(rt;
+            E::prefix_64(bound, limit, skip, body.bytes, &mut steps).map(widened)
+                => body.prefix(class, u128::from(bound), skip);
+            whole_64::<E>(bound, limit, skip, body.bytes, &mut steps).map(u128::from)
+                => body.whole(class, u128::from(bound), skip);
         );
     }
 }
@@ -117,15 +108,11 @@ fn check_128<E: Engine>(rt: &impl Abort, skip: bool, body: Body<'_>) {
         170141183460469231731687303715884105727,
         170141183460469231731687303715884105728,
     ] {
-        gives(
-            rt,
-            E::prefix_128(bound, skip, body.bytes, &mut steps),
-            body.prefix(Class::Wide128, bound, skip),
-        );
-        gives(
-            rt,
-            whole_128::<E>(bound, skip, body.bytes, &mut steps),
-            body.whole(Class::Wide128, bound, skip),
+        give!(rt;
+            E::prefix_128(bound, skip, body.bytes, &mut steps)
+                => body.prefix(Class::Wide128, bound, skip);
+            whole_128::<E>(bound, skip, body.bytes, &mut steps)
+                => body.whole(Class::Wide128, bound, skip);
         );
     }
 }
@@ -182,16 +169,11 @@ fn check_pos<E: Engine, T: Number>(
     body: Body<'_>,
 ) {
     let mut steps = Steps::new();
-    gives(
-        rt,
-        parts(whole_pos::<E, T>(skip, body.bytes, &mut steps)),
-        body.whole(class, bound, skip).map(|number| (false, number)),
-    );
-    gives(
-        rt,
-        prefix_parts(prefix_pos::<E, T>(skip, body.bytes, &mut steps)),
-        body.prefix(class, bound, skip)
-            .map(|(number, len)| (false, number, len)),
+    give!(rt;
+        parts(whole_pos::<E, T>(skip, body.bytes, &mut steps))
+            => body.whole(class, bound, skip).map(|number| (false, number));
+        prefix_parts(prefix_pos::<E, T>(skip, body.bytes, &mut steps))
+            => body.prefix(class, bound, skip).map(|(number, len)| (false, number, len));
     );
 }
 
@@ -207,16 +189,10 @@ fn check_both<E: Engine, T: Signed>(
 {
     let mut steps = Steps::new();
     check_pos::<E, T>(rt, class, magnitude - 1, skip, body);
-    gives(
-        rt,
-        parts(whole_neg::<E, T>(skip, body.bytes, &mut steps)),
-        body.whole(class, magnitude, skip)
-            .map(|number| (number > 0, number)),
-    );
-    gives(
-        rt,
-        prefix_parts(prefix_neg::<E, T>(skip, body.bytes, &mut steps)),
-        body.prefix(class, magnitude, skip)
-            .map(|(number, len)| (number > 0, number, len)),
+    give!(rt;
+        parts(whole_neg::<E, T>(skip, body.bytes, &mut steps))
+            => body.whole(class, magnitude, skip).map(|number| (number > 0, number));
+        prefix_parts(prefix_neg::<E, T>(skip, body.bytes, &mut steps))
+            => body.prefix(class, magnitude, skip).map(|(number, len)| (number > 0, number, len));
     );
 }

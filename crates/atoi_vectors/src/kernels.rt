@@ -1,7 +1,7 @@
 //! Public functions on words and vectors. The windows call the others.
 
 use crate::checks::gives;
-use crate::plain_rules;
+use crate::plain_rules::{count_zeros, window};
 use atoi_core::words::{check_len_8, len_zeroes, len_zeroes_128, load_8, process_8, process_16};
 use atoi_simd::lanes::kernels::{len_lanes, load_lanes, sum_lanes, zeroes_lanes};
 use std::process::Abort;
@@ -10,28 +10,20 @@ use std::simd::prelude::*;
 // A window of these 16 bytes has the same digits, but counts zeros only if all are digits.
 fn check_lanes(rt: &impl Abort, bytes: [u8; 16]) {
     let lanes = u8x16::from_array(bytes);
-    let (len, _, number) = plain_rules::window(16, &bytes);
+    let (len, _, number) = window(16, &bytes);
     let reported = len_lanes(lanes);
     gives(rt, reported as usize, len);
-    gives(
-        rt,
-        zeroes_lanes(lanes) as usize,
-        plain_rules::count_zeros(&bytes),
-    );
+    gives(rt, zeroes_lanes(lanes) as usize, count_zeros(&bytes));
     gives(rt, Some(u128::from(sum_lanes(lanes, reported))), number);
     gives(rt, sum_lanes(lanes, 0), 0);
 }
 
 fn check_word(rt: &impl Abort, bytes: [u8; 8]) {
     let word = u64::from_le_bytes(bytes);
-    let (len, _, number) = plain_rules::window(8, &bytes);
+    let (len, _, number) = window(8, &bytes);
     let reported = check_len_8(word);
     gives(rt, reported as usize, len);
-    gives(
-        rt,
-        len_zeroes(word) as usize,
-        plain_rules::count_zeros(&bytes),
-    );
+    gives(rt, len_zeroes(word) as usize, count_zeros(&bytes));
     if reported > 0 {
         gives(rt, Some(u128::from(process_8(word, reported))), number);
     }
@@ -39,12 +31,8 @@ fn check_word(rt: &impl Abort, bytes: [u8; 8]) {
 
 fn check_long_word(rt: &impl Abort, bytes: [u8; 16]) {
     let word = u128::from_le_bytes(bytes);
-    let (len, _, number) = plain_rules::window(16, &bytes);
-    gives(
-        rt,
-        len_zeroes_128(word) as usize,
-        plain_rules::count_zeros(&bytes),
-    );
+    let (len, _, number) = window(16, &bytes);
+    gives(rt, len_zeroes_128(word) as usize, count_zeros(&bytes));
     // No kernel on words counts the digits of 16 bytes.
     let reported = len_lanes(u8x16::from_array(bytes));
     gives(rt, reported as usize, len);

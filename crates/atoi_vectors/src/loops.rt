@@ -1,6 +1,6 @@
 //! Worked examples of the loops that the ten functions call, over each engine, and of `narrow_whole`.
 
-use crate::checks::{each_gives, gives};
+use crate::checks::{each_gives, give, gives};
 use atoi_core::AtoiSimdError::{self, Empty, Invalid64, Invalid128, Overflow, Size};
 use atoi_core::{
     Engine, Plain, Steps, Words, narrow_prefix, narrow_whole, narrow_whole_windows, whole_64,
@@ -12,13 +12,6 @@ use std::test::Fail;
 
 // `u8::MAX` as a bound.
 const GREATEST_U8: u64 = 255;
-
-// Each row is a call and its answer.
-macro_rules! give {
-    ($rt:expr; $($call:expr => $answer:expr;)*) => {
-        $( gives($rt, $call, $answer); )*
-    };
-}
 
 // Calls each function with each engine, and with the text if there is one.
 macro_rules! on_each_engine {

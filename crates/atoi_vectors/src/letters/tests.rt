@@ -1,7 +1,7 @@
 //! Each call on runs of letters, with answers that follow from the parts of each run.
 
 use super::{BothCases, Letters};
-use crate::checks::gives;
+use crate::checks::{give, gives};
 use crate::core_calls::{check_engine, check_types};
 use crate::plain_rules::Body;
 use atoi_core::AtoiSimdError::{Empty, Invalid64, Invalid128, Overflow};
@@ -70,25 +70,11 @@ fn a_hundred_zeros_of_letters(rt: HostRuntime) -> Result<(), Fail> {
 #[test]
 fn narrow_prefixes_of_letters(rt: HostRuntime) {
     let mut steps = Steps::new();
-    gives(
-        &rt,
-        narrow_prefix::<Letters>(255, true, b"AAAAAAAAAAAAAAAACFFx", &mut steps),
-        Ok((255, 19)),
-    );
-    gives(
-        &rt,
-        narrow_prefix::<Letters>(255, true, b"007", &mut steps),
-        Err(Empty),
-    );
-    gives(
-        &rt,
-        narrow_prefix::<BothCases>(255, true, b"AaAaAaAaAaAaAaAacFf7", &mut steps),
-        Ok((255, 19)),
-    );
-    gives(
-        &rt,
-        narrow_prefix::<BothCases>(255, false, b"cfG", &mut steps),
-        Err(Overflow(b"cfG")),
+    give!(&rt;
+        narrow_prefix::<Letters>(255, true, b"AAAAAAAAAAAAAAAACFFx", &mut steps) => Ok((255, 19));
+        narrow_prefix::<Letters>(255, true, b"007", &mut steps) => Err(Empty);
+        narrow_prefix::<BothCases>(255, true, b"AaAaAaAaAaAaAaAacFf7", &mut steps) => Ok((255, 19));
+        narrow_prefix::<BothCases>(255, false, b"cfG", &mut steps) => Err(Overflow(b"cfG"));
     );
 }
 
@@ -96,44 +82,22 @@ fn narrow_prefixes_of_letters(rt: HostRuntime) {
 fn prefixes_of_letters(rt: HostRuntime) {
     let mut steps = Steps::new();
     let run = b"AABCDEFGHIJABCDEFGHIJABCDEFGHIJABC0";
-    gives(
-        &rt,
-        Letters::prefix_128(u128::MAX, true, run, &mut steps),
-        Ok((12_345_678_901_234_567_890_123_456_789_012, 34)),
-    );
-    gives(
-        &rt,
-        prefix_pos::<Letters, u16>(false, b"IA0", &mut steps),
-        Ok((80, 2)),
-    );
-    gives(
-        &rt,
-        prefix_pos::<Letters, i8>(false, b"BCI", &mut steps),
-        Err(Overflow(b"BCI")),
+    give!(&rt;
+        Letters::prefix_128(u128::MAX, true, run, &mut steps)
+            => Ok((12_345_678_901_234_567_890_123_456_789_012, 34));
+        prefix_pos::<Letters, u16>(false, b"IA0", &mut steps) => Ok((80, 2));
+        prefix_pos::<Letters, i8>(false, b"BCI", &mut steps) => Err(Overflow(b"BCI"));
     );
 }
 
 #[test]
 fn whole_slices_of_letters(rt: HostRuntime) {
     let mut steps = Steps::new();
-    gives(
-        &rt,
-        whole_64::<Letters>(u64::MAX, 20, true, b"AAH", &mut steps),
-        Ok(7),
-    );
-    gives(
-        &rt,
-        whole_64::<Letters>(u64::MAX, 20, true, b"AAH7", &mut steps),
-        Err(Invalid64(7, 3, b"AAH7")),
-    );
-    gives(
-        &rt,
-        whole_128::<Letters>(u128::MAX, true, b"AAAAABC", &mut steps),
-        Ok(12),
-    );
-    gives(
-        &rt,
-        whole_128::<Letters>(u128::MAX, true, b"AAAAABC7", &mut steps),
-        Err(Invalid128(12, 7, b"AAAAABC7")),
+    let (cut_64, cut_128) = (b"AAH7", b"AAAAABC7");
+    give!(&rt;
+        whole_64::<Letters>(u64::MAX, 20, true, b"AAH", &mut steps) => Ok(7);
+        whole_64::<Letters>(u64::MAX, 20, true, cut_64, &mut steps) => Err(Invalid64(7, 3, cut_64));
+        whole_128::<Letters>(u128::MAX, true, b"AAAAABC", &mut steps) => Ok(12);
+        whole_128::<Letters>(u128::MAX, true, cut_128, &mut steps) => Err(Invalid128(12, 7, cut_128));
     );
 }
