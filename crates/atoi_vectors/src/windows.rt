@@ -46,7 +46,7 @@ fn windows_of_sixteen_bytes(rt: HostRuntime) {
 
 #[test]
 fn windows_of_eight_bytes(rt: HostRuntime) {
-    let rows: [Row; 9] = [
+    let rows: [Row; 10] = [
         (b"123456789", (8, 0, 12345678)),
         (b"12345678", (8, 0, 12345678)),
         (b"0000000", (7, 0, 0)),
