@@ -6,8 +6,8 @@ use crate::timing::Object;
 use std::ffi::c_void;
 use std::path::Path;
 
-// The order of the arguments is: whether it is a call of `lanes`, the numbers of the call and of the
-// type, both flags, the address and the length of the text, and the answer.
+// The order of the arguments is: whether it is a call of `lanes`, the numbers of the call and of
+// the type, both flags, the address and the length of the text, and the answer.
 type Export = unsafe extern "C" fn(bool, u32, u32, bool, bool, *const u8, usize, *mut RawAnswer);
 
 /// The export that makes any call of a library: `torkettle_answer` of `diff/exports`.

@@ -75,7 +75,7 @@ cargo run --release -- [ARGUMENT..]
   --debug             compare the package as a debug build, with checks for overflow
   --lanes             time lanes of the package too
   --against COMMIT    only time the exports, or what --inlined-only times, beside a commit's
-  --only TEXT         time only the input lists and columns whose line has TEXT: 'u64 -- 16'
+  --only TEXT         time only what has TEXT in its line, as 'parse u64 -- 16' or 'column u64'
   --beside NAME=FILE  time or count a build of your own too: FILE is a shared object
   --cpu CPU           build our library for a processor (x86-64-v2)
   --passes N          how often everything is timed (5, at least 3)

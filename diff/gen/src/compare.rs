@@ -1,5 +1,5 @@
-//! The comparison of the answers of our builds with the rules, with `str::parse`, with the original,
-//! and with each other.
+//! The comparison of the answers of our builds with the rules, with `str::parse`, with the
+//! original, and with each other.
 
 use crate::answer::Answer;
 use crate::answers::Answers;

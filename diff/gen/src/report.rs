@@ -33,7 +33,8 @@ impl Table {
         Table { unit: format!("nanoseconds per field{how}"), lines: "columns", sides, times }
     }
 
-    /// Prints everything, if anything was timed, and returns how many sides answered otherwise than they should.
+    /// Prints everything, if anything was timed, and returns how many sides answered otherwise than
+    /// they should.
     pub fn print(&self) -> usize {
         if self.times.is_empty() {
             return 0;

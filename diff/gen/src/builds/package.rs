@@ -33,8 +33,8 @@ impl Package {
         Ok(Package { folder: folder.to_path_buf(), contents })
     }
 
-    /// The package of a commit, and the short name of that commit. A commit without the package gets
-    /// what makes one of its crates from this checkout.
+    /// The package of a commit, and the short name of that commit. A commit without the package
+    /// gets the manifest and the build script of this checkout.
     pub fn of_commit(cache: &Cache, commit: &str) -> Result<(Package, String), String> {
         let (room, name) = commit::files(cache, commit)?;
         let manifest = room.join("Cargo.toml");

@@ -7,8 +7,8 @@ use crate::report::Table;
 use crate::tables::{self, InputList};
 use crate::timing;
 
-/// Does it, and returns how many answers differed. Numbers of one and of two digits have a table of their own, since
-/// there the call of the library is most of the time.
+/// Times them, and returns how many answers differed. Numbers of one and of two digits have a table
+/// of their own, since the call itself takes most of the time there.
 pub fn run(arguments: &Arguments, cache: &Cache) -> Result<u64, String> {
     let builds = match builds::of_c(cache, &Package::of_folder(cache.repository())?) {
         Ok(builds) => builds,
@@ -20,14 +20,16 @@ pub fn run(arguments: &Arguments, cache: &Cache) -> Result<u64, String> {
     };
     let effort = timing::effort(arguments.passes);
     let mut random = Random::new(arguments.seed);
+    let lists = tables::c_lists()?.into_iter().filter(|list| arguments.has(&list.to_string()));
     let (longer, short): (Vec<InputList>, Vec<InputList>) =
-        tables::c_lists()?.into_iter().partition(|list| list.digits.longest() > 2);
+        lists.partition(|list| list.digits.longest() > 2);
     let mut wrong = 0;
     for (lists, how) in [(longer, "from C++"), (short, "from C++, one or two digits")] {
         let (sides, tasks) = timing::lists(&builds, &lists, false, &mut random)?;
         wrong += Table::of_lists(&format!(", {how}"), sides, timing::time(&tasks, effort)).print();
     }
-    let (sides, tasks) = timing::columns(&builds, &tables::shapes()?, false, &mut random)?;
+    let shapes = super::timed_columns(arguments)?;
+    let (sides, tasks) = timing::columns(&builds, &shapes, false, &mut random)?;
     wrong += Table::of_columns(", from C and C++", sides, timing::time(&tasks, effort)).print();
     Ok(wrong as u64)
 }

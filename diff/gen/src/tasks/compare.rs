@@ -1,4 +1,4 @@
-//! Compares the answers.
+//! Compares the answers, and prints how many differ.
 
 use crate::arguments::Arguments;
 use crate::builds::Cache;

@@ -1,6 +1,6 @@
 //! Times or counts the exports of the kit's build beside those of other libraries, or of a commit.
 
-use super::timed_lines;
+use super::{timed_columns, timed_lists};
 use crate::arguments::{Arguments, DEFAULT_CPU, Task};
 use crate::builds::{self, Build, Cache, State};
 use crate::chart::{self, Row};
@@ -12,7 +12,7 @@ use crate::tables::InputList;
 use crate::timing::{self, Effort, Side, Times};
 use std::fs;
 
-/// Does it, and returns how many answers differed. Without the kit there is nothing to do.
+/// Times or counts them, and returns how many answers differed. Without the kit there are none.
 pub fn run(arguments: &Arguments, cache: &Cache) -> Result<u64, String> {
     let kit = match builds::kit() {
         Ok(kit) => kit,
@@ -61,11 +61,11 @@ fn count(cache: &Cache, builds: &[Build]) -> Result<u64, String> {
 fn time(arguments: &Arguments, cache: &Cache, builds: &[Build]) -> Result<u64, String> {
     let effort = timing::effort(arguments.passes);
     let mut random = Random::new(arguments.seed);
-    let (input_lists, shapes) = timed_lines(arguments)?;
+    let input_lists = timed_lists(arguments)?;
     let (sides, tasks) = timing::lists(builds, &input_lists, false, &mut random)?;
     let lists = Table::of_lists("", sides, timing::time(&tasks, effort));
     let mut wrong = lists.print();
-    let (sides, tasks) = timing::columns(builds, &shapes, false, &mut random)?;
+    let (sides, tasks) = timing::columns(builds, &timed_columns(arguments)?, false, &mut random)?;
     wrong += Table::of_columns("", sides, timing::time(&tasks, effort)).print();
     if arguments.against.is_none() {
         wrong += time_plus(&builds[..1], &input_lists, effort, &mut random)?;

@@ -1,17 +1,17 @@
 //! Times the calls that are inlined in Rust.
 
-use super::timed_lines;
+use super::{timed_columns, timed_lists};
 use crate::arguments::Arguments;
 use crate::builds::{self, Beside, Build, Cache, Inlined, Package};
 use crate::random::Random;
 use crate::report::Table;
 use crate::timing;
 
-// Both are timed: the original takes vectors at the second.
+// The processors that the calls are built for. The original uses vectors at the second.
 const PROCESSORS: [&str; 2] = ["x86-64", "x86-64-v3"];
 
-/// Does it for each processor, beside others or beside a commit, and returns how many answers
-/// differed.
+/// Times them for each processor, and returns how many answers differed. They are timed beside
+/// those of others, or beside those of a commit.
 pub fn run(arguments: &Arguments, cache: &Cache) -> Result<u64, String> {
     let ours = Package::of_folder(cache.repository())?;
     let beside = match &arguments.against {
@@ -32,7 +32,7 @@ pub fn run(arguments: &Arguments, cache: &Cache) -> Result<u64, String> {
 fn time(arguments: &Arguments, built: &Inlined, cpu: &str) -> Result<usize, String> {
     let effort = timing::effort(arguments.passes);
     let mut random = Random::new(arguments.seed);
-    let (lists, shapes) = timed_lines(arguments)?;
+    let (lists, shapes) = (timed_lists(arguments)?, timed_columns(arguments)?);
     let how = format!(", inlined in Rust, built for {cpu}");
     let (sides, tasks) = timing::lists(&built.builds, &lists, false, &mut random)?;
     let mut wrong = Table::of_lists(&how, sides, timing::time(&tasks, effort)).print();

@@ -19,7 +19,8 @@ pub fn run(arguments: &Arguments) -> Result<u64, String> {
         differences += compare::run(arguments, &cache)?;
     }
     if task != Task::Compare {
-        println!("timed or counted on {}", Processor);
+        check_only(arguments)?;
+        println!("timed or counted on {Processor}");
     }
     if task.includes(Task::Exports) || task == Task::Count {
         differences += exports::run(arguments, &cache)?;
@@ -33,13 +34,26 @@ pub fn run(arguments: &Arguments) -> Result<u64, String> {
     Ok(differences)
 }
 
-// The input lists and the columns that are timed.
-fn timed_lines(arguments: &Arguments) -> Result<(Vec<InputList>, Vec<Shape>), String> {
-    let (mut lists, mut shapes) = (tables::input_lists()?, tables::shapes()?);
-    lists.retain(|list| arguments.has(&list.to_string()));
-    shapes.retain(|shape| arguments.has(&format!("column {shape}")));
-    match lists.is_empty() && shapes.is_empty() {
-        true => Err(String::from("no input list and no column has what --only says")),
-        false => Ok((lists, shapes)),
+// Refuses an argument `--only` that leaves nothing.
+fn check_only(arguments: &Arguments) -> Result<(), String> {
+    let c_lists = tables::c_lists()?;
+    let has_c_list = c_lists.iter().any(|list| arguments.has(&list.to_string()));
+    if has_c_list || !timed_lists(arguments)?.is_empty() || !timed_columns(arguments)?.is_empty() {
+        return Ok(());
     }
+    Err(String::from("no input list and no column has what --only says"))
+}
+
+// The input lists that are timed.
+fn timed_lists(arguments: &Arguments) -> Result<Vec<InputList>, String> {
+    let mut lists = tables::input_lists()?;
+    lists.retain(|list| arguments.has(&list.to_string()));
+    Ok(lists)
+}
+
+// The columns that are timed.
+fn timed_columns(arguments: &Arguments) -> Result<Vec<Shape>, String> {
+    let mut shapes = tables::shapes()?;
+    shapes.retain(|shape| arguments.has(&format!("column {shape}")));
+    Ok(shapes)
 }

@@ -31,8 +31,7 @@ pub struct Effort {
     pub rounds: usize,
 }
 
-/// The effort of so many passes. Nothing else runs on the processor meanwhile, as far as the system
-/// can see to it.
+/// The effort of so many passes. It also keeps the program on one processor.
 pub fn effort(passes: usize) -> Effort {
     pin();
     Effort { passes, rounds: ROUNDS }
