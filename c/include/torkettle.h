@@ -1,5 +1,5 @@
 /*
- * Torkettle: decimal integers from text, for C99 and C++.
+ * Torkettle: decimal integers from text, for C99 and C++11.
  *
  *     int64_t value;
  *     if (torkettle_parse_i64(text, length, 0, &value) == TORKETTLE_OK) ...
@@ -7,11 +7,10 @@
  * A text is `length` bytes from `text` on. It needs no terminator, and no byte outside of it is read. A text of
  * length 0 is empty, and `text` may then be NULL.
  *
- * No function allocates memory or keeps state. You may call each of them from any thread and from a signal
- * handler. Each returns after time in proportion to `length` at most.
+ * No function allocates memory or keeps state. You may call each of them from any thread and from a signal handler.
+ * The time that a call takes is at most proportional to `length`.
  *
- * The functions that end in `_i64` are there for each of these types too. For `size_t`, use the type of the same
- * width.
+ * Where a name here has `i64`, there is one for each of these types. For `size_t`, use `u64`, with `uint64_t`.
  *
  *     i8   int8_t      u8   uint8_t
  *     i16  int16_t     u16  uint16_t
@@ -26,7 +25,6 @@
 #include <stdint.h>
 
 #ifdef __cplusplus
-#include <cstdbool>
 #define TORKETTLE_NOEXCEPT noexcept
 extern "C" {
 #else
@@ -67,7 +65,7 @@ typedef enum torkettle_status {
 /* Why a text was refused. What a status does not use is 0. */
 typedef struct torkettle_error {
     torkettle_status status;
-    /* The width of `value_high` and `value_low`: 64, or 128 for i128 and u128. */
+    /* TORKETTLE_INVALID: the width of the value below, which is 64, or 128 for i128 and u128. */
     unsigned bits;
     /*
      * The offset, in bytes, of the digits that the error is about: the first digit for TORKETTLE_INVALID; that or a

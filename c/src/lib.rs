@@ -37,7 +37,7 @@ const INVALID: c_uint = 4;
 #[derive(Clone, Copy, Default)]
 pub struct Error {
     status: c_uint,
-    // The width of the error's number: 64, or 128 for types of 128 bits.
+    // The width of the value, which only `INVALID` has: 64 or 128.
     bits: c_uint,
     // Where the slice of the error starts. It reaches to the end of the text.
     offset: usize,
@@ -110,6 +110,7 @@ fn prefix<T: Parse + Default, const ZEROES: bool, const PLUS: bool>(text: &[u8])
 fn prefix_of_long<T: Parse + Default, const ZEROES: bool, const PLUS: bool>(
     text: &[u8],
 ) -> Found<T> {
+    // A number that is found while zeros count as digits is found without them too, more slowly.
     let found = found_prefix(parse_prefix::<T, false, PLUS>(text));
     if ZEROES && found.length == 0 { prefix_after_zeros::<T, PLUS>(text) } else { found }
 }
@@ -140,7 +141,7 @@ fn prefix_error<T: Parse>(text: &[u8], flags: c_uint) -> Error {
 
 fn error<T>(answer: Result<T, AtoiSimdError<'_>>, text: &[u8]) -> Error {
     let Err(error) = answer else { return Error::default() };
-    let none = Error { status: status(&error), bits: 64, ..Error::default() };
+    let none = Error { status: status(&error), ..Error::default() };
     // Every slice of an error reaches to the end of the text.
     let offset = |slice: &[u8]| text.len() - slice.len();
     match error {
@@ -148,7 +149,7 @@ fn error<T>(answer: Result<T, AtoiSimdError<'_>>, text: &[u8]) -> Error {
         AtoiSimdError::Size(count, slice) => Error { offset: offset(slice), count, ..none },
         AtoiSimdError::Overflow(slice) => Error { offset: offset(slice), ..none },
         AtoiSimdError::Invalid64(value, count, slice) => {
-            Error { offset: offset(slice), count, value_low: value, ..none }
+            Error { bits: 64, offset: offset(slice), count, value_low: value, ..none }
         }
         AtoiSimdError::Invalid128(value, count, slice) => Error {
             bits: 128,
@@ -222,7 +223,8 @@ impl<'a, T: Parse> CheckedColumn<'a, T> {
     }
 }
 
-// Defines functions that C calls, and for a test a list of their declarations in C.
+// Defines functions that C calls, and for a test a list of their declarations in C. What a caller has to
+// see to, the header says.
 macro_rules! exports {
     ($module:ident: $(
         $name:expr => fn $function:ident($($argument:ident: $type:ty),*) -> $result:ty $body:block

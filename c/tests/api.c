@@ -181,7 +181,7 @@ static int is_error(torkettle_error error, torkettle_status status, unsigned bit
             CHECK(torkettle_parse_##name(NULL, 0, flags, &value) == TORKETTLE_EMPTY && value == UNTOUCHED_##name);     \
             count = 999;                                                                                               \
             CHECK(torkettle_parse_prefix_##name(NULL, 0, flags, &value, &count) == TORKETTLE_EMPTY && count == 999);   \
-            CHECK(is_error(torkettle_parse_error_##name(NULL, 0, flags), TORKETTLE_EMPTY, 64, 0, 0, 0));               \
+            CHECK(is_error(torkettle_parse_error_##name(NULL, 0, flags), TORKETTLE_EMPTY, 0, 0, 0, 0));                \
         }                                                                                                              \
     }                                                                                                                  \
                                                                                                                        \
@@ -217,25 +217,25 @@ static int is_error(torkettle_error error, torkettle_status status, unsigned bit
                                         "starting with: 42  input: [34, 32, 78]"));                                    \
         error = torkettle_parse_error_##name("+07,", 4, BOTH);                                                         \
         CHECK(is_error(error, TORKETTLE_INVALID, bits, 1, 2, 7));                                                      \
-        CHECK(is_error(torkettle_parse_error_##name("+07,", 4, ZEROES), TORKETTLE_EMPTY, 64, 0, 0, 0));                \
+        CHECK(is_error(torkettle_parse_error_##name("+07,", 4, ZEROES), TORKETTLE_EMPTY, 0, 0, 0, 0));                 \
         error = torkettle_parse_prefix_error_##name("x", 1, 0);                                                        \
-        CHECK(is_error(error, TORKETTLE_EMPTY, 64, 0, 0, 0) && is_message(&error, "x", "atoi_simd string is empty"));  \
-        CHECK(is_error(torkettle_parse_error_##name(above, strlen(above), 0), TORKETTLE_OVERFLOW, 64, 0, 0, 0));       \
+        CHECK(is_error(error, TORKETTLE_EMPTY, 0, 0, 0, 0) && is_message(&error, "x", "atoi_simd string is empty"));   \
+        CHECK(is_error(torkettle_parse_error_##name(above, strlen(above), 0), TORKETTLE_OVERFLOW, 0, 0, 0, 0));        \
         error = torkettle_parse_error_##name("42", 2, 0);                                                              \
         CHECK(is_error(error, TORKETTLE_OK, 0, 0, 0, 0) && is_message(&error, "42", ""));                              \
         CHECK(is_error(torkettle_parse_prefix_error_##name("42,", 3, 0), TORKETTLE_OK, 0, 0, 0, 0));                   \
         error = torkettle_parse_prefix_error_##name(SIXTEEN_ZEROS "7", 17, 0);                                         \
         if (width == 32) {                                                                                             \
-            CHECK(is_error(error, TORKETTLE_SIZE, 64, 0, 17, 0));                                                      \
+            CHECK(is_error(error, TORKETTLE_SIZE, 0, 0, 17, 0));                                                       \
             CHECK(is_error(torkettle_parse_prefix_error_##name(SIXTEEN_ZEROS "7", 17, ZEROES), TORKETTLE_OK, 0, 0, 0,  \
                            0));                                                                                        \
         } else {                                                                                                       \
             CHECK(is_error(error, TORKETTLE_OK, 0, 0, 0, 0));                                                          \
             error = torkettle_parse_error_##name(nines, digits + 1, 0);                                                \
-            CHECK(is_error(error, TORKETTLE_SIZE, 64, 0, digits + 1, 0));                                              \
+            CHECK(is_error(error, TORKETTLE_SIZE, 0, 0, digits + 1, 0));                                               \
             CHECK(refuses_##name(nines, BOTH, TORKETTLE_SIZE) && refuses_prefix_##name(nines, 0, TORKETTLE_SIZE));     \
             error = torkettle_parse_error_##name("+000123456789012345678901234567890123456789012345", 49, BOTH);       \
-            CHECK(is_error(error, TORKETTLE_SIZE, 64, 4, width == 64 ? 27 : 43, 0));                                   \
+            CHECK(is_error(error, TORKETTLE_SIZE, 0, 4, width == 64 ? 27 : 43, 0));                                    \
         }                                                                                                              \
     }                                                                                                                  \
                                                                                                                        \
