@@ -1,5 +1,5 @@
 -- What `{}` prints for a number is its text without a needless byte.
-use Rattle.std.proofs.Common.{◌≡◌, ◌≢◌, ℕ, suc, ◌+◌, ◌≤◌, Bool, true, false, cond, IsFalse, List, [], ◌∷◌, ◌++◌, decimal, ℤ, pos, negsuc, neg_ℤ, ◌≤ℤ◌, refl, sym, ap, ◌∙◌, subst, arith}
+use Rattle.std.proofs.Common.{◌≡◌, ◌≢◌, ℕ, suc, ◌+◌, ◌≤◌, Bool, true, false, cond, IsFalse, List, [], ◌∷◌, ◌++◌, decimal, ℤ, pos, negsuc, neg_ℤ, ◌≤ℤ◌, refl, ap, subst, arith}
 use Rattle.std.specs.Fmt.{signed_decimal}
 use Rattle.std.specs.Str.Parse.{digits_value}
 use Rattle.std.proofs.lemmas.Bool.{both_ways, ne_eqb, or_parts}
@@ -43,8 +43,8 @@ module _ {int : IntType} (law : DecimalTexts int) where
   pub shortest : {bytes : List ℕ} {number : ℤ} → IsPrinted int bytes number → IsFalse (has_needless_byte bytes)
   shortest {bytes} {number} is = rw is.printed (printed_shortest number is.least is.greatest)
 
-  pub written : {bytes : List ℕ} {number : ℤ} → IsPrinted int bytes number → TextWrites int false bytes number
-  written {bytes} {number} is = rw is.printed (law.text false number is.least is.greatest)
+  pub written : {takes_plus : Bool} {bytes : List ℕ} {number : ℤ} → IsPrinted int bytes number → TextWrites int takes_plus bytes number
+  written {takes_plus} {bytes} {number} is = rw is.printed (law.text takes_plus number is.least is.greatest)
 
 -- ---- A text without a needless byte is printed
 

@@ -1,5 +1,5 @@
 -- A text is accepted exactly if it is what `{}` prints.
-use Rattle.std.proofs.Common.{false, refl, sym, ◌∙◌}
+use Rattle.std.proofs.Common.{refl, sym, ◌∙◌}
 use Rattle.std.proofs.lemmas.Bool.{both_ways}
 use Rattle.atoi_core.specs.Laws.{looked_for}
 use Rattle.atoi_formats.specs.Formats.{IsCanonical}
@@ -23,4 +23,4 @@ returns-else-has_needless_byte-clause-some g c =
 pub returns-else-has_needless_byte-clause-only : goal.returns-else-has_needless_byte-clause-only
 unfolding IsCanonical
 returns-else-has_needless_byte-clause-only g c = λ number is.
-    c.one_number.ensures (looked_for false) _ _ _ (written c.decimal_texts.ensures is) c.in-Ok.ensures.number
+    c.one_number.ensures (looked_for _) _ _ _ (written c.decimal_texts.ensures is) c.in-Ok.ensures.number
