@@ -54,6 +54,15 @@ pub fn process_16(val: u128, len: u32) -> u64
     (ten_thousands.wrapping_mul(0x5F5_E100_0000_0000_0000_0001) >> 64) as u64
 }
 
+/// Returns how many bytes of `val`, from the lowest on, are the digit zero.
+#[tactic(auto, using(crate::proofs::lemmas::WordRuns::zeros_of_8))]
+pub fn len_zeroes(val: u64) -> u32
+    ensures zeroes { result ≡ zeros decimal_table (low_bytes 8 val) }
+    ensures most { result ≤ 8 }
+{
+    (val ^ 0x3030_3030_3030_3030).trailing_zeros() / 8
+}
+
 /// `len_zeroes` for a word of sixteen bytes.
 #[tactic(auto, using(crate::proofs::lemmas::WordRuns::zeros_of_16))]
 pub fn len_zeroes_128(val: u128) -> u32

@@ -43,22 +43,22 @@ pub(crate) fn starts_with_digit(word: u64) -> bool
     ((word & 0xFF) as u8).is_ascii_digit()
 }
 
-/// Returns how many bytes of `val`, from the lowest on, are the digit zero.
-#[tactic(auto, using(crate::proofs::lemmas::WordRuns::zeros_of_8))]
-pub fn len_zeroes(val: u64) -> u32
-    ensures zeroes { result ≡ zeros decimal_table (low_bytes 8 val) }
+// `len_zeroes` with the difference that `digits_of` and `value_of` use too, which saves instructions.
+#[tactic(auto, using(crate::proofs::lemmas::WordRuns::lowered_zeros_of_8))]
+pub(crate) fn zeroes_of(word: u64) -> u32
+    ensures zeroes { result ≡ zeros decimal_table (low_bytes 8 word) }
     ensures most { result ≤ 8 }
 {
-    (val ^ ZEROS).trailing_zeros() / 8
+    word.wrapping_sub(ZEROS).trailing_zeros() / 8
 }
 
 #[tactic(auto, using(std::proofs::lemmas::Bool::ne_eqb, crate::proofs::lemmas::LoadedWords::zeros_of_two))]
 pub(crate) fn zeroes_of_two(first: u64, next: u64) -> u32
     ensures { result ≡ zeros decimal_table (low_bytes 8 first ++ low_bytes 8 next) }
 {
-    let zeroes = len_zeroes(first);
+    let zeroes = zeroes_of(first);
     if zeroes == 8 {
-        8 + len_zeroes(next)
+        8 + zeroes_of(next)
     } else {
         zeroes
     }

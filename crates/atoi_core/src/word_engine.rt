@@ -17,8 +17,8 @@ use crate::steps::Steps;
 use crate::wide_answer::answer_64;
 use crate::window::Window;
 use crate::word_digits::{
-    ZEROS, digits_of, fill_of_zeros, len_zeroes, number_in_word, starts_with_digit, sum_of,
-    value_of, value_of_fewer, zeroes_of_two,
+    ZEROS, digits_of, fill_of_zeros, number_in_word, starts_with_digit, sum_of, value_of,
+    value_of_fewer, zeroes_of, zeroes_of_two,
 };
 use crate::word_loads::{load_from, load_full, load_high};
 
@@ -205,7 +205,7 @@ fn window_of_word(word: u64) -> Window
     let len = digits_of(word);
     Window {
         len,
-        zeroes: if len == 8 { len_zeroes(word) } else { 0 },
+        zeroes: if len == 8 { zeroes_of(word) } else { 0 },
         number: number_in_word(word, len),
     }
 }

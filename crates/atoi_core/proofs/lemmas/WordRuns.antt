@@ -209,6 +209,35 @@ none_marked word none = sym (marks_of_8 word) ∙ ap (λ marks. count_trailing_z
 
 -- ---- The word with 48 subtracted from each byte
 
+-- A byte minus 48 is 0 exactly for the digit zero.
+lowered_zero : (b : ℕ) → b < 256 → ((b + 208) % 256 == 0) ≡ is_zero decimal_table b
+lowered_zero b h = agree_below_at (λ x. (x + 208) % 256 == 0) (is_zero decimal_table) 256 b refl h
+
+-- A zero is a digit.
+zero_is_digit : (b : ℕ) → b < 256 → is_zero decimal_table b ≡ true → is_digit decimal_table b ≡ true
+zero_is_digit b h e = grind (arith, nat_tests)
+
+-- After the subtraction, leading bytes of 0 count the zeros.
+lowered_zeros : (k word : ℕ) → prefix_len (λ b. b == 0) (digits_l 256 k (word + without_48 k)) ≡ prefix_len (is_zero decimal_table) (digits_l 256 k word)
+lowered_zeros zero word = refl
+lowered_zeros (suc k) word =
+    let byte = word % 256 in
+    let fits : byte < 256 = mod-lt word (zero-lt-suc 255) in
+    let now = prefix_len (λ b. b == 0) (digits_l 256 k ((word + without_48 (suc k)) / 256)) in
+    rw (lowered.low k word, lowered_zero byte fits)
+    (run_goes_on (is_zero decimal_table byte) now (prefix_len (is_zero decimal_table) (digits_l 256 k (word / 256)))
+    (λ e. rw (lowered.rest k word (zero_is_digit byte fits e)) (lowered_zeros k (word / 256))))
+
+-- Trailing zero bits of the difference count the zeros.
+lowered_zeros_counted : (k word : ℕ) → count_trailing_zeros (k * 8) ((word + without_48 k) % 2 ^ (k * 8)) / 8 ≡ zeros decimal_table (low_bytes k word)
+unfolding low_bytes
+lowered_zeros_counted k word =
+    rw (trailing_bytes k ((word + without_48 k) % 2 ^ (k * 8)), digits_cut 8 k (word + without_48 k)) (lowered_zeros k word)
+
+pub lowered_zeros_of_8 : (word : ℕ)
+    → count_trailing_zeros 64 ((word + 0xCFCF_CFCF_CFCF_CFD0) % 0x1_0000_0000_0000_0000) / 8 ≡ zeros decimal_table (low_bytes 8 word)
+lowered_zeros_of_8 word = lowered_zeros_counted 8 word
+
 -- If n + 1 elements pass, so does the first, then n.
 pub first_passes : (t : Bool) (n m : ℕ) → suc n ≤ cond t (1 + m) 0 → (t ≡ true) × (n ≤ m)
 first_passes true n m h = (refl, omega arith)
