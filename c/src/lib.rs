@@ -1,8 +1,8 @@
 //! What `include/torkettle.h` calls: the parsers of the crate `torkettle` as C functions.
 //!
-//! The header documents each function. A number comes back with its length in two registers, and no
-//! function that accepts a text writes to memory. For each type there is one function per choice of
-//! the flags, and one that parses a refused text again and says why.
+//! The header documents each function. A number comes back with its length in two registers, so no
+//! parser takes a pointer to write to. For each type there is one function per choice of the flags,
+//! and one that parses a refused text again and says why.
 #![cfg_attr(not(test), no_std)]
 // rustc before 1.89 warns of 128 bits, which have the layout of C since 1.77.
 #![allow(improper_ctypes_definitions)]
