@@ -149,7 +149,7 @@ fn ask(sides: &Sides, question: &Question, signed: &[u8], counts: &mut Counts) {
             none => *none = Some(answer),
         }
         if let Some(original) = original {
-            let kind = original::beside(question, text, &answer, &original);
+            let kind = original::beside(question, text, &expected, &answer, &original);
             let differs = matches!(kind, original::Kind::Unnamed);
             count(Beside::Original, differs, Some(original));
             if let original::Kind::Named(name) = kind {

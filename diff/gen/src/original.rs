@@ -19,11 +19,20 @@ pub enum Kind {
     Unnamed,
 }
 
-/// How the two answers compare.
-pub fn beside(question: &Question, text: &[u8], ours: &Answer, theirs: &Answer) -> Kind {
+/// How the two answers compare. `rule` is the answer by the rules: a difference has a name only if
+/// ours is that answer.
+pub fn beside(
+    question: &Question,
+    text: &[u8],
+    rule: &Answer,
+    ours: &Answer,
+    theirs: &Answer,
+) -> Kind {
     let (expected, name) = expected(question, text);
     if ours == theirs {
         Kind::Same
+    } else if ours != rule {
+        Kind::Unnamed
     } else if *theirs == expected {
         Kind::Named(name)
     } else if !IS_PORTABLE {
@@ -54,5 +63,29 @@ fn expected(question: &Question, text: &[u8]) -> (Answer, &'static str) {
         (answer, "a prefix of a type of up to 32 bits with more than 16 digits")
     } else {
         (answer, "parse_prefix counts a taken plus")
+    }
+}
+
+#[cfg(test)]
+mod tests {
+    use super::{Kind, beside};
+    use crate::answer::Answer;
+    use crate::question::{Call, Integer, Question};
+    use crate::rules;
+
+    // How an answer of ours to `parse_prefix::<u8, false, true>(text)` compares with one of theirs.
+    fn compared(text: &[u8], ours: Answer, theirs: Answer) -> Kind {
+        let (call, integer) = (Call::Prefix, Integer::U8);
+        let question = Question { call, integer, skip_zeroes: false, skip_plus: true };
+        beside(&question, text, &rules::answer(&question, text), &ours, &theirs)
+    }
+
+    #[test]
+    fn a_named_difference_is_one_between_the_rules_and_the_original() {
+        let value = |magnitude, count| Answer::value(false, magnitude, count);
+        assert!(matches!(compared(b"12a", value(12, 2), value(12, 2)), Kind::Same));
+        assert!(matches!(compared(b"+12a", value(12, 3), value(12, 2)), Kind::Named(_)));
+        assert!(matches!(compared(b"+12a", value(13, 3), value(12, 2)), Kind::Unnamed));
+        assert!(matches!(compared(b"12a", value(13, 2), value(12, 2)), Kind::Unnamed));
     }
 }
