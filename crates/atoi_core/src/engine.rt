@@ -107,11 +107,14 @@ pub trait Engine {
         ensures loads { LoadsWithin (most_loads table wide128 s.now - 2) 3 table skip s.now
             steps.old steps.new }
     {
-        let window = Self::window(s, steps);
-        let (at, first) = if skip && window.zeroes > 0 {
-            Self::window_after_zeros(window.zeroes, s, steps)
-        } else {
-            (0, window)
+        // With `window_after_zeros`, numbers with zeros take more instructions.
+        let mut at = 0;
+        let first = loop {
+            let next = Self::window(&s[at..], steps);
+            if !skip || next.zeroes == 0 {
+                break next;
+            }
+            at += next.zeroes as usize;
         };
         if first.len < 16 {
             return found_or_empty(u128::from(first.number), at + first.len as usize);
