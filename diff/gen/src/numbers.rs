@@ -95,8 +95,10 @@ pub fn push_number(
     text.extend(sign);
     text.push(b'1');
     let mut magnitude = 1_u128;
-    for _ in 1..digits.pick(random) {
-        let digit = random.digit();
+    let count = digits.pick(random);
+    for place in 1..count {
+        // With a second digit of 0, each number of 20 digits fits in a u64.
+        let digit = if count == 20 && place == 1 { b'0' } else { random.digit() };
         text.push(digit);
         magnitude = magnitude.wrapping_mul(10).wrapping_add(u128::from(digit - b'0'));
     }
