@@ -1,5 +1,6 @@
 //! The arguments of the program.
 
+use std::env;
 use std::path::PathBuf;
 
 /// What the program is asked to do.
@@ -71,7 +72,8 @@ cargo run --release -- [ARGUMENT..]
   --inlined-only      only time the Cargo package beside others, inlined in Rust
   --c-only            only time the C library beside others, called from C and C++
   --count             only count instructions, beside other libraries or --against
-  --original FOLDER   take the original from FOLDER/atoi_simd, and not from crates.io
+  --original FOLDER   take the original from FOLDER or FOLDER/atoi_simd, and not from crates.io
+                      (the value of TORKETTLE_ORIGINAL)
   --debug             compare the package as a debug build, with checks for overflow
   --lanes             time lanes of the package too
   --against COMMIT    only time the exports, or what --inlined-only times, beside a commit's
@@ -94,7 +96,7 @@ impl Arguments {
             cpu: String::from(DEFAULT_CPU),
             is_debug: false,
             has_lanes: false,
-            original: None,
+            original: env::var_os("TORKETTLE_ORIGINAL").map(PathBuf::from),
             passes: 5,
             only: None,
             against: None,

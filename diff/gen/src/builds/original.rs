@@ -11,17 +11,18 @@ pub const VERSION: &str = "0.18.1";
 
 const PACKAGE: &str = "atoi_simd";
 
-/// The crate. A folder holds it in `atoi_simd`, beside the crates that it uses.
+/// The crate. A folder is that of the crate, or holds it in `atoi_simd`, beside what it uses.
 pub fn dependency(folder: Option<&Path>) -> Result<Dependency, String> {
     let Some(folder) = folder else {
         return Ok(Dependency::of_registry(PACKAGE, &format!("={VERSION}")));
     };
     let top = fs::canonicalize(folder).map_err(|error| failed(folder, error))?;
-    let manifest = top.join(PACKAGE).join("Cargo.toml");
+    let package = if top.join("Cargo.toml").is_file() { top.clone() } else { top.join(PACKAGE) };
+    let manifest = package.join("Cargo.toml");
     let text = fs::read_to_string(&manifest).map_err(|error| failed(&manifest, error))?;
     if !text.lines().any(|line| line == format!("version = \"{VERSION}\"")) {
         return Err(format!("{} is not of version {VERSION}", manifest.display()));
     }
     let contents = Stamp::new().with_folder(&top)?;
-    Ok(Dependency::of_folder(PACKAGE, PACKAGE, &top.join(PACKAGE), contents))
+    Ok(Dependency::of_folder(PACKAGE, PACKAGE, &package, contents))
 }
