@@ -16,6 +16,8 @@ mod differences;
 #[cfg(test)]
 mod error_texts;
 #[cfg(test)]
+mod fields;
+#[cfg(test)]
 mod formats;
 #[cfg(test)]
 mod kernels;

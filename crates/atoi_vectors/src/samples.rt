@@ -1,6 +1,6 @@
 //! Calls and their results, which README.md and the pages CALLING.md show.
 
-use atoi_column::{Column, ColumnError, is_separator};
+use atoi_column::{Column, ColumnError, FieldError, Fields, is_separator};
 use atoi_simd::{
     AtoiSimdError, parse, parse_neg, parse_pos, parse_prefix, parse_prefix_neg, parse_prefix_pos,
 };
@@ -63,6 +63,21 @@ fn items_of_a_column(rt: HostRuntime) {
     assert_eq!(rt; column.next(), Some(Ok(2)));
     assert_eq!(rt; column.next(), Some(Ok(3)));
     assert_eq!(rt; column.next(), None);
+}
+
+#[test]
+fn items_of_fields(rt: HostRuntime) {
+    let mut fields = Fields::<u8>::new(b"1,x2,3", b',');
+    let error = FieldError {
+        index: 1,
+        place: 2,
+        text: b"x2",
+        cause: AtoiSimdError::Empty,
+    };
+    assert_eq!(rt; fields.next(), Some(Ok(1)));
+    assert_eq!(rt; fields.next(), Some(Err(error)));
+    assert_eq!(rt; fields.next(), Some(Ok(3)));
+    assert_eq!(rt; fields.next(), None);
 }
 
 #[test]
@@ -140,6 +155,33 @@ fn a_loop_over_a_column(rt: HostRuntime) -> Result<(), Fail> {
     assert_eq!(rt;
         text.as_str(),
         "field 1: no separator after the number, at offset 3"
+    );
+    Ok(())
+}
+
+// Adds up one number per line. Returns the total, and what is wrong with the first line that is not
+// a number.
+fn total_and_fault(input: &[u8]) -> (u64, Option<FieldError<'_>>) {
+    let mut total = 0u64;
+    let mut fault = None;
+    for item in Fields::<u32>::lines(input) {
+        match item {
+            Ok(number) => total = total.saturating_add(u64::from(number)),
+            Err(error) => fault = fault.or(Some(error)),
+        }
+    }
+    (total, fault)
+}
+
+#[test]
+fn a_loop_over_lines(rt: HostRuntime) -> Result<(), Fail> {
+    assert_eq!(rt; total_and_fault(b"1\r\n2\r\n"), (3, None));
+    let (total, fault) = total_and_fault(b"1\n2a\n3\n\n");
+    assert_eq!(rt; total, 4);
+    let text = format!(in rt.alloc(); "{}", fault.expect(&rt, "a fault"))?;
+    assert_eq!(rt;
+        text.as_str(),
+        "field 1 at byte 2 is not a number: atoi_simd invalid at index: 1 it must contain only digits, starting with: 2  input: [32, 61]"
     );
     Ok(())
 }
