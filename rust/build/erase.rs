@@ -241,6 +241,7 @@ impl<'a> Eraser<'a> {
                 self.is_hinted = true;
                 self.replace(token, None);
             }
+            Some((&"cold", _)) => self.replace(token, None),
             Some((&"tactic", _)) => self.leave_out(token),
             Some((&"derive", derived)) => self.derive(token, derived)?,
             _ => return Err("an attribute that is not known here".into()),

@@ -179,8 +179,9 @@ fn read_field_cold<'a, T: Parse>(
     }
 }
 
-// Returns the item of the first field of `rest`, and what follows its separator. Never inlined: only
-// a field that is not accepted needs it.
+// Returns the item of the first field of `rest`, and what follows its separator. Only a field that is
+// not accepted needs it, so it is never inlined, and the registers are left to the others.
+#[cold]
 #[inline(never)]
 fn read_field<'a, T: Parse>(
     rest: &'a [u8],
