@@ -72,11 +72,12 @@ impl Engine for Words {
             Ok((first.number, first.len as usize))
         } else {
             let back = window_after_16(s, steps);
-            // Sixteen digits fit in any type of 64 bits.
-            if back.len == 0 {
-                return Ok((first.number, 16));
-            }
-            let number = append_digits(first.number, back.len, back.number);
+            // Many numbers have 16 digits. They need no product.
+            let number = if back.len == 0 {
+                u128::from(first.number)
+            } else {
+                append_digits(first.number, back.len, back.number)
+            };
             answer_64(bound, limit, 0, 16 + back.len, number, s)
         }
     }

@@ -312,17 +312,8 @@ narrow_decides {table} {s} {w = w} {len} after_skip len_is bound high =
           ∙ grind (arith, nat_tests))
     ]
 
--- ---- A number of 16 digits
-
--- After a full window without a digit after it, 64 bits are enough.
-pub answers_ended : {table : Table} → IsBelowTen table → (bound limit : ℕ) {skip : Bool} {s : List ℕ} {at before now : ℕ} {first_window back : Window} {number len : ℕ} →
-    limit < 24 → 16 < limit → HasDigits limit bound → Skipped table skip s at before now first_window → 16 ≤ first_window.len →
-    Shows table 8 (drop 16 (drop at s)) back → back.len ≡ 0 → number ≡ first_window.number → len ≡ at + 16 →
-    Ok (number, len) ≡ prefix_magnitude table wide64 bound limit skip s
-answers_ended ten bound limit {at = at} {first_window = first_window} {back = back} {number = number} {len = len} less long digits after_skip full following none number_is len_is =
-    let both = Shows-join after_skip.window full following in
-    let decides = short ten wide64 bound limit less digits after_skip.skipped both (omega arith) (omega arith) in
-    let nothing : back.number < 10 ^ 0 = rw none at following.below in
-    let all : number ≡ first_window.number * 10 ^ back.len + back.number = rw none (omega (arith, nothing)) in
-    let total : len ≡ at + (16 + back.len) = omega arith in
-    rw (all, total) (sym (decides.1 ∙ rw (ne_eqb (at + (16 + back.len)) 0 (omega arith)) refl))
+-- A window without a digit adds nothing to the number before it.
+pub followed_by_none : (high len number : ℕ) → len ≡ 0 → number < 10 ^ len → high ≡ high * 10 ^ len + number
+followed_by_none high len number none below =
+    let nothing : number < 10 ^ 0 = rw none at below in
+    rw none (omega (arith, nothing))

@@ -1,13 +1,13 @@
 -- A first window without zeros to skip decides, if full with the 8 bytes after it.
-use Rattle.std.proofs.Common.{◌≡◌, ℕ, ◌⊎◌, ◌≤◌, true, false, inl, inr, refl, ◌∙◌, arith, drop, ne_eqb}
+use Rattle.std.proofs.Common.{◌≡◌, ℕ, ◌+◌, ◌*◌, ◌^◌, ◌⊎◌, ◌≤◌, true, false, inl, inr, refl, ◌∙◌, arith, drop, ne_eqb}
 use Rattle.std.proofs.lemmas.List.Sums.{prefix_len-le-length}
 use Rattle.atoi_core.specs.Digit.{decimal_table, is_digit}
 use Rattle.atoi_core.specs.Magnitude.{wide64}
 use Rattle.atoi_core.proofs.lemmas.Runs.{decimal_below_ten}
 use Rattle.atoi_core.proofs.lemmas.Windows.{Skipped, Skipped-at_once, Skipped-loads, Shows, shows}
-use Rattle.atoi_core.proofs.lemmas.LoopAnswers.{answers_empty, answers_short, answers_64, answers_ended}
+use Rattle.atoi_core.proofs.lemmas.LoopAnswers.{answers_empty, answers_short, answers_64, followed_by_none}
 use Rattle.atoi_core.proofs.word_engine.WordsEngine.prefix_64.Goals as goal
-use Rattle.atoi_core.proofs.word_engine.WordsEngine.prefix_64.Goals.{After-window-first, After-window_after_16-back}
+use Rattle.atoi_core.proofs.word_engine.WordsEngine.prefix_64.Goals.{After-window-first, After-window_after_16-back, then-back-eq0, else-back-eq0}
 
 -- What holds if zeros are not skipped, or the first window reports none.
 last : (c : After-window-first) → (c.args.skip ≡ true × c.window-first.result.zeroes ≤ 0) ⊎ (c.args.skip ≡ false)
@@ -42,17 +42,6 @@ window_after_16-back-requires c =
 following : (c : After-window_after_16-back) → Shows decimal_table 8 (drop 16 c.args.s.now) c.window_after_16-back.result
 following c = shows decimal_below_ten 8 (drop 16 c.args.s.now) c.window_after_16-back.ensures.window
 
-pub returns-then-back-eq0-clause-answer : goal.returns-then-back-eq0-clause-answer
-returns-then-back-eq0-clause-answer c =
-    let back = following (goal.at.returns-then-back-eq0-clause-answer c).After-window_after_16-back in
-    let after_skip = last (goal.at.returns-then-back-eq0-clause-answer c).After-window-first c.else-skip.either in
-    answers_ended decimal_below_ten _ _ (omega arith) (omega arith) c.requires.digits after_skip c.if-first-lt16.false back c.if-back-eq0.true refl refl
-
-pub returns-then-back-eq0-clause-loads : goal.returns-then-back-eq0-clause-loads
-returns-then-back-eq0-clause-loads c =
-    let after_skip = last (goal.at.returns-then-back-eq0-clause-loads c).After-window-first c.else-skip.either in
-    Skipped-loads after_skip 1 (omega (arith, c.window_after_16-back.ensures.one_step)) (omega arith) (omega arith)
-
 pub append_digits-number-requires : goal.append_digits-number-requires
 append_digits-number-requires c = omega (arith, (following (goal.at.append_digits-number-requires c).After-window_after_16-back).len_is)
 
@@ -65,14 +54,18 @@ answer_64-requires c =
     let after_skip = last (goal.at.answer_64-requires c).After-window-first c.else-skip.either in
     record { inside = (answers_64 c.args.bound c.args.limit (omega arith) after_skip c.if-first-lt16.false back).0 }
 
-pub returns-else-back-eq0-clause-answer : goal.returns-else-back-eq0-clause-answer
-returns-else-back-eq0-clause-answer c =
-    let back = following (goal.at.returns-else-back-eq0-clause-answer c).After-window_after_16-back in
-    let after_skip = last (goal.at.returns-else-back-eq0-clause-answer c).After-window-first c.else-skip.either in
-    rw c.append_digits-number.ensures at c.answer_64.ensures
-    ∙ (answers_64 c.args.bound c.args.limit (omega arith) after_skip c.if-first-lt16.false back).1
+pub returns-after-back-eq0-clause-answer : goal.returns-after-back-eq0-clause-answer
+returns-after-back-eq0-clause-answer c =
+    let back = following (goal.at.returns-after-back-eq0-clause-answer c).After-window_after_16-back in
+    let after_skip = last (goal.at.returns-after-back-eq0-clause-answer c).After-window-first c.else-skip.either in
+    let both : c.if-back-eq0.number ≡ c.window-first.result.number * 10 ^ c.window_after_16-back.result.len + c.window_after_16-back.result.number =
+    elim c.if-back-eq0.branch [
+      | then-back-eq0 w ↦ w.number-is ∙ w.from-number.ensures ∙ followed_by_none _ _ _ w.if-back-eq0.true back.below
+      | else-back-eq0 w ↦ w.number-is ∙ w.append_digits-number.ensures
+    ] in
+    rw both at c.answer_64.ensures ∙ (answers_64 c.args.bound c.args.limit (omega arith) after_skip c.if-first-lt16.false back).1
 
-pub returns-else-back-eq0-clause-loads : goal.returns-else-back-eq0-clause-loads
-returns-else-back-eq0-clause-loads c =
-    let after_skip = last (goal.at.returns-else-back-eq0-clause-loads c).After-window-first c.else-skip.either in
+pub returns-after-back-eq0-clause-loads : goal.returns-after-back-eq0-clause-loads
+returns-after-back-eq0-clause-loads c =
+    let after_skip = last (goal.at.returns-after-back-eq0-clause-loads c).After-window-first c.else-skip.either in
     Skipped-loads after_skip 1 (omega (arith, c.window_after_16-back.ensures.one_step)) (omega arith) (omega arith)
