@@ -25,8 +25,10 @@ pub fn is_separator(byte: u8) -> bool
 /// error and ends the column: `1,002,x` has the items `Ok(1)`, `Ok(2)` and an error.
 #[derive(Drop)]
 pub struct Column<'a, T: Parse> {
-    // What is still to be read: nothing at the end, and after an error.
+    // What is still to be read.
     rest: &'a [u8],
+    // Set after the last field, and after an error.
+    has_ended: bool,
     separator: u8,
     // The index of the first field of `rest`, and the offset of its first byte in the input.
     index: usize,
@@ -35,7 +37,7 @@ pub struct Column<'a, T: Parse> {
 }
 
 impl<'a, T: Parse> Model for Column<'a, T> {
-    ghost use Rattle.std.specs.Prelude.{List, Result, ℤ};
+    ghost use Rattle.std.specs.Prelude.{List, [], Result, ℤ, if◌then◌else◌};
     ghost use Rattle.atoi_column.specs.Items.{Flaw};
 
     ghost Value = { List (Result ℤ Flaw) };
@@ -43,7 +45,7 @@ impl<'a, T: Parse> Model for Column<'a, T> {
     ghost use Rattle.atoi_column.specs.Items.{items_left};
     ghost use Rattle.atoi_column.specs.Position.{IsPosition};
 
-    ghost view = { λ column. items_left T.int_type
+    ghost view = { λ column. if column.has_ended then [] else items_left T.int_type
         column.separator column.index column.place column.rest.now };
 
     ghost invariant = { λ column. IsPosition column.separator column.index column.place
@@ -63,6 +65,7 @@ impl<'a, T: Parse> Column<'a, T> {
         prefix_of_cut::<T>();
         Column {
             rest: input,
+            has_ended: false,
             separator,
             index: 0,
             place: 0,
@@ -96,11 +99,11 @@ impl<'a, T: Parse> Iterator for Column<'a, T> {
     fn next(&mut self) -> Option<Result<T, ColumnError<'a>>> {
         fields_are_prefixes::<T>();
         let (rest, index, place) = (self.rest, self.index, self.place);
-        if rest.is_empty() {
+        if self.has_ended || rest.is_empty() {
             return None;
         }
-        // Nothing is left to read unless a separator is found.
-        self.rest = &[];
+        // No item follows unless a separator is found.
+        self.has_ended = true;
         let (value, count) = match parse_prefix::<T, true, true>(rest) {
             Ok(found) => found,
             Err(cause) => return Some(Err(ColumnError::Field {
@@ -112,6 +115,7 @@ impl<'a, T: Parse> Iterator for Column<'a, T> {
         match rest[count..].split_first() {
             None => Some(Ok(value)),
             Some((byte, following)) if *byte == self.separator => {
+                self.has_ended = false;
                 self.rest = following;
                 self.index = index + 1;
                 self.place = place + count + 1;
