@@ -1,6 +1,6 @@
 -- The items of `Fields`: for each field, in order, its value or an error.
-use Rattle.std.specs.Prelude.{◌≡◌, ℕ, ◌+◌, ◌-◌, ◌==◌, ◌&&◌, Bool, true, false, if◌then◌else◌, ℤ, Option, None, Some, Result, Ok, Err, List, [], ◌∷◌, length}
-use Rattle.std.specs.List.{slice_split, position_or_len, before_first, after_first}
+use Rattle.std.specs.Prelude.{ℕ, ◌+◌, ◌-◌, ◌==◌, Bool, true, false, if◌then◌else◌, ℤ, Result, Ok, Err, List, [], ◌∷◌, length}
+use Rattle.std.specs.List.{slice_split}
 use Rattle.std.specs.Str.Lines.{strip_carriage_return}
 use Rattle.atoi_core.specs.Refusal.{Refusal, refusal_of}
 use Rattle.atoi_core.specs.IntType.{IntType}
@@ -59,26 +59,3 @@ field_items int separator input = field_items_left int false separator 0 (length
 -- The items of its lines.
 abbrev pub line_items : IntType → List ℕ → List (Result ℤ BadField)
 line_items int input = field_items_left int true 10 0 (length input) input
-
--- The text of the first field of `rest`, which the end of the input may end.
-abbrev pub first_text : (cut : List ℕ → List ℕ) (separator : ℕ) → List ℕ → List ℕ
-first_text cut separator rest =
-    if position_or_len (λ byte. byte == separator) rest == length rest then rest
-    else cut (before_first (λ byte. byte == separator) rest)
-
--- What follows a separator, if the bytes begin with one.
-abbrev pub after_separator : (separator : ℕ) → List ℕ → Option (List ℕ)
-after_separator separator [] = None
-after_separator separator (byte ∷ bytes) = if byte == separator then Some bytes else None
-
--- What follows a field that ends before these bytes, if one does: none are left, or a separator
--- comes first, of a line perhaps after a carriage return.
-abbrev pub after_field : (trims : Bool) (separator : ℕ) → List ℕ → Option (List ℕ)
-after_field trims separator [] = Some []
-after_field trims separator (byte ∷ bytes) =
-    if byte == separator then Some bytes else (if trims && byte == 13 then after_separator separator bytes else None)
-
--- `parse` returns `number` for the first field of `rest`, and `following` comes after the field.
-pub record IsAcceptedField (int : IntType) (trims : Bool) (separator : ℕ) (rest : List ℕ) (number : ℤ) (following : List ℕ) : Type 0 where
-  pub accepted : parse_answer int true true (first_text (cut_of trims) separator rest) ≡ Ok number
-  pub after : following ≡ after_first (λ byte. byte == separator) rest

@@ -5,7 +5,8 @@ ghost use Rattle.std.specs.Option.{option_map};
 ghost use Rattle.std.specs.List.{position_or_len, after_first};
 ghost use Rattle.atoi_core.specs.Answer.{parse_answer};
 ghost use Rattle.atoi_column.specs.Fields.{is_separator};
-ghost use Rattle.atoi_column.specs.FieldItems.{after_field, cut_of, field_item, field_item_of, field_items, first_text, line_items, IsAcceptedField};
+ghost use Rattle.atoi_column.specs.FieldItems.{cut_of, field_item, field_item_of, field_items, line_items};
+ghost use Rattle.atoi_column.specs.FirstField.{after_field, first_text, IsAcceptedField};
 
 use crate::column::fields_are_prefixes;
 use crate::field_error::FieldError;

@@ -11,7 +11,8 @@ use Rattle.atoi_core.specs.Refusal.{Refusal}
 use Rattle.atoi_core.specs.IntType.{IntType}
 use Rattle.atoi_core.specs.Answer.{parse_answer}
 use Rattle.atoi_column.specs.Fields.{without_empty_last}
-use Rattle.atoi_column.specs.FieldItems.{BadField, cut_of, field_item, items_of_parts, field_items_left, first_text}
+use Rattle.atoi_column.specs.FieldItems.{BadField, cut_of, field_item, items_of_parts, field_items_left}
+use Rattle.atoi_column.specs.FirstField.{first_text}
 use Rattle.atoi_column.proofs.lemmas.Fields.{length-fields_of}
 
 module _ (cut : List ℕ → List ℕ) (answer : List ℕ → Result ℤ Refusal) where

@@ -12,7 +12,8 @@ use Rattle.atoi_core.specs.Answer.{parse_prefix_answer}
 use Rattle.atoi_core.specs.Text.{SignMark, no_sign, plus, minus, sign_bytes, TextWrites}
 use Rattle.atoi_core.specs.Laws.{AcceptedTexts}
 use Rattle.atoi_column.specs.Fields.{is_separator}
-use Rattle.atoi_column.specs.FieldItems.{after_separator, after_field, cut_of, IsAcceptedField}
+use Rattle.atoi_column.specs.FieldItems.{cut_of}
+use Rattle.atoi_column.specs.FirstField.{after_separator, after_field, IsAcceptedField}
 use Rattle.atoi_column.specs.Laws.{FieldsArePrefixes}
 use Rattle.atoi_column.proofs.lemmas.Items.{drop_first}
 
