@@ -27,10 +27,20 @@ pub struct Dependency {
 impl Dependency {
     /// A crate from Debian's packages, or else of this version from crates.io.
     pub fn of_registry(package: &'static str, version: &str) -> Dependency {
-        let debian = debian_version(package);
-        let line = format!("{package} = \"{}\"", debian.as_deref().unwrap_or(version));
-        let is_in_debian = debian.is_some();
-        Dependency { package, line, contents: Stamp::new(), is_in_debian, needs_nightly: false }
+        match debian_version(package) {
+            Some(version) => {
+                let dependency = Dependency::of_crates_io(package, &version);
+                Dependency { is_in_debian: true, ..dependency }
+            }
+            None => Dependency::of_crates_io(package, version),
+        }
+    }
+
+    /// A crate of this version from crates.io.
+    pub fn of_crates_io(package: &'static str, version: &str) -> Dependency {
+        let line = format!("{package} = \"{version}\"");
+        let (contents, is_in_debian, needs_nightly) = (Stamp::new(), false, false);
+        Dependency { package, line, contents, is_in_debian, needs_nightly }
     }
 
     /// A crate in a folder, under the name that the source uses. `contents` are its files.

@@ -14,7 +14,7 @@ const PACKAGE: &str = "atoi_simd";
 /// The crate. A folder is that of the crate, or holds it in `atoi_simd`, beside what it uses.
 pub fn dependency(folder: Option<&Path>) -> Result<Dependency, String> {
     let Some(folder) = folder else {
-        return Ok(Dependency::of_registry(PACKAGE, &format!("={VERSION}")));
+        return Ok(Dependency::of_crates_io(PACKAGE, &format!("={VERSION}")));
     };
     let top = fs::canonicalize(folder).map_err(|error| failed(folder, error))?;
     let package = if top.join("Cargo.toml").is_file() { top.clone() } else { top.join(PACKAGE) };
