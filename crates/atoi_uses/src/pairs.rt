@@ -11,8 +11,8 @@ use atoi_formats::number_then;
 ///
 /// # Errors
 ///
-/// Returns the total so far and what is left of `text`, from the first byte where no pair begins, or
-/// a pair with which the total would be out of range.
+/// Returns the total so far and the rest of `text`, if the rest begins with no pair, or with one that
+/// would take the total out of the range of `i64`.
 #[tactic(auto, using(crate::specs::Pairs::no_pair, crate::specs::Pairs::one_more))]
 pub fn total_of_pairs(text: &[u8]) -> Result<i64, (i64, &[u8])>
     ensures total { IfOk result (λ total. HavePairs text.now total []) }
