@@ -54,6 +54,10 @@ impl<'a, T: Parse> Model for Column<'a, T> {
 
 impl<'a, T: Parse> Column<'a, T> {
     /// Makes a column of the fields of `input`.
+    ///
+    /// # Panics
+    ///
+    /// In Rust, if `separator` is a digit, `+` or `-`.
     #[inline]
     pub fn new(input: &'a [u8], separator: u8) -> Column<'a, T>
         requires { is_separator separator ≡ true }

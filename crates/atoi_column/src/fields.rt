@@ -48,7 +48,11 @@ impl<'a, T: Parse> Model for Fields<'a, T> {
 }
 
 impl<'a, T: Parse> Fields<'a, T> {
-    /// The fields of `input`, with a separator between them. One more may follow the last field.
+    /// The fields of `input`. A separator after the last one is optional.
+    ///
+    /// # Panics
+    ///
+    /// In Rust, if `separator` is a digit, `+` or `-`.
     #[inline]
     pub fn new(input: &'a [u8], separator: u8) -> Fields<'a, T>
         requires { is_separator separator ≡ true }
@@ -87,7 +91,7 @@ impl<'a, T: Parse> Fields<'a, T> {
     }
 }
 
-// There is no `size_hint`: the number of fields is not known before they are read.
+// There is no `size_hint`, as for `Column`.
 impl<'a, T: Parse> Iterator for Fields<'a, T> {
     type Item = Result<T, FieldError<'a>>;
 
@@ -128,7 +132,7 @@ impl<'a, T: Parse> Iterator for Fields<'a, T> {
 impl<'a, T: Parse> FusedIterator for Fields<'a, T> {}
 
 // Returns the value of the first field of `rest` and what follows its separator, if the field ends
-// where the number at its start ends: then its end need not be looked for.
+// where the number at its start ends.
 #[inline(always)]
 fn accepted_field<T: Parse>(rest: &[u8], separator: u8, trims: bool) -> Option<(T, &[u8])>
     ensures { is_separator separator ≡ true → IfSome result (λ found. IsAcceptedField T.int_type
@@ -160,7 +164,7 @@ fn after_field(tail: &[u8], separator: u8, trims: bool) -> Option<&[u8]>
     }
 }
 
-// Cold: see DECISIONS.
+// Inlined, around a function that is not: only this path zeroes the result's stack slot.
 #[inline(always)]
 fn read_field_cold<'a, T: Parse>(
     rest: &'a [u8],
@@ -180,8 +184,8 @@ fn read_field_cold<'a, T: Parse>(
     }
 }
 
-// Returns the item of the first field of `rest`, and what follows its separator. Only a field that is
-// not accepted needs it, so it is never inlined, and the registers are left to the others.
+// Returns the item of the first field of `rest`, and what follows its separator. Never inlined, so
+// that the registers are left to the good fields.
 #[cold]
 #[inline(never)]
 fn read_field<'a, T: Parse>(

@@ -28,8 +28,8 @@ pub trait Engine {
         ensures window { result ≡ window_of table 8 s.now }
         ensures one_step { steps.new ≡ steps.old + 1 };
 
-    /// Skips zeros window by window, from a first window that reported `zeroes`. Returns the offset of the
-    /// first window that reports no zeros, and that window.
+    /// Skips zeros window by window, from a first window that reported `zeroes`. Returns the first
+    /// window that reports none, after its offset.
     #[inline(always)]
     #[tactic(auto, using(std::proofs::lemmas::List::take_rest))]
     fn window_after_zeros(zeroes: u32, s: &[u8], steps: &mut Steps) -> (usize, Window)

@@ -1,5 +1,5 @@
-//! Functions on words by the steps of the Rust crate `atoi_simd`, for comparison with it. No parse runs
-//! them: `word_digits` has the forms that parses run.
+//! Functions on words by the steps of the Rust crate `atoi_simd`, for comparison. Parses run the forms
+//! in `word_digits`.
 ghost use Rattle.std.specs.Prelude.{◌≡◌, ◌≤◌};
 ghost use Rattle.atoi_core.specs.Digit.{decimal_table};
 ghost use Rattle.atoi_core.specs.Run.{run_len, zeros};

@@ -6,18 +6,14 @@ use std::fmt::Display;
 use std::io;
 use std::io::{ErrorKind, Read, Write};
 
-/// A reader of which one call fails.
+/// A reader of `rest` that returns at most `part` bytes a call. Call number `failing`, counted from
+/// 1, fails with `error`; 0 is no call.
 #[derive(Drop)]
 pub(crate) struct FailingReader<'a> {
-    /// The bytes that are still to come.
     pub(crate) rest: &'a [u8],
-    /// The largest number of bytes that a call returns.
     pub(crate) part: usize,
-    /// Which call from here on fails, counted from 1; 0 is no call.
     pub(crate) failing: usize,
-    /// The error of this call.
     pub(crate) error: ErrorKind,
-    /// How many calls there were.
     pub(crate) reads: usize,
 }
 
@@ -57,22 +53,16 @@ pub(crate) enum Full {
     TakesNone,
 }
 
-/// A writer that can be full.
+/// A writer that accepts at most `part` bytes a call, and `room` bytes until it is full. A call on a
+/// full writer accepts nothing, and then there is room for `room_then` more bytes.
 #[derive(Drop)]
 pub(crate) struct LimitedWriter {
-    /// The bytes that were written.
     pub(crate) contents: Vec<u8>,
-    /// The largest number of bytes that a call accepts.
     pub(crate) part: usize,
-    /// How many bytes there is room for.
     pub(crate) room: usize,
-    /// The same after a call that found no room.
     pub(crate) room_then: usize,
-    /// What such a call does.
     pub(crate) full: Full,
-    /// How many calls of `write` there were.
     pub(crate) writes: usize,
-    /// How many calls of `flush` there were.
     pub(crate) flushes: usize,
 }
 
@@ -114,14 +104,11 @@ impl Write for LimitedWriter {
     }
 }
 
-/// A stream of standard error whose first calls can fail.
+/// A stream of standard error whose calls fail until call number `first`, counted from 1.
 #[derive(Drop)]
 pub(crate) struct Errors {
-    /// What was printed.
     pub(crate) reported: RefCell<Vec<u8>>,
-    /// How many calls there were.
     pub(crate) calls: Cell<usize>,
-    /// The first call that does not fail, counted from 1.
     pub(crate) first: usize,
 }
 

@@ -1,4 +1,4 @@
-//! Reads pairs to the end of a text: a loop over what is left.
+//! Reads pairs to the end of a text.
 ghost use Rattle.std.specs.Prelude.{◌≡◌, ◌≢◌, ◌<◌, ◌++◌, ◌+ℤ◌, ℤ, List, ℕ, [], length, codes, FitsSigned, IfOk, IfErr, IfSome, IfNone};
 ghost use Rattle.std.specs.Int.{w64};
 ghost use Rattle.atoi_formats.specs.Formats.{IsNumber};
@@ -11,8 +11,8 @@ use atoi_formats::number_then;
 ///
 /// # Errors
 ///
-/// Returns the total so far and the rest of `text`, if the rest begins with no pair, or with one that
-/// would take the total out of the range of `i64`.
+/// Returns the total so far and the rest of `text`, if no pair follows, or one that would take the
+/// total out of range.
 #[tactic(auto, using(crate::specs::Pairs::no_pair, crate::specs::Pairs::one_more))]
 pub fn total_of_pairs(text: &[u8]) -> Result<i64, (i64, &[u8])>
     ensures total { IfOk result (λ total. HavePairs text.now total []) }
