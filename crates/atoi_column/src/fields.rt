@@ -1,4 +1,4 @@
-//! An iterator over all fields of a byte slice, which goes on after a field that is not a number.
+//! An iterator over the fields of a byte slice, which goes on after an error.
 ghost use Rattle.std.specs.Prelude.{◌≡◌, ◌<◌, ◌≤◌, ◌==◌, true, length, All, IfSome, IfErr};
 ghost use Rattle.std.specs.Iterator.{YieldsFirstBy, item_count};
 ghost use Rattle.std.specs.Option.{option_map};
@@ -15,9 +15,9 @@ use atoi_simd::{Parse, parse, parse_prefix};
 use std::iter::FusedIterator;
 use std::marker::{Model, PhantomData};
 
-/// The fields of a byte slice, each but the last ended by a separator: the value of each, or an error
-/// for a field that `atoi_simd::parse::<T, true, true>` refuses. `1,x,3` has the items `Ok(1)`, an
-/// error and `Ok(3)`.
+/// The fields of a byte slice, each but the last ended by a separator. The item of a field that
+/// `atoi_simd::parse::<T, true, true>` refuses is an error: `1,x,3` has the items `Ok(1)`, an error
+/// and `Ok(3)`.
 #[derive(Drop)]
 pub struct Fields<'a, T: Parse> {
     // What is still to be read.
@@ -48,7 +48,7 @@ impl<'a, T: Parse> Model for Fields<'a, T> {
 }
 
 impl<'a, T: Parse> Fields<'a, T> {
-    /// The fields of `input`. A separator after the last one is optional.
+    /// The fields of `input`, with a separator between them. One more may follow the last field.
     ///
     /// # Panics
     ///
@@ -91,7 +91,6 @@ impl<'a, T: Parse> Fields<'a, T> {
     }
 }
 
-// There is no `size_hint`, as for `Column`.
 impl<'a, T: Parse> Iterator for Fields<'a, T> {
     type Item = Result<T, FieldError<'a>>;
 
@@ -132,7 +131,7 @@ impl<'a, T: Parse> Iterator for Fields<'a, T> {
 impl<'a, T: Parse> FusedIterator for Fields<'a, T> {}
 
 // Returns the value of the first field of `rest` and what follows its separator, if the field ends
-// where the number at its start ends.
+// with the number at its start.
 #[inline(always)]
 fn accepted_field<T: Parse>(rest: &[u8], separator: u8, trims: bool) -> Option<(T, &[u8])>
     ensures { is_separator separator ≡ true → IfSome result (λ found. IsAcceptedField T.int_type
@@ -184,8 +183,7 @@ fn read_field_cold<'a, T: Parse>(
     }
 }
 
-// Returns the item of the first field of `rest`, and what follows its separator. Never inlined, so
-// that the registers are left to the good fields.
+// Returns the item of the first field of `rest`, and what follows its separator.
 #[cold]
 #[inline(never)]
 fn read_field<'a, T: Parse>(
