@@ -28,8 +28,8 @@ pub trait Engine {
         ensures window { result ≡ window_of table 8 s.now }
         ensures one_step { steps.new ≡ steps.old + 1 };
 
-    /// Skips zeros window by window, from a first window that reported `zeroes`. Returns the first
-    /// window that reports none, after its offset.
+    /// Skips zeros window by window, from a first window that reported `zeroes`. Returns the
+    /// offset of the first window that reports none, and that window.
     #[inline(always)]
     #[tactic(auto, using(std::proofs::lemmas::List::take_rest))]
     fn window_after_zeros(zeroes: u32, s: &[u8], steps: &mut Steps) -> (usize, Window)
@@ -90,8 +90,8 @@ pub trait Engine {
         answer_64(bound, limit, at, 16 + second.len, number, s)
     }
 
-    /// The same as `prefix_64`, for 128 bits, where the limit is 39 digits. May make two loads less than a
-    /// core call, which may load two windows before it calls this method.
+    /// The same as `prefix_64`, for 128 bits, where the limit is 39 digits. May make two fewer loads
+    /// than a core call, which may load two windows before it calls this method.
     ///
     /// # Errors
     ///
