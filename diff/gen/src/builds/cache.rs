@@ -65,11 +65,13 @@ impl Cache {
         let folder = self.folder("objects").join(name);
         if !folder.is_dir() {
             eprintln!("building {name}");
-            let objects = compile(&self.empty_folder("compiled")?)?;
-            let room = self.empty_folder("placed")?;
-            place(&objects, exports, &room)?;
+            // Another run of this program may build something else meanwhile.
+            let own = |name| self.empty_folder(&format!("{name}-{}", std::process::id()));
+            let (compiled, room) = (own("compiled")?, own("placed")?);
+            place(&compile(&compiled)?, exports, &room)?;
             fs::create_dir_all(self.folder("objects")).map_err(|error| failed(&folder, error))?;
             fs::rename(&room, &folder).map_err(|error| failed(&folder, error))?;
+            fs::remove_dir_all(&compiled).map_err(|error| failed(&compiled, error))?;
         }
         Ok(Placed::in_folder(&folder))
     }
