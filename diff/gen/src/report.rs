@@ -12,6 +12,9 @@ const SLOWER: f64 = 1.02;
 // If more sides are compared, their ratios are not printed for each line.
 const SHOWN: usize = 6;
 
+// If more sides are compared, the lines on which we are slower are told once more.
+const FEW: usize = 2;
+
 /// The times of several sides.
 pub struct Table {
     /// What a time is, as `nanoseconds per call`.
@@ -51,7 +54,7 @@ impl Table {
             spread = self.print_ratios(pair).max(spread);
         }
         println!();
-        if !has_ratios(&comparisons) {
+        if comparisons.len() > FEW {
             comparisons.iter().for_each(|comparison| self.print_slower(comparison));
         }
         if spread > BUSY {
