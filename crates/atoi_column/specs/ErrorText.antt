@@ -6,9 +6,9 @@ use Rattle.atoi_column.specs.FieldItems.{BadField}
 
 abbrev pub flaw_text : Flaw → List ℕ
 flaw_text (field index place reason) =
-    codes "field " ++ decimal index ++ codes " at byte " ++ decimal place ++ codes " is no number: " ++ error_text reason
+    codes "field " ++ decimal index ++ codes " at byte " ++ decimal place ++ codes " is not a number: " ++ error_text reason
 flaw_text (trailing index place) =
-    codes "field " ++ decimal index ++ codes " goes on after its number, at byte " ++ decimal place
+    codes "field " ++ decimal index ++ codes " has an unexpected byte at offset " ++ decimal place
 
 abbrev pub bad_field_text : BadField → List ℕ
 bad_field_text bad =

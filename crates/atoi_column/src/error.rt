@@ -78,9 +78,9 @@ impl fmt::Display for ColumnError<'_> {
                 index,
                 place,
                 cause,
-            } => write!(f, "field {index} at byte {place} is no number: {cause}"),
+            } => write!(f, "field {index} at byte {place} is not a number: {cause}"),
             ColumnError::Trailing { index, place } => {
-                write!(f, "field {index} goes on after its number, at byte {place}")
+                write!(f, "field {index} has an unexpected byte at offset {place}")
             }
         }
     }

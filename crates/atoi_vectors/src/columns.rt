@@ -86,7 +86,7 @@ fn an_error_prints_its_index_place_and_cause(rt: HostRuntime) -> Result<(), Fail
     gives(
         &rt,
         printed(rt.alloc(), &trailing)?.as_str(),
-        "field 1 goes on after its number, at byte 7",
+        "field 1 has an unexpected byte at offset 7",
     );
     let field = ColumnError::Field {
         index: 2,
@@ -96,7 +96,7 @@ fn an_error_prints_its_index_place_and_cause(rt: HostRuntime) -> Result<(), Fail
     gives(
         &rt,
         printed(rt.alloc(), &field)?.as_str(),
-        "field 2 at byte 5 is no number: atoi_simd overflow, input: [32, 35, 36]",
+        "field 2 at byte 5 is not a number: atoi_simd overflow, input: [32, 35, 36]",
     );
     let longest = ColumnError::Field {
         index: usize::MAX,
@@ -106,7 +106,7 @@ fn an_error_prints_its_index_place_and_cause(rt: HostRuntime) -> Result<(), Fail
     gives(
         &rt,
         printed(rt.alloc(), &longest)?.as_str(),
-        "field 18446744073709551615 at byte 18446744073709551615 is no number: atoi_simd invalid at index: 18446744073709551615 it must contain only digits, starting with: 340282366920938463463374607431768211455 input: [FF, FF, FF, FF, FF, FF, FF, FF, FF, FF, FF, FF, FF, FF, FF, FF, FF, FF, FF, FF, FF, FF, FF, FF, FF, FF, FF, FF, FF, FF, FF, FF, FF, FF, FF, FF, FF, FF, FF, FF, FF, FF, FF, FF, FF, FF, FF, FF]",
+        "field 18446744073709551615 at byte 18446744073709551615 is not a number: atoi_simd invalid at index: 18446744073709551615 it must contain only digits, starting with: 340282366920938463463374607431768211455 input: [FF, FF, FF, FF, FF, FF, FF, FF, FF, FF, FF, FF, FF, FF, FF, FF, FF, FF, FF, FF, FF, FF, FF, FF, FF, FF, FF, FF, FF, FF, FF, FF, FF, FF, FF, FF, FF, FF, FF, FF, FF, FF, FF, FF, FF, FF, FF, FF]",
     );
     Ok(())
 }
