@@ -1,10 +1,9 @@
 //! The reads that parsers make, and the parses of wide integers that they are enough for.
-ghost use Rattle.std.specs.Prelude.{◌≡◌, ◌+◌, ◌-◌, ◌*◌, ◌/◌, ◌<◌, ◌≤◌, nat_lt, if◌then◌else◌, length, drop};
+ghost use Rattle.std.specs.Prelude.{◌≡◌, ◌+◌, ◌-◌, ◌≤◌};
 ghost use Rattle.atoi_core.specs.Digit.{Table, IsBelowTen};
 ghost use Rattle.atoi_core.specs.Loads.{LoadsWithin, most_loads};
 ghost use Rattle.atoi_core.specs.Magnitude.{HasDigits, wide64, wide128, prefix_magnitude};
 ghost use Rattle.atoi_core.specs.Refusal.{answer_of};
-ghost use Rattle.atoi_core.specs.Run.{run_len, zeros};
 ghost use Rattle.atoi_core.specs.Reading.{window_of};
 
 use crate::error::AtoiSimdError;
@@ -14,7 +13,7 @@ use crate::wide_answer::{answer_64, answer_128, found_or_empty};
 use crate::window::Window;
 
 /// An *engine* reads windows, for one table of digits. Each read is one *load*. It may replace the
-/// provided functions by its own, with the same clauses.
+/// two provided parses by its own, with the same clauses.
 pub trait Engine {
     ghost table: { Table };
 
@@ -27,32 +26,6 @@ pub trait Engine {
     fn window_8(s: &[u8], steps: &mut Steps) -> Window
         ensures window { result ≡ window_of table 8 s.now }
         ensures one_step { steps.new ≡ steps.old + 1 };
-
-    /// Skips zeros window by window, from a first window that reported `zeroes`. Returns the
-    /// offset of the first window that reports none, and that window.
-    #[inline(always)]
-    #[tactic(auto, using(std::proofs::lemmas::List::take_rest))]
-    fn window_after_zeros(zeroes: u32, s: &[u8], steps: &mut Steps) -> (usize, Window)
-        requires some { 0 < zeroes }
-        requires first_window { zeroes ≡ (window_of table 16 s.now).zeroes }
-        ensures some { 0 < result.0 }
-        ensures inside { result.0 ≤ length s.now }
-        ensures offset { result.0
-            ≡ (if nat_lt (zeros table s.now / 16) (run_len table s.now / 16)
-            then zeros table s.now else 16 * (zeros table s.now / 16)) }
-        ensures window { result.1 ≡ window_of table 16 (drop result.0 s.now) }
-        ensures no_zeros { result.1.zeroes ≡ 0 }
-        ensures loads { steps.new ≡ steps.old + (result.0 + 15) / 16 }
-    {
-        let mut at = zeroes as usize;
-        loop {
-            let window = Self::window(&s[at..], steps);
-            if window.zeroes == 0 {
-                return (at, window);
-            }
-            at += window.zeroes as usize;
-        }
-    }
 
     /// Parses the integer of 64 bits at the start of `s`, which has no sign, up to `bound`, which
     /// has `limit` digits. With `skip`, leading zeros do not count towards `limit`. Returns the
@@ -75,11 +48,14 @@ pub trait Engine {
         ensures loads { LoadsWithin (most_loads table wide64 s.now) 2 table skip s.now
             steps.old steps.new }
     {
-        let window = Self::window(s, steps);
-        let (at, first) = if skip && window.zeroes > 0 {
-            Self::window_after_zeros(window.zeroes, s, steps)
-        } else {
-            (0, window)
+        let mut at = 0;
+        // The loop stands here: a provided body may not pass `Self` to a function over engines.
+        let first = loop {
+            let window = Self::window(&s[at..], steps);
+            if !skip || window.zeroes == 0 {
+                break window;
+            }
+            at += window.zeroes as usize;
         };
         if first.len < 16 {
             return found_or_empty(first.number, at + first.len as usize);
@@ -90,8 +66,8 @@ pub trait Engine {
         answer_64(bound, limit, at, 16 + second.len, number, s)
     }
 
-    /// The same as `prefix_64`, for 128 bits, where the limit is 39 digits. May make two fewer loads
-    /// than a core call, which may load two windows before it calls this method.
+    /// The same as `prefix_64`, for 128 bits, where the limit is 39 digits. May make two loads less than a
+    /// core call, which may load two windows before it calls this method.
     ///
     /// # Errors
     ///
@@ -107,14 +83,13 @@ pub trait Engine {
         ensures loads { LoadsWithin (most_loads table wide128 s.now - 2) 3 table skip s.now
             steps.old steps.new }
     {
-        // With `window_after_zeros`, numbers with zeros take more instructions.
         let mut at = 0;
         let first = loop {
-            let next = Self::window(&s[at..], steps);
-            if !skip || next.zeroes == 0 {
-                break next;
+            let window = Self::window(&s[at..], steps);
+            if !skip || window.zeroes == 0 {
+                break window;
             }
-            at += next.zeroes as usize;
+            at += window.zeroes as usize;
         };
         if first.len < 16 {
             return found_or_empty(u128::from(first.number), at + first.len as usize);

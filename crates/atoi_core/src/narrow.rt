@@ -10,6 +10,7 @@ use crate::engine::Engine;
 use crate::error::AtoiSimdError;
 use crate::steps::Steps;
 use crate::window::Window;
+use crate::window_loops::window_after_zeros;
 
 /// Parses the digits at the start of `s`, and returns their value, at most `bound`, and their number.
 ///
@@ -97,7 +98,7 @@ fn digits_of_long<E: Engine>(s: &[u8], steps: &mut Steps) -> (usize, u64)
     if window.zeroes == 0 {
         return (window.len as usize, window.number);
     }
-    let (at, last) = E::window_after_zeros(window.zeroes, s, steps);
+    let (at, last) = window_after_zeros::<E>(window.zeroes, s, steps);
     (at + last.len as usize, last.number)
 }
 
@@ -154,7 +155,7 @@ fn narrow_prefix_after_zeros<'a, E: Engine>(
     ensures loads { LoadsWithin (most_loads E.table narrow s.now - 1) 2 E.table true s.now
         steps.old steps.new }
 {
-    let (at, window) = E::window_after_zeros(zeroes, s, steps);
+    let (at, window) = window_after_zeros::<E>(zeroes, s, steps);
     answer_at(bound, at, window, s)
 }
 

@@ -16,6 +16,7 @@ use crate::powers::{append_digits, power_of_ten};
 use crate::steps::Steps;
 use crate::wide_answer::answer_64;
 use crate::window::Window;
+use crate::window_loops::window_after_zeros;
 use crate::word_digits::{
     ZEROS, digits_of, fill_of_zeros, number_in_word, starts_with_digit, sum_of, value_of,
     value_of_fewer, zeroes_of, zeroes_of_two,
@@ -85,6 +86,25 @@ impl Engine for Words {
     ghost below_ten = { λ byte. Prim.grind (arith, nat_tests) };
 }
 
+// `Words` with the provided parsers, for the loop of `Words::prefix_64`: with `Words` itself, the
+// checker would see a cycle, as the loop may call any method of its engine.
+struct WordWindows;
+
+impl Engine for WordWindows {
+    ghost table = { decimal_table };
+
+    #[inline(always)]
+    fn window(s: &[u8], steps: &mut Steps) -> Window {
+        Words::window(s, steps)
+    }
+
+    fn window_8(s: &[u8], steps: &mut Steps) -> Window {
+        Words::window_8(s, steps)
+    }
+
+    ghost below_ten = { λ byte. Prim.grind (arith, nat_tests) };
+}
+
 // Inlined, around a function that is not: only this path zeroes the stack slot of the result.
 #[inline(always)]
 fn prefix_64_cold<'a>(
@@ -129,7 +149,7 @@ fn prefix_64_after_zeros<'a>(
     ensures loads { LoadsWithin (most_loads decimal_table wide64 s.now - 2) 1 decimal_table true
         s.now steps.old steps.new }
 {
-    let (at, first) = Words::window_after_zeros(zeroes, s, steps);
+    let (at, first) = window_after_zeros::<WordWindows>(zeroes, s, steps);
     if first.len < 16 {
         return Ok((first.number, at + first.len as usize));
     }

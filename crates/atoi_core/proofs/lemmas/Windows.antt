@@ -224,17 +224,17 @@ module _ {table : Table} (ten : IsBelowTen table) where
       }
 
   -- After `window_after_zeros`; one load more, for the window before that call.
-  pub Skipped-after_zeros : (s : List ℕ) {at : ℕ} (before : ℕ) {next : ℕ} {w : Window} →
+  pub Skipped-after_zeros : (s : List ℕ) {at : ℕ} (before : ℕ) {now : ℕ} {w : Window} →
       at ≡ (if nat_lt (zeros table s / 16) (run_len table s / 16) then zeros table s else 16 * (zeros table s / 16)) →
-      w ≡ window_of table 16 (drop at s) → w.zeroes ≡ 0 → next ≡ before + 1 + (at + 15) / 16 → Skipped table true s at before next w
-  Skipped-after_zeros s {at} before {next} {w} offset e none loads =
-      let skipping : Skipping table true s at before (before + (at + 15) / 16) =
+      w ≡ window_of table 16 (drop at s) → w.zeroes ≡ 0 → now ≡ before + (at + 15) / 16 → Skipped table true s at before (now + 1) w
+  Skipped-after_zeros s {at} before {now} {w} offset e none loads =
+      let skipping : Skipping table true s at before now =
       record {
         skipped = record { zeros_only = grind (arith, nat_tests); asked = λ h. absurd (cc h) };
         within = grind (arith, nat_tests, zeros-le table s, prefix_len-le-length (is_digit table) s);
         loads = record { most = omega arith; least = omega arith; offset_is = grind (arith, nat_tests) };
       } in
-      Skipped-end skipping (e ∙ ap (window_of table 16) (sym (take_rest s at))) (omega (arith, loads)) (inr (refl, none))
+      Skipped-end skipping (e ∙ ap (window_of table 16) (sym (take_rest s at))) refl (inr (refl, none))
 
   pub Skipping-first_window : (s : List ℕ) (n reported : ℕ) → reported ≡ (window_of table 16 s).zeroes → 0 < reported →
       Skipping table true s reported n (n + 1)

@@ -24,4 +24,4 @@ returns-then-window-eq0-clause-loads g c =
 pub returns-clause-decides : goal.returns-clause-decides
 returns-clause-decides g c =
     let e = c.window_after_zeros-at.ensures in
-    narrow_decides (Skipped-after_zeros g.met.E.Engine.below_ten c.args.s.now c.window-window.new.steps e.offset e.window e.no_zeros refl) refl
+    narrow_decides (Skipped-after_zeros g.met.E.Engine.below_ten c.args.s.now c.window-window.new.steps e.offset e.window e.no_zeros e.loads) refl

@@ -16,7 +16,7 @@ ended : (c : After-window_after_zeros-at)
     Skipped decimal_table true c.args.s.now found.0 c.args.steps.now (c.window_after_zeros-at.new.steps + 1) found.1
 ended c =
     let e = c.window_after_zeros-at.ensures in
-    Skipped-after_zeros decimal_below_ten c.args.s.now c.args.steps.now e.offset e.window e.no_zeros (omega (arith, e.loads))
+    Skipped-after_zeros decimal_below_ten c.args.s.now c.args.steps.now e.offset e.window e.no_zeros e.loads
 
 pub returns-then-first-lt16-clause-answer : goal.returns-then-first-lt16-clause-answer
 returns-then-first-lt16-clause-answer c =

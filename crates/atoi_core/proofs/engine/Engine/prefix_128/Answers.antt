@@ -8,22 +8,22 @@ use Rattle.atoi_core.proofs.lemmas.LoopAnswers.{answers_short, answers_two, answ
 use Rattle.atoi_core.proofs.engine.Engine.prefix_128.Goals as goal
 use Rattle.atoi_core.proofs.engine.Engine.prefix_128.Goals.{Joined-then-not-skip, After-window-second, After-window_8-third}
 
-pub loop-next-init : goal.loop-next-init
-loop-next-init g c = Skipping-none _ c.args.skip c.args.s.now c.args.steps.now
+pub loop-window-init : goal.loop-window-init
+loop-window-init g c = Skipping-none _ c.args.skip c.args.s.now c.args.steps.now
 
 pub slice_bounds-window-count : goal.slice_bounds-window-count
-slice_bounds-window-count g c = c.loop-next.invariant.within
+slice_bounds-window-count g c = c.loop-window.invariant.within
 
-pub loop-next-preserved : goal.loop-next-preserved
-loop-next-preserved g c =
-    Skipping-next g.met.Self.Engine.below_ten c.loop-next.invariant c.window-next.ensures.window c.window-next.ensures.one_step
+pub loop-window-preserved : goal.loop-window-preserved
+loop-window-preserved g c =
+    Skipping-next g.met.Self.Engine.below_ten c.loop-window.invariant c.window-window.ensures.window c.window-window.ensures.one_step
     c.if-not-skip.false (omega arith) refl
 
 -- What holds after the loop.
 ended : (g : _) (c : Joined-then-not-skip g)
-    → Skipped g.Self.Engine.table c.args.skip c.args.s.now c.loop-next.at c.args.steps.now c.window-next.new.steps c.window-next.result
+    → Skipped g.Self.Engine.table c.args.skip c.args.s.now c.loop-window.at c.args.steps.now c.window-window.new.steps c.window-window.result
 ended g c =
-    Skipped-end g.met.Self.Engine.below_ten c.loop-next.invariant c.window-next.ensures.window c.window-next.ensures.one_step c.then-not-skip.either
+    Skipped-end g.met.Self.Engine.below_ten c.loop-window.invariant c.window-window.ensures.window c.window-window.ensures.one_step c.then-not-skip.either
 
 pub returns-then-first-lt16 : goal.returns-then-first-lt16
 returns-then-first-lt16 g c =
@@ -33,13 +33,13 @@ returns-then-first-lt16 g c =
       loads = Skipped-loads after_skip 0 (omega arith) (omega arith) (omega arith);
     }
 
-middle : (g : _) (c : After-window-second g) → Shows g.Self.Engine.table 16 (drop 16 (drop c.loop-next.at c.args.s.now)) c.window-second.result
+middle : (g : _) (c : After-window-second g) → Shows g.Self.Engine.table 16 (drop 16 (drop c.loop-window.at c.args.s.now)) c.window-second.result
 middle g c =
-    shows_following g.met.Self.Engine.below_ten 16 16 c.args.s.now c.loop-next.at c.window-second.ensures.window
+    shows_following g.met.Self.Engine.below_ten 16 16 c.args.s.now c.loop-window.at c.window-second.ensures.window
 
-third : (g : _) (c : After-window_8-third g) → Shows g.Self.Engine.table 8 (drop 32 (drop c.loop-next.at c.args.s.now)) c.window_8-third.result
+third : (g : _) (c : After-window_8-third g) → Shows g.Self.Engine.table 8 (drop 32 (drop c.loop-window.at c.args.s.now)) c.window_8-third.result
 third g c =
-    shows_following g.met.Self.Engine.below_ten 8 32 c.args.s.now c.loop-next.at c.window_8-third.ensures.window
+    shows_following g.met.Self.Engine.below_ten 8 32 c.args.s.now c.loop-window.at c.window_8-third.ensures.window
 
 pub returns-then-second-lt16 : goal.returns-then-second-lt16
 returns-then-second-lt16 g c =
@@ -54,9 +54,9 @@ returns-then-second-lt16 g c =
 pub slice_bounds-window_8-start : goal.slice_bounds-window_8-start
 slice_bounds-window_8-start g c =
     let at = goal.at.slice_bounds-window_8-start g c in
-    let body = drop c.loop-next.at c.args.s.now in
+    let body = drop c.loop-window.at c.args.s.now in
     let full = two_full body (ended g at.Joined-then-not-skip).window c.if-first-lt16.false (middle g at.After-window-second) c.if-second-lt16.false in
-    rw (take_rest c.args.s.now c.loop-next.at) (omega (arith, full, prefix_len-le-length (is_digit g.Self.Engine.table) body))
+    rw (take_rest c.args.s.now c.loop-window.at) (omega (arith, full, prefix_len-le-length (is_digit g.Self.Engine.table) body))
 
 pub slice_bounds-window_8-count : goal.slice_bounds-window_8-count
 slice_bounds-window_8-count g c = slice_bounds-window_8-start g c
