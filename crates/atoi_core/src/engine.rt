@@ -66,8 +66,8 @@ pub trait Engine {
         answer_64(bound, limit, at, 16 + second.len, number, s)
     }
 
-    /// The same as `prefix_64`, for 128 bits, where the limit is 39 digits. May make two loads less than a
-    /// core call, which may load two windows before it calls this method.
+    /// The same as `prefix_64`, for 128 bits, where the limit is 39 digits. May make two fewer loads
+    /// than a core call, which may load two windows before.
     ///
     /// # Errors
     ///

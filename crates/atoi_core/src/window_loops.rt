@@ -1,4 +1,4 @@
-//! Loops over an engine's windows: over leading zeros, and over digits.
+//! Loops over an engine's windows.
 ghost use Rattle.std.specs.Prelude.{◌≡◌, ◌+◌, ◌*◌, ◌/◌, ◌<◌, ◌≤◌, nat_lt, if◌then◌else◌, length, drop};
 ghost use Rattle.atoi_core.specs.Run.{run_len, zeros};
 ghost use Rattle.atoi_core.specs.Reading.{window_of};

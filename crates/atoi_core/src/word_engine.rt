@@ -87,7 +87,7 @@ impl Engine for Words {
 }
 
 // `Words` with the provided parsers, for the loop of `Words::prefix_64`: with `Words` itself, the
-// checker would see a cycle, as the loop may call any method of its engine.
+// checker would see a cycle.
 struct WordWindows;
 
 impl Engine for WordWindows {
