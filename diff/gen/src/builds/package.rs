@@ -3,10 +3,9 @@
 use super::cache::{failed, write};
 use super::cargo::Dependency;
 use super::stamp::Stamp;
-use super::{Cache, commit, run};
+use super::{Cache, commit};
 use std::fs;
 use std::path::{Path, PathBuf};
-use std::process::Command;
 
 /// The name of the package.
 pub const PACKAGE: &str = "torkettle";
@@ -33,15 +32,13 @@ impl Package {
         Ok(Package { folder: folder.to_path_buf(), contents })
     }
 
-    /// The package of a commit, and the short name of that commit. A commit without the package
-    /// gets the manifest and the build script of this checkout.
+    /// The package of a commit, and the short name of that commit. A commit without a package gets
+    /// the manifest and the build script of the first commit that has one.
     pub fn of_commit(cache: &Cache, commit: &str) -> Result<(Package, String), String> {
         let (room, name) = commit::files(cache, commit)?;
         let manifest = room.join("Cargo.toml");
         if !manifest.is_file() {
-            let top = cache.repository();
-            let mut copy = Command::new("cp");
-            run(copy.arg("-r").arg(top.join("Cargo.toml")).arg(top.join("rust")).arg(&room))?;
+            commit::add_first_package(cache, &room)?;
         }
         // Cargo takes two packages of one name only if their versions differ.
         let text = fs::read_to_string(&manifest).map_err(|error| failed(&manifest, error))?;
