@@ -1,4 +1,4 @@
-//! The times as one picture. For each input list it has a bar for the root and one for lanes. The
+//! The times as one picture. For each input list it has a bar for words and one for lanes. The
 //! bar's length shows the time divided by std's, and a word says which of the two is faster.
 
 use crate::tables::InputList;
@@ -14,7 +14,7 @@ const GAP: f64 = 8.0;
 const FOOT: f64 = 36.0;
 
 // What each form is called, and its colour.
-const ROOT: (&str, &str) = ("root: atoi_simd", "#0072B2");
+const WORDS: (&str, &str) = ("words: atoi_simd", "#0072B2");
 const LANES: (&str, &str) = ("lanes: atoi_simd::lanes", "#E69F00");
 
 // Two times that differ by less are called equal.
@@ -23,15 +23,15 @@ const EQUAL: f64 = 0.03;
 /// The times of one input list, divided by std's.
 pub struct Row<'a> {
     pub list: &'a InputList,
-    pub root: f64,
+    pub words: f64,
     pub lanes: f64,
 }
 
 impl Row<'_> {
     // Which form is faster.
     fn faster(&self) -> (&'static str, &'static str) {
-        match self.root / self.lanes {
-            ratio if ratio < 1.0 - EQUAL => ("root", ROOT.1),
+        match self.words / self.lanes {
+            ratio if ratio < 1.0 - EQUAL => ("words", WORDS.1),
             ratio if ratio > 1.0 + EQUAL => ("lanes", LANES.1),
             _ => ("equal", "#666"),
         }
@@ -40,7 +40,7 @@ impl Row<'_> {
 
 /// The picture, as the text of an SVG file.
 pub fn chart(rows: &[Row]) -> String {
-    let greatest = rows.iter().map(|row| row.root.max(row.lanes)).fold(1.0, f64::max);
+    let greatest = rows.iter().map(|row| row.words.max(row.lanes)).fold(1.0, f64::max);
     let scale = Scale { fifths: (greatest * 5.0).ceil() as u32 };
     let (whole, prefix): (Vec<_>, Vec<_>) = rows.iter().partition(|row| row.list.call.is_whole());
     let mut body = legend();
@@ -81,7 +81,7 @@ impl Scale {
 fn legend() -> String {
     let mut x = LEFT;
     let mut legend = String::new();
-    for (name, colour) in [ROOT, LANES] {
+    for (name, colour) in [WORDS, LANES] {
         legend += &rectangle(x, 38.0, 12.0, 12.0, colour);
         legend += &text(x + 18.0, 48.0, name);
         x += 180.0;
@@ -119,7 +119,7 @@ fn row(shown: &Row, scale: Scale, top: f64) -> String {
     let name: Vec<&str> = name.split_whitespace().collect();
     let mut row = text(12.0, top + BAR + 4.0, &format!("{} digits", name.join(" ")));
     let mut y = top;
-    for (colour, ratio) in [(ROOT.1, shown.root), (LANES.1, shown.lanes)] {
+    for (colour, ratio) in [(WORDS.1, shown.words), (LANES.1, shown.lanes)] {
         let end = scale.x(ratio);
         row += &rectangle(LEFT, y, end - LEFT, BAR - 1.0, colour);
         let ratio = text(end + 4.0, y + BAR - 1.0, &format!("{ratio:.2}"));

@@ -28,7 +28,7 @@ pub struct Ours {
 
 impl fmt::Display for Ours {
     fn fmt(&self, f: &mut fmt::Formatter<'_>) -> fmt::Result {
-        let library = if self.library == Library::Words { "root" } else { "lanes" };
+        let library = if self.library == Library::Words { "words" } else { "lanes" };
         write!(f, "{library} of {}", self.build)
     }
 }

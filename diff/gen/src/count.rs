@@ -32,7 +32,7 @@ struct Cell {
 /// Counts the calls of a build, in each form that it exports.
 pub fn counts(cache: &Cache, build: &Build) -> Result<Vec<Counts>, String> {
     let Some(placed) = &build.calls else { return Ok(Vec::new()) };
-    let both = [Form::Root, Form::Lanes].into_iter();
+    let both = [Form::Words, Form::Lanes].into_iter();
     let counts = both.map(|form| {
         let cells = cells(cache, placed.first(), form)?;
         Ok(Counts { name: build.name.clone(), form, cells })
@@ -47,7 +47,7 @@ pub fn counts(cache: &Cache, build: &Build) -> Result<Vec<Counts>, String> {
 fn cells(cache: &Cache, file: &Path, form: Form) -> Result<Vec<Option<Cell>>, String> {
     let told = cache.empty_folder("counted")?.join("callgrind");
     let program = env::current_exe().map_err(|error| format!("this program: {error}"))?;
-    let form = if form == Form::Root { "root" } else { "lanes" };
+    let form = if form == Form::Words { "words" } else { "lanes" };
     let mut valgrind = Command::new("valgrind");
     valgrind.args(["--tool=callgrind", "--combine-dumps=yes", "--dump-after=cell_ends"]);
     valgrind.arg("--toggle-collect=speed_*");
@@ -94,7 +94,7 @@ extern "C" fn cell_ends() {
 pub fn print(counts: &[Counts]) -> Result<usize, String> {
     println!("\ninstructions per call, by callgrind:");
     for (counts, letter) in counts.iter().zip('A'..) {
-        let form = if counts.form == Form::Root { "root" } else { "lanes" };
+        let form = if counts.form == Form::Words { "words" } else { "lanes" };
         println!("    {letter}  {form}, {}", counts.name);
     }
     let mut wrong = 0;
@@ -117,7 +117,7 @@ pub fn print(counts: &[Counts]) -> Result<usize, String> {
 fn print_means(counts: &[Counts]) {
     let Some(ours) = counts.first().map(|counts| counts.name.clone()) else { return };
     for own in counts.iter().filter(|counts| counts.name == ours) {
-        let form = if own.form == Form::Root { "root" } else { "lanes" };
+        let form = if own.form == Form::Words { "words" } else { "lanes" };
         let all: Vec<f64> = own.cells.iter().flatten().map(|cell| cell.instructions).collect();
         println!("{form}: {} cells, geometric mean {:.1}", all.len(), mean(&all));
         for other in counts.iter().filter(|counts| counts.name != ours) {

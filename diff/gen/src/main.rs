@@ -37,7 +37,7 @@ fn main() -> ExitCode {
     let words: Vec<String> = env::args().skip(1).collect();
     let done = match words.iter().map(String::as_str).collect::<Vec<_>>()[..] {
         // Valgrind runs the program in this way.
-        ["--cells", file, "root"] => count::make_calls(Path::new(file), Form::Root).map(|()| 0),
+        ["--cells", file, "words"] => count::make_calls(Path::new(file), Form::Words).map(|()| 0),
         ["--cells", file, "lanes"] => count::make_calls(Path::new(file), Form::Lanes).map(|()| 0),
         ["--help"] => {
             println!("{}", arguments::USAGE);

@@ -46,7 +46,7 @@ impl Table {
         self.print_times(&comparisons);
         println!("\nour time divided by theirs: geometric mean of the {} (slowest)\n", self.lines);
         let has_lanes = self.sides.iter().any(|side| side.form == Form::Lanes);
-        let forms = if has_lanes { "Root | Lanes" } else { "Ours" };
+        let forms = if has_lanes { "Words | Lanes" } else { "Ours" };
         println!("| Compared with | {} | {forms} | passes differ by |", self.lines);
         println!("|---|---|---|---|{}", if has_lanes { "---|" } else { "" });
         let mut spread = 0.0;
@@ -63,7 +63,7 @@ impl Table {
         self.times.iter().map(|times| times.wrong().count()).sum()
     }
 
-    /// Each side of ours with the sides of each other build. The root is compared with a root, and
+    /// Each side of ours with the sides of each other build. Words are compared with words, and
     /// lanes with lanes if the build has them.
     pub fn comparisons(&self) -> Vec<Comparison> {
         let side = |build, form| {
@@ -73,10 +73,10 @@ impl Table {
         builds.dedup();
         let mut comparisons = Vec::new();
         for build in builds.into_iter().skip(1) {
-            let root = side(build, Form::Root);
+            let words = side(build, Form::Words);
             let pairs = [
-                (side(0, Form::Root), root),
-                (side(0, Form::Lanes), side(build, Form::Lanes).or(root)),
+                (side(0, Form::Words), words),
+                (side(0, Form::Lanes), side(build, Form::Lanes).or(words)),
             ];
             let compared = |(ours, theirs)| Some(Comparison { ours: ours?, theirs: theirs? });
             comparisons.extend(pairs.into_iter().filter_map(compared));
@@ -120,8 +120,8 @@ impl Table {
         let has_lanes =
             self.sides.iter().any(|it| it.build == side.build && it.form == Form::Lanes);
         match side.form {
-            Form::Root if has_lanes => format!("root, {}", side.name),
-            Form::Root => side.name.clone(),
+            Form::Words if has_lanes => format!("words, {}", side.name),
+            Form::Words => side.name.clone(),
             Form::Lanes => format!("lanes, {}", side.name),
         }
     }
@@ -143,7 +143,7 @@ impl Table {
 
     // Prints the lines on which we are slower.
     fn print_slower(&self, comparison: &Comparison) {
-        let form = if self.sides[comparison.ours].form == Form::Root { "root" } else { "lanes" };
+        let form = if self.sides[comparison.ours].form == Form::Words { "words" } else { "lanes" };
         let name = &self.sides[comparison.theirs].name;
         for times in &self.times {
             if let Some(ratio) = comparison.ratio(times).filter(|ratio| *ratio > SLOWER) {
@@ -176,7 +176,7 @@ pub fn print_plus(without: &[Times], with: &[Times]) -> usize {
     println!(
         "\na plus before half of the numbers: nanoseconds per call without, with, and the ratio"
     );
-    println!("{:28}root{:19}lanes", "", "");
+    println!("{:28}words{:18}lanes", "", "");
     for (without, with) in without.iter().zip(with) {
         print!("{}", without.name);
         for side in [0, 1] {

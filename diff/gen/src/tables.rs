@@ -9,7 +9,7 @@ use std::fmt;
 #[derive(Clone, Copy, PartialEq, Eq)]
 pub enum Form {
     /// `atoi_simd`, on words.
-    Root,
+    Words,
     /// `atoi_simd::lanes`.
     Lanes,
 }
@@ -60,9 +60,9 @@ impl TimedCall {
     }
 
     /// The name under which each build exports this call. Another library exports its calls as
-    /// those of `Form::Root`.
+    /// those of `Form::Words`.
     pub fn export(&self, form: Form) -> String {
-        let form = if form == Form::Root { "w" } else { "l" };
+        let form = if form == Form::Words { "w" } else { "l" };
         let (integer, flags) = (self.integer.name(), self.flags().replace('-', "n"));
         format!("speed_{form}_{}_{integer}_{flags}", self.name())
     }
@@ -241,10 +241,9 @@ mod tests {
 
     #[test]
     fn exports_have_names_of_their_own() {
-        let names = calls()
-            .unwrap()
-            .into_iter()
-            .flat_map(|call| [super::Form::Root, super::Form::Lanes].map(|form| call.export(form)));
+        let names = calls().unwrap().into_iter().flat_map(|call| {
+            [super::Form::Words, super::Form::Lanes].map(|form| call.export(form))
+        });
         let mut names: Vec<String> = names.collect();
         let count = names.len();
         names.sort();

@@ -15,7 +15,7 @@ pub struct Settings<'a> {
     pub is_debug: bool,
 }
 
-/// The calls of the package's root, or of its module `lanes`.
+/// The calls of the package on words, or of its module `lanes`.
 pub fn answers_of_package(
     cache: &Cache,
     package: &Package,
@@ -32,7 +32,7 @@ pub fn answers_of_package(
     generated(dependency, head, kind, flags).shared_object(cache, "package")
 }
 
-// The module with the error, which it shares with the root.
+// The module with the error, which it shares with words.
 const LANES: &str = "mod calls {
     pub use torkettle::AtoiSimdError;
     pub use torkettle::lanes::*;

@@ -83,7 +83,7 @@ impl Sources {
         calls.dedup();
         for call in &calls {
             for (prefix, space) in [(OURS, "torkettle"), (STANDARD, "std")] {
-                let name = format!("{prefix}{}", call.export(Form::Root));
+                let name = format!("{prefix}{}", call.export(Form::Words));
                 if !names.contains(&name) {
                     cpp += &rows(&name, space, call);
                     names.push(name);

@@ -18,12 +18,12 @@ pub fn from_chars(calls: &[TimedCall], types: &[Integer]) -> (String, Vec<String
     let mut text = String::from(HEAD);
     calls.iter().for_each(|call| text += &function(call));
     types.iter().for_each(|integer| text += &column(&Shape::export(*integer), *integer));
-    let names = calls.iter().map(|call| call.export(Form::Root));
+    let names = calls.iter().map(|call| call.export(Form::Words));
     (text, names.chain(types.iter().map(|integer| Shape::export(*integer))).collect())
 }
 
 fn function(call: &TimedCall) -> String {
-    let (name, [integer, unsigned]) = (call.export(Form::Root), types(call.integer));
+    let (name, [integer, unsigned]) = (call.export(Form::Words), types(call.integer));
     let (condition, length) = if call.is_whole() {
         ("error != std::errc() || stop != end", "")
     } else {

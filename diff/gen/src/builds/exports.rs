@@ -21,9 +21,9 @@ pub fn answers() -> Library {
 /// The timed calls of both forms. The calls and the columns are separate libraries, so that LLVM
 /// inlines as much into them as it does for a caller that makes only a few calls.
 pub fn calls(calls: &[TimedCall]) -> Library {
-    let root = calls.iter().map(|call| export(call, Form::Root, "atoi_simd"));
+    let words = calls.iter().map(|call| export(call, Form::Words, "atoi_simd"));
     let lanes = calls.iter().map(|call| export(call, Form::Lanes, "atoi_simd::lanes"));
-    let text = root.chain(lanes).fold(String::from(HEAD) + CALLS, |text, export| text + &export);
+    let text = words.chain(lanes).fold(String::from(HEAD) + CALLS, |text, export| text + &export);
     Library { name: "atoi_timed", uses: "atoi_simd", files: vec![("lib.rt", text)] }
 }
 
@@ -53,11 +53,11 @@ pub fn fast_float(calls: &[TimedCall]) -> (Library, Vec<String>) {
     let read: Vec<&TimedCall> = calls.iter().filter(is_read).collect();
     let export = |call: &&TimedCall| {
         let parse = format!("fast_float::parse_{}", call.integer.name());
-        function(call, Form::Root, &parse)
+        function(call, Form::Words, &parse)
     };
     let text =
         read.iter().map(export).fold(String::from(HEAD) + CALLS, |text, export| text + &export);
-    let names = read.iter().map(|call| call.export(Form::Root)).collect();
+    let names = read.iter().map(|call| call.export(Form::Words)).collect();
     let files = vec![("lib.rt", text)];
     (Library { name: "atoi_rival", uses: "fast_float", files }, names)
 }

@@ -168,7 +168,7 @@ impl Part {
                     let name = format!("{}{}", self.prefix, call.export(form));
                     calls.rows(&name, &call).map(|text| (name, text))
                 };
-                loops.extend(form(Form::Root, &self.calls));
+                loops.extend(form(Form::Words, &self.calls));
                 loops.extend(self.lanes.and_then(|lanes| form(Form::Lanes, &lanes)));
             }
         }

@@ -115,7 +115,7 @@ impl State<'_> {
     /// The calls and the columns that are timed.
     pub fn timed(&self, name: &str) -> Result<Build, String> {
         let (calls, types) = (tables::calls()?, tables::column_types()?);
-        let both = [Form::Root, Form::Lanes];
+        let both = [Form::Words, Form::Lanes];
         let names = both.iter().flat_map(|form| calls.iter().map(|call| call.export(*form)));
         let names: Vec<String> = names.collect();
         let columns: Vec<String> = types.iter().map(|integer| Shape::export(*integer)).collect();

@@ -181,7 +181,7 @@ impl RustLibrary {
         for call in tables::calls()? {
             if let Some(export) = self.calls.call(&call) {
                 text += &export;
-                names.push(call.export(Form::Root));
+                names.push(call.export(Form::Words));
             }
         }
         for integer in tables::column_types()? {

@@ -60,7 +60,7 @@ impl Calls {
             "\n    match {} {{\n        {found}\n        None => ERROR,\n    }}",
             self.parse(call)?
         );
-        Some(export(&call.export(Form::Root), call.integer, &body))
+        Some(export(&call.export(Form::Words), call.integer, &body))
     }
 
     /// An export that makes the same call with each row of an input list.

@@ -111,7 +111,7 @@ fn chart_rows<'a>(lists: &'a [InputList], table: &Table, builds: &[Build]) -> Ve
     let standard: Vec<usize> = table.sides.iter().enumerate().filter_map(is_standard).collect();
     let row = |(list, times): (&'a InputList, &Times)| {
         let standard = standard.iter().find_map(|side| times.of(*side))?;
-        Some(Row { list, root: times.of(0)? / standard, lanes: times.of(1)? / standard })
+        Some(Row { list, words: times.of(0)? / standard, lanes: times.of(1)? / standard })
     };
     lists.iter().zip(&table.times).filter_map(row).collect()
 }

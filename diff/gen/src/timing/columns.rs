@@ -62,7 +62,7 @@ pub fn columns(
         let opened: Vec<Object> = placed.files().map(Object::open).collect::<Result<_, _>>()?;
         let has_column = |shape: &Shape| opened[0].call(&build.column(shape.integer)).is_some();
         if shapes.iter().any(has_column) {
-            sides.push(Side { build: number, form: Form::Root, name: build.name.clone() });
+            sides.push(Side { build: number, form: Form::Words, name: build.name.clone() });
             objects.push(opened);
         }
     }

@@ -93,7 +93,7 @@ pub fn lists(
     for (number, build) in builds.iter().enumerate() {
         let Some(placed) = &build.calls else { continue };
         let opened: Vec<Object> = placed.files().map(Object::open).collect::<Result<_, _>>()?;
-        for form in [Form::Root, Form::Lanes] {
+        for form in [Form::Words, Form::Lanes] {
             let has_form =
                 |list: &InputList| opened[0].call(&build.call(&list.call, form)).is_some();
             if lists.iter().any(has_form) {
