@@ -1,5 +1,6 @@
 //! The code that the pages quote and that no example has.
 
+use torkettle::column::{Column, ColumnError, FieldError, Fields, is_separator};
 use torkettle::{
     AtoiSimdError, parse, parse_neg, parse_pos, parse_prefix, parse_prefix_neg, parse_prefix_pos,
 };
@@ -21,7 +22,7 @@ fn errors() {
     // Too many digits: without SKIP_ZEROES, leading zeros count towards the limit.
     let text = b"09223372036854775807";
     assert_eq!(parse::<i64, false, false>(text), Err(AtoiSimdError::Size(20, text)));
-    // Out of range. The first slice leaves out the skipped zeros. With one zero fewer, it keeps them.
+    // Out of range. The first slice leaves out the skipped zeros. With one zero fewer, the slice keeps the zeros.
     let text = b"0000000000000999x";
     assert_eq!(parse_prefix::<u8, true, false>(text), Err(AtoiSimdError::Overflow(b"999x")));
     let text = b"000000000000999x";
@@ -29,4 +30,104 @@ fn errors() {
     // A byte that is not a digit follows the digits, at offset 7. The value of the digits is 12.
     let text = b"0000012x";
     assert_eq!(parse::<u128, true, false>(text), Err(AtoiSimdError::Invalid128(12, 7, text)));
+}
+
+#[test]
+fn columns() {
+    let mut column = Column::<u8>::new(b"1,002,+3,", b',');
+    assert_eq!(column.next(), Some(Ok(1)));
+    assert_eq!(column.next(), Some(Ok(2)));
+    assert_eq!(column.next(), Some(Ok(3)));
+    assert_eq!(column.next(), None);
+
+    let mut fields = Fields::<u8>::new(b"1,x2,3", b',');
+    let error = FieldError { index: 1, place: 2, text: b"x2", cause: AtoiSimdError::Empty };
+    assert_eq!(fields.next(), Some(Ok(1)));
+    assert_eq!(fields.next(), Some(Err(error)));
+    assert_eq!(fields.next(), Some(Ok(3)));
+    assert_eq!(fields.next(), None);
+}
+
+fn total(input: &[u8]) -> Result<u64, String> {
+    let mut total = 0;
+    for item in Column::<u32>::new(input, b',') {
+        match item {
+            Ok(number) => total += u64::from(number),
+            Err(ColumnError::Field { index, cause, .. }) => {
+                return Err(format!("field {index}: not a number: {cause}"));
+            }
+            Err(ColumnError::Trailing { index, place }) => {
+                return Err(format!("field {index}: a byte after the number, at offset {place}"));
+            }
+        }
+    }
+    Ok(total)
+}
+
+fn total_of_good_lines(input: &[u8]) -> u64 {
+    let mut total = 0;
+    for item in Fields::<u32>::lines(input) {
+        match item {
+            Ok(number) => total += u64::from(number),
+            Err(error) => eprintln!("line {}: {}", error.index + 1, error.cause),
+        }
+    }
+    total
+}
+
+fn total_between(input: &[u8], separator: u8) -> Option<Result<u64, ColumnError<'_>>> {
+    if is_separator(separator) { Some(Column::<u64>::new(input, separator).sum()) } else { None }
+}
+
+fn total_of_lines(input: &[u8]) -> Result<u64, AtoiSimdError<'_>> {
+    let mut total = 0;
+    for line in input.split(|byte| *byte == b'\n') {
+        let text = line.trim_ascii();
+        if !text.is_empty() {
+            total += u64::from(parse::<u32, true, true>(text)?);
+        }
+    }
+    Ok(total)
+}
+
+fn name_and_numbers(line: &str) -> Option<(&str, u32, i8)> {
+    let (name, rest) = line.split_once(',')?;
+    let (price, change) = rest.split_once(',')?;
+    let price = parse::<u32, true, false>(price.as_bytes()).ok()?;
+    let change = parse::<i8, true, false>(change.as_bytes()).ok()?;
+    Some((name, price, change))
+}
+
+#[test]
+fn totals() {
+    assert_eq!(total(b"1,2,3"), Ok(6));
+    let error = "field 1: not a number: atoi_simd string is empty";
+    assert_eq!(total(b"1,,3"), Err(error.to_string()));
+    let error = "field 1: a byte after the number, at offset 3";
+    assert_eq!(total(b"1,2x"), Err(error.to_string()));
+    assert_eq!(total_of_good_lines(b"1\r\nx\r\n3\r\n"), 4);
+    assert_eq!(total_between(b"1;2", b';'), Some(Ok(3)));
+    assert_eq!(total_between(b"1;2", b'-'), None);
+    assert_eq!(total_of_lines(b" 1\n\n2 \n"), Ok(3));
+    assert_eq!(name_and_numbers("tea,250,-3"), Some(("tea", 250, -3)));
+    assert_eq!(name_and_numbers("tea,250"), None);
+}
+
+#[test]
+fn errors_of_columns() {
+    // The second field is empty.
+    let cause = AtoiSimdError::Empty;
+    let error = ColumnError::Field { index: 1, place: 2, cause };
+    assert_eq!(Column::<u8>::new(b"1,,2", b',').nth(1), Some(Err(error)));
+    // A space is not part of a number, and a column does not skip spaces.
+    assert_eq!(Column::<u8>::new(b"1, 2", b',').nth(1), Some(Err(error)));
+    // A byte that is not a digit follows the number.
+    let error = ColumnError::Trailing { index: 0, place: 2 };
+    assert_eq!(Column::<u8>::new(b"12a,3", b',').next(), Some(Err(error)));
+    // A line that ends in `\r\n` has the byte `\r` after its number.
+    assert_eq!(Column::<u8>::new(b"12\r\n3\r\n", b'\n').next(), Some(Err(error)));
+    // The slice in `cause` extends to the end of the input.
+    let cause = AtoiSimdError::Overflow(b"256,1");
+    let error = ColumnError::Field { index: 0, place: 0, cause };
+    assert_eq!(Column::<u8>::new(b"256,1", b',').next(), Some(Err(error)));
 }
