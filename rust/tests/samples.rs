@@ -76,7 +76,11 @@ fn total_of_good_lines(input: &[u8]) -> u64 {
 }
 
 fn total_between(input: &[u8], separator: u8) -> Option<Result<u64, ColumnError<'_>>> {
-    if is_separator(separator) { Some(Column::<u64>::new(input, separator).sum()) } else { None }
+    if is_separator(separator) {
+        Some(Column::<u32>::new(input, separator).map(|item| item.map(u64::from)).sum())
+    } else {
+        None
+    }
 }
 
 fn total_of_lines(input: &[u8]) -> Result<u64, AtoiSimdError<'_>> {
