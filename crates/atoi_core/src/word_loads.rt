@@ -34,8 +34,8 @@ pub fn load_high(s: &[u8]) -> u64
     ensures { result ≡ word_of (replicate (8 - length s.now) 0 ++ s.now) }
 {
     let (first, last) = both_fours(s);
-    let end = u64::from(s[s.len() - 1]);
-    ((first_two(s) | first) << (64 - 8 * s.len())) | (last << 32) | (end << 56)
+    let start = u64::from(s[0]);
+    ((start | first) << (64 - 8 * s.len())) | (last << 32) | (last_two(s) << 48)
 }
 
 /// Returns the word of the first 8 bytes from `at` on. If fewer follow, shifts the last 8 bytes of `s`
@@ -86,12 +86,13 @@ fn both_fours(s: &[u8]) -> (u64, u64)
     )
 }
 
+// The word of the last two bytes. Of the first two, LLVM would make a branch for x86-64-v3.
 #[tactic(auto, using(crate::proofs::lemmas::LoadedWords::word_from_two))]
-fn first_two(s: &[u8]) -> u64
-    ensures enough { 2 ≤ length s.now → result ≡ word_of (take 2 s.now) }
+fn last_two(s: &[u8]) -> u64
+    ensures enough { 2 ≤ length s.now → result ≡ word_of (drop (length s.now - 2) s.now) }
     ensures few { length s.now < 2 → result ≡ 0 }
 {
-    let bytes = match s.first_chunk::<2>() {
+    let bytes = match s.last_chunk::<2>() {
         Some(bytes) => bytes,
         None => &[0; 2],
     };

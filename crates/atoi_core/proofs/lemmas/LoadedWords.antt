@@ -1,7 +1,7 @@
 -- Words that hold the bytes of a slice.
 use Rattle.std.proofs.Common.{◌≡◌, ℕ, zero, suc, ◌+◌, ◌-◌, ◌*◌, ◌/◌, ◌%◌, ◌^◌, ◌<◌, ◌≤◌, List, [], ◌∷◌, ◌++◌, length, take, drop, replicate, get_or, take-take, inl, inr, refl, sym, ap, ap₂, ◌∙◌, arith, min, Bool, true, false, cond, ◌==◌, if◌then◌else◌}
 use Rattle.std.proofs.Math.Nat.{mod-lt, mod-le, div-one, zero-div, zero-mod, suc-mul, div-div-eq-div-mul}
-use Rattle.std.proofs.lemmas.List.{take_all, append-nil, drop_all, drop_more, length-drop, length-take, get_or-drop, drop-drop}
+use Rattle.std.proofs.lemmas.List.{take_all, append-nil, drop_more, length-drop, length-take, get_or-drop, drop-drop}
 use Rattle.std.proofs.lemmas.Nat.{pow_pos, pow-add, mod-pow-add, or_block, shr_split, div-mul-add}
 use Rattle.std.specs.Int.{from_le_bytes, w16, w32, w64}
 use Rattle.std.specs.Int.Bits.{bit_or, or_self, or_zero_r}
@@ -180,51 +180,57 @@ module _ (s : List ℕ) (few : length s ≤ 8) (fits : (i : ℕ) → get_or s i 
       is ∙ sym (bytes_above j s fits) ∙ ap (λ w. w / 2 ^ (j * 8)) (sym (shifted_back s few))
       ∙ div-div-eq-div-mul (high_word s) (2 ^ (64 - 8 * length s)) (2 ^ (j * 8)) ∙ ap (λ p. high_word s / p) up
 
-  last_byte : 0 < length s → get_or s (length s - 1) 0 ≡ word_of (drop (length s - 1) s)
+  first_byte_is : 0 < length s → get_or s 0 0 ≡ word_of (take 1 s)
   unfolding word_of
-  last_byte some =
-      let one = drop_more s (length s - 1) 0 (omega arith) ∙ ap (λ l. get_or s (length s - 1) 0 ∷ l) (drop_all (length s - 1 + 1) s (omega arith)) in
-      sym (ap (number_l 256) one ∙ omega arith)
+  first_byte_is some =
+      let one = drop_more s 0 0 some in
+      sym (ap (λ l. number_l 256 (take 1 l)) one ∙ omega arith)
 
-  -- The last byte completes what has all others.
-  with_last : (low r : ℕ) → 0 < length s → low ≡ high_word s % 2 ^ (r + 56) → bit_or low (get_or s (length s - 1) 0 * 2 ^ 56 % 2 ^ 64) ≡ high_word s
-  with_last low r some low_is =
-      let top : get_or s (length s - 1) 0 ≡ high_word s / 2 ^ (7 * 8) = high_rest (length s - 1) 7 _ (last_byte some) (omega arith) in
-      overlap (high_word s) low _ r 56 low_is (omega (arith, top, high_fits))
+  -- The last two bytes complete what has all others.
+  with_last : (low two r : ℕ) → 2 ≤ length s → two ≡ word_of (drop (length s - 2) s) → low ≡ high_word s % 2 ^ (r + 48)
+      → bit_or low (two * 2 ^ 48 % 2 ^ 64) ≡ high_word s
+  with_last low two r enough two_is low_is =
+      let top : two ≡ high_word s / 2 ^ (6 * 8) = high_rest (length s - 2) 6 two two_is (omega arith) in
+      overlap (high_word s) low _ r 48 low_is (omega (arith, top, high_fits))
 
   -- Four bytes or more: the first four overlap the last four.
-  from_four : (two first last : ℕ) → 4 ≤ length s → two ≡ word_of (take 2 s) → first ≡ word_of (take 4 s) → last ≡ word_of (drop (length s - 4) s)
-      → bit_or (bit_or two first * 2 ^ (64 - 8 * length s) % 2 ^ 64) (last * 2 ^ 32 % 2 ^ 64) ≡ high_word s
-  from_four two first last enough two_is first_is last_is =
+  from_four : (start first last : ℕ) → 4 ≤ length s → start ≡ word_of (take 1 s) → first ≡ word_of (take 4 s) → last ≡ word_of (drop (length s - 4) s)
+      → bit_or (bit_or start first * 2 ^ (64 - 8 * length s) % 2 ^ 64) (last * 2 ^ 32 % 2 ^ 64) ≡ high_word s
+  from_four start first last enough start_is first_is last_is =
       let z = (8 - length s) * 8 in
-      let low : two ≡ first % 2 ^ 16 = omega (arith, two_is, first_is, word_start 2 s fits, word_start 4 s fits) in
-      let front : bit_or two first ≡ first = overlap first two first 16 0 low (omega arith) in
+      let low : start ≡ first % 2 ^ 8 = omega (arith, start_is, first_is, word_start 1 s fits, word_start 4 s fits) in
+      let front : bit_or start first ≡ first = overlap first start first 8 0 low (omega arith) in
       let top : last ≡ high_word s / 2 ^ (4 * 8) = high_rest (length s - 4) 4 last last_is (omega arith) in
       let places : 4 * 8 + z ≡ z + 32 = omega arith in
       overlap (high_word s) _ _ z 32
       (ap (λ x. x * 2 ^ (64 - 8 * length s) % 2 ^ 64) front ∙ high_front 4 first first_is ∙ ap (λ e. high_word s % 2 ^ e) places)
       (omega (arith, top, high_fits))
 
-  -- Fewer: the first two, or none of them.
-  from_two : (k two first last : ℕ) → 7 ≤ 8 - length s + k → two ≡ word_of (take k s) → first ≡ 0 → last ≡ 0
-      → bit_or (bit_or two first * 2 ^ (64 - 8 * length s) % 2 ^ 64) (last * 2 ^ 32 % 2 ^ 64) ≡ high_word s % 2 ^ ((8 - length s + k - 7) * 8 + 56)
-  from_two k two first last enough two_is none none_last =
-      let places : k * 8 + (8 - length s) * 8 ≡ (8 - length s + k - 7) * 8 + 56 = omega arith in
-      ap₂ (λ x y. bit_or (x * 2 ^ (64 - 8 * length s) % 2 ^ 64) (y * 2 ^ 32 % 2 ^ 64)) (ap (bit_or two) none ∙ or_zero_r two) none_last
-      ∙ or_zero_r (two * 2 ^ (64 - 8 * length s) % 2 ^ 64) ∙ high_front k two two_is ∙ ap (λ e. high_word s % 2 ^ e) places
+  -- Fewer: the first byte alone.
+  from_one : (start first last : ℕ) → start ≡ word_of (take 1 s) → first ≡ 0 → last ≡ 0
+      → bit_or (bit_or start first * 2 ^ (64 - 8 * length s) % 2 ^ 64) (last * 2 ^ 32 % 2 ^ 64) ≡ high_word s % 2 ^ (1 * 8 + (8 - length s) * 8)
+  from_one start first last start_is none none_last =
+      ap₂ (λ x y. bit_or (x * 2 ^ (64 - 8 * length s) % 2 ^ 64) (y * 2 ^ 32 % 2 ^ 64)) (ap (bit_or start) none ∙ or_zero_r start) none_last
+      ∙ or_zero_r (start * 2 ^ (64 - 8 * length s) % 2 ^ 64) ∙ high_front 1 start start_is
 
-  pub high_joined : (two first last : ℕ) → 0 < length s → (2 ≤ length s → two ≡ word_of (take 2 s)) → (length s < 2 → two ≡ 0)
+  pub high_joined : (two first last : ℕ) → 0 < length s → (2 ≤ length s → two ≡ word_of (drop (length s - 2) s)) → (length s < 2 → two ≡ 0)
       → (4 ≤ length s → first ≡ word_of (take 4 s)) → (length s < 4 → first ≡ 0)
       → (4 ≤ length s → last ≡ word_of (drop (length s - 4) s)) → (length s < 4 → last ≡ 0)
-      → bit_or (bit_or (bit_or two first * 2 ^ (64 - 8 * length s) % 2 ^ 64) (last * 2 ^ 32 % 2 ^ 64))
-      (get_or s (length s - 1) 0 * 2 ^ 56 % 2 ^ 64) ≡ high_word s
-  unfolding word_of
+      → bit_or (bit_or (bit_or (get_or s 0 0) first * 2 ^ (64 - 8 * length s) % 2 ^ 64) (last * 2 ^ 32 % 2 ^ 64))
+      (two * 2 ^ 48 % 2 ^ 64) ≡ high_word s
   high_joined two first last some two_is no_two first_is no_first last_is no_last =
+      let start = first_byte_is some in
+      let low = bit_or (bit_or (get_or s 0 0) first * 2 ^ (64 - 8 * length s) % 2 ^ 64) (last * 2 ^ 32 % 2 ^ 64) in
       elim (cases_lt (length s) 4) [
-        | inr four ↦ with_last _ 8 some (from_four two first last four (two_is (omega arith)) (first_is four) (last_is four) ∙ sym high_fits)
+        | inr four ↦ with_last _ two 16 (omega arith) (two_is (omega arith)) (from_four _ first last four start (first_is four) (last_is four) ∙ sym high_fits)
         | inl short ↦ (elim (cases_lt (length s) 2) [
-          | inl one ↦ with_last _ _ some (from_two 0 two first last (omega arith) (no_two one) (no_first short) (no_last short))
-          | inr more ↦ with_last _ _ some (from_two 2 two first last (omega arith) (two_is more) (no_first short) (no_last short))
+          | inl one ↦
+              (let all : 1 * 8 + (8 - length s) * 8 ≡ 64 = omega arith in
+              ap (λ x. bit_or low (x * 2 ^ 48 % 2 ^ 64)) (no_two one) ∙ or_zero_r low ∙ from_one _ first last start (no_first short) (no_last short)
+              ∙ ap (λ e. high_word s % 2 ^ e) all ∙ high_fits)
+          | inr more ↦
+              (let places : 1 * 8 + (8 - length s) * 8 ≡ (8 - length s) * 8 - 40 + 48 = omega arith in
+              with_last _ two _ more (two_is more) (from_one _ first last start (no_first short) (no_last short) ∙ ap (λ e. high_word s % 2 ^ e) places))
         ])
       ]
 
