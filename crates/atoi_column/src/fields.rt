@@ -10,7 +10,7 @@ ghost use Rattle.atoi_column.specs.FirstField.{after_field, first_text, IsAccept
 
 use crate::column::fields_are_prefixes;
 use crate::field_error::FieldError;
-use atoi_core::laws::accepted_texts;
+use atoi_core::laws::{accepted_texts, prefix_begins};
 use atoi_simd::{Parse, parse, parse_prefix};
 use std::iter::FusedIterator;
 use std::marker::{Model, PhantomData};
@@ -107,7 +107,7 @@ impl<'a, T: Parse> Iterator for Fields<'a, T> {
             return None;
         }
         self.index = index + 1;
-        match accepted_field::<T>(rest, self.separator, self.trims) {
+        match accepted_field::<T, false>(rest, self.separator, self.trims) {
             Some((value, following)) => {
                 self.rest = following;
                 Some(Ok(value))
@@ -131,15 +131,20 @@ impl<'a, T: Parse> Iterator for Fields<'a, T> {
 impl<'a, T: Parse> FusedIterator for Fields<'a, T> {}
 
 // Returns the value of the first field of `rest` and what follows its separator, if the field ends
-// with the number at its start.
+// with the number at its start. That number begins with a plus only if `PLUS` is set.
 #[inline(always)]
-fn accepted_field<T: Parse>(rest: &[u8], separator: u8, trims: bool) -> Option<(T, &[u8])>
+fn accepted_field<T: Parse, const PLUS: bool>(
+    rest: &[u8],
+    separator: u8,
+    trims: bool,
+) -> Option<(T, &[u8])>
     ensures { is_separator separator ≡ true → IfSome result (λ found. IsAcceptedField T.int_type
         trims separator rest.now (T.number found.0) found.1.now) }
 {
     fields_are_prefixes::<T>();
     accepted_texts::<T>();
-    let (value, count) = match parse_prefix::<T, true, true>(rest) {
+    prefix_begins::<T>();
+    let (value, count) = match parse_prefix::<T, true, PLUS>(rest) {
         Ok(found) => found,
         Err(_) => return None,
     };
@@ -172,6 +177,7 @@ fn read_field_cold<'a, T: Parse>(
     index: usize,
     place: usize,
 ) -> (Result<T, FieldError<'a>>, &'a [u8])
+    requires separates { is_separator separator ≡ true }
     ensures item { field_item_of T.number result.0
         ≡ field_item index place (first_text (cut_of trims) separator rest.now)
         (parse_answer T.int_type true true (first_text (cut_of trims) separator rest.now)) }
@@ -183,7 +189,8 @@ fn read_field_cold<'a, T: Parse>(
     }
 }
 
-// Returns the item of the first field of `rest`, and what follows its separator.
+// Returns the item of the first field of `rest`, and what follows its separator. A plus is looked for
+// here, since it is rare: a test for it would take time from every field.
 #[cold]
 #[inline(never)]
 fn read_field<'a, T: Parse>(
@@ -193,11 +200,19 @@ fn read_field<'a, T: Parse>(
     index: usize,
     place: usize,
 ) -> (Result<T, FieldError<'a>>, &'a [u8])
+    requires separates { is_separator separator ≡ true }
     ensures item { field_item_of T.number result.0
         ≡ field_item index place (first_text (cut_of trims) separator rest.now)
         (parse_answer T.int_type true true (first_text (cut_of trims) separator rest.now)) }
     ensures following { result.1.now ≡ after_first (λ byte. byte == separator) rest.now }
 {
+    let after_plus = match rest {
+        [b'+', ..] => accepted_field::<T, true>(rest, separator, trims),
+        _ => None,
+    };
+    if let Some((value, following)) = after_plus {
+        return (Ok(value), following);
+    }
     let (text, following) = first_field(rest, separator, trims);
     match parse::<T, true, true>(text) {
         Ok(value) => (Ok(value), following),

@@ -9,8 +9,9 @@ use Rattle.std.proofs.lemmas.Bool.{eq-eqb, ne_eqb, false≢true}
 use Rattle.std.proofs.lemmas.Bool.Decides.{leb_tells, eqb_tells}
 use Rattle.atoi_core.specs.IntType.{IntType}
 use Rattle.atoi_core.specs.Answer.{parse_prefix_answer}
-use Rattle.atoi_core.specs.Text.{SignMark, no_sign, plus, minus, sign_bytes, TextWrites}
-use Rattle.atoi_core.specs.Laws.{AcceptedTexts}
+use Rattle.atoi_core.specs.Sign.{sign_of}
+use Rattle.atoi_core.specs.Text.{SignMark, no_sign, plus, minus, sign_bytes, TextWrites, BeginsWithDigit}
+use Rattle.atoi_core.specs.Laws.{AcceptedTexts, PrefixBegins, looked_for}
 use Rattle.atoi_column.specs.Fields.{is_separator}
 use Rattle.atoi_column.specs.FieldItems.{cut_of}
 use Rattle.atoi_column.specs.FirstField.{after_separator, after_field, IsAcceptedField}
@@ -48,6 +49,34 @@ separator_then {separator} {following} (byte ∷ bytes) end =
       | inl same ↦ let next : Some bytes ≡ Some following = rw same.0 at end in cc
       | inr other ↦ let none : None ≡ Some following = rw other.0 at end in absurd (cc)
     ]
+
+-- A number that is found is found if a plus is allowed, too.
+body_of_plus : (signed : Bool) (bytes : List ℕ) → (sign_of signed false (43 ∷ bytes)).body ≡ 43 ∷ bytes
+body_of_plus true bytes = refl
+body_of_plus false bytes = refl
+
+pub with_plus : (int : IntType) (plus : Bool) {found : ℤ × ℕ} → PrefixBegins int → (rest : List ℕ) → parse_prefix_answer int true plus rest ≡ Ok found
+    → parse_prefix_answer int true true rest ≡ Ok found
+with_plus int true begins rest answer = answer
+with_plus int false begins [] answer = answer
+with_plus int false {found} begins (byte ∷ bytes) answer =
+    elim (eqb_tells byte 43) [
+      | inl same ↦
+          let digit : BeginsWithDigit (sign_of int.signed false (43 ∷ bytes)).body = begins (looked_for false) true (43 ∷ bytes) found (rw same.1 at answer) in
+          let none : BeginsWithDigit (43 ∷ bytes) = rw body_of_plus at digit in
+          absurd (omega (arith, none))
+      | inr other ↦ rw other.0 answer
+    ]
+
+pub text_with_plus : {int : IntType} {takes_plus : Bool} {text : List ℕ} {number : ℤ} → TextWrites int takes_plus text number → TextWrites int true text number
+text_with_plus writes = record {
+  sign = writes.sign;
+  digits = writes.digits;
+  parts = writes.parts;
+  signed = writes.signed;
+  plus_taken = λ _. refl;
+  written = writes.written;
+}
 
 -- The number at the start of `rest`, which `count` bytes write.
 pub record HasNumber (int : IntType) (separator : ℕ) (rest : List ℕ) (number : ℤ) (count : ℕ) : Type 0 where
