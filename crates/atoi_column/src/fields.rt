@@ -131,7 +131,7 @@ impl<'a, T: Parse> Iterator for Fields<'a, T> {
 impl<'a, T: Parse> FusedIterator for Fields<'a, T> {}
 
 // Returns the value of the first field of `rest` and what follows its separator, if the field ends
-// with the number at its start. That number begins with a plus only if `PLUS` is set.
+// with the number at its start. A plus is accepted if `PLUS` is set.
 #[inline(always)]
 fn accepted_field<T: Parse, const PLUS: bool>(
     rest: &[u8],
@@ -168,7 +168,7 @@ fn after_field(tail: &[u8], separator: u8, trims: bool) -> Option<&[u8]>
     }
 }
 
-// Inlined, around a function that is not: only this path zeroes the result's stack slot.
+// Inlined around one call: only this path zeroes the stack slot of its result.
 #[inline(always)]
 fn read_field_cold<'a, T: Parse>(
     rest: &'a [u8],
@@ -189,8 +189,8 @@ fn read_field_cold<'a, T: Parse>(
     }
 }
 
-// Returns the item of the first field of `rest`, and what follows its separator. A plus is looked for
-// here, since it is rare: a test for it would take time from every field.
+// Returns the item of the first field of `rest`, and what follows its separator. A rare plus is looked
+// for here, so that other fields need no test for it.
 #[cold]
 #[inline(never)]
 fn read_field<'a, T: Parse>(

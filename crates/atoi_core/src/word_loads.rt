@@ -34,8 +34,9 @@ pub fn load_high(s: &[u8]) -> u64
     ensures { result ≡ word_of (replicate (8 - length s.now) 0 ++ s.now) }
 {
     let (first, last) = both_fours(s);
-    let start = u64::from(s[0]);
-    ((start | first) << (64 - 8 * s.len())) | (last << 32) | (last_two(s) << 48)
+    let front = u64::from(u32::from(s[0]) | first);
+    let back = u64::from(last | (last_two(s) << 16));
+    (front << (64 - 8 * s.len())) | (back << 32)
 }
 
 /// Returns the word of the first 8 bytes from `at` on. If fewer follow, shifts the last 8 bytes of `s`
@@ -71,7 +72,7 @@ pub(crate) fn load_full(s: &[u8]) -> u64
 // The words of the first and of the last four bytes, or 0 if there are fewer. Compilers turn a choice
 // between arrays, here and below, into no branch, but two equal tests into a single one.
 #[tactic(auto, using(crate::proofs::lemmas::LoadedWords::word_from_four))]
-fn both_fours(s: &[u8]) -> (u64, u64)
+fn both_fours(s: &[u8]) -> (u32, u32)
     ensures first { 4 ≤ length s.now → result.0 ≡ word_of (take 4 s.now) }
     ensures last { 4 ≤ length s.now → result.1 ≡ word_of (drop (length s.now - 4) s.now) }
     ensures few { length s.now < 4 → result ≡ (0, 0) }
@@ -80,15 +81,12 @@ fn both_fours(s: &[u8]) -> (u64, u64)
         (Some(first), Some(last)) => (first, last),
         _ => (&[0; 4], &[0; 4]),
     };
-    (
-        u64::from(u32::from_le_bytes(*first)),
-        u64::from(u32::from_le_bytes(*last)),
-    )
+    (u32::from_le_bytes(*first), u32::from_le_bytes(*last))
 }
 
-// The word of the last two bytes. Of the first two, LLVM would make a branch for x86-64-v3.
+// For the first two bytes in place of the last, LLVM would make a branch on x86-64-v3.
 #[tactic(auto, using(crate::proofs::lemmas::LoadedWords::word_from_two))]
-fn last_two(s: &[u8]) -> u64
+fn last_two(s: &[u8]) -> u32
     ensures enough { 2 ≤ length s.now → result ≡ word_of (drop (length s.now - 2) s.now) }
     ensures few { length s.now < 2 → result ≡ 0 }
 {
@@ -96,5 +94,5 @@ fn last_two(s: &[u8]) -> u64
         Some(bytes) => bytes,
         None => &[0; 2],
     };
-    u64::from(u16::from_le_bytes(*bytes))
+    u32::from(u16::from_le_bytes(*bytes))
 }

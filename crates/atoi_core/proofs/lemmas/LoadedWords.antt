@@ -186,51 +186,56 @@ module _ (s : List ℕ) (few : length s ≤ 8) (fits : (i : ℕ) → get_or s i 
       let one = drop_more s 0 0 some in
       sym (ap (λ l. number_l 256 (take 1 l)) one ∙ omega arith)
 
-  -- The last two bytes complete what has all others.
-  with_last : (low two r : ℕ) → 2 ≤ length s → two ≡ word_of (drop (length s - 2) s) → low ≡ high_word s % 2 ^ (r + 48)
-      → bit_or low (two * 2 ^ 48 % 2 ^ 64) ≡ high_word s
-  with_last low two r enough two_is low_is =
-      let top : two ≡ high_word s / 2 ^ (6 * 8) = high_rest (length s - 2) 6 two two_is (omega arith) in
-      overlap (high_word s) low _ r 48 low_is (omega (arith, top, high_fits))
-
-  -- Four bytes or more: the first four overlap the last four.
-  from_four : (start first last : ℕ) → 4 ≤ length s → start ≡ word_of (take 1 s) → first ≡ word_of (take 4 s) → last ≡ word_of (drop (length s - 4) s)
-      → bit_or (bit_or start first * 2 ^ (64 - 8 * length s) % 2 ^ 64) (last * 2 ^ 32 % 2 ^ 64) ≡ high_word s
-  from_four start first last enough start_is first_is last_is =
+  -- Four bytes or more: the first four overlap the last four, which have the last two.
+  from_four : (start two first last : ℕ) → 4 ≤ length s → start ≡ word_of (take 1 s) → two ≡ word_of (drop (length s - 2) s)
+      → first ≡ word_of (take 4 s) → last ≡ word_of (drop (length s - 4) s)
+      → bit_or (bit_or start first * 2 ^ (64 - 8 * length s) % 2 ^ 64) (bit_or last (two * 2 ^ 16 % 2 ^ 32) * 2 ^ 32 % 2 ^ 64) ≡ high_word s
+  from_four start two first last enough start_is two_is first_is last_is =
       let z = (8 - length s) * 8 in
       let low : start ≡ first % 2 ^ 8 = omega (arith, start_is, first_is, word_start 1 s fits, word_start 4 s fits) in
       let front : bit_or start first ≡ first = overlap first start first 8 0 low (omega arith) in
       let top : last ≡ high_word s / 2 ^ (4 * 8) = high_rest (length s - 4) 4 last last_is (omega arith) in
+      let end : two ≡ high_word s / 2 ^ (6 * 8) = high_rest (length s - 2) 6 two two_is (omega arith) in
+      let back : bit_or last (two * 2 ^ 16 % 2 ^ 32) ≡ last = overlap last last _ 16 16 (omega (arith, top, high_fits)) (omega (arith, top, end, high_fits)) in
       let places : 4 * 8 + z ≡ z + 32 = omega arith in
       overlap (high_word s) _ _ z 32
       (ap (λ x. x * 2 ^ (64 - 8 * length s) % 2 ^ 64) front ∙ high_front 4 first first_is ∙ ap (λ e. high_word s % 2 ^ e) places)
-      (omega (arith, top, high_fits))
+      (ap (λ x. x * 2 ^ 32 % 2 ^ 64) back ∙ omega (arith, top, high_fits))
 
-  -- Fewer: the first byte alone.
-  from_one : (start first last : ℕ) → start ≡ word_of (take 1 s) → first ≡ 0 → last ≡ 0
-      → bit_or (bit_or start first * 2 ^ (64 - 8 * length s) % 2 ^ 64) (last * 2 ^ 32 % 2 ^ 64) ≡ high_word s % 2 ^ (1 * 8 + (8 - length s) * 8)
-  from_one start first last start_is none none_last =
-      ap₂ (λ x y. bit_or (x * 2 ^ (64 - 8 * length s) % 2 ^ 64) (y * 2 ^ 32 % 2 ^ 64)) (ap (bit_or start) none ∙ or_zero_r start) none_last
-      ∙ or_zero_r (start * 2 ^ (64 - 8 * length s) % 2 ^ 64) ∙ high_front 1 start start_is
+  -- Fewer: the first byte overlaps the last two, if there are two.
+  from_one : (start first : ℕ) → start ≡ word_of (take 1 s) → first ≡ 0
+      → bit_or start first * 2 ^ (64 - 8 * length s) % 2 ^ 64 ≡ high_word s % 2 ^ (1 * 8 + (8 - length s) * 8)
+  from_one start first start_is none =
+      ap (λ x. x * 2 ^ (64 - 8 * length s) % 2 ^ 64) (ap (bit_or start) none ∙ or_zero_r start) ∙ high_front 1 start start_is
+
+  from_two : (start two first last : ℕ) → 2 ≤ length s → length s < 4 → start ≡ word_of (take 1 s) → two ≡ word_of (drop (length s - 2) s)
+      → first ≡ 0 → last ≡ 0
+      → bit_or (bit_or start first * 2 ^ (64 - 8 * length s) % 2 ^ 64) (bit_or last (two * 2 ^ 16 % 2 ^ 32) * 2 ^ 32 % 2 ^ 64) ≡ high_word s
+  from_two start two first last enough few_bytes start_is two_is none none_last =
+      let end : two ≡ high_word s / 2 ^ (6 * 8) = high_rest (length s - 2) 6 two two_is (omega arith) in
+      let back : bit_or last (two * 2 ^ 16 % 2 ^ 32) ≡ two * 2 ^ 16 % 2 ^ 32 = ap (λ x. bit_or x (two * 2 ^ 16 % 2 ^ 32)) none_last in
+      let places : 1 * 8 + (8 - length s) * 8 ≡ (8 - length s) * 8 - 40 + 48 = omega arith in
+      overlap (high_word s) _ _ ((8 - length s) * 8 - 40) 48
+      (from_one start first start_is none ∙ ap (λ e. high_word s % 2 ^ e) places)
+      (ap (λ x. x * 2 ^ 32 % 2 ^ 64) back ∙ omega (arith, end, high_fits))
 
   pub high_joined : (two first last : ℕ) → 0 < length s → (2 ≤ length s → two ≡ word_of (drop (length s - 2) s)) → (length s < 2 → two ≡ 0)
       → (4 ≤ length s → first ≡ word_of (take 4 s)) → (length s < 4 → first ≡ 0)
       → (4 ≤ length s → last ≡ word_of (drop (length s - 4) s)) → (length s < 4 → last ≡ 0)
-      → bit_or (bit_or (bit_or (get_or s 0 0) first * 2 ^ (64 - 8 * length s) % 2 ^ 64) (last * 2 ^ 32 % 2 ^ 64))
-      (two * 2 ^ 48 % 2 ^ 64) ≡ high_word s
+      → bit_or (bit_or (get_or s 0 0) first * 2 ^ (64 - 8 * length s) % 2 ^ 64)
+      (bit_or last (two * 2 ^ 16 % 2 ^ 32) * 2 ^ 32 % 2 ^ 64) ≡ high_word s
+  unfolding word_of
   high_joined two first last some two_is no_two first_is no_first last_is no_last =
       let start = first_byte_is some in
-      let low = bit_or (bit_or (get_or s 0 0) first * 2 ^ (64 - 8 * length s) % 2 ^ 64) (last * 2 ^ 32 % 2 ^ 64) in
       elim (cases_lt (length s) 4) [
-        | inr four ↦ with_last _ two 16 (omega arith) (two_is (omega arith)) (from_four _ first last four start (first_is four) (last_is four) ∙ sym high_fits)
+        | inr four ↦ from_four _ two first last four start (two_is (omega arith)) (first_is four) (last_is four)
         | inl short ↦ (elim (cases_lt (length s) 2) [
           | inl one ↦
               (let all : 1 * 8 + (8 - length s) * 8 ≡ 64 = omega arith in
-              ap (λ x. bit_or low (x * 2 ^ 48 % 2 ^ 64)) (no_two one) ∙ or_zero_r low ∙ from_one _ first last start (no_first short) (no_last short)
-              ∙ ap (λ e. high_word s % 2 ^ e) all ∙ high_fits)
-          | inr more ↦
-              (let places : 1 * 8 + (8 - length s) * 8 ≡ (8 - length s) * 8 - 40 + 48 = omega arith in
-              with_last _ two _ more (two_is more) (from_one _ first last start (no_first short) (no_last short) ∙ ap (λ e. high_word s % 2 ^ e) places))
+              let front = bit_or (get_or s 0 0) first * 2 ^ (64 - 8 * length s) % 2 ^ 64 in
+              ap₂ (λ x y. bit_or front (bit_or x (y * 2 ^ 16 % 2 ^ 32) * 2 ^ 32 % 2 ^ 64)) (no_last short) (no_two one)
+              ∙ or_zero_r front ∙ from_one _ first start (no_first short) ∙ ap (λ e. high_word s % 2 ^ e) all ∙ high_fits)
+          | inr more ↦ from_two _ two first last more short start (two_is more) (no_first short) (no_last short)
         ])
       ]
 
