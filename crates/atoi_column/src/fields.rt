@@ -168,7 +168,7 @@ fn after_field(tail: &[u8], separator: u8, trims: bool) -> Option<&[u8]>
     }
 }
 
-// Inlined around one call: only this path zeroes the stack slot of its result.
+// Only this path zeroes the stack slot of the result.
 #[inline(always)]
 fn read_field_cold<'a, T: Parse>(
     rest: &'a [u8],

@@ -31,7 +31,7 @@ pub(crate) fn prefix_128_inline<'a, E: Engine, const WHOLE: bool>(
     }
 }
 
-// Inlined around one call: only this path zeroes the stack slot of its result.
+// Only this path zeroes the stack slot of the result.
 #[inline(always)]
 fn prefix_128_cold<'a, E: Engine>(
     bound: u128,

@@ -117,7 +117,7 @@ fn narrow_answer(bound: u64, len: usize, number: u64, s: &[u8]) -> Result<u64, A
     }
 }
 
-// Inlined around one call: only this path zeroes the stack slot of its result.
+// Only this path zeroes the stack slot of the result.
 #[inline(always)]
 fn narrow_prefix_cold<'a, E: Engine>(
     bound: u64,

@@ -105,7 +105,7 @@ impl Engine for WordWindows {
     ghost below_ten = { λ byte. Prim.grind (arith, nat_tests) };
 }
 
-// Inlined around one call: only this path zeroes the stack slot of its result.
+// Only this path zeroes the stack slot of the result.
 #[inline(always)]
 fn prefix_64_cold<'a>(
     bound: u64,

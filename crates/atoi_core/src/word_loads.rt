@@ -70,7 +70,7 @@ pub(crate) fn load_full(s: &[u8]) -> u64
 }
 
 // The words of the first and of the last four bytes, or 0 if there are fewer. Compilers turn a choice
-// between arrays, here and below, into no branch, but two equal tests into a single one.
+// between arrays into no branch, but two equal tests into a single one.
 #[tactic(auto, using(crate::proofs::lemmas::LoadedWords::word_from_four))]
 fn both_fours(s: &[u8]) -> (u32, u32)
     ensures first { 4 ≤ length s.now → result.0 ≡ word_of (take 4 s.now) }
@@ -84,7 +84,7 @@ fn both_fours(s: &[u8]) -> (u32, u32)
     (u32::from_le_bytes(*first), u32::from_le_bytes(*last))
 }
 
-// For the first two bytes in place of the last, LLVM would make a branch on x86-64-v3.
+// For the first two bytes, LLVM would make a branch on x86-64-v3.
 #[tactic(auto, using(crate::proofs::lemmas::LoadedWords::word_from_two))]
 fn last_two(s: &[u8]) -> u32
     ensures enough { 2 ≤ length s.now → result ≡ word_of (drop (length s.now - 2) s.now) }

@@ -71,7 +71,7 @@ pub fn prefix_128_lanes<'a>(
     finish_128(bound, skip, 0, first, s, steps)
 }
 
-// Inlined around one call: only this path zeroes the stack slot of its result.
+// Only this path zeroes the stack slot of the result.
 #[inline(always)]
 fn prefix_64_cold<'a>(
     bound: u64,
@@ -94,7 +94,7 @@ fn prefix_64_cold<'a>(
     }
 }
 
-// Inlined around one call: only this path zeroes the stack slot of its result.
+// Only this path zeroes the stack slot of the result.
 #[inline(always)]
 fn prefix_128_cold<'a>(
     bound: u128,
