@@ -1,9 +1,9 @@
 //! An iterator over the fields of a byte slice, which goes on after an error.
-ghost use Rattle.std.specs.Prelude.{◌≡◌, ◌<◌, ◌≤◌, ◌==◌, true, length, All, IfSome, IfErr};
+ghost use Rattle.std.specs.Prelude.{◌≡◌, ◌<◌, ◌≤◌, ◌==◌, ℕ, ℤ, true, None, Ok, length, drop, All, IfSome, IfNone, IfErr};
 ghost use Rattle.std.specs.Iterator.{YieldsFirstBy, item_count};
 ghost use Rattle.std.specs.Option.{option_map};
 ghost use Rattle.std.specs.List.{position_or_len, after_first};
-ghost use Rattle.atoi_core.specs.Answer.{parse_answer};
+ghost use Rattle.atoi_core.specs.Answer.{parse_answer, parse_prefix_answer};
 ghost use Rattle.atoi_column.specs.Fields.{is_separator};
 ghost use Rattle.atoi_column.specs.FieldItems.{cut_of, field_item, field_item_of, field_items, line_items};
 ghost use Rattle.atoi_column.specs.FirstField.{after_field, first_text, IsAcceptedField};
@@ -138,8 +138,11 @@ fn accepted_field<T: Parse, const PLUS: bool>(
     separator: u8,
     trims: bool,
 ) -> Option<(T, &[u8])>
-    ensures { is_separator separator ≡ true → IfSome result (λ found. IsAcceptedField T.int_type
+    ensures some { is_separator separator ≡ true → IfSome result (λ found. IsAcceptedField T.int_type
         trims separator rest.now (T.number found.0) found.1.now) }
+    ensures none { IfNone result ((number : ℤ) (count : ℕ)
+        → parse_prefix_answer T.int_type true PLUS rest.now ≡ Ok (number, count)
+        → after_field trims separator (drop count rest.now) ≡ None) }
 {
     fields_are_prefixes::<T>();
     accepted_texts::<T>();

@@ -4,8 +4,8 @@ use Rattle.std.proofs.lemmas.List.{take_rest}
 use Rattle.atoi_column.proofs.lemmas.FoundFields.{accepted, with_plus, text_with_plus}
 use Rattle.atoi_column.proofs.fields.accepted_field.Goals as goal
 
-pub returns-in-Some : goal.returns-in-Some
-returns-in-Some g c = λ separates.
+pub returns-in-Some-clause-some : goal.returns-in-Some-clause-some
+returns-in-Some-clause-some g c = λ separates.
     accepted c.args.trims (record {
       prefix = with_plus g.T.Number.int_type _ c.prefix_begins.ensures c.args.rest.now (sym c.in-Ok.ensures.answer);
       written = text_with_plus c.in-Ok.ensures.prefix.written;

@@ -16,7 +16,7 @@ pub returns-in-Some-clause-steps : goal.returns-in-Some-clause-steps
 returns-in-Some-clause-steps g c =
     let inside = c.self.inside in
     let some : 0 < length inside.rest.now = grind (arith, nat_tests) in
-    let accepted = c.in-Some.ensures c.self.invariant.separates in
+    let accepted = c.in-Some.ensures.some c.self.invariant.separates in
     let same = sym c.self.view_is ∙ field_items_left-next g.T.Number.int_type inside.trims inside.separator inside.index inside.end inside.rest.now
     {item = Ok (g.T.Number.number c.in-Some.value)} some (omega (arith, c.self.invariant.fewer)) (rw accepted.accepted refl) accepted.after in
     search rules
