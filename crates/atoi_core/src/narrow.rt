@@ -94,7 +94,7 @@ fn digits_of_long<E: Engine>(s: &[u8], steps: &mut Steps) -> (usize, u64)
     ensures loads { LoadsWithin (most_loads E.table narrow s.now) 2 E.table true s.now
         steps.old steps.new }
 {
-    let window = E::window(s, steps);
+    let window = E::whole_window(s, steps);
     if window.zeroes == 0 {
         return (window.len as usize, window.number);
     }

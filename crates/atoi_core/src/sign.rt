@@ -19,6 +19,9 @@ pub fn take_sign(signed: bool, skip_plus: bool, s: &[u8]) -> (bool, &[u8])
     ensures body { result.1.now ≡ (sign_of signed skip_plus s.now).body }
     ensures taken { length result.1.now + (sign_of signed skip_plus s.now).taken ≡ length s.now }
 {
+    if !signed && !skip_plus {
+        return (false, s);
+    }
     let [first, ..] = s else {
         return (false, s);
     };

@@ -98,6 +98,27 @@ pub(crate) fn value_of_fewer(word: u64, len: u32) -> u64
     sum_of((word.wrapping_sub(ZEROS) << (56 - 8 * len)) << 8)
 }
 
+// `value_of` by fewer operations, for at most four digits. With more, it returns any number.
+#[tactic(auto, using(crate::proofs::lemmas::WordRuns::lowered_four))]
+pub(crate) fn value_of_four(word: u64, len: u32) -> u64
+    requires some { 1 ≤ len }
+    requires few { len ≤ 8 }
+    requires digits { len ≤ run_len decimal_table (low_bytes 8 word) }
+    ensures { len ≤ 4 → result ≡ low_value (low_bytes len word) }
+{
+    let digits = (word.wrapping_sub(ZEROS) & 0xFFFF_FFFF) as u32;
+    u64::from(sum_of_four(digits << (8 * ((8 - len) % 4))))
+}
+
+// `sum_of` for four bytes. They count if each is below 16.
+#[tactic(auto, using(crate::proofs::lemmas::WordFields::sum_of_four))]
+fn sum_of_four(digits: u32) -> u32
+    ensures { bit_and digits 0x0F0F_0F0F ≡ digits → result ≡ low_value (low_bytes 4 digits) }
+{
+    let tens = (digits.wrapping_mul(0xA01) >> 8) & 0x00FF_00FF;
+    tens.wrapping_mul(0x64_0001) >> 16
+}
+
 // `process_8` for bytes below 16. The two sums of four digits are joined by one small product,
 // which needs no 64-bit constant.
 #[tactic(auto, using(crate::proofs::lemmas::WordFields::sum_of_fields, crate::proofs::lemmas::WordFields::sum_most))]

@@ -1,5 +1,5 @@
 //! The engine `Words`, which reads a window as one word of eight bytes, or as two.
-ghost use Rattle.std.specs.Prelude.{◌≡◌, ◌+◌, ◌-◌, ◌<◌, ◌≤◌, ◌==◌, true, if◌then◌else◌, length, take, drop};
+ghost use Rattle.std.specs.Prelude.{◌≡◌, ◌+◌, ◌-◌, ◌*◌, ◌^◌, ◌<◌, ◌≤◌, ◌==◌, true, if◌then◌else◌, length, take, drop};
 ghost use Rattle.atoi_core.specs.Digit.{decimal_table};
 ghost use Rattle.atoi_core.specs.Loads.{LoadsWithin, most_loads};
 ghost use Rattle.atoi_core.specs.Magnitude.{HasDigits, wide64, prefix_magnitude};
@@ -19,9 +19,9 @@ use crate::window::Window;
 use crate::window_loops::window_after_zeros;
 use crate::word_digits::{
     ZEROS, digits_of, fill_of_zeros, number_in_word, starts_with_digit, sum_of, value_of,
-    value_of_fewer, zeroes_of, zeroes_of_two,
+    value_of_fewer, value_of_four, zeroes_of, zeroes_of_two,
 };
-use crate::word_loads::{load_from, load_full, load_high};
+use crate::word_loads::{load_after, load_full, load_high, load_last};
 
 /// The engine for decimal digits that reads eight bytes at once, as a word.
 pub struct Words;
@@ -32,16 +32,13 @@ impl Engine for Words {
     #[inline(always)]
     fn window(s: &[u8], steps: &mut Steps) -> Window {
         steps.tick();
-        if s.len() <= 8 {
-            return short_window(s);
-        }
-        let first = load_full(s);
-        let len = digits_of(first);
-        if len == 8 {
-            join_words(s, first)
-        } else {
-            Window::not_full(len, number_in_word(first, len))
-        }
+        read_window::<false>(s)
+    }
+
+    #[inline(always)]
+    fn whole_window(s: &[u8], steps: &mut Steps) -> Window {
+        steps.tick();
+        read_window::<true>(s)
     }
 
     #[inline(always)]
@@ -72,14 +69,8 @@ impl Engine for Words {
         } else if first.len < 16 {
             Ok((first.number, first.len as usize))
         } else {
-            let back = window_after_16(s, steps);
-            // Many numbers have 16 digits. They need no product.
-            let number = if back.len == 0 {
-                u128::from(first.number)
-            } else {
-                append_digits(first.number, back.len, back.number)
-            };
-            answer_64(bound, limit, 0, 16 + back.len, number, s)
+            let (more, number) = append_after_16(first.number, s, steps);
+            answer_64(bound, limit, 0, 16 + more, number, s)
         }
     }
 
@@ -154,23 +145,48 @@ fn prefix_64_after_zeros<'a>(
         return Ok((first.number, at + first.len as usize));
     }
     let rest = &s[at..];
-    let back = window_after_16(rest, steps);
-    let number = append_digits(first.number, back.len, back.number);
-    answer_64(bound, limit, at, 16 + back.len, number, s)
+    let (more, number) = append_after_16(first.number, rest, steps);
+    answer_64(bound, limit, at, 16 + more, number, s)
 }
 
+// Appends the digits of the window of 8 bytes after the first 16 to the number `high` of these. Returns how
+// many there are, and the number if they are at most four. With more, a number has too many digits.
 #[inline(always)]
-fn window_after_16(s: &[u8], steps: &mut Steps) -> Window
+fn append_after_16(high: u64, s: &[u8], steps: &mut Steps) -> (u32, u128)
     requires { 16 ≤ length s.now }
-    ensures window { result ≡ window_of decimal_table 8 (drop 16 s.now) }
+    ensures more { result.0 ≡ (window_of decimal_table 8 (drop 16 s.now)).len }
+    ensures number { result.0 ≤ 4 → result.1
+        ≡ high * 10 ^ result.0 + (window_of decimal_table 8 (drop 16 s.now)).number }
     ensures one_step { steps.new ≡ steps.old + 1 }
 {
     steps.tick();
-    let word = load_from(s, 16);
-    if starts_with_digit(word) {
-        window_of_word(word)
+    let word = load_after(s, 16);
+    if !starts_with_digit(word) {
+        // Many numbers have 16 digits. They need no product.
+        return (0, u128::from(high));
+    }
+    let more = digits_of(word);
+    // Too many for any limit. Without this branch, compilers would choose between counts by more steps.
+    if more == 8 {
+        return (8, 0);
+    }
+    (more, append_digits(high, more, value_of_four(word, more)))
+}
+
+// The window of 16 bytes.
+#[inline(always)]
+fn read_window<const ENDS: bool>(s: &[u8]) -> Window
+    ensures { result ≡ window_of decimal_table 16 s.now }
+{
+    if s.len() <= 8 {
+        return short_window(s);
+    }
+    let first = load_full(s);
+    let len = digits_of(first);
+    if len == 8 {
+        full_window::<ENDS>(s, first)
     } else {
-        Window::not_full(0, 0)
+        Window::not_full(len, number_in_word(first, len))
     }
 }
 
@@ -194,14 +210,33 @@ fn short_window(s: &[u8]) -> Window
     }
 }
 
-// The window of 16 bytes, of which the first 8 are digits, with the word `first`.
+// The window of 16 bytes, of which the first 8 are digits, with the word `first`. With `ENDS`, 9 to 15
+// digits that end with the slice are read as the first and the last eight, which overlap.
 #[inline(always)]
-fn join_words(s: &[u8], first: u64) -> Window
+fn full_window<const ENDS: bool>(s: &[u8], first: u64) -> Window
+    requires more { 8 < length s.now }
     requires loaded { first ≡ word_of (take 8 s.now) }
     requires full { run_len decimal_table (low_bytes 8 first) ≡ 8 }
     ensures { result ≡ window_of decimal_table 16 s.now }
 {
-    let next = load_from(s, 8);
+    if ENDS && s.len() < 16 {
+        let last = load_last(s);
+        if digits_of(last) == 8 {
+            return window_of_ends(s, first, last);
+        }
+    }
+    join_words(s, first)
+}
+
+// The same from two words that do not overlap.
+#[inline(always)]
+fn join_words(s: &[u8], first: u64) -> Window
+    requires more { 8 < length s.now }
+    requires loaded { first ≡ word_of (take 8 s.now) }
+    requires full { run_len decimal_table (low_bytes 8 first) ≡ 8 }
+    ensures { result ≡ window_of decimal_table 16 s.now }
+{
+    let next = load_after(s, 8);
     let more = digits_of(next);
     if more == 8 {
         Window {
@@ -213,6 +248,24 @@ fn join_words(s: &[u8], first: u64) -> Window
         let high = value_of(first, 8) * power_of_ten(more);
         Window::not_full(8 + more, high + value_of_fewer(next, more))
     }
+}
+
+// The window of 16 bytes, of which there are 9 to 15. The words `first` and `last` of the first and the
+// last 8 are full of digits.
+#[inline(always)]
+#[tactic(auto, using(crate::proofs::lemmas::WordWindows::window_of_both))]
+fn window_of_ends(s: &[u8], first: u64, last: u64) -> Window
+    requires more { 8 < length s.now }
+    requires few { length s.now < 16 }
+    requires loaded { first ≡ word_of (take 8 s.now) }
+    requires loaded_last { last ≡ word_of (drop (length s.now - 8) s.now) }
+    requires full { run_len decimal_table (low_bytes 8 first) ≡ 8 }
+    requires full_last { run_len decimal_table (low_bytes 8 last) ≡ 8 }
+    ensures { result ≡ window_of decimal_table 16 s.now }
+{
+    let len = s.len() as u32;
+    let high = value_of_fewer(first, len - 8) * power_of_ten(8);
+    Window::not_full(len, high + value_of(last, 8))
 }
 
 // The window of 8 bytes. A missing byte is 0 in the word, which is no digit.

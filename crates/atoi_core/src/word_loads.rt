@@ -57,6 +57,25 @@ pub fn load_from(s: &[u8], at: usize) -> u64
     }
 }
 
+// `load_from` with a branch where nothing follows, and otherwise one shift.
+#[inline(always)]
+#[tactic(auto, using(crate::proofs::lemmas::LoadedWords::word_after_all))]
+pub(crate) fn load_after(s: &[u8], at: usize) -> u64
+    requires enough { 8 ≤ length s.now }
+    requires inside { at ≤ length s.now }
+    requires low { at ≤ 16 }
+    ensures { result ≡ word_of (take 8 (drop at s.now)) }
+{
+    if s.len() == at {
+        return 0;
+    }
+    match s.last_chunk::<8>() {
+        Some(last) if s.len() < at + 8 => { u64::from_le_bytes(*last) >> (8 * (at + 8 - s.len())) }
+        Some(_) => load_full(&s[at..]),
+        None => 0,
+    }
+}
+
 // `load_8` without code for shorter slices, which would enlarge each function that reads a window.
 #[tactic(auto, using(crate::proofs::lemmas::LoadedWords::word_of_first))]
 pub(crate) fn load_full(s: &[u8]) -> u64
@@ -65,6 +84,18 @@ pub(crate) fn load_full(s: &[u8]) -> u64
 {
     match s.first_chunk::<8>() {
         Some(first) => u64::from_le_bytes(*first),
+        None => 0,
+    }
+}
+
+// The word of the last 8 bytes.
+#[tactic(auto, using(crate::proofs::lemmas::LoadedWords::word_of_last))]
+pub(crate) fn load_last(s: &[u8]) -> u64
+    requires { 8 ≤ length s.now }
+    ensures { result ≡ word_of (drop (length s.now - 8) s.now) }
+{
+    match s.last_chunk::<8>() {
+        Some(last) => u64::from_le_bytes(*last),
         None => 0,
     }
 }

@@ -44,6 +44,11 @@ impl Engine for Lanes {
         lane_window(load_lanes(s), 16)
     }
 
+    #[inline(always)]
+    fn whole_window(s: &[u8], steps: &mut Steps) -> Window {
+        Lanes::window(s, steps)
+    }
+
     /// Returns the window of 8 bytes.
     #[inline(always)]
     fn window_8(s: &[u8], steps: &mut Steps) -> Window {

@@ -1,7 +1,7 @@
 -- Words that hold the bytes of a slice.
 use Rattle.std.proofs.Common.{◌≡◌, ℕ, zero, suc, ◌+◌, ◌-◌, ◌*◌, ◌/◌, ◌%◌, ◌^◌, ◌<◌, ◌≤◌, List, [], ◌∷◌, ◌++◌, length, take, drop, replicate, get_or, take-take, inl, inr, refl, sym, ap, ap₂, ◌∙◌, arith, min, Bool, true, false, cond, ◌==◌, if◌then◌else◌}
 use Rattle.std.proofs.Math.Nat.{mod-lt, mod-le, div-one, zero-div, zero-mod, suc-mul, div-div-eq-div-mul}
-use Rattle.std.proofs.lemmas.List.{take_all, append-nil, drop_more, length-drop, length-take, get_or-drop, drop-drop}
+use Rattle.std.proofs.lemmas.List.{take_all, append-nil, drop_all, drop_more, length-drop, length-take, get_or-drop, drop-drop}
 use Rattle.std.proofs.lemmas.Nat.{pow_pos, pow-add, mod-pow-add, or_block, shr_split, div-mul-add}
 use Rattle.std.specs.Int.{from_le_bytes, w16, w32, w64}
 use Rattle.std.specs.Int.Bits.{bit_or, or_self, or_zero_r}
@@ -37,6 +37,12 @@ word_from_bytes (a ∷ b ∷ c ∷ d ∷ e ∷ f ∷ g ∷ h ∷ rest) = omega a
 -- The same for eight bytes in an array.
 pub word_of_first : (s bytes : List ℕ) → bytes ≡ take 8 s → from_le_bytes w64 bytes ≡ word_of (take 8 s)
 word_of_first s bytes e = ap (from_le_bytes w64) e ∙ word_from_bytes (take 8 s) ∙ ap word_of (take-take 8 8 s (omega arith))
+
+-- The last eight bytes, in an array.
+pub word_of_last : (s bytes : List ℕ) → bytes ≡ drop (length s - 8) s → from_le_bytes w64 bytes ≡ word_of (drop (length s - 8) s)
+word_of_last s bytes e =
+    ap (from_le_bytes w64) e ∙ word_from_bytes (drop (length s - 8) s)
+    ∙ ap word_of (take_all 8 (drop (length s - 8) s) (omega (arith, length-drop (length s - 8) s)))
 
 -- The word of no bytes is 0.
 pub word_of_none : (s : List ℕ) → length s ≡ 0 → 0 ≡ word_of s
@@ -95,20 +101,30 @@ bytes_above (suc k) (b ∷ bs) fits =
     ∙ ap (λ w. w / 2 ^ (k * 8)) rest ∙ bytes_above k bs (λ i. fits (suc i))
 
 -- Fewer than eight bytes from `at` on are the highest of the last eight.
-pub last_bytes : (s last : List ℕ) (at : ℕ) → 8 ≤ length s → at ≤ length s → length s < at + 8 → ((i : ℕ) → get_or s i 0 < 256) → last ≡ drop (length s - 8) s
-    → from_le_bytes w64 last / 2 ^ (8 * (at + 7 - length s)) / 2 ^ 8 ≡ word_of (take 8 (drop at s))
+pub last_bytes : (s last : List ℕ) (at : ℕ) → 8 ≤ length s → at ≤ length s → length s < at + 8 → ((i : ℕ) → get_or s i 0 < 256)
+    → last ≡ drop (length s - 8) s → from_le_bytes w64 last / 2 ^ (8 * (at + 8 - length s)) ≡ word_of (take 8 (drop at s))
 last_bytes s last at enough inside few fits is =
     let back = drop (length s - 8) s in
     let missing = at + 8 - length s in
-    let whole : take 8 back ≡ back = take_all 8 back (omega (arith, length-drop (length s - 8) s)) in
     let rest : take 8 (drop at s) ≡ drop at s = take_all 8 (drop at s) (omega (arith, length-drop at s)) in
-    let twice : 2 ^ (8 * (at + 7 - length s)) * 2 ^ 8 ≡ 2 ^ (missing * 8) = sym (pow-add 2 (8 * (at + 7 - length s)) 8) ∙ ap (λ e. 2 ^ e) (omega arith) in
+    let bits : 8 * missing ≡ missing * 8 = omega arith in
     let above : length s - 8 + missing ≡ at = omega arith in
-    div-div-eq-div-mul (from_le_bytes w64 last) (2 ^ (8 * (at + 7 - length s))) (2 ^ 8)
-    ∙ ap₂ (λ bytes p. from_le_bytes w64 bytes / p) is twice
-    ∙ ap (λ w. w / 2 ^ (missing * 8)) (word_from_bytes back ∙ ap word_of whole)
+    ap₂ (λ w e. w / 2 ^ e) (word_of_last s last is) bits
     ∙ bytes_above missing back (λ i. rw get_or-drop (fits (length s - 8 + i)))
     ∙ ap word_of (drop-drop missing (length s - 8) s ∙ ap (λ n. drop n s) above ∙ sym rest)
+
+-- The same in two shifts.
+pub last_bytes_twice : (s last : List ℕ) (at : ℕ) → 8 ≤ length s → at ≤ length s → length s < at + 8 → ((i : ℕ) → get_or s i 0 < 256)
+    → last ≡ drop (length s - 8) s → from_le_bytes w64 last / 2 ^ (8 * (at + 7 - length s)) / 2 ^ 8 ≡ word_of (take 8 (drop at s))
+last_bytes_twice s last at enough inside few fits is =
+    let bits : 8 * (at + 7 - length s) + 8 ≡ 8 * (at + 8 - length s) = omega arith in
+    let twice : 2 ^ (8 * (at + 7 - length s)) * 2 ^ 8 ≡ 2 ^ (8 * (at + 8 - length s)) = sym (pow-add 2 (8 * (at + 7 - length s)) 8) ∙ ap (λ e. 2 ^ e) bits in
+    div-div-eq-div-mul (from_le_bytes w64 last) (2 ^ (8 * (at + 7 - length s))) (2 ^ 8)
+    ∙ ap (λ p. from_le_bytes w64 last / p) twice ∙ last_bytes s last at enough inside few fits is
+
+-- After all bytes, there are none.
+pub word_after_all : (s : List ℕ) (at : ℕ) → length s ≤ at → 0 ≡ word_of (take 8 (drop at s))
+word_after_all s at all = word_of_none (take 8 (drop at s)) (ap (λ l. length (take 8 l)) (drop_all at s all))
 
 -- Each byte is below 256.
 pub bytes : (s : List ℕ) → ((i : ℕ) → get_or s i 0 < 256) → Each1 (λ x. x < 256) s
@@ -294,11 +310,14 @@ module _ (s : List ℕ) (fits : (i : ℕ) → get_or s i 0 < 256) (word : ℕ) (
   pub loaded_bytes : 8 ≤ length s → low_bytes 8 word ≡ take 8 s
   loaded_bytes enough = loaded_first 8 (omega arith) enough
 
-  -- The weighted sum of all leading digits is their value.
-  pub loaded_sum : (len : ℕ) → len ≡ run_len decimal_table (low_bytes 8 word) → low_value (low_bytes len word) ≡ value decimal_table (take len s)
-  loaded_sum len len_is =
-      let digits : len ≡ min 8 (run_len decimal_table s) = len_is ∙ loaded_run ∙ prefix_len-take (is_digit decimal_table) 8 s in
+  -- The weighted sum of leading digits is their value.
+  pub loaded_part : (len : ℕ) → len ≤ run_len decimal_table (low_bytes 8 word) → low_value (low_bytes len word) ≡ value decimal_table (take len s)
+  loaded_part len within =
+      let digits : run_len decimal_table (low_bytes 8 word) ≡ min 8 (run_len decimal_table s) = loaded_run ∙ prefix_len-take (is_digit decimal_table) 8 s in
       ap low_value (loaded_first len (omega arith) (omega (arith, digits, prefix_len-le-length (is_digit decimal_table) s))) ∙ low_value_is len s (omega arith)
+
+  pub loaded_sum : (len : ℕ) → len ≡ run_len decimal_table (low_bytes 8 word) → low_value (low_bytes len word) ≡ value decimal_table (take len s)
+  loaded_sum len len_is = loaded_part len (omega arith)
 
 pub fits_after : (s : List ℕ) → ((i : ℕ) → get_or s i 0 < 256) → (i : ℕ) → get_or (drop 8 s) i 0 < 256
 fits_after s fits i = rw get_or-drop (fits (8 + i))

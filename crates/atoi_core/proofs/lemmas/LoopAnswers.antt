@@ -74,6 +74,21 @@ answers_64 {table} bound limit {skip} {s} {at} less after_skip full following =
       sym (all_decide wide64 bound limit less after_skip.skipped both none),
     )
 
+-- With more than 4 digits after 16, there are more than the limit, and the number does not matter.
+pub answers_64_few : {table : Table} (bound limit : ℕ) {skip : Bool} {s : List ℕ} {at before now : ℕ} {first_window back : Window} {more number : ℕ} →
+    limit ≤ 20 → Skipped table skip s at before now first_window → 16 ≤ first_window.len → Shows table 8 (drop 16 (drop at s)) back →
+    more ≡ back.len → (more ≤ 4 → number ≡ first_window.number * 10 ^ more + back.number) →
+    (at + (16 + more) ≤ length s) × (answer_by_digits wide64 bound limit at (16 + more) number s ≡ prefix_magnitude table wide64 bound limit skip s)
+answers_64_few bound limit {s = s} {at} {first_window = first_window} {back} {more} {number} high after_skip full following more_is number_is =
+    let exact = answers_64 bound limit (omega arith) after_skip full following in
+    let long : 4 < more → nat_lt limit (16 + back.len) ≡ true = λ many. lt-ltb limit (16 + back.len) (omega (arith, many)) in (
+      omega (arith, exact.0),
+      elim (cases_lt 4 more) [
+        | inr few ↦ rw (number_is few, more_is) exact.1
+        | inl many ↦ rw (more_is, long many) (rw (long many) at exact.1)
+      ],
+    )
+
 -- For 128 bits, two full windows and 8 bytes decide.
 pub answers_128 : {table : Table} → IsBelowTen table → (bound : ℕ) {skip : Bool} {s : List ℕ} {at before now : ℕ} {first_window middle back : Window} →
     Skipped table skip s at before now first_window → 16 ≤ first_window.len → Shows table 16 (drop 16 (drop at s)) middle → 16 ≤ middle.len →
@@ -311,9 +326,3 @@ narrow_decides {table} {s} {w = w} {len} after_skip len_is bound high =
           sym (narrow_whole_is table bound 0 false s len w.number all (rw all at rest.1)
           ∙ grind (arith, nat_tests))
     ]
-
--- A window without a digit adds nothing to the number before it.
-pub followed_by_none : (high len number : ℕ) → len ≡ 0 → number < 10 ^ len → high ≡ high * 10 ^ len + number
-followed_by_none high len number none below =
-    let nothing : number < 10 ^ 0 = rw none at below in
-    rw none (omega (arith, nothing))

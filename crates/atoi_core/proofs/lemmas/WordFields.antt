@@ -276,6 +276,18 @@ sum_of_fields digits fits halves =
     let whole : digits * 2 ^ (64 - 8 * 8) % 2 ^ 64 ≡ digits = omega arith in
     two_fields hundreds (omega arith) ∙ (rw (whole, halves) at (two_rounds digits 8 (omega arith)))
 
+-- Two rounds join four digits in bytes below 16.
+pub sum_of_four : (digits : ℕ) → bit_and digits 0x0F0F_0F0F ≡ digits
+    → bit_and (digits * 0xA01 % 2 ^ 32 / 2 ^ 8) 0x00FF_00FF * 0x64_0001 % 2 ^ 32 / 2 ^ 16 ≡ low_value (low_bytes 4 digits)
+unfolding low_bytes
+sum_of_four digits halves =
+    let tens = digits * 0xA01 % 2 ^ 32 / 2 ^ 8 in
+    let sum = bit_and tens 0x00FF_00FF * 0x64_0001 % 2 ^ 32 / 2 ^ 16 in
+    sym (one_field 10000 16 sum (omega arith))
+    ∙ round_number 8 100 (lit< tt) 1 tens
+    ∙ (rw halves at (round_number 4 10 (lit< tt) 2 digits))
+    ∙ in_base-low_value 4 digits
+
 -- Four rounds compute the weighted sum of at most 16 bytes.
 pub sum_16 : (val len : ℕ) → len ≤ 16
     → let ones = val * 2 ^ (128 - 8 * len) % 2 ^ 128 in

@@ -281,38 +281,56 @@ shifted_halves (suc z) k word =
     let next : word * 2 ^ (suc z * 8) ≡ word * 2 ^ (z * 8) * 256 + 0 = rw up (omega arith) in
     rw (suc-add z k, next, up) (omega (arith, shifted_halves z k word, and_block 8 (word * 2 ^ (z * 8)) (repeated 15 (z + k)) 0 15 (lit< tt) (lit< tt)))
 
--- For digits at the top of a word, subtracting 48 is the mask.
-lowered_at_top : (len word : ℕ) → len ≤ 8 → len ≤ run_len decimal_table (low_bytes 8 word)
-    → (word + without_48 8) % 2 ^ 64 * 2 ^ (64 - 8 * len) % 2 ^ 64 ≡ bit_and (word * 2 ^ (64 - 8 * len) % 2 ^ 64) (repeated 15 8)
+-- For digits at the top of `size` bytes, subtracting 48 is the mask.
+lowered_at_top : (size len word : ℕ) → size ≤ 8 → len ≤ size → len ≤ run_len decimal_table (low_bytes 8 word)
+    → (word + without_48 8) % 2 ^ 64 * 2 ^ (size * 8 - 8 * len) % 2 ^ (size * 8)
+    ≡ bit_and (word * 2 ^ (size * 8 - 8 * len) % 2 ^ (size * 8)) (repeated 15 size)
 unfolding low_bytes
-lowered_at_top len word few digits =
-    let z = 8 - len in
-    let all : len + z ≡ 8 = omega arith in
-    let places : 64 - 8 * len ≡ z * 8 = omega arith in
-    let bits : 64 ≡ len * 8 + z * 8 = omega arith in
+lowered_at_top size len word small few digits =
+    let z = size - len in
+    let others = 8 - len in
+    let all : len + others ≡ 8 = omega arith in
+    let places : size * 8 - 8 * len ≡ z * 8 = omega arith in
+    let bits : size * 8 ≡ len * 8 + z * 8 = omega arith in
+    let word_bits : 64 ≡ others * 8 + len * 8 = omega arith in
+    let top : z + len ≡ size = omega arith in
     let lower = word + without_48 8 in
     let kept : lower % 2 ^ (len * 8) ≡ bit_and (word % 2 ^ (len * 8)) (repeated 15 len) =
-    cc (all, lowered_digits z len word (rw all digits)) in
-    let cut : (x : ℕ) → x * 2 ^ (64 - 8 * len) % 2 ^ 64 ≡ x % 2 ^ (len * 8) * 2 ^ (z * 8) =
+    cc (all, lowered_digits others len word (rw all digits)) in
+    let cut : (x : ℕ) → x * 2 ^ (size * 8 - 8 * len) % 2 ^ (size * 8) ≡ x % 2 ^ (len * 8) * 2 ^ (z * 8) =
     λ x. ap₂ (λ e f. x * 2 ^ e % 2 ^ f) places bits ∙ shift_cut x (len * 8) (z * 8) in
     cut (lower % 2 ^ 64)
-    ∙ ap (λ e. lower % 2 ^ e % 2 ^ (len * 8) * 2 ^ (z * 8)) (bits ∙ add_comm (len * 8) (z * 8))
-    ∙ ap (λ x. x * 2 ^ (z * 8)) (mod-mod-pow lower (z * 8) (len * 8) ∙ kept)
+    ∙ ap (λ e. lower % 2 ^ e % 2 ^ (len * 8) * 2 ^ (z * 8)) word_bits
+    ∙ ap (λ x. x * 2 ^ (z * 8)) (mod-mod-pow lower (others * 8) (len * 8) ∙ kept)
     ∙ shifted_halves z len (word % 2 ^ (len * 8))
-    ∙ ap₂ (λ x n. bit_and x (repeated 15 n)) (sym (cut word)) (add_comm z len ∙ all)
+    ∙ ap₂ (λ x n. bit_and x (repeated 15 n)) (sym (cut word)) top
 
 -- The shifted bytes are below 16, and keep the sum.
+lowered_bytes : (size len word ones : ℕ) → size ≤ 8 → len ≤ size → len ≤ run_len decimal_table (low_bytes 8 word)
+    → ones ≡ (word + without_48 8) % 2 ^ 64 * 2 ^ (size * 8 - 8 * len) % 2 ^ (size * 8)
+    → (bit_and ones (repeated 15 size) ≡ ones) × (low_value (low_bytes size ones) ≡ low_value (low_bytes len word))
+unfolding low_bytes
+lowered_bytes size len word ones small few digits is =
+    let at_top = word * 2 ^ (size * 8 - 8 * len) % 2 ^ (size * 8) in
+    let e = is ∙ lowered_at_top size len word small few digits in (
+      cc (e, and_assoc (repeated 15 size) at_top (repeated 15 size), and_self (repeated 15 size)),
+      ap (λ x. low_value (digits_l 256 size x)) e ∙ ap low_value (and_repeated 15 (lit< tt) size at_top) ∙ low_value_halves (digits_l 256 size at_top)
+          ∙ shifted_value (size * 8 - 8 * len) size len word (omega arith) few,
+    )
+
 pub lowered_value : (len word ones : ℕ) → len ≤ 8 → len ≤ run_len decimal_table (low_bytes 8 word)
     → ones ≡ (word + without_48 8) % 2 ^ 64 * 2 ^ (64 - 8 * len) % 2 ^ 64
     → (bit_and ones (repeated 15 8) ≡ ones) × (low_value (low_bytes 8 ones) ≡ low_value (low_bytes len word))
-unfolding low_bytes
-lowered_value len word ones few digits is =
-    let at_top = word * 2 ^ (64 - 8 * len) % 2 ^ 64 in
-    let e = is ∙ lowered_at_top len word few digits in (
-      cc (e, and_assoc (repeated 15 8) at_top (repeated 15 8), and_self (repeated 15 8)),
-      ap (λ x. low_value (digits_l 256 8 x)) e ∙ ap low_value (and_repeated 15 (lit< tt) 8 at_top) ∙ low_value_halves (digits_l 256 8 at_top)
-          ∙ shifted_value (64 - 8 * len) 8 len word (omega arith) few,
-    )
+lowered_value len word ones few digits is = lowered_bytes 8 len word ones (omega arith) few digits is
+
+-- Four bytes suffice for at most four digits.
+pub lowered_four : (len word ones : ℕ) → len ≤ 4 → len ≤ run_len decimal_table (low_bytes 8 word)
+    → ones ≡ bit_and ((word + 0xCFCF_CFCF_CFCF_CFD0) % 2 ^ 64) 0xFFFF_FFFF * 2 ^ (32 - 8 * len) % 2 ^ 32
+    → (bit_and ones (repeated 15 4) ≡ ones) × (low_value (low_bytes 4 ones) ≡ low_value (low_bytes len word))
+lowered_four len word ones few digits is =
+    let lower = (word + 0xCFCF_CFCF_CFCF_CFD0) % 2 ^ 64 in
+    lowered_bytes 4 len word ones (omega arith) few digits
+    (is ∙ ap (λ x. x * 2 ^ (32 - 8 * len) % 2 ^ 32) (and_mask lower 32) ∙ mul-mod_first lower (2 ^ (32 - 8 * len)) (2 ^ 32))
 
 pub lowered_sum : (len word ones number : ℕ) → number ≡ low_value (low_bytes 8 ones) → len ≤ 8 → len ≤ run_len decimal_table (low_bytes 8 word)
     → ones ≡ (word + without_48 8) % 2 ^ 64 * 2 ^ (64 - 8 * len) % 2 ^ 64 → number ≡ low_value (low_bytes len word)

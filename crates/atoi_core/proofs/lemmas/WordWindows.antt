@@ -1,7 +1,7 @@
 -- Windows that are read by words.
-use Rattle.std.proofs.Common.{◌≡◌, ℕ, zero, suc, ◌+◌, ◌-◌, ◌*◌, ◌/◌, ◌%◌, ◌^◌, ◌<◌, ◌≤◌, List, ◌∷◌, ◌++◌, length, take, drop, replicate, get_or, take-take, refl, sym, ap, ap₂, ◌∙◌, arith, ◌≢◌, min, ◌==◌, if◌then◌else◌, Bool, true, false, nat_lt, ltb-false}
+use Rattle.std.proofs.Common.{◌≡◌, ℕ, [], zero, suc, ◌+◌, ◌-◌, ◌*◌, ◌/◌, ◌%◌, ◌^◌, ◌<◌, ◌≤◌, List, ◌∷◌, ◌++◌, length, take, drop, replicate, get_or, take-take, refl, sym, ap, ap₂, ◌∙◌, arith, ◌≢◌, min, ◌==◌, if◌then◌else◌, Bool, true, false, nat_lt, ltb-false}
 use Rattle.std.proofs.Math.Nat.{zero-add, suc-add}
-use Rattle.std.proofs.lemmas.List.{take_all, length-append, length-replicate, length-take}
+use Rattle.std.proofs.lemmas.List.{take_all, length-append, length-replicate, length-take, length-drop, get_or-drop}
 use Rattle.std.specs.Simd.Lanes.{number_l, digits_l}
 use Rattle.atoi_core.specs.Words.{word_of, low_bytes, low_value}
 use Rattle.std.proofs.lemmas.Bool.{eq-eqb, ne_eqb, eqb-true, agree_below_at}
@@ -13,7 +13,7 @@ use Rattle.atoi_core.specs.Run.{run_len, zeros, value}
 use Rattle.atoi_core.specs.Reading.{window_of}
 use Rattle.atoi_core.specs.declared.window.Window.{Window}
 use Rattle.atoi_core.proofs.lemmas.Runs.{prefix_len-take, prefix_len-drop, prefix_len-replicate_append, value-take-add}
-use Rattle.atoi_core.proofs.lemmas.LoadedWords.{word_start, loaded_run, loaded_sum, loaded_zeros}
+use Rattle.atoi_core.proofs.lemmas.LoadedWords.{word_start, loaded_run, loaded_part, loaded_sum, loaded_zeros}
 
 -- ---- Windows read by words
 
@@ -92,6 +92,36 @@ window_joined s more leading first next full more_is leading_is first_is next_is
     let same_number : first * 10 ^ more + next ≡ value decimal_table (take (8 + more) s) =
     rw (first_is, next_is) (sym (value-take-add decimal_table 8 more s (omega arith))) in
     window_from 16 s (8 + more) leading (first * 10 ^ more + next) (omega arith) same_leading same_number
+
+-- The first and the last eight of 9 to 15 digits give the window of 16.
+pub window_of_both : (s : List ℕ) → 8 < length s → length s < 16 → ((i : ℕ) → get_or s i 0 < 256) → (first last len high low : ℕ)
+    → first ≡ word_of (take 8 s) → last ≡ word_of (drop (length s - 8) s)
+    → run_len decimal_table (low_bytes 8 first) ≡ 8 → run_len decimal_table (low_bytes 8 last) ≡ 8
+    → len ≡ length s → high ≡ low_value (low_bytes (length s - 8) first) → low ≡ low_value (low_bytes 8 last)
+    → ◌≡◌ {A = Window} (record { len = len; zeroes = 0; number = high * 10 ^ 8 + low }) (window_of decimal_table 16 s)
+window_of_both s more few fits first last len high low first_is last_is full full_last len_is high_is low_is =
+    let front = length s - 8 in
+    let back = drop front s in
+    let all : take 8 back ≡ back = take_all 8 back (omega (arith, length-drop front s)) in
+    let whole : take 16 s ≡ s = take_all 16 s (omega arith) in
+    let fits_back : (i : ℕ) → get_or back i 0 < 256 = λ i. rw get_or-drop (fits (front + i)) in
+    let word_is : last ≡ word_of (take 8 back) = last_is ∙ ap word_of (sym all) in
+    let first_run : run_len decimal_table (take 8 s) ≡ min 8 (run_len decimal_table s) = prefix_len-take (is_digit decimal_table) 8 s in
+    let last_run : run_len decimal_table (take 8 back) ≡ min 8 (run_len decimal_table back) = prefix_len-take (is_digit decimal_table) 8 back in
+    let eight : 8 ≤ run_len decimal_table s = omega (arith, full, first_run, loaded_run s fits first first_is) in
+    let eight_last : 8 ≤ run_len decimal_table back = omega (arith, full_last, last_run, loaded_run back fits_back last word_is) in
+    let run_is : run_len decimal_table s ≡ front + run_len decimal_table back = prefix_len-drop (is_digit decimal_table) front s (omega arith) in
+    let within : run_len decimal_table s ≤ length s = prefix_len-le-length (is_digit decimal_table) s in
+    let length_is : front + 8 ≡ len = omega arith in
+    let number : high * 10 ^ 8 + low ≡ value decimal_table (take len s) =
+    ap₂ (λ x y. x * 10 ^ 8 + y)
+    (high_is ∙ loaded_part s fits first first_is front (omega arith))
+    (low_is ∙ loaded_part back fits_back last word_is 8 (omega arith))
+    ∙ sym (value-take-add decimal_table front 8 s (omega arith)) ∙ ap (λ n. value decimal_table (take n s)) length_is in
+    window_from 16 s len 0 (high * 10 ^ 8 + low)
+    (rw whole (omega arith))
+    (sym (reported_none len 16 (zeros decimal_table (take 16 s)) (omega arith)))
+    number
 
 -- ---- Short slices in the highest bytes of a word
 
@@ -181,6 +211,20 @@ filled_window s few fits filled digits found number filled_is digits_is found_is
     let left : found ≡ len = omega arith in
     ap (λ n. let w : Window = record { len = n; zeroes = 0; number = number } in w) left
     ∙ window_from 16 s len 0 number (ap (run_len decimal_table) (sym all)) (sym (reported_none len 16 (zeros decimal_table (take 16 s)) (omega arith))) sum
+
+-- Its length and number, from the word.
+pub loaded_digits : (s : List ℕ) → ((i : ℕ) → get_or s i 0 < 256) → (word len number : ℕ) → word ≡ word_of (take 8 s)
+    → len ≡ run_len decimal_table (low_bytes 8 word) → number ≡ low_value (low_bytes len word)
+    → (len ≡ (window_of decimal_table 8 s).len) × (number ≡ (window_of decimal_table 8 s).number)
+loaded_digits s fits word len number is len_is number_is =
+    let zeroes = if len == 8 then zeros decimal_table (low_bytes 8 word) else 0 in
+    let same = loaded_window s fits word (record { len = len; zeroes = zeroes; number = number }) is len_is refl number_is in
+    (ap (λ (w : Window). w.len) same, ap (λ (w : Window). w.number) same)
+
+-- The window of no bytes.
+pub no_bytes : (s : List ℕ) → length s ≡ 0 → ◌≡◌ {A = Window} (record { len = 0; zeroes = 0; number = 0 }) (window_of decimal_table 8 s)
+no_bytes [] none = refl
+no_bytes (b ∷ s) none = absurd (omega arith)
 
 -- The window of a word that begins with no digit.
 pub loaded_no_digit : (s : List ℕ) → ((i : ℕ) → get_or s i 0 < 256) → (word : ℕ) → word ≡ word_of (take 8 s) → run_len decimal_table (low_bytes 8 word) ≡ 0

@@ -27,6 +27,14 @@ pub fn calls(calls: &[TimedCall]) -> Library {
     Library { name: "atoi_timed", uses: "atoi_simd", files: vec![("lib.rt", text)] }
 }
 
+/// Loops over input lists, into which the kit inlines the calls of both forms.
+pub fn loops(calls: &[TimedCall]) -> Library {
+    let words = calls.iter().map(|call| call_loop(call, Form::Words, "atoi_simd"));
+    let lanes = calls.iter().map(|call| call_loop(call, Form::Lanes, "atoi_simd::lanes"));
+    let text = words.chain(lanes).fold(String::from(HEAD), |text, export| text + &export);
+    Library { name: "atoi_looped", uses: "atoi_simd", files: vec![("lib.rt", text)] }
+}
+
 /// A loop over a column for each type.
 pub fn columns(types: &[Integer]) -> Library {
     let column = |integer: &Integer| column(&Shape::export(*integer), *integer, "value");
@@ -69,12 +77,8 @@ fn export(call: &TimedCall, form: Form, library: &str) -> String {
 // An export that returns the low 64 bits of the value, with the length added if it parses a
 // prefix. For an error it returns `timing::ERROR`.
 fn function(call: &TimedCall, form: Form, parse: &str) -> String {
-    let (name, low) = (call.export(form), low_bits(call.integer, "value"));
-    let found = if call.is_whole() {
-        format!("Ok(value) => {low},")
-    } else {
-        format!("Ok((value, length)) => ({low}).wrapping_add(length as u64),")
-    };
+    let found = found(call, &low_bits(call.integer, "value"));
+    let name = call.export(form);
     format!(
         r#"
 #[unsafe(no_mangle)]
@@ -88,6 +92,38 @@ pub extern "C" fn {name}(text: &[u8; 96], length: usize) -> u64
 }}
 "#
     )
+}
+
+// An export that makes a call for each row of an input list, and returns the sum of the answers. A
+// row has 96 bytes, and then the length of its text in eight.
+fn call_loop(call: &TimedCall, form: Form, library: &str) -> String {
+    let (name, low) = (call.export(form), low_bits(call.integer, "value"));
+    let (parse, found) = (format!("{library}::{}", call.path()), found(call, &low));
+    format!(
+        r#"
+#[unsafe(no_mangle)]
+pub extern "C" fn {name}(rows: &[[u8; 104]]) -> u64 {{
+    let mut sum: u64 = 0;
+    for row in rows {{
+        let length = usize::from(row[96]).min(96);
+        let answer = match {parse}(&row[..length]) {{
+            {found}
+            Err(_) => 0x8000_0000_0000_0001,
+        }};
+        sum = sum.wrapping_add(answer);
+    }}
+    sum
+}}
+"#
+    )
+}
+
+// The arm of a `match` for a value.
+fn found(call: &TimedCall, low: &str) -> String {
+    match call.is_whole() {
+        true => format!("Ok(value) => {low},"),
+        false => format!("Ok((value, length)) => ({low}).wrapping_add(length as u64),"),
+    }
 }
 
 // An export that returns the sum of the low 64 bits of all values, or `timing::ERROR`.

@@ -112,18 +112,30 @@ impl State<'_> {
         Ok(placed.first().to_path_buf())
     }
 
-    /// The calls and the columns that are timed.
+    /// The calls and the columns that are timed or counted.
     pub fn timed(&self, name: &str) -> Result<Build, String> {
-        let (calls, types) = (tables::calls()?, tables::column_types()?);
+        let calls = Some(self.calls(exports::calls)?);
+        Ok(Build { calls, columns: Some(self.columns()?), ..Build::empty(name.to_string()) })
+    }
+
+    /// The same, but with a loop in place of each call. The kit inlines the call into it.
+    pub fn timed_in_loops(&self, name: &str) -> Result<Build, String> {
+        let calls = Some(self.calls(exports::loops)?);
+        let columns = Some(self.columns()?);
+        Ok(Build { calls, columns, has_loops: true, ..Build::empty(name.to_string()) })
+    }
+
+    fn calls(&self, library: fn(&[TimedCall]) -> Library) -> Result<Placed, String> {
+        let calls = tables::calls()?;
         let both = [Form::Words, Form::Lanes];
         let names = both.iter().flat_map(|form| calls.iter().map(|call| call.export(*form)));
-        let names: Vec<String> = names.collect();
-        let columns: Vec<String> = types.iter().map(|integer| Shape::export(*integer)).collect();
-        Ok(Build {
-            calls: Some(self.placed(&exports::calls(&calls), &names)?),
-            columns: Some(self.placed(&exports::columns(&types), &columns)?),
-            ..Build::empty(name.to_string())
-        })
+        self.placed(&library(&calls), &names.collect::<Vec<_>>())
+    }
+
+    fn columns(&self) -> Result<Placed, String> {
+        let types = tables::column_types()?;
+        let names: Vec<String> = types.iter().map(|integer| Shape::export(*integer)).collect();
+        self.placed(&exports::columns(&types), &names)
     }
 
     /// A library with two loops over columns of one type. If the loops do not inline the iterator,

@@ -35,14 +35,20 @@ pub fn run(arguments: &Arguments, cache: &Cache) -> Result<u64, String> {
 fn builds_of(arguments: &Arguments, cache: &Cache, state: &State) -> Result<Vec<Build>, String> {
     let beside = arguments.beside.iter().map(|argument| builds::prebuilt(argument));
     let beside: Vec<Build> = beside.collect::<Result<_, _>>()?;
-    let mut builds = vec![state.timed("this checkout")?];
+    // A call through a pointer takes a time of its own, which hides how two states differ.
+    let in_loops = arguments.against.is_some() && arguments.task != Task::Count;
+    let timed = |state: &State, name: &str| match in_loops {
+        true => state.timed_in_loops(name),
+        false => state.timed(name),
+    };
+    let mut builds = vec![timed(state, "this checkout")?];
     if arguments.task != Task::Count {
         builds.push(state.two_loops(Integer::U32)?);
     }
     if let Some(commit) = &arguments.against {
         let (state, name) = State::of_commit(cache, commit, &arguments.cpu)?;
         let copies = cache.empty_folder("copies")?;
-        builds.push(state.timed(&name)?.copied(&copies)?);
+        builds.push(timed(&state, &name)?.copied(&copies)?);
     } else {
         builds.extend(builds::others(cache, arguments.original.as_deref()));
     }

@@ -1,14 +1,16 @@
 -- The answers follow from where the loop of `window_after_zeros` ends.
-use Rattle.std.proofs.Common.{◌+◌, ℕ, true, refl, ◌∙◌, arith, drop, ne_eqb}
+use Rattle.std.proofs.Common.{◌≡◌, ◌+◌, ◌*◌, ◌^◌, ◌≤◌, ℕ, true, refl, ◌∙◌, arith, drop, ne_eqb}
 use Rattle.std.proofs.lemmas.List.{length-drop, take_rest}
 use Rattle.std.proofs.lemmas.List.Sums.{prefix_len-le-length}
 use Rattle.atoi_core.specs.Digit.{decimal_table, is_digit}
 use Rattle.atoi_core.specs.Magnitude.{wide64}
+use Rattle.atoi_core.specs.Reading.{window_of}
+use Rattle.atoi_core.specs.declared.window.Window.{Window}
 use Rattle.atoi_core.proofs.lemmas.Runs.{decimal_below_ten}
 use Rattle.atoi_core.proofs.lemmas.Windows.{Skipped, Skipped-after_zeros, Shows, shows}
-use Rattle.atoi_core.proofs.lemmas.LoopAnswers.{answers_short, answers_64}
+use Rattle.atoi_core.proofs.lemmas.LoopAnswers.{answers_short, answers_64_few}
 use Rattle.atoi_core.proofs.word_engine.prefix_64_after_zeros.Goals as goal
-use Rattle.atoi_core.proofs.word_engine.prefix_64_after_zeros.Goals.{After-window_after_zeros-at, After-window_after_16-back}
+use Rattle.atoi_core.proofs.word_engine.prefix_64_after_zeros.Goals.{After-window_after_zeros-at, After-append_after_16-more}
 
 -- What holds when that loop has ended.
 ended : (c : After-window_after_zeros-at)
@@ -24,35 +26,41 @@ returns-then-first-lt16-clause-answer c =
     let some = ne_eqb (c.window_after_zeros-at.result.0 + c.window_after_zeros-at.result.1.len) 0 (omega (arith, c.window_after_zeros-at.ensures.some)) in
     rw some at (answers_short wide64 c.args.bound c.args.limit (omega arith) after_skip c.if-first-lt16.true (omega arith) c.requires.digits refl refl)
 
-pub window_after_16-back-requires : goal.window_after_16-back-requires
-window_after_16-back-requires c =
-    let after_skip = ended (goal.at.window_after_16-back-requires c).After-window_after_zeros-at in
+pub append_after_16-more-requires : goal.append_after_16-more-requires
+append_after_16-more-requires c =
+    let after_skip = ended (goal.at.append_after_16-more-requires c).After-window_after_zeros-at in
     let at : ℕ = c.window_after_zeros-at.result.0 in
     rw (take_rest c.args.s.now at, length-drop at c.args.s.now)
     (omega (arith, after_skip.window.len_is, prefix_len-le-length (is_digit decimal_table) (drop at c.args.s.now), length-drop at c.args.s.now))
 
 -- The window of the eight bytes after the last window of the loop.
-following : (c : After-window_after_16-back)
-    → Shows decimal_table 8 (drop 16 (drop c.window_after_zeros-at.result.0 c.args.s.now)) c.window_after_16-back.result
-following c =
-    let at = c.window_after_zeros-at.result.0 in
-    shows decimal_below_ten 8 (drop 16 (drop at c.args.s.now)) (rw take_rest at c.window_after_16-back.ensures.window)
+abbrev back : After-append_after_16-more → Window
+back c = window_of decimal_table 8 (drop 16 (drop c.window_after_zeros-at.result.0 c.args.s.now))
 
-pub append_digits-number-requires : goal.append_digits-number-requires
-append_digits-number-requires c = omega (arith, (following (goal.at.append_digits-number-requires c).After-window_after_16-back).len_is)
+following : (c : After-append_after_16-more) → Shows decimal_table 8 (drop 16 (drop c.window_after_zeros-at.result.0 c.args.s.now)) (back c)
+following c = shows decimal_below_ten 8 (drop 16 (drop c.window_after_zeros-at.result.0 c.args.s.now)) refl
 
-pub overflow_add-back : goal.overflow_add-back
-overflow_add-back c = omega (arith, (following (goal.at.overflow_add-back c).After-window_after_16-back).len_is)
+more_is : (c : After-append_after_16-more) → c.append_after_16-more.result.0 ≡ (back c).len
+more_is c = rw take_rest at c.append_after_16-more.ensures.more
+
+number_is : (c : After-append_after_16-more) → c.append_after_16-more.result.0 ≤ 4
+    → c.append_after_16-more.result.1 ≡ c.window_after_zeros-at.result.1.number * 10 ^ c.append_after_16-more.result.0 + (back c).number
+number_is c = rw take_rest at c.append_after_16-more.ensures.number
+
+pub overflow_add-more : goal.overflow_add-more
+overflow_add-more c =
+    let at = (goal.at.overflow_add-more c).After-append_after_16-more in
+    omega (arith, more_is at, (following at).len_is)
 
 pub answer_64-requires : goal.answer_64-requires
 answer_64-requires c =
-    let back = following (goal.at.answer_64-requires c).After-window_after_16-back in
+    let at = (goal.at.answer_64-requires c).After-append_after_16-more in
     let after_skip = ended (goal.at.answer_64-requires c).After-window_after_zeros-at in
-    record { inside = (answers_64 c.args.bound c.args.limit (omega arith) after_skip c.if-first-lt16.false back).0 }
+    record { inside = (answers_64_few c.args.bound c.args.limit (omega arith) after_skip c.if-first-lt16.false (following at) (more_is at) (number_is at)).0 }
 
 pub returns-clause-answer : goal.returns-clause-answer
 returns-clause-answer c =
-    let back = following (goal.at.returns-clause-answer c).After-window_after_16-back in
+    let at = (goal.at.returns-clause-answer c).After-append_after_16-more in
     let after_skip = ended (goal.at.returns-clause-answer c).After-window_after_zeros-at in
-    rw c.append_digits-number.ensures at c.answer_64.ensures
-    ∙ (answers_64 c.args.bound c.args.limit (omega arith) after_skip c.if-first-lt16.false back).1
+    c.answer_64.ensures
+    ∙ (answers_64_few c.args.bound c.args.limit (omega arith) after_skip c.if-first-lt16.false (following at) (more_is at) (number_is at)).1

@@ -2,10 +2,10 @@
 use Rattle.std.proofs.Common.{ℕ, ◌<◌, ◌∙◌, get_or}
 use Rattle.atoi_core.proofs.lemmas.LoadedWords.{loaded_run, loaded_sum}
 use Rattle.atoi_core.proofs.lemmas.WordWindows.{window_short}
-use Rattle.atoi_core.proofs.word_engine.WordsEngine.window.Goals as goal
+use Rattle.atoi_core.proofs.word_engine.read_window.Goals as goal
 
-pub returns-else-len-eq8-clause-window : goal.returns-else-len-eq8-clause-window
-returns-else-len-eq8-clause-window c =
+pub returns-else-len-eq8 : goal.returns-else-len-eq8
+returns-else-len-eq8 g c =
     let s = c.args.s.now in
     let fits : (i : ℕ) → get_or s i 0 < 256 = λ i. (c.type_inv.s i).fits in
     let first = c.load_full-first.result in
