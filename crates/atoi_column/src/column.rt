@@ -78,8 +78,8 @@ impl<'a, T: Parse> Column<'a, T> {
     }
 }
 
-// A field is accepted if and only if the number at the start of the rest ends where the field ends,
-// so the end of a field is never looked for.
+// A field is accepted exactly if the number at its start ends where the field ends, so no end is looked
+// for.
 #[tactic(auto, using(crate::proofs::lemmas::Prefixes::fields_are_prefixes))]
 pub(crate) fn fields_are_prefixes<T: Number>()
     ensures { FieldsArePrefixes T.int_type }

@@ -130,8 +130,8 @@ impl<'a, T: Parse> Iterator for Fields<'a, T> {
 
 impl<'a, T: Parse> FusedIterator for Fields<'a, T> {}
 
-// Returns the value of the first field of `rest` and what follows its separator, if the field ends
-// with the number at its start. A plus is accepted if `PLUS` is set.
+// Returns the value of the first field of `rest`, and what follows its separator, if the field is a
+// number. `PLUS` accepts a plus.
 #[inline(always)]
 fn accepted_field<T: Parse, const PLUS: bool>(
     rest: &[u8],

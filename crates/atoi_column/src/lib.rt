@@ -1,5 +1,5 @@
 //! Columns of decimal integers: the fields of a byte slice, separated by one byte, up to the first
-//! that is refused. Allocates no memory and copies nothing.
+//! that is refused.
 #![tactic(auto)]
 
 mod column;

@@ -22,8 +22,7 @@ pub trait Engine {
         ensures window { result ≡ window_of table 16 s.now }
         ensures one_step { steps.new ≡ steps.old + 1 };
 
-    /// The same for a slice that is parsed as a whole: an engine may be faster if it has fewer than 16
-    /// bytes.
+    /// The same for a slice that is parsed as a whole.
     #[inline(always)]
     fn whole_window(s: &[u8], steps: &mut Steps) -> Window
         ensures window { result ≡ window_of table 16 s.now }

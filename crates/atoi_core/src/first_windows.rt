@@ -11,8 +11,8 @@ use crate::powers::append_digits;
 use crate::steps::Steps;
 use crate::wide_answer::found_or_empty;
 
-// Like `Engine::prefix_128`, which reads what two windows do not answer. With `WHOLE`, a slice of 32
-// bytes or more whose first window is full goes to the engine at once. The engine starts over.
+// Like `Engine::prefix_128`, which starts over if two windows do not decide. With `WHOLE`, 32 bytes or
+// more whose first window is full go there at once.
 #[inline(always)]
 pub(crate) fn prefix_128_inline<'a, E: Engine, const WHOLE: bool>(
     bound: u128,

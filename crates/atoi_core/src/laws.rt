@@ -1,5 +1,5 @@
-//! Laws about what the parses return, for the proofs of callers. A law is a function whose contract
-//! is a fact, and which does nothing when the program runs; `specs/Laws.antt` says each in words.
+//! Laws about what the parses return, for the proofs of callers. A law is a function that does nothing
+//! and whose contract is a fact; `specs/Laws.antt` says each in words.
 ghost use Rattle.atoi_core.specs.IntType.{int_type};
 ghost use Rattle.atoi_core.specs.Laws.{TextOfValue, AcceptedTexts, AcceptedNumbers, WholeResults, PrefixResults, PrefixesAndRests, NumberThenByte, OneNumber, PrefixBegins, NoneOrTooLarge, DecimalTexts, PrefixIsWhole, PrefixOfCut, PrefixStopsAtRest, RestChangesNothing, SkippingAgrees, OrderAndSuffix, ZerosChangeNothing};
 

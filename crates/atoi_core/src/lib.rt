@@ -1,5 +1,5 @@
 //! The parsers that `atoi_simd` and `atoi_lanes` share, over any engine, and the definitions of what
-//! they return. `AtoiSimdError` alone is public in the Rust crate `atoi_simd` too.
+//! they return.
 #![tactic(auto)]
 
 mod alphabet;

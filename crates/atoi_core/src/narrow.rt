@@ -85,7 +85,7 @@ pub fn narrow_whole_windows<'a, E: Engine>(
 }
 
 // The length and the value of the run, or too large a value if the run does not fit in 32 bits.
-// Never inlined: short slices need none of it, and a pair comes back in registers.
+// Never inlined: short slices need none of it.
 #[inline(never)]
 fn digits_of_long<E: Engine>(s: &[u8], steps: &mut Steps) -> (usize, u64)
     ensures decides { (bound : ℕ) → bound ≤ 4294967295 →

@@ -98,7 +98,7 @@ pub(crate) fn value_of_fewer(word: u64, len: u32) -> u64
     sum_of((word.wrapping_sub(ZEROS) << (56 - 8 * len)) << 8)
 }
 
-// `value_of` by fewer operations, for at most four digits. With more, it returns any number.
+// `value_of` for at most four digits, by fewer operations.
 #[tactic(auto, using(crate::proofs::lemmas::WordRuns::lowered_four))]
 pub(crate) fn value_of_four(word: u64, len: u32) -> u64
     requires some { 1 ≤ len }
@@ -110,7 +110,7 @@ pub(crate) fn value_of_four(word: u64, len: u32) -> u64
     u64::from(sum_of_four(digits << (8 * ((8 - len) % 4))))
 }
 
-// `sum_of` for four bytes. They count if each is below 16.
+// `sum_of` for four bytes.
 #[tactic(auto, using(crate::proofs::lemmas::WordFields::sum_of_four))]
 fn sum_of_four(digits: u32) -> u32
     ensures { bit_and digits 0x0F0F_0F0F ≡ digits → result ≡ low_value (low_bytes 4 digits) }

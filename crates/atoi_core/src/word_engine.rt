@@ -77,8 +77,7 @@ impl Engine for Words {
     ghost below_ten = { λ byte. Prim.grind (arith, nat_tests) };
 }
 
-// `Words` with the provided parsers, for the loop of `Words::prefix_64`: with `Words` itself, the
-// checker would see a cycle.
+// `Words` with the provided parsers: with `Words` itself, the checker would see a cycle.
 struct WordWindows;
 
 impl Engine for WordWindows {
@@ -149,8 +148,8 @@ fn prefix_64_after_zeros<'a>(
     answer_64(bound, limit, at, 16 + more, number, s)
 }
 
-// Appends the digits of the window of 8 bytes after the first 16 to the number `high` of these. Returns how
-// many there are, and the number if they are at most four. With more, a number has too many digits.
+// Appends the digits after the first 16, at most 8, to their number `high`. More than four are too many for
+// any limit, and the number is not used.
 #[inline(always)]
 fn append_after_16(high: u64, s: &[u8], steps: &mut Steps) -> (u32, u128)
     requires { 16 ≤ length s.now }
@@ -162,18 +161,17 @@ fn append_after_16(high: u64, s: &[u8], steps: &mut Steps) -> (u32, u128)
     steps.tick();
     let word = load_after(s, 16);
     if !starts_with_digit(word) {
-        // Many numbers have 16 digits. They need no product.
         return (0, u128::from(high));
     }
     let more = digits_of(word);
-    // Too many for any limit. Without this branch, compilers would choose between counts by more steps.
+    // Without this branch, LLVM needs more instructions.
     if more == 8 {
         return (8, 0);
     }
     (more, append_digits(high, more, value_of_four(word, more)))
 }
 
-// The window of 16 bytes.
+// With `ENDS`, 9 to 15 digits that end the slice are read as two words that overlap.
 #[inline(always)]
 fn read_window<const ENDS: bool>(s: &[u8]) -> Window
     ensures { result ≡ window_of decimal_table 16 s.now }
@@ -210,8 +208,7 @@ fn short_window(s: &[u8]) -> Window
     }
 }
 
-// The window of 16 bytes, of which the first 8 are digits, with the word `first`. With `ENDS`, 9 to 15
-// digits that end with the slice are read as the first and the last eight, which overlap.
+// The window of 16 bytes, of which the first 8 are digits, with the word `first`.
 #[inline(always)]
 fn full_window<const ENDS: bool>(s: &[u8], first: u64) -> Window
     requires more { 8 < length s.now }
@@ -228,7 +225,7 @@ fn full_window<const ENDS: bool>(s: &[u8], first: u64) -> Window
     join_words(s, first)
 }
 
-// The same from two words that do not overlap.
+// The same without `ENDS`.
 #[inline(always)]
 fn join_words(s: &[u8], first: u64) -> Window
     requires more { 8 < length s.now }
@@ -250,8 +247,7 @@ fn join_words(s: &[u8], first: u64) -> Window
     }
 }
 
-// The window of 16 bytes, of which there are 9 to 15. The words `first` and `last` of the first and the
-// last 8 are full of digits.
+// The same for 9 to 15 digits, from the first and the last 8.
 #[inline(always)]
 #[tactic(auto, using(crate::proofs::lemmas::WordWindows::window_of_both))]
 fn window_of_ends(s: &[u8], first: u64, last: u64) -> Window

@@ -57,7 +57,7 @@ pub fn load_from(s: &[u8], at: usize) -> u64
     }
 }
 
-// `load_from` with a branch where nothing follows, and otherwise one shift.
+// `load_from` by one shift, with a branch if nothing follows.
 #[inline(always)]
 #[tactic(auto, using(crate::proofs::lemmas::LoadedWords::word_after_all))]
 pub(crate) fn load_after(s: &[u8], at: usize) -> u64
@@ -100,8 +100,8 @@ pub(crate) fn load_last(s: &[u8]) -> u64
     }
 }
 
-// The words of the first and of the last four bytes, or 0 if there are fewer. Compilers turn a choice
-// between arrays into no branch, but two equal tests into a single one.
+// The words of the first and of the last four bytes, or 0 if there are fewer. Compilers turn two equal
+// tests into a branch.
 #[tactic(auto, using(crate::proofs::lemmas::LoadedWords::word_from_four))]
 fn both_fours(s: &[u8]) -> (u32, u32)
     ensures first { 4 ≤ length s.now → result.0 ≡ word_of (take 4 s.now) }

@@ -1,5 +1,5 @@
 //! Numbers in the formats of files and protocols: a number and the byte after it, a number of a
-//! fixed width, a number as `{}` prints it. Allocates no memory and copies nothing.
+//! fixed width, a number as `{}` prints it.
 //!
 //! Every function serves the twelve integer types of Rust. It returns `Some` exactly if the text has
 //! its format, which a caller proves from its clauses alone.

@@ -46,8 +46,8 @@ pub(crate) fn window_32(s: &[u8], steps: &mut Steps) -> Window32
     }
 }
 
-// Returns the 16 bytes after the first 16, as `load_lanes` has them. The last 16 of 16 to 31 bytes
-// contain them, and one shuffle, without a branch on the length, moves them to the start.
+// Returns the 16 bytes after the first 16. The last 16 of 16 to 31 bytes contain them, and one shuffle
+// moves them to the start.
 #[tactic(auto, using(crate::proofs::lemmas::LaneWindows::after_all, crate::proofs::lemmas::Shuffles::after_first_16))]
 fn load_after_16(s: &[u8]) -> u8x16
     ensures { result ≡ padded_start 16 (drop 16 s.now) }

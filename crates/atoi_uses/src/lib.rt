@@ -1,5 +1,4 @@
-//! Example callers of `atoi_core`, `atoi_simd`, `atoi_formats` and `atoi_column`. They are proved from
-//! the public clauses and laws of these crates, and from nothing else in them.
+//! Example callers, proved from the public clauses and laws of the library crates alone.
 #![tactic(auto)]
 
 mod addresses;
