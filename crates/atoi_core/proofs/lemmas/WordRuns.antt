@@ -3,7 +3,7 @@ use Rattle.std.proofs.Common.{◌≡◌, ℕ, zero, suc, ◌+◌, ◌*◌, ◌/�
 use Rattle.std.proofs.Math.Dec.{lit<}
 use Rattle.std.proofs.lemmas.Bool.{agree_below_at, lt-ltb}
 use Rattle.std.proofs.lemmas.Nat.{and_shr, pow-add, mod-pow-add, and_mask, and_block, and_assoc, mul-mod_first}
-use Rattle.std.proofs.Math.Nat.{zero-add, suc-mul, suc-add, add_comm}
+use Rattle.std.proofs.Math.Nat.{zero-add, suc-mul, suc-add}
 use Rattle.std.proofs.Math.Pow.{mod-mod-pow}
 use Rattle.std.proofs.lemmas.Bool.Decides.{nat_tests}
 use Rattle.std.specs.Char.{is_ascii_digit}

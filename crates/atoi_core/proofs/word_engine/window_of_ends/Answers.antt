@@ -1,5 +1,5 @@
 -- Both words give the window.
-use Rattle.std.proofs.Common.{◌≡◌, ℕ, ◌+◌, ◌*◌, length, ap, refl, ◌∙◌}
+use Rattle.std.proofs.Common.{ℕ, ◌+◌, ◌*◌, length, ap, refl, ◌∙◌}
 use Rattle.atoi_core.specs.declared.window.Window.{Window}
 use Rattle.atoi_core.proofs.lemmas.WordWindows.{window_of_both}
 use Rattle.atoi_core.proofs.word_engine.window_of_ends.Goals as goal

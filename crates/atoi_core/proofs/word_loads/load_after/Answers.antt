@@ -1,5 +1,5 @@
 -- A shift leaves the bytes that `last_bytes` speaks of.
-use Rattle.std.proofs.Common.{refl, ℕ, rules, arith, ◌<◌, get_or}
+use Rattle.std.proofs.Common.{ℕ, rules, arith, ◌<◌, get_or}
 use Rattle.atoi_core.proofs.lemmas.LoadedWords.{last_bytes}
 use Rattle.atoi_core.proofs.word_loads.load_after.Goals as goal
 

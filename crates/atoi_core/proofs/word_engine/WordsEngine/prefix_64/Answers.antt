@@ -1,5 +1,5 @@
 -- A first window without zeros to skip decides, if full with the 8 bytes after it.
-use Rattle.std.proofs.Common.{◌≡◌, ℕ, ◌+◌, ◌*◌, ◌^◌, ◌⊎◌, ◌<◌, ◌≤◌, true, false, inl, inr, refl, ◌∙◌, arith, drop, ne_eqb}
+use Rattle.std.proofs.Common.{◌≡◌, ℕ, ◌+◌, ◌*◌, ◌^◌, ◌⊎◌, ◌≤◌, true, false, inl, inr, refl, ◌∙◌, arith, drop, ne_eqb}
 use Rattle.std.proofs.lemmas.List.Sums.{prefix_len-le-length}
 use Rattle.atoi_core.specs.Digit.{decimal_table, is_digit}
 use Rattle.atoi_core.specs.Magnitude.{wide64}
