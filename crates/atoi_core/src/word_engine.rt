@@ -21,7 +21,7 @@ use crate::word_digits::{
     ZEROS, digits_of, fill_of_zeros, number_in_word, starts_with_digit, sum_of, value_of,
     value_of_fewer, value_of_four, zeroes_of, zeroes_of_two,
 };
-use crate::word_loads::{load_after, load_full, load_high, load_last};
+use crate::word_loads::{load_from, load_full, load_high, load_last};
 
 /// The engine for decimal digits that reads eight bytes at once, as a word.
 pub struct Words;
@@ -159,7 +159,7 @@ fn append_after_16(high: u64, s: &[u8], steps: &mut Steps) -> (u32, u128)
     ensures one_step { steps.new ≡ steps.old + 1 }
 {
     steps.tick();
-    let word = load_after(s, 16);
+    let word = load_from(s, 16);
     if !starts_with_digit(word) {
         return (0, u128::from(high));
     }
@@ -233,7 +233,7 @@ fn join_words(s: &[u8], first: u64) -> Window
     requires full { run_len decimal_table (low_bytes 8 first) ≡ 8 }
     ensures { result ≡ window_of decimal_table 16 s.now }
 {
-    let next = load_after(s, 8);
+    let next = load_from(s, 8);
     let more = digits_of(next);
     if more == 8 {
         Window {

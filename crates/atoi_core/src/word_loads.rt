@@ -40,27 +40,10 @@ pub fn load_high(s: &[u8]) -> u64
 }
 
 /// Returns the word of the first 8 bytes from `at` on. If fewer follow, shifts the last 8 bytes of `s`
-/// down. The shift may be by 64 bits, so it is done in two steps.
-#[inline(always)]
-pub fn load_from(s: &[u8], at: usize) -> u64
-    requires enough { 8 ≤ length s.now }
-    requires inside { at ≤ length s.now }
-    requires low { at ≤ 16 }
-    ensures { result ≡ word_of (take 8 (drop at s.now)) }
-{
-    match s.last_chunk::<8>() {
-        Some(last) if s.len() < at + 8 => {
-            (u64::from_le_bytes(*last) >> (8 * (at + 7 - s.len()))) >> 8
-        }
-        Some(_) => load_full(&s[at..]),
-        None => 0,
-    }
-}
-
-// `load_from` by one shift, with a branch if nothing follows.
+/// down.
 #[inline(always)]
 #[tactic(auto, using(crate::proofs::lemmas::LoadedWords::word_after_all))]
-pub(crate) fn load_after(s: &[u8], at: usize) -> u64
+pub fn load_from(s: &[u8], at: usize) -> u64
     requires enough { 8 ≤ length s.now }
     requires inside { at ≤ length s.now }
     requires low { at ≤ 16 }

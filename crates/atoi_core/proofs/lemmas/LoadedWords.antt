@@ -113,15 +113,6 @@ last_bytes s last at enough inside few fits is =
     ∙ bytes_above missing back (λ i. rw get_or-drop (fits (length s - 8 + i)))
     ∙ ap word_of (drop-drop missing (length s - 8) s ∙ ap (λ n. drop n s) above ∙ sym rest)
 
--- The same in two shifts.
-pub last_bytes_twice : (s last : List ℕ) (at : ℕ) → 8 ≤ length s → at ≤ length s → length s < at + 8 → ((i : ℕ) → get_or s i 0 < 256)
-    → last ≡ drop (length s - 8) s → from_le_bytes w64 last / 2 ^ (8 * (at + 7 - length s)) / 2 ^ 8 ≡ word_of (take 8 (drop at s))
-last_bytes_twice s last at enough inside few fits is =
-    let bits : 8 * (at + 7 - length s) + 8 ≡ 8 * (at + 8 - length s) = omega arith in
-    let twice : 2 ^ (8 * (at + 7 - length s)) * 2 ^ 8 ≡ 2 ^ (8 * (at + 8 - length s)) = sym (pow-add 2 (8 * (at + 7 - length s)) 8) ∙ ap (λ e. 2 ^ e) bits in
-    div-div-eq-div-mul (from_le_bytes w64 last) (2 ^ (8 * (at + 7 - length s))) (2 ^ 8)
-    ∙ ap (λ p. from_le_bytes w64 last / p) twice ∙ last_bytes s last at enough inside few fits is
-
 -- After all bytes, there are none.
 pub word_after_all : (s : List ℕ) (at : ℕ) → length s ≤ at → 0 ≡ word_of (take 8 (drop at s))
 word_after_all s at all = word_of_none (take 8 (drop at s)) (ap (λ l. length (take 8 l)) (drop_all at s all))

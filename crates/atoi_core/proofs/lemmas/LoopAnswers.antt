@@ -3,16 +3,16 @@ use Rattle.std.proofs.Common.{◌≡◌, ℕ, ◌+◌, ◌*◌, ◌^◌, ◌<◌
 use Rattle.std.proofs.lemmas.Bool.{eq-eqb, cases_lt, lt-ltb}
 use Rattle.std.proofs.lemmas.List.{length-drop, take_rest}
 use Rattle.std.proofs.lemmas.List.Sums.{prefix_len-drop_all}
-use Rattle.atoi_core.specs.Digit.{Table, IsBelowTen, is_zero, is_digit}
+use Rattle.atoi_core.specs.Digit.{Table, IsBelowTen, decimal_table, is_zero, is_digit}
 use Rattle.atoi_core.specs.Run.{zeros, run_len, run, value}
 use Rattle.atoi_core.specs.Magnitude.{Class, wide64, wide128, Extent, prefix, rule_of, HasDigits, prefix_magnitude, narrow, whole, Rule, invalid, unless_refused, whole_magnitude, skipped_zeros, is_above}
 use Rattle.atoi_core.specs.Refusal.{empty, Refusal, invalid64, invalid128, size, overflow}
 use Rattle.atoi_core.specs.Reading.{cap, answer_by_digits, window_of, narrow_decision}
 use Rattle.atoi_core.specs.declared.window.Window.{Window}
 use Rattle.atoi_core.proofs.lemmas.Refusals.{refusal-is, refused_empty, is_empty, is_long, is_over, too_long, over, limit_at, significant_len, IsAccepted, refusal-none, refused_size, refused_overflow}
-use Rattle.atoi_core.proofs.lemmas.Runs.{prefix_len-take, prefix_len-drop, value-take-le, value-least, run_ends, run_more, value_more}
+use Rattle.atoi_core.proofs.lemmas.Runs.{decimal_below_ten, prefix_len-take, prefix_len-drop, value-take-le, value-least, run_ends, run_more, value_more}
 use Rattle.atoi_core.proofs.lemmas.Readings.{within, below, short, short_below, all_decide}
-use Rattle.atoi_core.proofs.lemmas.Windows.{Shows, zeros_both, Shows-join, Shows-join_two, Skipped}
+use Rattle.atoi_core.proofs.lemmas.Windows.{Shows, shows, zeros_both, Shows-join, Shows-join_two, Skipped}
 use Rattle.std.proofs.lemmas.Bool.Decides.{nat_tests}
 use Rattle.std.proofs.Math.Nat.{eq-zero-or-pos}
 
@@ -75,13 +75,14 @@ answers_64 {table} bound limit {skip} {s} {at} less after_skip full following =
     )
 
 -- With more than 4 digits after 16, there are more than the limit, and the number does not matter.
-pub answers_64_few : {table : Table} (bound limit : ℕ) {skip : Bool} {s : List ℕ} {at before now : ℕ} {first_window back : Window} {more number : ℕ} →
-    limit ≤ 20 → Skipped table skip s at before now first_window → 16 ≤ first_window.len → Shows table 8 (drop 16 (drop at s)) back →
+pub answers_64_few : (bound limit : ℕ) {skip : Bool} {s : List ℕ} {at before now : ℕ} {first_window : Window} {more number : ℕ} →
+    limit ≤ 20 → Skipped decimal_table skip s at before now first_window → 16 ≤ first_window.len →
+    let back = window_of decimal_table 8 (drop 16 (drop at s)) in
     more ≡ back.len → (more ≤ 4 → number ≡ first_window.number * 10 ^ more + back.number) →
-    (at + (16 + more) ≤ length s) × (answer_by_digits wide64 bound limit at (16 + more) number s ≡ prefix_magnitude table wide64 bound limit skip s)
-answers_64_few bound limit {s = s} {at} {first_window = first_window} {back} {more} {number} high after_skip full following more_is number_is =
-    let exact = answers_64 bound limit (omega arith) after_skip full following in
-    let long : 4 < more → nat_lt limit (16 + back.len) ≡ true = λ many. lt-ltb limit (16 + back.len) (omega (arith, many)) in (
+    (at + (16 + more) ≤ length s) × (answer_by_digits wide64 bound limit at (16 + more) number s ≡ prefix_magnitude decimal_table wide64 bound limit skip s)
+answers_64_few bound limit {s = s} {at} {more = more} high after_skip full more_is number_is =
+    let exact = answers_64 bound limit (omega arith) after_skip full (shows decimal_below_ten 8 (drop 16 (drop at s)) refl) in
+    let long : 4 < more → nat_lt limit (16 + (window_of decimal_table 8 (drop 16 (drop at s))).len) ≡ true = λ many. lt-ltb limit _ (omega (arith, many)) in (
       omega (arith, exact.0),
       elim (cases_lt 4 more) [
         | inr few ↦ rw (number_is few, more_is) exact.1

@@ -1,5 +1,5 @@
 -- Windows that are read by words.
-use Rattle.std.proofs.Common.{◌≡◌, ℕ, [], zero, suc, ◌+◌, ◌-◌, ◌*◌, ◌/◌, ◌%◌, ◌^◌, ◌<◌, ◌≤◌, List, ◌∷◌, ◌++◌, length, take, drop, replicate, get_or, take-take, refl, sym, ap, ap₂, ◌∙◌, arith, ◌≢◌, min, ◌==◌, if◌then◌else◌, Bool, true, false, nat_lt, ltb-false}
+use Rattle.std.proofs.Common.{◌≡◌, ℕ, zero, suc, ◌+◌, ◌-◌, ◌*◌, ◌/◌, ◌%◌, ◌^◌, ◌<◌, ◌≤◌, List, ◌∷◌, ◌++◌, length, take, drop, replicate, get_or, take-take, refl, sym, ap, ap₂, ◌∙◌, arith, ◌≢◌, min, ◌==◌, if◌then◌else◌, Bool, true, false, nat_lt, ltb-false}
 use Rattle.std.proofs.Math.Nat.{zero-add, suc-add}
 use Rattle.std.proofs.lemmas.List.{take_all, length-append, length-replicate, length-take, length-drop, get_or-drop}
 use Rattle.std.specs.Simd.Lanes.{number_l, digits_l}
@@ -220,13 +220,3 @@ loaded_digits s fits word len number is len_is number_is =
     let zeroes = if len == 8 then zeros decimal_table (low_bytes 8 word) else 0 in
     let same = loaded_window s fits word (record { len = len; zeroes = zeroes; number = number }) is len_is refl number_is in
     (ap (λ (w : Window). w.len) same, ap (λ (w : Window). w.number) same)
-
--- The window of no bytes.
-pub no_bytes : (s : List ℕ) → length s ≡ 0 → ◌≡◌ {A = Window} (record { len = 0; zeroes = 0; number = 0 }) (window_of decimal_table 8 s)
-no_bytes [] none = refl
-no_bytes (b ∷ s) none = absurd (omega arith)
-
--- The window of a word that begins with no digit.
-pub loaded_no_digit : (s : List ℕ) → ((i : ℕ) → get_or s i 0 < 256) → (word : ℕ) → word ≡ word_of (take 8 s) → run_len decimal_table (low_bytes 8 word) ≡ 0
-    → ◌≡◌ {A = Window} (record { len = 0; zeroes = 0; number = 0 }) (window_of decimal_table 8 s)
-loaded_no_digit s fits word is none = window_from 8 s 0 0 0 (sym none ∙ loaded_run s fits word is) refl refl

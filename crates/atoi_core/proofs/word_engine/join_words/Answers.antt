@@ -9,13 +9,13 @@ use Rattle.atoi_core.proofs.lemmas.WordWindows.{enough_bytes, window_joined, rep
 use Rattle.atoi_core.proofs.word_engine.join_words.Goals as goal
 use Rattle.atoi_core.proofs.word_engine.join_words.Goals.{After-digits_of-more}
 
-pub load_after-next-requires-clause-enough : goal.load_after-next-requires-clause-enough
-load_after-next-requires-clause-enough c =
+pub load_from-next-requires-clause-enough : goal.load_from-next-requires-clause-enough
+load_from-next-requires-clause-enough c =
     let s = c.args.s.now in
     enough_bytes s (sym (loaded_run s (λ i. (c.type_inv.s i).fits) c.args.first c.requires.loaded) ∙ c.requires.full)
 
-pub load_after-next-requires-clause-inside : goal.load_after-next-requires-clause-inside
-load_after-next-requires-clause-inside c = omega (arith, c.requires.more)
+pub load_from-next-requires-clause-inside : goal.load_from-next-requires-clause-inside
+load_from-next-requires-clause-inside c = omega (arith, c.requires.more)
 
 -- Both words are bytes, the first is full, and `more` digits follow.
 bytes : (c : After-digits_of-more) (i : ℕ) → get_or c.args.s.now i 0 < 256
@@ -28,14 +28,14 @@ full : (c : After-digits_of-more) → run_len decimal_table (take 8 c.args.s.now
 full c = sym (loaded_run c.args.s.now (bytes c) c.args.first c.requires.loaded) ∙ c.requires.full
 
 more_is : (c : After-digits_of-more) → c.digits_of-more.result ≡ run_len decimal_table (take 8 (drop 8 c.args.s.now))
-more_is c = c.digits_of-more.ensures.len ∙ loaded_run (drop 8 c.args.s.now) (following c) c.load_after-next.result c.load_after-next.ensures
+more_is c = c.digits_of-more.ensures.len ∙ loaded_run (drop 8 c.args.s.now) (following c) c.load_from-next.result c.load_from-next.ensures
 
 pub returns-then-more-eq8 : goal.returns-then-more-eq8
 returns-then-more-eq8 c =
     let at = (goal.at.returns-then-more-eq8 c).After-digits_of-more in
     let s = c.args.s.now in
     let first = c.args.first in
-    let next = c.load_after-next.result in
+    let next = c.load_from-next.result in
     let more = c.digits_of-more.result in
     let all_zeros = zeros decimal_table (take 8 s ++ take 8 (drop 8 s)) in
     let eight : 8 ≡ more = sym c.if-more-eq8.true in
@@ -44,7 +44,7 @@ returns-then-more-eq8 c =
     let whole : zeros decimal_table (low_bytes 8 first ++ low_bytes 8 next) ≡ all_zeros =
     ap₂ (λ xs ys. zeros decimal_table (xs ++ ys))
     (loaded_bytes s (bytes at) first c.requires.loaded (enough_bytes s (full at)))
-    (loaded_bytes (drop 8 s) (following at) next c.load_after-next.ensures (enough_bytes (drop 8 s) (sym (more_is at) ∙ sym eight))) in
+    (loaded_bytes (drop 8 s) (following at) next c.load_from-next.ensures (enough_bytes (drop 8 s) (sym (more_is at) ∙ sym eight))) in
     let window : ℕ → ℕ → Window =
     λ n p. record { len = n; zeroes = c.zeroes_of_two.result; number = c.value_of.result * p + c.value_of-then-more-eq8.result } in
     ap₂ window len power
@@ -52,7 +52,7 @@ returns-then-more-eq8 c =
     (c.zeroes_of_two.ensures ∙ whole ∙ sym (reported_full more 8 all_zeros (sym eight)))
     (c.value_of.ensures.sum ∙ loaded_sum s (bytes at) first c.requires.loaded 8 (sym c.requires.full))
     (c.value_of-then-more-eq8.ensures.sum ∙ ap (λ (n : ℕ). low_value (low_bytes n next)) eight
-    ∙ loaded_sum (drop 8 s) (following at) next c.load_after-next.ensures more c.digits_of-more.ensures.len)
+    ∙ loaded_sum (drop 8 s) (following at) next c.load_from-next.ensures more c.digits_of-more.ensures.len)
 
 pub returns-else-more-eq8 : goal.returns-else-more-eq8
 returns-else-more-eq8 c =
@@ -66,4 +66,4 @@ returns-else-more-eq8 c =
     ∙ window_joined s more 0 c.value_of-else-more-eq8.result c.value_of_fewer.result (full at) (more_is at)
     (sym (reported_none more 8 (zeros decimal_table (take 8 s ++ take 8 (drop 8 s))) c.if-more-eq8.false))
     (c.value_of-else-more-eq8.ensures.sum ∙ loaded_sum s (bytes at) c.args.first c.requires.loaded 8 (sym c.requires.full))
-    (c.value_of_fewer.ensures.sum ∙ loaded_sum (drop 8 s) (following at) c.load_after-next.result c.load_after-next.ensures more c.digits_of-more.ensures.len)
+    (c.value_of_fewer.ensures.sum ∙ loaded_sum (drop 8 s) (following at) c.load_from-next.result c.load_from-next.ensures more c.digits_of-more.ensures.len)

@@ -1,16 +1,14 @@
 -- The answers follow from where the loop of `window_after_zeros` ends.
-use Rattle.std.proofs.Common.{◌≡◌, ◌+◌, ◌*◌, ◌^◌, ◌≤◌, ℕ, true, refl, ◌∙◌, arith, drop, ne_eqb}
+use Rattle.std.proofs.Common.{◌+◌, ℕ, true, refl, ◌∙◌, arith, drop, ne_eqb}
 use Rattle.std.proofs.lemmas.List.{length-drop, take_rest}
 use Rattle.std.proofs.lemmas.List.Sums.{prefix_len-le-length}
 use Rattle.atoi_core.specs.Digit.{decimal_table, is_digit}
 use Rattle.atoi_core.specs.Magnitude.{wide64}
-use Rattle.atoi_core.specs.Reading.{window_of}
-use Rattle.atoi_core.specs.declared.window.Window.{Window}
 use Rattle.atoi_core.proofs.lemmas.Runs.{decimal_below_ten}
-use Rattle.atoi_core.proofs.lemmas.Windows.{Skipped, Skipped-after_zeros, Shows, shows}
+use Rattle.atoi_core.proofs.lemmas.Windows.{Skipped, Skipped-after_zeros, shows}
 use Rattle.atoi_core.proofs.lemmas.LoopAnswers.{answers_short, answers_64_few}
 use Rattle.atoi_core.proofs.word_engine.prefix_64_after_zeros.Goals as goal
-use Rattle.atoi_core.proofs.word_engine.prefix_64_after_zeros.Goals.{After-window_after_zeros-at, After-append_after_16-more}
+use Rattle.atoi_core.proofs.word_engine.prefix_64_after_zeros.Goals.{After-window_after_zeros-at}
 
 -- What holds when that loop has ended.
 ended : (c : After-window_after_zeros-at)
@@ -33,34 +31,19 @@ append_after_16-more-requires c =
     rw (take_rest c.args.s.now at, length-drop at c.args.s.now)
     (omega (arith, after_skip.window.len_is, prefix_len-le-length (is_digit decimal_table) (drop at c.args.s.now), length-drop at c.args.s.now))
 
--- The window of the eight bytes after the last window of the loop.
-abbrev back : After-append_after_16-more → Window
-back c = window_of decimal_table 8 (drop 16 (drop c.window_after_zeros-at.result.0 c.args.s.now))
-
-following : (c : After-append_after_16-more) → Shows decimal_table 8 (drop 16 (drop c.window_after_zeros-at.result.0 c.args.s.now)) (back c)
-following c = shows decimal_below_ten 8 (drop 16 (drop c.window_after_zeros-at.result.0 c.args.s.now)) refl
-
-more_is : (c : After-append_after_16-more) → c.append_after_16-more.result.0 ≡ (back c).len
-more_is c = rw take_rest at c.append_after_16-more.ensures.more
-
-number_is : (c : After-append_after_16-more) → c.append_after_16-more.result.0 ≤ 4
-    → c.append_after_16-more.result.1 ≡ c.window_after_zeros-at.result.1.number * 10 ^ c.append_after_16-more.result.0 + (back c).number
-number_is c = rw take_rest at c.append_after_16-more.ensures.number
-
 pub overflow_add-more : goal.overflow_add-more
 overflow_add-more c =
-    let at = (goal.at.overflow_add-more c).After-append_after_16-more in
-    omega (arith, more_is at, (following at).len_is)
+    let following = shows {table = decimal_table} decimal_below_ten 8 (drop 16 (drop c.window_after_zeros-at.result.0 c.args.s.now)) refl in
+    omega (arith, rw take_rest at c.append_after_16-more.ensures.more, following.len_is)
 
 pub answer_64-requires : goal.answer_64-requires
 answer_64-requires c =
-    let at = (goal.at.answer_64-requires c).After-append_after_16-more in
     let after_skip = ended (goal.at.answer_64-requires c).After-window_after_zeros-at in
-    record { inside = (answers_64_few c.args.bound c.args.limit (omega arith) after_skip c.if-first-lt16.false (following at) (more_is at) (number_is at)).0 }
+    let found = c.append_after_16-more.ensures in
+    record { inside = (answers_64_few c.args.bound c.args.limit (omega arith) after_skip c.if-first-lt16.false (rw take_rest at found.more) (rw take_rest at found.number)).0 }
 
 pub returns-clause-answer : goal.returns-clause-answer
 returns-clause-answer c =
-    let at = (goal.at.returns-clause-answer c).After-append_after_16-more in
     let after_skip = ended (goal.at.returns-clause-answer c).After-window_after_zeros-at in
-    c.answer_64.ensures
-    ∙ (answers_64_few c.args.bound c.args.limit (omega arith) after_skip c.if-first-lt16.false (following at) (more_is at) (number_is at)).1
+    let found = c.append_after_16-more.ensures in
+    c.answer_64.ensures ∙ (answers_64_few c.args.bound c.args.limit (omega arith) after_skip c.if-first-lt16.false (rw take_rest at found.more) (rw take_rest at found.number)).1

@@ -1,6 +1,6 @@
--- A shift by 8 more bits leaves the bytes that `last_bytes_twice` speaks of.
+-- A shift leaves the bytes that `last_bytes` speaks of.
 use Rattle.std.proofs.Common.{ℕ, rules, arith, ◌<◌, get_or}
-use Rattle.atoi_core.proofs.lemmas.LoadedWords.{last_bytes_twice}
+use Rattle.atoi_core.proofs.lemmas.LoadedWords.{last_bytes}
 use Rattle.atoi_core.proofs.word_loads.load_from.Goals as goal
 
 pub returns-in-Some : goal.returns-in-Some
@@ -9,4 +9,4 @@ returns-in-Some c =
     let r = c.requires in
     let fits : (i : ℕ) → get_or s i 0 < 256 = λ i. (c.type_inv.s i).fits in
     rw c.from_le_bytes.ensures
-    (last_bytes_twice s c.in-Some.last.now c.args.at r.enough r.inside c.if-s-at.true fits (search (rules, arith)))
+    (last_bytes s c.in-Some.last.now c.args.at r.enough r.inside c.if-s-at-2.true fits (search (rules, arith)))

@@ -1,15 +1,13 @@
 -- A first window without zeros to skip decides, if full with the 8 bytes after it.
-use Rattle.std.proofs.Common.{◌≡◌, ℕ, ◌+◌, ◌*◌, ◌^◌, ◌⊎◌, ◌≤◌, true, false, inl, inr, refl, ◌∙◌, arith, drop, ne_eqb}
+use Rattle.std.proofs.Common.{◌≡◌, ℕ, ◌⊎◌, ◌≤◌, true, false, inl, inr, refl, ◌∙◌, arith, drop, ne_eqb}
 use Rattle.std.proofs.lemmas.List.Sums.{prefix_len-le-length}
 use Rattle.atoi_core.specs.Digit.{decimal_table, is_digit}
 use Rattle.atoi_core.specs.Magnitude.{wide64}
-use Rattle.atoi_core.specs.Reading.{window_of}
-use Rattle.atoi_core.specs.declared.window.Window.{Window}
 use Rattle.atoi_core.proofs.lemmas.Runs.{decimal_below_ten}
-use Rattle.atoi_core.proofs.lemmas.Windows.{Skipped, Skipped-at_once, Skipped-loads, Shows, shows}
+use Rattle.atoi_core.proofs.lemmas.Windows.{Skipped, Skipped-at_once, Skipped-loads, shows}
 use Rattle.atoi_core.proofs.lemmas.LoopAnswers.{answers_empty, answers_short, answers_64_few}
 use Rattle.atoi_core.proofs.word_engine.WordsEngine.prefix_64.Goals as goal
-use Rattle.atoi_core.proofs.word_engine.WordsEngine.prefix_64.Goals.{After-window-first, After-append_after_16-more}
+use Rattle.atoi_core.proofs.word_engine.WordsEngine.prefix_64.Goals.{After-window-first}
 
 -- What holds if zeros are not skipped, or the first window reports none.
 last : (c : After-window-first) → (c.args.skip ≡ true × c.window-first.result.zeroes ≤ 0) ⊎ (c.args.skip ≡ false)
@@ -40,37 +38,20 @@ append_after_16-more-requires c =
     let after_skip = last (goal.at.append_after_16-more-requires c).After-window-first c.else-skip.either in
     omega (arith, c.if-first-lt16.false, after_skip.window.len_is, prefix_len-le-length (is_digit decimal_table) c.args.s.now)
 
--- The window of 8 bytes after the first one.
-abbrev back : After-append_after_16-more → Window
-back c = window_of decimal_table 8 (drop 16 c.args.s.now)
-
-following : (c : After-append_after_16-more) → Shows decimal_table 8 (drop 16 c.args.s.now) (back c)
-following c = shows decimal_below_ten 8 (drop 16 c.args.s.now) refl
-
-more_is : (c : After-append_after_16-more) → c.append_after_16-more.result.0 ≡ (back c).len
-more_is c = c.append_after_16-more.ensures.more
-
-number_is : (c : After-append_after_16-more) → c.append_after_16-more.result.0 ≤ 4
-    → c.append_after_16-more.result.1 ≡ c.window-first.result.number * 10 ^ c.append_after_16-more.result.0 + (back c).number
-number_is c = c.append_after_16-more.ensures.number
-
 pub overflow_add-more : goal.overflow_add-more
-overflow_add-more c =
-    let at = (goal.at.overflow_add-more c).After-append_after_16-more in
-    omega (arith, more_is at, (following at).len_is)
+overflow_add-more c = omega (arith, c.append_after_16-more.ensures.more, (shows {table = decimal_table} decimal_below_ten 8 (drop 16 c.args.s.now) refl).len_is)
 
 pub answer_64-requires : goal.answer_64-requires
 answer_64-requires c =
-    let at = (goal.at.answer_64-requires c).After-append_after_16-more in
     let after_skip = last (goal.at.answer_64-requires c).After-window-first c.else-skip.either in
-    record { inside = (answers_64_few c.args.bound c.args.limit (omega arith) after_skip c.if-first-lt16.false (following at) (more_is at) (number_is at)).0 }
+    let found = c.append_after_16-more.ensures in
+    record { inside = (answers_64_few c.args.bound c.args.limit (omega arith) after_skip c.if-first-lt16.false found.more found.number).0 }
 
 pub returns-else-first-lt16-clause-answer : goal.returns-else-first-lt16-clause-answer
 returns-else-first-lt16-clause-answer c =
-    let at = (goal.at.returns-else-first-lt16-clause-answer c).After-append_after_16-more in
     let after_skip = last (goal.at.returns-else-first-lt16-clause-answer c).After-window-first c.else-skip.either in
-    c.answer_64.ensures
-    ∙ (answers_64_few c.args.bound c.args.limit (omega arith) after_skip c.if-first-lt16.false (following at) (more_is at) (number_is at)).1
+    let found = c.append_after_16-more.ensures in
+    c.answer_64.ensures ∙ (answers_64_few c.args.bound c.args.limit (omega arith) after_skip c.if-first-lt16.false found.more found.number).1
 
 pub returns-else-first-lt16-clause-loads : goal.returns-else-first-lt16-clause-loads
 returns-else-first-lt16-clause-loads c =
