@@ -29,7 +29,7 @@ pub fn load_lanes(s: &[u8]) -> u8x16
     match s.first_chunk::<LANES>() {
         Some(bytes) => u8x16::from_array(*bytes),
         None => {
-            let high = if s.len() < 8 { 0 } else { load_from(s, 8) };
+            let high = if s.len() <= 8 { 0 } else { load_from(s, 8) };
             u64x2::from_array([load_8(s), high]).to_le_bytes()
         }
     }
