@@ -76,7 +76,7 @@ cargo run --release -- [ARGUMENT..]
                       (the value of TORKETTLE_ORIGINAL)
   --debug             compare the package as a debug build, with checks for overflow
   --lanes             time lanes of the package too
-  --against COMMIT    only time the exports, or what --inlined-only times, beside a commit's
+  --against COMMIT    only time the kit's build, or what --inlined-only times, beside a commit's, inlined in loops
   --only TEXT         time only what has TEXT in its line, as 'parse u64 -- 16' or 'column u64'
   --beside NAME=FILE  time or count a build of your own too: FILE is a shared object
   --cpu CPU           build our library for a processor (x86-64-v2)
