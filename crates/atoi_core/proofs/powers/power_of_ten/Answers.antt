@@ -1,6 +1,5 @@
 -- Each entry of `POWERS` is compared with its power of ten.
-use Rattle.std.proofs.Common.{ℕ, ◌^◌, ◌≤◌, ◌==◌, true, refl, lit<, arith, slice_index_or}
-use Rattle.std.proofs.Math.Nat.{pow-le-pow_right}
+use Rattle.std.proofs.Common.{ℕ, ◌^◌, ◌==◌, true, refl, arith, slice_index_or}
 use Rattle.std.proofs.lemmas.Bool.{eqb-true, agree_below_at}
 use Rattle.atoi_core.specs.declared.powers.TheConstants.{POWERS}
 use Rattle.atoi_core.proofs.powers.power_of_ten.Goals as goal
@@ -8,13 +7,3 @@ use Rattle.atoi_core.proofs.powers.power_of_ten.Goals as goal
 pub returns-clause-power : goal.returns-clause-power
 returns-clause-power c =
     eqb-true _ _ (agree_below_at (λ (i : ℕ). slice_index_or POWERS i 0 == 10 ^ i) (λ _. true) 17 c.args.digits refl (omega arith))
-
-pub returns-clause-most : goal.returns-clause-most
-returns-clause-most c =
-    let power : 10 ^ c.args.digits ≤ 10 ^ 16 = pow-le-pow_right (omega arith) c.requires in
-    omega (arith, returns-clause-power c, power)
-
-pub returns-clause-few : goal.returns-clause-few
-returns-clause-few c = λ few.
-    let power : 10 ^ c.args.digits ≤ 10 ^ 8 = pow-le-pow_right (lit< tt) few in
-    omega (arith, returns-clause-power c, power)

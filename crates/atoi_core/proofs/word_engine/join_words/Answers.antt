@@ -9,14 +9,6 @@ use Rattle.atoi_core.proofs.lemmas.WordWindows.{enough_bytes, window_joined, rep
 use Rattle.atoi_core.proofs.word_engine.join_words.Goals as goal
 use Rattle.atoi_core.proofs.word_engine.join_words.Goals.{After-digits_of-more}
 
-pub load_from-next-requires-clause-enough : goal.load_from-next-requires-clause-enough
-load_from-next-requires-clause-enough c =
-    let s = c.args.s.now in
-    enough_bytes s (sym (loaded_run s (λ i. (c.type_inv.s i).fits) c.args.first c.requires.loaded) ∙ c.requires.full)
-
-pub load_from-next-requires-clause-inside : goal.load_from-next-requires-clause-inside
-load_from-next-requires-clause-inside c = omega (arith, c.requires.more)
-
 -- Both words are bytes, the first is full, and `more` digits follow.
 bytes : (c : After-digits_of-more) (i : ℕ) → get_or c.args.s.now i 0 < 256
 bytes c i = (c.type_inv.s i).fits
@@ -40,14 +32,13 @@ returns-then-more-eq8 c =
     let all_zeros = zeros decimal_table (take 8 s ++ take 8 (drop 8 s)) in
     let eight : 8 ≡ more = sym c.if-more-eq8.true in
     let len : 16 ≡ 8 + more = omega arith in
-    let power : c.power_of_ten.result ≡ 10 ^ more = c.power_of_ten.ensures.power ∙ ap (λ (n : ℕ). 10 ^ n) eight in
     let whole : zeros decimal_table (low_bytes 8 first ++ low_bytes 8 next) ≡ all_zeros =
     ap₂ (λ xs ys. zeros decimal_table (xs ++ ys))
     (loaded_bytes s (bytes at) first c.requires.loaded (enough_bytes s (full at)))
     (loaded_bytes (drop 8 s) (following at) next c.load_from-next.ensures (enough_bytes (drop 8 s) (sym (more_is at) ∙ sym eight))) in
     let window : ℕ → ℕ → Window =
     λ n p. record { len = n; zeroes = c.zeroes_of_two.result; number = c.value_of.result * p + c.value_of-then-more-eq8.result } in
-    ap₂ window len power
+    ap₂ window len (c.power_of_ten.ensures.power ∙ ap (λ (n : ℕ). 10 ^ n) eight)
     ∙ window_joined s more c.zeroes_of_two.result c.value_of.result c.value_of-then-more-eq8.result (full at) (more_is at)
     (c.zeroes_of_two.ensures ∙ whole ∙ sym (reported_full more 8 all_zeros (sym eight)))
     (c.value_of.ensures.sum ∙ loaded_sum s (bytes at) first c.requires.loaded 8 (sym c.requires.full))

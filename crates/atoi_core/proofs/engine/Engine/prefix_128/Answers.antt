@@ -3,16 +3,10 @@ use Rattle.std.proofs.Common.{◌∙◌, refl, arith, lit<, drop}
 use Rattle.std.proofs.lemmas.List.{take_rest}
 use Rattle.std.proofs.lemmas.List.Sums.{prefix_len-le-length}
 use Rattle.atoi_core.specs.Digit.{is_digit}
-use Rattle.atoi_core.proofs.lemmas.Windows.{Shows, Skipping-none, Skipping-next, Skipped, Skipped-end, Skipped-loads, shows_following, two_full}
+use Rattle.atoi_core.proofs.lemmas.Windows.{Shows, Skipping-next, Skipped, Skipped-end, Skipped-loads, shows_following, two_full}
 use Rattle.atoi_core.proofs.lemmas.LoopAnswers.{answers_short, answers_two, answers_128}
 use Rattle.atoi_core.proofs.engine.Engine.prefix_128.Goals as goal
 use Rattle.atoi_core.proofs.engine.Engine.prefix_128.Goals.{Joined-then-not-skip, After-window-second, After-window_8-third}
-
-pub loop-window-init : goal.loop-window-init
-loop-window-init g c = Skipping-none _ c.args.skip c.args.s.now c.args.steps.now
-
-pub slice_bounds-window-count : goal.slice_bounds-window-count
-slice_bounds-window-count g c = c.loop-window.invariant.within
 
 pub loop-window-preserved : goal.loop-window-preserved
 loop-window-preserved g c =
@@ -65,8 +59,7 @@ pub answer_128-requires : goal.answer_128-requires
 answer_128-requires g c =
     let at = goal.at.answer_128-requires g c in
     let back = third g at.After-window_8-third in
-    let after_skip = ended g at.Joined-then-not-skip in
-    let all = answers_128 g.met.Self.Engine.below_ten c.args.bound after_skip c.if-first-lt16.false
+    let all = answers_128 g.met.Self.Engine.below_ten c.args.bound (ended g at.Joined-then-not-skip) c.if-first-lt16.false
     (middle g at.After-window-second) c.if-second-lt16.false back in
     record {
       digits = c.requires.digits;

@@ -1,15 +1,9 @@
 -- After the loop `Skipped` holds, and gives answers and loads.
 use Rattle.std.proofs.Common.{◌∙◌, refl, arith, drop}
-use Rattle.atoi_core.proofs.lemmas.Windows.{Shows, Skipping-none, Skipping-next, Skipped, Skipped-end, Skipped-loads, shows_following}
+use Rattle.atoi_core.proofs.lemmas.Windows.{Shows, Skipping-next, Skipped, Skipped-end, Skipped-loads, shows_following}
 use Rattle.atoi_core.proofs.lemmas.LoopAnswers.{answers_short, answers_64}
 use Rattle.atoi_core.proofs.engine.Engine.prefix_64.Goals as goal
 use Rattle.atoi_core.proofs.engine.Engine.prefix_64.Goals.{Joined-then-not-skip, After-window_8-second}
-
-pub loop-window-init : goal.loop-window-init
-loop-window-init g c = Skipping-none _ c.args.skip c.args.s.now c.args.steps.now
-
-pub slice_bounds-window-count : goal.slice_bounds-window-count
-slice_bounds-window-count g c = c.loop-window.invariant.within
 
 pub loop-window-preserved : goal.loop-window-preserved
 loop-window-preserved g c =

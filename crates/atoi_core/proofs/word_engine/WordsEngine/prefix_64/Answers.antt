@@ -1,10 +1,10 @@
 -- A first window without zeros to skip decides, if full with the 8 bytes after it.
-use Rattle.std.proofs.Common.{◌≡◌, ℕ, ◌⊎◌, ◌≤◌, true, false, inl, inr, refl, ◌∙◌, arith, drop, ne_eqb}
+use Rattle.std.proofs.Common.{◌≡◌, ℕ, ◌⊎◌, ◌≤◌, true, false, inl, inr, refl, ◌∙◌, arith, ne_eqb}
 use Rattle.std.proofs.lemmas.List.Sums.{prefix_len-le-length}
 use Rattle.atoi_core.specs.Digit.{decimal_table, is_digit}
 use Rattle.atoi_core.specs.Magnitude.{wide64}
 use Rattle.atoi_core.proofs.lemmas.Runs.{decimal_below_ten}
-use Rattle.atoi_core.proofs.lemmas.Windows.{Skipped, Skipped-at_once, Skipped-loads, shows}
+use Rattle.atoi_core.proofs.lemmas.Windows.{Skipped, Skipped-at_once, Skipped-loads}
 use Rattle.atoi_core.proofs.lemmas.LoopAnswers.{answers_empty, answers_short, answers_64_few}
 use Rattle.atoi_core.proofs.word_engine.WordsEngine.prefix_64.Goals as goal
 use Rattle.atoi_core.proofs.word_engine.WordsEngine.prefix_64.Goals.{After-window-first}
@@ -18,8 +18,7 @@ last c stops =
 
 pub returns-then-first-eq0-clause-answer : goal.returns-then-first-eq0-clause-answer
 returns-then-first-eq0-clause-answer c =
-    let after_skip = last (goal.at.returns-then-first-eq0-clause-answer c).After-window-first c.else-skip.either in
-    answers_empty _ _ _ after_skip (omega arith)
+    answers_empty _ _ _ (last (goal.at.returns-then-first-eq0-clause-answer c).After-window-first c.else-skip.either) (omega arith)
 
 pub returns-then-first-lt16-clause-answer : goal.returns-then-first-lt16-clause-answer
 returns-then-first-lt16-clause-answer c =
@@ -37,9 +36,6 @@ pub append_after_16-more-requires : goal.append_after_16-more-requires
 append_after_16-more-requires c =
     let after_skip = last (goal.at.append_after_16-more-requires c).After-window-first c.else-skip.either in
     omega (arith, c.if-first-lt16.false, after_skip.window.len_is, prefix_len-le-length (is_digit decimal_table) c.args.s.now)
-
-pub overflow_add-more : goal.overflow_add-more
-overflow_add-more c = omega (arith, c.append_after_16-more.ensures.more, (shows {table = decimal_table} decimal_below_ten 8 (drop 16 c.args.s.now) refl).len_is)
 
 pub answer_64-requires : goal.answer_64-requires
 answer_64-requires c =
