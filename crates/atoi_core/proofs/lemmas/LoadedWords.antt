@@ -104,14 +104,12 @@ bytes_above (suc k) (b ∷ bs) fits =
 pub last_bytes : (s last : List ℕ) (at : ℕ) → 8 ≤ length s → at ≤ length s → length s < at + 8 → ((i : ℕ) → get_or s i 0 < 256)
     → last ≡ drop (length s - 8) s → from_le_bytes w64 last / 2 ^ (8 * (at + 8 - length s)) ≡ word_of (take 8 (drop at s))
 last_bytes s last at enough inside few fits is =
-    let back = drop (length s - 8) s in
     let missing = at + 8 - length s in
-    let rest : take 8 (drop at s) ≡ drop at s = take_all 8 (drop at s) (omega (arith, length-drop at s)) in
     let bits : 8 * missing ≡ missing * 8 = omega arith in
     let above : length s - 8 + missing ≡ at = omega arith in
     ap₂ (λ w e. w / 2 ^ e) (word_of_last s last is) bits
-    ∙ bytes_above missing back (λ i. rw get_or-drop (fits (length s - 8 + i)))
-    ∙ ap word_of (drop-drop missing (length s - 8) s ∙ ap (λ n. drop n s) above ∙ sym rest)
+    ∙ bytes_above missing (drop (length s - 8) s) (λ i. rw get_or-drop (fits (length s - 8 + i)))
+    ∙ ap word_of (drop-drop missing (length s - 8) s ∙ ap (λ n. drop n s) above ∙ sym (take_all 8 (drop at s) (omega (arith, length-drop at s))))
 
 -- After all bytes, there are none.
 pub word_after_all : (s : List ℕ) (at : ℕ) → length s ≤ at → 0 ≡ word_of (take 8 (drop at s))
@@ -142,8 +140,7 @@ unfolding word_of
 word_shifted zero s = omega arith
 word_shifted (suc m) s =
     let rest = word_shifted m s in
-    let up : 2 ^ (suc m * 8) ≡ 2 ^ (m * 8) * 256 = ap (λ e. 2 ^ e) (suc-mul m 8) ∙ pow-add 2 (m * 8) 8 in
-    omega (arith, ap (λ p. number_l 256 s * p) up)
+    omega (arith, ap (λ p. number_l 256 s * p) (ap (λ e. 2 ^ e) (suc-mul m 8) ∙ pow-add 2 (m * 8) 8))
 
 -- A shift right gives the word of the slice back.
 pub shifted_back : (s : List ℕ) → length s ≤ 8 → word_of (replicate (8 - length s) 0 ++ s) / 2 ^ (64 - 8 * length s) ≡ word_of s
@@ -190,8 +187,7 @@ module _ (s : List ℕ) (few : length s ≤ 8) (fits : (i : ℕ) → get_or s i 
   first_byte_is : 0 < length s → get_or s 0 0 ≡ word_of (take 1 s)
   unfolding word_of
   first_byte_is some =
-      let one = drop_more s 0 0 some in
-      sym (ap (λ l. number_l 256 (take 1 l)) one ∙ omega arith)
+      sym (ap (λ l. number_l 256 (take 1 l)) (drop_more s 0 0 some) ∙ omega arith)
 
   -- Four bytes or more: the first four overlap the last four, which have the last two.
   from_four : (start two first last : ℕ) → 4 ≤ length s → start ≡ word_of (take 1 s) → two ≡ word_of (drop (length s - 2) s)
@@ -219,12 +215,11 @@ module _ (s : List ℕ) (few : length s ≤ 8) (fits : (i : ℕ) → get_or s i 
       → first ≡ 0 → last ≡ 0
       → bit_or (bit_or start first * 2 ^ (64 - 8 * length s) % 2 ^ 64) (bit_or last (two * 2 ^ 16 % 2 ^ 32) * 2 ^ 32 % 2 ^ 64) ≡ high_word s
   from_two start two first last enough few_bytes start_is two_is none none_last =
-      let end : two ≡ high_word s / 2 ^ (6 * 8) = high_rest (length s - 2) 6 two two_is (omega arith) in
       let back : bit_or last (two * 2 ^ 16 % 2 ^ 32) ≡ two * 2 ^ 16 % 2 ^ 32 = ap (λ x. bit_or x (two * 2 ^ 16 % 2 ^ 32)) none_last in
       let places : 1 * 8 + (8 - length s) * 8 ≡ (8 - length s) * 8 - 40 + 48 = omega arith in
       overlap (high_word s) _ _ ((8 - length s) * 8 - 40) 48
       (from_one start first start_is none ∙ ap (λ e. high_word s % 2 ^ e) places)
-      (ap (λ x. x * 2 ^ 32 % 2 ^ 64) back ∙ omega (arith, end, high_fits))
+      (ap (λ x. x * 2 ^ 32 % 2 ^ 64) back ∙ omega (arith, high_rest (length s - 2) 6 two two_is (omega arith), high_fits))
 
   pub high_joined : (two first last : ℕ) → 0 < length s → (2 ≤ length s → two ≡ word_of (drop (length s - 2) s)) → (length s < 2 → two ≡ 0)
       → (4 ≤ length s → first ≡ word_of (take 4 s)) → (length s < 4 → first ≡ 0)

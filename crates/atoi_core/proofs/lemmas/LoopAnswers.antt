@@ -10,7 +10,7 @@ use Rattle.atoi_core.specs.Refusal.{empty, Refusal, invalid64, invalid128, size,
 use Rattle.atoi_core.specs.Reading.{cap, answer_by_digits, window_of, narrow_decision}
 use Rattle.atoi_core.specs.declared.window.Window.{Window}
 use Rattle.atoi_core.proofs.lemmas.Refusals.{refusal-is, refused_empty, is_empty, is_long, is_over, too_long, over, limit_at, significant_len, IsAccepted, refusal-none, refused_size, refused_overflow}
-use Rattle.atoi_core.proofs.lemmas.Runs.{decimal_below_ten, prefix_len-take, prefix_len-drop, value-take-le, value-least, run_ends, run_more, value_more}
+use Rattle.atoi_core.proofs.lemmas.Runs.{decimal_below_ten, prefix_len-take, value-take-le, value-least, run_ends, run_more, value_more}
 use Rattle.atoi_core.proofs.lemmas.Readings.{within, below, short, short_below, all_decide}
 use Rattle.atoi_core.proofs.lemmas.Windows.{Shows, shows, zeros_both, Shows-join, Shows-join_two, Skipped}
 use Rattle.std.proofs.lemmas.Bool.Decides.{nat_tests}
@@ -265,7 +265,6 @@ pub digit_after_16 : (table : Table) (skip : Bool) (s : List ℕ) (w : Window) �
     w ≡ window_of table 8 (take (length s - 16) (drop 16 s)) → not skip ≡ true → nat_lt 0 w.len ≡ (not skip && nat_lt 16 (run_len table s))
 digit_after_16 table skip s w full is counts =
     let first : 16 ≡ min 16 (run_len table s) = sym full ∙ prefix_len-take (is_digit table) 16 s in
-    let run_is : run_len table s ≡ 16 + run_len table (drop 16 s) = prefix_len-drop (is_digit table) 16 s (omega arith) in
     let next : w.len ≡ min 8 (run_len table (drop 16 s)) =
     rw (is, take_rest s 16) (prefix_len-take (is_digit table) 8 (drop 16 s)) in
     rw counts (grind (arith, nat_tests))
@@ -316,7 +315,6 @@ narrow_decides {table} {s} {w = w} {len} after_skip len_is bound high =
     elim (cases_lt bound w.number) [
       | inl more ↦
           let some : 0 < w.len = elim (eq-zero-or-pos w.len) [ inl e ↦ absurd (omega (arith, rw e at after_skip.window.below)) | inr h ↦ h ] in
-          let digits : 0 < run_len table s = omega (arith, after_skip.run_is, after_skip.window.len_is) in
           let above : bound < value table (run table s) = omega (arith, number_most after_skip few) in
           rw (ne_eqb len 0 (omega arith), lt-ltb bound w.number more)
           (sym (narrow_whole_is table bound 0 false s (run_len table s) (value table (run table s)) refl refl

@@ -118,11 +118,10 @@ module _ (int : IntType) (form : SignForm) (s : List ℕ) (reason : Refusal) whe
       → bound_of int (sign_in int form s).minus < value decimal_table (run decimal_table (sign_in int form s).body)
   is_above_bound sized h some =
       let g = sign_in int form s in
-      let digits = run_len decimal_table g.body in
       let number = value decimal_table (run decimal_table g.body) in
       refusal-cases decimal_table (class_of int) (bound_of int g.minus) (limit_of int) prefix true g.body
       (λ r. bound_of int g.minus < number)
-      (λ e. absurd (omega (arith, some, eqb-true digits 0 e)))
+      (λ e. absurd (omega (arith, some, eqb-true (run_len decimal_table g.body) 0 e)))
       (λ e l. long_is_above int sized g.minus g.body l)
       (λ e l o. ltb-true (bound_of int g.minus) number o)
       (λ e l o f. absurd (cc f))

@@ -33,11 +33,10 @@ prefix_stops_at_rest int form skip s v count h =
     let parts = length-taken int form s in
     elim (cases_lt n (length g.body)) [
       | inl lt ↦
-          let stops = prefix_len_stops (is_digit decimal_table) g.body 0 lt in
           let here : get_or g.body n 0 ≡ get_or s count 0 =
           cc (drop-taken int form s, get_or-drop g.taken s n 0, add_comm g.taken n, counts)
           in
-          inr (omega arith, rw here at stops)
+          inr (omega arith, rw here at (prefix_len_stops (is_digit decimal_table) g.body 0 lt))
       | inr le ↦ inl (omega (arith, prefix_len-le-length (is_digit decimal_table) g.body))
     ]
 
@@ -58,10 +57,9 @@ prefix_of_whole : (int : IntType) (form : SignForm) (skip : Bool) (s : List ℕ)
     → whole_call int form skip s ≡ Ok v → prefix_call int form skip s ≡ Ok (v, length s)
 prefix_of_whole int form skip s v limit h =
     let g = sign_in int form s in
-    let n = run_len decimal_table g.body in
     let found = from_whole int g.minus skip g.body v (sym (whole_call-is int form skip s) ∙ h) in
     let body_is = found.0 in
-    let to_end = whole_is_run n (length g.body) body_is.ends in
+    let to_end = whole_is_run (run_len decimal_table g.body) (length g.body) body_is.ends in
     let parts = length-taken int form s in
     ok_prefix int form skip s v (length s) (record {
       is_prefix = record {
@@ -86,14 +84,13 @@ found_again : (int : IntType) (g : Sign) (skip : Bool) (v : ℤ) (count : ℕ) �
     → IsFound int (record g { body = run decimal_table g.body }) skip v count
 found_again int g skip v count h =
     let len : run_len decimal_table (run decimal_table g.body) ≡ run_len decimal_table g.body = run_len-run decimal_table g.body in
-    let leading = zeros-run decimal_table g.body in
     let same : run decimal_table (run decimal_table g.body) ≡ run decimal_table g.body =
     run_all decimal_table (run decimal_table g.body) (len ∙ sym (length-run decimal_table g.body))
     in
     record {
       is_prefix = record {
         some = rw len h.is_prefix.some;
-        short = rw (len, leading) h.is_prefix.short;
+        short = rw (len, zeros-run decimal_table g.body) h.is_prefix.short;
         in_range = rw same h.is_prefix.in_range;
         ends = refl;
       };
@@ -108,7 +105,6 @@ found_in_cut int form skip s v count h =
     let found = found_prefix int form skip s v count h in
     let g = sign_in int form s in
     let n = run_len decimal_table g.body in
-    let some = found.is_prefix.some in
     let count_is = found.count_is in
     let most = prefix_len-le-length (is_digit decimal_table) g.body in
     let parts = length-taken int form s in
@@ -116,7 +112,7 @@ found_in_cut int form skip s v count h =
     ap (λ (m : ℕ). take m s) (count_is ∙ add_comm n g.taken) ∙ take-add g.taken n s ∙ ap (λ body. take g.taken s ++ take n body) (drop-taken int form s)
     in
     let again : sign_in int form (take count s) ≡ record g { body = run decimal_table g.body } =
-    ap (sign_in int form) cut ∙ sign_again int form s (run decimal_table g.body) (rw (run_len-run decimal_table g.body) some)
+    ap (sign_in int form) cut ∙ sign_again int form s (run decimal_table g.body) (rw (run_len-run decimal_table g.body) found.is_prefix.some)
     in (
       omega arith,
       omega arith,
@@ -179,9 +175,8 @@ prefix_found int sized is_negative taken digits rest number written ends =
 found_digits : (int : IntType) → IsSized int → (is_negative : Bool) (s : List ℕ) (number : ℤ) (count : ℕ)
     → PrefixWrites (DigitsWrite int is_negative) s number count → IsFound int (record { minus = is_negative; taken = 0; body = s }) true number count
 found_digits int sized is_negative s number count h =
-    let found = prefix_found int sized is_negative 0 (take count s) (drop count s) number h.written h.ends in
     let len : length (take count s) + 0 ≡ count = omega (arith, length-take-le count s h.within) in
-    rw (take-append-drop count s, len) at found
+    rw (take-append-drop count s, len) at (prefix_found int sized is_negative 0 (take count s) (drop count s) number h.written h.ends)
 
 -- The same with an optional sign.
 found_text : (int : IntType) → IsSized int → (takes_plus : Bool) (s : List ℕ) (number : ℤ) (count : ℕ)
@@ -245,9 +240,8 @@ some int (given is_negative) prefix_bytes number h = h.numeral.0
 of_parts : (int : IntType) (form : SignForm) (s prefix_bytes rest : List ℕ) (number : ℤ)
     → s ≡ prefix_bytes ++ rest → Writes int form prefix_bytes number → ¬ BeginsWithDigit rest → PrefixWrites (Writes int form) s number (length prefix_bytes)
 of_parts int form s prefix_bytes rest number parts written ends =
-    let cut : take (length prefix_bytes) s ≡ prefix_bytes = ap (take (length prefix_bytes)) parts ∙ take-append_seam prefix_bytes rest in
     record {
-      written = rw cut written;
+      written = rw (ap (take (length prefix_bytes)) parts ∙ take-append_seam prefix_bytes rest) written;
       some = some int form prefix_bytes number written;
       within = omega (arith, ap length parts, length-append prefix_bytes rest);
       ends = rw (front_rest s prefix_bytes rest parts) ends;
@@ -256,7 +250,6 @@ of_parts int form s prefix_bytes rest number parts written ends =
 -- Equal answers `Ok` have equal parts.
 same_answer : {E : Type 0} (a b : ℤ) (m n : ℕ) (answer : Result (ℤ × ℕ) E) → answer ≡ Ok (a, m) → answer ≡ Ok (b, n) → (a ≡ b) × (m ≡ n)
 same_answer a b m n answer one other =
-    let both = sym one ∙ other in
     let pair : (a, m) ≡ (b, n) = cc in (ap (λ (p : ℤ × ℕ). p.0) pair, ap (λ (p : ℤ × ℕ). p.1) pair)
 
 -- At most one prefix writes a number that no digit follows: a parse returns it.

@@ -100,10 +100,8 @@ by_all_digits table class bound limit skip s skipped significant less zeros_are 
 by_many_digits : (class : Class) (bound limit skipped significant number : ℕ) (s : List ℕ) → limit < cap class → cap class ≤ significant
     → answer_by_digits class bound limit skipped significant number s ≡ Err (size (skipped + cap class) (drop skipped s))
 by_many_digits class bound limit skipped significant number s less many =
-    let some : eqb (skipped + significant) 0 ≡ false = ne_eqb (skipped + significant) 0 (omega arith) in
-    let long : ltb limit significant ≡ true = lt-ltb limit significant (omega arith) in
     let most : min significant (cap class) ≡ cap class = omega arith in
-    rw (some, long, most) refl
+    rw (ne_eqb (skipped + significant) 0 (omega arith), lt-ltb limit significant (omega arith), most) refl
 
 skipped_is : (skip : Bool) (z offset digits leading : ℕ) → leading ≤ digits → (skip ≡ false → offset ≡ 0) → (skip ≡ true → z ≡ offset + leading)
     → cond skip z 0 ≡ offset + (digits - significant_digits skip digits leading)

@@ -49,10 +49,9 @@ value-below table below (x ∷ xs) =
 pub value-take-add : (table : Table) (n k : ℕ) (s : List ℕ) → n + k ≤ length s →
     value table (take (n + k) s) ≡ value table (take n s) * 10 ^ k + value table (take k (drop n s))
 value-take-add table n k s h =
-    let len : length (take k (drop n s)) ≡ k = length-take-le k (drop n s) (rw length-drop (omega arith)) in
     ap (value table) (take-add n k s)
     ∙ value-append table (take n s) (take k (drop n s))
-    ∙ ap (λ (e : ℕ). value table (take n s) * 10 ^ e + value table (take k (drop n s))) len
+    ∙ ap (λ (e : ℕ). value table (take n s) * 10 ^ e + value table (take k (drop n s))) (length-take-le k (drop n s) (rw length-drop (omega arith)))
 
 -- The digit value of a zero is 0.
 value_of_zero : (table : Table) (byte : ℕ) → is_zero table byte ≡ true → digit_value table byte ≡ 0
@@ -82,9 +81,8 @@ value-least table n [] = λ h z. absurd (omega arith)
 value-least table n (b ∷ bs) = λ h z.
     let some : 1 ≤ digit_value table b = grind (arith, nat_tests) in
     let few : n ≤ run_len table bs = grind (arith, nat_tests) in
-    let len : length (take n bs) ≡ n = length-take-le n bs (omega (arith, prefix_len-le-length (is_digit table) bs)) in
     let least : 1 * 10 ^ length (take n bs) ≤ digit_value table b * 10 ^ length (take n bs) = mul-le-mul_right (10 ^ length (take n bs)) some in
-    omega (arith, ap (λ (m : ℕ). 10 ^ m) len)
+    omega (arith, ap (λ (m : ℕ). 10 ^ m) (length-take-le n bs (omega (arith, prefix_len-le-length (is_digit table) bs))))
 
 -- ---- Runs that are cut or joined
 
@@ -135,13 +133,11 @@ module _ (table : Table) where
 pub value_more : (table : Table) (s : List ℕ) (i w : ℕ) → i < length s → table (get_or s i 0) ≡ Some w
     → value table (take (i + 1) s) ≡ value table (take i s) * 10 + w
 value_more table s i w here digit =
-    let e : digit_value table (get_or s i 0) ≡ w = ap (λ (o : Option ℕ). unwrap_or o 0) digit in
-    rw (take_more s i 0 here, value-append table (take i s) (get_or s i 0 ∷ []), ← e) (grind arith)
+    rw (take_more s i 0 here, value-append table (take i s) (get_or s i 0 ∷ []), ← ap (λ (o : Option ℕ). unwrap_or o 0) digit) (grind arith)
 
 value-append-le : (table : Table) (xs ys : List ℕ) → value table xs ≤ value table (xs ++ ys)
 value-append-le table xs ys =
-    let power : 1 ≤ 10 ^ length ys = one-le-pow (length ys) 10 (lit< tt) in
-    omega (arith, value-append table xs ys, mul-le-mul_left (value table xs) power)
+    omega (arith, value-append table xs ys, mul-le-mul_left (value table xs) (one-le-pow (length ys) 10 (lit< tt)))
 
 pub value-take-le : (table : Table) (s : List ℕ) (i j : ℕ) → i ≤ j → value table (take i s) ≤ value table (take j s)
 value-take-le table s i j le =
@@ -152,14 +148,12 @@ value-take-le table s i j le =
 pub run_more : (table : Table) (s : List ℕ) (i w : ℕ) → i < length s → table (get_or s i 0) ≡ Some w
     → i + run_len table (drop i s) ≡ run_len table s → i + 1 + run_len table (drop (i + 1) s) ≡ run_len table s
 run_more table s i w here digit so_far =
-    let yes = prefix_len-drop_yes (is_digit table) s i 0 here (ap is_some digit) in
-    omega (arith, yes, so_far)
+    omega (arith, prefix_len-drop_yes (is_digit table) s i 0 here (ap is_some digit), so_far)
 
 pub run_ends : (table : Table) (s : List ℕ) (i : ℕ) → i < length s → table (get_or s i 0) ≡ None
     → i + run_len table (drop i s) ≡ run_len table s → run_len table s ≡ i
 run_ends table s i here none so_far =
-    let no = prefix_len-drop_no (is_digit table) s i 0 here (ap is_some none) in
-    omega (arith, no, so_far)
+    omega (arith, prefix_len-drop_no (is_digit table) s i 0 here (ap is_some none), so_far)
 
 pub decimal_below_ten : IsBelowTen decimal_table
 decimal_below_ten byte = grind (arith, nat_tests)
@@ -169,9 +163,8 @@ digit_joins len number w small digit = rw (pow-add 10 len 1) (grind arith)
 
 pub sixteen_digits : (len number : ℕ) → len ≤ 16 → number < 10 ^ len → number < 2 ^ 64
 sixteen_digits len number short small =
-    let most : 10 ^ len ≤ 10 ^ 16 = pow-le-pow_right {n = 10} (lit< tt) short in
     let fits : 10 ^ 16 ≤ 2 ^ 64 = lit≤ tt in
-    omega (arith, most, fits)
+    omega (arith, pow-le-pow_right {n = 10} (lit< tt) short, fits)
 
 pub digit_is_below_ten : (table : Table) → IsBelowTen table → (byte w : ℕ) → table byte ≡ Some w → w < 10
 digit_is_below_ten table small byte w digit =

@@ -84,14 +84,13 @@ same_run : (int : IntType) (skip : Bool) (g h : Sign) → g.minus ≡ h.minus �
     → HaveSameOutcome (with_more 0 (prefix_at int skip g)) (prefix_at int skip h)
 same_run int skip g h minus taken runs =
     let len = same_len g.body h.body runs in
-    let leading = same_zeros g.body h.body runs in
     let number : number_at g ≡ number_at h = ap (value decimal_table) runs in
     same_prefix_outcome 0 g.taken h.taken g.minus h.minus (reason_at int skip prefix g) (reason_at int skip prefix h)
     (number_at g, len_at g) (number_at h, len_at h)
     (same_reason int skip prefix g h (record {
       bound = ap (bound_of int) minus;
       is_empty = ap (λ (n : ℕ). eqb n 0) len;
-      counts = λ i. len i - (if skip then leading i else 0);
+      counts = λ i. len i - (if skip then same_zeros g.body h.body runs i else 0);
       number = number;
       followed = refl;
     }))

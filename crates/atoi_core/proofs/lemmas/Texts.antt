@@ -30,12 +30,11 @@ whole_skipping : (int : IntType) (is_negative : Bool) (body : List ℕ) (v : ℤ
 whole_skipping int is_negative body v h =
     let found = from_whole int is_negative false body v h in
     let old = found.0 in
-    let n = run_len decimal_table body in
     let limit = limit_of_whole (class_of int) true (limit_of int) in
     let fewer : significant_len decimal_table true body ≤ significant_len decimal_table false body = omega arith in
     let short = shorter (limit_at (class_of int) whole true (limit_of int)) _ _ fewer (rw limit old.short) in
     to_whole int is_negative true body
-    (is_whole int is_negative true body old.some short old.in_range (whole_is_run n (length body) old.ends))
+    (is_whole int is_negative true body old.some short old.in_range (whole_is_run (run_len decimal_table body) (length body) old.ends))
     ∙ ap Ok (sym found.1)
 
 -- The law `SkippingAgrees`.

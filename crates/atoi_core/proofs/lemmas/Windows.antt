@@ -35,7 +35,7 @@ zeros_both c leading others = cond (eqb leading c) (c + others) leading
 
 Shows-full : {table : Table} {c : ℕ} {s : List ℕ} {w : Window} → Shows table c s w → c ≤ w.len → Reading table c s c (zeros table (take c s)) w.number
 Shows-full {table} {c} {s} {w} seen more =
-    let full : w.len ≡ c = omega (arith, seen.len_is) in
+    let full : w.len ≡ c = omega arith in
     let P : ℕ → Type 0 = λ n. Reading table c s n (zeros table (take c s)) w.number in
     subst P full seen.reading
 
@@ -160,7 +160,6 @@ zeros_reported table ten s at w bounded e some =
     let seen : Shows table 16 (drop at s) w = shows_rest ten 16 s at e in
     let zeros_are : zeros table s ≡ at + zeros table (drop at s) = prefix_len-drop (is_zero table) at s bounded in
     let run_is : run_len table s ≡ at + run_len table (drop at s) = prefix_len-drop (is_digit table) at s (omega (arith, bounded, zeros-le table s)) in
-    let reported : w.zeroes ≡ min 16 (zeros table (drop at s)) = seen.zeroes_of (seen.full some) in
     (omega arith, omega (arith, seen.full some, seen.len_is))
 
 module _ {table : Table} (ten : IsBelowTen table) where
@@ -171,7 +170,6 @@ module _ {table : Table} (ten : IsBelowTen table) where
   Skipping-next {s = s} {at} {after} {before} {now} {next} {w} so_far e one on some turn =
       let zeros_only = so_far.skipped.zeros_only in
       let reported = zeros_reported table ten s at w zeros_only e some in
-      let exact : 16 * now ≡ 16 * before + at = elim so_far.loads.offset_is [ inl h ↦ h | inr h ↦ absurd (omega (arith, h.0, reported.0)) ] in
       record {
         skipped = record { zeros_only = omega (arith, reported.0); asked = λ h. absurd (false≢true (sym h ∙ on)) };
         within = omega (arith, reported.0, zeros-le table s, prefix_len-le-length (is_digit table) s);
@@ -239,9 +237,7 @@ module _ {table : Table} (ten : IsBelowTen table) where
   pub Skipping-first_window : (s : List ℕ) (n reported : ℕ) → reported ≡ (window_of table 16 s).zeroes → 0 < reported →
       Skipping table true s reported n (n + 1)
   Skipping-first_window s n reported e some =
-      let w : Window = window_of table 16 s in
-      let read : w ≡ window_of table 16 (take (length s - 0) (drop 0 s)) = ap (window_of table 16) (sym (take_rest s 0)) in
-      Skipping-next (Skipping-none table true s n) read refl refl (omega arith) (omega arith)
+      Skipping-next (Skipping-none table true s n) (ap (window_of table 16) (sym (take_rest s 0))) refl refl (omega arith) (omega arith)
 
   pub Skipped-at_once : (skip : Bool) (s : List ℕ) {before next : ℕ} {w : Window} →
       w ≡ window_of table 16 s → next ≡ before + 1 → (skip ≡ false) ⊎ ((skip ≡ true) × (w.zeroes ≡ 0)) → Skipped table skip s 0 before next w
@@ -252,7 +248,6 @@ module _ {table : Table} (ten : IsBelowTen table) where
   pub Skipped-first : (skip : Bool) (s : List ℕ) {before next : ℕ} {w : Window} →
       w ≡ window_of table 16 s → next ≡ before + 1 → w.len < 16 → Skipped table skip s 0 before next w
   Skipped-first skip s {w = w} e one short =
-      let seen : Shows table 16 s w = shows ten 16 s e in
-      let none : w.zeroes ≡ 0 = elim (cases_lt 0 w.zeroes) [ inl h ↦ absurd (omega (arith, seen.full h)) | inr h ↦ omega arith ] in
+      let none : w.zeroes ≡ 0 = elim (cases_lt 0 w.zeroes) [ inl h ↦ absurd (omega (arith, (shows ten 16 s e).full h)) | inr h ↦ omega arith ] in
       let stops = elim skip as (λ b. (b ≡ false) ⊎ ((b ≡ true) × (w.zeroes ≡ 0))) [ true ↦ inr (refl, none) | false ↦ inl refl ] in
       Skipped-at_once skip s e one stops

@@ -73,7 +73,6 @@ unfolding spread
 spread_pair b t u f g below =
     let q = u / b in
     let r = u % b in
-    let pos : 0 < b = omega arith in
     let split : q * b + r ≡ u = omega arith in
     let e : ((u * b + g) * b + f) / b ≡ (q * b + r) * b + g = cc (split, div-mul-add (u * b + g) b f below) in
     rw e (omega arith)
@@ -83,7 +82,6 @@ module _ (h t : ℕ) (room : (2 ^ h - 1) * (1 + t) < 2 ^ (h + h)) where
   -- The sum of a pair fits in a field.
   two_digits : (f g : ℕ) → f < 2 ^ h → g < 2 ^ h → g + f * t < 2 ^ (h + h)
   two_digits f g f_below g_below =
-      let g_most : g ≤ 2 ^ h - 1 = omega arith in
       let f_most : f * t ≤ (2 ^ h - 1) * t = mul-le-mul_right t (omega arith) in
       omega arith
 
@@ -96,10 +94,8 @@ module _ (h t : ℕ) (room : (2 ^ h - 1) * (1 + t) < 2 ^ (h + h)) where
       let g = word / b % 2 ^ h in
       let rest = word / b / b in
       let u = bit_and rest (masks h (twice m)) in
-      let f_below : f < 2 ^ h = mod-lt word (pow_pos h) in
       let g_below : g < 2 ^ h = mod-lt (word / b) (pow_pos h) in
-      let carried : u % b + g * t < b = two_digits g (u % b) g_below (masked_low h (twice m) rest) in
-      let lower : g + f * t < b = two_digits f g f_below g_below in
+      let lower : g + f * t < b = two_digits f g (mod-lt word (pow_pos h)) g_below in
       let fits : f < b = omega (arith, half_below h) in
       let whole : bit_and word (masks h (twice (suc m))) ≡ (u * b + g) * b + f = cc (mask_step h (suc (twice m)) word, mask_step h (twice m) (word / b)) in
       let above = spread b t u * b + (u % b + g * t) in
@@ -112,7 +108,7 @@ module _ (h t : ℕ) (room : (2 ^ h - 1) * (1 + t) < 2 ^ (h + h)) where
         div-div-eq-div-mul sums b b,
         is,
         div-mul-add above b (g + f * t) lower,
-        div-mul-add (spread b t u) b (u % b + g * t) carried,
+        div-mul-add (spread b t u) b (u % b + g * t) (two_digits g (u % b) g_below (masked_low h (twice m) rest)),
       ) in
       cc (low, high, spread_masked m rest)
 
@@ -254,11 +250,9 @@ pub sum_8 : (val len : ℕ) → len ≤ 8
     let hundreds = bit_and tens 0x00FF_00FF_00FF_00FF * 0x64_0001 % 2 ^ 64 / 2 ^ 16 in
     bit_and hundreds 0x0000_FFFF_0000_FFFF * 0x2710_0000_0001 % 2 ^ 64 / 2 ^ 32 ≡ low_value (low_bytes len val)
 sum_8 val len most =
-    let ones = val * 2 ^ (64 - 8 * len) % 2 ^ 64 in
-    let tens = bit_and ones 0x0F0F_0F0F_0F0F_0F0F * 0xA01 % 2 ^ 64 / 2 ^ 8 in
+    let tens = bit_and (val * 2 ^ (64 - 8 * len) % 2 ^ 64) 0x0F0F_0F0F_0F0F_0F0F * 0xA01 % 2 ^ 64 / 2 ^ 8 in
     let hundreds = bit_and tens 0x00FF_00FF_00FF_00FF * 0x64_0001 % 2 ^ 64 / 2 ^ 16 in
-    let sum = bit_and hundreds 0x0000_FFFF_0000_FFFF * 0x2710_0000_0001 % 2 ^ 64 / 2 ^ 32 in
-    sym (one_field 100000000 32 sum (omega arith))
+    sym (one_field 100000000 32 (bit_and hundreds 0x0000_FFFF_0000_FFFF * 0x2710_0000_0001 % 2 ^ 64 / 2 ^ 32) (omega arith))
     ∙ round_number 16 10000 (lit< tt) 1 hundreds
     ∙ two_rounds val len most
 
@@ -282,8 +276,7 @@ pub sum_of_four : (digits : ℕ) → bit_and digits 0x0F0F_0F0F ≡ digits
 unfolding low_bytes
 sum_of_four digits halves =
     let tens = digits * 0xA01 % 2 ^ 32 / 2 ^ 8 in
-    let sum = bit_and tens 0x00FF_00FF * 0x64_0001 % 2 ^ 32 / 2 ^ 16 in
-    sym (one_field 10000 16 sum (omega arith))
+    sym (one_field 10000 16 (bit_and tens 0x00FF_00FF * 0x64_0001 % 2 ^ 32 / 2 ^ 16) (omega arith))
     ∙ round_number 8 100 (lit< tt) 1 tens
     ∙ (rw halves at (round_number 4 10 (lit< tt) 2 digits))
     ∙ in_base-low_value 4 digits
@@ -424,6 +417,5 @@ pub shift_cut : (a j z : ℕ) → a * 2 ^ z % 2 ^ (j + z) ≡ a % 2 ^ j * 2 ^ z
 shift_cut a j z =
     let p = 2 ^ z in
     let none : a * p ≡ a * p + 0 = omega arith in
-    let high : a * p / p ≡ a = ap (λ x. x / p) none ∙ div-mul-add a p 0 (pow_pos z) in
     let low : a * p % p ≡ 0 = ap (λ x. x % p) none ∙ mod-mul-add a p 0 (pow_pos z) in
-    mod-pow-add (a * p) j z ∙ ap₂ (λ x y. x % 2 ^ j * p + y) high low ∙ omega arith
+    mod-pow-add (a * p) j z ∙ ap₂ (λ x y. x % 2 ^ j * p + y) (ap (λ x. x / p) none ∙ div-mul-add a p 0 (pow_pos z)) low ∙ omega arith

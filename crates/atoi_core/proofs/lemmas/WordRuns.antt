@@ -107,7 +107,6 @@ lowered =
       of_byte = λ b. (b + 208) % 256;
       low = λ k word. let some = without_48-some k in omega arith;
       rest = λ k word e.
-          let some = without_48-some k in
           let digit = digit_in_range (word % 256) e in
           omega arith;
     }
@@ -255,13 +254,11 @@ lowered_digits j (suc k) word digits =
     let byte = word % 256 in
     let run = prefix_len (is_digit decimal_table) (digits_l 256 (k + j) (word / 256)) in
     let passes = first_passes (is_digit decimal_table byte) k run (rw (suc-add k j) at digits) in
-    let bits : suc k * 8 ≡ k * 8 + 8 = suc-mul k 8 in
-    let lower = word + without_48 (suc (k + j)) in
     let block = and_block 8 (word / 256 % 2 ^ (k * 8)) (repeated 15 k) byte 15 (mod-lt word (zero-lt-suc 255)) (lit< tt) in
     cc (
       suc-add k j,
-      bits,
-      mod-pow-add lower (k * 8) 8,
+      suc-mul k 8,
+      mod-pow-add (word + without_48 (suc (k + j))) (k * 8) 8,
       lowered.rest (k + j) word passes.0,
       lowered.low (k + j) word,
       lower_half byte passes.0,

@@ -85,10 +85,9 @@ window_joined s more leading first next full more_is leading_is first_is next_is
     let all : run_len decimal_table (take 16 s) ≡ min 16 (run_len decimal_table s) = prefix_len-take (is_digit decimal_table) 16 s in
     let run_after_eight : run_len decimal_table s ≡ 8 + run_len decimal_table (drop 8 s) = prefix_len-drop (is_digit decimal_table) 8 s (omega arith) in
     let within : run_len decimal_table s ≤ length s = prefix_len-le-length (is_digit decimal_table) s in
-    let sixteen : take 8 s ++ take 8 (drop 8 s) ≡ take 16 s = sym (take-add 8 8 s) in
     let same_test : (more == 8) ≡ (8 + more == 16) = grind (arith, nat_tests) in
     let same_leading : leading ≡ (if 8 + more == 16 then zeros decimal_table (take 16 s) else 0) =
-    rw (← same_test, ← sixteen) leading_is in
+    rw (← same_test, take-add 8 8 s) leading_is in
     let same_number : first * 10 ^ more + next ≡ value decimal_table (take (8 + more) s) =
     rw (first_is, next_is) (sym (value-take-add decimal_table 8 more s (omega arith))) in
     window_from 16 s (8 + more) leading (first * 10 ^ more + next) (omega arith) same_leading same_number
@@ -102,13 +101,10 @@ pub window_of_both : (s : List ℕ) → 8 < length s → length s < 16 → ((i :
 window_of_both s more few fits first last len high low first_is last_is full full_last len_is high_is low_is =
     let front = length s - 8 in
     let back = drop front s in
-    let all : take 8 back ≡ back = take_all 8 back (omega (arith, length-drop front s)) in
-    let whole : take 16 s ≡ s = take_all 16 s (omega arith) in
     let fits_back : (i : ℕ) → get_or back i 0 < 256 = λ i. rw get_or-drop (fits (front + i)) in
-    let word_is : last ≡ word_of (take 8 back) = last_is ∙ ap word_of (sym all) in
-    let first_run : run_len decimal_table (take 8 s) ≡ min 8 (run_len decimal_table s) = prefix_len-take (is_digit decimal_table) 8 s in
+    let word_is : last ≡ word_of (take 8 back) = last_is ∙ ap word_of (sym (take_all 8 back (omega (arith, length-drop front s)))) in
     let last_run : run_len decimal_table (take 8 back) ≡ min 8 (run_len decimal_table back) = prefix_len-take (is_digit decimal_table) 8 back in
-    let eight : 8 ≤ run_len decimal_table s = omega (arith, full, first_run, loaded_run s fits first first_is) in
+    let eight : 8 ≤ run_len decimal_table s = omega (arith, full, prefix_len-take (is_digit decimal_table) 8 s, loaded_run s fits first first_is) in
     let eight_last : 8 ≤ run_len decimal_table back = omega (arith, full_last, last_run, loaded_run back fits_back last word_is) in
     let run_is : run_len decimal_table s ≡ front + run_len decimal_table back = prefix_len-drop (is_digit decimal_table) front s (omega arith) in
     let within : run_len decimal_table s ≤ length s = prefix_len-le-length (is_digit decimal_table) s in
@@ -119,7 +115,7 @@ window_of_both s more few fits first last len high low first_is last_is full ful
     (low_is ∙ loaded_part back fits_back last word_is 8 (omega arith))
     ∙ sym (value-take-add decimal_table front 8 s (omega arith)) ∙ ap (λ n. value decimal_table (take n s)) length_is in
     window_from 16 s len 0 (high * 10 ^ 8 + low)
-    (rw whole (omega arith))
+    (rw (take_all 16 s (omega arith)) (omega arith))
     (sym (reported_none len 16 (zeros decimal_table (take 16 s)) (omega arith)))
     number
 
@@ -156,9 +152,8 @@ pub filled_fits : (s : List ℕ) → length s ≤ 8 → ((i : ℕ) → get_or s 
     → word_of (replicate (8 - length s) 0 ++ s) + word_of (replicate (8 - length s) 48) < 2 ^ 64
 filled_fits s few fits =
     let m = 8 - length s in
-    let start = word_start 8 (replicate m 48 ++ s) (filled_fit m s fits) in
     let all = ap word_of (take_all 8 (replicate m 48 ++ s) (omega (arith, filled_length m 48 s))) in
-    omega (arith, word_filled m s, start, all)
+    omega (arith, word_filled m s, word_start 8 (replicate m 48 ++ s) (filled_fit m s fits), all)
 
 -- The filled word begins with its zeros, then the run.
 pub filled_digits : (s : List ℕ) → length s ≤ 8 → ((i : ℕ) → get_or s i 0 < 256) → (word filling digits : ℕ)
@@ -202,12 +197,10 @@ filled_window s few fits filled digits found number filled_is digits_is found_is
     let eight : take 8 s ≡ s = take_all 8 s few in
     let all : take 16 s ≡ s = take_all 16 s (omega arith) in
     let within : len ≤ length s = prefix_len-le-length (is_digit decimal_table) s in
-    let run : len ≡ run_len decimal_table (low_bytes 8 (word_of (take 8 s))) =
-    ap (run_len decimal_table) (sym eight) ∙ sym (loaded_run s fits (word_of (take 8 s)) refl) in
     let word_is : filled ≡ word_of (replicate m 48 ++ take 8 s) = filled_is ∙ ap (λ x. word_of (replicate m 48 ++ x)) (sym eight) in
     let sum : number ≡ value decimal_table (take len s) =
     number_is ∙ ap₂ (λ n w. low_value (digits_l 256 n w)) digits_is word_is ∙ low_value_filled m len (take 8 s)
-    ∙ loaded_sum s fits (word_of (take 8 s)) refl len run in
+    ∙ loaded_sum s fits (word_of (take 8 s)) refl len (ap (run_len decimal_table) (sym eight) ∙ sym (loaded_run s fits (word_of (take 8 s)) refl)) in
     let left : found ≡ len = omega arith in
     ap (λ n. let w : Window = record { len = n; zeroes = 0; number = number } in w) left
     ∙ window_from 16 s len 0 number (ap (run_len decimal_table) (sym all)) (sym (reported_none len 16 (zeros decimal_table (take 16 s)) (omega arith))) sum

@@ -5,5 +5,4 @@ use Rattle.atoi_core.proofs.error.AtoiSimdError.partial_order.Goals as goal
 -- `partial_cmp` returns what `cmp` returns.
 pub returns : goal.returns
 returns c =
-    let same = c.partial_cmp.ensures ∙ matches_partial_cmp-law c.args.self.now c.args.other.now in
-    rw same (search rules)
+    rw (c.partial_cmp.ensures ∙ matches_partial_cmp-law c.args.self.now c.args.other.now) (search rules)
