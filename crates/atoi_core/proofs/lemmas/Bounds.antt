@@ -1,5 +1,5 @@
 -- Bounds of types, and limits on digits.
-use Rattle.std.proofs.Common.{◌≡◌, ◌⊎◌, ℕ, ◌+◌, ◌-◌, ◌^◌, ◌<◌, ◌≤◌, Bool, true, false, cond, eqb, List, Option, Some, None, refl, arith, inl, inr, lt_of_le_of_lt, le-ltb, ltb-false, lit<}
+use Rattle.std.proofs.Common.{◌≡◌, ◌⊎◌, ℕ, ◌+◌, ◌-◌, ◌^◌, ◌<◌, ◌≤◌, Bool, true, false, cond, eqb, List, Option, Some, None, refl, arith, inl, inr, lt_of_le_of_lt, le-ltb, ltb-false}
 use Rattle.std.proofs.Math.Nat.{pow-le-pow_right}
 use Rattle.std.proofs.lemmas.Bool.{cases_lt, lt-leb}
 use Rattle.std.proofs.lemmas.Bool.Decides.{nat_tests}
@@ -64,21 +64,10 @@ sizes bits size = grind (arith, nat_tests)
 
 pub bound-limit : (int : IntType) → IsSized int → (minus : Bool)
     → (class_of int ≡ narrow) ⊎ (bound_of int minus < 10 ^ limit_of int)
-bound-limit int sized minus =
-    elim (sizes int.bits sized.bits) [
-      | inl e ↦ inl (rw e refl)
-      | inr (inl e) ↦ inl (rw e refl)
-      | inr (inr (inl e)) ↦ inl (rw e refl)
-      | inr (inr (inr (inl e))) ↦ inr (rw (sized.greatest, e) (bound-64 int.signed minus))
-      | inr (inr (inr (inr e))) ↦ inr (rw (sized.greatest, e) (magnitude_below 39 128 int.signed minus (omega arith) (omega arith)))
-    ]
+bound-limit int sized minus = search (arith, sizes, bound-64, magnitude_below)
 
 pub bound_below-64 : (int : IntType) → IsSized int → (minus : Bool) → bound_of int minus < 10 ^ 64
-bound_below-64 int sized minus =
-    let power : (bits : ℕ) → bits ≤ 128 → 2 ^ bits ≤ 2 ^ 128 = λ bits le. pow-le-pow_right (lit< tt) le in
-    let most : int.bits ≤ 128 = omega (arith, sizes int.bits sized.bits) in
-    rw sized.greatest
-    (magnitude_below 64 int.bits int.signed minus (omega (arith, power (int.bits - 1) (omega arith))) (omega (arith, power int.bits most)))
+bound_below-64 int sized minus = search (arith, pow-le-pow_right, sizes, magnitude_below)
 
 places-le : (table : Table) (s : List ℕ) (limit : ℕ) → value table (run table s) < 10 ^ limit → run_len table s - zeros table s ≤ limit
 places-le table s limit h =
@@ -95,8 +84,4 @@ places-le table s limit h =
 pub in_range_short : (table : Table) (int : IntType) → IsSized int → (minus : Bool) (s : List ℕ)
     → value table (run table s) ≤ bound_of int minus
     → is_above (limit_at (class_of int) whole true (limit_of int)) (significant_len table true s) ≡ false
-in_range_short table int sized minus s le =
-    elim (bound-limit int sized minus) [
-      | inl e ↦ rw e refl
-      | inr lt ↦ short_enough (class_of int) true (limit_of int) _ (places-le table s (limit_of int) (lt_of_le_of_lt le lt))
-    ]
+in_range_short table int sized minus s le = search (arith, bound-limit, short_enough, places-le, lt_of_le_of_lt)

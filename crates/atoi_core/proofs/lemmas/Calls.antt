@@ -4,7 +4,7 @@ use Rattle.std.proofs.lemmas.Bool.{and_right, not-false}
 use Rattle.atoi_core.specs.Digit.{Table, decimal_table, is_digit}
 use Rattle.atoi_core.specs.Run.{run_len, run, value}
 use Rattle.atoi_core.specs.Refusal.{Refusal}
-use Rattle.atoi_core.specs.Magnitude.{Class, Extent, whole, prefix, is_above, leaves_rest, refusal, unless_refused, whole_magnitude, prefix_magnitude}
+use Rattle.atoi_core.specs.Magnitude.{Class, Extent, whole, prefix, is_above, leaves_rest, unless_refused, whole_magnitude, prefix_magnitude}
 use Rattle.std.proofs.lemmas.Bool.Decides.{nat_tests}
 use Rattle.atoi_core.specs.IntType.{IntType, class_of, bound_of, limit_of}
 use Rattle.atoi_core.specs.Sign.{Sign, sign_of, plus_sign, minus_sign, with_sign}
@@ -26,8 +26,7 @@ pub sign_cases : (signed plus : Bool) (byte : ℕ) (bytes : List ℕ) (P : Sign 
     → ((plus && eqb byte plus_sign) ≡ false → (signed && eqb byte minus_sign) ≡ true → P (record { minus = true; taken = 1; body = bytes }))
     → P (record { minus = false; taken = 0; body = byte ∷ bytes })
     → P (sign_of signed plus (byte ∷ bytes))
-sign_cases signed plus byte bytes P p q r =
-    one_of_three (plus && eqb byte plus_sign) (signed && eqb byte minus_sign) _ _ _ P p q r
+sign_cases signed plus byte bytes P p q r = search (arith, one_of_three)
 
 pub drop-taken : (int : IntType) (form : SignForm) (s : List ℕ) → drop (sign_in int form s).taken s ≡ (sign_in int form s).body
 drop-taken int (looked_for plus) [] = refl
@@ -120,31 +119,24 @@ module _ (int : IntType) (minus skip : Bool) (body : List ℕ) where
   signed_value = with_sign minus (value decimal_table (run decimal_table body))
 
   pub from_whole : (v : ℤ) → whole_answer decimal_table int minus skip body ≡ Ok v → AcceptedAs whole × (v ≡ signed_value)
-  from_whole v h =
-      let found = map_unless_ok (with_sign minus) _ _ v h in
-      (accepted decimal_table (class_of int) (bound_of int minus) (limit_of int) whole skip body found.0, found.1)
+  from_whole v h = search (arith, map_unless_ok, accepted)
 
   pub to_whole : AcceptedAs whole → whole_answer decimal_table int minus skip body ≡ Ok signed_value
   to_whole h = map_unless_none (with_sign minus) _ _ (refusal-none decimal_table (class_of int) (bound_of int minus) (limit_of int) whole skip body h)
 
   pub from_prefix : (v : ℤ) (count : ℕ) → prefix_answer decimal_table int minus skip body ≡ Ok (v, count)
       → AcceptedAs prefix × (v ≡ signed_value) × (count ≡ run_len decimal_table body)
-  from_prefix v count h =
-      let found = map_unless_ok (counted_number minus) _ _ (v, count) h in
-      let accepts = accepted decimal_table (class_of int) (bound_of int minus) (limit_of int) prefix skip body found.0 in
-      (accepts, ap (λ (p : ℤ × ℕ). p.0) found.1, ap (λ (p : ℤ × ℕ). p.1) found.1)
+  from_prefix v count h = search (arith, map_unless_ok, accepted)
 
   pub to_prefix : AcceptedAs prefix → prefix_answer decimal_table int minus skip body ≡ Ok (signed_value, run_len decimal_table body)
-  to_prefix h =
-      map_unless_none (counted_number minus) _ _ (refusal-none decimal_table (class_of int) (bound_of int minus) (limit_of int) prefix skip body h)
+  to_prefix h = search (arith, map_unless_none, refusal-none)
 
   pub is_whole : 0 < run_len decimal_table body
       → is_above (limit_at (class_of int) whole skip (limit_of int)) (significant_len decimal_table skip body) ≡ false
       → value decimal_table (run decimal_table body) ≤ bound_of int minus
       → run_len decimal_table body ≡ length body
       → AcceptedAs whole
-  is_whole some short in_range all =
-      record { some = some; short = short; in_range = in_range; ends = rw (eq-eqb (run_len decimal_table body) (length body) all) refl }
+  is_whole some short in_range all = search (arith, eq-eqb)
 
 -- `Ok` of a prefix: `count` is the run and the sign.
 pub record IsFound (int : IntType) (g : Sign) (skip : Bool) (v : ℤ) (count : ℕ) : Type 0 where
@@ -162,23 +154,14 @@ found_prefix int form skip s v count h =
 
 pub ok_prefix : (int : IntType) (form : SignForm) (skip : Bool) (s : List ℕ) (v : ℤ) (count : ℕ)
     → IsFound int (sign_in int form s) skip v count → prefix_call int form skip s ≡ Ok (v, count)
-ok_prefix int form skip s v count h =
-    let g = sign_in int form s in
-    prefix_call-is int form skip s
-    ∙ ap (with_more g.taken) (to_prefix int g.minus skip g.body h.is_prefix)
-    ∙ rw (h.number, h.count_is) refl
+ok_prefix int form skip s v count h = search (arith, prefix_call-is, to_prefix)
 
 -- ---- Answers to a body, with a bound and a limit
 
 module _ (table : Table) (class : Class) (bound limit : ℕ) (skip : Bool) (s : List ℕ) where
   -- `Ok` of a prefix: in range, and within the slice.
   prefix_found : (number len : ℕ) → Ok (number, len) ≡ prefix_magnitude table class bound limit skip s → (number ≤ bound) × (len ≤ length s)
-  prefix_found number len found =
-      let both = map_unless_ok {A = ℕ × ℕ} {B = ℕ × ℕ} (λ x. x) (refusal table class bound limit prefix skip s)
-      (value table (run table s), run_len table s) (number, len) (ap (map_answer {A = ℕ × ℕ} {B = ℕ × ℕ} (λ x. x)) (sym found)) in
-      let number_is : number ≡ value table (run table s) = ap (λ (pair : ℕ × ℕ). pair.0) both.1 in
-      let count : len ≡ run_len table s = ap (λ (pair : ℕ × ℕ). pair.1) both.1 in
-      (omega (arith, (accepted table class bound limit prefix skip s both.0).in_range), omega (arith, prefix_len-le-length (is_digit table) s))
+  prefix_found number len found = search (arith, map_unless_ok, accepted, prefix_len-le-length)
 
   pub prefix_in_bounds : (number len : ℕ) → Ok (number, len) ≡ prefix_magnitude table class bound limit skip s → number ≤ bound
   prefix_in_bounds number len found = (prefix_found number len found).0
@@ -187,7 +170,4 @@ module _ (table : Table) (class : Class) (bound limit : ℕ) (skip : Bool) (s : 
   prefix_within number len found = (prefix_found number len found).1
 
   pub whole_in_bounds : (number : ℕ) → Ok number ≡ whole_magnitude table class bound limit skip s → number ≤ bound
-  whole_in_bounds number found =
-      let unchanged = ap (map_answer {A = ℕ} {B = ℕ} (λ x. x)) (sym found) in
-      let both = map_unless_ok {A = ℕ} {B = ℕ} (λ x. x) (refusal table class bound limit whole skip s) _ number unchanged in
-      omega (arith, both.1, (accepted table class bound limit whole skip s both.0).in_range)
+  whole_in_bounds number found = search (arith, map_unless_ok, accepted)

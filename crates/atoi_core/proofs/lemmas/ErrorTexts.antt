@@ -27,11 +27,7 @@ pair_of_table n small =
 -- The last two digits follow the text of the others, after any bytes. So do the last four, and the last eight.
 decimal_two_more : (before : List ℕ) (n : ℕ) → 100 ≤ n → n < 2 ^ 128 → before ++ decimal (n / 100) ++ two_digits (n % 100) ≡ before ++ decimal n
 unfolding two_digits
-decimal_two_more before n low high =
-    let others : n / 10 / 10 ≡ n / 100 = omega arith in
-    let tens : n / 10 % 10 ≡ n % 100 / 10 = omega arith in
-    let ones : n % 10 ≡ n % 100 % 10 = omega arith in
-    rw (decimal_step_wide n (omega arith) (omega arith), decimal_step_wide (n / 10) (omega arith) (omega arith), append_assoc, append_assoc, others, tens, ones)
+decimal_two_more before n low high = search (rules, decimal_step_wide, append_assoc)
 
 pub decimal_four_more : (before : List ℕ) (n : ℕ) → 10000 ≤ n → n < 2 ^ 128
     → before ++ decimal (n / 10000) ++ four_digits (n % 10000) ≡ before ++ decimal n
@@ -148,8 +144,7 @@ hex_list_is_ascii (byte ∷ bytes) i small =
     IsAscii-append (hex_text byte) (hex_rest bytes) (IsAscii-hex_text byte (small 0)) (IsAscii-hex_rest bytes (λ k. small (suc k))) i
 
 pub input_text_is_ascii : (bytes : List ℕ) (i : ℕ) → IsAscii bytes → slice_index (91 ∷ (bytes ++ 93 ∷ [])) i < 128
-input_text_is_ascii bytes i ascii =
-    let whole : IsAscii (codes "[" ++ bytes ++ codes "]") = search (rules, IsAscii-append, IsAscii-literal, ascii) in whole i
+input_text_is_ascii bytes i ascii = search (rules, IsAscii-append)
 
 pub IsAscii-size_text : (length : ℕ) (input : List ℕ) → IsAscii (decimal length) → IsAscii (input_text input) → IsAscii (error_text (size length input))
 IsAscii-size_text length input number slice = search (rules, IsAscii-append, IsAscii-literal, number, slice)

@@ -144,12 +144,7 @@ word_shifted (suc m) s =
 
 -- A shift right gives the word of the slice back.
 pub shifted_back : (s : List ℕ) → length s ≤ 8 → word_of (replicate (8 - length s) 0 ++ s) / 2 ^ (64 - 8 * length s) ≡ word_of s
-shifted_back s few =
-    let places : 64 - 8 * length s ≡ (8 - length s) * 8 = omega arith in
-    let up = 2 ^ ((8 - length s) * 8) in
-    ap₂ (λ x e. x / 2 ^ e) (word_shifted (8 - length s) s) places
-    ∙ ap (λ x. x / up) (omega arith)
-    ∙ div-mul-add (word_of s) up 0 (pow_pos ((8 - length s) * 8))
+shifted_back s few = search (arith, word_shifted, div-mul-add, pow_pos)
 
 -- ---- A slice of at most eight bytes, joined from overlapping parts
 
@@ -159,9 +154,7 @@ high_word s = word_of (replicate (8 - length s) 0 ++ s)
 
 module _ (s : List ℕ) (few : length s ≤ 8) (fits : (i : ℕ) → get_or s i 0 < 256) where
   high_cut : (k : ℕ) → high_word s % 2 ^ (k * 8 + (8 - length s) * 8) ≡ word_of (take k s) * 2 ^ ((8 - length s) * 8)
-  high_cut k =
-      let z = (8 - length s) * 8 in
-      ap (λ w. w % 2 ^ (k * 8 + z)) (word_shifted (8 - length s) s) ∙ shift_cut (word_of s) (k * 8) z ∙ ap (λ w. w * 2 ^ z) (word_start k s fits)
+  high_cut k = search (arith, word_shifted, shift_cut, word_start)
 
   high_fits : high_word s % 2 ^ 64 ≡ high_word s
   high_fits =
@@ -172,10 +165,7 @@ module _ (s : List ℕ) (few : length s ≤ 8) (fits : (i : ℕ) → get_or s i 
 
   -- Its first k bytes, shifted, are its lowest bits ..
   high_front : (k x : ℕ) → x ≡ word_of (take k s) → x * 2 ^ (64 - 8 * length s) % 2 ^ 64 ≡ high_word s % 2 ^ (k * 8 + (8 - length s) * 8)
-  high_front k x is =
-      let places : 64 - 8 * length s ≡ (8 - length s) * 8 = omega arith in
-      let below = mod-le (high_word s) (2 ^ (k * 8 + (8 - length s) * 8)) in
-      ap (λ w. w % 2 ^ 64) (ap₂ (λ w e. w * 2 ^ e) is places ∙ sym (high_cut k)) ∙ omega (arith, below, high_fits)
+  high_front k x is = search (arith, mod-le, high_cut, high_fits)
 
   -- .. and the bytes from j on its highest.
   high_rest : (j k x : ℕ) → x ≡ word_of (drop j s) → 8 - length s + j ≡ k → x ≡ high_word s / 2 ^ (k * 8)
@@ -186,8 +176,7 @@ module _ (s : List ℕ) (few : length s ≤ 8) (fits : (i : ℕ) → get_or s i 
 
   first_byte_is : 0 < length s → get_or s 0 0 ≡ word_of (take 1 s)
   unfolding word_of
-  first_byte_is some =
-      sym (ap (λ l. number_l 256 (take 1 l)) (drop_more s 0 0 some) ∙ omega arith)
+  first_byte_is some = search (arith, drop_more)
 
   -- Four bytes or more: the first four overlap the last four, which have the last two.
   from_four : (start two first last : ℕ) → 4 ≤ length s → start ≡ word_of (take 1 s) → two ≡ word_of (drop (length s - 2) s)

@@ -3,13 +3,13 @@ use Rattle.std.proofs.Common.{◌≡◌, ℕ, ◌+◌, ◌*◌, ◌^◌, ◌<◌
 use Rattle.std.proofs.lemmas.Bool.{eq-eqb, cases_lt, lt-ltb}
 use Rattle.std.proofs.lemmas.List.{length-drop, take_rest}
 use Rattle.std.proofs.lemmas.List.Sums.{prefix_len-drop_all}
-use Rattle.atoi_core.specs.Digit.{Table, IsBelowTen, decimal_table, is_zero, is_digit}
+use Rattle.atoi_core.specs.Digit.{Table, IsBelowTen, decimal_table, is_digit}
 use Rattle.atoi_core.specs.Run.{zeros, run_len, run, value}
 use Rattle.atoi_core.specs.Magnitude.{Class, wide64, wide128, Extent, prefix, rule_of, HasDigits, prefix_magnitude, narrow, whole, Rule, invalid, unless_refused, whole_magnitude, skipped_zeros, is_above}
 use Rattle.atoi_core.specs.Refusal.{empty, Refusal, invalid64, invalid128, size, overflow}
 use Rattle.atoi_core.specs.Reading.{cap, answer_by_digits, window_of, narrow_decision}
 use Rattle.atoi_core.specs.declared.window.Window.{Window}
-use Rattle.atoi_core.proofs.lemmas.Refusals.{refusal-is, refused_empty, is_empty, is_long, is_over, too_long, over, limit_at, significant_len, IsAccepted, refusal-none, refused_size, refused_overflow}
+use Rattle.atoi_core.proofs.lemmas.Refusals.{refusal-is, refused_empty, is_empty, is_long, is_over, too_long, over, limit_at, significant_len, refusal-none, refused_size, refused_overflow}
 use Rattle.atoi_core.proofs.lemmas.Runs.{decimal_below_ten, prefix_len-take, value-take-le, value-least, run_ends, run_more, value_more}
 use Rattle.atoi_core.proofs.lemmas.Readings.{within, below, short, short_below, all_decide}
 use Rattle.atoi_core.proofs.lemmas.Windows.{Shows, shows, zeros_both, Shows-join, Shows-join_two, Skipped}
@@ -34,14 +34,12 @@ wide_128 = record { rule = λ extent skip limit digits skipped. refl }
 -- A full last window begins with no skipped zero.
 none_left : {table : Table} {skip : Bool} {s : List ℕ} {at before now : ℕ} {w : Window} → Skipped table skip s at before now w → 16 ≤ w.len
     → skip ≡ true → zeros table (take 16 (drop at s)) ≡ 0
-none_left {table} {s = s} {at} after_skip full on =
-    omega (arith, after_skip.full on (omega (arith, after_skip.window.len_is)), after_skip.zeros_are, prefix_len-take (is_zero table) 16 (drop at s))
+none_left {table} {s = s} {at} after_skip full on = search (arith, prefix_len-take)
 
 -- Without a digit, the answer is `Empty`.
 pub answers_empty : {table : Table} (class : Class) (bound limit : ℕ) {skip : Bool} {s : List ℕ} {at before now : ℕ} {w : Window} →
     Skipped table skip s at before now w → at + w.len ≡ 0 → Err empty ≡ prefix_magnitude table class bound limit skip s
-answers_empty {table} class bound limit {skip} {s} after_skip none =
-    rw (refused_empty table class bound limit prefix skip s (omega (arith, after_skip.run_is, after_skip.window.len_is))) refl
+answers_empty {table} class bound limit {skip} {s} after_skip none = search (arith, refused_empty)
 
 -- A last window that is not full holds the rest of the run, if there is any.
 pub answers_short : {table : Table} (class : Class) (bound limit : ℕ) {skip : Bool} {s : List ℕ} {at before now : ℕ} {w : Window} {number len : ℕ} →
@@ -236,11 +234,7 @@ module _ {table : Table} {skip : Bool} {s : List ℕ} {at before now : ℕ} {w :
 
   narrow_ok : (bound limit : ℕ) → bound ≤ 4294967295 → 0 < at + w.len → w.number ≤ bound →
       Ok (w.number, at + w.len) ≡ prefix_magnitude table narrow bound limit skip s
-  narrow_ok bound limit high some within =
-      let all = rest_is (omega arith) in
-      let accepted : IsAccepted table narrow bound limit prefix skip s =
-      record { some = omega (arith, all.0); short = not_too_long table skip limit s few; in_range = omega (arith, all.1); ends = refl } in
-      rw (refusal-none table narrow bound limit prefix skip s accepted, all.1, all.0) refl
+  narrow_ok bound limit high some within = search (arith, rest_is, not_too_long, refusal-none)
 
   pub narrow_after_skip : (bound limit : ℕ) → bound ≤ 4294967295 → 0 < at + w.len →
       (if nat_lt bound w.number then Err (overflow (drop at s)) else Ok (w.number, at + w.len)) ≡ prefix_magnitude table narrow bound limit skip s

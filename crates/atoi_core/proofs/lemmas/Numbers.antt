@@ -1,6 +1,6 @@
 -- What follows a number, and what an error says about digits.
-use Rattle.std.proofs.Common.{◌≡◌, ◌≢◌, ◌↔◌, ℕ, eqb, eqb-true, ltb-true, ◌<◌, Bool, true, false, IsFalse, List, [], ◌∷◌, ◌++◌, length, take, drop, get_or, get_or-drop, length-drop, Err, ℤ, refl, sym, ap, ◌∙◌, arith, inl, inr}
-use Rattle.std.proofs.lemmas.Bool.{cases_lt, cases_Bool, eqb-false, false≢true}
+use Rattle.std.proofs.Common.{◌≡◌, ◌≢◌, ◌↔◌, ℕ, eqb, eqb-true, ltb-true, ◌<◌, Bool, true, false, IsFalse, List, [], ◌∷◌, ◌++◌, length, drop, get_or, get_or-drop, length-drop, Err, ℤ, refl, sym, ap, ◌∙◌, arith, inl, inr}
+use Rattle.std.proofs.lemmas.Bool.{cases_lt, cases_Bool, eqb-false}
 use Rattle.std.proofs.lemmas.List.{take-append-drop}
 use Rattle.std.proofs.lemmas.List.Prefix.{front_rest}
 use Rattle.std.proofs.lemmas.List.Sums.{prefix_len-le-length, prefix_len_stops}
@@ -39,8 +39,7 @@ module _ (int : IntType) (sized : IsSized int) (form : SignForm) (s : List ℕ) 
 
   from_prefix : ((count : ℕ) × (PrefixWrites (Writes int form) s number count × (drop count s ≡ byte ∷ rest)))
       → IsNumberThen (Writes int form) s number byte rest
-  from_prefix h =
-      record { bytes = take h.0 s; parts = sym (take-append-drop h.0 s) ∙ ap (λ t. take h.0 s ++ t) h.1.1; written = h.1.0.written }
+  from_prefix h = search (arith, take-append-drop)
 
   cut_is : (other : ℤ) (count : ℕ) → IsNumberThen (Writes int form) s number byte rest → PrefixWrites (Writes int form) s other count
       → (number ≡ other) × (drop count s ≡ byte ∷ rest)
@@ -83,21 +82,13 @@ run_of_begins (byte ∷ bytes) digit = rw (digit_is byte digit.0 digit.1) (omega
 
 -- The law `PrefixBegins`.
 pub prefix_begins : (int : IntType) → PrefixBegins int
-prefix_begins int form skip s found h =
-    begins_of_run (sign_in int form s).body (found_prefix int form skip s found.0 found.1 h).is_prefix.some
+prefix_begins int form skip s found h = search (arith, begins_of_run, found_prefix)
 
 -- A number in range has few enough digits.
 long_is_above : (int : IntType) → IsSized int → (is_negative : Bool) (body : List ℕ)
     → is_above (limit_at (class_of int) prefix true (limit_of int)) (significant_len decimal_table true body) ≡ true
     → bound_of int is_negative < value decimal_table (run decimal_table body)
-long_is_above int sized is_negative body long =
-    elim (cases_lt (bound_of int is_negative) (value decimal_table (run decimal_table body))) [
-      | inl lt ↦ lt
-      | inr le ↦
-          let short : is_above (limit_at (class_of int) prefix true (limit_of int)) (significant_len decimal_table true body) ≡ false =
-          rw (limit_of_prefix int true (limit_of int) (inl refl)) (in_range_short decimal_table int sized is_negative body le) in
-          absurd (false≢true (sym short ∙ long))
-    ]
+long_is_above int sized is_negative body long = search (arith, cases_lt, limit_of_prefix, in_range_short)
 
 module _ (int : IntType) (form : SignForm) (s : List ℕ) (reason : Refusal) where
   is_none : (skip : Bool) → prefix_call int form skip s ≡ Err reason

@@ -4,7 +4,7 @@ use Rattle.std.proofs.lemmas.Bool.{cases_lt, cases_Bool}
 use Rattle.std.proofs.lemmas.List.Sums.{prefix_len-le-length, prefix_len_stops}
 use Rattle.atoi_core.specs.Digit.{decimal_table, is_digit}
 use Rattle.atoi_core.specs.Run.{run_len, run, value}
-use Rattle.atoi_core.specs.IntType.{IntType, class_of, limit_of, IsSized, bound_of}
+use Rattle.atoi_core.specs.IntType.{IntType, class_of, limit_of, IsSized}
 use Rattle.atoi_core.specs.Sign.{Sign, sign_of}
 use Rattle.atoi_core.specs.Laws.{SignForm, sign_in, whole_call, prefix_call, HasLimitOfWhole, PrefixIsWhole, PrefixOfCut, PrefixStopsAtRest, looked_for, given, Writes, PrefixesAndRests, AcceptedNumbers, AcceptedTexts, WholeResults, PrefixResults}
 use Rattle.atoi_core.proofs.lemmas.Runs.{length-run, run_len-run, zeros-run, run_all}
@@ -74,29 +74,12 @@ prefix_of_whole int form skip s v limit h =
 
 -- The law `PrefixIsWhole`, which has both directions.
 pub prefix_is_whole : (int : IntType) → PrefixIsWhole int
-prefix_is_whole int = record {
-  whole = whole_of_prefix int;
-  back = prefix_of_whole int;
-}
+prefix_is_whole int = record { whole = whole_of_prefix int; back = prefix_of_whole int }
 
 -- A number at the start of a body is in its run too.
 found_again : (int : IntType) (g : Sign) (skip : Bool) (v : ℤ) (count : ℕ) → IsFound int g skip v count
     → IsFound int (record g { body = run decimal_table g.body }) skip v count
-found_again int g skip v count h =
-    let len : run_len decimal_table (run decimal_table g.body) ≡ run_len decimal_table g.body = run_len-run decimal_table g.body in
-    let same : run decimal_table (run decimal_table g.body) ≡ run decimal_table g.body =
-    run_all decimal_table (run decimal_table g.body) (len ∙ sym (length-run decimal_table g.body))
-    in
-    record {
-      is_prefix = record {
-        some = rw len h.is_prefix.some;
-        short = rw (len, zeros-run decimal_table g.body) h.is_prefix.short;
-        in_range = rw same h.is_prefix.in_range;
-        ends = refl;
-      };
-      number = rw same h.number;
-      count_is = rw len h.count_is;
-    }
+found_again int g skip v count h = search (arith, run_len-run, run_all, length-run, zeros-run)
 
 -- A found prefix is not empty, and the cut after it has the same answer.
 found_in_cut : (int : IntType) (form : SignForm) (skip : Bool) (s : List ℕ) (v : ℤ) (count : ℕ) → prefix_call int form skip s ≡ Ok (v, count)
@@ -144,9 +127,7 @@ no_digit (byte ∷ bytes) h = λ digit.
 module _ (digits rest : List ℕ) (all : AllDigits 10 digits) (ends : ¬ BeginsWithDigit rest) where
   -- Digits that no digit follows are the run.
   pub run_len_before : run_len decimal_table (digits ++ rest) ≡ length digits
-  run_len_before =
-      prefix_len-append (is_digit decimal_table) digits rest
-      ∙ rw (eq-eqb (run_len decimal_table digits) (length digits) (run_of_digits digits all)) (omega (arith, stops rest ends))
+  run_len_before = search (arith, prefix_len-append, eq-eqb, run_of_digits, stops)
 
   pub run_before : run decimal_table (digits ++ rest) ≡ digits
   run_before = ap (λ (n : ℕ). take n (digits ++ rest)) run_len_before ∙ take-append_seam digits rest
@@ -156,20 +137,7 @@ prefix_found : (int : IntType) → IsSized int → (is_negative : Bool) (taken :
     → DigitsWrite int is_negative digits number → ¬ BeginsWithDigit rest
     → IsFound int (record { minus = is_negative; taken = taken; body = digits ++ rest }) true number (length digits + taken)
 prefix_found int sized is_negative taken digits rest number written ends =
-    let len = run_len_before digits rest written.numeral.1 ends in
-    let is_run = run_before digits rest written.numeral.1 ends in
-    let same = own.same digits written.numeral.1 in
-    let in_range : value decimal_table (run decimal_table (digits ++ rest)) ≤ bound_of int is_negative = rw (is_run, same) written.in_range in
-    record {
-      is_prefix = record {
-        some = omega (arith, len, written.numeral.0);
-        short = rw (limit_of_prefix int true (limit_of int) (inl refl)) (in_range_short decimal_table int sized is_negative (digits ++ rest) in_range);
-        in_range = in_range;
-        ends = refl;
-      };
-      number = rw (is_run, same) written.value_is;
-      count_is = rw len refl;
-    }
+    search (arith, own, run_len_before, run_before, limit_of_prefix, in_range_short)
 
 -- Digits that write a number, and no digit after them: the number is found.
 found_digits : (int : IntType) → IsSized int → (is_negative : Bool) (s : List ℕ) (number : ℤ) (count : ℕ)
@@ -239,18 +207,11 @@ some int (given is_negative) prefix_bytes number h = h.numeral.0
 
 of_parts : (int : IntType) (form : SignForm) (s prefix_bytes rest : List ℕ) (number : ℤ)
     → s ≡ prefix_bytes ++ rest → Writes int form prefix_bytes number → ¬ BeginsWithDigit rest → PrefixWrites (Writes int form) s number (length prefix_bytes)
-of_parts int form s prefix_bytes rest number parts written ends =
-    record {
-      written = rw (ap (take (length prefix_bytes)) parts ∙ take-append_seam prefix_bytes rest) written;
-      some = some int form prefix_bytes number written;
-      within = omega (arith, ap length parts, length-append prefix_bytes rest);
-      ends = rw (front_rest s prefix_bytes rest parts) ends;
-    }
+of_parts int form s prefix_bytes rest number parts written ends = search (arith, some, take-append_seam, length-append, front_rest)
 
 -- Equal answers `Ok` have equal parts.
 same_answer : {E : Type 0} (a b : ℤ) (m n : ℕ) (answer : Result (ℤ × ℕ) E) → answer ≡ Ok (a, m) → answer ≡ Ok (b, n) → (a ≡ b) × (m ≡ n)
-same_answer a b m n answer one other =
-    let pair : (a, m) ≡ (b, n) = cc in (ap (λ (p : ℤ × ℕ). p.0) pair, ap (λ (p : ℤ × ℕ). p.1) pair)
+same_answer a b m n answer one other = search (arith)
 
 -- At most one prefix writes a number that no digit follows: a parse returns it.
 only : (int : IntType) → IsSized int → (form : SignForm) (s : List ℕ) (number other : ℤ) (count len : ℕ)

@@ -1,5 +1,5 @@
 -- A reading of the start of a slice decides the answer of a wide type.
-use Rattle.std.proofs.Common.{◌≡◌, ◌⊎◌, ℕ, ◌+◌, ◌-◌, ◌*◌, ◌^◌, ◌<◌, ◌≤◌, min, Bool, true, false, cond, eqb, ltb, List, length, take, drop, Some, None, Ok, Err, refl, sym, ◌∙◌, inl, inr, arith, ne_eqb, le-ltb, lit<}
+use Rattle.std.proofs.Common.{◌≡◌, ◌⊎◌, ℕ, ◌+◌, ◌-◌, ◌*◌, ◌^◌, ◌<◌, ◌≤◌, min, Bool, true, false, cond, eqb, ltb, List, length, take, drop, Some, None, Ok, Err, refl, sym, ◌∙◌, inl, inr, arith, ne_eqb, le-ltb}
 use Rattle.std.proofs.Math.Nat.{pow-le-pow_right}
 use Rattle.std.proofs.lemmas.Bool.{cases_lt, lt-ltb}
 use Rattle.std.proofs.lemmas.List.{take-take, length-take, length-take-le}
@@ -40,8 +40,7 @@ module _ {table : Table} {count : ℕ} {s : List ℕ} {digits leading number : �
 
 pub zeros_left : (table : Table) (count : ℕ) (s : List ℕ) (offset : ℕ) → offset ≤ zeros table s
     → zeros table (take count (drop offset s)) ≡ min count (zeros table s - offset)
-zeros_left table count s offset within =
-    omega (arith, prefix_len-take (is_zero table) count (drop offset s), prefix_len-drop (is_zero table) offset s within)
+zeros_left table count s offset within = search (arith, prefix_len-take, prefix_len-drop)
 
 leading_both : (n m k z y : ℕ) → k ≡ min n z → (n ≤ z → z ≡ n + y) → cond (eqb k n) (n + min m y) k ≡ min (n + m) z
 leading_both n m k z y k_is more = grind (arith, nat_tests)
@@ -71,16 +70,10 @@ module _ {table : Table} {count : ℕ} {s : List ℕ} {digits leading number : �
       })
 
   pub within : (leading ≤ digits) × (digits ≤ min count (length s))
-  within =
-      let most = prefix_len-le-length (is_digit table) (take count s) in
-      (omega (arith, reading.leading_are, reading.digits_are, zeros-le table (take count s)), omega (arith, reading.digits_are, most, length-take count s))
+  within = search (arith, prefix_len-le-length, zeros-le, length-take)
 
   pub below : IsBelowTen table → number < 10 ^ digits
-  below ten =
-      let front : List ℕ = take count s in
-      let len : length (run table front) ≡ digits =
-      length-take-le (run_len table front) front (prefix_len-le-length (is_digit table) front) ∙ sym reading.digits_are in
-      rw (reading.number_is, ← len) (value-below table ten (run table front))
+  below ten = search (arith, length-take-le, prefix_len-le-length, value-below)
 
 first_refusal : {A : Type 0} (a b c : Bool) (p q r : Refusal) (v : A)
     → unless_refused (cond a (Some p) (cond b (Some q) (cond c (Some r) None))) v ≡ cond a (Err p) (cond b (Err q) (cond c (Err r) (Ok v)))
@@ -99,9 +92,7 @@ by_all_digits table class bound limit skip s skipped significant less zeros_are 
 
 by_many_digits : (class : Class) (bound limit skipped significant number : ℕ) (s : List ℕ) → limit < cap class → cap class ≤ significant
     → answer_by_digits class bound limit skipped significant number s ≡ Err (size (skipped + cap class) (drop skipped s))
-by_many_digits class bound limit skipped significant number s less many =
-    let most : min significant (cap class) ≡ cap class = omega arith in
-    rw (ne_eqb (skipped + significant) 0 (omega arith), lt-ltb limit significant (omega arith), most) refl
+by_many_digits class bound limit skipped significant number s less many = search (arith, ne_eqb, lt-ltb)
 
 skipped_is : (skip : Bool) (z offset digits leading : ℕ) → leading ≤ digits → (skip ≡ false → offset ≡ 0) → (skip ≡ true → z ≡ offset + leading)
     → cond skip z 0 ≡ offset + (digits - significant_digits skip digits leading)
@@ -113,9 +104,7 @@ counting_most true digits leading = omega arith
 counting_most false digits leading = omega arith
 
 pub below_bound : (limit bound digits number : ℕ) → HasDigits limit bound → digits < limit → number < 10 ^ digits → number < bound
-below_bound limit bound digits number bounds few small =
-    let most : 10 ^ digits ≤ 10 ^ (limit - 1) = pow-le-pow_right (lit< tt) (omega arith) in
-    omega (arith, bounds.0)
+below_bound limit bound digits number bounds few small = search (arith, pow-le-pow_right)
 
 all_count : (skip : Bool) (digits leading : ℕ) → (skip ≡ true → leading ≡ 0) → significant_digits skip digits leading ≡ digits
 all_count true digits leading none = omega (arith, none refl)

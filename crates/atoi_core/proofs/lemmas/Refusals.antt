@@ -1,5 +1,5 @@
 -- When a body is refused.
-use Rattle.std.proofs.Common.{◌≡◌, ℕ, ◌+◌, ◌-◌, ◌<◌, ◌≤◌, min, Bool, true, false, cond, eqb, ltb, List, [], length, drop, subst, Option, Some, None, option_map, refl, sym, ap, ◌∙◌, arith, ltb-false, le-ltb, ne_eqb, eq-eqb}
+use Rattle.std.proofs.Common.{◌≡◌, ℕ, ◌+◌, ◌-◌, ◌<◌, ◌≤◌, min, Bool, true, false, cond, eqb, ltb, List, [], length, drop, subst, Option, Some, None, option_map, refl, sym, ◌∙◌, arith, ltb-false, le-ltb, ne_eqb, eq-eqb}
 use Rattle.std.proofs.lemmas.Bool.{eqb-false, lt-ltb}
 use Rattle.std.proofs.Math.Seq.{drop-length}
 use Rattle.atoi_core.specs.Digit.{Table}
@@ -90,9 +90,7 @@ module _ (table : Table) (class : Class) (bound limit : ℕ) (extent : Extent) (
   pub refusal-is : refusal table class bound limit extent skip body
       ≡ first_of is_empty is_long is_over is_followed empty too_long over followed
   unfolding refusal
-  refusal-is =
-      ap (λ most. first_of is_empty (is_above most (significant_len table skip body)) is_over is_followed empty too_long over followed)
-      (limit-is class extent skip limit (run_len table body) (skipped_zeros table skip body))
+  refusal-is = search (arith, limit-is)
 
   pub refused_empty : run_len table body ≡ 0 → refusal table class bound limit extent skip body ≡ Some empty
   refused_empty none = refusal-is ∙ rw (eq-eqb (run_len table body) 0 none) refl
@@ -102,12 +100,10 @@ module _ (table : Table) (class : Class) (bound limit : ℕ) (extent : Extent) (
 
   pub refused_overflow : 0 < run_len table body → is_long ≡ false → bound < value table (run table body)
       → refusal table class bound limit extent skip body ≡ Some over
-  refused_overflow some short above =
-      refusal-is ∙ rw (ne_eqb (run_len table body) 0 (omega arith), short, lt-ltb bound (value table (run table body)) above) refl
+  refused_overflow some short above = search (arith, refusal-is, ne_eqb, lt-ltb)
 
   pub refusal-none : IsAccepted table class bound limit extent skip body → refusal table class bound limit extent skip body ≡ None
-  refusal-none h =
-      refusal-is ∙ rw (ne_eqb (run_len table body) 0 (omega arith), h.short, le-ltb bound (value table (run table body)) h.in_range, h.ends) refl
+  refusal-none h = search (arith, refusal-is, ne_eqb, le-ltb)
 
   pub accepted : refusal table class bound limit extent skip body ≡ None → IsAccepted table class bound limit extent skip body
   accepted h =
@@ -121,8 +117,7 @@ module _ (table : Table) (class : Class) (bound limit : ℕ) (extent : Extent) (
       → (is_empty ≡ false → is_long ≡ false → is_over ≡ true → P over)
       → (is_empty ≡ false → is_long ≡ false → is_over ≡ false → is_followed ≡ true → P followed)
       → (reason : Refusal) → refusal table class bound limit extent skip body ≡ Some reason → P reason
-  refusal-cases P p q r s reason h =
-      first_cases P is_empty is_long is_over is_followed empty too_long over followed p q r s reason (sym refusal-is ∙ h)
+  refusal-cases P p q r s reason h = search (arith, first_cases, refusal-is)
 
   pub refusal-input : (reason : Refusal) → refusal table class bound limit extent skip body ≡ Some reason
       → (n : ℕ) × (input_of reason ≡ drop n body)
@@ -133,9 +128,7 @@ module _ (table : Table) (class : Class) (bound limit : ℕ) (extent : Extent) (
 
   pub refusal-rank : option_map rank (refusal table class bound limit extent skip body)
       ≡ first_of is_empty is_long is_over is_followed 0 1 2 (rank (invalid class 0 0 []))
-  refusal-rank =
-      ap (option_map rank) refusal-is ∙ first_map is_empty is_long is_over is_followed empty too_long over followed
-      ∙ ap (first_of is_empty is_long is_over is_followed 0 1 2) (rank-invalid class _ _ body)
+  refusal-rank = search (arith, refusal-is, first_map, rank-invalid)
 
 -- Why a body of an integer type is refused.
 abbrev pub refused : Table → IntType → (minus : Bool) → Extent → Bool → List ℕ → Option Refusal

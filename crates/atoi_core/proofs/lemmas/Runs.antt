@@ -1,5 +1,5 @@
 -- The run of a slice: its length, its cuts and its value.
-use Rattle.std.proofs.Common.{◌≡◌, ℕ, zero, suc, ◌+◌, ◌≤◌, min, Bool, true, false, cond, List, [], ◌∷◌, take, drop, arith, ◌*◌, ◌^◌, ◌<◌, ◌++◌, length, refl, ap, ◌∙◌, ◌-◌, replicate, All, IsTrue, subst, Option, lit<, lit≤, get_or, Some, None, is_some, unwrap_or, eq-eqb}
+use Rattle.std.proofs.Common.{◌≡◌, ℕ, zero, suc, ◌+◌, ◌≤◌, min, Bool, true, false, cond, List, [], ◌∷◌, take, drop, arith, ◌*◌, ◌^◌, ◌<◌, ◌++◌, length, refl, ap, ◌∙◌, ◌-◌, replicate, All, IsTrue, subst, Option, get_or, Some, None, unwrap_or, eq-eqb}
 use Rattle.std.specs.List.{prefix_len}
 use Rattle.atoi_core.specs.Digit.{Table, is_digit, digit_value, IsBelowTen, is_zero, decimal_table}
 use Rattle.atoi_core.specs.Run.{run_len, zeros, run, value}
@@ -48,10 +48,7 @@ value-below table below (x ∷ xs) =
 
 pub value-take-add : (table : Table) (n k : ℕ) (s : List ℕ) → n + k ≤ length s →
     value table (take (n + k) s) ≡ value table (take n s) * 10 ^ k + value table (take k (drop n s))
-value-take-add table n k s h =
-    ap (value table) (take-add n k s)
-    ∙ value-append table (take n s) (take k (drop n s))
-    ∙ ap (λ (e : ℕ). value table (take n s) * 10 ^ e + value table (take k (drop n s))) (length-take-le k (drop n s) (rw length-drop (omega arith)))
+value-take-add table n k s h = search (arith, take-add, value-append, length-take-le, length-drop)
 
 -- The digit value of a zero is 0.
 value_of_zero : (table : Table) (byte : ℕ) → is_zero table byte ≡ true → digit_value table byte ≡ 0
@@ -68,12 +65,7 @@ value-zeros table (suc n) (b ∷ bs) =
     ]) refl
 
 pub value-drop_zeros : (table : Table) (n : ℕ) (s : List ℕ) → n ≤ zeros table s → value table (run table s) ≡ value table (run table (drop n s))
-value-drop_zeros table n s h =
-    let parts : run_len table s ≡ n + run_len table (drop n s) = prefix_len-drop (is_digit table) n s (omega (arith, zeros-le table s)) in
-    let within : run_len table s ≤ length s = prefix_len-le-length (is_digit table) s in
-    ap (λ (m : ℕ). value table (take m s)) parts
-    ∙ value-take-add table n (run_len table (drop n s)) s (omega arith)
-    ∙ omega (arith, ap (λ (e : ℕ). e * 10 ^ run_len table (drop n s)) (value-zeros table n s h))
+value-drop_zeros table n s h = search (arith, prefix_len-drop, zeros-le, prefix_len-le-length, value-take-add, value-zeros)
 
 -- n + 1 digits without a leading zero spell at least 10^n.
 pub value-least : (table : Table) (n : ℕ) (s : List ℕ) → suc n ≤ run_len table s → zeros table s ≡ 0 → 10 ^ n ≤ value table (take (suc n) s)
@@ -88,8 +80,7 @@ value-least table n (b ∷ bs) = λ h z.
 
 pub prefix_len-replicate_append : {X : Type 0} (p : X → Bool) (x : X) → p x ≡ true → (n : ℕ) (xs : List X)
     → prefix_len p (replicate n x ++ xs) ≡ n + prefix_len p xs
-prefix_len-replicate_append p x h n xs =
-    rw (prefix_len-append p (replicate n x) xs, prefix_len-replicate p n x h, length-replicate n x, eq-eqb n n refl) refl
+prefix_len-replicate_append p x h n xs = search (arith, prefix_len-append, prefix_len-replicate, length-replicate, eq-eqb)
 
 module _ (table : Table) where
   pub length-run : (s : List ℕ) → length (run table s) ≡ run_len table s
@@ -136,8 +127,7 @@ value_more table s i w here digit =
     rw (take_more s i 0 here, value-append table (take i s) (get_or s i 0 ∷ []), ← ap (λ (o : Option ℕ). unwrap_or o 0) digit) (grind arith)
 
 value-append-le : (table : Table) (xs ys : List ℕ) → value table xs ≤ value table (xs ++ ys)
-value-append-le table xs ys =
-    omega (arith, value-append table xs ys, mul-le-mul_left (value table xs) (one-le-pow (length ys) 10 (lit< tt)))
+value-append-le table xs ys = search (arith, value-append, mul-le-mul_left, one-le-pow)
 
 pub value-take-le : (table : Table) (s : List ℕ) (i j : ℕ) → i ≤ j → value table (take i s) ≤ value table (take j s)
 value-take-le table s i j le =
@@ -147,13 +137,11 @@ value-take-le table s i j le =
 -- A digit after i bytes of the run is in it.
 pub run_more : (table : Table) (s : List ℕ) (i w : ℕ) → i < length s → table (get_or s i 0) ≡ Some w
     → i + run_len table (drop i s) ≡ run_len table s → i + 1 + run_len table (drop (i + 1) s) ≡ run_len table s
-run_more table s i w here digit so_far =
-    omega (arith, prefix_len-drop_yes (is_digit table) s i 0 here (ap is_some digit), so_far)
+run_more table s i w here digit so_far = search (arith, prefix_len-drop_yes)
 
 pub run_ends : (table : Table) (s : List ℕ) (i : ℕ) → i < length s → table (get_or s i 0) ≡ None
     → i + run_len table (drop i s) ≡ run_len table s → run_len table s ≡ i
-run_ends table s i here none so_far =
-    omega (arith, prefix_len-drop_no (is_digit table) s i 0 here (ap is_some none), so_far)
+run_ends table s i here none so_far = search (arith, prefix_len-drop_no)
 
 pub decimal_below_ten : IsBelowTen decimal_table
 decimal_below_ten byte = grind (arith, nat_tests)
@@ -162,11 +150,7 @@ pub digit_joins : (len number w : ℕ) → number < 10 ^ len → w < 10 → numb
 digit_joins len number w small digit = rw (pow-add 10 len 1) (grind arith)
 
 pub sixteen_digits : (len number : ℕ) → len ≤ 16 → number < 10 ^ len → number < 2 ^ 64
-sixteen_digits len number short small =
-    let fits : 10 ^ 16 ≤ 2 ^ 64 = lit≤ tt in
-    omega (arith, pow-le-pow_right {n = 10} (lit< tt) short, fits)
+sixteen_digits len number short small = search (arith, pow-le-pow_right)
 
 pub digit_is_below_ten : (table : Table) → IsBelowTen table → (byte w : ℕ) → table byte ≡ Some w → w < 10
-digit_is_below_ten table small byte w digit =
-    let P : ℕ → Type 0 = λ n. n < 10 in
-    subst P (ap (λ (o : Option ℕ). unwrap_or o 0) digit) (small byte)
+digit_is_below_ten table small byte w digit = search (arith)

@@ -1,19 +1,19 @@
 -- Bytes after the run, and zeros before it, do not change the outcome.
-use Rattle.std.proofs.Common.{◌≡◌, ℕ, ◌+◌, ◌-◌, ◌<◌, Bool, true, not, if◌then◌else◌, eqb, ltb, List, [], ◌++◌, length, take, replicate, Option, Some, None, Result, ℤ, option_map, refl, sym, ap, ◌∙◌, subst₂, arith, take_at, drop_at, length-append, ne_eqb}
+use Rattle.std.proofs.Common.{◌≡◌, ℕ, ◌+◌, ◌-◌, ◌<◌, Bool, true, not, if◌then◌else◌, eqb, List, ◌++◌, length, take, replicate, Option, Some, None, Result, ℤ, option_map, refl, sym, ap, ◌∙◌, subst₂, arith, take_at, drop_at, length-append, ne_eqb}
 use Rattle.std.proofs.lemmas.List.{length-replicate}
 use Rattle.std.proofs.lemmas.Bool.Decides.{nat_tests}
 use Rattle.std.proofs.Math.Seq.{take-add}
 use Rattle.atoi_core.specs.Digit.{decimal_table, is_digit, is_zero}
 use Rattle.atoi_core.specs.Run.{run_len, run, zeros, value}
 use Rattle.atoi_core.specs.Refusal.{Refusal, rank}
-use Rattle.atoi_core.specs.Magnitude.{Extent, whole, prefix, is_above, leaves_rest, invalid, refusal, unless_refused}
+use Rattle.atoi_core.specs.Magnitude.{Extent, whole, prefix, leaves_rest, refusal, unless_refused}
 use Rattle.atoi_core.specs.IntType.{IntType, class_of, bound_of, limit_of}
 use Rattle.atoi_core.specs.Sign.{Sign, with_sign}
 use Rattle.atoi_core.specs.Answer.{map_answer, whole_answer, prefix_answer, with_more}
 use Rattle.atoi_core.specs.Laws.{SignForm, sign_in, with_zeros, zero_byte, HaveSameOutcome, RestChangesNothing, ZerosChangeNothing}
 use Rattle.atoi_core.proofs.lemmas.Runs.{length-run, zeros-run, value-replicate, prefix_len-replicate_append}
 use Rattle.atoi_core.proofs.lemmas.Calls.{sign_again, whole_call-is, prefix_call-is, counted_number, with_more-zero}
-use Rattle.atoi_core.proofs.lemmas.Refusals.{refusal-rank, first_of, limit_at, significant_len}
+use Rattle.atoi_core.proofs.lemmas.Refusals.{refusal-rank, significant_len}
 
 -- Equal numbers, and refusals of equal rank or none: whole answers have the same outcome.
 same_outcome : (minus other_minus : Bool) (r q : Option Refusal) (x y : ℕ) → option_map rank r ≡ option_map rank q
@@ -57,11 +57,7 @@ record IsAlike (int : IntType) (skip : Bool) (extent : Extent) (g h : Sign) : Ty
 -- If the four tests agree, the refusals have the same rank.
 same_reason : (int : IntType) (skip : Bool) (extent : Extent) (g h : Sign) → IsAlike int skip extent g h
     → option_map rank (reason_at int skip extent g) ≡ option_map rank (reason_at int skip extent h)
-same_reason int skip extent g h alike =
-    refusal-rank decimal_table (class_of int) (bound_of int g.minus) (limit_of int) extent skip g.body
-    ∙ (λ i. first_of (alike.is_empty i) (is_above (limit_at (class_of int) extent skip (limit_of int)) (alike.counts i))
-    (ltb (alike.bound i) (alike.number i)) (alike.followed i) 0 1 2 (rank (invalid (class_of int) 0 0 [])))
-    ∙ sym (refusal-rank decimal_table (class_of int) (bound_of int h.minus) (limit_of int) extent skip h.body)
+same_reason int skip extent g h alike = search (arith, refusal-rank)
 
 -- A prefix call with the sign `g` and its body.
 abbrev prefix_at : IntType → Bool → Sign → Result (ℤ × ℕ) Refusal
@@ -123,18 +119,11 @@ length-padded count body = simp (length-append, length-replicate)
 
 -- A prefix of the padded body with all added zeros is these and a prefix of the body.
 take-padded : (count n : ℕ) (body : List ℕ) → take (count + n) (padded count body) ≡ padded count (take n body)
-take-padded count n body =
-    let len = length-replicate count zero_byte in
-    take-add count n (padded count body)
-    ∙ (λ i. take_at (replicate count zero_byte) body count len i ++ take n (drop_at (replicate count zero_byte) body count len i))
+take-padded count n body = search (arith, length-replicate, take-add, take_at, drop_at)
 
 -- The padded run has the same value.
 value-padded : (count : ℕ) (body : List ℕ) → value decimal_table (run decimal_table body) ≡ value decimal_table (run decimal_table (padded count body))
-value-padded count body =
-    let n = run_len decimal_table body in
-    sym (value-replicate decimal_table zero_byte refl count (take n body))
-    ∙ ap (value decimal_table) (sym (take-padded count n body))
-    ∙ ap (λ (m : ℕ). value decimal_table (take m (padded count body))) (sym (run_len-padded count body))
+value-padded count body = search (arith, value-replicate, take-padded, run_len-padded)
 
 -- The same addend on both sides keeps a comparison.
 eqb-add : (more m n : ℕ) → eqb m n ≡ eqb (more + m) (more + n)
@@ -167,9 +156,7 @@ padded_alike int extent count g some =
 sign_of_padded : (int : IntType) (form : SignForm) (s : List ℕ) (count : ℕ) → 0 < run_len decimal_table (sign_in int form s).body
     → sign_in int form (with_zeros int form count s)
     ≡ record { minus = (sign_in int form s).minus; taken = (sign_in int form s).taken; body = padded count (sign_in int form s).body }
-sign_of_padded int form s count some =
-    let longer = run_len-padded count (sign_in int form s).body in
-    sign_again int form s (padded count (sign_in int form s).body) (omega arith)
+sign_of_padded int form s count some = search (arith, run_len-padded, sign_again)
 
 -- If zeros are skipped and the body begins with a digit, adding zeros after the sign does not
 -- change the outcome of a whole parse.

@@ -10,7 +10,7 @@ use Rattle.atoi_core.specs.Magnitude.{whole, is_above}
 use Rattle.atoi_core.specs.IntType.{IntType, IsSized, class_of, bound_of, limit_of}
 use Rattle.atoi_core.specs.Sign.{Sign, sign_of, with_sign, plus_sign, minus_sign}
 use Rattle.atoi_core.specs.Answer.{whole_answer, parse_answer}
-use Rattle.atoi_core.specs.Laws.{sign_in, least_of, TextOfValue, SkippingAgrees, SignForm, looked_for, given, whole_call, Writes, DecimalTexts}
+use Rattle.atoi_core.specs.Laws.{least_of, TextOfValue, SkippingAgrees, SignForm, looked_for, given, whole_call, Writes, DecimalTexts}
 use Rattle.atoi_core.proofs.lemmas.Runs.{run_all, digits_all}
 use Rattle.atoi_core.proofs.lemmas.Calls.{sign_of_digits, digit_in_range, sign_cases, whole_call-is, from_whole, to_whole, is_whole, whole_is_run}
 use Rattle.atoi_core.proofs.lemmas.Refusals.{limit_at, significant_len}
@@ -28,19 +28,11 @@ use Rattle.std.proofs.lemmas.Str.{digit_value_digit}
 whole_skipping : (int : IntType) (is_negative : Bool) (body : List ℕ) (v : ℤ)
     → whole_answer decimal_table int is_negative false body ≡ Ok v → whole_answer decimal_table int is_negative true body ≡ Ok v
 whole_skipping int is_negative body v h =
-    let found = from_whole int is_negative false body v h in
-    let old = found.0 in
-    let limit = limit_of_whole (class_of int) true (limit_of int) in
-    let fewer : significant_len decimal_table true body ≤ significant_len decimal_table false body = omega arith in
-    let short = shorter (limit_at (class_of int) whole true (limit_of int)) _ _ fewer (rw limit old.short) in
-    to_whole int is_negative true body
-    (is_whole int is_negative true body old.some short old.in_range (whole_is_run (run_len decimal_table body) (length body) old.ends))
-    ∙ ap Ok (sym found.1)
+    search (arith, from_whole, limit_of_whole, shorter, to_whole, is_whole, whole_is_run)
 
 -- The law `SkippingAgrees`.
 pub skipping_agrees : (int : IntType) → SkippingAgrees int
-skipping_agrees int form s v h =
-    whole_call-is int form true s ∙ whole_skipping int (sign_in int form s).minus (sign_in int form s).body v (sym (whole_call-is int form false s) ∙ h)
+skipping_agrees int form s v h = search (arith, whole_call-is, whole_skipping)
 
 -- A byte from 48 to 57 is a digit of value `byte - 48`.
 pub digit_is : (byte : ℕ) → 48 ≤ byte → byte ≤ 57 → decimal_table byte ≡ Some (byte - 48)
@@ -289,9 +281,7 @@ with_sign-injective false m n h = cc
 -- So are those that write a number of magnitude n.
 decimal_only : (int : IntType) → IsSized int → (is_negative : Bool) (digits : List ℕ) (n : ℕ)
     → DigitsWrite int is_negative digits (with_sign is_negative n) → IsFalse (has_needless_zero digits) → digits ≡ decimal n
-decimal_only int sized is_negative digits n h shortest =
-    decimal_of_digits digits h.numeral shortest (lt_of_le_of_lt h.in_range (bound_below-64 int sized is_negative))
-    ∙ ap decimal (sym (with_sign-injective is_negative n (digits_value 10 digits) h.value_is))
+decimal_only int sized is_negative digits n h shortest = search (arith, decimal_of_digits, lt_of_le_of_lt, bound_below-64, with_sign-injective)
 
 -- In range, `signed_decimal x` writes x.
 signed_writes : (int : IntType) → IsSized int → (takes_plus : Bool) (x : ℤ) → least_of int ≤ℤ x → x ≤ℤ pos int.greatest

@@ -85,9 +85,7 @@ module _ {table : Table} (ten : IsBelowTen table) where
   pub shows_following : (c k : ℕ) (s : List ℕ) (at : ℕ) {w : Window} →
       w ≡ window_of table c (take (length (take (length s - at) (drop at s)) - k) (drop k (take (length s - at) (drop at s)))) →
       Shows table c (drop k (drop at s)) w
-  shows_following c k s at e =
-      shows_rest c (drop at s) k
-      (e ∙ ap (λ (r : List ℕ). window_of table c (take (length r - k) (drop k r))) (take_rest s at))
+  shows_following c k s at e = search (arith, shows_rest, take_rest)
 
 -- ---- The loop that skips zeros
 

@@ -81,9 +81,7 @@ spread_pair b t u f g below =
 module _ (h t : ℕ) (room : (2 ^ h - 1) * (1 + t) < 2 ^ (h + h)) where
   -- The sum of a pair fits in a field.
   two_digits : (f g : ℕ) → f < 2 ^ h → g < 2 ^ h → g + f * t < 2 ^ (h + h)
-  two_digits f g f_below g_below =
-      let f_most : f * t ≤ (2 ^ h - 1) * t = mul-le-mul_right t (omega arith) in
-      omega arith
+  two_digits f g f_below g_below = search (arith, mul-le-mul_right)
 
   -- The spread word has the sums of pairs.
   spread_masked : (m word : ℕ) → lower_halves (h + h) m (spread (2 ^ (h + h)) t (bit_and word (masks h (twice m)))) ≡ pairs t (lower_halves h (twice m) word)
@@ -131,9 +129,7 @@ shift_after_cut g (suc m) word =
 round : (h t : ℕ) → (2 ^ h - 1) * (1 + t) < 2 ^ (h + h) → (m word : ℕ)
     → let product = bit_and word (masks h (twice m)) * (1 + t * 2 ^ (h + h)) in
     lower_halves (h + h) m (product % 2 ^ (m * ((h + h) + (h + h))) / 2 ^ (h + h)) ≡ pairs t (lower_halves h (twice m) word)
-round h t room m word =
-    let kept = bit_and word (masks h (twice m)) in
-    cc (shift_after_cut (h + h) m (kept * (1 + t * 2 ^ (h + h))), product_shifted (2 ^ (h + h)) t kept (pow_pos (h + h)), spread_masked h t room m word)
+round h t room m word = search (arith, shift_after_cut, product_shifted, pow_pos, spread_masked)
 
 -- What digits spell in base t, the highest first.
 abbrev in_base : ℕ → List ℕ → ℕ
@@ -210,9 +206,7 @@ in_base-low_value (suc k) word =
 pub shifted_value : (k count len word : ℕ) → k ≡ (count - len) * 8 → len ≤ count
     → low_value (low_bytes count (word * 2 ^ k % 2 ^ (count * 8))) ≡ low_value (low_bytes len word)
 unfolding low_bytes
-shifted_value k count len word e le =
-    let all : count - len + len ≡ count = omega arith in
-    cc (digits_cut 8 count (word * 2 ^ k), all, low_value_shifted (count - len) len word)
+shifted_value k count len word e le = search (arith, digits_cut, low_value_shifted)
 
 shifted_sum : (k count len word : ℕ) → k ≡ (count - len) * 8 → len ≤ count
     → in_base 10 (lower_halves 4 count (word * 2 ^ k % 2 ^ (count * 8))) ≡ low_value (low_bytes len word)
@@ -250,9 +244,11 @@ pub sum_8 : (val len : ℕ) → len ≤ 8
     let hundreds = bit_and tens 0x00FF_00FF_00FF_00FF * 0x64_0001 % 2 ^ 64 / 2 ^ 16 in
     bit_and hundreds 0x0000_FFFF_0000_FFFF * 0x2710_0000_0001 % 2 ^ 64 / 2 ^ 32 ≡ low_value (low_bytes len val)
 sum_8 val len most =
-    let tens = bit_and (val * 2 ^ (64 - 8 * len) % 2 ^ 64) 0x0F0F_0F0F_0F0F_0F0F * 0xA01 % 2 ^ 64 / 2 ^ 8 in
+    let ones = val * 2 ^ (64 - 8 * len) % 2 ^ 64 in
+    let tens = bit_and ones 0x0F0F_0F0F_0F0F_0F0F * 0xA01 % 2 ^ 64 / 2 ^ 8 in
     let hundreds = bit_and tens 0x00FF_00FF_00FF_00FF * 0x64_0001 % 2 ^ 64 / 2 ^ 16 in
-    sym (one_field 100000000 32 (bit_and hundreds 0x0000_FFFF_0000_FFFF * 0x2710_0000_0001 % 2 ^ 64 / 2 ^ 32) (omega arith))
+    let sum = bit_and hundreds 0x0000_FFFF_0000_FFFF * 0x2710_0000_0001 % 2 ^ 64 / 2 ^ 32 in
+    sym (one_field 100000000 32 sum (omega arith))
     ∙ round_number 16 10000 (lit< tt) 1 hundreds
     ∙ two_rounds val len most
 
@@ -311,11 +307,7 @@ places_most (byte ∷ bytes) =
 
 pub sum_most : (count len val : ℕ) → len ≤ count → 9 * low_value (low_bytes len val) + 15 ≤ 15 * 10 ^ count
 unfolding low_bytes
-sum_most count len val most =
-    let places : length (digits_l 256 len val) ≡ len = length-digits 256 len val in
-    let few : length (digits_l 256 len val) ≤ count = omega arith in
-    let power : 10 ^ length (digits_l 256 len val) ≤ 10 ^ count = pow-le-pow_right (lit< tt) few in
-    omega (arith, places_most (digits_l 256 len val))
+sum_most count len val most = search (arith, length-digits, pow-le-pow_right, places_most)
 
 -- ---- Bitwise operators on fields
 

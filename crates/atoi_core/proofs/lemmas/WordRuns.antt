@@ -37,10 +37,7 @@ prefix_len-agree p q agree (suc k) word =
 -- After a xor with 48, trailing zero bits count the zeros.
 zeros_counted : (k word : ℕ) → count_trailing_zeros (k * 8) (bit_xor word (repeated 48 k)) / 8 ≡ zeros decimal_table (low_bytes k word)
 unfolding low_bytes
-zeros_counted k word =
-    rw (trailing_bytes k (bit_xor word (repeated 48 k)), xor_repeated 48 (lit< tt) k word)
-    (prefix_len-map (λ b. b == 0) (λ x. bit_xor x 48) (digits_l 256 k word)
-    ∙ prefix_len-agree (λ x. bit_xor x 48 == 0) (is_zero decimal_table) combined_is_zero k word)
+zeros_counted k word = search (arith, trailing_bytes, xor_repeated, prefix_len-map, prefix_len-agree, combined_is_zero)
 
 -- Of eight bytes, and of sixteen.
 pub zeros_of_8 : (word : ℕ) → count_trailing_zeros 64 (bit_xor word 0x3030_3030_3030_3030) / 8 ≡ zeros decimal_table (low_bytes 8 word)
@@ -230,8 +227,7 @@ lowered_zeros (suc k) word =
 -- Trailing zero bits of the difference count the zeros.
 lowered_zeros_counted : (k word : ℕ) → count_trailing_zeros (k * 8) ((word + without_48 k) % 2 ^ (k * 8)) / 8 ≡ zeros decimal_table (low_bytes k word)
 unfolding low_bytes
-lowered_zeros_counted k word =
-    rw (trailing_bytes k ((word + without_48 k) % 2 ^ (k * 8)), digits_cut 8 k (word + without_48 k)) (lowered_zeros k word)
+lowered_zeros_counted k word = search (arith, trailing_bytes, digits_cut, lowered_zeros)
 
 pub lowered_zeros_of_8 : (word : ℕ)
     → count_trailing_zeros 64 ((word + 0xCFCF_CFCF_CFCF_CFD0) % 0x1_0000_0000_0000_0000) / 8 ≡ zeros decimal_table (low_bytes 8 word)

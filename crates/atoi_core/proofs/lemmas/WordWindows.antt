@@ -31,13 +31,7 @@ window_from : (c : ℕ) (s : List ℕ) (len leading number : ℕ)
     → leading ≡ (if len == c then zeros decimal_table (take c s) else 0)
     → number ≡ value decimal_table (take len s)
     → ◌≡◌ {A = Window} (record { len = len; zeroes = leading; number = number }) (window_of decimal_table c s)
-window_from c s len leading number len_is leading_is number_is =
-    let within : run_len decimal_table (take c s) ≡ min c (run_len decimal_table s) = prefix_len-take (is_digit decimal_table) c s in
-    let same_leading : leading ≡ (if run_len decimal_table (take c s) == c then zeros decimal_table (take c s) else 0) =
-    rw (← len_is) leading_is in
-    let same_number : number ≡ value decimal_table (take (run_len decimal_table (take c s)) (take c s)) =
-    rw (← len_is, take-take len c s (omega arith)) number_is in
-    λ i. record { len = len_is i; zeroes = same_leading i; number = same_number i }
+window_from c s len leading number len_is leading_is number_is = search (arith, prefix_len-take, take-take)
 
 -- The window of eight bytes, from their word.
 pub loaded_window : (s : List ℕ) → ((i : ℕ) → get_or s i 0 < 256) → (word : ℕ) (w : Window) → word ≡ word_of (take 8 s)
@@ -62,11 +56,7 @@ window_short s len number len_is short number_is =
 
 -- Below eight bytes, both windows are the same.
 pub few_in_both : (s : List ℕ) → length s < 8 → window_of decimal_table 16 s ≡ window_of decimal_table 8 s
-few_in_both s few =
-    let within : run_len decimal_table s ≤ length s = prefix_len-le-length (is_digit decimal_table) s in
-    let sixteen : take 16 s ≡ s = take_all 16 s (omega arith) in
-    let eight : take 8 s ≡ s = take_all 8 s (omega arith) in
-    rw (sixteen, eight, ne_eqb (run_len decimal_table s) 16 (omega arith), ne_eqb (run_len decimal_table s) 8 (omega arith)) refl
+few_in_both s few = search (arith, prefix_len-le-length, take_all, ne_eqb)
 
 pub enough_bytes : (s : List ℕ) → run_len decimal_table (take 8 s) ≡ 8 → 8 ≤ length s
 enough_bytes s full = omega (arith, prefix_len-le-length (is_digit decimal_table) (take 8 s), length-take 8 s)
