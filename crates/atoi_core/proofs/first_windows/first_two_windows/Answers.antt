@@ -1,7 +1,6 @@
 -- Two windows decide the answer, unless both are full or zeros are to be skipped.
 use Rattle.std.proofs.Common.{◌<◌, inl, inr, ◌∙◌, arith, lit<, rules}
 use Rattle.std.proofs.lemmas.List.Sums.{prefix_len-le-length}
-use Rattle.atoi_core.specs.Digit.{is_digit}
 use Rattle.atoi_core.proofs.lemmas.LoopAnswers.{answers_short, answers_two}
 use Rattle.atoi_core.proofs.lemmas.Windows.{Skipped, Skipped-at_once, Skipped-first, Skipped-loads, shows, shows_rest, two_full}
 use Rattle.atoi_core.proofs.first_windows.first_two_windows.Goals as goal
@@ -24,9 +23,7 @@ returns-then-first-lt16-clause-loads g c =
     Skipped-loads after_skip 0 (omega arith) (omega arith) (omega arith)
 
 pub slice_bounds-window-start : goal.slice_bounds-window-start
-slice_bounds-window-start g c =
-    let seen = shows g.met.E.Engine.below_ten 16 c.args.s.now c.window-first.ensures.window in
-    omega (arith, seen.len_is, c.if-first-lt16.false, prefix_len-le-length (is_digit g.E.Engine.table) c.args.s.now)
+slice_bounds-window-start g c = search (rules, shows, prefix_len-le-length)
 
 pub slice_bounds-window-count : goal.slice_bounds-window-count
 slice_bounds-window-count g c = slice_bounds-window-start g c

@@ -14,9 +14,7 @@ use Rattle.atoi_core.proofs.word_engine.prefix_64_after_zeros.Goals.{After-windo
 ended : (c : After-window_after_zeros-at)
     → let found = c.window_after_zeros-at.result in
     Skipped decimal_table true c.args.s.now found.0 c.args.steps.now (c.window_after_zeros-at.new.steps + 1) found.1
-ended c =
-    let e = c.window_after_zeros-at.ensures in
-    Skipped-after_zeros decimal_below_ten c.args.s.now c.args.steps.now e.offset e.window e.no_zeros e.loads
+ended c = search (arith, Skipped-after_zeros, decimal_below_ten)
 
 pub returns-then-first-lt16-clause-answer : goal.returns-then-first-lt16-clause-answer
 returns-then-first-lt16-clause-answer c =

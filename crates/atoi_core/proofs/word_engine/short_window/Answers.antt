@@ -14,9 +14,7 @@ filled c = ap₂ (λ x y. x + y) c.load_high.ensures c.fill_of_zeros.ensures ∙
 
 -- How many digits this word begins with.
 digits : (c : After-digits_of-digits) → c.digits_of-digits.result ≡ 8 - length c.args.s.now + run_len decimal_table c.args.s.now
-digits c =
-    filled_digits c.args.s.now c.requires (λ i. (c.type_inv.s i).fits) c.load_high.result c.fill_of_zeros.result
-    c.digits_of-digits.result c.load_high.ensures c.fill_of_zeros.ensures c.digits_of-digits.ensures.len
+digits c = search (arith, filled_digits)
 
 pub sum_of-requires : goal.sum_of-requires
 sum_of-requires c = (lowered_eight _ _ (omega (arith, (goal.at.sum_of-requires c).After-digits_of-digits.digits_of-digits.ensures.len)) refl).0
