@@ -6,7 +6,7 @@ ghost use Rattle.atoi_core.specs.Run.{run_len, run, zeros, value};
 ghost use Rattle.atoi_core.specs.Words.{word_of};
 ghost use Rattle.atoi_lanes.specs.Lanes.{itself, padded, padded_start, paired};
 
-use atoi_core::word_loads::{load_8, load_from, load_high};
+use atoi_core::word_loads::{load_8, load_high};
 use std::simd::prelude::*;
 
 const LANES: usize = 16;
@@ -29,7 +29,11 @@ pub fn load_lanes(s: &[u8]) -> u8x16
     match s.first_chunk::<LANES>() {
         Some(bytes) => u8x16::from_array(*bytes),
         None => {
-            let high = if s.len() <= 8 { 0 } else { load_from(s, 8) };
+            // One shift may be by all 64 bits, so there are two.
+            let high = match s.last_chunk::<8>() {
+                Some(last) => (u64::from_le_bytes(*last) >> (8 * (15 - s.len()))) >> 8,
+                None => 0,
+            };
             u64x2::from_array([load_8(s), high]).to_le_bytes()
         }
     }

@@ -1,5 +1,5 @@
 //! The parsers of 64- and 128-bit integers, which read windows of 32 bytes.
-ghost use Rattle.std.specs.Prelude.{◌≡◌, ◌+◌, ◌/◌, ◌<◌, ◌≤◌, take, true, IsTrue};
+ghost use Rattle.std.specs.Prelude.{◌≡◌, ◌+◌, ◌/◌, ◌<◌, ◌≤◌, take, true, false, IsTrue};
 ghost use Rattle.atoi_core.specs.Digit.{decimal_table};
 ghost use Rattle.atoi_core.specs.Loads.{LoadsWithin};
 ghost use Rattle.atoi_core.specs.Magnitude.{HasDigits, wide64, wide128, prefix_magnitude};
@@ -7,8 +7,10 @@ ghost use Rattle.atoi_core.specs.Refusal.{answer_of};
 ghost use Rattle.atoi_core.specs.Run.{zeros};
 ghost use Rattle.atoi_lanes.specs.Lanes.{ReadsAfterZeros};
 
+use crate::kernels::{len_lanes, load_lanes, sum_lanes};
 use crate::lanes::Lanes;
-use crate::window_32::{Window32, window_32};
+use crate::window_32::{Window32, load_last_after_16, window_32};
+use atoi_core::powers::append_digits;
 use atoi_core::wide_answer::{answer_64, answer_128, found_or_empty};
 use atoi_core::{AtoiSimdError, Engine, Steps};
 
@@ -37,14 +39,17 @@ pub fn prefix_64_lanes<'a>(
         let only = Lanes::window(s, steps);
         return found_or_empty(only.number, only.len as usize);
     }
+    if !skip {
+        return prefix_64_unskipped(bound, limit, s, steps);
+    }
     let first = window_32(s, steps);
     if first.len < limit {
         return found_or_empty(first.number as u64, first.len as usize);
     }
-    if skip && first.zeroes > 0 && first.len == 32 {
+    if first.zeroes > 0 && first.len == 32 {
         return prefix_64_cold(bound, limit, first.zeroes, s, steps);
     }
-    answer_from_window_64(bound, limit, skip, 0, first, s)
+    answer_from_window_64(bound, limit, 0, first, s)
 }
 
 /// `Engine::prefix_128` of `Lanes`, by loads of 32 bytes, and one of the 8 bytes after the last of
@@ -69,6 +74,49 @@ pub fn prefix_128_lanes<'a>(
         return prefix_128_cold(bound, first.zeroes, s, steps);
     }
     finish_128(bound, skip, 0, first, s, steps)
+}
+
+// `prefix_64_lanes` without `skip`. Two vectors hold more digits than any limit.
+#[inline(always)]
+fn prefix_64_unskipped<'a>(
+    bound: u64,
+    limit: u32,
+    s: &'a [u8],
+    steps: &mut Steps,
+) -> Result<(u64, usize), AtoiSimdError<'a>>
+    requires limit_low { 17 ≤ limit }
+    requires limit_high { limit ≤ 20 }
+    requires digits { HasDigits limit bound }
+    ensures answer { answer_of result
+        ≡ prefix_magnitude decimal_table wide64 bound limit false s.now }
+    ensures one_step { steps.new ≡ steps.old + 1 }
+{
+    steps.tick();
+    let first = load_lanes(s);
+    let len = len_lanes(first);
+    if len < 16 {
+        return found_or_empty(sum_lanes(first, len), len as usize);
+    }
+    let high = sum_lanes(first, 16);
+    let (second, more) = if s.len() >= 32 {
+        let second = load_lanes(&s[16..]);
+        let more = len_lanes(second);
+        if more == 0 {
+            return Ok((high, 16));
+        }
+        (second, more)
+    } else if s.len() > 16 {
+        let second = load_last_after_16(s);
+        (second, len_lanes(second))
+    } else {
+        return Ok((high, 16));
+    };
+    let number = append_digits(high, more, sum_lanes(second, more));
+    let len = 16 + more;
+    if len < limit {
+        return Ok((number as u64, len as usize));
+    }
+    answer_64(bound, limit, 0, len, number, s)
 }
 
 // Only this path zeroes the stack slot of the result.
@@ -134,7 +182,7 @@ fn prefix_64_after_zeros<'a>(
     ensures least { steps.old + zeros decimal_table s.now / 32 ≤ steps.new }
 {
     let (at, window) = window_after_zeros(zeroes, s, steps);
-    answer_from_window_64(bound, limit, true, at, window, s)
+    answer_from_window_64(bound, limit, at, window, s)
 }
 
 // The same for `prefix_128_lanes`.
@@ -199,24 +247,22 @@ fn finish_128<'a>(
     answer_128(bound, at, window.number, back.len, back.number, s)
 }
 
-// Returns the answer of `prefix_64_lanes` from the last window. With `skip`, the zeros that this
-// window begins with are skipped too.
+// Returns the answer of `prefix_64_lanes` with `skip` from the last window. The zeros that this window
+// begins with are skipped too.
 #[inline(always)]
 #[tactic(auto, using(crate::proofs::lemmas::WideAnswers::decided_64))]
 fn answer_from_window_64<'a>(
     bound: u64,
     limit: u32,
-    skip: bool,
     at: usize,
     window: Window32,
     s: &'a [u8],
 ) -> Result<(u64, usize), AtoiSimdError<'a>>
     requires limit_high { limit ≤ 20 }
-    requires reached { ReadsAfterZeros skip s.now at window }
-    ensures { answer_of result ≡ prefix_magnitude decimal_table wide64 bound limit skip s.now }
+    requires reached { ReadsAfterZeros true s.now at window }
+    ensures { answer_of result ≡ prefix_magnitude decimal_table wide64 bound limit true s.now }
 {
-    let leading = if skip { window.zeroes } else { 0 };
-    let skipped = at + leading as usize;
-    let significant = window.len - leading;
+    let skipped = at + window.zeroes as usize;
+    let significant = window.len - window.zeroes;
     answer_64(bound, limit, skipped, significant, window.number, s)
 }

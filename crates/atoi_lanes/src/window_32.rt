@@ -1,5 +1,5 @@
 //! Windows of 32 bytes, in two vectors of sixteen.
-ghost use Rattle.std.specs.Prelude.{◌≡◌, ◌+◌, ◌*◌, ◌^◌, ◌≤◌, ◌==◌, ◌++◌, if◌then◌else◌, take, drop, replicate};
+ghost use Rattle.std.specs.Prelude.{◌≡◌, ◌+◌, ◌*◌, ◌^◌, ◌≤◌, ◌==◌, ◌++◌, if◌then◌else◌, ◌<◌, length, take, drop, replicate};
 ghost use Rattle.atoi_core.specs.Digit.{decimal_table};
 ghost use Rattle.atoi_core.specs.Reading.{Reading};
 ghost use Rattle.atoi_core.specs.Run.{run_len, zeros, value};
@@ -46,18 +46,26 @@ pub(crate) fn window_32(s: &[u8], steps: &mut Steps) -> Window32
     }
 }
 
-// Returns the 16 bytes after the first 16. The last 16 of 16 to 31 bytes contain them, and one shuffle
-// moves them to the start.
-#[tactic(auto, using(crate::proofs::lemmas::LaneWindows::after_all, crate::proofs::lemmas::Shuffles::after_first_16))]
+// Returns the 16 bytes after the first 16. A missing byte is 0.
 fn load_after_16(s: &[u8]) -> u8x16
     ensures { result ≡ padded_start 16 (drop 16 s.now) }
 {
-    if s.len() < 16 {
-        return u8x16::splat(0);
-    }
     if s.len() >= 32 {
-        return u8x16::from_slice(&s[16..]);
+        load_lanes(&s[16..])
+    } else if s.len() >= 16 {
+        load_last_after_16(s)
+    } else {
+        u8x16::splat(0)
     }
+}
+
+// The same for 16 to 31 bytes. The last 16 contain them, and one shuffle moves them to the start.
+#[tactic(auto, using(crate::proofs::lemmas::Shuffles::after_first_16))]
+pub(crate) fn load_last_after_16(s: &[u8]) -> u8x16
+    requires enough { 16 ≤ length s.now }
+    requires few { length s.now < 32 }
+    ensures { result ≡ padded_start 16 (drop 16 s.now) }
+{
     shuffle(u8x16::from_slice(&s[s.len() - 16..]), 48 - s.len())
 }
 

@@ -50,17 +50,6 @@ window_of_lanes s = lanes_show 16 s
 pub window-of_half_the_lanes : (s : List ℕ) → lane_window 8 (padded_start 16 (take 8 s)) ≡ window_of decimal_table 8 s
 window-of_half_the_lanes s = lanes_show 8 (take 8 s) ∙ ap (lane_window 8) (take_all 16 (take 8 s) (omega (arith, length-take 8 s)))
 
--- A window below 16 bytes is a reading of 32, without its zeros.
-pub reading-of_few : (s : List ℕ) (w : Window) → length s < 16 → w ≡ window_of decimal_table 16 s
-    → Reading decimal_table 32 s w.len (zeros decimal_table (take 32 s)) w.number
-reading-of_few s w few e =
-    let all : take 16 s ≡ take 32 s = take_all 16 s (omega arith) ∙ sym (take_all 32 s (omega arith)) in
-    record {
-      digits_are = ap (λ v. v.len) e ∙ ap (run_len decimal_table) all;
-      leading_are = refl;
-      number_is = ap (λ v. v.number) e ∙ ap (λ l. value decimal_table (run decimal_table l)) all;
-    }
-
 -- The lanes of 16 bytes give a reading of these.
 pub reading-of_lanes : (s lanes : List ℕ) (len number : ℕ) → lanes ≡ padded_start 16 s → len ≡ run_len decimal_table lanes
     → number ≡ value decimal_table (take len lanes) → Reading decimal_table 16 s len (zeros decimal_table lanes) number
@@ -73,7 +62,3 @@ reading-of_lanes s lanes len number loaded digits writes =
       number_is = writes ∙ ap₂ (λ n l. value decimal_table (take n l)) same loaded
           ∙ ap (value decimal_table) (prefix-padded (is_digit decimal_table) 16 s (replicate 16 0));
     }
-
--- With at least 32 bytes, those after 16 fill a vector.
-pub after_all : (s : List ℕ) → 32 ≤ length s → take 16 (drop 16 s) ≡ padded_start 16 (drop 16 s)
-after_all s enough = sym (take-append-le 16 (drop 16 s) (replicate 16 0) (omega (arith, length-drop 16 s)))

@@ -1,16 +1,18 @@
 -- When windows of 32 bytes decide, and how many loads that takes.
-use Rattle.std.proofs.Common.{◌≡◌, ℕ, ◌+◌, ◌<◌, Bool, true, false, cond, List, length, take, refl, sym, ap, ◌∙◌, arith, ◌-◌, ◌≤◌, drop, ◌⊎◌, ◌*◌, min, inl, inr, ◌^◌, eqb, subst, lit<}
+use Rattle.std.proofs.Common.{◌≡◌, ℕ, ◌+◌, ◌<◌, Bool, true, false, cond, Ok, Err, List, length, take, refl, sym, ap, ◌∙◌, arith, ◌-◌, ◌≤◌, drop, ◌⊎◌, ◌*◌, min, inl, inr, ◌^◌, eqb, subst, lit<}
 use Rattle.std.proofs.lemmas.List.{drop-drop, length-drop, take_rest}
 use Rattle.atoi_core.specs.Digit.{decimal_table}
 use Rattle.atoi_core.specs.Loads.{LoadsWithin}
-use Rattle.atoi_core.specs.Reading.{Reading, significant_digits, answer_by_digits, window_of}
+use Rattle.atoi_core.specs.Reading.{Reading, IsSkipped, answer_by_digits, window_of}
 use Rattle.atoi_core.proofs.lemmas.Runs.{decimal_below_ten}
-use Rattle.atoi_core.proofs.lemmas.Readings.{zeros_left, join_readings, within, below, decided, all_decide}
+use Rattle.atoi_core.proofs.lemmas.Readings.{zeros_left, join_readings, within, below, decided, all_decide, short}
 use Rattle.atoi_core.specs.Run.{zeros}
 use Rattle.atoi_core.specs.declared.window.Window.{Window}
 use Rattle.atoi_lanes.specs.Lanes.{ReadsAfterZeros}
 use Rattle.std.proofs.lemmas.Bool.{cases_lt, false≢true}
-use Rattle.atoi_core.specs.Magnitude.{wide64, wide128, prefix_magnitude}
+use Rattle.atoi_core.specs.Magnitude.{HasDigits, wide64, wide128, prefix_magnitude}
+use Rattle.atoi_core.specs.Refusal.{empty}
+use Rattle.std.proofs.Math.Nat.{zero-add}
 use Rattle.atoi_lanes.specs.declared.window_32.Window32.{Window32}
 
 module _ {skip : Bool} {s : List ℕ} {w : Window32} (reading : Reading decimal_table 32 s w.len w.zeroes w.number) where
@@ -41,27 +43,24 @@ few_loads most unskipped skip s before after one few room zeros_few =
 
 -- ---- Windows of 32 bytes decide the answers
 
--- The digits of a window are significant, except for skipped zeros.
-significant_are : (skip : Bool) (len reported leading : ℕ) → reported ≤ len → ((skip ≡ true) × (leading ≡ reported)) ⊎ ((skip ≡ false) × (leading ≡ 0))
-    → (significant_digits skip len reported ≡ len - leading) × (len - significant_digits skip len reported ≡ leading)
-significant_are true len reported leading most is = elim is [ inl h ↦ (omega (arith, h), omega (arith, h)) | inr h ↦ absurd (false≢true (sym h.0)) ]
-significant_are false len reported leading most is = elim is [ inl h ↦ absurd (false≢true h.0) | inr h ↦ (omega (arith, h), omega (arith, h)) ]
+pub start : (skip : Bool) (s : List ℕ) → IsSkipped decimal_table skip s 0
+start skip s = record { zeros_only = omega arith; asked = λ _. refl }
+
+-- Fewer digits than the limit spell the answer.
+pub few_digits : (skip : Bool) {s : List ℕ} {len leading number : ℕ} (bound limit : ℕ) → limit ≤ 20 → HasDigits limit bound
+    → Reading decimal_table 32 s len leading number → len < limit
+    → (number ≤ bound) × (prefix_magnitude decimal_table wide64 bound limit skip s ≡ cond (eqb len 0) (Err empty) (Ok (number, len)))
+few_digits skip bound limit most digits reading few =
+    rw zero-add at (short decimal_below_ten wide64 bound limit (omega arith) digits (start skip _) reading (omega arith) few)
 
 -- For 64 bits, the last window decides the answer.
-pub decided_64 : (bound limit : ℕ) (skip : Bool) (s : List ℕ) (at leading : ℕ) (w : Window32) → limit ≤ 20
-    → ReadsAfterZeros skip s at w → ((skip ≡ true) × (leading ≡ w.zeroes)) ⊎ ((skip ≡ false) × (leading ≡ 0))
-    → answer_by_digits wide64 bound limit (at + leading) (w.len - leading) w.number s ≡ prefix_magnitude decimal_table wide64 bound limit skip s
-decided_64 bound limit skip s at leading w few front is =
+pub decided_64 : (bound limit : ℕ) (s : List ℕ) (at : ℕ) (w : Window32) → limit ≤ 20 → ReadsAfterZeros true s at w
+    → answer_by_digits wide64 bound limit (at + w.zeroes) (w.len - w.zeroes) w.number s ≡ prefix_magnitude decimal_table wide64 bound limit true s
+decided_64 bound limit s at w few front =
     let most = within front.reading in
-    let count = significant_are skip w.len w.zeroes leading most.0 is in
-    let enough : (w.len < 32) ⊎ (24 ≤ significant_digits skip w.len w.zeroes) =
-    elim (cases_lt w.len 32) [
-      | inl h ↦ inl h
-      | inr h ↦ inr (elim is [ inl k ↦ omega (arith, k, front.ends k.0 h, count.0) | inr k ↦ omega (arith, k, count.0) ])
-    ] in
-    sym (decided wide64 bound limit (omega arith) front.skipped front.reading enough
-    ∙ ap (λ (n : ℕ). answer_by_digits wide64 bound limit (at + n) (significant_digits skip w.len w.zeroes) w.number s) count.1
-    ∙ ap (λ (n : ℕ). answer_by_digits wide64 bound limit (at + leading) n w.number s) count.0)
+    let enough : (w.len < 32) ⊎ (24 ≤ w.len - w.zeroes) = elim (cases_lt w.len 32) [ inl h ↦ inl h | inr h ↦ inr (omega (arith, h, front.ends refl h)) ] in
+    let leading : w.len - (w.len - w.zeroes) ≡ w.zeroes = omega (arith, most.0) in
+    sym (rw leading at (decided wide64 bound limit (omega arith) front.skipped front.reading enough))
 
 -- For 128 bits, a full window and 8 bytes decide.
 pub decided_full : (bound : ℕ) (skip : Bool) (s : List ℕ) (at : ℕ) (w : Window32) (back : Window)
