@@ -8,7 +8,7 @@ use Rattle.atoi_column.specs.declared.error.ColumnError.TheVariants.{Field, Trai
 use Rattle.atoi_column.specs.Fields.{fields_of}
 
 -- Why a field is refused: its index, an offset, and for `field` the reason. At the offset, the field
--- begins, or for `trailing` the byte after its number stands.
+-- begins, or for `trailing` the byte after its number is.
 pub data Flaw : Type 0 where
   field : ℕ → ℕ → Refusal → Flaw
   trailing : ℕ → ℕ → Flaw

@@ -58,7 +58,7 @@ pub trait Engine {
             steps.old steps.new }
     {
         let mut at = 0;
-        // The loop stands here: a provided body may not pass `Self` to a function over engines.
+        // A provided body may not pass `Self` to a function over engines, so the loop is here.
         let first = loop {
             let window = Self::window(&s[at..], steps);
             if !skip || window.zeroes == 0 {

@@ -35,7 +35,7 @@ pub(crate) fn digits_of(word: u64) -> u32
     }
 }
 
-// Whether the word begins with a digit, which one byte tells.
+// Whether the first byte of the word is a digit.
 #[tactic(auto, using(crate::proofs::lemmas::WordRuns::first_byte))]
 pub(crate) fn starts_with_digit(word: u64) -> bool
     ensures { result ≡ nat_lt 0 (run_len decimal_table (low_bytes 8 word)) }

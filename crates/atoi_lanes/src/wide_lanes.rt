@@ -76,7 +76,7 @@ pub fn prefix_128_lanes<'a>(
     finish_128(bound, skip, 0, first, s, steps)
 }
 
-// `prefix_64_lanes` without `skip`. Two vectors hold more digits than any limit.
+// `prefix_64_lanes` without `skip`. The test of `more` pays off from 32 bytes on.
 #[inline(always)]
 fn prefix_64_unskipped<'a>(
     bound: u64,
@@ -247,8 +247,7 @@ fn finish_128<'a>(
     answer_128(bound, at, window.number, back.len, back.number, s)
 }
 
-// Returns the answer of `prefix_64_lanes` with `skip` from the last window. The zeros that this window
-// begins with are skipped too.
+// Returns the answer of `prefix_64_lanes` with `skip` from the last window, whose zeros are skipped too.
 #[inline(always)]
 #[tactic(auto, using(crate::proofs::lemmas::WideAnswers::decided_64))]
 fn answer_from_window_64<'a>(

@@ -59,7 +59,7 @@ fn load_after_16(s: &[u8]) -> u8x16
     }
 }
 
-// The same for 16 to 31 bytes. The last 16 contain them, and one shuffle moves them to the start.
+// The same for 16 to 31 bytes. One shuffle moves the last 16 to the start.
 #[tactic(auto, using(crate::proofs::lemmas::Shuffles::after_first_16))]
 pub(crate) fn load_last_after_16(s: &[u8]) -> u8x16
     requires enough { 16 ≤ length s.now }

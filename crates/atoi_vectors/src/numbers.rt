@@ -1,4 +1,4 @@
-//! The constants and the ends of the twelve types beside those of std.
+//! The constants and the ends of the twelve types, compared with std.
 
 use crate::checks::gives;
 use atoi_core::{Number, Signed};

@@ -670,7 +670,7 @@ err atoi_simd string is empty | w prefix u8 zp -0x
 err atoi_simd string is empty | w prefix u64 -- -0x
 ";
 
-/// Splits a line into the answer and the row. In `differences`, a column stands between the two.
+/// Splits a line into the answer and the row. In `differences`, a column separates the two.
 pub fn answer_and_row(line: &[u8]) -> Option<(&[u8], &[u8])> {
     let mut columns = line.split(|byte| *byte == b'|');
     let answer = columns.next()?.trim_ascii_end();

@@ -1,4 +1,4 @@
--- The first item of `Fields`, whose text and end are those of the first field.
+-- The first item of `Fields`, with the text and end of the first field.
 use Rattle.std.proofs.Common.{◌≡◌, ◌≢◌, ℕ, ◌+◌, ◌-◌, ◌<◌, ◌≤◌, ◌==◌, true, false, not, inl, inr, if◌then◌else◌, Bool, List, [], ◌∷◌, length, length-drop, ℤ, Result, refl, ap, ◌∙◌, arith}
 use Rattle.std.specs.List.{slice_split, position_or_len, before_first, after_first}
 use Rattle.std.proofs.lemmas.List.{drop_all}
@@ -71,7 +71,7 @@ module _ (int : IntType) (trims : Bool) (separator index end : ℕ) where
       ∙ ap (λ p. field_item index (end - length rest) (cut_of trims (before_first ends rest)) (answer (cut_of trims (before_first ends rest)))
       ∷ items_of_parts (cut_of trims) answer (index + 1) p parts) place)
 
-  -- The first item is that of the first field, and the others are left.
+  -- The first item is the first field's, and the others are left.
   field_items_left-first : (rest : List ℕ) → 0 < length rest → length rest ≤ end
       → field_items_left int trims separator index end rest
       ≡ field_item index (end - length rest) (first_text (cut_of trims) separator rest) (answer (first_text (cut_of trims) separator rest))

@@ -75,7 +75,7 @@ pub PutAppends-then : {A E : Type 0} (old mid new : Option (List ℕ)) (before x
 PutAppends-then old mid new before xs ys waits after (Ok value) first second = AppendsUpTo-then old mid new before xs ys waits after first second
 PutAppends-then old mid new before xs ys waits after (Err error) first refused = AppendsPrefix-then old mid new before xs ys waits first refused
 
--- The first `count` bytes of what was written behind the first `at`.
+-- The first `count` bytes of what was written after the first `at`.
 pub take_of_room : (at count k : ℕ) (bytes room : List ℕ) → at ≤ length bytes → count ≤ length room → take (at + count) (put_mid at k bytes room) ≡ take at bytes ++ take count room
 take_of_room at count k bytes room within fits =
     let front : length (take at bytes) ≡ at = length-take-le at bytes within in

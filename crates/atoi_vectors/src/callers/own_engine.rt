@@ -1,4 +1,4 @@
-//! Tests of an engine that is defined outside of the library, and whose digits are those of EBCDIC.
+//! Tests of an engine that is defined outside of the library, and reads EBCDIC digits.
 
 use crate::checks::gives;
 use atoi_simd::AtoiSimdError;

@@ -1,4 +1,4 @@
--- The prefix that writes a number, and the byte after it, are those of the clauses.
+-- The clauses name the prefix that writes a number, and the byte after it.
 use Rattle.std.proofs.Common.{◌≡◌, false, take, refl, sym, ◌∙◌, rules}
 use Rattle.std.proofs.lemmas.Bool.{both_ways}
 use Rattle.atoi_core.specs.Laws.{looked_for}

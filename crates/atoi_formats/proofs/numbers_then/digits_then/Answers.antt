@@ -1,4 +1,4 @@
--- The prefix that writes a number, and the byte after it, are those of the clauses.
+-- The clauses name the prefix that writes a number, and the byte after it.
 use Rattle.std.proofs.Common.{refl, rules}
 use Rattle.atoi_core.specs.Laws.{positive}
 use Rattle.atoi_formats.proofs.lemmas.Then.{has_prefix, only_prefix}
