@@ -159,7 +159,7 @@ fn append_after_16(high: u64, s: &[u8], steps: &mut Steps) -> (u32, u128)
     ensures one_step { steps.new ≡ steps.old + 1 }
 {
     steps.tick();
-    let word = load_from(s, 16);
+    let word = load_after_16(s);
     if !starts_with_digit(word) {
         return (0, u128::from(high));
     }
@@ -169,6 +169,19 @@ fn append_after_16(high: u64, s: &[u8], steps: &mut Steps) -> (u32, u128)
         return (8, 0);
     }
     (more, append_digits(high, more, value_of_four(word, more)))
+}
+
+// Columns usually have 8 more bytes.
+#[inline(always)]
+fn load_after_16(s: &[u8]) -> u64
+    requires { 16 ≤ length s.now }
+    ensures { result ≡ word_of (take 8 (drop 16 s.now)) }
+{
+    if s.len() >= 24 {
+        load_full(&s[16..])
+    } else {
+        load_from(s, 16)
+    }
 }
 
 // With `ENDS`, 9 to 15 digits that end the slice are read as two words that overlap.
@@ -188,7 +201,7 @@ fn read_window<const ENDS: bool>(s: &[u8]) -> Window
     }
 }
 
-// Fills a short slice to eight bytes with zeros before it: only an empty one has a branch of its own.
+// Fills a short slice to eight bytes with zeros before it. Only an empty one has a branch.
 #[tactic(auto, using(crate::proofs::lemmas::WordWindows::filled_fits, crate::proofs::lemmas::WordWindows::filled_digits))]
 fn short_window(s: &[u8]) -> Window
     requires { length s.now ≤ 8 }

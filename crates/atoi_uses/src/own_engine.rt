@@ -33,8 +33,8 @@ impl Alphabet for Ebcdic {
 ///
 /// # Errors
 ///
-/// Returns the errors that `atoi_simd::parse_prefix_pos::<i64, true>` would return if its digits
-/// were those of EBCDIC.
+/// Returns the errors that `atoi_simd::parse_prefix_pos::<i64, true>` would return for ASCII
+/// digits.
 pub fn amount(field: &[u8]) -> Result<(Cents, usize), AtoiSimdError<'_>>
     ensures answer { typed_prefix_answer (λ amount. amount.0) result
         ≡ prefix_answer ebcdic_table i64_type false true field.now }

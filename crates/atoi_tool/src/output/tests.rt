@@ -1,6 +1,6 @@
 //! Tests of the answers to whole inputs, and of writers that fail. The expected answers to good rows
-//! come from the Rust crate `atoi_simd` 0.18.1, except to prefixes that count a plus, and to those of
-//! more than 16 digits for types of up to 32 bits.
+//! come from the Rust crate `atoi_simd` 0.18.1, except to prefixes that count a plus, or have more
+//! than 16 digits for types of up to 32 bits.
 
 use super::answer_lines;
 use crate::checks::{answered, gives};
@@ -228,8 +228,8 @@ fn writes_in_parts_of_any_size(rt: HostRuntime) -> Result<(), Fail> {
     Ok(())
 }
 
-// Asserts that a writer that takes `part` bytes a call, and is full after those of `written`, gets
-// these and no more, even if it has room again later, and that the error is `Write`.
+// Asserts that a writer that takes `part` bytes per call, and is full after `written`, gets no more,
+// even if it has room again later, and that the error is `Write`.
 fn check_refused_write(
     rt: &impl Abort,
     alloc: Global,

@@ -12,16 +12,16 @@ use Rattle.atoi_core.proofs.word_engine.append_after_16.Goals.{Then-not-starts_w
 none : (c : Then-not-starts_with_digit) → let back = window_of decimal_table 8 (drop 16 c.args.s.now) in (0 ≡ back.len) × (0 ≡ back.number)
 unfolding low_bytes
 none c =
-    let word = c.load_from-word.result in
+    let word = c.load_after_16-word.result in
     let no_digit = ltb-false 0 (run_len decimal_table (low_bytes 8 word)) (sym c.starts_with_digit.ensures ∙ c.if-not-starts_with_digit.true) in
-    loaded_digits (drop 16 c.args.s.now) (λ i. rw get_or-drop ((c.type_inv.s (16 + i)).fits)) word 0 0 c.load_from-word.ensures (omega (arith, no_digit)) refl
+    loaded_digits (drop 16 c.args.s.now) (λ i. rw get_or-drop ((c.type_inv.s (16 + i)).fits)) word 0 0 c.load_after_16-word.ensures (omega (arith, no_digit)) refl
 
 -- The digits, with a number that is their sum.
-some : (c : After-digits_of-more) (number : ℕ) → number ≡ low_value (low_bytes c.digits_of-more.result c.load_from-word.result)
+some : (c : After-digits_of-more) (number : ℕ) → number ≡ low_value (low_bytes c.digits_of-more.result c.load_after_16-word.result)
     → let back = window_of decimal_table 8 (drop 16 c.args.s.now) in (c.digits_of-more.result ≡ back.len) × (number ≡ back.number)
 some c number sum =
-    loaded_digits (drop 16 c.args.s.now) (λ i. rw get_or-drop ((c.type_inv.s (16 + i)).fits)) c.load_from-word.result c.digits_of-more.result number
-    c.load_from-word.ensures c.digits_of-more.ensures.len sum
+    loaded_digits (drop 16 c.args.s.now) (λ i. rw get_or-drop ((c.type_inv.s (16 + i)).fits)) c.load_after_16-word.result c.digits_of-more.result number
+    c.load_after_16-word.ensures c.digits_of-more.ensures.len sum
 
 pub returns-then-not-starts_with_digit-clause-more : goal.returns-then-not-starts_with_digit-clause-more
 returns-then-not-starts_with_digit-clause-more c =
