@@ -1,6 +1,6 @@
 //! The folder outside the repository in which everything is built and kept. Each checkout has one.
 
-use super::place::{Placed, place};
+use super::place::{PLACES, Placed, place};
 use std::env;
 use std::fs;
 use std::path::{Path, PathBuf};
@@ -62,7 +62,7 @@ impl Cache {
         exports: &[String],
         compile: impl FnOnce(&Path) -> Result<Vec<PathBuf>, String>,
     ) -> Result<Placed, String> {
-        let folder = self.folder("objects").join(name);
+        let folder = self.folder("objects").join(format!("{name}-at-{}", PLACES.len()));
         if !folder.is_dir() {
             eprintln!("building {name}");
             // Another run of this program may build something else meanwhile.

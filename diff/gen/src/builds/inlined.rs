@@ -4,7 +4,7 @@
 
 use super::cargo::{Dependency, Generated, Kind};
 use super::package::Package;
-use super::place::{PLACES, Placed};
+use super::place::Placed;
 use super::rust::{ORIGINAL, STANDARD, STANDARD_PREFIX};
 use super::source::{Calls, Column, HEAD};
 use super::{Build, Cache, original, run};
@@ -12,7 +12,7 @@ use crate::tables::{self, Form, Shape};
 use std::process::Command;
 
 // What rustc is told for each layout.
-const LAYOUTS: [&str; PLACES.len()] = [
+const LAYOUTS: [&str; 4] = [
     "",
     " -C llvm-args=-align-all-nofallthru-blocks=5",
     " -C llvm-args=-align-all-nofallthru-blocks=6",

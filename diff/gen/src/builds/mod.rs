@@ -27,10 +27,11 @@ pub use command::run;
 pub use inlined::{Beside, Inlined, inlined};
 pub use other::all as others;
 pub use package::Package;
+pub use place::PLACES;
 
 use crate::question::Integer;
 use crate::tables::{self, Form, Shape, TimedCall};
-use place::{PLACES, Placed};
+use place::Placed;
 use stamp::Stamp;
 use std::path::{Path, PathBuf};
 use workspace::{Library, Sources, Workspace};
@@ -170,7 +171,7 @@ pub fn kit() -> Result<String, String> {
 }
 
 /// A build that somebody else made, from an argument NAME=FILE. FILE is a shared object, or what
-/// comes before `.0.so`, `.16.so`, `.32.so` and `.48.so` in the names of four.
+/// comes before `.0.so`, `.4.so` and so on in the names of one for each placement.
 pub fn prebuilt(argument: &str) -> Result<Build, String> {
     let Some((name, file)) = argument.split_once('=') else {
         return Err(format!("--beside {argument} has no =: it wants NAME=FILE.so"));

@@ -1,5 +1,5 @@
 //! Links shared objects in which the exported functions have chosen addresses. The time of a
-//! function moves by up to 20 % with its address, so each function is timed at four.
+//! function moves by up to 20 % with its address, so each function is timed at eight.
 
 use super::cache::{failed, write};
 use super::run;
@@ -7,10 +7,17 @@ use std::fs;
 use std::path::{Path, PathBuf};
 use std::process::Command;
 
-/// The placements: how many bytes after a multiple of 64 each exported function begins.
-pub const PLACES: [usize; 4] = [0, 16, 32, 48];
+/// The placements: how many bytes after a multiple of 64 each exported function begins. Some
+/// processors are slower if a jump crosses a multiple of 32, so placements that differ by 32 count
+/// as one.
+pub const PLACES: [usize; 8] = [0, 4, 8, 12, 16, 20, 24, 28];
 
-// The line of the linker's own script before which the exported functions are put.
+// The line of the linker's own script that begins the section of code, and a line that also allows
+// functions at other addresses than multiples of 16.
+const CODE: &str = "  .text           :\n";
+const CODE_ANYWHERE: &str = "  .text           : SUBALIGN(1)\n";
+
+// The line before which the exported functions are put.
 const ANCHOR: &str = "    *(.text.unlikely .text.*_unlikely .text.unlikely.*)\n";
 
 /// Shared objects that hold the same code, one for each placement. If somebody else made the
@@ -55,9 +62,10 @@ impl Placed {
 pub fn place(objects: &[PathBuf], exports: &[String], folder: &Path) -> Result<(), String> {
     let script = run(Command::new("ld").args(["-shared", "--verbose"]))?;
     let script = script.split("=".repeat(50).as_str()).nth(1).unwrap_or_default();
-    let Some((before, after)) = script.split_once(ANCHOR) else {
+    let Some((before, after)) = script.split_once(ANCHOR).filter(|_| script.contains(CODE)) else {
         return Err(String::from("ld has a script of another form, so nothing can be placed"));
     };
+    let before = before.replace(CODE, CODE_ANYWHERE);
     let visible: String = exports.iter().map(|name| format!("{name}; ")).collect();
     let versions = folder.join("versions");
     write(&versions, format!("{{ global: {visible}local: *; }};\n"))?;

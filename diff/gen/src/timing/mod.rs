@@ -15,6 +15,7 @@ use processor::pin;
 pub use processor::Processor;
 pub use ratios::{Comparison, Ratios};
 
+use crate::builds;
 use crate::tables::Form;
 use std::time::Instant;
 
@@ -22,7 +23,7 @@ use std::time::Instant;
 pub const ERROR: u64 = 0x8000_0000_0000_0001;
 
 /// How many placements each side has.
-pub const PLACES: usize = 4;
+pub const PLACES: usize = builds::PLACES.len();
 
 /// How often everything is timed, and how many rounds each time has.
 #[derive(Clone, Copy)]
