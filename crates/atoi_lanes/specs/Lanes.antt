@@ -1,9 +1,10 @@
 -- Lanes, windows read from them, and digits joined in them.
-use Rattle.std.specs.Prelude.{◌≡◌, ℕ, ◌+◌, ◌*◌, ◌≤◌, ◌==◌, if◌then◌else◌, Bool, true, List, [], ◌∷◌, ◌++◌, length, take, drop, replicate, Some}
+use Rattle.std.specs.Prelude.{◌≡◌, ℕ, ◌+◌, ◌*◌, ◌<◌, ◌≤◌, ◌==◌, if◌then◌else◌, Bool, true, List, [], ◌∷◌, ◌++◌, length, take, drop, replicate, Some}
 use Rattle.atoi_core.specs.Digit.{Table, decimal_table}
 use Rattle.atoi_core.specs.Reading.{Reading, IsSkipped}
 use Rattle.atoi_core.specs.Run.{run_len, run, zeros, value}
 use Rattle.atoi_core.specs.declared.window.Window.{Window}
+use Rattle.atoi_lanes.specs.declared.kernels.ShortRun.{ShortRun}
 use Rattle.atoi_lanes.specs.declared.window_32.Window32.{Window32}
 
 -- The first `size` bytes; missing ones are 0.
@@ -39,3 +40,8 @@ pub record ReadsAfterZeros (skip : Bool) (s : List ℕ) (at : ℕ) (w : Window32
   pub reading : Reading decimal_table 32 (drop at s) w.len w.zeroes w.number
   pub within : at + w.len ≤ length s
   pub ends : skip ≡ true → 32 ≤ w.len → w.zeroes ≡ 0
+
+-- The run of a slice and its value. A whole run has at least one digit.
+abbrev pub IsShortRun : List ℕ → ShortRun → Type 0
+IsShortRun s (ShortRun.Whole number) = (0 < length s) × (run_len decimal_table s ≡ length s) × (number ≡ value decimal_table s)
+IsShortRun s (ShortRun.Part len number) = (len ≡ run_len decimal_table s) × (number ≡ value decimal_table (run decimal_table s))

@@ -2,9 +2,9 @@
 ghost use Rattle.std.specs.Prelude.{◌≡◌, ◌-◌, ◌/◌, ◌≤◌, ◌<◌, ◌++◌, length, map, take, drop, replicate};
 ghost use Rattle.std.specs.Simd.Lanes.{Each1, mask_l, digits_l};
 ghost use Rattle.atoi_core.specs.Digit.{decimal_table, is_digit};
-ghost use Rattle.atoi_core.specs.Run.{run_len, run, zeros, value};
+ghost use Rattle.atoi_core.specs.Run.{run_len, zeros, value};
 ghost use Rattle.atoi_core.specs.Words.{word_of};
-ghost use Rattle.atoi_lanes.specs.Lanes.{itself, padded, padded_start, paired};
+ghost use Rattle.atoi_lanes.specs.Lanes.{IsShortRun, itself, padded, padded_start, paired};
 
 use atoi_core::word_loads::{load_8, load_high};
 use std::simd::prelude::*;
@@ -39,7 +39,7 @@ pub fn load_lanes(s: &[u8]) -> u8x16
     }
 }
 
-/// Returns how many digits the lanes begin with. The digits are the bytes 48 to 57.
+/// Returns how many digits (48 to 57) the lanes begin with.
 pub fn len_lanes(v: u8x16) -> u32
     ensures len { result ≡ run_len decimal_table v }
     ensures most { result ≤ 16 }
@@ -55,7 +55,7 @@ fn digit_mask(v: u8x16) -> u64
     digits.to_bitmask()
 }
 
-/// Returns how many zeros the lanes begin with. A zero is the byte 48.
+/// Returns how many zeros (48) the lanes begin with.
 pub fn zeroes_lanes(v: u8x16) -> u32
     ensures zeroes { result ≡ zeros decimal_table v }
     ensures most { result ≤ 16 }
@@ -73,7 +73,7 @@ pub fn sum_lanes(v: u8x16, len: u32) -> u64
     ensures { result ≡ value decimal_table (take len v) }
 {
     let digit_values = v - u8x16::splat(b'0');
-    // No branch on the length: where lengths vary, it would be mispredicted.
+    // No branch on the length: if lengths vary, it is mispredicted.
     number_in_lanes(shuffle(digit_values, len as usize))
 }
 
@@ -86,30 +86,37 @@ pub(crate) fn shuffle(v: u8x16, p: usize) -> u8x16
     v.swizzle_dyn_within::<16>(u8x16::from_slice(&SHIFTS[p..]))
 }
 
-// Returns how many digits a slice of fewer than 8 bytes begins with, and the number that they spell.
+/// The digits that a short slice begins with.
+pub(crate) enum ShortRun {
+    /// The slice consists of digits, which spell this number.
+    Whole(u64),
+    /// How many digits, and their number.
+    Part(u32, u64),
+}
+
+// Reads fewer than 8 bytes.
 #[inline(always)]
-pub(crate) fn read_short(s: &[u8]) -> (u32, u64)
+pub(crate) fn read_short(s: &[u8]) -> ShortRun
     requires few { length s.now < 8 }
-    ensures len { result.0 ≡ run_len decimal_table s.now }
-    ensures number { result.1 ≡ value decimal_table (run decimal_table s.now) }
+    ensures { IsShortRun s.now result }
 {
     if s.is_empty() {
-        return (0, 0);
+        return ShortRun::Part(0, 0);
     }
     let word = load_high(s);
     let lanes = half(word);
     let mask = digit_mask(lanes);
     if mask.count_ones() as usize == s.len() {
-        // All are digits: the number need not wait for their count.
-        return (s.len() as u32, number_in_half(lanes & u8x16::splat(0x0F)));
+        // The number need not wait for its length.
+        return ShortRun::Whole(number_in_half(lanes & u8x16::splat(0x0F)));
     }
     let len = (mask >> (8 - s.len())).trailing_ones();
     // Drops the bytes after the digits.
     let digits = half(word << (8 * (s.len() - len as usize)));
-    (len, number_in_half(digits & u8x16::splat(0x0F)))
+    ShortRun::Part(len, number_in_half(digits & u8x16::splat(0x0F)))
 }
 
-// Returns the bytes of a word in the first eight lanes, the lowest first. The other lanes are 0.
+// Returns the bytes of a word in the first eight lanes, the lowest first. The others are 0.
 fn half(word: u64) -> u8x16
     ensures { result ≡ digits_l 256 16 word }
 {
@@ -134,7 +141,7 @@ fn number_in_lanes(digits: u8x16) -> u64
     high * 100_000_000 + low
 }
 
-// Joins sixteen digit values to pairs, these to fours, and these to two numbers of eight digits.
+// Joins sixteen digit values to pairs, to fours, and to two numbers of eight digits.
 #[tactic(auto, using(crate::proofs::lemmas::JoinedDigits::all_levels))]
 fn eights(digits: u8x16) -> u64x2
     requires { Each1 (λ digit. digit < 10) digits }

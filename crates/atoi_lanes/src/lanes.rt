@@ -6,7 +6,7 @@ ghost use Rattle.atoi_core.specs.Digit.{decimal_table};
 ghost use Rattle.atoi_core.specs.Reading.{window_of};
 ghost use Rattle.atoi_lanes.specs.Lanes.{lane_window};
 
-use crate::kernels::{len_lanes, load_lanes, read_short, sum_lanes, zeroes_lanes};
+use crate::kernels::{ShortRun, len_lanes, load_lanes, read_short, sum_lanes, zeroes_lanes};
 use crate::wide_lanes::{prefix_64_lanes, prefix_128_lanes};
 use atoi_core::{AtoiSimdError, Engine, Steps, Window};
 use std::simd::prelude::*;
@@ -38,8 +38,10 @@ impl Engine for Lanes {
     fn window(s: &[u8], steps: &mut Steps) -> Window {
         steps.tick();
         if s.len() < 8 {
-            let (len, number) = read_short(s);
-            return Window::not_full(len, number);
+            return match read_short(s) {
+                ShortRun::Whole(number) => Window::not_full(s.len() as u32, number),
+                ShortRun::Part(len, number) => Window::not_full(len, number),
+            };
         }
         lane_window(load_lanes(s), 16)
     }

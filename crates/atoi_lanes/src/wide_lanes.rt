@@ -1,13 +1,13 @@
 //! The parsers of 64- and 128-bit integers, which read windows of 32 bytes.
-ghost use Rattle.std.specs.Prelude.{◌≡◌, ◌+◌, ◌/◌, ◌<◌, ◌≤◌, take, true, false, IsTrue};
+ghost use Rattle.std.specs.Prelude.{◌≡◌, ◌+◌, ◌/◌, ◌<◌, ◌≤◌, ◌==◌, if◌then◌else◌, length, take, true, false, IsTrue, Ok, Err};
 ghost use Rattle.atoi_core.specs.Digit.{decimal_table};
 ghost use Rattle.atoi_core.specs.Loads.{LoadsWithin};
 ghost use Rattle.atoi_core.specs.Magnitude.{HasDigits, wide64, wide128, prefix_magnitude};
-ghost use Rattle.atoi_core.specs.Refusal.{answer_of};
-ghost use Rattle.atoi_core.specs.Run.{zeros};
+ghost use Rattle.atoi_core.specs.Refusal.{answer_of, empty};
+ghost use Rattle.atoi_core.specs.Run.{run_len, run, value, zeros};
 ghost use Rattle.atoi_lanes.specs.Lanes.{ReadsAfterZeros};
 
-use crate::kernels::{len_lanes, load_lanes, sum_lanes};
+use crate::kernels::{ShortRun, len_lanes, load_lanes, read_short, sum_lanes};
 use crate::lanes::Lanes;
 use crate::window_32::{Window32, load_last_after_16, window_32};
 use atoi_core::powers::append_digits;
@@ -36,8 +36,7 @@ pub fn prefix_64_lanes<'a>(
         steps.old steps.new }
 {
     if s.len() < 16 {
-        let only = Lanes::window(s, steps);
-        return found_or_empty(only.number, only.len as usize);
+        return prefix_64_short(s, steps);
     }
     if !skip {
         return prefix_64_unskipped(bound, limit, s, steps);
@@ -74,6 +73,25 @@ pub fn prefix_128_lanes<'a>(
         return prefix_128_cold(bound, first.zeroes, s, steps);
     }
     finish_128(bound, skip, 0, first, s, steps)
+}
+
+// `prefix_64_lanes` below 16 bytes. A `Whole` run needs no more tests.
+#[inline(always)]
+fn prefix_64_short<'a>(s: &'a [u8], steps: &mut Steps) -> Result<(u64, usize), AtoiSimdError<'a>>
+    requires { length s.now < 16 }
+    ensures answer { answer_of result ≡ (if run_len decimal_table s.now == 0 then Err empty
+        else Ok (value decimal_table (run decimal_table s.now), run_len decimal_table s.now)) }
+    ensures one_step { steps.new ≡ steps.old + 1 }
+{
+    if s.len() >= 8 {
+        let only = Lanes::window(s, steps);
+        return found_or_empty(only.number, only.len as usize);
+    }
+    steps.tick();
+    match read_short(s) {
+        ShortRun::Whole(number) => Ok((number, s.len())),
+        ShortRun::Part(len, number) => found_or_empty(number, len as usize),
+    }
 }
 
 // `prefix_64_lanes` without `skip`. The test of `more` pays off from 32 bytes on.

@@ -135,15 +135,14 @@ half_values s few digits v is =
       subst (Each1 (λ x. x < 10)) (sym lanes) (before_zeros 8 _ (after_zeros (λ x. x < 10) (lit< tt) zeros values (subst (Each1 (λ x. x < 10)) whole known.1))),
     )
 
--- A full mask: the run is the slice, and the lanes spell it.
+-- A full mask: all bytes are digits, and the lanes spell them.
 pub all_digits : (s : List ℕ) → ((i : ℕ) → get_or s i 0 < 256) → length s < 8 → (word mask : ℕ) (v : List ℕ) → word ≡ high_word s
     → v ≡ digits_l 256 16 word → mask ≡ mask_l (map digit v) → count_ones mask ≡ length s
-    → (length s ≡ run_len decimal_table s) × Written (run decimal_table s) v
+    → (run_len decimal_table s ≡ length s) × Written s v
 all_digits s fits few word mask v loaded lanes ones count =
     let is : v ≡ in_half s = lanes ∙ ap (digits_l 256 16) loaded ∙ half_of_word s (bytes s fits) (omega arith) in
     let digits = counts_all s v mask is ones count in
-    let whole : run decimal_table s ≡ s = take_all (run_len decimal_table s) s (omega (arith, digits)) in
-    (sym digits, subst (λ r. Written r v) (sym whole) (half_values s (omega arith) digits v is))
+    (digits, half_values s (omega arith) digits v is)
 
 -- Otherwise the shifted word's lanes spell the run.
 pub first_digits : (s : List ℕ) → ((i : ℕ) → get_or s i 0 < 256) → length s < 8 → (word mask len : ℕ) (v : List ℕ) → word ≡ high_word s

@@ -1,12 +1,12 @@
 -- When windows of 32 bytes decide, and how many loads that takes.
 use Rattle.std.proofs.Common.{◌≡◌, ℕ, ◌+◌, ◌<◌, Bool, true, false, cond, Ok, Err, List, length, take, refl, sym, ap, ◌∙◌, arith, ◌-◌, ◌≤◌, drop, ◌⊎◌, ◌*◌, min, inl, inr, ◌^◌, eqb, subst, lit<}
-use Rattle.std.proofs.lemmas.List.{drop-drop, length-drop, take_rest}
+use Rattle.std.proofs.lemmas.List.{drop-drop, length-drop, take_all, take_rest}
 use Rattle.atoi_core.specs.Digit.{decimal_table}
 use Rattle.atoi_core.specs.Loads.{LoadsWithin}
 use Rattle.atoi_core.specs.Reading.{Reading, IsSkipped, answer_by_digits, window_of}
 use Rattle.atoi_core.proofs.lemmas.Runs.{decimal_below_ten}
 use Rattle.atoi_core.proofs.lemmas.Readings.{zeros_left, join_readings, within, below, decided, all_decide, short}
-use Rattle.atoi_core.specs.Run.{zeros}
+use Rattle.atoi_core.specs.Run.{run_len, run, value, zeros}
 use Rattle.atoi_core.specs.declared.window.Window.{Window}
 use Rattle.atoi_lanes.specs.Lanes.{ReadsAfterZeros}
 use Rattle.std.proofs.lemmas.Bool.{cases_lt, false≢true}
@@ -45,6 +45,16 @@ few_loads most unskipped skip s before after one few room zeros_few =
 
 pub start : (skip : Bool) (s : List ℕ) → IsSkipped decimal_table skip s 0
 start skip s = record { zeros_only = omega arith; asked = λ _. refl }
+
+-- A reading of all bytes.
+pub reading_of_all : (s : List ℕ) → length s ≤ 32 → Reading decimal_table 32 s (run_len decimal_table s) (zeros decimal_table s) (value decimal_table (run decimal_table s))
+reading_of_all s few =
+    let all = sym (take_all 32 s few) in
+    record {
+      digits_are = ap (run_len decimal_table) all;
+      leading_are = ap (zeros decimal_table) all;
+      number_is = ap (λ bytes. value decimal_table (run decimal_table bytes)) all;
+    }
 
 -- Fewer digits than the limit spell the answer.
 pub few_digits : (skip : Bool) {s : List ℕ} {len leading number : ℕ} (bound limit : ℕ) → limit ≤ 20 → HasDigits limit bound

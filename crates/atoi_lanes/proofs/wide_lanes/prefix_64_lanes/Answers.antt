@@ -1,23 +1,21 @@
 -- One window decides below 16 bytes, or with fewer digits than the limit.
 use Rattle.std.proofs.Common.{◌<◌, true, refl, sym, ◌∙◌, arith, inl, inr}
 use Rattle.std.proofs.lemmas.List.Sums.{prefix_len-le-length}
-use Rattle.atoi_core.proofs.lemmas.Readings.{within, widened}
-use Rattle.atoi_core.specs.Digit.{decimal_table, is_zero}
-use Rattle.atoi_lanes.proofs.lemmas.WideAnswers.{only_window, first_is_last, few_loads, few_digits}
-use Rattle.atoi_core.proofs.lemmas.Windows.{shows}
-use Rattle.atoi_core.proofs.lemmas.Runs.{decimal_below_ten}
+use Rattle.atoi_core.specs.Digit.{decimal_table, is_digit, is_zero}
+use Rattle.atoi_core.specs.Run.{run_len}
+use Rattle.atoi_lanes.proofs.lemmas.WideAnswers.{only_window, first_is_last, few_loads, few_digits, reading_of_all}
 use Rattle.atoi_lanes.proofs.wide_lanes.prefix_64_lanes.Goals as goal
 
 pub returns-then-s-lt16-clause-answer : goal.returns-then-s-lt16-clause-answer
 returns-then-s-lt16-clause-answer c =
-    let seen = shows decimal_below_ten 16 c.args.s.now c.window-only.ensures.window in
-    let few : c.window-only.result.len < 16 = omega (arith, c.if-s-lt16.true, (within seen.reading).1) in
-    c.found_or_empty.ensures
-    ∙ sym (few_digits c.args.skip c.args.bound c.args.limit c.requires.limit_high c.requires.digits (widened seen.reading few (omega arith)) (omega arith)).1
+    let s = c.args.s.now in
+    let few : run_len decimal_table s < c.args.limit = omega (arith, c.if-s-lt16.true, c.requires.limit_low, prefix_len-le-length (is_digit decimal_table) s) in
+    c.prefix_64_short.ensures.answer
+    ∙ sym (few_digits c.args.skip c.args.bound c.args.limit c.requires.limit_high c.requires.digits (reading_of_all s (omega arith)) few).1
 
 pub returns-then-s-lt16-clause-loads : goal.returns-then-s-lt16-clause-loads
 returns-then-s-lt16-clause-loads c =
-    let step = c.window-only.ensures.one_step in
+    let step = c.prefix_64_short.ensures.one_step in
     few_loads _ 1 _ _ _ _ (omega (arith, step)) (omega (arith, step)) (omega arith)
     (λ _. omega (arith, c.if-s-lt16.true, prefix_len-le-length (is_zero decimal_table) c.args.s.now))
 
@@ -29,7 +27,7 @@ overflow_cast-first c =
 
 pub returns-then-first-limit-clause-answer : goal.returns-then-first-limit-clause-answer
 returns-then-first-limit-clause-answer c =
-    c.found_or_empty-then-first-limit.ensures
+    c.found_or_empty.ensures
     ∙ sym (few_digits c.args.skip c.args.bound c.args.limit c.requires.limit_high c.requires.digits c.window_32-first.ensures.reading c.if-first-limit.true).1
 
 pub returns-then-first-limit-clause-loads : goal.returns-then-first-limit-clause-loads
