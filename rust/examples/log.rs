@@ -12,7 +12,7 @@ fn reason(error: AtoiSimdError<'_>) -> &'static str {
     }
 }
 
-// Returns the number at the start of `text`, and what follows the space after it.
+// Returns the number at the start of `text`, and the bytes after a space, if any.
 fn number_and_rest<T: Parse>(text: &[u8]) -> Result<(T, &[u8]), &'static str> {
     let (number, len) = parse_prefix::<T, true, false>(text).map_err(reason)?;
     match &text[len..] {

@@ -1,6 +1,6 @@
 //! The Rust crate `atoi_simd`, and the differences from it that docs/DIFFERENCES.md names.
 //!
-//! Two of them show here. The others need a text of more than 4294967295 zeros, a debug build, or
+//! Two of them show here. The others need a text of more than 4294967295 digits, a debug build, or
 //! vector instructions.
 
 use crate::answer::Answer;
