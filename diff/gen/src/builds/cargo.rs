@@ -69,6 +69,8 @@ impl Dependency {
 pub enum Kind {
     /// An archive, in which the crates are inlined into each other.
     Archive,
+    /// An archive of many units of code, built as cargo builds a program in release mode.
+    ArchiveOfUnits,
     /// A shared object, built as cargo builds a program in release mode.
     SharedObject,
     /// The same without optimisation, and with checks for overflow.
@@ -105,7 +107,7 @@ impl Generated {
         let mut cargo = Command::new("cargo");
         cargo.args(["build", "--quiet"]).current_dir(folder);
         let (profile, file) = match self.kind {
-            Kind::Archive => ("release", "libtimed.a"),
+            Kind::Archive | Kind::ArchiveOfUnits => ("release", "libtimed.a"),
             Kind::SharedObject => ("release", "libtimed.so"),
             Kind::DebugSharedObject => ("debug", "libtimed.so"),
         };
@@ -142,6 +144,7 @@ impl Generated {
     fn manifest(&self) -> String {
         let (kind, profile) = match self.kind {
             Kind::Archive => ("staticlib", "panic = \"abort\"\nlto = true\ncodegen-units = 1\n"),
+            Kind::ArchiveOfUnits => ("staticlib", "codegen-units = 256\n"),
             Kind::SharedObject | Kind::DebugSharedObject => ("cdylib", "codegen-units = 256\n"),
         };
         let lines = self.dependencies.iter().map(|it| it.line.as_str());

@@ -1,6 +1,6 @@
 //! A Rust library in which the calls of several crates are inlined into loops, as they are in a
-//! program that uses them. It is built in four layouts, since the layout of a loop alone moves its
-//! time by up to 18 %.
+//! program that uses them. It is built in four layouts, each at two of the eight addresses, since the
+//! layout and the address of a loop alone move its time by up to 18 %.
 
 use super::cargo::{Dependency, Generated, Kind};
 use super::package::Package;
@@ -9,6 +9,7 @@ use super::rust::{ORIGINAL, STANDARD, STANDARD_PREFIX};
 use super::source::{Calls, Column, HEAD};
 use super::{Build, Cache, original, run};
 use crate::tables::{self, Form, Shape};
+use std::path::Path;
 use std::process::Command;
 
 // What rustc is told for each layout.
@@ -125,18 +126,25 @@ fn program(
     parts: &[Part],
 ) -> Result<Inlined, String> {
     let mut text = String::from(HEAD) + STANDARD.helpers;
+    let mut names = Vec::new();
     for part in parts {
-        text += &part.source()?;
+        for (name, source) in part.loops()? {
+            text += &format!("\nmod {name} {{\n    use super::*;\n{source}}}\n");
+            names.push(name);
+        }
     }
     let mut files = Vec::new();
-    for layout in LAYOUTS {
+    for (number, layout) in LAYOUTS.iter().enumerate() {
         let generated = Generated {
-            kind: Kind::SharedObject,
+            kind: Kind::ArchiveOfUnits,
             dependencies: dependencies.clone(),
             files: vec![("lib.rs", text.clone())],
             flags: format!("-C target-cpu={cpu}{layout}"),
         };
-        files.push(generated.shared_object(cache, "inlined")?);
+        let name = format!("inlined-{}", generated.stamp()?);
+        let placed = cache.placed(&name, &names, |room| Ok(vec![generated.build(room)?]))?;
+        let chosen = placed.files().skip(number).step_by(LAYOUTS.len());
+        files.extend(chosen.map(Path::to_path_buf));
     }
     let placed = Placed::new(files);
     let builds_of = |use_of| {
@@ -158,9 +166,9 @@ impl Part {
         Build { prefix: self.prefix, has_loops: true, is_standard, ..build }
     }
 
-    // The loops. Each is in a module of its own, and so in a unit of code of its own: then LLVM
-    // inlines as much into it as into a program that has only this loop.
-    fn source(&self) -> Result<String, String> {
+    // The name and the source of each loop. Each is put into a module of its own, and so into a unit of
+    // code of its own: then LLVM inlines as much into it as into a program that has only this loop.
+    fn loops(&self) -> Result<Vec<(String, String)>, String> {
         let mut loops = Vec::new();
         if self.use_of == Use::CallsAndColumns {
             for call in tables::calls()? {
@@ -176,10 +184,7 @@ impl Part {
             let name = format!("{}{}", self.prefix, Shape::export(integer));
             loops.extend(self.calls.column(&name, integer).map(|text| (name, text)));
         }
-        let module = |(name, text): &(String, String)| {
-            format!("\nmod {name} {{\n    use super::*;\n{text}}}\n")
-        };
-        Ok(loops.iter().map(module).collect())
+        Ok(loops)
     }
 }
 
