@@ -20,7 +20,7 @@
 //!
 //! ```toml
 //! [dependencies]
-//! atoi_simd = { package = "torkettle", version = "0.1" }
+//! atoi_simd = { package = "torkettle", path = "../torkettle" }
 //! ```
 //!
 //! Where a number ends, the rest begins:
