@@ -54,7 +54,7 @@ pub fn chart(rows: &[Row]) -> String {
         y = end + FOOT;
     }
     let title = format!(
-        "Time per call on {} input lists: std takes 1.0, and a shorter bar is faster",
+        "Time per call on {} input lists, relative to std (1.0). Shorter is faster.",
         rows.len()
     );
     let title = text(12.0, 24.0, &title);

@@ -148,7 +148,7 @@ impl Table {
         for times in &self.times {
             if let Some(ratio) = comparison.ratio(times).filter(|ratio| *ratio > SLOWER) {
                 let line: Vec<&str> = times.name.split_whitespace().collect();
-                println!("    {form} takes {ratio:.2} of {name}: {}", line.join(" "));
+                println!("    {form} take {ratio:.2} times as long as {name}: {}", line.join(" "));
             }
         }
     }
