@@ -22,7 +22,7 @@ fn errors() {
     // Too many digits: without SKIP_ZEROES, leading zeros count towards the limit.
     let text = b"09223372036854775807";
     assert_eq!(parse::<i64, false, false>(text), Err(AtoiSimdError::Size(20, text)));
-    // Out of range. The first slice leaves out the skipped zeros. With one zero fewer, the slice keeps the zeros.
+    // Out of range. Here, the slice in the error leaves out the skipped zeros. With one zero fewer, it keeps them.
     let text = b"0000000000000999x";
     assert_eq!(parse_prefix::<u8, true, false>(text), Err(AtoiSimdError::Overflow(b"999x")));
     let text = b"000000000000999x";

@@ -54,7 +54,7 @@ pub fn chart(rows: &[Row]) -> String {
         y = end + FOOT;
     }
     let title = format!(
-        "Time per call on {} input lists, relative to std (1.0). Shorter is faster.",
+        "Time per call on {} input lists. 1.0 is the time of the code in the heading. Shorter is faster.",
         rows.len()
     );
     let title = text(12.0, 24.0, &title);
