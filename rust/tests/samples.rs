@@ -17,7 +17,7 @@ fn numbers() {
 
 #[test]
 fn errors() {
-    // No digit at the start: SKIP_PLUS is off, so the `+` is not accepted.
+    // No digit at the start: SKIP_PLUS is off, so the `+` is not accepted. The message is `atoi_simd string is empty`.
     assert_eq!(parse::<i8, false, false>(b"+5"), Err(AtoiSimdError::Empty));
     // Too many digits: without SKIP_ZEROES, leading zeros count towards the limit.
     let text = b"09223372036854775807";

@@ -13,6 +13,9 @@ const BAR: f64 = 9.0;
 const GAP: f64 = 8.0;
 const FOOT: f64 = 36.0;
 
+const TITLE: &str = "Time per call, divided by the time of what each heading names. \
+                     Shorter is faster. Equal: within 3%.";
+
 // What each form is called, and its colour.
 const WORDS: (&str, &str) = ("words: atoi_simd", "#0072B2");
 const LANES: (&str, &str) = ("lanes: atoi_simd::lanes", "#E69F00");
@@ -47,17 +50,13 @@ pub fn chart(rows: &[Row]) -> String {
     let mut y = TOP;
     for (heading, rows) in [
         ("Whole slices, compared with str::parse", whole),
-        ("Prefixes, compared with a search for their end and str::parse", prefix),
+        ("Prefixes, compared with str::parse after a search for their end", prefix),
     ] {
         let (panel, end) = panel(heading, &rows, scale, y);
         body += &panel;
         y = end + FOOT;
     }
-    let title = format!(
-        "Time per call on {} input lists. 1.0 is the time of the code in the heading. Shorter is faster.",
-        rows.len()
-    );
-    let title = text(12.0, 24.0, &title);
+    let title = text(12.0, 24.0, TITLE);
     format!(
         "<svg xmlns=\"http://www.w3.org/2000/svg\" viewBox=\"0 0 {WIDTH} {y}\" \
          font-family=\"sans-serif\" font-size=\"12\" fill=\"#222\">\n\
