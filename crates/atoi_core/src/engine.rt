@@ -58,7 +58,7 @@ pub trait Engine {
             steps.old steps.new }
     {
         let mut at = 0;
-        // A provided body may not pass `Self` to a function over engines, so the loop is here.
+        // A provided body may not pass `Self` to a function over engines.
         let first = loop {
             let window = Self::window(&s[at..], steps);
             if !skip || window.zeroes == 0 {
