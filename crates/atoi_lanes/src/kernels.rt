@@ -11,12 +11,15 @@ use std::simd::prelude::*;
 
 const LANES: usize = 16;
 
-// Shuffle indices. Index 128 selects no lane and yields 0.
+// Shuffle indices. Index 128 yields 0.
 const SHIFTS: [u8; 48] = [
     128, 128, 128, 128, 128, 128, 128, 128, 128, 128, 128, 128, 128, 128, 128, 128, 0, 1, 2, 3, 4,
     5, 6, 7, 8, 9, 10, 11, 12, 13, 14, 15, 128, 128, 128, 128, 128, 128, 128, 128, 128, 128, 128,
     128, 128, 128, 128, 128,
 ];
+
+// The masks of up to seven digits before the ninth lane.
+const FULL: [u8; 8] = [0, 128, 192, 224, 240, 248, 252, 254];
 
 // The weights that join two pairs of digits, each in the upper byte of its 16 bits.
 const HUNDREDS: [u8; 16] = [0, 100, 0, 1, 0, 100, 0, 1, 0, 100, 0, 1, 0, 100, 0, 1];
@@ -29,7 +32,7 @@ pub fn load_lanes(s: &[u8]) -> u8x16
     match s.first_chunk::<LANES>() {
         Some(bytes) => u8x16::from_array(*bytes),
         None => {
-            // One shift may be by all 64 bits, so there are two.
+            // Two shifts, since one by 64 bits panics.
             let high = match s.last_chunk::<8>() {
                 Some(last) => (u64::from_le_bytes(*last) >> (8 * (15 - s.len()))) >> 8,
                 None => 0,
@@ -63,8 +66,7 @@ pub fn zeroes_lanes(v: u8x16) -> u32
     v.simd_eq(u8x16::splat(b'0')).to_bitmask().trailing_ones()
 }
 
-/// Returns the number that the first `len` lanes spell. They are digits; the lanes after them may
-/// hold any bytes.
+/// Returns the number that the first `len` lanes spell, which are digits.
 #[inline(always)]
 #[tactic(auto, using(crate::proofs::lemmas::DigitLanes::moved_values))]
 pub fn sum_lanes(v: u8x16, len: u32) -> u64
@@ -106,7 +108,7 @@ pub(crate) fn read_short(s: &[u8]) -> ShortRun
     let word = load_high(s);
     let lanes = half(word);
     let mask = digit_mask(lanes);
-    if mask.count_ones() as usize == s.len() {
+    if mask as u8 == FULL[s.len()] {
         // The number need not wait for its length.
         return ShortRun::Whole(number_in_half(lanes & u8x16::splat(0x0F)));
     }
@@ -147,7 +149,7 @@ fn eights(digits: u8x16) -> u64x2
     requires { Each1 (λ digit. digit < 10) digits }
     ensures { result ≡ paired 10000 (paired 100 (paired 10 digits)) }
 {
-    // The first digit of a pair is the lower byte. Ten times it is added to the upper byte.
+    // Adds ten times the lower byte, the first digit, to the upper byte.
     let pairs = u16x8::from_le_bytes(digits) * u16x8::splat(0xA01);
     let fours = pairs.to_le_bytes().dot4(u8x16::from_array(HUNDREDS));
     let fields = u64x2::from_le_bytes(fours.to_le_bytes());

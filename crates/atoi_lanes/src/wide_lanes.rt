@@ -35,20 +35,21 @@ pub fn prefix_64_lanes<'a>(
     ensures loads { LoadsWithin (zeros decimal_table s.now / 32 + 2) 1 decimal_table skip s.now
         steps.old steps.new }
 {
-    if s.len() < 16 {
-        return prefix_64_short(s, steps);
+    // In this order, LLVM puts no jump before long slices.
+    if s.len() >= 16 {
+        if !skip {
+            return prefix_64_unskipped(bound, limit, s, steps);
+        }
+        let first = window_32(s, steps);
+        if first.len < limit {
+            return found_or_empty(first.number as u64, first.len as usize);
+        }
+        if first.zeroes > 0 && first.len == 32 {
+            return prefix_64_cold(bound, limit, first.zeroes, s, steps);
+        }
+        return answer_from_window_64(bound, limit, 0, first, s);
     }
-    if !skip {
-        return prefix_64_unskipped(bound, limit, s, steps);
-    }
-    let first = window_32(s, steps);
-    if first.len < limit {
-        return found_or_empty(first.number as u64, first.len as usize);
-    }
-    if first.zeroes > 0 && first.len == 32 {
-        return prefix_64_cold(bound, limit, first.zeroes, s, steps);
-    }
-    answer_from_window_64(bound, limit, 0, first, s)
+    prefix_64_short(s, steps)
 }
 
 /// `Engine::prefix_128` of `Lanes`, by loads of 32 bytes, and one of the 8 bytes after the last of
@@ -75,7 +76,7 @@ pub fn prefix_128_lanes<'a>(
     finish_128(bound, skip, 0, first, s, steps)
 }
 
-// `prefix_64_lanes` below 16 bytes. A `Whole` run needs no more tests.
+// `prefix_64_lanes` below 16 bytes.
 #[inline(always)]
 fn prefix_64_short<'a>(s: &'a [u8], steps: &mut Steps) -> Result<(u64, usize), AtoiSimdError<'a>>
     requires { length s.now < 16 }
@@ -83,15 +84,15 @@ fn prefix_64_short<'a>(s: &'a [u8], steps: &mut Steps) -> Result<(u64, usize), A
         else Ok (value decimal_table (run decimal_table s.now), run_len decimal_table s.now)) }
     ensures one_step { steps.new ≡ steps.old + 1 }
 {
-    if s.len() >= 8 {
-        let only = Lanes::window(s, steps);
-        return found_or_empty(only.number, only.len as usize);
+    if s.len() < 8 {
+        steps.tick();
+        return match read_short(s) {
+            ShortRun::Whole(number) => Ok((number, s.len())),
+            ShortRun::Part(len, number) => found_or_empty(number, len as usize),
+        };
     }
-    steps.tick();
-    match read_short(s) {
-        ShortRun::Whole(number) => Ok((number, s.len())),
-        ShortRun::Part(len, number) => found_or_empty(number, len as usize),
-    }
+    let only = Lanes::window(s, steps);
+    found_or_empty(only.number, only.len as usize)
 }
 
 // `prefix_64_lanes` without `skip`. The test of `more` pays off from 32 bytes on.
@@ -115,20 +116,20 @@ fn prefix_64_unskipped<'a>(
     if len < 16 {
         return found_or_empty(sum_lanes(first, len), len as usize);
     }
-    let high = sum_lanes(first, 16);
     let (second, more) = if s.len() >= 32 {
         let second = load_lanes(&s[16..]);
         let more = len_lanes(second);
         if more == 0 {
-            return Ok((high, 16));
+            return Ok((sum_lanes(first, 16), 16));
         }
         (second, more)
     } else if s.len() > 16 {
         let second = load_last_after_16(s);
         (second, len_lanes(second))
     } else {
-        return Ok((high, 16));
+        return Ok((sum_lanes(first, 16), 16));
     };
+    let high = sum_lanes(first, 16);
     let number = append_digits(high, more, sum_lanes(second, more));
     let len = 16 + more;
     if len < limit {

@@ -1,15 +1,16 @@
 -- A slice below eight bytes at the end of the first half of a vector.
-use Rattle.std.proofs.Common.{◌≡◌, ℕ, zero, suc, ◌+◌, ◌-◌, ◌*◌, ◌/◌, ◌%◌, ◌^◌, ◌<◌, ◌≤◌, true, false, cond, List, [], ◌∷◌, ◌++◌, map, length, take, drop, replicate, get_or, refl, sym, ap, ap₂, subst, ◌∙◌, arith, lit<, Bool, w64}
+use Rattle.std.proofs.Common.{◌≡◌, ℕ, zero, suc, ◌+◌, ◌-◌, ◌*◌, ◌/◌, ◌%◌, ◌^◌, ◌<◌, ◌≤◌, true, false, cond, eqb, List, [], ◌∷◌, ◌++◌, map, length, take, drop, replicate, get_or, refl, sym, ap, ap₂, subst, ◌∙◌, arith, lit<, Bool, w64}
 use Rattle.std.specs.Int.{trailing_ones}
 use Rattle.std.specs.Int.Bits.{bit_and}
 use Rattle.std.specs.Int.RustNames.{count_ones}
 use Rattle.std.specs.List.{prefix_len, count_by}
+use Rattle.std.proofs.lemmas.Bool.{agree_below_at, eqb-true}
 use Rattle.std.proofs.lemmas.Bool.Decides.{nat_tests}
 use Rattle.std.proofs.lemmas.List.{length-map, length-take, length-take-le, length-append, map-append, take_all, take-append-le, drop-append-le, drop-map, drop_at}
 use Rattle.std.proofs.lemmas.List.Sums.{count_by-le-length, prefix_len-le-length, sum_by-cons, sum_by-append}
 use Rattle.std.proofs.lemmas.List.Folds.{sum_by-replicate}
 use Rattle.std.proofs.lemmas.Nat.{pow-add, and_mask}
-use Rattle.std.proofs.lemmas.Simd.{zip2_splat, Each1-chunk, length-replicate, ones-mask_l}
+use Rattle.std.proofs.lemmas.Simd.{zip2_splat, Each1-chunk, length-replicate, mask_l-lt, ones-mask_l}
 use Rattle.atoi_core.specs.Digit.{decimal_table, is_digit}
 use Rattle.atoi_core.specs.Run.{run_len, value, run}
 use Rattle.atoi_core.specs.Words.{word_of}
@@ -79,9 +80,33 @@ all_pass p (x ∷ xs) h =
       | false ↦ λ more. absurd (omega (arith, more, h, count_by-le-length p xs))
     ]) (sum_by-cons (λ y. cond (p y) 1 0) x xs)
 
+-- The table `FULL`.
+abbrev full : List ℕ
+full = 0 ∷ 128 ∷ 192 ∷ 224 ∷ 240 ∷ 248 ∷ 252 ∷ 254 ∷ []
+
+ones-full : (n : ℕ) → n < 8 → count_ones (get_or full n 0) ≡ n
+unfolding count_ones
+ones-full n few = eqb-true _ n (agree_below_at (λ k. eqb (count_ones (get_or full k 0)) k) (λ _. true) 8 n refl few)
+
 -- If the mask has as many ones as bytes, all are digits.
 counts_all : (s v : List ℕ) (mask : ℕ) → v ≡ in_half s → mask ≡ mask_l (map digit v) → count_ones mask ≡ length s → run_len decimal_table s ≡ length s
 counts_all s v mask is ones h = all_pass digit s (sym (ap count_ones ones ∙ ones-mask_l digit v ∙ ap (count_by digit) is ∙ count-in_half s) ∙ h)
+
+mask-before_false : (ms : List Bool) (n : ℕ) → mask_l (ms ++ replicate n false) ≡ mask_l ms
+mask-before_false [] zero = refl
+mask-before_false [] (suc n) = omega (arith, mask-before_false [] n)
+mask-before_false (m ∷ ms) n = ap (λ k. cond m 1 zero + 2 * k) (mask-before_false ms n)
+
+-- The mask has 8 bits.
+pub mask_below : (s : List ℕ) → ((i : ℕ) → get_or s i 0 < 256) → length s < 8 → (word mask : ℕ) (v : List ℕ) → word ≡ high_word s
+    → v ≡ digits_l 256 16 word → mask ≡ mask_l (map digit v) → mask < 256
+mask_below s fits few word mask v loaded lanes ones =
+    let front = replicate (8 - length s) 0 ++ s in
+    let is : v ≡ in_half s = lanes ∙ ap (digits_l 256 16) loaded ∙ half_of_word s (bytes s fits) (omega arith) in
+    let first : mask ≡ mask_l (map digit front) =
+    ones ∙ ap (λ l. mask_l (map digit l)) is ∙ ap mask_l (map-append digit front (replicate 8 0)) ∙ mask-before_false (map digit front) 8 in
+    let size : length (map digit front) ≡ 8 = omega (arith, length-map front digit, filled_length (8 - length s) 0 s) in
+    omega (arith, first, rw size at (mask_l-lt (map digit front)))
 
 -- The trailing ones after the lanes before the slice are its run.
 digits_first : (s v : List ℕ) (mask : ℕ) → length s ≤ 8 → v ≡ in_half s → mask ≡ mask_l (map digit v)
@@ -137,11 +162,11 @@ half_values s few digits v is =
 
 -- A full mask: all bytes are digits, and the lanes spell them.
 pub all_digits : (s : List ℕ) → ((i : ℕ) → get_or s i 0 < 256) → length s < 8 → (word mask : ℕ) (v : List ℕ) → word ≡ high_word s
-    → v ≡ digits_l 256 16 word → mask ≡ mask_l (map digit v) → count_ones mask ≡ length s
+    → v ≡ digits_l 256 16 word → mask ≡ mask_l (map digit v) → mask ≡ get_or full (length s) 0
     → (run_len decimal_table s ≡ length s) × Written s v
-all_digits s fits few word mask v loaded lanes ones count =
+all_digits s fits few word mask v loaded lanes ones full_is =
     let is : v ≡ in_half s = lanes ∙ ap (digits_l 256 16) loaded ∙ half_of_word s (bytes s fits) (omega arith) in
-    let digits = counts_all s v mask is ones count in
+    let digits = counts_all s v mask is ones (ap count_ones full_is ∙ ones-full (length s) few) in
     (digits, half_values s (omega arith) digits v is)
 
 -- Otherwise the shifted word's lanes spell the run.

@@ -1,7 +1,13 @@
 -- If all bytes are digits, their lanes are summed as loaded; otherwise the rest is shifted out.
 use Rattle.std.proofs.Common.{◌∙◌, arith}
-use Rattle.atoi_lanes.proofs.lemmas.ShortLanes.{all_digits, first_digits}
+use Rattle.atoi_lanes.proofs.lemmas.ShortLanes.{all_digits, first_digits, mask_below}
 use Rattle.atoi_lanes.proofs.kernels.read_short.Goals as goal
+
+pub overflow_cast-mask : goal.overflow_cast-mask
+overflow_cast-mask c =
+    record {
+      fits = mask_below _ (λ i. (c.type_inv.s i).fits) c.requires.few _ _ _ c.load_high-word.ensures c.half-lanes.ensures c.digit_mask-mask.ensures;
+    }
 
 pub number_in_half-requires : goal.number_in_half-requires
 number_in_half-requires c =

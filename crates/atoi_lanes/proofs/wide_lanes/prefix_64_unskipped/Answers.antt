@@ -12,15 +12,16 @@ use Rattle.atoi_lanes.specs.Lanes.{padded_start}
 use Rattle.atoi_lanes.proofs.lemmas.LaneWindows.{reading-of_lanes}
 use Rattle.atoi_lanes.proofs.lemmas.WideAnswers.{few_digits, start}
 use Rattle.atoi_lanes.proofs.wide_lanes.prefix_64_unskipped.Goals as goal
-use Rattle.atoi_lanes.proofs.wide_lanes.prefix_64_unskipped.Goals.{After-sum_lanes-high, After-append_digits-number, then-s-ge32+else-more-eq0, else-s-ge32+then-s-gt16}
+use Rattle.atoi_lanes.proofs.wide_lanes.prefix_64_unskipped.Goals.{Else-len-lt16, After-append_digits-number, then-s-ge32+else-more-eq0, else-s-ge32+then-s-gt16}
 
 -- Without a digit after them, the first 16 are all.
-ended : (c : After-sum_lanes-high) {others low : ℕ} → Reading decimal_table 16 (drop 16 c.args.s.now) 0 others low
-    → Ok (c.sum_lanes-high.result, 16) ≡ prefix_magnitude decimal_table wide64 c.args.bound c.args.limit false c.args.s.now
-ended c {low = low} after =
+ended : (c : Else-len-lt16) {high others low : ℕ} → high ≡ value decimal_table (take 16 c.load_lanes-first.result)
+    → Reading decimal_table 16 (drop 16 c.args.s.now) 0 others low
+    → Ok (high, 16) ≡ prefix_magnitude decimal_table wide64 c.args.bound c.args.limit false c.args.s.now
+ended c {high = high} {low = low} summed after =
     let front = reading-of_lanes _ c.load_lanes-first.result 16 _ c.load_lanes-first.ensures
-    (omega (arith, c.len_lanes-len.ensures, c.if-len-lt16.false)) c.sum_lanes-high.ensures in
-    let number : c.sum_lanes-high.result * 10 ^ 0 + low ≡ c.sum_lanes-high.result = omega (arith, below after decimal_below_ten) in
+    (omega (arith, c.len_lanes-len.ensures, c.if-len-lt16.false)) summed in
+    let number : high * 10 ^ 0 + low ≡ high = omega (arith, below after decimal_below_ten) in
     sym (rw number at (few_digits false c.args.bound c.args.limit c.requires.limit_high c.requires.digits (join_readings front after) (omega arith)).1)
 
 both : (c : After-append_digits-number) → let leading = zeros decimal_table c.load_lanes-first.result in
@@ -50,13 +51,13 @@ pub returns-else-s-gt16-clause-answer : goal.returns-else-s-gt16-clause-answer
 returns-else-s-gt16-clause-answer c =
     let none : drop 16 c.args.s.now ≡ [] = drop_all 16 c.args.s.now (omega (arith, c.if-s-gt16.false)) in
     let after : Reading decimal_table 16 (drop 16 c.args.s.now) 0 0 0 = rw none (record { digits_are = refl; leading_are = refl; number_is = refl }) in
-    ended (goal.at.returns-else-s-gt16-clause-answer c).After-sum_lanes-high after
+    ended (goal.at.returns-else-s-gt16-clause-answer c).Else-len-lt16 c.sum_lanes-else-s-gt16.ensures after
 
 pub returns-then-more-eq0-clause-answer : goal.returns-then-more-eq0-clause-answer
 returns-then-more-eq0-clause-answer c =
     let after = reading-of_lanes _ c.load_lanes-second.result _ _
     (c.load_lanes-second.ensures ∙ ap (padded_start 16) (take_rest c.args.s.now 16)) c.len_lanes-more.ensures.len refl in
-    ended (goal.at.returns-then-more-eq0-clause-answer c).After-sum_lanes-high (rw c.if-more-eq0.true at after)
+    ended (goal.at.returns-then-more-eq0-clause-answer c).Else-len-lt16 c.sum_lanes-then-more-eq0.ensures (rw c.if-more-eq0.true at after)
 
 pub overflow_cast-result : goal.overflow_cast-result
 overflow_cast-result c =
