@@ -47,7 +47,7 @@ pub(crate) fn window_32(s: &[u8], steps: &mut Steps) -> Window32
 }
 
 // Returns the 16 bytes after the first 16. A missing byte is 0.
-fn load_after_16(s: &[u8]) -> u8x16
+pub(crate) fn load_after_16(s: &[u8]) -> u8x16
     ensures { result ≡ padded_start 16 (drop 16 s.now) }
 {
     if s.len() >= 32 {
@@ -61,7 +61,7 @@ fn load_after_16(s: &[u8]) -> u8x16
 
 // The same for 16 to 31 bytes. One shuffle moves the last 16 to the start.
 #[tactic(auto, using(crate::proofs::lemmas::Shuffles::after_first_16))]
-pub(crate) fn load_last_after_16(s: &[u8]) -> u8x16
+fn load_last_after_16(s: &[u8]) -> u8x16
     requires enough { 16 ≤ length s.now }
     requires few { length s.now < 32 }
     ensures { result ≡ padded_start 16 (drop 16 s.now) }
