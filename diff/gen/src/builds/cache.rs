@@ -62,7 +62,7 @@ impl Cache {
         exports: &[String],
         compile: impl FnOnce(&Path) -> Result<Vec<PathBuf>, String>,
     ) -> Result<Placed, String> {
-        let folder = self.folder("objects").join(format!("{name}-at-{}", PLACES.len()));
+        let folder = self.folder("objects").join(format!("{name}-placed-{}", PLACES.len()));
         if !folder.is_dir() {
             eprintln!("building {name}");
             // Another run of this program may build something else meanwhile.

@@ -1,6 +1,6 @@
 //! A Rust library in which the calls of several crates are inlined into loops, as they are in a
-//! program that uses them. It is built in four layouts, each at two of the eight addresses, since the
-//! layout and the address of a loop alone move its time by up to 18 %.
+//! program that uses them. It is built in four layouts, each at two of the eight addresses of code and
+//! constants, since the layout and the address of a loop alone move its time by up to 18 %.
 
 use super::cargo::{Dependency, Generated, Kind};
 use super::package::Package;
