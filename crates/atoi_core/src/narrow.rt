@@ -75,16 +75,13 @@ pub fn narrow_whole_windows<'a, E: Engine>(
     ensures loads { LoadsWithin (most_loads E.table narrow s.now) 2 E.table true s.now
         steps.old steps.new }
 {
-    if s.len() > 8 {
+    if s.len() <= 8 {
+        let window = E::window(s, steps);
+        narrow_answer(bound, window.len as usize, window.number, s)
+    } else {
         let (len, number) = digits_of_long::<E>(s, steps);
-        return narrow_answer(bound, len, number, s);
+        narrow_answer(bound, len, number, s)
     }
-    let window = E::window(s, steps);
-    // In 32 bits, LLVM finds that the engine has tested this.
-    if window.len == s.len() as u32 {
-        return whole_answer(bound, window.number, s);
-    }
-    narrow_answer(bound, window.len as usize, window.number, s)
 }
 
 // The length and the value of the run, or too large a value if the run does not fit in 32 bits.
@@ -109,23 +106,15 @@ fn digits_of_long<E: Engine>(s: &[u8], steps: &mut Steps) -> (usize, u64)
 fn narrow_answer(bound: u64, len: usize, number: u64, s: &[u8]) -> Result<u64, AtoiSimdError<'_>>
     ensures { answer_of result ≡ narrow_decision bound len number s.now }
 {
-    if len == s.len() {
-        whole_answer(bound, number, s)
-    } else if len == 0 {
+    // The length before the bound: engines test it, too, and LLVM joins both.
+    if len == 0 {
         Err(AtoiSimdError::Empty)
-    } else if number > bound {
-        Err(AtoiSimdError::Overflow(s))
-    } else {
-        Err(AtoiSimdError::Invalid64(number, len, s))
-    }
-}
-
-// The same if all of `s` are digits.
-fn whole_answer(bound: u64, number: u64, s: &[u8]) -> Result<u64, AtoiSimdError<'_>>
-    ensures { answer_of result ≡ narrow_decision bound (length s.now) number s.now }
-{
-    if s.is_empty() {
-        Err(AtoiSimdError::Empty)
+    } else if len != s.len() {
+        if number > bound {
+            Err(AtoiSimdError::Overflow(s))
+        } else {
+            Err(AtoiSimdError::Invalid64(number, len, s))
+        }
     } else if number > bound {
         Err(AtoiSimdError::Overflow(s))
     } else {

@@ -5,30 +5,20 @@ use Rattle.atoi_core.specs.Digit.{is_digit}
 use Rattle.atoi_core.proofs.lemmas.LoopAnswers.{narrow_decides}
 use Rattle.atoi_core.proofs.lemmas.Windows.{Skipped, Skipped-first, Skipped-loads, shows}
 use Rattle.atoi_core.proofs.narrow.narrow_whole_windows.Goals as goal
-use Rattle.atoi_core.proofs.narrow.narrow_whole_windows.Goals.{After-window-window}
+use Rattle.atoi_core.proofs.narrow.narrow_whole_windows.Goals.{After-narrow_answer}
 
 -- What holds after the window of a short slice.
-first : (g : _) (c : After-window-window g)
+first : (g : _) (c : After-narrow_answer g)
     → Skipped g.E.Engine.table true c.args.s.now 0 c.args.steps.now c.window-window.new.steps c.window-window.result
 first g c =
     let e = c.window-window.ensures in
     let seen = shows g.met.E.Engine.below_ten 16 c.args.s.now e.window in
     let few : c.window-window.result.len < 16 =
-    omega (arith, seen.len_is, prefix_len-le-length (is_digit g.E.Engine.table) c.args.s.now, c.if-s-gt8.false) in
+    omega (arith, seen.len_is, prefix_len-le-length (is_digit g.E.Engine.table) c.args.s.now, c.if-s-le8.true) in
     Skipped-first g.met.E.Engine.below_ten true c.args.s.now e.window e.one_step few
 
-pub returns-then-window-s-clause-answer : goal.returns-then-window-s-clause-answer
-returns-then-window-s-clause-answer g c =
-    c.whole_answer.ensures ∙ narrow_decides (first g (goal.at.returns-then-window-s-clause-answer g c).After-window-window) (omega (arith, c.if-window-s.true)) c.args.bound c.requires.high
+pub returns-then-s-le8-clause-answer : goal.returns-then-s-le8-clause-answer
+returns-then-s-le8-clause-answer g c = c.narrow_answer.ensures ∙ narrow_decides (first g c) (omega arith) c.args.bound c.requires.high
 
-pub returns-then-window-s-clause-loads : goal.returns-then-window-s-clause-loads
-returns-then-window-s-clause-loads g c =
-    Skipped-loads (first g (goal.at.returns-then-window-s-clause-loads g c).After-window-window) 0 (omega arith) (omega arith) (omega arith)
-
-pub returns-clause-answer : goal.returns-clause-answer
-returns-clause-answer g c =
-    c.narrow_answer-2.ensures ∙ narrow_decides (first g (goal.at.returns-clause-answer g c).After-window-window) (omega arith) c.args.bound c.requires.high
-
-pub returns-clause-loads : goal.returns-clause-loads
-returns-clause-loads g c =
-    Skipped-loads (first g (goal.at.returns-clause-loads g c).After-window-window) 0 (omega arith) (omega arith) (omega arith)
+pub returns-then-s-le8-clause-loads : goal.returns-then-s-le8-clause-loads
+returns-then-s-le8-clause-loads g c = Skipped-loads (first g c) 0 (omega arith) (omega arith) (omega arith)
