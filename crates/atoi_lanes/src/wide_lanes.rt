@@ -114,11 +114,11 @@ fn prefix_64_unskipped<'a>(
     steps.tick();
     let first = load_lanes(s);
     let len = len_lanes(first);
-    if len as usize == s.len() {
-        return Ok((sum_lanes(first, 16), s.len()));
-    }
     if len < 16 {
         return found_or_empty(sum_lanes(first, len), len as usize);
+    }
+    if s.len() == 16 {
+        return Ok((sum_lanes(first, 16), s.len()));
     }
     let second = load_after_16(s);
     let more = len_lanes(second);

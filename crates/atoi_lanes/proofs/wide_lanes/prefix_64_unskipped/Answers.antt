@@ -1,5 +1,5 @@
 -- A vector decides, if full with the next one.
-use Rattle.std.proofs.Common.{◌≡◌, ℕ, ◌+◌, ◌*◌, ◌^◌, ◌⊎◌, ◌-◌, ◌<◌, ◌≤◌, cond, eqb, false, [], inl, inr, Ok, refl, sym, ◌∙◌, ap, length, take, drop, arith, ne_eqb}
+use Rattle.std.proofs.Common.{◌≡◌, ℕ, ◌+◌, ◌*◌, ◌^◌, ◌⊎◌, ◌-◌, ◌<◌, ◌≤◌, cond, eqb, false, [], inl, inr, Ok, refl, sym, ◌∙◌, ap, take, drop, arith, ne_eqb}
 use Rattle.std.proofs.lemmas.Bool.{cases_lt}
 use Rattle.std.proofs.lemmas.List.{drop_all}
 use Rattle.atoi_core.specs.Digit.{decimal_table}
@@ -11,15 +11,15 @@ use Rattle.atoi_core.proofs.lemmas.Runs.{decimal_below_ten}
 use Rattle.atoi_lanes.proofs.lemmas.LaneWindows.{reading-of_lanes}
 use Rattle.atoi_lanes.proofs.lemmas.WideAnswers.{few_digits, start}
 use Rattle.atoi_lanes.proofs.wide_lanes.prefix_64_unskipped.Goals as goal
-use Rattle.atoi_lanes.proofs.wide_lanes.prefix_64_unskipped.Goals.{After-len_lanes-len, After-append_digits-number}
+use Rattle.atoi_lanes.proofs.wide_lanes.prefix_64_unskipped.Goals.{Else-len-lt16, After-append_digits-number}
 
 -- Without a digit after them, the first 16 are all.
-ended : (c : After-len_lanes-len) → 16 ≤ c.len_lanes-len.result → {high others low : ℕ} → high ≡ value decimal_table (take 16 c.load_lanes-first.result)
+ended : (c : Else-len-lt16) {high others low : ℕ} → high ≡ value decimal_table (take 16 c.load_lanes-first.result)
     → Reading decimal_table 16 (drop 16 c.args.s.now) 0 others low
     → Ok (high, 16) ≡ prefix_magnitude decimal_table wide64 c.args.bound c.args.limit false c.args.s.now
-ended c all {high = high} {low = low} summed after =
+ended c {high = high} {low = low} summed after =
     let front = reading-of_lanes _ c.load_lanes-first.result 16 _ c.load_lanes-first.ensures
-    (omega (arith, c.len_lanes-len.ensures, all)) summed in
+    (omega (arith, c.len_lanes-len.ensures, c.if-len-lt16.false)) summed in
     let number : high * 10 ^ 0 + low ≡ high = omega (arith, below after decimal_below_ten) in
     sym (rw number at (few_digits false c.args.bound c.args.limit c.requires.limit_high c.requires.digits (join_readings front after) (omega arith)).1)
 
@@ -34,22 +34,21 @@ both c =
 
 pub returns-then-len-lt16-clause-answer : goal.returns-then-len-lt16-clause-answer
 returns-then-len-lt16-clause-answer c =
-    let reading = reading-of_lanes c.args.s.now c.load_lanes-first.result _ _ c.load_lanes-first.ensures c.len_lanes-len.ensures.len c.sum_lanes-then-len-lt16.ensures in
+    let reading = reading-of_lanes c.args.s.now c.load_lanes-first.result _ _ c.load_lanes-first.ensures c.len_lanes-len.ensures.len c.sum_lanes.ensures in
     c.found_or_empty.ensures
     ∙ sym (few_digits false c.args.bound c.args.limit c.requires.limit_high c.requires.digits (widened reading c.if-len-lt16.true (omega arith)) (omega arith)).1
 
-pub returns-then-len-s-clause-answer : goal.returns-then-len-s-clause-answer
-returns-then-len-s-clause-answer c =
-    let all : length c.args.s.now ≡ 16 = omega (arith, c.requires.enough, c.len_lanes-len.ensures.most, c.if-len-s.true) in
-    let none : drop 16 c.args.s.now ≡ [] = drop_all 16 c.args.s.now (omega (arith, all)) in
+pub returns-then-s-eq16-clause-answer : goal.returns-then-s-eq16-clause-answer
+returns-then-s-eq16-clause-answer c =
+    let none : drop 16 c.args.s.now ≡ [] = drop_all 16 c.args.s.now (omega (arith, c.if-s-eq16.true)) in
     let after : Reading decimal_table 16 (drop 16 c.args.s.now) 0 0 0 = rw none (record { digits_are = refl; leading_are = refl; number_is = refl }) in
-    ap (λ len. Ok (c.sum_lanes.result, len)) all
-    ∙ ended (goal.at.returns-then-len-s-clause-answer c).After-len_lanes-len (omega (arith, all, c.if-len-s.true)) c.sum_lanes.ensures after
+    ap (λ len. Ok (c.sum_lanes-then-s-eq16.result, len)) c.if-s-eq16.true
+    ∙ ended (goal.at.returns-then-s-eq16-clause-answer c).Else-len-lt16 c.sum_lanes-then-s-eq16.ensures after
 
 pub returns-then-more-eq0-clause-answer : goal.returns-then-more-eq0-clause-answer
 returns-then-more-eq0-clause-answer c =
     let after = reading-of_lanes _ c.load_after_16-second.result _ _ c.load_after_16-second.ensures c.len_lanes-more.ensures.len refl in
-    ended (goal.at.returns-then-more-eq0-clause-answer c).After-len_lanes-len (omega (arith, c.if-len-lt16.false)) c.sum_lanes-high.ensures (rw c.if-more-eq0.true at after)
+    ended (goal.at.returns-then-more-eq0-clause-answer c).Else-len-lt16 c.sum_lanes-high.ensures (rw c.if-more-eq0.true at after)
 
 pub overflow_cast-result : goal.overflow_cast-result
 overflow_cast-result c =
