@@ -2,7 +2,7 @@
 ghost use Rattle.std.specs.Prelude.{◌≡◌, ℕ, ◌+◌, ◌-◌, ◌<◌, ◌≤◌, ◌==◌, true, false, not, ◌&&◌, ◌||◌, nat_lt, if◌then◌else◌, Ok, Err, length, take, drop};
 ghost use Rattle.atoi_core.specs.Loads.{LoadsWithin, most_loads};
 ghost use Rattle.atoi_core.specs.Magnitude.{narrow, whole_magnitude, prefix_magnitude};
-ghost use Rattle.atoi_core.specs.Refusal.{answer_of, overflow};
+ghost use Rattle.atoi_core.specs.Refusal.{answer_of, empty, overflow};
 ghost use Rattle.atoi_core.specs.Run.{run_len};
 ghost use Rattle.atoi_core.specs.Reading.{window_of, narrow_decision};
 
@@ -47,7 +47,6 @@ pub fn narrow_prefix<'a, E: Engine>(
     }
 }
 
-// Called after a window full of digits.
 #[inline(always)]
 #[tactic(auto, using(crate::proofs::lemmas::LoopAnswers::digit_after_16))]
 fn is_too_long<E: Engine>(skip: bool, s: &[u8], steps: &mut Steps) -> bool
@@ -76,11 +75,14 @@ pub fn narrow_whole_windows<'a, E: Engine>(
         steps.old steps.new }
 {
     if s.len() <= 8 {
-        let window = E::window(s, steps);
-        narrow_answer(bound, window.len as usize, window.number, s)
+        // LLVM joins this cast with the engine's.
+        let size = s.len() as u32;
+        let window = E::whole_window(s, steps);
+        let is_whole = window.len == size;
+        narrow_answer(bound, window.len as usize, is_whole, window.number, s)
     } else {
         let (len, number) = digits_of_long::<E>(s, steps);
-        narrow_answer(bound, len, number, s)
+        narrow_answer(bound, len, len == s.len(), number, s)
     }
 }
 
@@ -103,18 +105,30 @@ fn digits_of_long<E: Engine>(s: &[u8], steps: &mut Steps) -> (usize, u64)
 }
 
 // The answer for all of `s`, of which `len` digits spell `number`.
-fn narrow_answer(bound: u64, len: usize, number: u64, s: &[u8]) -> Result<u64, AtoiSimdError<'_>>
+fn narrow_answer(
+    bound: u64,
+    len: usize,
+    is_whole: bool,
+    number: u64,
+    s: &[u8],
+) -> Result<u64, AtoiSimdError<'_>>
+    requires whole { is_whole ≡ (len == length s.now) }
     ensures { answer_of result ≡ narrow_decision bound len number s.now }
 {
-    // The length before the bound: engines test it, too, and LLVM joins both.
+    if !is_whole {
+        let number = bounded(bound, len, number, s)?;
+        return Err(AtoiSimdError::Invalid64(number, len, s));
+    }
+    bounded(bound, len, number, s)
+}
+
+// Returns `number` if there is a digit and it is at most `bound`.
+fn bounded(bound: u64, len: usize, number: u64, s: &[u8]) -> Result<u64, AtoiSimdError<'_>>
+    ensures { answer_of result ≡ (if len == 0 then Err empty
+        else if nat_lt bound number then Err (overflow s.now) else Ok number) }
+{
     if len == 0 {
         Err(AtoiSimdError::Empty)
-    } else if len != s.len() {
-        if number > bound {
-            Err(AtoiSimdError::Overflow(s))
-        } else {
-            Err(AtoiSimdError::Invalid64(number, len, s))
-        }
     } else if number > bound {
         Err(AtoiSimdError::Overflow(s))
     } else {

@@ -48,7 +48,15 @@ impl Engine for Lanes {
 
     #[inline(always)]
     fn whole_window(s: &[u8], steps: &mut Steps) -> Window {
-        Lanes::window(s, steps)
+        let window = Lanes::window(s, steps);
+        // Tells LLVM that both lengths agree.
+        if s.len() <= 8 && window.len == s.len() as u32 {
+            return Window {
+                len: s.len() as u32,
+                ..window
+            };
+        }
+        window
     }
 
     /// Returns the window of 8 bytes.

@@ -9,11 +9,11 @@ use Rattle.atoi_core.proofs.narrow.narrow_whole_windows.Goals.{After-narrow_answ
 
 -- What holds after the window of a short slice.
 first : (g : _) (c : After-narrow_answer g)
-    → Skipped g.E.Engine.table true c.args.s.now 0 c.args.steps.now c.window-window.new.steps c.window-window.result
+    → Skipped g.E.Engine.table true c.args.s.now 0 c.args.steps.now c.whole_window-window.new.steps c.whole_window-window.result
 first g c =
-    let e = c.window-window.ensures in
+    let e = c.whole_window-window.ensures in
     let seen = shows g.met.E.Engine.below_ten 16 c.args.s.now e.window in
-    let few : c.window-window.result.len < 16 =
+    let few : c.whole_window-window.result.len < 16 =
     omega (arith, seen.len_is, prefix_len-le-length (is_digit g.E.Engine.table) c.args.s.now, c.if-s-le8.true) in
     Skipped-first g.met.E.Engine.below_ten true c.args.s.now e.window e.one_step few
 
