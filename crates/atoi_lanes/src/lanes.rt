@@ -49,7 +49,7 @@ impl Engine for Lanes {
     #[inline(always)]
     fn whole_window(s: &[u8], steps: &mut Steps) -> Window {
         let window = Lanes::window(s, steps);
-        // Tells LLVM that both lengths agree.
+        // Shows LLVM that both lengths are equal.
         if s.len() <= 8 && window.len == s.len() as u32 {
             return Window {
                 len: s.len() as u32,
