@@ -59,7 +59,6 @@ impl ColumnError<'_> {
     }
 }
 
-// A clone is the same value.
 // Proves the law for this type.
 fn clones() {
     clones_are_the_same::<ColumnError<'_>>();

@@ -29,7 +29,7 @@ impl FieldError<'_> {
     }
 }
 
-// A clone is the same value.
+// Proves the law for this type.
 fn clones() {
     clones_are_the_same::<FieldError<'_>>();
 }

@@ -30,7 +30,7 @@ pub fn whole_pos<'a, E: Engine, T: Number>(
     ensures answer { typed_answer T.number result ≡ whole_answer E.table T.int_type false skip s.now }
     ensures loads { TypedLoads E.table T.int_type whole skip s.now steps.old steps.new }
 {
-    // Here and below, a `match` takes fewer instructions than `?`.
+    // Each `match` in place of `?` takes fewer instructions.
     match whole_by_size::<E, T>(false, skip, s, steps) {
         Ok(magnitude) => Ok(T::from_pos(magnitude)),
         Err(error) => Err(error),

@@ -13,7 +13,7 @@ use crate::wide_answer::{answer_64, answer_128, found_or_empty};
 use crate::window::Window;
 
 /// An *engine* reads windows, for one table of digits. Each read is one *load*. It may replace the
-/// two provided parses by its own, with the same clauses.
+/// provided methods by its own, with the same clauses.
 pub trait Engine {
     ghost table: { Table };
 
@@ -22,7 +22,7 @@ pub trait Engine {
         ensures window { result ≡ window_of table 16 s.now }
         ensures one_step { steps.new ≡ steps.old + 1 };
 
-    /// The same for a slice that is parsed as a whole.
+    /// Like `window`, but may be faster if `s` is all digits.
     #[inline(always)]
     fn whole_window(s: &[u8], steps: &mut Steps) -> Window
         ensures window { result ≡ window_of table 16 s.now }

@@ -104,7 +104,8 @@ fn digits_of_long<E: Engine>(s: &[u8], steps: &mut Steps) -> (usize, u64)
     (at + last.len as usize, last.number)
 }
 
-// The answer for all of `s`, of which `len` digits spell `number`.
+// The answer for all of `s`, of which `len` digits spell `number`. LLVM joins the first test with the
+// engine's.
 fn narrow_answer(
     bound: u64,
     len: usize,

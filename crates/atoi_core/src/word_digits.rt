@@ -43,7 +43,8 @@ pub(crate) fn starts_with_digit(word: u64) -> bool
     ((word & 0xFF) as u8).is_ascii_digit()
 }
 
-// `len_zeroes` with the difference that `digits_of` and `value_of` use too, which saves instructions.
+// `len_zeroes`, from the difference that `digits_of` and `value_of` compute, too, which saves
+// instructions.
 #[tactic(auto, using(crate::proofs::lemmas::WordRuns::lowered_zeros_of_8))]
 pub(crate) fn zeroes_of(word: u64) -> u32
     ensures zeroes { result ≡ zeros decimal_table (low_bytes 8 word) }
@@ -98,7 +99,7 @@ pub(crate) fn value_of_fewer(word: u64, len: u32) -> u64
     sum_of((word.wrapping_sub(ZEROS) << (56 - 8 * len)) << 8)
 }
 
-// `value_of` for at most four digits, by fewer operations.
+// `value_of` for at most four digits. `% 4` keeps the shift below 32.
 #[tactic(auto, using(crate::proofs::lemmas::WordRuns::lowered_four))]
 pub(crate) fn value_of_four(word: u64, len: u32) -> u64
     requires some { 1 ≤ len }

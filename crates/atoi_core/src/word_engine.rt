@@ -148,8 +148,8 @@ fn prefix_64_after_zeros<'a>(
     answer_64(bound, limit, at, 16 + more, number, s)
 }
 
-// Appends the digits after the first 16, at most 8, to their number `high`. More than four are too many for
-// any limit, and the number is not used.
+// Appends the digits after the first 16, at most 8, to their number `high`. More than four are too many
+// for any limit, and the number is not used.
 #[inline(always)]
 fn append_after_16(high: u64, s: &[u8], steps: &mut Steps) -> (u32, u128)
     requires { 16 ≤ length s.now }
@@ -184,9 +184,9 @@ fn load_after_16(s: &[u8]) -> u64
     }
 }
 
-// With `ENDS`, 9 to 15 digits that end the slice are read as two words that overlap.
+// With `WHOLE`, 9 to 15 digits that end the slice are read as two words that overlap.
 #[inline(always)]
-fn read_window<const ENDS: bool>(s: &[u8]) -> Window
+fn read_window<const WHOLE: bool>(s: &[u8]) -> Window
     ensures { result ≡ window_of decimal_table 16 s.now }
 {
     if s.len() <= 8 {
@@ -195,13 +195,13 @@ fn read_window<const ENDS: bool>(s: &[u8]) -> Window
     let first = load_full(s);
     let len = digits_of(first);
     if len == 8 {
-        full_window::<ENDS>(s, first)
+        full_window::<WHOLE>(s, first)
     } else {
         Window::not_full(len, number_in_word(first, len))
     }
 }
 
-// Fills a short slice to eight bytes with zeros before it. Only an empty one has a branch.
+// Fills a short slice to eight bytes with zeros before it. Only length 0 has a branch.
 #[tactic(auto, using(crate::proofs::lemmas::WordWindows::filled_fits, crate::proofs::lemmas::WordWindows::filled_digits))]
 fn short_window(s: &[u8]) -> Window
     requires { length s.now ≤ 8 }
@@ -223,13 +223,13 @@ fn short_window(s: &[u8]) -> Window
 
 // The window of 16 bytes, of which the first 8 are digits, with the word `first`.
 #[inline(always)]
-fn full_window<const ENDS: bool>(s: &[u8], first: u64) -> Window
+fn full_window<const WHOLE: bool>(s: &[u8], first: u64) -> Window
     requires more { 8 < length s.now }
     requires loaded { first ≡ word_of (take 8 s.now) }
     requires full { run_len decimal_table (low_bytes 8 first) ≡ 8 }
     ensures { result ≡ window_of decimal_table 16 s.now }
 {
-    if ENDS && s.len() < 16 {
+    if WHOLE && s.len() < 16 {
         let last = load_last(s);
         if digits_of(last) == 8 {
             return window_of_ends(s, first, last);
@@ -238,7 +238,7 @@ fn full_window<const ENDS: bool>(s: &[u8], first: u64) -> Window
     join_words(s, first)
 }
 
-// The same without `ENDS`.
+// The same without `WHOLE`.
 #[inline(always)]
 fn join_words(s: &[u8], first: u64) -> Window
     requires more { 8 < length s.now }

@@ -98,7 +98,7 @@ fn both_fours(s: &[u8]) -> (u32, u32)
     (u32::from_le_bytes(*first), u32::from_le_bytes(*last))
 }
 
-// For the first two bytes, LLVM would make a branch on x86-64-v3.
+// With the first two bytes instead, LLVM would branch on x86-64-v3.
 #[tactic(auto, using(crate::proofs::lemmas::LoadedWords::word_from_two))]
 fn last_two(s: &[u8]) -> u32
     ensures enough { 2 ≤ length s.now → result ≡ word_of (drop (length s.now - 2) s.now) }

@@ -18,8 +18,8 @@ const SHIFTS: [u8; 48] = [
     128, 128, 128, 128, 128,
 ];
 
-// The masks of up to seven digits before the ninth lane.
-const FULL: [u8; 8] = [0, 128, 192, 224, 240, 248, 252, 254];
+// The digit masks of slices of digits, by length.
+const DIGIT_MASKS: [u8; 8] = [0, 128, 192, 224, 240, 248, 252, 254];
 
 // The weights that join two pairs of digits, each in the upper byte of its 16 bits.
 const HUNDREDS: [u8; 16] = [0, 100, 0, 1, 0, 100, 0, 1, 0, 100, 0, 1, 0, 100, 0, 1];
@@ -108,7 +108,7 @@ pub(crate) fn read_short(s: &[u8]) -> ShortRun
     let word = load_high(s);
     let lanes = half(word);
     let mask = digit_mask(lanes);
-    if mask as u8 == FULL[s.len()] {
+    if mask as u8 == DIGIT_MASKS[s.len()] {
         // The number need not wait for its length.
         return ShortRun::Whole(number_in_half(lanes & u8x16::splat(0x0F)));
     }

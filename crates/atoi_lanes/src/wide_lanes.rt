@@ -118,6 +118,7 @@ fn prefix_64_unskipped<'a>(
         return found_or_empty(sum_lanes(first, len), len as usize);
     }
     if s.len() == 16 {
+        // With `s.len()`, LLVM drops the caller's test.
         return Ok((sum_lanes(first, 16), s.len()));
     }
     let second = load_after_16(s);

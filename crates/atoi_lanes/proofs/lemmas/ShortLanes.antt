@@ -80,7 +80,7 @@ all_pass p (x ∷ xs) h =
       | false ↦ λ more. absurd (omega (arith, more, h, count_by-le-length p xs))
     ]) (sum_by-cons (λ y. cond (p y) 1 0) x xs)
 
--- The table `FULL`.
+-- The table `DIGIT_MASKS`.
 abbrev full : List ℕ
 full = 0 ∷ 128 ∷ 192 ∷ 224 ∷ 240 ∷ 248 ∷ 252 ∷ 254 ∷ []
 
