@@ -27,10 +27,17 @@ fn printed<T: FromStr + Display>(text: &str) -> Option<T> {
     text.parse().ok().filter(|value: &T| value.to_string() == text)
 }
 
-// What `read` finds before the first `.`, and the bytes after it.
-fn before_dot<T>(text: &str, read: impl Fn(&str) -> Option<T>) -> Option<(T, &[u8])> {
-    let (before, rest) = text.split_once('.')?;
-    Some((read(before)?, rest.as_bytes()))
+// What `read` finds before the first `.`, and the offset after it.
+fn before_dot<T>(text: &str, read: impl Fn(&str) -> Option<T>) -> Option<(T, usize)> {
+    let dot = text.find('.')?;
+    Some((read(&text[..dot])?, dot + 1))
+}
+
+// Where `rest` starts in `text`, by its address: the bytes alone could be those of another part.
+fn place(text: &[u8], rest: &[u8]) -> usize {
+    let place = rest.as_ptr().addr().wrapping_sub(text.as_ptr().addr());
+    assert_eq!(place.checked_add(rest.len()), Some(text.len()), "a rest of {text:?} is {rest:?}");
+    place
 }
 
 fn check<T: Parse + FromStr + Display + PartialEq + Debug>(text: &str) {
@@ -38,23 +45,28 @@ fn check<T: Parse + FromStr + Display + PartialEq + Debug>(text: &str) {
     let parsed = |text: &str| text.parse::<T>().ok();
     let digits =
         |text: &str| parsed(text).filter(|_| text.starts_with(|c: char| c.is_ascii_digit()));
+    let placed = |found: Option<(T, &[u8])>| found.map(|(value, rest)| (value, place(bytes, rest)));
     assert_eq!(number::<T>(bytes), parsed(text), "number of {text:?}");
-    assert_eq!(number_then(bytes, b'.'), before_dot(text, parsed), "number_then of {text:?}");
-    assert_eq!(digits_then(bytes, b'.'), before_dot(text, digits), "digits_then of {text:?}");
+    let found = placed(number_then(bytes, b'.'));
+    assert_eq!(found, before_dot(text, parsed), "number_then of {text:?}");
+    let found = placed(digits_then(bytes, b'.'));
+    assert_eq!(found, before_dot(text, digits), "digits_then of {text:?}");
     assert_eq!(canonical::<T>(bytes), printed(text), "canonical of {text:?}");
-    let expected = before_dot(text, printed::<T>);
-    assert_eq!(canonical_then(bytes, b'.'), expected, "canonical_then of {text:?}");
+    let found = placed(canonical_then(bytes, b'.'));
+    assert_eq!(found, before_dot(text, printed), "canonical_then of {text:?}");
     for width in [0, 1, 2, 3, 21, usize::MAX] {
         let is_digits = |front: &&str| front.bytes().all(|byte| byte.is_ascii_digit());
         let front = text.get(..width).filter(is_digits);
-        let expected = front.and_then(parsed).map(|value| (value, &bytes[width..]));
-        assert_eq!(fixed_width(bytes, width), expected, "{width} bytes of {text:?}");
+        let expected = front.and_then(parsed).map(|value| (value, width));
+        assert_eq!(placed(fixed_width(bytes, width)), expected, "{width} bytes of {text:?}");
     }
 }
 
 #[test]
 fn formats_are_those_of_std() {
     each_text(|text| {
+        let rest = after(text.as_bytes(), b'.').map(|rest| place(text.as_bytes(), rest));
+        assert_eq!(rest, text.starts_with('.').then_some(1), "after of {text:?}");
         check::<u8>(text);
         check::<i8>(text);
         check::<u64>(text);
