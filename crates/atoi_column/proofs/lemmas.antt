@@ -8,3 +8,4 @@ pub mod Places
 pub mod Decides
 pub mod Turns
 pub mod FieldsDecide
+pub mod FieldPlaces

@@ -1,7 +1,7 @@
 -- Laws about fields and items, over the definitions only.
-use Rattle.std.specs.Prelude.{◌≡◌, ℕ, ◌+◌, ◌<◌, ◌≤◌, ◌==◌, true, List, [], ◌∷◌, ◌++◌, length, drop, map, All, ℤ, Result, Ok, Err}
+use Rattle.std.specs.Prelude.{◌≡◌, ℕ, ◌+◌, ◌<◌, ◌≤◌, ◌==◌, true, List, [], ◌∷◌, ◌++◌, length, take, drop, map, All, ℤ, Result, Ok, Err}
 use Rattle.std.specs.Bool.{⊤}
-use Rattle.std.specs.List.{AllZip, before_first, after_first, position_or_len, sum_by}
+use Rattle.std.specs.List.{AllZip, slice_split, before_first, after_first, position_or_len, sum_by}
 use Rattle.std.specs.Str.Lines.{lines}
 use Rattle.atoi_core.specs.Refusal.{Refusal}
 use Rattle.atoi_core.specs.IntType.{IntType}
@@ -120,6 +120,21 @@ DecidesText int text (Err bad) = (bad.text ≡ text) × ¬ IsText int text
 pub record FieldsDecide (int : IntType) : Type 0 where
   pub fields : (separator : ℕ) (input : List ℕ) → AllZip (DecidesText int) (fields_of separator input) (field_items int separator input)
   pub lines : (input : List ℕ) → AllZip (DecidesText int) (lines input) (line_items int input)
+
+-- The error `bad` comes after the items `before`: its index is their number. At its offset, which
+-- comes after as many pieces, the input begins with its text.
+pub record IsPlaced (separator : ℕ) (input : List ℕ) (before : List (Result ℤ BadField)) (bad : BadField) : Type 0 where
+  pub index_is : bad.index ≡ length before
+  pub place_is : bad.place ≡ place_after (take bad.index (slice_split (λ byte. byte == separator) input))
+  pub following : List ℕ
+  pub text_is : drop bad.place input ≡ bad.text ++ following
+
+-- Each error of `Fields` is placed, in fields and in lines.
+pub record ErrorsArePlaced (int : IntType) : Type 0 where
+  pub fields : (separator : ℕ) (input : List ℕ) (before after : List (Result ℤ BadField)) (bad : BadField)
+      → field_items int separator input ≡ before ++ Err bad ∷ after → IsPlaced separator input before bad
+  pub lines : (input : List ℕ) (before after : List (Result ℤ BadField)) (bad : BadField)
+      → line_items int input ≡ before ++ Err bad ∷ after → IsPlaced 10 input before bad
 
 -- The items of a column are the items of `Fields` up to the first error, which is about the same
 -- field and ends the column.

@@ -64,9 +64,9 @@ impl<'a, T: Parse> Column<'a, T> {
         ensures items { result ≡ items_of T.int_type separator input.now }
         ensures fits { length result ≤ length input.now }
         ensures places { All (λ item. IfErr item (λ flaw.
-            (place_of flaw ≤ length input.now) × (index_of flaw < length input.now))) result }
+            (place_of flaw < length input.now) × (index_of flaw < length input.now))) result }
     {
-        prefix_of_cut::<T>();
+        fields_are_prefixes::<T>();
         Column {
             rest: input,
             has_ended: false,

@@ -59,7 +59,7 @@ impl<'a, T: Parse> Fields<'a, T> {
         ensures items { result ≡ field_items T.int_type separator input.now }
         ensures fits { length result ≤ length input.now }
         ensures places { All (λ item. IfErr item (λ bad.
-            (bad.place ≤ length input.now) × (bad.index < length input.now))) result }
+            (bad.place < length input.now) × (bad.index < length input.now))) result }
     {
         Fields {
             rest: input,
@@ -78,7 +78,7 @@ impl<'a, T: Parse> Fields<'a, T> {
         ensures items { result ≡ line_items T.int_type input.now }
         ensures fits { length result ≤ length input.now }
         ensures places { All (λ item. IfErr item (λ bad.
-            (bad.place ≤ length input.now) × (bad.index < length input.now))) result }
+            (bad.place < length input.now) × (bad.index < length input.now))) result }
     {
         Fields {
             rest: input,

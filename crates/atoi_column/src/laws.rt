@@ -1,5 +1,5 @@
 //! Laws about columns and fields, for the proofs of callers; `specs/Laws.antt` says each in words.
-ghost use Rattle.atoi_column.specs.Laws.{TextsAndItems, ItemsDecide, ItemsInTurn, FirstField, FieldsDecide, ColumnStopsAtError};
+ghost use Rattle.atoi_column.specs.Laws.{TextsAndItems, ItemsDecide, ItemsInTurn, FirstField, FieldsDecide, ErrorsArePlaced, ColumnStopsAtError};
 
 use atoi_core::Number;
 use atoi_core::laws::{accepted_numbers, accepted_texts};
@@ -41,6 +41,12 @@ pub fn fields_decide<T: Number>()
     accepted_texts::<T>();
     accepted_numbers::<T>();
 }
+
+/// What the index and the place in an error of `Fields` say.
+#[tactic(auto, using(crate::proofs::lemmas::FieldPlaces::errors_are_placed))]
+pub fn errors_are_placed<T: Number>()
+    ensures { ErrorsArePlaced T.int_type }
+{}
 
 /// The items of a column are the items of `Fields` up to the first error.
 #[tactic(auto, using(crate::proofs::lemmas::FieldsDecide::column_stops_at_error))]

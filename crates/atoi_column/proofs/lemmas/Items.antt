@@ -35,22 +35,23 @@ module _ (whole : List ℕ → Result ℤ Refusal) (prefix : List ℕ → Result
   -- What holds after an accepted and a refused field holds.
   pub items_from-cases : (P : List (Result ℤ Flaw) → Type 0) (index place : ℕ) (rest text : List ℕ) (texts : List (List ℕ))
       → ((v : ℤ) → P (Ok v ∷ items_from whole prefix (index + 1) (place + length text + 1) (drop (length text + 1) rest) texts))
-      → P (Err (flaw_at index place (prefix rest)) ∷ []) → P (items_from whole prefix index place rest (text ∷ texts))
+      → ((reason : Refusal) → whole text ≡ Err reason → P (Err (flaw_at index place (prefix rest)) ∷ []))
+      → P (items_from whole prefix index place rest (text ∷ texts))
   items_from-cases P index place rest text texts accepted refused =
-      elim (whole text) as (λ r. P (elim r as (λ _. List (Result ℤ Flaw)) [
+      elim (whole text) as (λ r. whole text ≡ r → P (elim r as (λ _. List (Result ℤ Flaw)) [
         | Ok value ↦ Ok value ∷ items_from whole prefix (index + 1) (place + length text + 1) (drop (length text + 1) rest) texts
         | Err reason ↦ Err (flaw_at index place (prefix rest)) ∷ []
       ])) [
-        | Ok value ↦ accepted value
-        | Err reason ↦ refused
-      ]
+        | Ok value ↦ λ _. accepted value
+        | Err reason ↦ refused reason
+      ] refl
 
   length-items_from : (index place : ℕ) (rest : List ℕ) (texts : List (List ℕ)) → length (items_from whole prefix index place rest texts) ≤ length texts
   length-items_from index place rest [] = omega arith
   length-items_from index place rest (text ∷ texts) =
       items_from-cases (λ items. length items ≤ length (text ∷ texts)) index place rest text texts
       (λ v. omega (arith, length-items_from (index + 1) (place + length text + 1) (drop (length text + 1) rest) texts))
-      (omega arith)
+      (λ reason h. omega arith)
 
 -- If dropping `n` leaves `b` first, `b` is at index `n`.
 pub drop_first : (n : ℕ) (xs : List ℕ) (b : ℕ) (ys : List ℕ) → drop n xs ≡ b ∷ ys

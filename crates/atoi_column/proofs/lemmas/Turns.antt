@@ -28,7 +28,7 @@ module _ (whole : List ℕ → Result ℤ Refusal) (prefix : List ℕ → Result
       items_from-cases whole prefix (λ items. items ≡ map Ok numbers ++ Err flaw ∷ after → after ≡ []) index place rest text texts
       (λ value same. let others = after_value value _ numbers flaw after same in
       following_error (index + 1) (place + length text + 1) (drop (length text + 1) rest) texts others.0 others.1)
-      (after_flaw (flaw_at index place (prefix rest)) numbers flaw after) same
+      (λ reason h. after_flaw (flaw_at index place (prefix rest)) numbers flaw after) same
 
 after_error : (int : IntType) (separator : ℕ) (input : List ℕ) (numbers : List ℤ) (flaw : Flaw) (after : List (Result ℤ Flaw))
     → items_of int separator input ≡ map Ok numbers ++ Err flaw ∷ after → after ≡ []

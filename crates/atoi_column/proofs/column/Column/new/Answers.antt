@@ -7,4 +7,4 @@ returns-clause-fits g c =
     length-items_left g.T.Number.int_type c.args.separator 0 0 c.args.input.now
 
 pub returns-clause-places : goal.returns-clause-places
-returns-clause-places g c = items_left-inside g.T.Number.int_type c.prefix_of_cut.ensures c.args.separator c.args.input.now
+returns-clause-places g c = items_left-inside g.T.Number.int_type c.fields_are_prefixes.ensures c.args.separator c.requires c.args.input.now
