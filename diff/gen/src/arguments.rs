@@ -9,8 +9,8 @@ pub struct Arguments {
     pub seed: u64,
     /// How many texts are compared.
     pub texts: u64,
-    /// Which processor our library is built for.
-    pub cpu: String,
+    /// Which processor our library is built for, if one is named.
+    pub cpu: Option<String>,
     /// Whether the Cargo package is compared as a debug build, with checks for overflow.
     pub is_debug: bool,
     /// Whether lanes of the Cargo package are timed too.
@@ -60,7 +60,7 @@ impl Task {
 }
 
 /// The processor that `rt` builds for unless it is told another.
-pub const DEFAULT_CPU: &str = "x86-64-v2";
+const DEFAULT_CPU: &str = "x86-64-v2";
 
 /// How the program is called: what `--help` prints.
 pub const USAGE: &str = "\
@@ -79,7 +79,7 @@ cargo run --release -- [ARGUMENT..]
   --against COMMIT    only time the kit's build, or what --inlined-only times, beside a commit's, inlined in loops
   --only TEXT         time only what has TEXT in its line, as 'parse u64 -- 16' or 'column u64'
   --beside NAME=FILE  time or count a build of your own too: FILE is a shared object
-  --cpu CPU           build our library for a processor (x86-64-v2)
+  --cpu CPU           build our library for a processor (x86-64-v2; inlined in Rust x86-64 and x86-64-v3)
   --passes N          how often everything is timed (5, at least 3)
   --seed N            which random numbers are taken (1)
   --texts N           on how many texts answers are compared (200000)
@@ -93,7 +93,7 @@ impl Arguments {
             task: Task::Everything,
             seed: 1,
             texts: 200_000,
-            cpu: String::from(DEFAULT_CPU),
+            cpu: None,
             is_debug: false,
             has_lanes: false,
             original: env::var_os("TORKETTLE_ORIGINAL").map(PathBuf::from),
@@ -125,7 +125,7 @@ impl Arguments {
             "--only" => self.only = Some(value()?),
             "--against" => self.against = Some(value()?),
             "--beside" => self.beside.push(value()?),
-            "--cpu" => self.cpu = value()?,
+            "--cpu" => self.cpu = Some(value()?),
             "--passes" => self.passes = number(word, &value()?)? as usize,
             "--seed" => self.seed = number(word, &value()?)?,
             "--texts" => self.texts = number(word, &value()?)?,
@@ -159,6 +159,11 @@ impl Arguments {
             self.task = Task::Exports;
         }
         Ok(self)
+    }
+
+    /// The processor for which our library is built.
+    pub fn cpu(&self) -> &str {
+        self.cpu.as_deref().unwrap_or(DEFAULT_CPU)
     }
 
     /// Whether the input list or column with this line is timed.

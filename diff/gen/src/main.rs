@@ -14,6 +14,7 @@ mod builds;
 mod chart;
 mod compare;
 mod count;
+mod formats;
 mod numbers;
 mod original;
 mod question;

@@ -36,6 +36,11 @@ impl Table {
         Table { unit: format!("nanoseconds per field{how}"), lines: "columns", sides, times }
     }
 
+    /// The times on formats.
+    pub fn of_formats(how: &str, sides: Vec<Side>, times: Vec<Times>) -> Table {
+        Table { unit: format!("nanoseconds per text{how}"), lines: "formats", sides, times }
+    }
+
     /// Prints everything, if anything was timed, and returns how many sides answered otherwise than
     /// they should.
     pub fn print(&self) -> usize {

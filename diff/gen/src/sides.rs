@@ -28,7 +28,7 @@ fn of_kit(arguments: &Arguments, cache: &Cache) -> Result<Vec<Ours>, String> {
         builds::print_left_out(KIT, &fault);
         return Ok(Vec::new());
     }
-    let state = State::of_checkout(cache, &arguments.cpu)?;
+    let state = State::of_checkout(cache, arguments.cpu())?;
     let answers = Answers::open(&state.answers()?)?;
     let both = [Library::Words, Library::Lanes].into_iter();
     Ok(both.map(|library| Ours { build: KIT, library, answers }).collect())
@@ -45,7 +45,7 @@ fn of_package(arguments: &Arguments, cache: &Cache) -> Result<Vec<Ours>, String>
             return Ok(Vec::new());
         }
     };
-    let settings = Settings { cpu: &arguments.cpu, is_debug };
+    let settings = Settings { cpu: arguments.cpu(), is_debug };
     let open = |library| {
         let answers = builds::answers_of_package(cache, &package, library, settings)?;
         Ok(Ours { build, library, answers: Answers::open(&answers)? })

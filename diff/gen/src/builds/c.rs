@@ -2,6 +2,7 @@
 
 use super::cargo::release_of;
 use super::package::Package;
+use super::place::{ASSEMBLED_WITHIN_32_BYTES, WITHIN_32_BYTES, WITHIN_LINES};
 use super::stamp::Stamp;
 use super::{Build, Cache, cpp, run};
 use crate::question::Integer;
@@ -20,13 +21,13 @@ pub fn builds(cache: &Cache, package: &Package) -> Result<Vec<Build>, String> {
     let folder = cache.repository().join("c");
     let stamp = package.stamp().with_folder(&folder)?.with(&sources.cpp).with(&sources.c);
     let stamp = compilers.iter().fold(stamp, |stamp: Stamp, version| stamp.with(version));
-    let placed = cache.placed(&format!("c-{stamp}"), &sources.names, |room| {
+    let placed = cache.placed(&format!("c-{stamp}"), &sources.names, &WITHIN_LINES, |room| {
         let include = folder.join("include");
         let loops = room.join("loops.o");
-        let cpp = ["-std=c++17", "-O3", "-fPIC", "-ffunction-sections"];
+        let cpp = ["-std=c++17", "-O3", "-fPIC", "-ffunction-sections", ASSEMBLED_WITHIN_32_BYTES];
         compile("g++", &cpp, &include, &room.join("loops.cc"), &sources.cpp, &loops)?;
         let columns = room.join("columns.o");
-        let c = ["-std=c99", "-O3", "-fPIC", "-ffunction-sections"];
+        let c = ["-std=c99", "-O3", "-fPIC", "-ffunction-sections", ASSEMBLED_WITHIN_32_BYTES];
         compile("cc", &c, &include, &room.join("columns.c"), &sources.c, &columns)?;
         Ok(vec![loops, columns, library(cache, &folder)?])
     })?;
@@ -40,9 +41,9 @@ pub fn builds(cache: &Cache, package: &Package) -> Result<Vec<Build>, String> {
     ])
 }
 
-// The static library, as cargo builds it.
+// The static library, as cargo builds it, but for jumps that cross 32 bytes.
 fn library(cache: &Cache, folder: &Path) -> Result<PathBuf, String> {
-    let release = release_of(folder, &cache.folder("c"))?;
+    let release = release_of(folder, &cache.folder("c"), WITHIN_32_BYTES)?;
     let library = release.join("libtorkettle.a");
     match library.is_file() {
         true => Ok(library),

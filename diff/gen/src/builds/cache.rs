@@ -1,6 +1,6 @@
 //! The folder outside the repository in which everything is built and kept. Each checkout has one.
 
-use super::place::{PLACES, Placed, place};
+use super::place::{Place, Placed, place};
 use std::env;
 use std::fs;
 use std::path::{Path, PathBuf};
@@ -60,20 +60,21 @@ impl Cache {
         &self,
         name: &str,
         exports: &[String],
+        places: &[Place],
         compile: impl FnOnce(&Path) -> Result<Vec<PathBuf>, String>,
     ) -> Result<Placed, String> {
-        let folder = self.folder("objects").join(format!("{name}-placed-{}", PLACES.len()));
+        let folder = self.folder("objects").join(format!("{name}-placed-{}", places.len()));
         if !folder.is_dir() {
             eprintln!("building {name}");
             // Another run of this program may build something else meanwhile.
             let own = |name| self.empty_folder(&format!("{name}-{}", std::process::id()));
             let (compiled, room) = (own("compiled")?, own("placed")?);
-            place(&compile(&compiled)?, exports, &room)?;
+            place(&compile(&compiled)?, exports, places, &room)?;
             fs::create_dir_all(self.folder("objects")).map_err(|error| failed(&folder, error))?;
             fs::rename(&room, &folder).map_err(|error| failed(&folder, error))?;
             fs::remove_dir_all(&compiled).map_err(|error| failed(&compiled, error))?;
         }
-        Ok(Placed::in_folder(&folder))
+        Ok(Placed::in_folder(&folder, places))
     }
 }
 

@@ -158,10 +158,11 @@ impl Generated {
 }
 
 /// Builds a crate of the repository in release mode, and returns the folder with what cargo made.
-pub fn release_of(folder: &Path, target: &Path) -> Result<PathBuf, String> {
+/// rustc is told the flags.
+pub fn release_of(folder: &Path, target: &Path, flags: &str) -> Result<PathBuf, String> {
     let mut cargo = Command::new("cargo");
     cargo.args(["build", "--release", "--quiet"]).current_dir(folder);
-    run(cargo.env("CARGO_TARGET_DIR", target).env("RUSTFLAGS", ""))?;
+    run(cargo.env("CARGO_TARGET_DIR", target).env("RUSTFLAGS", flags))?;
     Ok(target.join("release"))
 }
 

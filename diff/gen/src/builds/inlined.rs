@@ -1,24 +1,20 @@
 //! A Rust library in which the calls of several crates are inlined into loops, as they are in a
-//! program that uses them. It is built in four layouts, each at two of the eight addresses of code and
-//! constants, since the layout and the address of a loop alone move its time by up to 18 %.
+//! program that uses them. It is built without jumps that cross 32 bytes, in two layouts and at several
+//! addresses: the layout and the address of a loop alone would move its time by up to 30 %.
 
 use super::cargo::{Dependency, Generated, Kind};
 use super::package::Package;
-use super::place::Placed;
+use super::place::{Placed, WITHIN_32_BYTES, WITHIN_LINES};
 use super::rust::{ORIGINAL, STANDARD, STANDARD_PREFIX};
 use super::source::{Calls, Column, HEAD};
 use super::{Build, Cache, original, run};
+use crate::formats::{self, Bodies, Format};
 use crate::tables::{self, Form, Shape};
 use std::path::Path;
 use std::process::Command;
 
-// What rustc is told for each layout.
-const LAYOUTS: [&str; 4] = [
-    "",
-    " -C llvm-args=-align-all-nofallthru-blocks=5",
-    " -C llvm-args=-align-all-nofallthru-blocks=6",
-    " -C llvm-args=-align-all-blocks=4",
-];
+// What rustc is told for each layout, which is taken at each `LAYOUTS.len()`th placement.
+const LAYOUTS: [&str; 2] = ["", " -C llvm-args=-align-all-nofallthru-blocks=5"];
 
 /// A program with inlined calls, and what is timed of it.
 pub struct Inlined {
@@ -27,6 +23,8 @@ pub struct Inlined {
     /// The iterator that goes on after an error, and then what is beside it. It is empty if the
     /// package has no such iterator.
     pub going_on: Vec<Build>,
+    /// What reads formats.
+    pub formats: Vec<Build>,
 }
 
 // One library in the program.
@@ -36,7 +34,15 @@ struct Part {
     prefix: &'static str,
     calls: Calls,
     lanes: Option<Calls>,
+    formats: Option<Formats>,
     use_of: Use,
+}
+
+// How a library reads formats: the bodies, and what they import.
+#[derive(Clone, Copy)]
+struct Formats {
+    import: &'static str,
+    bodies: Bodies,
 }
 
 // What is timed of a library.
@@ -44,6 +50,7 @@ struct Part {
 enum Use {
     CallsAndColumns,
     ColumnsThatGoOn,
+    FormatsAlone,
 }
 
 /// What the package is timed beside.
@@ -75,7 +82,8 @@ pub fn inlined(
     };
     let mut dependencies = vec![with_lanes(ours.dependency("ours"))];
     let lanes = has_lanes.then_some(OURS_LANES);
-    let mut parts = vec![Part { lanes, ..part("the package", "ours_", OURS) }];
+    let formats = ours.has("formats").then_some(OURS_FORMATS);
+    let mut parts = vec![Part { lanes, formats, ..part("the package", "ours_", OURS) }];
     match beside {
         Beside::Others { original } => {
             dependencies.extend(original.clone());
@@ -87,7 +95,8 @@ pub fn inlined(
         Beside::Other { package, name } => {
             dependencies.push(with_lanes(package.dependency("theirs")));
             let lanes = has_lanes.then_some(THEIRS_LANES);
-            parts.push(Part { lanes, ..part(name, "theirs_", THEIRS) });
+            let formats = package.has("formats").then_some(THEIRS_FORMATS);
+            parts.push(Part { lanes, formats, ..part(name, "theirs_", THEIRS) });
         }
     }
     program(cache, cpu, dependencies, &parts)
@@ -95,14 +104,23 @@ pub fn inlined(
 
 // The original, if it is there, and std.
 fn others(has_original: bool, cpu: &str) -> Result<Vec<Part>, String> {
-    let kind = if cpu == "x86-64" { "portable" } else { "AVX2" };
-    let original = format!("the original, {kind} build {}", original::VERSION);
+    let original = format!("the original, {} build {}", original::kind(cpu), original::VERSION);
     let original = has_original.then(|| part(&original, "original_", ORIGINAL));
     let version = run(Command::new("rustc").arg("--version"))?;
     let version = version.split_whitespace().nth(1).unwrap_or_default().to_string();
+    let std_formats = Some(Formats { import: "", bodies: formats::standard });
+    let by_hand = Some(Formats { import: "", bodies: formats::by_hand });
     let standard = [
-        part(&format!("str::parse, rustc {version}"), "std_", STANDARD),
+        Part {
+            formats: std_formats,
+            ..part(&format!("str::parse, rustc {version}"), "std_", STANDARD)
+        },
         part(&format!("str::parse on the leading digits, {version}"), "digits_", STANDARD_PREFIX),
+        Part {
+            formats: by_hand,
+            use_of: Use::FormatsAlone,
+            ..part("digit by digit", "hand_", STANDARD)
+        },
     ];
     Ok(original.into_iter().chain(standard).collect())
 }
@@ -115,7 +133,8 @@ fn going_on() -> [Part; 2] {
 }
 
 fn part(name: &str, prefix: &'static str, calls: Calls) -> Part {
-    Part { name: name.to_string(), prefix, calls, lanes: None, use_of: Use::CallsAndColumns }
+    let name = name.to_string();
+    Part { name, prefix, calls, lanes: None, formats: None, use_of: Use::CallsAndColumns }
 }
 
 // Builds the program in each layout.
@@ -139,10 +158,11 @@ fn program(
             kind: Kind::ArchiveOfUnits,
             dependencies: dependencies.clone(),
             files: vec![("lib.rs", text.clone())],
-            flags: format!("-C target-cpu={cpu}{layout}"),
+            flags: format!("-C target-cpu={cpu}{WITHIN_32_BYTES}{layout}"),
         };
         let name = format!("inlined-{}", generated.stamp()?);
-        let placed = cache.placed(&name, &names, |room| Ok(vec![generated.build(room)?]))?;
+        let placed =
+            cache.placed(&name, &names, &WITHIN_LINES, |room| Ok(vec![generated.build(room)?]))?;
         let chosen = placed.files().skip(number).step_by(LAYOUTS.len());
         files.extend(chosen.map(Path::to_path_buf));
     }
@@ -153,10 +173,12 @@ fn program(
     };
     let mut going_on: Vec<Build> = builds_of(Use::ColumnsThatGoOn);
     let builds: Vec<Build> = builds_of(Use::CallsAndColumns);
+    let with_formats = parts.iter().filter(|part| part.formats.is_some());
+    let formats = with_formats.map(|part| part.build(&placed)).collect();
     if !going_on.is_empty() {
         going_on.insert(1, Build { name: String::from("Column"), ..parts[0].build(&placed) });
     }
-    Ok(Inlined { builds, going_on })
+    Ok(Inlined { builds, going_on, formats })
 }
 
 impl Part {
@@ -180,11 +202,26 @@ impl Part {
                 loops.extend(self.lanes.and_then(|lanes| form(Form::Lanes, &lanes)));
             }
         }
-        for integer in tables::column_types()? {
-            let name = format!("{}{}", self.prefix, Shape::export(integer));
-            loops.extend(self.calls.column(&name, integer).map(|text| (name, text)));
+        if self.use_of != Use::FormatsAlone {
+            for integer in tables::column_types()? {
+                let name = format!("{}{}", self.prefix, Shape::export(integer));
+                loops.extend(self.calls.column(&name, integer).map(|text| (name, text)));
+            }
         }
+        loops.extend(self.formats.iter().flat_map(|formats| self.loops_over_formats(*formats)));
         Ok(loops)
+    }
+
+    fn loops_over_formats(&self, formats: Formats) -> impl Iterator<Item = (String, String)> {
+        let text = move |format| match (formats.bodies)(format) {
+            "" => None,
+            body => {
+                let name = format!("{}format_{}", self.prefix, format.name());
+                let text = format!("    {}\n{}", formats.import, Calls::format(&name, body));
+                Some((name, text))
+            }
+        };
+        Format::ALL.into_iter().filter_map(text)
     }
 }
 
@@ -194,6 +231,12 @@ const OURS: Calls = Calls {
     column: Column::Iterator("ours::column::Column"),
     helpers: "",
 };
+
+const OURS_FORMATS: Formats =
+    Formats { import: "use ours::{self as calls, formats};", bodies: formats::ours };
+
+const THEIRS_FORMATS: Formats =
+    Formats { import: "use theirs::{self as calls, formats};", bodies: formats::ours };
 
 const OURS_LANES: Calls = Calls {
     whole: |call| format!("ours::lanes::{}(text).ok()", call.path()),

@@ -27,11 +27,11 @@ pub use command::run;
 pub use inlined::{Beside, Inlined, inlined};
 pub use other::all as others;
 pub use package::Package;
-pub use place::PLACES;
 
+use crate::formats::Format;
 use crate::question::Integer;
 use crate::tables::{self, Form, Shape, TimedCall};
-use place::Placed;
+use place::{ANYWHERE, Placed};
 use stamp::Stamp;
 use std::path::{Path, PathBuf};
 use workspace::{Library, Sources, Workspace};
@@ -71,6 +71,11 @@ impl Build {
     /// The name under which it exports the sum of a column of this type.
     pub fn column(&self, integer: Integer) -> String {
         format!("{}{}", self.prefix, Shape::export(integer))
+    }
+
+    /// The name under which it exports the loop over texts of a format.
+    pub fn format(&self, format: Format) -> String {
+        format!("{}format_{}", self.prefix, format.name())
     }
 
     /// The same files at other paths. If the code of a commit is that of this checkout, it is
@@ -152,7 +157,7 @@ impl State<'_> {
     fn placed(&self, library: &Library, names: &[String]) -> Result<Placed, String> {
         let stamp = library.stamp(self.sources.stamp(Stamp::new()));
         let name = format!("{}-{}", library.name, stamp.with(self.cpu).with(kit()?));
-        self.cache.placed(&name, names, |_| {
+        self.cache.placed(&name, names, &ANYWHERE, |_| {
             let workspace = Workspace::new(&self.workspace, &self.sources)?;
             Ok(vec![workspace.build(library, self.cpu)?])
         })
@@ -171,13 +176,13 @@ pub fn kit() -> Result<String, String> {
 }
 
 /// A build that somebody else made, from an argument NAME=FILE. FILE is a shared object, or what
-/// comes before `.0.so`, `.4.so` and so on in the names of one for each placement.
+/// comes before `.0.so`, `.1.so` and so on in the names of one for each placement.
 pub fn prebuilt(argument: &str) -> Result<Build, String> {
     let Some((name, file)) = argument.split_once('=') else {
         return Err(format!("--beside {argument} has no =: it wants NAME=FILE.so"));
     };
     let files: Vec<PathBuf> =
-        PLACES.iter().map(|place| PathBuf::from(format!("{file}.{place}.so"))).collect();
+        (0..ANYWHERE.len()).map(|place| PathBuf::from(format!("{file}.{place}.so"))).collect();
     let placed = if files.iter().all(|file| file.is_file()) {
         Placed::new(files)
     } else if Path::new(file).is_file() {

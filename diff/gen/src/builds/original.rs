@@ -11,6 +11,16 @@ pub const VERSION: &str = "0.18.1";
 
 const PACKAGE: &str = "atoi_simd";
 
+/// What the crate calls the code that it has for a processor.
+pub fn kind(cpu: &str) -> &str {
+    match cpu {
+        "x86-64" => "portable",
+        "x86-64-v2" => "SSE4.1",
+        "x86-64-v3" => "AVX2",
+        _ => cpu,
+    }
+}
+
 /// The crate. A folder is that of the crate, or holds it in `atoi_simd`, beside what it uses.
 pub fn dependency(folder: Option<&Path>) -> Result<Dependency, String> {
     let Some(folder) = folder else {

@@ -2,6 +2,7 @@
 //! this machine is left out, with one line that says why.
 
 use super::cache::write;
+use super::place::ANYWHERE;
 use super::stamp::Stamp;
 use super::workspace::{Sources, Workspace};
 use super::{Build, Cache, cpp, exports, kit, print_left_out, run, rust};
@@ -29,7 +30,7 @@ fn from_chars(cache: &Cache) -> Result<Build, String> {
     let version = run(Command::new("g++").arg("-dumpfullversion"))?;
     let (text, names) = cpp::from_chars(&tables::calls()?, &tables::column_types()?);
     let name = format!("from_chars-{}", Stamp::new().with(&text).with(&version));
-    let placed = cache.placed(&name, &names, |room| {
+    let placed = cache.placed(&name, &names, &ANYWHERE, |room| {
         let (source, object) = (room.join("from_chars.cc"), room.join("from_chars.o"));
         write(&source, &text)?;
         let mut compiler = Command::new("g++");
@@ -44,7 +45,7 @@ fn from_chars(cache: &Cache) -> Result<Build, String> {
 fn fast_float(cache: &Cache) -> Result<Build, String> {
     let (library, names) = exports::fast_float(&tables::calls()?);
     let name = format!("fast_float-{}", library.stamp(Stamp::new()).with(kit()?));
-    let placed = cache.placed(&name, &names, |_| {
+    let placed = cache.placed(&name, &names, &ANYWHERE, |_| {
         let (folder, sources) = (cache.folder("kit"), Sources::default());
         Ok(vec![Workspace::new(&folder, &sources)?.build(&library, "x86-64-v2")?])
     })?;

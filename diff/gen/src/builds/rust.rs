@@ -1,6 +1,7 @@
 //! The other libraries in Rust, whose calls are timed through exports: std, and crates.
 
 use super::cargo::{Dependency, Generated, Kind, locked_version};
+use super::place::ANYWHERE;
 use super::source::{self, Calls, Column};
 use super::{Build, Cache, original, run};
 use crate::tables::{self, Form, Function, Shape, TimedCall};
@@ -160,8 +161,9 @@ impl RustLibrary {
         };
         let stamp = generated.stamp()?;
         let folder = cache.folder("rust").join(stamp.to_string());
-        let placed = cache
-            .placed(&format!("rust-{stamp}"), &names, |_| Ok(vec![generated.build(&folder)?]))?;
+        let name = format!("rust-{stamp}");
+        let placed =
+            cache.placed(&name, &names, &ANYWHERE, |_| Ok(vec![generated.build(&folder)?]))?;
         let name = match package {
             Some(package) => format!("{} {}", self.name, locked_version(&folder, package)?),
             None => {

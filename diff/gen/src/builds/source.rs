@@ -70,6 +70,14 @@ impl Calls {
         Some(export(name, call.integer, &body))
     }
 
+    /// An export that reads each row of texts of a format, by the body of a function.
+    pub fn format(name: &str, body: &str) -> String {
+        let read = format!("{FORMAT}{}", ROWS.replace("PARSE", "read(text)"))
+            .replace("BODY", body)
+            .replace("FOUND", "Some(value) => value,");
+        export(name, Integer::U64, &read)
+    }
+
     /// An export that adds up a column. None if the library has no call for it.
     pub fn column(&self, name: &str, integer: Integer) -> Option<String> {
         let call = |function| TimedCall { function, integer, skip_zeroes: true, skip_plus: true };
@@ -123,6 +131,12 @@ const ROWS: &str = "
         });
     }
     sum";
+
+const FORMAT: &str = "
+    #[inline(always)]
+    fn read(text: &[u8]) -> Option<u64> {
+        BODY
+    }";
 
 const SPLIT: &str = "
     let mut sum = 0_u64;

@@ -1,7 +1,7 @@
 //! Times or counts the exports of the kit's build beside those of other libraries, or of a commit.
 
 use super::{timed_columns, timed_lists};
-use crate::arguments::{Arguments, DEFAULT_CPU, Task};
+use crate::arguments::{Arguments, Task};
 use crate::builds::{self, Build, Cache, State};
 use crate::chart::{self, Row};
 use crate::count;
@@ -22,9 +22,9 @@ pub fn run(arguments: &Arguments, cache: &Cache) -> Result<u64, String> {
         }
         Err(fault) => return Err(fault),
     };
-    let state = State::of_checkout(cache, &arguments.cpu)?;
+    let state = State::of_checkout(cache, arguments.cpu())?;
     let builds = builds_of(arguments, cache, &state)?;
-    println!("{kit}; ours is built for {}", arguments.cpu);
+    println!("{kit}; ours is built for {}", arguments.cpu());
     match arguments.task {
         Task::Count => count(cache, &builds),
         _ => time(arguments, cache, &builds),
@@ -46,7 +46,7 @@ fn builds_of(arguments: &Arguments, cache: &Cache, state: &State) -> Result<Vec<
         builds.push(state.two_loops(Integer::U32)?);
     }
     if let Some(commit) = &arguments.against {
-        let (state, name) = State::of_commit(cache, commit, &arguments.cpu)?;
+        let (state, name) = State::of_commit(cache, commit, arguments.cpu())?;
         let copies = cache.empty_folder("copies")?;
         builds.push(timed(&state, &name)?.copied(&copies)?);
     } else {
@@ -85,7 +85,7 @@ fn time(arguments: &Arguments, cache: &Cache, builds: &[Build]) -> Result<u64, S
 // Draws the picture, if std was timed. The picture in docs is of the default processor.
 fn draw(arguments: &Arguments, cache: &Cache, rows: &[Row]) -> Result<(), String> {
     let in_docs = || cache.repository().join("docs/input_lists.svg");
-    let default = (arguments.cpu == DEFAULT_CPU).then(in_docs);
+    let default = arguments.cpu.is_none().then(in_docs);
     let Some(file) = arguments.chart.clone().or(default).filter(|_| !rows.is_empty()) else {
         return Ok(());
     };

@@ -7,7 +7,7 @@ use crate::random::Random;
 use crate::report::Table;
 use crate::timing;
 
-// The processors that the calls are built for. The original uses vectors at the second.
+// The processors that the calls are built for if none is named. The original uses AVX2 at the second.
 const PROCESSORS: [&str; 2] = ["x86-64", "x86-64-v3"];
 
 /// Times them for each processor, and returns how many answers differed. They are timed beside
@@ -22,7 +22,8 @@ pub fn run(arguments: &Arguments, cache: &Cache) -> Result<u64, String> {
         }
     };
     let mut wrong = 0;
-    for cpu in PROCESSORS {
+    let processors = arguments.cpu.as_deref().map_or(PROCESSORS.to_vec(), |cpu| vec![cpu]);
+    for cpu in processors {
         let built = builds::inlined(cache, &ours, &beside, cpu, arguments.has_lanes)?;
         wrong += time(arguments, &built, cpu)?;
     }
@@ -48,5 +49,8 @@ fn time(arguments: &Arguments, built: &Inlined, cpu: &str) -> Result<usize, Stri
         let how = format!("{how}, one field in ten is no number");
         columns(&[fields, rest].concat(), true, &how)?;
     }
+    let (sides, tasks) =
+        timing::formats(&built.formats, &super::timed_formats(arguments), &mut random)?;
+    wrong += Table::of_formats(&how, sides, timing::time(&tasks, effort)).print();
     Ok(wrong)
 }

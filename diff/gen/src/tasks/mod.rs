@@ -7,6 +7,7 @@ mod inlined;
 
 use crate::arguments::{Arguments, Task};
 use crate::builds::Cache;
+use crate::formats::Format;
 use crate::tables::{self, InputList, Shape};
 use crate::timing::Processor;
 
@@ -38,10 +39,11 @@ pub fn run(arguments: &Arguments) -> Result<u64, String> {
 fn check_only(arguments: &Arguments) -> Result<(), String> {
     let c_lists = tables::c_lists()?;
     let has_c_list = c_lists.iter().any(|list| arguments.has(&list.to_string()));
-    if has_c_list || !timed_lists(arguments)?.is_empty() || !timed_columns(arguments)?.is_empty() {
+    let has_list = has_c_list || !timed_lists(arguments)?.is_empty();
+    if has_list || !timed_columns(arguments)?.is_empty() || !timed_formats(arguments).is_empty() {
         return Ok(());
     }
-    Err(String::from("no input list and no column has what --only says"))
+    Err(String::from("no input list, no column and no format has what --only says"))
 }
 
 // The input lists that are timed.
@@ -56,4 +58,10 @@ fn timed_columns(arguments: &Arguments) -> Result<Vec<Shape>, String> {
     let mut shapes = tables::shapes()?;
     shapes.retain(|shape| arguments.has(&format!("column {shape}")));
     Ok(shapes)
+}
+
+// The formats that are timed.
+fn timed_formats(arguments: &Arguments) -> Vec<Format> {
+    let is_timed = |format: &Format| arguments.has(&format!("format {}", format.name()));
+    Format::ALL.into_iter().filter(is_timed).collect()
 }

@@ -2,7 +2,7 @@
 
 use super::lists::low_bits;
 use super::object::Object;
-use super::{PLACES, Run, Side, Task};
+use super::{Run, Side, Task};
 use crate::builds::Build;
 use crate::numbers::push_number;
 use crate::random::Random;
@@ -84,12 +84,12 @@ pub fn columns(
 }
 
 // What one side does at each placement.
-fn runs(column: &Rc<Column>, objects: &[Object], export: &str) -> Option<[Run; PLACES]> {
+fn runs(column: &Rc<Column>, objects: &[Object], export: &str) -> Option<Vec<Run>> {
     let run = |object: &Object| {
         let (column, call) = (Rc::clone(column), object.call(export)?);
         // SAFETY: an export reads as many bytes of the text as the length says.
         let run: Run = Box::new(move || unsafe { call(column.text.as_ptr(), column.text.len()) });
         Some(run)
     };
-    objects.iter().map(run).collect::<Option<Vec<Run>>>()?.try_into().ok()
+    objects.iter().map(run).collect()
 }

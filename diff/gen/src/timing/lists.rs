@@ -1,8 +1,9 @@
 //! The input lists: random numbers, mostly of varied lengths, as users have them.
 
 use super::object::{Call, Object};
-use super::{ERROR, PLACES, Run, Side, Task};
+use super::{ERROR, Run, Side, Task};
 use crate::builds::Build;
+use crate::formats::Format;
 use crate::numbers::{Written, push_number};
 use crate::question::Integer;
 use crate::random::Random;
@@ -43,11 +44,26 @@ impl Rows {
             if !list.call.is_whole() {
                 text.extend_from_slice(b",0123456789012345");
             }
-            let length = text.len();
-            text.resize(ROOM, 0);
-            rows.rows.push(Row { bytes: text.try_into().expect("a text has room"), length });
+            rows.push(text);
         }
         rows
+    }
+
+    /// Texts of a format.
+    pub fn of_format(format: Format, count: usize, random: &mut Random) -> Rows {
+        let mut rows = Rows { rows: Vec::with_capacity(count), expected: 0 };
+        for _ in 0..count {
+            let (text, answer) = format.text(random);
+            rows.expected = rows.expected.wrapping_add(answer);
+            rows.push(text.into_bytes());
+        }
+        rows
+    }
+
+    fn push(&mut self, mut text: Vec<u8>) {
+        let length = text.len();
+        text.resize(ROOM, 0);
+        self.rows.push(Row { bytes: text.try_into().expect("a text has room"), length });
     }
 
     /// Calls an export with each text, and returns the sum of the answers.
@@ -121,8 +137,8 @@ pub fn lists(
     Ok((sides, tasks))
 }
 
-// How many numbers an input list has.
-const ROWS: usize = 4096;
+/// How many numbers an input list has.
+pub const ROWS: usize = 4096;
 
 // What one side does at each placement.
 fn runs(
@@ -130,11 +146,11 @@ fn runs(
     way: fn(&Rows, Call) -> u64,
     objects: &[Object],
     export: &str,
-) -> Option<[Run; PLACES]> {
+) -> Option<Vec<Run>> {
     let run = |object: &Object| {
         let (rows, call) = (Rc::clone(rows), object.call(export)?);
         let run: Run = Box::new(move || way(&rows, call));
         Some(run)
     };
-    objects.iter().map(run).collect::<Option<Vec<Run>>>()?.try_into().ok()
+    objects.iter().map(run).collect()
 }

@@ -2,12 +2,14 @@
 //! placement of its code. A figure is the mean over the placements of the best round.
 
 mod columns;
+mod formats;
 mod lists;
 mod object;
 mod processor;
 mod ratios;
 
 pub use columns::columns;
+pub use formats::formats;
 pub use lists::{Rows, lists};
 pub use object::Object;
 use processor::pin;
@@ -15,15 +17,11 @@ use processor::pin;
 pub use processor::Processor;
 pub use ratios::{Comparison, Ratios};
 
-use crate::builds;
 use crate::tables::Form;
 use std::time::Instant;
 
 /// What an export returns for an error.
 pub const ERROR: u64 = 0x8000_0000_0000_0001;
-
-/// How many placements each side has.
-pub const PLACES: usize = builds::PLACES.len();
 
 /// How often everything is timed, and how many rounds each time has.
 #[derive(Clone, Copy)]
@@ -50,7 +48,7 @@ pub struct Side {
     pub name: String,
 }
 
-/// What the sides do on one input list or column.
+/// What the sides do on one input list, column or format.
 pub struct Task {
     pub name: String,
     // Whether all numbers have the same number of digits.
@@ -60,7 +58,7 @@ pub struct Task {
     // The sum of the answers that every side has to give.
     expected: u64,
     // What each side does at each placement. A side may have no such call.
-    sides: Vec<Option<[Run; PLACES]>>,
+    sides: Vec<Option<Vec<Run>>>,
 }
 
 type Run = Box<dyn Fn() -> u64>;
@@ -71,7 +69,7 @@ pub struct Times {
     /// Whether all numbers have the same number of digits.
     pub is_one_width: bool,
     // For each pass and side, the best round at each placement.
-    passes: Vec<Vec<Option<[f64; PLACES]>>>,
+    passes: Vec<Vec<Option<Vec<f64>>>>,
     // For each side, whether one of its sums was not the expected one.
     is_wrong: Vec<bool>,
 }
@@ -79,17 +77,18 @@ pub struct Times {
 impl Times {
     /// The time of a side in nanoseconds, over all passes.
     pub fn of(&self, side: usize) -> Option<f64> {
-        let mut best = [f64::INFINITY; PLACES];
-        for pass in &self.passes {
-            let times = pass[side]?;
-            best.iter_mut().zip(times).for_each(|(best, time)| *best = best.min(time));
+        let mut passes = self.passes.iter();
+        let mut best = passes.next()?[side].clone()?;
+        for pass in passes {
+            let times = pass[side].as_ref()?;
+            best.iter_mut().zip(times).for_each(|(best, time)| *best = best.min(*time));
         }
-        Some(mean(best))
+        Some(mean(&best))
     }
 
     /// The time of a side in nanoseconds, in one pass.
     pub fn in_pass(&self, side: usize, pass: usize) -> Option<f64> {
-        self.passes[pass][side].map(mean)
+        self.passes[pass][side].as_deref().map(mean)
     }
 
     /// The sides that answered otherwise than they should.
@@ -105,24 +104,25 @@ impl Times {
 
     // Runs one pass of one task.
     fn pass(&mut self, task: &Task, rounds: usize) {
-        let times = |side: &Option<_>| side.as_ref().map(|_| [f64::INFINITY; PLACES]);
-        let mut best: Vec<Option<[f64; PLACES]>> = task.sides.iter().map(times).collect();
+        let places = task.sides.iter().flatten().map(Vec::len).max().unwrap_or_default();
+        let times = |side: &Option<_>| side.as_ref().map(|_| vec![f64::INFINITY; places]);
+        let mut best: Vec<Option<Vec<f64>>> = task.sides.iter().map(times).collect();
         for _ in 0..rounds {
-            for place in 0..PLACES {
+            for place in 0..places {
                 self.round(task, place, &mut best);
             }
         }
         self.passes.push(best);
     }
 
-    // Runs each side once at one placement.
-    fn round(&mut self, task: &Task, place: usize, best: &mut [Option<[f64; PLACES]>]) {
+    // Runs each side once at one placement. A side with fewer placements repeats them.
+    fn round(&mut self, task: &Task, place: usize, best: &mut [Option<Vec<f64>>]) {
         for (number, side) in task.sides.iter().enumerate() {
             let (Some(runs), Some(best)) = (side, &mut best[number]) else {
                 continue;
             };
             let from = Instant::now();
-            let sum = runs[place]();
+            let sum = runs[place % runs.len()]();
             let time = from.elapsed().as_nanos() as f64 / task.items as f64;
             best[place] = best[place].min(time);
             self.is_wrong[number] |= sum != task.expected;
@@ -140,6 +140,6 @@ pub fn time(tasks: &[Task], effort: Effort) -> Vec<Times> {
     times
 }
 
-fn mean(times: [f64; PLACES]) -> f64 {
-    times.iter().sum::<f64>() / PLACES as f64
+fn mean(times: &[f64]) -> f64 {
+    times.iter().sum::<f64>() / times.len() as f64
 }
