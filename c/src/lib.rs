@@ -9,6 +9,7 @@
 
 #[cfg(test)]
 mod header;
+mod stop;
 
 use core::ffi::{CStr, c_char, c_uint};
 use core::slice::{from_raw_parts, from_raw_parts_mut};
@@ -353,19 +354,3 @@ const VERSION: &CStr =
         Ok(version) => version,
         Err(_) => panic!(),
     };
-
-// Nothing panics, since the parsers are proved not to, but the compiler does not know it everywhere.
-#[cfg(not(test))]
-#[panic_handler]
-fn stop(_: &core::panic::PanicInfo<'_>) -> ! {
-    #[cfg(target_arch = "x86_64")]
-    unsafe {
-        core::arch::asm!("ud2", options(noreturn, nomem, nostack))
-    }
-    #[cfg(target_arch = "aarch64")]
-    unsafe {
-        core::arch::asm!("brk #1", options(noreturn, nomem, nostack))
-    }
-    #[cfg(not(any(target_arch = "x86_64", target_arch = "aarch64")))]
-    loop {}
-}
