@@ -24,6 +24,15 @@
 #include <stddef.h>
 #include <stdint.h>
 
+/* gcc and clang have all that this header needs in -std=gnu89, too. MSVC does not say which C++ it compiles. */
+#if !defined __cplusplus && defined __STRICT_ANSI__ && (!defined __STDC_VERSION__ || __STDC_VERSION__ < 199901L)
+#error "torkettle.h needs C99 or later"
+#elif defined __cplusplus && __cplusplus < 201103L && !defined _MSC_VER
+#error "torkettle.h needs C++11 or later"
+#elif SIZE_MAX < UINT64_MAX
+#error "torkettle.h needs a 64-bit target"
+#else
+
 #ifdef __cplusplus
 #define TORKETTLE_NOEXCEPT noexcept
 extern "C" {
@@ -140,12 +149,13 @@ typedef struct torkettle_error {
  * torkettle_prefix_ and torkettle_next_, one for each choice of flags. They return a number and its length in two
  * registers, the length 0 if there is none. Where `flags` is a constant, the compiler leaves one call.
  */
-#define TORKETTLE_PICK_(kind, name)                                                                                    \
+/* `suffix` is `_i64` and so on. The program may have `i64` itself as a macro, which the call would expand. */
+#define TORKETTLE_PICK_(kind, suffix)                                                                                  \
     (flags & TORKETTLE_SKIP_ZEROES                                                                                     \
-         ? (flags & TORKETTLE_SKIP_PLUS ? torkettle_##kind##_zeroes_plus_##name(text, length)                          \
-                                        : torkettle_##kind##_zeroes_##name(text, length))                              \
-         : (flags & TORKETTLE_SKIP_PLUS ? torkettle_##kind##_plus_##name(text, length)                                 \
-                                        : torkettle_##kind##_##name(text, length)))
+         ? (flags & TORKETTLE_SKIP_PLUS ? torkettle_##kind##_zeroes_plus##suffix(text, length)                         \
+                                        : torkettle_##kind##_zeroes##suffix(text, length))                             \
+         : (flags & TORKETTLE_SKIP_PLUS ? torkettle_##kind##_plus##suffix(text, length)                                \
+                                        : torkettle_##kind##suffix(text, length)))
 
 #define TORKETTLE_FUNCTIONS_(name, type)                                                                               \
     typedef struct torkettle_found_##name {                                                                            \
@@ -179,7 +189,7 @@ typedef struct torkettle_error {
     static inline torkettle_status torkettle_parse_##name(const char *text, size_t length, unsigned flags,             \
                                                           type *value) TORKETTLE_NOEXCEPT                              \
     {                                                                                                                  \
-        torkettle_found_##name found = TORKETTLE_PICK_(whole, name);                                                   \
+        torkettle_found_##name found = TORKETTLE_PICK_(whole, _##name);                                                \
         if (found.length == 0)                                                                                         \
             return torkettle_parse_error_##name(text, length, flags).status;                                           \
         *value = found.value;                                                                                          \
@@ -189,7 +199,7 @@ typedef struct torkettle_error {
     static inline torkettle_status torkettle_parse_prefix_##name(const char *text, size_t length, unsigned flags,      \
                                                                  type *value, size_t *count) TORKETTLE_NOEXCEPT        \
     {                                                                                                                  \
-        torkettle_found_##name found = TORKETTLE_PICK_(prefix, name);                                                  \
+        torkettle_found_##name found = TORKETTLE_PICK_(prefix, _##name);                                               \
         if (found.length == 0)                                                                                         \
             return torkettle_parse_prefix_error_##name(text, length, flags).status;                                    \
         *value = found.value;                                                                                          \
@@ -246,4 +256,5 @@ const char *torkettle_version(void) TORKETTLE_NOEXCEPT;
 }
 #endif
 
+#endif
 #endif
