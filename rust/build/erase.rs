@@ -1,136 +1,112 @@
 //! The eraser. It makes Rust of a Rattle source by leaving out what only proofs read: ghost items,
-//! contracts, hints to the prover and `impl Model`. What is left keeps its line.
+//! contracts, hints to the prover and `impl Model`.
 //!
-//! It refuses what it does not know, so that nothing gets into the package that means something else
-//! in Rust than in Rattle.
+//! Every other token of a source is in the Rust, in its order and on its line: only heads of paths and
+//! the signature of `fmt` are replaced, and hints to inline and tests of conditions are put in. A form
+//! that is not known here, or a name that is not in `names.rs`, stops the build. Where users can call a
+//! function, each of its conditions is tested first in its body, or stops the build, except for
+//! `UNTESTED`. No types are known here, so that reviewers must see which of several methods is called.
 
-use crate::tokens::{Kind, Scanner, Token};
+use super::names;
+use super::tokens::{Kind, Scanner, Token};
 
 /// The crates whose sources refer to one another by these names.
 pub const CRATES: [&str; 5] =
     ["atoi_core", "atoi_lanes", "atoi_simd", "atoi_column", "atoi_formats"];
 
-/// The conditions of public functions that callers must meet, as contracts state them, and what
-/// tests them in Rust, where no checker does. A crate whose functions users call has no others.
+// The conditions that callers must meet, with the path of each definition that they name, and what
+// tests them in Rust.
 const CONDITIONS: [(&str, &str); 2] = [
     (
-        "is_separator separator ≡ true",
+        "Rattle.atoi_column.specs.Fields.is_separator separator \
+            Rattle.std.specs.Prelude.≡ Rattle.std.specs.Prelude.true",
         "assert!(crate::column::is_separator(separator), \"a sign or a digit separates fields\");",
     ),
     (
-        "IsFalse (is_digit decimal_table byte)",
+        "Rattle.std.specs.Prelude.IsFalse ( Rattle.atoi_core.specs.Digit.is_digit \
+            Rattle.atoi_core.specs.Digit.decimal_table byte )",
         "assert!(!byte.is_ascii_digit(), \"a digit is to follow the number\");",
     ),
 ];
 
-/// The crates whose public functions users can call.
+// The methods whose conditions nothing tests. A page tells users about the first two. No item that
+// users can name mentions `Engine`.
+const UNTESTED: &str = "atoi_core::Number::from_pos atoi_core::Signed::from_neg \
+    atoi_core::Engine::prefix_64 atoi_core::Engine::prefix_128";
+
+// The crates all of whose public functions count as exported.
 const CALLED: [&str; 3] = ["atoi_simd", "atoi_column", "atoi_formats"];
 
-/// Words that do not exist in Rust, that mean something else there, or that the package forbids.
-const REFUSED: [&str; 12] = [
-    "prove",
-    "final",
-    "unsafe",
-    "macro_rules",
-    "Drop",
-    "rt",
-    "clone",
-    "size_of",
-    "size_of_val",
-    "align_of",
-    "extern",
-    "HostRuntime",
-];
+/// The line of what is refused, and why it is.
+pub type Refusal = (usize, String);
 
-/// The derives that mean in Rust what they mean in Rattle.
-const DERIVES: [&str; 7] = ["Debug", "Clone", "Copy", "PartialEq", "Eq", "PartialOrd", "Ord"];
-
-/// Why a source is refused, and the line.
-#[derive(Debug, PartialEq, Eq)]
-pub struct Refusal {
-    pub line: usize,
-    pub reason: String,
+/// Makes a refusal of what is at an offset in `text`.
+pub fn refusal(text: &str, offset: usize, reason: String) -> Refusal {
+    (1 + text[..offset].matches('\n').count(), reason)
 }
 
-/// Makes Rust of the source of a module of the crate `name`.
-pub fn erase(name: &str, source: &str) -> Result<String, Refusal> {
-    let mut eraser = Eraser::new(name, source);
+/// Makes Rust of the source of a module of the crate `name`. Users may call what is in `exported`.
+pub fn erase(name: &str, source: &str, exported: &[&str]) -> Result<String, Refusal> {
+    let scanner = Scanner { source, at: 0 };
+    let mut eraser = Eraser { name, exported, source, scanner, ..Eraser::default() };
     match eraser.run() {
         Ok(()) => Ok(eraser.out),
-        Err(reason) => {
-            let at = eraser.scanner.at.min(source.len());
-            let line = 1 + source[..at].matches('\n').count();
-            Err(Refusal { line, reason })
-        }
+        Err(reason) => Err(refusal(source, eraser.scanner.at, reason)),
     }
 }
 
-// A function whose body or `;` has not come yet.
-struct Signature {
-    // Where the function starts in the output.
-    start: usize,
+#[derive(Clone, Copy, Default)]
+struct Item {
+    // Where it starts in the output, if one of its tokens was kept.
+    start: Option<usize>,
     is_public: bool,
+    // Whether an attribute says whether to inline it.
     is_hinted: bool,
-    is_formatter: bool,
+}
+
+// A function whose body or `;` has not come yet.
+struct Signature<'a> {
+    name: &'a str,
+    item: Item,
     // What tests its conditions.
     tests: String,
     // How many `(` and `[` are open.
     depth: usize,
 }
 
+#[derive(Default)]
 struct Eraser<'a> {
     name: &'a str,
+    exported: &'a [&'a str],
     source: &'a str,
     scanner: Scanner<'a>,
+    // What `ghost use` lines import: the modules and the names in them.
+    imports: Vec<(&'a str, &'a str)>,
     out: String,
     // Up to where the source is in the output or left out.
     done: usize,
-    // Where the current item starts in the output, if one of its tokens was kept.
-    item: Option<usize>,
-    is_public: bool,
-    // Whether the current item has an attribute that says whether to inline it.
-    is_hinted: bool,
+    item: Item,
     // Whether the last token was documentation or an attribute.
     is_documented: bool,
-    signature: Option<Signature>,
-    // How many braces are open, and how many were when a `trait` began.
+    signature: Option<Signature<'a>>,
+    // How many braces are open.
     depth: usize,
-    trait_depth: Option<usize>,
+    // The name of the trait that is read, or `impl`, and how many braces were open before it.
+    owner: Option<(&'a str, usize)>,
     last: &'a str,
 }
 
 impl<'a> Eraser<'a> {
-    fn new(name: &'a str, source: &'a str) -> Eraser<'a> {
-        Eraser {
-            name,
-            source,
-            scanner: Scanner::new(source),
-            out: String::new(),
-            done: 0,
-            item: None,
-            is_public: false,
-            is_hinted: false,
-            is_documented: false,
-            signature: None,
-            depth: 0,
-            trait_depth: None,
-            last: "",
-        }
-    }
-
     fn run(&mut self) -> Result<(), String> {
         while let Some(token) = self.scanner.token()? {
-            let is_documentation = token.kind == Kind::Documentation || token.text == "#";
             match token.kind {
                 Kind::Word => self.word(token)?,
                 Kind::Symbol if token.text == "#" => self.attribute(token)?,
-                Kind::Symbol => self.symbol(token)?,
-                Kind::Comment | Kind::Documentation => self.keep_as(token, token.text),
-                Kind::Literal | Kind::Lifetime => self.keep(token),
+                Kind::Symbol => self.symbol(token),
+                _ => self.keep(token),
             }
-            if token.kind != Kind::Comment {
-                self.is_documented = is_documentation;
-            }
+            let is_documentation = token.text.starts_with("///") || token.text == "#";
+            self.is_documented = is_documentation || self.is_documented && is_comment(token);
             self.last = token.text;
         }
         self.copy_to(self.source.len());
@@ -139,244 +115,244 @@ impl<'a> Eraser<'a> {
 
     fn word(&mut self, token: Token<'a>) -> Result<(), String> {
         match token.text {
-            "ghost" => self.ghost(token),
-            "requires" | "ensures" => self.contract(token),
-            "impl" if self.is_model()? => {
-                while self.scanner.peek()?.is_some_and(|next| next.text != "{") {
-                    self.scanner.token()?;
-                }
-                self.scanner.clause()?;
-                self.leave_out(token);
-                Ok(())
+            "ghost" => self.ghost(token)?,
+            "requires" | "ensures" => self.contract(token)?,
+            "impl" if self.is_model()? => self.model(token)?,
+            "impl" | "trait" if self.signature.is_none() => self.owner(token)?,
+            "Model" => self.leave_out_of_import(token)?,
+            "fn" => self.function(token)?,
+            "Formatter" => {
+                self.keep_as(token, "Formatter<'_>");
+                self.leave_out_text("<W>").then_some(()).ok_or("`Formatter` without `<W>`")?;
             }
-            "Model" => self.leave_out_of_list(token),
-            "fn" => self.function(token),
-            "Formatter" => self.formatter(token),
-            "crate" | "std" => self.path(token),
+            "crate" | "std" => self.path(token)?,
+            "pub" => {
+                self.keep(token);
+                self.item.is_public = self.scanner.peek().text != "(";
+            }
             name if CRATES.contains(&name) && self.last != "::" && self.last != "." => {
                 self.keep_as(token, &format!("crate::proved::{name}"));
-                Ok(())
             }
-            name if REFUSED.contains(&name) => {
-                Err(format!("`{name}` is not known here, or means something else in Rust"))
-            }
-            _ => {
-                self.note_item(token.text);
-                self.keep(token);
-                Ok(())
-            }
+            _ => self.keep(token),
         }
+        Ok(())
     }
 
-    // Notes what a keyword says about the item that it is in.
-    fn note_item(&mut self, word: &str) {
-        let next = self.scanner.peek();
-        let is_restricted = matches!(next, Ok(Some(next)) if next.text == "(");
-        match word {
-            "pub" => self.is_public = !is_restricted,
-            "trait" => self.trait_depth = Some(self.depth),
-            _ => {}
-        }
-    }
-
-    fn symbol(&mut self, token: Token<'a>) -> Result<(), String> {
+    fn symbol(&mut self, token: Token<'a>) {
+        self.keep(token);
         if let Some(signature) = &mut self.signature {
             match token.text {
                 "(" | "[" => signature.depth += 1,
                 ")" | "]" => signature.depth -= 1,
-                "{" if signature.depth == 0 => return self.body(token),
-                ";" if signature.depth == 0 => self.signature = None,
+                "{" | ";" if signature.depth == 0 => self.end_signature(token),
                 _ => {}
             }
         }
-        self.keep(token);
-        match token.text {
-            "{" => self.depth += 1,
-            "}" => {
-                self.depth = self.depth.checked_sub(1).ok_or("a `}` that closes nothing")?;
-                self.trait_depth = self.trait_depth.filter(|&depth| depth < self.depth);
-            }
-            _ => {}
+        self.depth += usize::from(token.text == "{");
+        if token.text == "}" {
+            self.depth = self.depth.saturating_sub(1);
+            self.owner = self.owner.filter(|&(_, depth)| depth < self.depth);
         }
         if matches!(token.text, "{" | "}" | ";") {
-            self.end_item();
+            self.item = Item::default();
         }
-        Ok(())
     }
 
-    fn end_item(&mut self) {
-        (self.item, self.is_public, self.is_hinted) = (None, false, false);
-    }
-
-    // Keeps the `{` of a function's body, with what tests the function's conditions behind it. rustc
-    // compiles crates apart, and inlines only what has a hint across them.
-    fn body(&mut self, token: Token<'a>) -> Result<(), String> {
-        if let Some(signature) = self.signature.take() {
-            self.keep_as(token, &format!("{{{}", signature.tests));
-            if !signature.is_hinted {
-                self.out.insert_str(signature.start, "#[inline] ");
+    // Puts what tests a function's conditions behind the `{` of its body, and a hint to inline before
+    // the function: rustc compiles crates apart, and inlines only what has a hint across them.
+    fn end_signature(&mut self, token: Token<'a>) {
+        if let Some(signature) = self.signature.take().filter(|_| token.text == "{") {
+            self.out.push_str(&signature.tests);
+            if !signature.item.is_hinted {
+                self.out.insert_str(signature.item.start.unwrap_or(0), "#[inline] ");
             }
         }
-        self.depth += 1;
-        self.end_item();
-        Ok(())
     }
 
     // Keeps a known attribute, without what only the prover reads in it.
     fn attribute(&mut self, token: Token<'a>) -> Result<(), String> {
-        let (mut words, mut depth) = (Vec::new(), 0);
-        while let Some(next) = self.scanner.token()? {
-            match next.text {
-                "[" => depth += 1,
-                "]" => depth -= 1,
-                _ if next.kind == Kind::Word => words.push(next.text),
-                _ => {}
-            }
-            if depth == 0 && next.text != "!" {
-                break;
-            }
+        let (mut text, mut depth) = (String::new(), 0);
+        while text.is_empty() || text == "!" || depth > 0 {
+            let next = self.scanner.next_token()?.text;
+            depth += usize::from(next == "[");
+            depth -= usize::from(next == "]" && depth > 0);
+            text.push_str(next);
         }
-        match words.split_first() {
-            Some((&"inline", _)) => {
-                self.is_hinted = true;
-                self.replace(token, None);
-            }
-            Some((&"cold", _)) => self.replace(token, None),
-            Some((&"tactic", _)) => self.leave_out(token),
-            Some((&"derive", derived)) => self.derive(token, derived)?,
-            _ => return Err("an attribute that is not known here".into()),
-        }
-        Ok(())
-    }
-
-    fn derive(&mut self, token: Token<'a>, derived: &[&str]) -> Result<(), String> {
-        let kept: Vec<&str> = derived.iter().copied().filter(|&name| name != "Drop").collect();
-        if let Some(name) = kept.iter().find(|name| !DERIVES.contains(name)) {
-            return Err(format!("the derive of `{name}` is not known here"));
-        }
-        if kept.is_empty() {
+        let derived = text.strip_prefix("[derive(").and_then(|rest| rest.strip_suffix(")]"));
+        let is_hint = matches!(text.as_str(), "[inline]" | "[inline(always)]" | "[inline(never)]");
+        self.item.is_hinted |= is_hint;
+        if text.trim_start_matches('!').starts_with("[tactic(") || text == "[derive(Drop)]" {
             self.leave_out(token);
+        } else if let Some(derived) = derived {
+            let kept: Vec<&str> = derived.split(',').filter(|&name| name != "Drop").collect();
+            self.leave_out(token);
+            self.out.push_str(&format!("#[derive({})]", kept.join(", ")));
+        } else if is_hint || text == "[cold]" {
+            self.copy_to(self.scanner.at);
         } else {
-            self.replace(token, Some(&format!("#[derive({})]", kept.join(", "))));
+            return Err(format!("the attribute `{text}` is not known here"));
         }
         Ok(())
     }
 
-    // Leaves out `ghost use ..;`, `ghost NAME: {..}` and `ghost NAME = {..}`.
     fn ghost(&mut self, token: Token<'a>) -> Result<(), String> {
         if self.is_documented {
             return Err("a documented ghost item: its documentation would move to the next".into());
         }
-        let name = self.scanner.token()?.filter(|name| name.kind == Kind::Word);
-        let name = name.ok_or("a ghost item without a name")?;
-        if name.text == "use" {
-            self.scanner.pass_semicolon()?;
-        } else {
-            match self.scanner.token()?.map(|next| next.text) {
-                Some(":" | "=") => self.scanner.clause()?,
-                _ => return Err("a form of ghost item that is not known here".into()),
-            };
-            if self.scanner.peek()?.is_some_and(|next| matches!(next.text, ";" | ",")) {
-                self.scanner.token()?;
-            }
-        }
+        self.pass_ghost()?;
         self.leave_out(token);
         Ok(())
     }
 
-    // Leaves out a clause of a contract. A condition of a public function is tested in its body.
-    fn contract(&mut self, token: Token<'a>) -> Result<(), String> {
-        if self.scanner.peek()?.is_some_and(|next| next.kind == Kind::Word) {
-            self.scanner.token()?;
+    // Reads `use ..;`, `NAME: {..}` or `NAME = {..}` after `ghost`.
+    fn pass_ghost(&mut self) -> Result<(), String> {
+        let name = self.scanner.next_token()?;
+        if name.text == "use" {
+            let path = self.scanner.ghost_path()?.trim();
+            if let Some((module, names)) = path.trim_end_matches('}').split_once(".{") {
+                self.imports.extend(names.split(',').map(|name| (module, name.trim())));
+            }
+            return Ok(());
         }
-        let clause = self.scanner.clause()?.split_whitespace().collect::<Vec<_>>().join(" ");
-        let is_called = CALLED.contains(&self.name);
-        let in_trait = self.trait_depth.is_some();
-        let signature = self.signature.as_mut().ok_or("a contract outside of a signature")?;
-        if token.text == "requires" && is_called && (signature.is_public || in_trait) {
+        let sign = self.scanner.next_token()?.text;
+        if name.kind != Kind::Word || !matches!(sign, ":" | "=") {
+            return Err("a form of ghost item that is not known here".into());
+        }
+        self.scanner.clause()?;
+        if matches!(self.scanner.peek().text, ";" | ",") {
+            self.scanner.next_token()?;
+        }
+        Ok(())
+    }
+
+    // Leaves out a clause of a contract.
+    fn contract(&mut self, token: Token<'a>) -> Result<(), String> {
+        if self.scanner.peek().kind == Kind::Word {
+            self.scanner.next_token()?;
+        }
+        let clause = self.scanner.clause()?;
+        let mut signature = self.signature.take().ok_or("a contract outside of a signature")?;
+        if token.text == "requires" && self.is_tested(&signature)? {
+            let clause = self.with_paths(&signature, clause);
             let known = CONDITIONS.iter().find(|(condition, _)| *condition == clause);
             let (_, test) = known.ok_or("a condition that nothing tests in Rust")?;
             signature.tests.push_str(test);
         }
+        self.signature = Some(signature);
         self.leave_out(token);
+        Ok(())
+    }
+
+    // Says whether a test of this function's conditions is put in: users may call it.
+    fn is_tested(&self, function: &Signature) -> Result<bool, String> {
+        let is_exported = CALLED.contains(&self.name) || self.exported.contains(&function.name);
+        let Some((owner, _)) = self.owner else {
+            return Ok(function.item.is_public && is_exported);
+        };
+        let method = format!("{}::{owner}::{}", self.name, function.name);
+        let is_untested = names::has(UNTESTED, &method);
+        if owner != "impl" && !is_untested {
+            return Err(format!("a condition of `{method}`, which nothing tests in Rust"));
+        }
+        Ok(!is_untested)
+    }
+
+    // Returns the clause with the path of each name that a `ghost use` imports and no parameter hides.
+    fn with_paths(&self, function: &Signature, clause: &str) -> String {
+        let signature = &self.out[function.item.start.unwrap_or(0)..];
+        let with_path = |word: &str| {
+            let is_hidden = signature.contains(&format!("{word}:"));
+            let is_import = |import: &&(&str, &str)| import.1.trim_matches('◌') == word;
+            let paths = self.imports.iter().filter(is_import).filter(|_| !is_hidden);
+            let paths = paths.map(|(module, _)| format!("{module}.{word}"));
+            paths.reduce(|one, other| one + " or " + &other).unwrap_or(word.into())
+        };
+        let words = clause.replace('(', "( ").replace(')', " )");
+        words.split_whitespace().map(with_path).collect::<Vec<_>>().join(" ")
+    }
+
+    // Notes whose methods come next.
+    fn owner(&mut self, token: Token<'a>) -> Result<(), String> {
+        if self.owner.is_some() {
+            return Err(format!("`{}` inside of another", token.text));
+        }
+        let name = if token.text == "trait" { self.scanner.peek().text } else { "impl" };
+        self.owner = Some((name, self.depth));
+        self.keep(token);
         Ok(())
     }
 
     // Says whether this `impl` is of `Model`, which only proofs read.
     fn is_model(&self) -> Result<bool, String> {
-        let mut ahead = self.scanner.clone();
-        let mut last = "";
+        let (mut ahead, mut last) = (self.scanner.clone(), ["", ""]);
         while let Some(token) = ahead.token()?.filter(|token| token.text != "{") {
             if token.text == "for" {
-                return Ok(last == "Model");
+                return Ok(last[1] == "Model" && last[0] != "::");
             }
-            last = token.text;
+            last = [last[1], token.text];
         }
         Ok(false)
     }
 
-    // Leaves `Model,` out of the list of an import.
-    fn leave_out_of_list(&mut self, token: Token<'a>) -> Result<(), String> {
-        match self.scanner.token()?.map(|next| next.text) {
-            Some(",") => self.leave_out(token),
-            _ => return Err("`Model` outside of an import, or last in its list".into()),
+    // Leaves out an `impl` of `Model`, all of whose items must be ghost items.
+    fn model(&mut self, token: Token<'a>) -> Result<(), String> {
+        while self.scanner.next_token()?.text != "{" {}
+        loop {
+            match self.scanner.next_token()? {
+                next if next.text == "ghost" => self.pass_ghost()?,
+                next if next.text == "}" => break,
+                next if is_comment(next) => {}
+                _ => return Err("an `impl` of `Model` with an item that is not ghost".into()),
+            }
         }
+        self.leave_out(token);
+        Ok(())
+    }
+
+    // Leaves `Model,` out of `use std::marker::{Model, ..}`.
+    fn leave_out_of_import(&mut self, token: Token<'a>) -> Result<(), String> {
+        let is_first = self.out.ends_with("use core::marker::{");
+        if !is_first || self.scanner.next_token()?.text != "," {
+            return Err("`Model` is known only in `use std::marker::{Model, ..}`".into());
+        }
+        self.leave_out(token);
         Ok(())
     }
 
     fn function(&mut self, token: Token<'a>) -> Result<(), String> {
         self.keep(token);
-        let Some(name) = self.scanner.peek()?.filter(|name| name.kind == Kind::Word) else {
+        let (name, item) = (self.scanner.peek(), self.item);
+        if name.kind != Kind::Word {
             return Ok(());
-        };
-        self.signature = Some(Signature {
-            start: self.item.unwrap_or(self.out.len()),
-            is_public: self.is_public,
-            is_hinted: self.is_hinted,
-            is_formatter: name.text == "fmt",
-            tests: String::new(),
-            depth: 0,
-        });
+        }
+        self.signature = Some(Signature { name: name.text, item, tests: String::new(), depth: 0 });
         if name.text == "fmt" {
-            self.scanner.token()?;
+            self.scanner.next_token()?;
             self.keep(name);
-            if self.scanner.peek()?.is_some_and(|next| next.text == "<") {
-                self.pass(&["<", "W", ":", "fmt", "::", "Write", ">"])?;
-            }
+            // In Rattle, a formatter has its writer as a type parameter.
+            self.leave_out_text("<W: fmt::Write>");
         }
         Ok(())
     }
 
-    // In Rattle, a formatter has its writer as a type parameter.
-    fn formatter(&mut self, token: Token<'a>) -> Result<(), String> {
-        let is_formatter = self.signature.as_ref().is_some_and(|found| found.is_formatter);
-        if !is_formatter {
-            return Err("`Formatter` outside of `fmt`".into());
+    // Leaves out `text` if the source goes on with it.
+    fn leave_out_text(&mut self, text: &str) -> bool {
+        let is_next = self.source[self.scanner.at..].starts_with(text);
+        if is_next {
+            self.scanner.at += text.len();
+            self.done = self.scanner.at;
         }
-        self.keep_as(token, "Formatter<'_>");
-        self.pass(&["<", "W", ">"])
-    }
-
-    // Reads exactly these tokens, and leaves them out.
-    fn pass(&mut self, tokens: &[&str]) -> Result<(), String> {
-        for expected in tokens {
-            match self.scanner.token()? {
-                Some(token) if token.text == *expected => self.done = token.end(),
-                _ => return Err(format!("`{expected}` was expected")),
-            }
-        }
-        Ok(())
+        is_next
     }
 
     // Keeps the head of a path, as the name that it has in the package.
     fn path(&mut self, token: Token<'a>) -> Result<(), String> {
         let mut ahead = self.scanner.clone();
         let is_head = ahead.token()?.is_some_and(|next| next.text == "::") && self.last != "::";
-        let is_simd = ahead.token()?.is_some_and(|next| next.text == "simd");
         match token.text {
             _ if !is_head => self.keep(token),
             "crate" => self.keep_as(token, &format!("crate::proved::{}", self.name)),
-            _ if is_simd => self.keep_as(token, "crate"),
+            _ if ahead.peek().text == "simd" => self.keep_as(token, "crate"),
             _ => self.keep_as(token, "core"),
         }
         Ok(())
@@ -389,31 +365,17 @@ impl<'a> Eraser<'a> {
     }
 
     fn keep(&mut self, token: Token<'a>) {
-        self.copy_to(token.start);
-        self.item.get_or_insert(self.out.len());
-        self.copy_to(token.end());
+        self.keep_as(token, token.text);
     }
 
     // Keeps a token as another text. A comment starts no item.
     fn keep_as(&mut self, token: Token<'a>, text: &str) {
-        self.copy_to(token.start);
-        if !matches!(token.kind, Kind::Comment | Kind::Documentation) {
-            self.item.get_or_insert(self.out.len());
+        self.copy_to(token.start.max(self.done));
+        if !is_comment(token) {
+            self.item.start.get_or_insert(self.out.len());
         }
         self.out.push_str(text);
-        self.done = token.end();
-    }
-
-    // Puts `text`, or the source itself, for what was read from `token` on. No item starts there.
-    fn replace(&mut self, token: Token<'a>, text: Option<&str>) {
-        self.copy_to(token.start);
-        match text {
-            Some(text) => {
-                self.leave_out(token);
-                self.out.push_str(text);
-            }
-            None => self.copy_to(self.scanner.at),
-        }
+        self.done = token.start + token.text.len();
     }
 
     // Leaves out what was read from `token` on, but not its ends of lines.
@@ -423,4 +385,8 @@ impl<'a> Eraser<'a> {
         self.out.extend(std::iter::repeat_n('\n', lines));
         self.done = self.scanner.at;
     }
+}
+
+fn is_comment(token: Token) -> bool {
+    token.kind == Kind::Comment
 }

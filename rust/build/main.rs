@@ -1,59 +1,74 @@
 //! Writes the proved sources as Rust, without their contracts, into the folder that cargo names, for
 //! `rust/src/lib.rs` to include. Each module keeps its lines.
 
-mod erase;
+pub mod erase;
+pub mod names;
 mod tokens;
 
+use std::collections::{BTreeMap, BTreeSet};
 use std::env;
 use std::fs;
 use std::path::{Path, PathBuf};
 use std::process::ExitCode;
 
 fn main() -> ExitCode {
-    match write_all() {
-        Ok(()) => ExitCode::SUCCESS,
-        Err(fault) => {
-            println!("cargo::error={fault}");
-            ExitCode::FAILURE
-        }
-    }
+    let folder = |name| env::var_os(name).map(PathBuf::from).ok_or(format!("{name} is not set"));
+    let written = folder("CARGO_MANIFEST_DIR").and_then(|top| write_all(&top, &folder("OUT_DIR")?));
+    let written = written.inspect_err(|fault| println!("cargo::error={fault}"));
+    ExitCode::from(u8::from(written.is_err()))
 }
 
-fn write_all() -> Result<(), String> {
-    let folder = |name| env::var_os(name).map(PathBuf::from).ok_or(format!("{name} is not set"));
-    let (top, out) = (folder("CARGO_MANIFEST_DIR")?, folder("OUT_DIR")?);
+// A module: its source, its file in Rust, and what is in that file.
+type Module = (PathBuf, PathBuf, String);
+
+/// Writes the Rust of the sources below `top` into `out`.
+pub fn write_all(top: &Path, out: &Path) -> Result<(), String> {
     println!("cargo::rerun-if-changed=rust/build");
-    let mut modules = String::new();
+    println!("cargo::rerun-if-changed=rust/src/lib.rs");
+    let facade = top.join("rust/src/lib.rs");
+    let text = read(&facade)?;
+    let exported = names::words(&text).map_err(|refusal| fault(&facade, refusal))?;
+    let (mut modules, mut crates) = (Vec::new(), String::new());
     for name in erase::CRATES {
         println!("cargo::rerun-if-changed=crates/{name}/src");
-        write_crate(name, &top.join("crates").join(name).join("src"), &out.join(name))?;
-        modules.push_str(&module(name, &out));
+        let mut sources = BTreeMap::new();
+        find(&top.join("crates").join(name).join("src"), &out.join(name), &mut sources)?;
+        for (file, source) in sources {
+            let rust = erase::erase(name, &read(&source)?, &exported);
+            let rust = rust.map_err(|refusal| fault(&source, refusal))?;
+            modules.push((source, file, rust));
+        }
+        crates.push_str(&module(name, out));
     }
-    write(&out.join("proved.rs"), &modules)
+    write_known(&modules)?;
+    write(&out.join("proved.rs"), &crates)
 }
 
-// Writes each module of a crate. Modules in folders would be read too.
-fn write_crate(name: &str, from: &Path, to: &Path) -> Result<(), String> {
-    fs::create_dir_all(to).map_err(|error| format!("{}: {error}", to.display()))?;
+// Finds the sources in a folder and in the folders in it.
+fn find(from: &Path, to: &Path, sources: &mut BTreeMap<PathBuf, PathBuf>) -> Result<(), String> {
     let entries = fs::read_dir(from).map_err(|error| format!("{}: {error}", from.display()))?;
     for entry in entries {
         let path = entry.map_err(|error| format!("{}: {error}", from.display()))?.path();
-        let file = to.join(path.file_name().unwrap_or_default());
         if path.is_dir() {
-            write_crate(name, &path, &file)?;
+            find(&path, &to.join(path.file_name().unwrap_or_default()), sources)?;
         } else {
-            write_module(name, &path, &file.with_extension("rs"))?;
+            let module = to.join(path.file_name().unwrap_or_default());
+            sources.insert(module.with_extension("rs"), path);
         }
     }
     Ok(())
 }
 
-fn write_module(name: &str, from: &Path, to: &Path) -> Result<(), String> {
-    let source =
-        fs::read_to_string(from).map_err(|error| format!("{}: {error}", from.display()))?;
-    let rust = erase::erase(name, &source)
-        .map_err(|refusal| format!("{}:{}: {}", from.display(), refusal.line, refusal.reason))?;
-    write(to, &rust)
+fn write_known(modules: &[Module]) -> Result<(), String> {
+    let mut declared = BTreeSet::new();
+    for (source, _, rust) in modules {
+        names::declare(rust, &mut declared).map_err(|refusal| fault(source, refusal))?;
+    }
+    for (source, file, rust) in modules {
+        names::check(rust, &declared).map_err(|refusal| fault(source, refusal))?;
+        write(file, rust)?;
+    }
+    Ok(())
 }
 
 // Without the feature, the module of the lanes stays empty.
@@ -67,6 +82,16 @@ fn module(name: &str, out: &Path) -> String {
     }
 }
 
+fn fault(file: &Path, (line, reason): erase::Refusal) -> String {
+    format!("{}:{line}: {reason}", file.display())
+}
+
+fn read(file: &Path) -> Result<String, String> {
+    fs::read_to_string(file).map_err(|error| format!("{}: {error}", file.display()))
+}
+
 fn write(file: &Path, text: &str) -> Result<(), String> {
-    fs::write(file, text).map_err(|error| format!("{}: {error}", file.display()))
+    let folder = file.parent().map_or(Ok(()), fs::create_dir_all);
+    let written = folder.and_then(|()| fs::write(file, text));
+    written.map_err(|error| format!("{}: {error}", file.display()))
 }

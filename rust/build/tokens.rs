@@ -1,49 +1,35 @@
 //! The tokens of a Rattle source, as far as they are those of Rust.
 
 /// What a token is.
-#[derive(Clone, Copy, PartialEq, Eq, Debug)]
+#[derive(Clone, Copy, PartialEq, Eq)]
 pub enum Kind {
-    /// A name, a keyword or a number.
+    /// A name, a keyword or a whole number.
     Word,
-    /// A text in quotes, a byte or a character.
+    /// A text in quotes, a byte, a character or a lifetime.
     Literal,
-    Lifetime,
-    /// A comment that starts with `//`.
+    /// A comment that starts with `//`, also one that documents an item.
     Comment,
-    /// A comment that starts with `///`: it documents the next item.
-    Documentation,
-    /// `::`, or one other character.
+    /// `::`, `..`, `..=`, or one other character.
     Symbol,
 }
 
 /// A token, and where it starts in the source.
-#[derive(Clone, Copy, Debug)]
+#[derive(Clone, Copy)]
 pub struct Token<'a> {
     pub kind: Kind,
     pub text: &'a str,
     pub start: usize,
 }
 
-impl Token<'_> {
-    /// Returns where the token ends in the source.
-    pub fn end(&self) -> usize {
-        self.start + self.text.len()
-    }
-}
-
 /// Reads a source from its start to its end.
-#[derive(Clone)]
+#[derive(Clone, Default)]
 pub struct Scanner<'a> {
-    source: &'a str,
+    pub source: &'a str,
     /// The offset of what is read next.
     pub at: usize,
 }
 
 impl<'a> Scanner<'a> {
-    pub fn new(source: &'a str) -> Scanner<'a> {
-        Scanner { source, at: 0 }
-    }
-
     /// Reads a token. Returns `None` at the end of the source, and an error for what is not known.
     pub fn token(&mut self) -> Result<Option<Token<'a>>, String> {
         let rest = self.source[self.at..].trim_start();
@@ -51,15 +37,21 @@ impl<'a> Scanner<'a> {
         self.at = start;
         let Some(first) = rest.chars().next() else { return Ok(None) };
         let (kind, length) = match first {
-            '/' if rest.starts_with("//") => comment(rest),
+            '/' if rest.starts_with("//") => (Kind::Comment, rest.find('\n').unwrap_or(rest.len())),
             '/' if rest.starts_with("/*") => return Err("a block comment".into()),
             '"' => (Kind::Literal, quoted(rest, 0)?),
-            '\'' => character_or_lifetime(rest)?,
-            'r' | 'b' if raw(rest) => return Err("a raw text".into()),
-            'b' if rest[1..].starts_with('"') => (Kind::Literal, quoted(rest, 1)?),
-            'b' if rest[1..].starts_with('\'') => (Kind::Literal, quoted(rest, 1)?),
-            _ if is_word(first) => (Kind::Word, self.word(rest)?),
+            '\'' if rest[1..].starts_with('\\') || rest.chars().nth(2) == Some('\'') => {
+                (Kind::Literal, quoted(rest, 0)?)
+            }
+            '\'' => (Kind::Literal, 1 + word(&rest[1..])),
+            'r' | 'b' if ["r\"", "r#", "br\"", "br#"].iter().any(|raw| rest.starts_with(raw)) => {
+                return Err("a raw text".into());
+            }
+            'b' if rest[1..].starts_with(['"', '\'']) => (Kind::Literal, quoted(rest, 1)?),
+            _ if word(rest) > 0 => (Kind::Word, word(rest)),
             ':' if rest.starts_with("::") => (Kind::Symbol, 2),
+            '.' if rest.starts_with("..=") => (Kind::Symbol, 3),
+            '.' if rest.starts_with("..") => (Kind::Symbol, 2),
             _ if first.is_ascii_punctuation() => (Kind::Symbol, 1),
             _ => return Err(format!("`{first}` outside of a clause")),
         };
@@ -67,95 +59,74 @@ impl<'a> Scanner<'a> {
         Ok(Some(Token { kind, text: &rest[..length], start }))
     }
 
-    /// Returns the next token without reading it.
-    pub fn peek(&self) -> Result<Option<Token<'a>>, String> {
-        self.clone().token()
+    /// Reads a token, which must be there.
+    pub fn next_token(&mut self) -> Result<Token<'a>, String> {
+        self.token()?.ok_or("the source ends too early".into())
+    }
+
+    /// Returns the next token without reading it, or one without a text.
+    pub fn peek(&self) -> Token<'a> {
+        let none = Token { kind: Kind::Symbol, text: "", start: self.at };
+        self.clone().next_token().unwrap_or(none)
     }
 
     /// Reads a clause from its `{`, which comes next, to the `}` that closes it, and returns what is
-    /// between them. A clause is not Rust: its names may have any characters.
+    /// between them. A clause is not Rust: its names may have any characters. Rattle's comments, and
+    /// quotes that could hide a brace, are refused.
     pub fn clause(&mut self) -> Result<&'a str, String> {
-        let start = self.at + self.source[self.at..].find('{').ok_or("a clause without `{`")?;
-        if !self.source[self.at..start].trim().is_empty() {
+        let rest = self.source[self.at..].trim_start();
+        if !rest.starts_with('{') {
             return Err("a clause without `{`".into());
         }
-        let (mut depth, mut in_text) = (0, false);
-        for (offset, character) in self.source[start..].char_indices() {
-            match character {
-                '\\' => return Err("an escape in a clause".into()),
-                '"' => in_text = !in_text,
+        let (mut depth, mut in_text, mut last) = (0, false, ' ');
+        for (offset, character) in rest.char_indices() {
+            match (last, character) {
+                (_, '\\') => return Err("an escape in a clause".into()),
+                ('\'', '"' | '{' | '}') | (_, '«') => return Err("a quotation in a clause".into()),
+                (_, '"') => in_text = !in_text,
+                (_, '\n') if in_text => return Err("an unbalanced quote in a clause".into()),
                 _ if in_text => {}
-                '/' if self.source[start + offset..].starts_with("//") => {
-                    return Err("a comment in a clause".into());
-                }
-                '{' => depth += 1,
-                '}' => depth -= 1,
+                ('/', '/') | ('-', '-') | ('{', '-') => return Err("a comment in a clause".into()),
+                (_, '{') => depth += 1,
+                (_, '}') => depth -= 1,
                 _ => {}
             }
-            if depth == 0 && !in_text {
-                self.at = start + offset + 1;
-                return Ok(&self.source[start + 1..start + offset]);
+            if depth == 0 {
+                self.at = self.source.len() - rest.len() + offset + 1;
+                return Ok(&rest[1..offset]);
             }
+            last = character;
         }
         Err("a clause without its last `}`".into())
     }
 
-    // Returns the length of a word or of a whole number.
-    fn word(&self, rest: &str) -> Result<usize, String> {
-        let length = rest.find(|character| !is_word(character)).unwrap_or(rest.len());
-        let is_digit = |character: char| character.is_ascii_digit();
-        let is_field = self.source[..self.at].ends_with('.');
-        let has_point =
-            rest[length..].strip_prefix('.').is_some_and(|rest| rest.starts_with(is_digit));
-        if rest.starts_with(is_digit) && has_point && !is_field {
-            return Err("a number with a point".into());
+    /// Reads the path of a `ghost use` and the `;` behind it, and returns the path.
+    pub fn ghost_path(&mut self) -> Result<&'a str, String> {
+        let rest = &self.source[self.at..];
+        let path = &rest[..rest.find(';').ok_or("a `ghost use` without `;`")?];
+        if ["--", "{-", "//", "\"", "\\", "«"].iter().any(|start| path.contains(start)) {
+            return Err("a comment or a text in a `ghost use`".into());
         }
-        Ok(length)
+        self.at += path.len() + 1;
+        Ok(path)
     }
-
-    /// Reads on to the next `;`, and past it.
-    pub fn pass_semicolon(&mut self) -> Result<(), String> {
-        let length = self.source[self.at..].find(';').ok_or("a `ghost use` without `;`")?;
-        self.at += length + 1;
-        Ok(())
-    }
-}
-
-fn comment(rest: &str) -> (Kind, usize) {
-    let length = rest.find('\n').unwrap_or(rest.len());
-    let is_documentation = rest.starts_with("///") && !rest.starts_with("////");
-    (if is_documentation { Kind::Documentation } else { Kind::Comment }, length)
 }
 
 // Returns the length of a text, byte or character whose first quote is at `from`.
 fn quoted(rest: &str, from: usize) -> Result<usize, String> {
-    let quote = rest.as_bytes()[from];
-    let mut is_escaped = false;
-    for (offset, byte) in rest.bytes().enumerate().skip(from + 1) {
+    let mut bytes = rest.bytes().enumerate().skip(from + 1);
+    while let Some((offset, byte)) = bytes.next() {
         match byte {
-            _ if is_escaped => is_escaped = false,
-            b'\\' => is_escaped = true,
-            _ if byte == quote => return Ok(offset + 1),
+            b'\\' => drop(bytes.next()),
+            _ if byte == rest.as_bytes()[from] => return Ok(offset + 1),
             _ => {}
         }
     }
     Err("a text without its last quote".into())
 }
 
-fn character_or_lifetime(rest: &str) -> Result<(Kind, usize), String> {
-    let mut after = rest[1..].chars();
-    let first = after.next().ok_or("a quote at the end")?;
-    if first == '\\' || after.next() == Some('\'') {
-        return Ok((Kind::Literal, quoted(rest, 0)?));
-    }
-    let name = rest[1..].find(|character| !is_word(character)).unwrap_or(rest.len() - 1);
-    Ok((Kind::Lifetime, 1 + name))
-}
-
-fn raw(rest: &str) -> bool {
-    ["r\"", "r#", "br\"", "br#"].iter().any(|start| rest.starts_with(start))
-}
-
-fn is_word(character: char) -> bool {
-    character.is_ascii_alphanumeric() || character == '_'
+// Returns the length of the word at the start of `rest`, or 0.
+fn word(rest: &str) -> usize {
+    let is_word = |character: char| character.is_ascii_alphanumeric() || character == '_';
+    rest.find(|character| !is_word(character)).unwrap_or(rest.len())
 }

@@ -1,21 +1,31 @@
-//! What the eraser makes of each form that it knows, what it refuses, and that it loses and changes
-//! nothing else: a second, much simpler reading of each source finds the same tokens in what it makes.
+//! What the eraser makes of each form that it knows, what the build refuses, and that every token that
+//! must remain of each source is in the Rust, in its order and on its line, and no other token.
 
-#[path = "../build/erase.rs"]
+mod remaining;
+#[path = "../build/main.rs"]
 #[allow(dead_code)]
-mod erase;
-#[path = "../build/tokens.rs"]
-mod tokens;
+mod script;
 
-use erase::{CRATES, Refusal, erase};
+use script::erase::{CRATES, Refusal, erase};
+use script::names;
+use std::collections::BTreeSet;
 use std::fs;
 use std::path::{Path, PathBuf};
 
 fn erased(source: &str) -> String {
-    match erase("atoi_core", source) {
+    match erase("atoi_core", source, &[]) {
         Ok(rust) => rust,
-        Err(Refusal { line, reason }) => panic!("line {line}: {reason}"),
+        Err((line, reason)) => panic!("line {line}: {reason}"),
     }
+}
+
+// What the build script does with a source.
+fn built(name: &str, source: &str) -> Result<String, Refusal> {
+    let rust = erase(name, source, &["exported"])?;
+    let mut declared = BTreeSet::new();
+    names::declare(&rust, &mut declared)?;
+    names::check(&rust, &declared)?;
+    Ok(rust)
 }
 
 // The words of the Rust, by single spaces.
@@ -91,16 +101,73 @@ fn functions_without_a_hint_get_one() {
     assert_eq!(words(source), rust);
 }
 
+// The definitions that the conditions of our functions name.
+const IMPORTS: &str = "ghost use Rattle.std.specs.Prelude.{◌≡◌, true, IsFalse};
+ghost use Rattle.atoi_column.specs.Fields.{is_separator};
+ghost use Rattle.atoi_core.specs.Digit.{decimal_table, is_digit};
+";
+
 #[test]
 fn conditions_of_public_functions_are_tested() {
-    let source = "pub fn new(separator: u8)\n    requires { is_separator separator ≡ true }\n{ 1 }";
-    let rust = erase("atoi_column", source).unwrap();
-    let start = "#[inline] pub fn new(separator: u8)\n    \n{assert!(crate::column::is_separator(separator),";
+    let new = "pub fn new(separator: u8)\n    requires { is_separator separator ≡ true }\n{ 1 }";
+    let rust = built("atoi_column", &format!("{IMPORTS}{new}")).unwrap();
+    let start = "\n\n\n#[inline] pub fn new(separator: u8)\n    \n{assert!(crate::column::is_separator(separator),";
     assert!(rust.starts_with(start) && rust.ends_with("); 1 }"), "{rust}");
-    // What only the crate itself calls is proved at each call.
-    let source =
-        "pub(crate) fn a(b: u8)\n    requires { b < 4 }\n{}\nfn c()\n    requires { ℕ }\n{}";
-    assert!(erase("atoi_column", source).is_ok());
+    let method = format!("{IMPORTS}struct A; impl A {{ {new} }}");
+    assert!(built("atoi_core", &method).unwrap().contains("{assert!(crate::column::is_separator"));
+    let then = "fn exported(byte: u8) requires same { IsFalse (is_digit decimal_table byte) } {}";
+    let rust = built("atoi_lanes", &format!("{IMPORTS}pub {then}")).unwrap();
+    assert!(rust.contains("{assert!(!byte.is_ascii_digit(),"), "{rust}");
+    // What only the crates themselves call is proved at each call.
+    for other in ["pub(crate) fn a(b: u8)", "fn c()", "fn exported()"] {
+        assert!(built("atoi_column", &format!("{other} requires {{ b < 4 }} {{}}")).is_ok());
+    }
+    assert!(built("atoi_core", "pub fn a() requires { ℕ } {}").is_ok());
+    let number = "pub trait Number { fn from_pos() requires { ℕ }; }";
+    assert!(built("atoi_core", number).is_ok());
+}
+
+#[test]
+fn conditions_that_nothing_tests_are_refused() {
+    let nothing = "a condition that nothing tests in Rust";
+    let separator = "requires { is_separator separator ≡ true } {}";
+    for (name, source, reason) in [
+        ("atoi_simd", "pub fn a(b: u8) requires { b < 4 } {}", nothing),
+        ("atoi_lanes", "pub fn exported(b: u8) requires { b < 4 } {}", nothing),
+        ("atoi_core", "struct A; impl A { pub fn a(b: u8) requires { b < 4 } {} }", nothing),
+        ("atoi_core", "struct A; impl A { fn a(b: u8) requires { b < 4 } {} }", nothing),
+        ("atoi_lanes", "impl Copy for u8 { fn a(b: u8) requires { b < 4 } {} }", nothing),
+        ("atoi_core", "trait A { fn a(b: u8) requires { b < 4 }; }", "`atoi_core::A::a`"),
+        ("atoi_lanes", "trait Number { fn from_pos() requires { ℕ }; }", "::from_pos`"),
+        ("atoi_core", "trait A { fn a(b: u8) requires { b < 4 } {} }", "`atoi_core::A::a`"),
+        // Another definition of the name, none, two, and a parameter of the name.
+        (
+            "atoi_column",
+            &format!(
+                "ghost use Rattle.atoi_column.specs.Others.{{is_separator}};
+                ghost use Rattle.std.specs.Prelude.{{◌≡◌, true}};
+                pub fn a(separator: u8) {separator}"
+            ),
+            nothing,
+        ),
+        ("atoi_column", &format!("pub fn a(separator: u8) {separator}"), nothing),
+        (
+            "atoi_column",
+            &format!("{IMPORTS}ghost use A.{{true}}; pub fn a(separator: u8) {separator}"),
+            nothing,
+        ),
+        (
+            "atoi_column",
+            &format!("{IMPORTS}pub fn a(separator: u8, is_separator: u8) {separator}"),
+            nothing,
+        ),
+        ("atoi_column", &format!("{IMPORTS}pub fn a(byte: u8) {separator}"), "separator"),
+    ] {
+        match built(name, source) {
+            Ok(rust) => assert!(reason == "separator" && rust.contains("(separator)"), "{source}"),
+            Err((_, found)) => assert!(found.contains(reason), "{source}: {found}"),
+        }
+    }
 }
 
 #[test]
@@ -112,135 +179,203 @@ fn lines_and_literals_stay() {
 }
 
 // The line and the reason of a refusal.
-fn refused(name: &str, source: &str) -> (usize, String) {
-    match erase(name, source) {
+fn refused(source: &str) -> (usize, String) {
+    match built("atoi_core", source) {
         Ok(rust) => panic!("{source} was taken, as {rust}"),
-        Err(Refusal { line, reason }) => (line, reason),
+        Err(refusal) => refusal,
     }
 }
 
-#[test]
-fn what_is_not_known_is_refused() {
-    for (source, line, part) in [
-        ("fn a() {\n    prove!(b);\n}", 2, "`prove`"),
-        ("final fn a() {}", 1, "`final`"),
-        ("fn a() { unsafe { b() } }", 1, "`unsafe`"),
-        ("macro_rules! a { () => {} }", 1, "`macro_rules`"),
-        ("\n\nimpl Drop for A {}", 3, "`Drop`"),
-        ("fn a(rt: B) {}", 1, "`rt`"),
-        ("fn a() { b.clone() }", 1, "`clone`"),
-        ("fn a() { size_of::<B>() }", 1, "`size_of`"),
-        ("extern crate a;", 1, "`extern`"),
-        ("mod a;\nghost fn b() {}", 2, "ghost item"),
-        ("ghost let a = 1;", 1, "ghost item"),
-        ("struct A {\n    /// B.\n    ghost c: { ℕ },\n}", 3, "documented"),
-        ("#[cfg(test)]\nmod a;", 1, "attribute"),
-        ("#[must_use]\nfn a() {}", 1, "attribute"),
-        ("#[derive(Hash)]\nstruct A;", 1, "`Hash`"),
-        ("/* a */", 1, "block comment"),
-        ("fn a() { r\"b\"; }", 1, "raw text"),
-        ("fn a() { 1.5; }", 1, "point"),
-        ("fn a() { é }", 1, "`é`"),
-        ("fn a()\n    ensures { b // c\n }\n{}", 2, "comment in a clause"),
-        ("fn a()\n    ensures { \"\\n\" }\n{}", 2, "escape in a clause"),
-        ("fn a()\n    ensures b < c\n{}", 2, "clause"),
-        ("fn a() ensures { b", 1, "last `}`"),
-        ("struct A { requires: u8 }", 1, "clause without"),
-        ("use std::marker::Model;", 1, "`Model`"),
-        ("fn a(f: Formatter<W>) {}", 1, "`Formatter`"),
-    ] {
-        let (found, reason) = refused("atoi_core", source);
-        assert_eq!(found, line, "the line of {source}");
+fn assert_refused(sources: &[(&str, usize, &str)]) {
+    for (source, line, part) in sources {
+        let (found, reason) = refused(source);
+        assert_eq!(found, *line, "the line of {source}");
         assert!(reason.contains(part), "{source}: {reason}");
     }
 }
 
 #[test]
-fn conditions_that_nothing_tests_are_refused() {
-    let source = "pub fn a(b: u8)\n    requires { b < 4 }\n{}";
-    for name in ["atoi_simd", "atoi_column"] {
-        let (line, reason) = refused(name, source);
-        assert_eq!((line, reason.as_str()), (2, "a condition that nothing tests in Rust"));
-        let in_trait = "trait A {\n    fn a(b: u8)\n        requires { b < 4 };\n}";
-        assert_eq!(refused(name, in_trait).0, 3);
-    }
-    assert!(erase("atoi_core", source).is_ok(), "users call no function of atoi_core");
+fn what_is_not_known_is_refused() {
+    assert_refused(&[
+        ("fn a() {\n    prove!(b);\n}", 2, "`prove`"),
+        ("final fn a() {}", 1, "`final`"),
+        ("fn a() { unsafe { b() } }", 1, "`unsafe`"),
+        ("macro_rules! a { () => {} }", 1, "`macro_rules`"),
+        ("struct A;\n\nimpl Drop for A {}", 3, "`Drop`"),
+        ("fn a(rt: HostRuntime) {}", 1, "`HostRuntime`"),
+        ("fn a() { b.clone() }", 1, "`clone`"),
+        ("fn a() { size_of::<u8>() }", 1, "`size_of`"),
+        ("extern crate a;", 1, "`extern`"),
+        ("mod a;\nghost fn b() {}", 2, "ghost item"),
+        ("ghost let a = 1;", 1, "ghost item"),
+        ("struct A {\n    /// B.\n    ghost c: { ℕ },\n}", 3, "documented"),
+        ("struct A {\n    /// B.\n    // C.\n    ghost c: { ℕ },\n}", 4, "documented"),
+        ("#[cfg(test)]\nmod a;", 1, "attribute"),
+        ("#[must_use]\nfn a() {}", 1, "attribute"),
+        ("#[inline(sometimes)]\nfn a() {}", 1, "attribute"),
+        ("#[derive(Hash)]\nstruct A;", 1, "`Hash`"),
+        ("/* a */", 1, "block comment"),
+        ("fn a() { r\"b\"; }", 1, "raw text"),
+        ("fn a() { 1.5; }", 1, "`1`"),
+        ("fn a() { b(1.); }", 1, "`b`"),
+        ("fn a() { 1.; }", 1, "`1`"),
+        ("fn a() { 1e3; }", 1, "`1e3`"),
+        ("fn a() { 1f64; }", 1, "`1f64`"),
+        ("fn a() { é }", 1, "`é`"),
+        ("fn a()\n    ensures b < c\n{}", 2, "clause"),
+        ("fn a() ensures { b", 1, "last `}`"),
+        ("struct A { requires: u8 }", 1, "clause without"),
+        ("fn a(f: Formatter) {}", 1, "`Formatter`"),
+        ("trait A { fn a() { trait B {} } }", 1, "inside of another"),
+    ]);
 }
 
 #[test]
-fn nothing_else_is_lost_or_changed() {
+fn clauses_hide_no_code() {
+    let hides_a_function = "pub fn one() -> u8
+    ensures { result ≡ 1  -- } { return 2; } fn more() -> u8 ensures {
+    }
+{ 1 }";
+    let hides_the_next =
+        "fn one() -> u8\n    ensures { a \" }\n{ 2 }\nfn more() -> u8\n    ensures { \" }\n{ 1 }";
+    assert_refused(&[
+        (hides_a_function, 2, "a comment in a clause"),
+        (hides_the_next, 2, "an unbalanced quote in a clause"),
+        ("fn a()\n    ensures { b {- } { 2 } -} }\n{ 1 }", 2, "a comment in a clause"),
+        ("fn a()\n    ensures { b // c\n }\n{}", 2, "a comment in a clause"),
+        ("fn a()\n    ensures { \"\\n\" }\n{}", 2, "an escape in a clause"),
+        ("fn a()\n    ensures { '\"' }\n{ b(\"\") }", 2, "a quotation"),
+        ("fn a()\n    ensures { b '{' }\n{ 2 }", 2, "a quotation"),
+        ("fn a()\n    ensures { «b}» }\n{ 2 }", 2, "a quotation"),
+        ("ghost use A.{b} -- ; fn a() { 2 }\n;", 1, "a comment or a text in a `ghost use`"),
+        ("ghost use A.{b} {- ; -};", 1, "a comment or a text in a `ghost use`"),
+        ("ghost use A.{b}", 1, "without `;`"),
+    ]);
+}
+
+#[test]
+fn model_stands_in_one_import_alone() {
+    assert_refused(&[
+        ("use std::marker::Model;", 1, "`Model`"),
+        ("use crate::names::{first as Model, second};", 1, "`Model`"),
+        ("enum Kind {\n    Model, Other }", 2, "`Model`"),
+        ("use std::marker::{PhantomData, Model};", 1, "`Model`"),
+        ("use crate::marker::{Model, A};", 1, "`Model`"),
+        ("trait Model { fn a(); }", 1, "`Model`"),
+        ("impl A::Model for B { }", 1, "`Model`"),
+        ("struct A; impl Model for A { fn a() {} }", 1, "not ghost"),
+    ]);
+}
+
+// Both languages accept these, and may do different things.
+#[test]
+fn what_differs_silently_is_refused() {
+    assert_refused(&[
+        // A range without an end ends in Rattle, and overflows in Rust.
+        ("fn a() { (250u8..).take_while(b) }", 1, "`..`"),
+        ("fn a() { for b in 250u8.. { c } }", 1, "`..`"),
+        ("fn a() { [250u8..] }", 1, "`..`"),
+        ("fn a() { match b { _ => [250u8..] } }", 1, "`..`"),
+        ("fn a() { b[match c { _ => 250u8.. }] }", 1, "`..`"),
+        ("fn a() { let b = self.b..; }", 1, "`..`"),
+        ("fn a() { return ..b; }", 1, "`..`"),
+        // Rattle does not read what gives no field.
+        ("struct A { b: u8 } fn a() { A { b: 1, ..c[at] } }", 1, "`..`"),
+        ("struct A { b: u8 } fn a() { A { b: 1, ..*c } }", 1, "`..`"),
+        ("struct A { b: u8 } fn a() { A { b: 1, ..{ c[at] } } }", 1, "`..`"),
+        ("struct A { b: u8 } fn a() { A { b: 1, ..a() } }", 1, "`..`"),
+        // Types are laid out differently.
+        ("fn a() { std::alloc::Layout::new::<(u8, u32, u8)>().size() }", 1, "`core`"),
+        ("use std::alloc::Layout;", 1, "`core`"),
+        ("fn a() { align_of_val(&b) }", 1, "`align_of_val`"),
+        ("fn a() { std::mem::align_of_val(&b) }", 1, "`core`"),
+        ("fn a() { b.map(size_of_val) }", 1, "`map`"),
+        ("fn a() { let b = size_of_val; }", 1, "`size_of_val`"),
+        ("fn size_of() {}", 1, "`size_of`"),
+        // The eraser changes the paths of modules.
+        ("fn a() { stringify!(std::mem).len() }", 1, "`stringify`"),
+        ("fn a() { module_path!() }", 1, "`module_path`"),
+        ("fn a() { line![] }", 1, "`line`"),
+        ("fn a() { core::any::type_name::<u8>() }", 1, "`core`"),
+        ("fn a() { ::std::any::type_name::<u8>() }", 1, "`std`"),
+        // A clone is a `Result`, and so is an item.
+        ("fn a() { b.iter().map(|s| s.clone()) }", 1, "`map`"),
+        ("fn a() { Clone::clone(&b) }", 1, "`clone`"),
+        // The error of `write!` into a text.
+        ("fn a(b: &mut String) -> bool { write!(b, \"\").is_err() }", 1, "`String`"),
+        // Errors that print otherwise.
+        ("fn a() -> anyhow::Error {}", 1, "`anyhow`"),
+        // Values that are not dropped, and channels that disagree for a moment.
+        ("fn a() { std::thread::spawn(b) }", 1, "`core`"),
+        ("fn a() { b.try_send(1) }", 1, "`try_send`"),
+        // Types that are one in Rattle and three in Rust.
+        ("use std::iter::once;", 1, "`core`"),
+        ("use std::iter::{FusedIterator, once};", 1, "`core`"),
+        ("fn a(b: Option<u8>) { b.into_iter() }", 1, "`into_iter`"),
+        ("fn a() { u16::try_from(1u8) }", 1, "`try_from`"),
+        // A method of another `impl`, which needs a trait or a bound of Rust's.
+        ("fn a<T: Index<usize>>(b: T) {}", 1, "`Index`"),
+        ("fn a(b: &dyn Copy) {}", 1, "`dyn`"),
+        ("trait A { fn len(&self); } fn a(b: &[u8]) { b.len() }", 1, "`len`"),
+        ("fn parse() {} fn a(b: &str) { b.parse() }", 1, "`parse`"),
+        // A value that is taken apart is not dropped in Rattle.
+        ("#[derive(Debug)] struct A; impl Drop for A { fn drop(self) {} }", 1, "`Drop`"),
+        ("fn a() { drop(b) }", 1, "`drop`"),
+        // Renamed names.
+        ("use std::fmt as f;", 1, "`core`"),
+        ("use std::cmp::Ordering as Option;", 1, "`core`"),
+        ("pub use std::simd::*;", 1, "`crate`"),
+    ]);
+}
+
+#[test]
+fn what_means_the_same_is_taken() {
+    for source in [
+        "fn a(b: &[u8]) -> &[u8] { &b[2..] }",
+        "fn a(b: &[u8]) -> &[u8] { &b[..b.len().min(8)] }",
+        "fn a(b: &[u8]) { for c in 0..9 { match b { [d, ..] => d, [.., d] => d, [d @ ..] => d } } }",
+        "fn a(b: u8) -> bool { matches!(b, b'0'..=b'9' | b'+') }",
+        "struct A { b: u8, c: u8 } fn a(d: A) -> A { A { b: 1, ..d } }",
+        "struct A { b: u8, c: u8 } fn a(d: A) -> u8 { let A { b, .. } = d; b }",
+        "struct A(u8, (u8, u8)); fn a(d: A) -> u8 { d.1.0 + 0xFF_u8 + 1_0 }",
+        "enum A { B, C(u8), D { e: u8 } } fn a(f: A) -> A { A::C(1) }",
+        "use std::fmt; use std::cmp::Ordering; fn a() -> Option<Ordering> { None }",
+    ] {
+        if let Err((line, reason)) = built("atoi_core", source) {
+            panic!("{source}: line {line}: {reason}");
+        }
+    }
+}
+
+#[test]
+fn what_must_remain_remains() {
+    let top = Path::new(env!("CARGO_MANIFEST_DIR"));
+    let facade = fs::read_to_string(top.join("rust/src/lib.rs")).unwrap();
+    let exported = names::words(&facade).unwrap();
+    assert!(exported.contains(&"parse_prefix") && exported.contains(&"fixed_width"));
+    assert!(exported.windows(2).all(|pair| pair != ["::", "*"]), "an export without a name");
     let mut files = 0;
     for name in CRATES {
-        for file in sources(name) {
+        for file in sources(&top.join("crates").join(name).join("src")) {
             let source = fs::read_to_string(&file).unwrap();
-            let rust =
-                erase(name, &source).unwrap_or_else(|refusal| panic!("{file:?}: {refusal:?}"));
+            let rust = erase(name, &source, &exported);
+            let rust = rust.unwrap_or_else(|refusal| panic!("{}: {refusal:?}", file.display()));
             assert_eq!(source.lines().count(), rust.lines().count(), "lines of {file:?}");
-            let (kept, made) = (without_proofs(&source), in_rattle(name, &rust));
-            for (number, (kept, made)) in kept.iter().zip(&made).enumerate() {
-                assert_eq!(kept, made, "{}:{}", file.display(), number + 1);
+            let (kept, made) = (remaining::remaining(name, &source), remaining::tokens(&rust));
+            for (kept, made) in kept.iter().zip(&made) {
+                assert_eq!(kept, made, "{}", file.display());
             }
+            assert_eq!(kept.len(), made.len(), "{}", file.display());
             files += 1;
         }
     }
     assert!(files > 30, "{files} sources");
 }
 
-fn sources(name: &str) -> Vec<PathBuf> {
-    let folder = Path::new(env!("CARGO_MANIFEST_DIR")).join("crates").join(name).join("src");
-    fs::read_dir(folder).unwrap().map(|entry| entry.unwrap().path()).collect()
-}
-
-// The second reading. In the layout of `rt fmt`, what only proofs read starts a line, and ends with
-// the line in which its braces, brackets and parentheses are closed, or with a `;`. Returns the rest
-// of each line, without spaces.
-fn without_proofs(source: &str) -> Vec<String> {
-    let mut open = 0_i64;
-    let mut lines = Vec::new();
-    for line in source.lines() {
-        let text = line.trim_start();
-        let starts = ["ghost ", "requires ", "ensures ", "#[tactic(", "#![tactic("];
-        let is_model = text.starts_with("impl") && text.contains(" Model for ");
-        let is_proof = open > 0 || is_model || starts.iter().any(|start| text.starts_with(start));
-        if !is_proof {
-            lines.push(bare(&text.replace("Model, ", "").replace("#[derive(Drop)]", "")));
-            continue;
-        }
-        let count = |brackets: [char; 3]| text.matches(brackets).count() as i64;
-        open += count(['{', '(', '[']) - count(['}', ')', ']']);
-        // A function of a trait without a body ends behind its contract.
-        let is_contract = text.starts_with("requires ") || text.starts_with("ensures ");
-        let ends = open == 0 && text.ends_with("};") && (is_contract || !text.starts_with("ghost"));
-        lines.push(String::from(if ends && !text.starts_with('}') { ";" } else { "" }));
-    }
-    lines
-}
-
-// What was written in Rattle for each line of the Rust, without spaces.
-fn in_rattle(name: &str, rust: &str) -> Vec<String> {
-    rust.lines()
-        .map(|line| {
-            let line = without_test(&line.replace("#[inline] ", ""));
-            let line = line.replace(&format!("crate::proved::{name}::"), "crate::");
-            let line = line.replace("crate::proved::", "").replace("crate::simd", "std::simd");
-            let line = line.replace("fn fmt(", "fn fmt<W: fmt::Write>(");
-            bare(&line.replace("Formatter<'_>", "Formatter<W>"))
-        })
-        .collect()
-}
-
-// The line without the test of a condition at the start of a body.
-fn without_test(line: &str) -> String {
-    match line.split_once("{assert!(") {
-        Some((before, test)) => {
-            let (_, after) = test.split_once(");").expect("the end of the test");
-            format!("{before}{{{after}")
-        }
-        None => line.to_string(),
-    }
-}
-
-// The line without spaces, and with one name for `core` and `std`.
-fn bare(line: &str) -> String {
-    line.replace("core::", "std::").split_whitespace().collect()
+// The sources in a folder and in the folders in it.
+fn sources(folder: &Path) -> Vec<PathBuf> {
+    let paths = fs::read_dir(folder).unwrap().map(|entry| entry.unwrap().path());
+    let (folders, files): (Vec<PathBuf>, Vec<PathBuf>) = paths.partition(|path| path.is_dir());
+    let here = files.into_iter().filter(|path| path.extension().is_some_and(|end| end == "rt"));
+    here.chain(folders.iter().flat_map(|folder| sources(folder))).collect()
 }

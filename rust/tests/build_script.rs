@@ -1,0 +1,76 @@
+//! The build script, on small trees of sources: which files it reads, and what stops a build.
+
+#[path = "../build/main.rs"]
+#[allow(dead_code)]
+mod script;
+
+use script::erase::CRATES;
+use std::fs;
+use std::path::{Path, PathBuf};
+
+/// A folder with the sources of a package, which goes away with it.
+struct Package(PathBuf);
+
+impl Package {
+    // Each crate has one function, and `atoi_core` a module `text` besides.
+    fn new(name: &str) -> Package {
+        let folder = Path::new(env!("CARGO_TARGET_TMPDIR")).join(name);
+        let _ = fs::remove_dir_all(&folder);
+        let package = Package(folder);
+        package.put("rust/src/lib.rs", b"pub use proved::atoi_simd::exported;");
+        for name in CRATES {
+            package.put(&format!("crates/{name}/src/lib.rt"), b"pub fn a() -> u8 {\n    1\n}\n");
+        }
+        package.put("crates/atoi_core/src/text.rt", b"fn size() -> u8 {\n    48\n}\n");
+        package
+    }
+
+    fn put(&self, file: &str, content: &[u8]) {
+        let file = self.0.join(file);
+        fs::create_dir_all(file.parent().unwrap()).unwrap();
+        fs::write(file, content).unwrap();
+    }
+
+    fn build(&self) -> Result<(), String> {
+        script::write_all(&self.0, &self.0.join("out"))
+    }
+
+    fn rust(&self, module: &str) -> String {
+        fs::read_to_string(self.0.join("out").join(module)).unwrap()
+    }
+
+    // What stops the build, which names a file of the package.
+    #[track_caller]
+    fn fault(&self, file: &str) -> String {
+        let fault = self.build().unwrap_err();
+        let file = self.0.join(file).display().to_string();
+        fault.strip_prefix(&file).unwrap_or_else(|| panic!("{fault}")).to_string()
+    }
+}
+
+impl Drop for Package {
+    fn drop(&mut self) {
+        let _ = fs::remove_dir_all(&self.0);
+    }
+}
+
+#[test]
+fn a_refusal_names_the_file_and_the_line() {
+    let package = Package::new("refusals");
+    let file = "crates/atoi_formats/src/deep/b.rt";
+    for (source, fault) in [
+        ("fn b() {}\nfn c() { é }", ":2: `é` outside of a clause"),
+        ("\nfn c() { module_path!() }", ":2: `module_path` is not known here"),
+        ("pub fn exported() requires { ℕ } {}", ":1: a condition that nothing tests in Rust"),
+    ] {
+        package.put(file, source.as_bytes());
+        let found = package.fault(file);
+        assert!(found.starts_with(fault), "{source}: {found}");
+    }
+    package.put(file, b"pub fn b() -> u8 {\n    1\n}\n");
+    package.build().unwrap();
+    assert!(package.rust("atoi_formats/deep/b.rs").starts_with("#[inline] pub fn b()"));
+    let other = "crates/atoi_lanes/src/lib.rt";
+    package.put(other, "pub fn exported() requires { ℕ } {}".as_bytes());
+    assert!(package.fault(other).starts_with(":1: a condition"));
+}
