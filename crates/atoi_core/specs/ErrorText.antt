@@ -1,15 +1,8 @@
 -- The text that an error prints.
-use Rattle.std.specs.Prelude.{ℕ, ◌+◌, ◌/◌, ◌%◌, List, [], ◌∷◌, ◌++◌, true, take, codes, decimal}
+use Rattle.std.specs.Prelude.{ℕ, List, [], ◌∷◌, ◌++◌, true, take, codes, decimal}
 use Rattle.std.specs.List.{flat_map}
 use Rattle.std.specs.Fmt.{digits}
 use Rattle.atoi_core.specs.Refusal.{Refusal, empty, size, overflow, invalid64, invalid128}
-
--- The decimal digits of a number below 100, with a zero before a single digit.
-unfoldable pub two_digits : ℕ → List ℕ
-two_digits n = (48 + n / 10) ∷ (48 + n % 10) ∷ []
-
-unfoldable pub four_digits : ℕ → List ℕ
-four_digits n = two_digits (n / 100) ++ two_digits (n % 100)
 
 -- A byte in hexadecimal capitals, no leading zeros.
 abbrev pub hex_text : ℕ → List ℕ

@@ -1,7 +1,7 @@
 //! The text of an error, and the decimal and hexadecimal numbers in it, written into a slice.
 ghost use Rattle.std.specs.Prelude.{◌≡◌, ◌+◌, ◌-◌, ◌*◌, ◌/◌, ◌%◌, ◌^◌, ◌<◌, ◌≤◌, ◌∷◌, [], ◌++◌, true, Some, length, take, codes, decimal, IsAscii};
 ghost use Rattle.std.specs.Fmt.{digit_glyph};
-ghost use Rattle.atoi_core.specs.ErrorText.{two_digits, four_digits, hex_text, hex_list, input_text, error_text};
+ghost use Rattle.atoi_core.specs.ErrorText.{hex_text, hex_list, input_text, error_text};
 ghost use Rattle.atoi_core.specs.Refusal.{refusal_of};
 
 use crate::error::AtoiSimdError;
@@ -124,87 +124,7 @@ fn put_byte(byte: u8, out: &mut [u8], at: usize) -> usize
     at + 1
 }
 
-// The decimal digits of each number below 100.
-static PAIRS: [[u8; 2]; 100] = [
-    *b"00", *b"01", *b"02", *b"03", *b"04", *b"05", *b"06", *b"07", *b"08", *b"09", *b"10", *b"11",
-    *b"12", *b"13", *b"14", *b"15", *b"16", *b"17", *b"18", *b"19", *b"20", *b"21", *b"22", *b"23",
-    *b"24", *b"25", *b"26", *b"27", *b"28", *b"29", *b"30", *b"31", *b"32", *b"33", *b"34", *b"35",
-    *b"36", *b"37", *b"38", *b"39", *b"40", *b"41", *b"42", *b"43", *b"44", *b"45", *b"46", *b"47",
-    *b"48", *b"49", *b"50", *b"51", *b"52", *b"53", *b"54", *b"55", *b"56", *b"57", *b"58", *b"59",
-    *b"60", *b"61", *b"62", *b"63", *b"64", *b"65", *b"66", *b"67", *b"68", *b"69", *b"70", *b"71",
-    *b"72", *b"73", *b"74", *b"75", *b"76", *b"77", *b"78", *b"79", *b"80", *b"81", *b"82", *b"83",
-    *b"84", *b"85", *b"86", *b"87", *b"88", *b"89", *b"90", *b"91", *b"92", *b"93", *b"94", *b"95",
-    *b"96", *b"97", *b"98", *b"99",
-];
-
-// Writes the two decimal digits of `value`, of which the first may be a zero.
-#[tactic(auto, using(crate::proofs::lemmas::ErrorTexts::pair_of_table), unfolding(crate::specs::ErrorText::two_digits))]
-fn put_pair(value: u32, out: &mut [u8], at: usize) -> usize
-    requires below { value < 100 }
-    requires room { at + 2 ≤ length out.old }
-    ensures written { take result out.new ≡ take at out.old ++ two_digits value }
-    ensures place { result ≡ at + 2 }
-{
-    let [tens, ones] = PAIRS[value as usize];
-    put_bytes(&[tens, ones], out, at)
-}
-
-// Writes the four decimal digits of `value`, of which the first may be zeros.
-#[tactic(auto, unfolding(crate::specs::ErrorText::four_digits))]
-fn put_four(value: u32, out: &mut [u8], at: usize) -> usize
-    requires below { value < 10000 }
-    requires room { at + 4 ≤ length out.old }
-    ensures written { take result out.new ≡ take at out.old ++ four_digits value }
-    ensures place { result ≡ at + 4 }
-{
-    let end = put_pair(value / 100, out, at);
-    put_pair(value % 100, out, end)
-}
-
-// Writes the decimal digits of a value of one to four.
-#[inline(always)]
-#[tactic(auto, using(crate::proofs::lemmas::ErrorTexts::of_one_to_four))]
-fn put_one_to_four(value: u32, out: &mut [u8], at: usize) -> usize
-    requires below { value < 10000 }
-    requires room { at + 4 ≤ length out.old }
-    ensures written { take result out.new ≡ take at out.old ++ decimal value }
-    ensures place { result ≡ at + length (decimal value) }
-    ensures fits { result ≤ at + 4 }
-{
-    if value < 10 {
-        return put_byte(b'0' + value as u8, out, at);
-    }
-    if value < 100 {
-        return put_pair(value, out, at);
-    }
-    if value < 1000 {
-        let end = put_byte(b'0' + (value / 100) as u8, out, at);
-        return put_pair(value % 100, out, end);
-    }
-    put_four(value, out, at)
-}
-
-#[tactic(auto, using(crate::proofs::lemmas::ErrorTexts::of_64_bits))]
-fn put_decimal_64(value: u64, out: &mut [u8], at: usize) -> usize
-    requires { at + 20 ≤ length out.old }
-    ensures written { take result out.new ≡ take at out.old ++ decimal value }
-    ensures place { result ≡ at + length (decimal value) }
-{
-    if value < 10_000 {
-        return put_one_to_four(value as u32, out, at);
-    }
-    if value < 100_000_000 {
-        let end = put_one_to_four((value / 10_000) as u32, out, at);
-        return put_four((value % 10_000) as u32, out, end);
-    }
-    let end = put_decimal_64(value / 100_000_000, out, at);
-    let low = (value % 100_000_000) as u32;
-    let end = put_four(low / 10_000, out, end);
-    put_four(low % 10_000, out, end)
-}
-
-// Eight digits at a time. A division of 128 bits is slow, so it is for larger values alone.
-#[tactic(auto, using(crate::proofs::lemmas::ErrorTexts::of_128_bits))]
+#[tactic(auto, using(crate::proofs::lemmas::ErrorTexts::of_decimal))]
 fn put_decimal(value: u128, out: &mut [u8], at: usize) -> usize
     requires { at + 39 ≤ length out.old }
     ensures written { take result out.new ≡ take at out.old ++ decimal value }
@@ -213,13 +133,27 @@ fn put_decimal(value: u128, out: &mut [u8], at: usize) -> usize
     ensures fits_of_64_bits { value < 2 ^ 64 → result ≤ at + 20 }
     ensures ascii { IsAscii (decimal value) }
 {
-    if value <= u64::MAX as u128 {
-        return put_decimal_64(value as u64, out, at);
-    }
-    let end = put_decimal(value / 100_000_000, out, at);
-    let low = (value % 100_000_000) as u32;
-    let end = put_four(low / 10_000, out, end);
-    put_four(low % 10_000, out, end)
+    let (tens, ones) = divide_by_ten(value);
+    let end = if tens == 0 {
+        at
+    } else {
+        put_decimal(tens, out, at)
+    };
+    put_byte(b'0' + ones, out, end)
+}
+
+// A long division in base 2^32. On most processors, a division of 128 bits calls a function that a
+// library without std cannot link.
+fn divide_by_ten(value: u128) -> (u128, u8)
+    ensures { result ≡ (value / 10, value % 10) }
+{
+    let high = (value >> 64) as u64;
+    let low = (value & 0xFFFF_FFFF_FFFF_FFFF) as u64;
+    let middle = ((high % 10) << 32) + (low >> 32);
+    let last = ((middle % 10) << 32) + (low & 0xFFFF_FFFF);
+    let below = ((middle / 10) << 32) + last / 10;
+    let quotient = ((high / 10) as u128) << 64 | below as u128;
+    (quotient, (last % 10) as u8)
 }
 
 #[tactic(auto, using(crate::proofs::lemmas::ErrorTexts::of_hex))]
