@@ -152,7 +152,8 @@ pub mod column {
 #[cfg(target_pointer_width = "64")]
 pub mod formats {
     pub use crate::proved::atoi_formats::{
-        after, canonical, canonical_then, digits_then, fixed_width, number, number_then,
+        after, canonical, canonical_then, digits_then, fixed_width, json_integer, number,
+        number_then,
     };
 }
 

@@ -1,2 +1,3 @@
 pub mod Canonical
+pub mod Json
 pub mod Then

@@ -1,5 +1,5 @@
 //! Numbers in the formats of files and protocols: a number and the byte after it, a number of a
-//! fixed width, a number as `{}` prints it.
+//! fixed width, a number as `{}` prints it, an integer of JSON.
 //!
 //! Every function serves the twelve integer types of Rust. It returns `Some` exactly if the text has
 //! its format, which a caller proves from its clauses alone.
@@ -8,11 +8,13 @@
 mod after_byte;
 mod canonical_numbers;
 mod fixed_widths;
+mod json_integers;
 mod numbers;
 mod numbers_then;
 
 pub use crate::after_byte::after;
 pub use crate::canonical_numbers::{canonical, canonical_then};
 pub use crate::fixed_widths::fixed_width;
+pub use crate::json_integers::json_integer;
 pub use crate::numbers::number;
 pub use crate::numbers_then::{digits_then, number_then};

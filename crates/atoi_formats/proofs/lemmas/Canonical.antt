@@ -58,7 +58,7 @@ no_needless_zero minus [] none h = refl
 no_needless_zero minus (digit ∷ []) none h = refl
 no_needless_zero minus (digit ∷ next ∷ more) none h = h
 
-in_range : (signed is_negative : Bool) (greatest n : ℕ) → (is_negative ≡ true → signed ≡ true)
+pub in_range : (signed is_negative : Bool) (greatest n : ℕ) → (is_negative ≡ true → signed ≡ true)
     → n ≤ cond is_negative (greatest + 1) greatest
     → (cond signed (neg_ℤ (pos (greatest + 1))) (pos 0) ≤ℤ with_sign is_negative n) × (with_sign is_negative n ≤ℤ pos greatest)
 in_range true true greatest n has le = (omega (arith, ints), omega (arith, ints))
