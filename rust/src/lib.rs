@@ -52,13 +52,13 @@
 //! # Features
 //!
 //! - `std`, which is on by default, changes nothing. The crate never uses `std`.
-//! - `lanes` adds the module `lanes`, which has the ten functions on `core::simd`. It needs a nightly
-//!   compiler, and no version promises that it stays as it is.
+//! - `lanes` adds the module `lanes`, which has the ten functions on vectors of sixteen bytes. It works on
+//!   stable Rust and contains one `unsafe` expression. No version promises that it stays as it is.
 //!
 //! [differences]: https://docs.rs/crate/torkettle/latest/source/docs/DIFFERENCES.md
 #![no_std]
 #![cfg_attr(not(feature = "lanes"), forbid(unsafe_code))]
-#![cfg_attr(feature = "lanes", feature(portable_simd), deny(unsafe_code))]
+#![cfg_attr(feature = "lanes", deny(unsafe_code))]
 #![warn(missing_docs)]
 
 #[cfg(not(target_pointer_width = "64"))]
@@ -159,7 +159,9 @@ pub mod formats {
 
 /// The ten functions with the same results, computed with vectors of sixteen bytes.
 ///
-/// This module needs a nightly compiler, and no version promises that it stays as it is.
+/// They are faster for many calls on long numbers, if the target has the feature `ssse3`, as with
+/// `-C target-cpu=x86-64-v2`. Without that feature, use the functions at the root. `docs/PERFORMANCE.md`
+/// has the figures. No version promises that this module stays as it is.
 #[cfg(all(target_pointer_width = "64", feature = "lanes"))]
 pub mod lanes {
     pub use crate::proved::atoi_lanes::{

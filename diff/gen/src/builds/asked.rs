@@ -25,7 +25,7 @@ pub fn answers_of_package(
     let dependency = package.dependency(PACKAGE);
     let (dependency, head) = match library {
         Library::Words => (dependency, "use torkettle as calls;\n"),
-        Library::Lanes => (dependency.with_nightly_feature("lanes"), LANES),
+        Library::Lanes => (dependency.with_feature("lanes"), LANES),
     };
     let kind = if settings.is_debug { Kind::DebugSharedObject } else { Kind::SharedObject };
     let flags = format!("-C target-cpu={}", settings.cpu);

@@ -55,12 +55,16 @@ impl Dependency {
         Dependency { package, line, contents, is_in_debian: false, needs_nightly: false }
     }
 
-    /// The same crate with a feature that needs a nightly compiler.
-    pub fn with_nightly_feature(mut self, feature: &str) -> Dependency {
+    /// The same crate with a feature.
+    pub fn with_feature(mut self, feature: &str) -> Dependency {
         let line = self.line.trim_end_matches(" }");
         self.line = format!("{line}, features = [\"{feature}\"] }}");
-        self.needs_nightly = true;
         self
+    }
+
+    /// The same crate, which needs a nightly compiler.
+    pub fn on_nightly(self) -> Dependency {
+        Dependency { needs_nightly: true, ..self }
     }
 }
 

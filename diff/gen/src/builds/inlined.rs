@@ -77,7 +77,7 @@ pub fn inlined(
     has_lanes: bool,
 ) -> Result<Inlined, String> {
     let with_lanes = |dependency: Dependency| match has_lanes {
-        true => dependency.with_nightly_feature("lanes"),
+        true => dependency.with_feature("lanes"),
         false => dependency,
     };
     let mut dependencies = vec![with_lanes(ours.dependency("ours"))];
@@ -93,7 +93,8 @@ pub fn inlined(
             }
         }
         Beside::Other { package, name } => {
-            dependencies.push(with_lanes(package.dependency("theirs")));
+            // In earlier commits, lanes need a nightly compiler.
+            dependencies.push(with_lanes(package.dependency("theirs")).on_nightly());
             let lanes = has_lanes.then_some(THEIRS_LANES);
             let formats = package.has("formats").then_some(THEIRS_FORMATS);
             parts.push(Part { lanes, formats, ..part(name, "theirs_", THEIRS) });
