@@ -1,5 +1,5 @@
-//! What stops the program if the library panics. Nothing panics, since the parsers are proved not to, but
-//! the compiler does not know it everywhere.
+//! What a library without std has to define: what stops the program in a panic. Nothing panics, since the
+//! parsers are proved not to, but the compiler does not know it everywhere.
 
 #[cfg(not(test))]
 #[panic_handler]
@@ -23,6 +23,23 @@ fn fault() -> ! {
         unsafe { core::ptr::without_provenance_mut::<u8>(1).write_volatile(0) }
     }
 }
+
+// `core` is compiled for panics that unwind, which call this function. Without LTO its object still names
+// it, though nothing calls it here. A weak and hidden symbol meets no other library's.
+#[cfg(all(
+    any(
+        target_arch = "x86_64",
+        target_arch = "aarch64",
+        target_arch = "riscv64",
+        target_arch = "s390x"
+    ),
+    not(any(test, windows, target_vendor = "apple"))
+))]
+core::arch::global_asm!(
+    ".weak rust_eh_personality",
+    ".hidden rust_eh_personality",
+    "rust_eh_personality:"
+);
 
 #[cfg(test)]
 mod tests {
