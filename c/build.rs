@@ -6,9 +6,18 @@ fn main() {
     println!("cargo::rerun-if-changed=build.rs");
     if env::var("CARGO_CFG_TARGET_OS").is_ok_and(|system| system != "macos" && system != "windows")
     {
-        let major = env::var("CARGO_PKG_VERSION_MAJOR").unwrap_or_default();
-        for argument in ["-lc", "-Wl,-z,defs", &format!("-Wl,-soname,libtorkettle.so.{major}")] {
+        let soname = format!("-Wl,-soname,libtorkettle.so.{}", interface());
+        for argument in ["-lc", "-Wl,-z,defs", &soname] {
             println!("cargo::rustc-cdylib-link-arg={argument}");
         }
+    }
+}
+
+/// The first number of the version or, while that is 0, the first two: what changes with the interface.
+fn interface() -> String {
+    let number = |name| env::var(format!("CARGO_PKG_VERSION_{name}")).unwrap_or_default();
+    match number("MAJOR") {
+        major if major == "0" => format!("0.{}", number("MINOR")),
+        major => major,
     }
 }
