@@ -44,16 +44,25 @@ pub fn write_all(top: &Path, out: &Path) -> Result<(), String> {
     write(&out.join("proved.rs"), &crates)
 }
 
-// Finds the sources in a folder and in the folders in it.
+// Finds the sources in a folder and in the folders in it: the files with the ending `rt`. Editors and
+// systems write other files beside them, also some that begin with a point.
 fn find(from: &Path, to: &Path, sources: &mut BTreeMap<PathBuf, PathBuf>) -> Result<(), String> {
-    let entries = fs::read_dir(from).map_err(|error| format!("{}: {error}", from.display()))?;
-    for entry in entries {
-        let path = entry.map_err(|error| format!("{}: {error}", from.display()))?.path();
-        if path.is_dir() {
-            find(&path, &to.join(path.file_name().unwrap_or_default()), sources)?;
-        } else {
-            let module = to.join(path.file_name().unwrap_or_default());
-            sources.insert(module.with_extension("rs"), path);
+    let failed = |error| format!("{}: {error}", from.display());
+    for entry in fs::read_dir(from).map_err(failed)? {
+        let path = entry.map_err(failed)?.path();
+        let name = path.file_name().unwrap_or_default().to_string_lossy();
+        let module = match name.strip_suffix(".rt").filter(|_| !name.starts_with('.')) {
+            _ if path.is_dir() => {
+                find(&path, &to.join(&*name), sources)?;
+                continue;
+            }
+            None => continue,
+            Some("mod") => to.with_extension("rs"),
+            Some(module) => to.join(module).with_extension("rs"),
+        };
+        if let Some(other) = sources.insert(module, path.clone()) {
+            let (path, other) = (path.display(), other.display());
+            return Err(format!("{path}: the same module as {other}"));
         }
     }
     Ok(())
@@ -73,13 +82,10 @@ fn write_known(modules: &[Module]) -> Result<(), String> {
 
 // Without the feature, the module of the lanes stays empty.
 fn module(name: &str, out: &Path) -> String {
-    let file = out.join(name).join("lib.rs");
-    let is_empty = name == "atoi_lanes" && env::var_os("CARGO_FEATURE_LANES").is_none();
-    if is_empty {
-        format!("pub mod {name} {{}}\n")
-    } else {
-        format!("#[path = {file:?}]\npub mod {name};\n")
+    if name == "atoi_lanes" && env::var_os("CARGO_FEATURE_LANES").is_none() {
+        return format!("pub mod {name} {{}}\n");
     }
+    format!("#[path = {:?}]\npub mod {name};\n", out.join(name).join("lib.rs"))
 }
 
 fn fault(file: &Path, (line, reason): erase::Refusal) -> String {

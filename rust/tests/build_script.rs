@@ -74,3 +74,48 @@ fn a_refusal_names_the_file_and_the_line() {
     package.put(other, "pub fn exported() requires { ℕ } {}".as_bytes());
     assert!(package.fault(other).starts_with(":1: a condition"));
 }
+
+#[test]
+fn other_files_change_nothing() {
+    let package = Package::new("other_files");
+    package.build().unwrap();
+    let rust = package.rust("atoi_core/text.rs");
+    let source = b"fn size() -> u8 {\n    49\n}\n";
+    for file in
+        ["text.rt~", "text.bak", "text.orig", "text.rt.orig", "#text.rt#", "text.rs", "text"]
+    {
+        package.put(&format!("crates/atoi_core/src/{file}"), source);
+    }
+    for file in [".text.rt.swp", ".DS_Store", "._text.rt", ".text.rt", "text.rt.swp"] {
+        package.put(&format!("crates/atoi_core/src/{file}"), b"\xFF\x00");
+    }
+    package.build().unwrap();
+    assert_eq!(package.rust("atoi_core/text.rs"), rust);
+    let modules = fs::read_dir(package.0.join("out/atoi_core")).unwrap();
+    let mut modules: Vec<_> = modules.map(|entry| entry.unwrap().file_name()).collect();
+    modules.sort();
+    assert_eq!(modules, ["lib.rs", "text.rs"]);
+}
+
+#[test]
+fn a_module_has_one_file() {
+    let package = Package::new("one_file");
+    package.put("crates/atoi_core/src/deep/text.rt", b"fn size() -> u8 {\n    48\n}\n");
+    package.put("crates/atoi_core/src/deep/mod.rt", b"mod text;\n");
+    package.build().unwrap();
+    assert_eq!(package.rust("atoi_core/deep.rs"), "mod text;\n");
+    package.put("crates/atoi_core/src/deep.rt", b"mod text;\n");
+    let fault = package.build().unwrap_err();
+    for file in ["crates/atoi_core/src/deep.rt", "crates/atoi_core/src/deep/mod.rt"] {
+        assert!(fault.contains(file), "{fault}");
+    }
+}
+
+#[test]
+fn a_source_is_utf_8() {
+    let package = Package::new("utf_8");
+    let file = "crates/atoi_column/src/text.rt";
+    package.put(file, b"fn size() -> u8 {\n    b'\xFF'\n}\n");
+    let fault = package.fault(file);
+    assert!(fault.contains("UTF-8"), "{fault}");
+}
