@@ -92,26 +92,26 @@ pub trait Engine {
         ensures loads { LoadsWithin (most_loads table wide128 s.now - 2) 3 table skip s.now
             steps.old steps.new }
     {
-        let mut at = 0;
+        let mut skipped = 0;
         let first = loop {
-            let window = Self::window(&s[at..], steps);
+            let window = Self::window(&s[skipped..], steps);
             if !skip || window.zeroes == 0 {
                 break window;
             }
-            at += window.zeroes as usize;
+            skipped += window.zeroes as usize;
         };
         if first.len < 16 {
-            return found_or_empty(u128::from(first.number), at + first.len as usize);
+            return found_or_empty(u128::from(first.number), skipped + first.len as usize);
         }
-        let rest = &s[at..];
+        let rest = &s[skipped..];
         let second = Self::window(&rest[16..], steps);
         if second.len < 16 {
             let number = append_digits(first.number, second.len, second.number);
-            return Ok((number, at + 16 + second.len as usize));
+            return Ok((number, skipped + 16 + second.len as usize));
         }
         let third = Self::window_8(&rest[32..], steps);
         let high = append_digits(first.number, 16, second.number);
-        answer_128(bound, at, high, third.len, third.number, s)
+        answer_128(bound, skipped, high, third.len, third.number, s)
     }
 
     ghost below_ten: { IsBelowTen table };

@@ -15,7 +15,7 @@ loop-window-preserved g c =
 
 -- What holds after the loop.
 ended : (g : _) (c : Joined-then-not-skip g)
-    → Skipped g.Self.Engine.table c.args.skip c.args.s.now c.loop-window.at c.args.steps.now c.window-window.new.steps c.window-window.result
+    → Skipped g.Self.Engine.table c.args.skip c.args.s.now c.loop-window.skipped c.args.steps.now c.window-window.new.steps c.window-window.result
 ended g c =
     Skipped-end g.met.Self.Engine.below_ten c.loop-window.invariant c.window-window.ensures.window c.window-window.ensures.one_step c.then-not-skip.either
 
@@ -27,13 +27,13 @@ returns-then-first-lt16 g c =
       loads = Skipped-loads after_skip 0 (omega arith) (omega arith) (omega arith);
     }
 
-middle : (g : _) (c : After-window-second g) → Shows g.Self.Engine.table 16 (drop 16 (drop c.loop-window.at c.args.s.now)) c.window-second.result
+middle : (g : _) (c : After-window-second g) → Shows g.Self.Engine.table 16 (drop 16 (drop c.loop-window.skipped c.args.s.now)) c.window-second.result
 middle g c =
-    shows_following g.met.Self.Engine.below_ten 16 16 c.args.s.now c.loop-window.at c.window-second.ensures.window
+    shows_following g.met.Self.Engine.below_ten 16 16 c.args.s.now c.loop-window.skipped c.window-second.ensures.window
 
-third : (g : _) (c : After-window_8-third g) → Shows g.Self.Engine.table 8 (drop 32 (drop c.loop-window.at c.args.s.now)) c.window_8-third.result
+third : (g : _) (c : After-window_8-third g) → Shows g.Self.Engine.table 8 (drop 32 (drop c.loop-window.skipped c.args.s.now)) c.window_8-third.result
 third g c =
-    shows_following g.met.Self.Engine.below_ten 8 32 c.args.s.now c.loop-window.at c.window_8-third.ensures.window
+    shows_following g.met.Self.Engine.below_ten 8 32 c.args.s.now c.loop-window.skipped c.window_8-third.ensures.window
 
 pub returns-then-second-lt16 : goal.returns-then-second-lt16
 returns-then-second-lt16 g c =
@@ -48,9 +48,9 @@ returns-then-second-lt16 g c =
 pub slice_bounds-window_8-start : goal.slice_bounds-window_8-start
 slice_bounds-window_8-start g c =
     let at = goal.at.slice_bounds-window_8-start g c in
-    let body = drop c.loop-window.at c.args.s.now in
+    let body = drop c.loop-window.skipped c.args.s.now in
     let full = two_full body (ended g at.Joined-then-not-skip).window c.if-first-lt16.false (middle g at.After-window-second) c.if-second-lt16.false in
-    rw (take_rest c.args.s.now c.loop-window.at) (omega (arith, full, prefix_len-le-length (is_digit g.Self.Engine.table) body))
+    rw (take_rest c.args.s.now c.loop-window.skipped) (omega (arith, full, prefix_len-le-length (is_digit g.Self.Engine.table) body))
 
 pub slice_bounds-window_8-count : goal.slice_bounds-window_8-count
 slice_bounds-window_8-count g c = slice_bounds-window_8-start g c
