@@ -1,11 +1,11 @@
-use Rattle.std.proofs.Common.{length, true}
+use Rattle.std.proofs.Common.{length}
 use Rattle.atoi_column.proofs.lemmas.FieldItems.{length-field_items_left}
 use Rattle.atoi_column.proofs.lemmas.Places.{field_items_left-inside}
 use Rattle.atoi_column.proofs.fields.Fields.lines.Goals as goal
 
 pub returns-clause-fits : goal.returns-clause-fits
 returns-clause-fits g c =
-    length-field_items_left g.T.Number.int_type true 10 0 (length c.args.input.now) c.args.input.now
+    length-field_items_left g.T.Number.int_type _ 10 0 (length c.args.input.now) c.args.input.now
 
 pub returns-clause-places : goal.returns-clause-places
-returns-clause-places g c = field_items_left-inside g.T.Number.int_type true 10 c.args.input.now
+returns-clause-places g c = field_items_left-inside g.T.Number.int_type _ 10 c.args.input.now
