@@ -45,7 +45,7 @@ fn without_first(s: &[u8]) -> &[u8]
 }
 
 /// Parses all of `s` as at most one sign and digits. Returns the errors of `whole_pos` for the
-/// body.
+/// body, or of `whole_neg` after a `-`.
 #[inline(always)]
 pub fn parse_signed<'a, E: Engine, T: Signed>(
     skip: bool,
@@ -80,7 +80,7 @@ pub fn parse_unsigned<'a, E: Engine, T: Number>(
 }
 
 /// Parses the number at the start of `s`, and returns it with its length, the sign included. Returns the
-/// errors of `prefix_pos` for the body.
+/// errors of `prefix_pos` for the body, or of `prefix_neg` after a `-`.
 #[inline(always)]
 pub fn parse_prefix_signed<'a, E: Engine, T: Signed>(
     skip: bool,
@@ -99,7 +99,7 @@ pub fn parse_prefix_signed<'a, E: Engine, T: Signed>(
     Ok(count_sign(found, body, s))
 }
 
-/// The same for an unsigned type, which accepts no `-`. The errors are the same too.
+/// The same for an unsigned type, which accepts no `-`. Returns the errors of `prefix_pos` for the body.
 #[inline(always)]
 pub fn parse_prefix_unsigned<'a, E: Engine, T: Number>(
     skip: bool,
