@@ -1,5 +1,5 @@
 //! Parses decimal integers from byte slices, for the twelve integer types of Rust: exactly, without
-//! allocation, without `std` and without `unsafe` code.
+//! allocation, without `std` and, unless the feature `lanes` is on, without `unsafe` code.
 //!
 //! ```
 //! use torkettle::{AtoiSimdError, parse, parse_prefix};
