@@ -8,3 +8,4 @@ pub mod Pairs
 pub mod Points
 pub mod Durations
 pub mod BadFields
+pub mod Arrays

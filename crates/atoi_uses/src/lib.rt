@@ -2,6 +2,7 @@
 #![tactic(auto)]
 
 mod addresses;
+mod arrays;
 mod bad_fields;
 mod cents;
 mod commands;
@@ -15,6 +16,7 @@ mod status_line;
 mod versions;
 
 pub use crate::addresses::{Address, parse_address};
+pub use crate::arrays::total_of_array;
 pub use crate::bad_fields::count_bad_fields;
 pub use crate::cents::Cents;
 pub use crate::commands::{Command, CommandError, Word, read_command};
