@@ -3,9 +3,9 @@
 //!
 //! Every other token of a source is in the Rust, in its order and on its line: only heads of paths and
 //! the signature of `fmt` are replaced, and hints to inline and tests of conditions are put in. A form
-//! that is not known here, or a name that is not in `names.rs`, stops the build. Where users can call a
-//! function, each of its conditions is tested first in its body, or stops the build, except for
-//! `UNTESTED`. No types are known here, so that reviewers must see which of several methods is called.
+//! that is not known here, or a name of Rust that `names.rs` does not list, stops the build. A condition
+//! of a function that users can call is tested first in its body, or stops the build, except for those in
+//! `UNTESTED`. No types are known here: reviewers see which of several methods a call means.
 
 use super::names;
 use super::tokens::{Kind, Scanner, Token};
@@ -33,9 +33,6 @@ const CONDITIONS: [(&str, &str); 2] = [
 // users can name mentions `Engine`.
 const UNTESTED: &str = "atoi_core::Number::from_pos atoi_core::Signed::from_neg \
     atoi_core::Engine::prefix_64 atoi_core::Engine::prefix_128";
-
-// The crates all of whose public functions count as exported.
-const CALLED: [&str; 3] = ["atoi_simd", "atoi_column", "atoi_formats"];
 
 /// The line of what is refused, and why it is.
 pub type Refusal = (usize, String);
@@ -115,7 +112,10 @@ impl<'a> Eraser<'a> {
 
     fn word(&mut self, token: Token<'a>) -> Result<(), String> {
         match token.text {
-            "ghost" => self.ghost(token)?,
+            "ghost" => {
+                self.pass_ghost()?;
+                self.leave_out(token);
+            }
             "requires" | "ensures" => self.contract(token)?,
             "impl" if self.is_model()? => self.model(token)?,
             "impl" | "trait" if self.signature.is_none() => self.owner(token)?,
@@ -148,14 +148,14 @@ impl<'a> Eraser<'a> {
                 _ => {}
             }
         }
-        self.depth += usize::from(token.text == "{");
-        if token.text == "}" {
-            self.depth = self.depth.saturating_sub(1);
-            self.owner = self.owner.filter(|&(_, depth)| depth < self.depth);
+        match token.text {
+            "{" => self.depth += 1,
+            "}" => self.depth = self.depth.saturating_sub(1),
+            ";" => {}
+            _ => return,
         }
-        if matches!(token.text, "{" | "}" | ";") {
-            self.item = Item::default();
-        }
+        self.owner = self.owner.filter(|&(_, depth)| depth < self.depth || token.text != "}");
+        self.item = Item::default();
     }
 
     // Puts what tests a function's conditions behind the `{` of its body, and a hint to inline before
@@ -187,6 +187,9 @@ impl<'a> Eraser<'a> {
             let kept: Vec<&str> = derived.split(',').filter(|&name| name != "Drop").collect();
             self.leave_out(token);
             self.out.push_str(&format!("#[derive({})]", kept.join(", ")));
+        } else if text == "[inline(always)]" && self.is_compiled_once()? {
+            self.leave_out(token);
+            self.out.push_str("#[cfg_attr(not(debug_assertions), inline(always))]");
         } else if is_hint || text == "[cold]" {
             self.copy_to(self.scanner.at);
         } else {
@@ -195,17 +198,19 @@ impl<'a> Eraser<'a> {
         Ok(())
     }
 
-    fn ghost(&mut self, token: Token<'a>) -> Result<(), String> {
-        if self.is_documented {
-            return Err("a documented ghost item: its documentation would move to the next".into());
-        }
-        self.pass_ghost()?;
-        self.leave_out(token);
-        Ok(())
+    // Says whether a method of the ten functions comes next. Without a hint, rustc compiles it in this
+    // package, which is optimized where programs ask for that, and not in a program's debug build.
+    fn is_compiled_once(&self) -> Result<bool, String> {
+        let mut ahead = self.scanner.clone();
+        while ahead.next_token()?.text != "fn" {}
+        Ok(ahead.peek().text.starts_with("atoi_simd_parse"))
     }
 
     // Reads `use ..;`, `NAME: {..}` or `NAME = {..}` after `ghost`.
     fn pass_ghost(&mut self) -> Result<(), String> {
+        if self.is_documented {
+            return Err("a documented ghost item: its documentation would move to the next".into());
+        }
         let name = self.scanner.next_token()?;
         if name.text == "use" {
             let path = self.scanner.ghost_path()?.trim();
@@ -235,8 +240,7 @@ impl<'a> Eraser<'a> {
         if token.text == "requires" && self.is_tested(&signature)? {
             let clause = self.with_paths(&signature, clause);
             let known = CONDITIONS.iter().find(|(condition, _)| *condition == clause);
-            let (_, test) = known.ok_or("a condition that nothing tests in Rust")?;
-            signature.tests.push_str(test);
+            signature.tests.push_str(known.ok_or("a condition that nothing tests in Rust")?.1);
         }
         self.signature = Some(signature);
         self.leave_out(token);
@@ -245,16 +249,18 @@ impl<'a> Eraser<'a> {
 
     // Says whether a test of this function's conditions is put in: users may call it.
     fn is_tested(&self, function: &Signature) -> Result<bool, String> {
-        let is_exported = CALLED.contains(&self.name) || self.exported.contains(&function.name);
+        // All public functions of the other crates are to be exported.
+        let is_exported = !matches!(self.name, "atoi_core" | "atoi_lanes")
+            || self.exported.contains(&function.name);
         let Some((owner, _)) = self.owner else {
             return Ok(function.item.is_public && is_exported);
         };
         let method = format!("{}::{owner}::{}", self.name, function.name);
-        let is_untested = names::has(UNTESTED, &method);
-        if owner != "impl" && !is_untested {
-            return Err(format!("a condition of `{method}`, which nothing tests in Rust"));
+        match names::has(UNTESTED, &method) {
+            true => Ok(false),
+            false if owner == "impl" => Ok(true),
+            false => Err(format!("a condition of `{method}`, which nothing tests in Rust")),
         }
-        Ok(!is_untested)
     }
 
     // Returns the clause with the path of each name that a `ghost use` imports and no parameter hides.
@@ -322,10 +328,8 @@ impl<'a> Eraser<'a> {
     fn function(&mut self, token: Token<'a>) -> Result<(), String> {
         self.keep(token);
         let (name, item) = (self.scanner.peek(), self.item);
-        if name.kind != Kind::Word {
-            return Ok(());
-        }
-        self.signature = Some(Signature { name: name.text, item, tests: String::new(), depth: 0 });
+        let signature = Signature { name: name.text, item, tests: String::new(), depth: 0 };
+        self.signature = (name.kind == Kind::Word).then_some(signature);
         if name.text == "fmt" {
             self.scanner.next_token()?;
             self.keep(name);

@@ -1,7 +1,6 @@
-//! The names of Rust that the sources use. What the eraser made is read once more here. Each macro and
-//! method in it must be in a list below, and so must each other name that is called, part of a path, or
-//! large, unless the sources declare it. A name is listed after a look at "What differs silently" in
-//! FROM_RUST.md of the kit.
+//! The names of Rust that the sources use. The eraser's Rust is read once more: each macro, and each name
+//! that is called, in a path or large, must be listed here or, except for most methods, declared in the
+//! sources. A name is listed after a look at "What differs silently" in the kit's FROM_RUST.md.
 
 use super::erase::{Refusal, refusal};
 use super::tokens::{Kind, Scanner, Token};
@@ -100,7 +99,6 @@ struct Names<'a> {
     declared: &'a BTreeSet<&'a str>,
     // The brackets that are open.
     open: Vec<usize>,
-    // Where the last path from `PATHS` ends.
     path_end: usize,
 }
 

@@ -1,6 +1,5 @@
 //! The tokens of a Rattle source, as far as they are those of Rust.
 
-/// What a token is.
 #[derive(Clone, Copy, PartialEq, Eq)]
 pub enum Kind {
     /// A name, a keyword or a whole number.

@@ -95,6 +95,11 @@ fn functions_without_a_hint_get_one() {
         words("#[inline(always)]\nfn a() {}\nfn b() {}"),
         "#[inline(always)] fn a() {} #[inline] fn b() {}"
     );
+    // A debug build of a program leaves the methods of the ten functions to the package.
+    assert_eq!(
+        words("#[inline(always)]\nfn atoi_simd_parse() {}\n#[inline(always)]\nfn a() {}"),
+        "#[cfg_attr(not(debug_assertions), inline(always))] fn atoi_simd_parse() {} #[inline(always)] fn a() {}"
+    );
     assert_eq!(words("type A = fn(u8) -> u8;"), "type A = fn(u8) -> u8;");
     let source = "fn fmt<W: fmt::Write>(&self, f: &mut fmt::Formatter<W>) -> fmt::Result {}";
     let rust = "#[inline] fn fmt(&self, f: &mut fmt::Formatter<'_>) -> fmt::Result {}";
@@ -210,6 +215,7 @@ fn what_is_not_known_is_refused() {
         ("ghost let a = 1;", 1, "ghost item"),
         ("struct A {\n    /// B.\n    ghost c: { ℕ },\n}", 3, "documented"),
         ("struct A {\n    /// B.\n    // C.\n    ghost c: { ℕ },\n}", 4, "documented"),
+        ("struct A;\n/// B.\nimpl Model for A { ghost c = { ℕ }; }", 3, "documented"),
         ("#[cfg(test)]\nmod a;", 1, "attribute"),
         ("#[must_use]\nfn a() {}", 1, "attribute"),
         ("#[inline(sometimes)]\nfn a() {}", 1, "attribute"),

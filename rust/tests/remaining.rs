@@ -180,9 +180,21 @@ impl Reader<'_> {
                 }
                 self.keep_through(end);
             }
+            _ if self.text(bracket + 3) == "always" && self.is_compiled_once() => {
+                let line = self.tokens[self.at].0;
+                self.put(line, "#[cfg_attr(not(debug_assertions), inline(always))]");
+                self.at = end + 1;
+            }
             _ => self.keep_through(end),
         }
         self.text(bracket + 1) == "inline" && self.at == end + 1
+    }
+
+    // Says whether the next function is a method of the ten functions: a debug build inlines none.
+    fn is_compiled_once(&self) -> bool {
+        let mut texts = self.tokens[self.at..].iter().map(|(_, text)| text.as_str());
+        texts.find(|text| *text == "fn").is_some()
+            && texts.next().is_some_and(|name| name.starts_with("atoi_simd_parse"))
     }
 
     // An item that ends with `;`.
