@@ -86,9 +86,10 @@ pub fn check(rust: &str, declared: &BTreeSet<&str>) -> Result<(), Refusal> {
     let mut names = Names { tokens: tokens(rust)?, declared, open: Vec::new(), path_end: 0 };
     for at in 0..names.tokens.len() {
         if at >= names.path_end && !names.is_known(at) {
-            let Token { text, start, .. } = names.tokens[at];
+            let refused = &names.tokens[at..names.path_end.max(at + 1)];
+            let text: String = refused.iter().map(|token| token.text).collect();
             let reason = format!("`{text}` is not known here, or means something else in Rust");
-            return Err(refusal(rust, start, reason));
+            return Err(refusal(rust, refused[0].start, reason));
         }
     }
     Ok(())
@@ -97,7 +98,6 @@ pub fn check(rust: &str, declared: &BTreeSet<&str>) -> Result<(), Refusal> {
 struct Names<'a> {
     tokens: Vec<Token<'a>>,
     declared: &'a BTreeSet<&'a str>,
-    // The brackets that are open.
     open: Vec<usize>,
     path_end: usize,
 }

@@ -291,10 +291,10 @@ fn what_differs_silently_is_refused() {
         ("struct A { b: u8 } fn a() { A { b: 1, ..{ c[at] } } }", 1, "`..`"),
         ("struct A { b: u8 } fn a() { A { b: 1, ..a() } }", 1, "`..`"),
         // Types are laid out differently.
-        ("fn a() { std::alloc::Layout::new::<(u8, u32, u8)>().size() }", 1, "`core`"),
-        ("use std::alloc::Layout;", 1, "`core`"),
+        ("fn a() { std::alloc::Layout::new::<(u8, u32, u8)>().size() }", 1, "`core::"),
+        ("use std::alloc::Layout;", 1, "`core::alloc::Layout`"),
         ("fn a() { align_of_val(&b) }", 1, "`align_of_val`"),
-        ("fn a() { std::mem::align_of_val(&b) }", 1, "`core`"),
+        ("fn a() { std::mem::align_of_val(&b) }", 1, "`core::"),
         ("fn a() { b.map(size_of_val) }", 1, "`map`"),
         ("fn a() { let b = size_of_val; }", 1, "`size_of_val`"),
         ("fn size_of() {}", 1, "`size_of`"),
@@ -302,7 +302,7 @@ fn what_differs_silently_is_refused() {
         ("fn a() { stringify!(std::mem).len() }", 1, "`stringify`"),
         ("fn a() { module_path!() }", 1, "`module_path`"),
         ("fn a() { line![] }", 1, "`line`"),
-        ("fn a() { core::any::type_name::<u8>() }", 1, "`core`"),
+        ("fn a() { core::any::type_name::<u8>() }", 1, "`core::"),
         ("fn a() { ::std::any::type_name::<u8>() }", 1, "`std`"),
         // A clone is a `Result`, and so is an item.
         ("fn a() { b.iter().map(|s| s.clone()) }", 1, "`map`"),
@@ -312,11 +312,11 @@ fn what_differs_silently_is_refused() {
         // Errors that print otherwise.
         ("fn a() -> anyhow::Error {}", 1, "`anyhow`"),
         // Values that are not dropped, and channels that disagree for a moment.
-        ("fn a() { std::thread::spawn(b) }", 1, "`core`"),
+        ("fn a() { std::thread::spawn(b) }", 1, "`core::"),
         ("fn a() { b.try_send(1) }", 1, "`try_send`"),
         // Types that are one in Rattle and three in Rust.
-        ("use std::iter::once;", 1, "`core`"),
-        ("use std::iter::{FusedIterator, once};", 1, "`core`"),
+        ("use std::iter::once;", 1, "`core::"),
+        ("use std::iter::{FusedIterator, once};", 1, "`core::"),
         ("fn a(b: Option<u8>) { b.into_iter() }", 1, "`into_iter`"),
         ("fn a() { u16::try_from(1u8) }", 1, "`try_from`"),
         // A method of another `impl`, which needs a trait or a bound of Rust's.
@@ -328,9 +328,9 @@ fn what_differs_silently_is_refused() {
         ("#[derive(Debug)] struct A; impl Drop for A { fn drop(self) {} }", 1, "`Drop`"),
         ("fn a() { drop(b) }", 1, "`drop`"),
         // Renamed names.
-        ("use std::fmt as f;", 1, "`core`"),
-        ("use std::cmp::Ordering as Option;", 1, "`core`"),
-        ("pub use std::simd::*;", 1, "`crate`"),
+        ("use std::fmt as f;", 1, "`core::"),
+        ("use std::cmp::Ordering as Option;", 1, "`core::"),
+        ("pub use std::simd::*;", 1, "`crate::simd::*`"),
     ]);
 }
 
