@@ -57,7 +57,7 @@ fn length_of_integer(text: &[u8]) -> Option<usize> {
 
 // The value of a number of JSON. `str::parse` accepts no minus for an unsigned type, where -0 is 0.
 fn value<T: FromStr>(number: &[u8]) -> Option<T> {
-    let number = str::from_utf8(number).expect("a number of JSON is ASCII");
+    let number = std::str::from_utf8(number).expect("a number of JSON is ASCII");
     if number == "-0" { "0".parse().ok() } else { number.parse().ok() }
 }
 
