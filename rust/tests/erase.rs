@@ -81,6 +81,11 @@ fn paths_are_those_of_the_package() {
     assert_eq!(words("use std::simd::u8x16;"), "use crate::simd::u8x16;");
     assert_eq!(words("pub(crate) mod a;"), "pub(crate) mod a;");
     assert_eq!(words("use a::std::b;"), "use a::std::b;");
+    // The arguments of a macro are code, too.
+    assert_eq!(
+        words("const A: bool = matches!(crate::B, std::c::D | atoi_lanes::E);"),
+        "const A: bool = matches!(crate::proved::atoi_core::B, core::c::D | crate::proved::atoi_lanes::E);"
+    );
 }
 
 #[test]
@@ -223,7 +228,7 @@ fn what_is_not_known_is_refused() {
         ("/* a */", 1, "block comment"),
         ("fn a() { r\"b\"; }", 1, "raw text"),
         ("fn a() { 1.5; }", 1, "`1`"),
-        ("fn a() { b(1.); }", 1, "`b`"),
+        ("fn b() {} fn a() { b(1.); }", 1, "`1`"),
         ("fn a() { 1.; }", 1, "`1`"),
         ("fn a() { 1e3; }", 1, "`1e3`"),
         ("fn a() { 1f64; }", 1, "`1f64`"),
