@@ -65,7 +65,6 @@ struct Item {
 struct Signature<'a> {
     name: &'a str,
     item: Item,
-    // What tests its conditions.
     tests: String,
     // How many `(` and `[` are open.
     depth: usize,

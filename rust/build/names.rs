@@ -134,6 +134,9 @@ impl<'a> Names<'a> {
             let path: Vec<&str> = path.take_while(|text| !matches!(*text, ";" | "(")).collect();
             self.path_end = at + path.len();
             has(PATHS, &path.concat())
+        } else if name == "as" {
+            // A cast, or a crate. A function keeps its name, by which its conditions are found.
+            next.starts_with(['i', 'u']) && has(NAMES, next) || last.starts_with("atoi_")
         } else if has(KEYWORDS, name) || is_large && name.len() == 1 {
             true
         } else if next == "!" && matches!(after, "(" | "[" | "{") {

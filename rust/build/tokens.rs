@@ -12,7 +12,6 @@ pub enum Kind {
     Symbol,
 }
 
-/// A token, and where it starts in the source.
 #[derive(Clone, Copy)]
 pub struct Token<'a> {
     pub kind: Kind,
@@ -20,7 +19,6 @@ pub struct Token<'a> {
     pub start: usize,
 }
 
-/// Reads a source from its start to its end.
 #[derive(Clone, Default)]
 pub struct Scanner<'a> {
     pub source: &'a str,

@@ -333,6 +333,8 @@ fn what_differs_silently_is_refused() {
         ("#[derive(Debug)] struct A; impl Drop for A { fn drop(self) {} }", 1, "`Drop`"),
         ("fn a() { drop(b) }", 1, "`drop`"),
         // Renamed names.
+        ("fn a() {} pub use crate::a as exported;", 1, "`as`"),
+        ("fn a() {} pub use crate::{a as exported};", 1, "`as`"),
         ("use std::fmt as f;", 1, "`core::"),
         ("use std::cmp::Ordering as Option;", 1, "`core::"),
         ("pub use std::simd::*;", 1, "`crate::simd::*`"),
@@ -350,6 +352,7 @@ fn what_means_the_same_is_taken() {
         "struct A { b: u8, c: u8 } fn a(d: A) -> u8 { let A { b, .. } = d; b }",
         "struct A(u8, (u8, u8)); fn a(d: A) -> u8 { d.1.0 + 0xFF_u8 + 1_0 }",
         "enum A { B, C(u8), D { e: u8 } } fn a(f: A) -> A { A::C(1) }",
+        "pub use atoi_lanes as lanes; fn a(b: u8) -> u64 { b as u64 }",
         "use std::fmt; use std::cmp::Ordering; fn a() -> Option<Ordering> { None }",
     ] {
         if let Err((line, reason)) = built("atoi_core", source) {
