@@ -2,6 +2,7 @@
 //! laid out: a C compiler compares them.
 
 use crate::{CheckedColumn, Error, Found};
+use std::env;
 use std::ffi::{c_char, c_uint};
 use std::io::Write;
 use std::mem::offset_of;
@@ -158,11 +159,12 @@ fn header_declares_what_is_exported() {
     let assertions = [layouts(), crate::declarations_of_types(), crate::others::declarations()];
     let text = format!("#include \"torkettle.h\"\n{}", assertions.concat().concat());
     let folder = concat!(env!("CARGO_MANIFEST_DIR"), "/include");
-    let mut compiler = Command::new("cc")
+    // For another processor, `CC` names a compiler, because types may be aligned differently there.
+    let mut compiler = Command::new(env::var("CC").as_deref().unwrap_or("cc"))
         .args(["-std=c11", "-fsyntax-only", "-I", folder, "-x", "c", "-"])
         .stdin(Stdio::piped())
         .spawn()
-        .expect("there is a C compiler, cc");
+        .expect("there is a C compiler, cc or $CC");
     compiler.stdin.take().unwrap().write_all(text.as_bytes()).unwrap();
     assert!(compiler.wait().unwrap().success(), "the header differs from the exports");
 }
