@@ -119,7 +119,7 @@ pub mod column {
 }
 
 /// Numbers in the formats of files and protocols: a number and the byte after it, a number with a
-/// fixed number of digits, a number exactly as `{}` prints it.
+/// fixed number of digits, a number exactly as `{}` prints it, an integer of JSON.
 ///
 /// Each function returns `None` if the text does not have the format. To parse a format of your own,
 /// call them one after another:
@@ -148,7 +148,29 @@ pub mod column {
 /// assert_eq!(date(b"2024-2-9"), None);
 /// ```
 ///
-/// The byte after a number must not be a digit. The functions panic otherwise.
+/// This adds up an array of JSON without spaces:
+///
+/// ```
+/// use torkettle::formats::{after, json_integer};
+///
+/// fn total(text: &[u8]) -> Option<i64> {
+///     let mut rest = after(text, b'[')?;
+///     let mut total = 0_i64;
+///     loop {
+///         let (number, tail) = json_integer::<i64>(rest)?;
+///         total = total.checked_add(number)?;
+///         match tail {
+///             b"]" => return Some(total),
+///             _ => rest = after(tail, b',')?,
+///         }
+///     }
+/// }
+///
+/// assert_eq!(total(b"[12,-0,7]"), Some(19));
+/// assert_eq!(total(b"[12,7.5]"), None);
+/// ```
+///
+/// The byte after the number of a `_then` function must not be a digit. The functions panic otherwise.
 #[cfg(target_pointer_width = "64")]
 pub mod formats {
     pub use crate::proved::atoi_formats::{
