@@ -2,6 +2,7 @@
 //! hand.
 
 mod addresses;
+mod arrays;
 mod bad_fields;
 mod cents;
 mod commands;

@@ -2,7 +2,7 @@
 
 use crate::checks::gives;
 use atoi_formats::{
-    after, canonical, canonical_then, digits_then, fixed_width, number, number_then,
+    after, canonical, canonical_then, digits_then, fixed_width, json_integer, number, number_then,
 };
 
 fn found<T>(number: T, rest: &'static [u8]) -> Option<(T, &'static [u8])> {
@@ -71,6 +71,36 @@ fn canonical_numbers_and_a_byte(rt: HostRuntime) {
     gives(&rt, canonical_then::<i64>(b"-0;", b';'), None);
     gives(&rt, canonical_then::<i64>(b"+5;", b';'), None);
     gives(&rt, canonical_then::<i64>(b"5", b';'), None);
+}
+
+#[test]
+fn integers_of_json(rt: HostRuntime) {
+    gives(&rt, json_integer::<i32>(b"-12, 7]"), found(-12, b", 7]"));
+    gives(&rt, json_integer::<i32>(b"0}"), found(0, b"}"));
+    gives(&rt, json_integer::<i32>(b"-0"), found(0, b""));
+    gives(&rt, json_integer::<u8>(b"-0]"), found(0, b"]"));
+    gives(&rt, json_integer::<u8>(b"255 "), found(255, b" "));
+    gives(&rt, json_integer::<i8>(b"-128"), found(-128, b""));
+    gives(&rt, json_integer::<i8>(b"7-"), found(7, b"-"));
+    gives(&rt, json_integer::<i8>(b"128"), None);
+    gives(&rt, json_integer::<u8>(b"-1"), None);
+    gives(&rt, json_integer::<u8>(b"256"), None);
+    gives(&rt, json_integer::<u8>(b""), None);
+    gives(&rt, json_integer::<u8>(b" 1"), None);
+}
+
+#[test]
+fn no_integers_of_json(rt: HostRuntime) {
+    gives(&rt, json_integer::<i64>(b"007"), None);
+    gives(&rt, json_integer::<i64>(b"00"), None);
+    gives(&rt, json_integer::<i64>(b"-01"), None);
+    gives(&rt, json_integer::<i64>(b"+1"), None);
+    gives(&rt, json_integer::<i64>(b"-"), None);
+    gives(&rt, json_integer::<i64>(b"--1"), None);
+    gives(&rt, json_integer::<i64>(b"1.5"), None);
+    gives(&rt, json_integer::<i64>(b"0.5"), None);
+    gives(&rt, json_integer::<i64>(b"1e3"), None);
+    gives(&rt, json_integer::<i64>(b"-0E1"), None);
 }
 
 #[test]
