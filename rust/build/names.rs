@@ -18,7 +18,7 @@ const NAMES: &str = "cfg_attr cold derive inline not \
     MIN MAX from from_le_bytes u8x16 u16x8 u64x2 from_array from_slice splat \
     proved atoi_core atoi_lanes atoi_simd atoi_column atoi_formats";
 
-// Rust's `core` stands for Rattle's `std`, and `rust/src/simd.rs` for its vectors. Tests of conditions
+// Rust's `core` stands for Rattle's `std`, and `rust/src/simd` for its vectors. Tests of conditions
 // name the last.
 const PATHS: &str = "core::cmp::Ordering core::error::Error core::fmt core::iter::FusedIterator \
     core::marker::PhantomData core::marker::{PhantomData} core::str::from_utf8 \

@@ -9,8 +9,8 @@ pub mod prelude {
     pub use super::vectors::*;
 }
 
-// Makes intrinsics safe functions. Each exists only where the target has the feature that it needs.
-#[allow(unused_macros)] // `arrays.rs` needs none.
+// Makes intrinsics safe functions. None takes a pointer. Each exists only on targets with its feature.
+#[allow(unused_macros)] // On arrays, there are none.
 macro_rules! intrinsics {
     ($($feature:literal {$(
         fn $name:ident$(<const $constant:ident: i32>)?($($argument:ident: $type:ty),*) -> $result:ty;
@@ -19,7 +19,7 @@ macro_rules! intrinsics {
         #[inline(always)]
         #[allow(unsafe_code)]
         fn $name$(<const $constant: i32>)?($($argument: $type),*) -> $result {
-            // SAFETY: it computes with values alone, and every processor of the target can.
+            // SAFETY: the intrinsic needs nothing but the feature, which the target has.
             unsafe { arch::$name$(::<$constant>)?($($argument),*) }
         }
     )*)*};

@@ -149,7 +149,6 @@ impl u64x2 {
     /// Returns the vector with these lanes.
     #[inline(always)]
     pub fn from_array([low, high]: [u64; 2]) -> u64x2 {
-        // One number, since LLVM would load a constant array lane by lane.
         let number = u128::from(high) << 64 | u128::from(low);
         u64x2(operations::from_array(number.to_le_bytes()))
     }
