@@ -1,5 +1,6 @@
 //! Vectors of sixteen bytes: loaded, counted, and summed.
-ghost use Rattle.std.specs.Prelude.{◌≡◌, ◌-◌, ◌/◌, ◌≤◌, ◌<◌, ◌++◌, length, map, take, drop, replicate};
+ghost use Rattle.std.specs.Prelude.{◌≡◌, ◌-◌, ◌/◌, ◌≤◌, ◌<◌, ◌++◌, not, length, map, take, drop, replicate};
+ghost use Rattle.std.specs.Int.{trailing_zeros, w16};
 ghost use Rattle.std.specs.Simd.Lanes.{Each1, mask_l, digits_l};
 ghost use Rattle.atoi_core.specs.Digit.{decimal_table, is_digit};
 ghost use Rattle.atoi_core.specs.Run.{run_len, zeros, value};
@@ -47,7 +48,25 @@ pub fn len_lanes(v: u8x16) -> u32
     ensures len { result ≡ run_len decimal_table v }
     ensures most { result ≤ 16 }
 {
-    digit_mask(v).trailing_ones()
+    let others = others(v);
+    if others == 0 {
+        16
+    } else {
+        others.trailing_zeros()
+    }
+}
+
+// Returns one bit for each lane, the lowest for the first: 1 if the lane is no digit.
+#[inline(always)]
+pub(crate) fn others(v: u8x16) -> u16
+    ensures mask { result ≡ mask_l (map (λ byte. not (is_digit decimal_table byte)) v) }
+    ensures none { result ≡ 0 → run_len decimal_table v ≡ 16 }
+    ensures some { 0 < result → trailing_zeros w16 result ≡ run_len decimal_table v }
+{
+    // The sum needs these differences, too. Adding 118 sets the top bit of 10 to 127.
+    let values = v - u8x16::splat(b'0');
+    let marks = (values + u8x16::splat(118)) | values;
+    marks.simd_ge(u8x16::splat(128)).to_bitmask() as u16
 }
 
 // Returns one bit for each lane, the lowest for the first: 1 if the lane is a digit.

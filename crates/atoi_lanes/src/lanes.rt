@@ -20,12 +20,18 @@ fn lane_window(lanes: u8x16, size: u32) -> Window
     ensures { result ≡ lane_window size lanes }
 {
     let len = len_lanes(lanes);
-    let number = sum_lanes(lanes, len);
-    let zeroes = if len == size { zeroes_lanes(lanes) } else { 0 };
+    if len == 16 {
+        // Sixteen digits need no shuffle.
+        return Window {
+            len: 16,
+            zeroes: if size == 16 { zeroes_lanes(lanes) } else { 0 },
+            number: sum_lanes(lanes, 16),
+        };
+    }
     Window {
         len,
-        zeroes,
-        number,
+        zeroes: if len == size { zeroes_lanes(lanes) } else { 0 },
+        number: sum_lanes(lanes, len),
     }
 }
 

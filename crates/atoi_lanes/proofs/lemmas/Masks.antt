@@ -1,11 +1,11 @@
 -- A mask counts the leading lanes that pass a test.
-use Rattle.std.proofs.Common.{◌≡◌, ℕ, zero, suc, ◌+◌, ◌-◌, ◌*◌, ◌/◌, ◌%◌, ◌^◌, ◌<◌, Bool, true, false, cond, List, [], ◌∷◌, map, length, drop, Fits, w8, w64, refl, sym, ap, ap₂, ◌∙◌, arith, pow_pos}
-use Rattle.std.specs.Int.{trailing_ones}
+use Rattle.std.proofs.Common.{◌≡◌, ℕ, zero, suc, ◌+◌, ◌-◌, ◌*◌, ◌/◌, ◌%◌, ◌^◌, ◌<◌, Bool, true, false, cond, List, [], ◌∷◌, map, length, drop, Fits, w8, w16, w64, not, refl, sym, ap, ap₂, ◌∙◌, arith, pow_pos}
+use Rattle.std.specs.Int.{trailing_ones, trailing_zeros}
 use Rattle.std.specs.List.{prefix_len}
 use Rattle.std.proofs.Math.Nat.{pow-suc, pow-zero, zero-div, div-one, div-div-eq-div-mul, lt_of_lt_of_le}
 use Rattle.std.proofs.lemmas.Bool.{agree_below, agree_below_at}
 use Rattle.std.proofs.lemmas.List.{length-map}
-use Rattle.std.proofs.lemmas.Simd.{map-map, mask_l-lt, mask_l-mod}
+use Rattle.std.proofs.lemmas.Simd.{leading_from_mask_l, map-map, mask_l-lt, mask_l-mod, trailing_mask_l}
 use lib.Count.{count_trailing_zeros}
 use lib.Lanes.{Each1, mask_l, top}
 use lib.Pow.{pow_mono}
@@ -56,6 +56,20 @@ mask-of_lanes q v f z long fits lanes all =
 
 pub ones-of_mask : (q : ℕ → Bool) (v : List ℕ) → length v < 64 → (mask : ℕ) → mask ≡ mask_l (map q v) → trailing_ones w64 mask ≡ prefix_len q v
 ones-of_mask q v long mask is = ap (trailing_ones w64) is ∙ trailing-complement q 64 v (omega arith)
+
+not-not : (b : Bool) → not (not b) ≡ b
+not-not true = refl
+not-not false = refl
+
+-- A mask of the lanes that fail tells how many pass before the first of them.
+pub run-of_others : (q : ℕ → Bool) (v : List ℕ) → length v ≡ 16 → (mask : ℕ) → mask ≡ mask_l (map (λ x. not (q x)) v)
+    → (mask ≡ 0 → prefix_len q v ≡ 16) × (0 < mask → trailing_zeros w16 mask ≡ prefix_len q v)
+run-of_others q v long mask is =
+    let other = λ (x : ℕ). not (q x) in
+    let same : prefix_len (λ x. not (other x)) v ≡ prefix_len q v = λ i. prefix_len (λ x. not-not (q x) i) v in (
+      λ none. sym same ∙ leading_from_mask_l other v (sym is ∙ none) ∙ long,
+      λ some. ap (trailing_zeros w16) is ∙ trailing_mask_l other 16 v (omega arith) (omega (arith, is)) ∙ same,
+    )
 
 -- Without its lowest bits, a mask of the other lanes.
 pub mask-drop : (k : ℕ) (ms : List Bool) → mask_l ms / 2 ^ k ≡ mask_l (drop k ms)
