@@ -1,7 +1,7 @@
 //! Vectors of sixteen bytes: loaded, counted, and summed.
-ghost use Rattle.std.specs.Prelude.{◌≡◌, ◌-◌, ◌/◌, ◌≤◌, ◌<◌, ◌++◌, not, length, map, take, drop, replicate};
+ghost use Rattle.std.specs.Prelude.{◌≡◌, ◌-◌, ◌/◌, ◌^◌, ◌≤◌, ◌<◌, ◌++◌, not, length, map, take, drop, replicate};
 ghost use Rattle.std.specs.Int.{trailing_zeros, w16};
-ghost use Rattle.std.specs.Simd.Lanes.{Each1, mask_l, digits_l};
+ghost use Rattle.std.specs.Simd.Lanes.{Each1, mask_l, digits_l, number_l};
 ghost use Rattle.atoi_core.specs.Digit.{decimal_table, is_digit};
 ghost use Rattle.atoi_core.specs.Run.{run_len, zeros, value};
 ghost use Rattle.atoi_core.specs.Words.{word_of};
@@ -144,33 +144,43 @@ fn half(word: u64) -> u8x16
     u64x2::from_array([word, 0]).to_le_bytes()
 }
 
-#[tactic(auto, using(crate::proofs::lemmas::JoinedDigits::spelled))]
+#[tactic(auto, using(crate::proofs::lemmas::JoinedDigits::half_joined))]
 fn number_in_half(digits: u8x16) -> u64
     requires { Each1 (λ digit. digit < 10) digits }
     ensures { result ≡ value itself (take 8 digits) }
 {
-    let [number, _] = eights(digits).to_array();
-    number
+    let [both, _] = fours(digits).to_array();
+    // Adds 10,000 times the lower half to the upper half.
+    both.wrapping_mul(10_000 << 32 | 1) >> 32
 }
 
-#[tactic(auto, using(crate::proofs::lemmas::JoinedDigits::spelled))]
-fn number_in_lanes(digits: u8x16) -> u64
+#[tactic(auto, using(crate::proofs::lemmas::JoinedDigits::lanes_joined))]
+pub(crate) fn number_in_lanes(digits: u8x16) -> u64
     requires { Each1 (λ digit. digit < 10) digits }
     ensures { result ≡ value itself digits }
 {
-    let [high, low] = eights(digits).to_array();
-    high * 100_000_000 + low
+    // With the mask, LLVM knows that 32 bits are enough for the product.
+    let halves = eights(digits) & u64x2::splat(0xFFFF_FFFF);
+    (halves * u64x2::from_array([100_000_000, 1])).reduce_sum()
 }
 
-// Joins sixteen digit values to pairs, to fours, and to two numbers of eight digits.
-#[tactic(auto, using(crate::proofs::lemmas::JoinedDigits::all_levels))]
+// Joins sixteen digit values to two numbers of eight digits.
 fn eights(digits: u8x16) -> u64x2
     requires { Each1 (λ digit. digit < 10) digits }
     ensures { result ≡ paired 10000 (paired 100 (paired 10 digits)) }
 {
+    let fields = fours(digits);
+    (fields & u64x2::splat(0xFFFF_FFFF)) * u64x2::splat(10_000) + (fields >> u64x2::splat(32))
+}
+
+// Joins sixteen digit values to pairs, and these to fours, in 32 bits each.
+#[tactic(auto, using(crate::proofs::lemmas::JoinedDigits::fours_joined))]
+fn fours(digits: u8x16) -> u64x2
+    requires { Each1 (λ digit. digit < 10) digits }
+    ensures { result ≡ digits_l (2 ^ 64) 2 (number_l (2 ^ 32) (paired 100 (paired 10 digits))) }
+{
     // Adds ten times the lower byte, the first digit, to the upper byte.
     let pairs = u16x8::from_le_bytes(digits) * u16x8::splat(0xA01);
     let fours = pairs.to_le_bytes().dot4(u8x16::from_array(HUNDREDS));
-    let fields = u64x2::from_le_bytes(fours.to_le_bytes());
-    (fields & u64x2::splat(0xFFFF_FFFF)) * u64x2::splat(10_000) + (fields >> u64x2::splat(32))
+    u64x2::from_le_bytes(fours.to_le_bytes())
 }

@@ -43,6 +43,10 @@ impl Engine for Lanes {
     #[tactic(auto, using(crate::proofs::lemmas::LaneWindows::window_of_lanes))]
     fn window(s: &[u8], steps: &mut Steps) -> Window {
         steps.tick();
+        // In this order, LLVM puts no jump before long slices.
+        if s.len() >= 16 {
+            return lane_window(load_lanes(s), 16);
+        }
         if s.len() < 8 {
             return match read_short(s) {
                 ShortRun::Whole(number) => Window::not_full(s.len() as u32, number),

@@ -1,5 +1,5 @@
 -- Neighbouring digits of base t, joined to base t * t, spell the same number.
-use Rattle.std.proofs.Common.{◌≡◌, ℕ, zero, suc, ◌+◌, ◌*◌, ◌/◌, ◌%◌, ◌^◌, ◌<◌, ◌≤◌, List, [], ◌∷◌, map, length, take, get_or, refl, ap, ap₂, subst, ◌∙◌, arith, Fits, w16}
+use Rattle.std.proofs.Common.{◌≡◌, ℕ, zero, suc, ◌+◌, ◌*◌, ◌/◌, ◌%◌, ◌^◌, ◌<◌, ◌≤◌, List, [], ◌∷◌, map, length, take, get_or, replicate, refl, sym, ap, ap₂, subst, ◌∙◌, arith, Fits, w16}
 use Rattle.std.specs.List.{range_with_len}
 use Rattle.std.specs.Int.Bits.{bit_and}
 use Rattle.std.proofs.Math.Arith.{digits_lt}
@@ -8,7 +8,7 @@ use Rattle.std.proofs.lemmas.Nat.{div-mul-add, mod-mul-add, and_mask}
 use Rattle.std.proofs.lemmas.Simd.{Each1-weaker, pick_l_whole}
 use Rattle.atoi_core.specs.Run.{value}
 use Rattle.atoi_lanes.specs.Lanes.{itself, paired}
-use lib.Lanes.{Each1, number_l, digits_l, dots}
+use lib.Lanes.{Each1, number_l, digits_l, dots, fold_l, zip2}
 
 paired-below : (t : ℕ) (xs : List ℕ) → Each1 (λ x. x < t) xs → Each1 (λ x. x < t * t) (paired t xs)
 paired-below t [] h = tt
@@ -72,6 +72,16 @@ eight field = (bit_and field 4294967295 * 10000 % 2 ^ 64 + field / 2 ^ 32) % 2 ^
 eight-joins : (x y : ℕ) → x < 10000 → y < 10000 → eight (y * 2 ^ 32 + x) ≡ x * 10000 + y
 eight-joins x y a b = rw (and_mask (y * 2 ^ 32 + x) 32) (omega arith)
 
+abbrev plus : ℕ → ℕ → ℕ
+plus a b = (a + b) % 2 ^ 64
+
+abbrev times : ℕ → ℕ → ℕ
+times a b = a * b % 2 ^ 64
+
+two-joined : (x y : ℕ) → x < 100000000 → y < 100000000
+    → plus (plus 0 (times (bit_and x 4294967295) 100000000)) (times (bit_and y 4294967295) 1) ≡ x * 100000000 + y
+two-joined x y a b = rw (and_mask x 32, and_mask y 32) (omega arith)
+
 -- The weights of m groups of two lanes.
 abbrev hundreds : ℕ → List ℕ
 hundreds zero = []
@@ -106,20 +116,58 @@ wrapped : (factor : ℕ) (xs : List ℕ) → Each1 (Fits w16) (map (λ field. fi
 wrapped factor [] = tt
 wrapped factor (x ∷ xs) = (record { fits = omega arith }, wrapped factor xs)
 
--- The three products together.
-pub all_levels : (digits : List ℕ) → length digits ≡ 16 → Each1 (λ x. x < 10) digits
-    → map eight (digits_l (2 ^ 64) 2 (number_l 256 (digits_l 256 16 (number_l (2 ^ 32)
-    (dots (digits_l 256 16 (number_l 65536 (map (λ field. field * 2561 % 65536) (digits_l 65536 8 (number_l 256 digits))))) (hundreds 4))))))
-    ≡ paired 10000 (paired 100 (paired 10 digits))
-all_levels digits long below =
+four_fours : (digits : List ℕ) → length digits ≡ 16 → Each1 (λ x. x < 10) digits
+    → (length (paired 100 (paired 10 digits)) ≡ 4) × Each1 (λ x. x < 10000) (paired 100 (paired 10 digits))
+four_fours digits long below =
+    (length-paired 100 4 (paired 10 digits) (length-paired 10 8 digits long), paired-below 100 (paired 10 digits) (paired-below 10 digits below))
+
+-- The first two products together.
+pub fours_joined : (digits : List ℕ) → length digits ≡ 16 → Each1 (λ x. x < 10) digits
+    → digits_l (2 ^ 64) 2 (number_l 256 (digits_l 256 16 (number_l (2 ^ 32)
+    (dots (digits_l 256 16 (number_l 65536 (map (λ field. field * 2561 % 65536) (digits_l 65536 8 (number_l 256 digits))))) (hundreds 4)))))
+    ≡ digits_l (2 ^ 64) 2 (number_l (2 ^ 32) (paired 100 (paired 10 digits)))
+fours_joined digits long below =
     let lanes = map (λ field. field * 2561 % 65536) (digits_l 65536 8 (number_l 256 digits)) in
     let pairs : map upper lanes ≡ paired 10 digits =
     join_lanes 256 10 (λ field. field * 2561 % 65536 / 256) (omega arith) (λ x y a b. omega arith) 8 digits long below in
     let xs = paired 100 (paired 10 digits) in
     let fours = weighed 4 lanes refl (wrapped 2561 (digits_l 65536 8 (number_l 256 digits))) ∙ ap (paired 100) pairs in
-    let small : Each1 (λ x. x < 10000) xs = paired-below 100 (paired 10 digits) (paired-below 10 digits below) in
-    let four : length xs ≡ 4 = length-paired 100 4 (paired 10 digits) (length-paired 10 8 digits long) in
-    let wide = Each1-weaker (λ x. x < 10000) (λ x. x < 2 ^ 32) (λ x lt. omega arith) xs small in
-    ap (λ l. map eight (digits_l (2 ^ 64) 2 (number_l 256 (digits_l 256 16 (number_l (2 ^ 32) l))))) fours
-    ∙ ap (λ k. map eight (digits_l (2 ^ 64) 2 k)) (recast (2 ^ 32) 16 xs (ap (λ k. (2 ^ 32) ^ k) four) wide)
-    ∙ join_lanes (2 ^ 32) 10000 eight (omega arith) eight-joins 2 xs four small
+    let known = four_fours digits long below in
+    let wide = Each1-weaker (λ x. x < 10000) (λ x. x < 2 ^ 32) (λ x lt. omega arith) xs known.1 in
+    ap (λ l. digits_l (2 ^ 64) 2 (number_l 256 (digits_l 256 16 (number_l (2 ^ 32) l)))) fours
+    ∙ ap (digits_l (2 ^ 64) 2) (recast (2 ^ 32) 16 xs (ap (λ k. (2 ^ 32) ^ k) known.0) wide)
+
+-- A step on the two fields of four fours makes two eights.
+eights_by : (step : ℕ → ℕ) → ((x y : ℕ) → x < 10000 → y < 10000 → step (y * 2 ^ 32 + x) ≡ x * 10000 + y) → (digits fields : List ℕ) → length digits ≡ 16
+    → Each1 (λ x. x < 10) digits → fields ≡ digits_l (2 ^ 64) 2 (number_l (2 ^ 32) (paired 100 (paired 10 digits)))
+    → map step fields ≡ paired 10000 (paired 100 (paired 10 digits))
+eights_by step joins digits fields long below are =
+    let known = four_fours digits long below in
+    ap (map step) are ∙ join_lanes (2 ^ 32) 10000 step (omega arith) joins 2 _ known.0 known.1
+
+pub eights_joined : (digits fields : List ℕ) → length digits ≡ 16 → Each1 (λ x. x < 10) digits
+    → fields ≡ digits_l (2 ^ 64) 2 (number_l (2 ^ 32) (paired 100 (paired 10 digits)))
+    → zip2 plus (zip2 times (zip2 bit_and fields (replicate 2 4294967295)) (replicate 2 10000)) (zip2 (λ x s. x / 2 ^ s) fields (replicate 2 32))
+    ≡ paired 10000 (paired 100 (paired 10 digits))
+eights_joined digits fields long below are =
+    ap (λ l. zip2 plus (zip2 times (zip2 bit_and l (replicate 2 4294967295)) (replicate 2 10000)) (zip2 (λ x s. x / 2 ^ s) l (replicate 2 32))) are
+    ∙ ap (map eight) (sym are) ∙ eights_by eight eight-joins digits fields long below are
+
+-- One product adds 10,000 times the lower half to the upper half.
+abbrev half : ℕ → ℕ
+half field = field * 42949672960001 % 2 ^ 64 / 2 ^ 32
+
+pub half_joined : (digits fields : List ℕ) → length digits ≡ 16 → Each1 (λ x. x < 10) digits
+    → fields ≡ digits_l (2 ^ 64) 2 (number_l (2 ^ 32) (paired 100 (paired 10 digits))) → half (get_or fields 0 0) ≡ value itself (take 8 digits)
+half_joined digits fields long below are =
+    ap (λ l. half (get_or l 0 0)) are ∙ ap (λ l. get_or (map half l) 0 0) (sym are)
+    ∙ ap (λ l. get_or l 0 0) (eights_by half (λ x y a b. omega arith) digits fields long below are) ∙ (spelled digits long below).0
+
+-- The last product and sum.
+pub lanes_joined : (digits eights : List ℕ) → length digits ≡ 16 → Each1 (λ x. x < 10) digits → eights ≡ paired 10000 (paired 100 (paired 10 digits))
+    → fold_l plus 0 (zip2 times (zip2 bit_and eights (replicate 2 4294967295)) (100000000 ∷ 1 ∷ [])) ≡ value itself digits
+lanes_joined digits eights long below are =
+    let known = spelled digits long below in
+    let both = pick_l_whole 0 (paired 10000 (paired 100 (paired 10 digits))) 2 (length-paired 10000 2 _ (four_fours digits long below).0) in
+    ap (λ l. fold_l plus 0 (zip2 times (zip2 bit_and l (replicate 2 4294967295)) (100000000 ∷ 1 ∷ []))) (are ∙ sym both)
+    ∙ two-joined _ _ known.1 known.2 ∙ known.3
