@@ -1,4 +1,5 @@
 pub mod Shuffles
+pub mod Ends
 pub mod Masks
 pub mod JoinedDigits
 pub mod DigitLanes

@@ -1,5 +1,5 @@
 //! Vectors of sixteen bytes: loaded, counted, and summed.
-ghost use Rattle.std.specs.Prelude.{◌≡◌, ◌-◌, ◌/◌, ◌^◌, ◌≤◌, ◌<◌, ◌++◌, not, length, map, take, drop, replicate};
+ghost use Rattle.std.specs.Prelude.{◌≡◌, ◌-◌, ◌/◌, ◌^◌, ◌≤◌, ◌<◌, ◌++◌, IfSome, None, not, length, map, take, drop, replicate};
 ghost use Rattle.std.specs.Int.{trailing_zeros, w16};
 ghost use Rattle.std.specs.Simd.Lanes.{Each1, mask_l, digits_l, number_l};
 ghost use Rattle.atoi_core.specs.Digit.{decimal_table, is_digit};
@@ -19,6 +19,43 @@ const SHIFTS: [u8; 48] = [
     128, 128, 128, 128, 128,
 ];
 
+// For 8 to 15 bytes, by their number: where they are among the first 8 and the last 8, so that the
+// last byte is in the last lane.
+const TO_END: [[u8; 16]; 8] = [
+    [
+        128, 128, 128, 128, 128, 128, 128, 128, 8, 9, 10, 11, 12, 13, 14, 15,
+    ],
+    [
+        128, 128, 128, 128, 128, 128, 128, 0, 8, 9, 10, 11, 12, 13, 14, 15,
+    ],
+    [
+        128, 128, 128, 128, 128, 128, 0, 1, 8, 9, 10, 11, 12, 13, 14, 15,
+    ],
+    [
+        128, 128, 128, 128, 128, 0, 1, 2, 8, 9, 10, 11, 12, 13, 14, 15,
+    ],
+    [128, 128, 128, 128, 0, 1, 2, 3, 8, 9, 10, 11, 12, 13, 14, 15],
+    [128, 128, 128, 0, 1, 2, 3, 4, 8, 9, 10, 11, 12, 13, 14, 15],
+    [128, 128, 0, 1, 2, 3, 4, 5, 8, 9, 10, 11, 12, 13, 14, 15],
+    [128, 0, 1, 2, 3, 4, 5, 6, 8, 9, 10, 11, 12, 13, 14, 15],
+];
+
+// The same so that the first byte is in the first lane.
+const TO_START: [[u8; 16]; 8] = [
+    [
+        0, 1, 2, 3, 4, 5, 6, 7, 128, 128, 128, 128, 128, 128, 128, 128,
+    ],
+    [
+        0, 1, 2, 3, 4, 5, 6, 7, 15, 128, 128, 128, 128, 128, 128, 128,
+    ],
+    [0, 1, 2, 3, 4, 5, 6, 7, 14, 15, 128, 128, 128, 128, 128, 128],
+    [0, 1, 2, 3, 4, 5, 6, 7, 13, 14, 15, 128, 128, 128, 128, 128],
+    [0, 1, 2, 3, 4, 5, 6, 7, 12, 13, 14, 15, 128, 128, 128, 128],
+    [0, 1, 2, 3, 4, 5, 6, 7, 11, 12, 13, 14, 15, 128, 128, 128],
+    [0, 1, 2, 3, 4, 5, 6, 7, 10, 11, 12, 13, 14, 15, 128, 128],
+    [0, 1, 2, 3, 4, 5, 6, 7, 9, 10, 11, 12, 13, 14, 15, 128],
+];
+
 // The digit masks of slices of digits, by length.
 const DIGIT_MASKS: [u8; 8] = [0, 128, 192, 224, 240, 248, 252, 254];
 
@@ -32,15 +69,55 @@ pub fn load_lanes(s: &[u8]) -> u8x16
 {
     match s.first_chunk::<LANES>() {
         Some(bytes) => u8x16::from_array(*bytes),
-        None => {
-            // Two shifts, since one by 64 bits panics.
-            let high = match s.last_chunk::<8>() {
-                Some(last) => (u64::from_le_bytes(*last) >> (8 * (15 - s.len()))) >> 8,
-                None => 0,
-            };
-            u64x2::from_array([load_8(s), high]).to_le_bytes()
-        }
+        None if s.len() < 8 => half(load_8(s)),
+        None => to_start(ends(s), s.len()),
     }
+}
+
+// Returns the first 8 and the last 8 bytes.
+#[inline(always)]
+fn ends(s: &[u8]) -> u8x16
+    requires { 8 ≤ length s.now }
+    ensures { result ≡ take 8 s.now ++ drop (length s.now - 8) s.now }
+{
+    u64x2::from_array([load_8(s), load_8(&s[s.len() - 8..])]).to_le_bytes()
+}
+
+// Of `len` bytes, whose first 8 and last 8 are in the lanes of `v`: moves the first to the first lane.
+#[inline(always)]
+fn to_start(v: u8x16, len: usize) -> u8x16
+    requires enough { 8 ≤ len }
+    requires few { len < 16 }
+    ensures { result ≡ take 8 v ++ (drop (24 - len) v ++ replicate (16 - len) 0) }
+{
+    v.swizzle_dyn_within::<16>(u8x16::from_array(TO_START[len - 8]))
+}
+
+// The same, but moves the last to the last lane.
+#[inline(always)]
+fn to_end(v: u8x16, len: usize) -> u8x16
+    requires enough { 8 ≤ len }
+    requires few { len < 16 }
+    ensures { result ≡ replicate (16 - len) 0 ++ (take (len - 8) v ++ drop 8 v) }
+{
+    v.swizzle_dyn_within::<16>(u8x16::from_array(TO_END[len - 8]))
+}
+
+// Returns the number that 8 to 15 bytes spell, if all are digits. It need not wait for their count.
+#[inline(always)]
+pub(crate) fn read_medium(s: &[u8]) -> Option<u64>
+    requires enough { 8 ≤ length s.now }
+    requires few { length s.now < 16 }
+    ensures some { IfSome result (λ number. (run_len decimal_table s.now ≡ length s.now)
+        × (number ≡ value decimal_table s.now)) }
+    ensures none { result ≡ None → run_len decimal_table s.now < length s.now }
+{
+    let bytes = ends(s);
+    if others(bytes) != 0 {
+        return None;
+    }
+    let digit_values = bytes - u8x16::splat(b'0');
+    Some(number_in_lanes(to_end(digit_values, s.len())))
 }
 
 /// Returns how many digits (48 to 57) the lanes begin with.
@@ -62,6 +139,7 @@ pub(crate) fn others(v: u8x16) -> u16
     ensures mask { result ≡ mask_l (map (λ byte. not (is_digit decimal_table byte)) v) }
     ensures none { result ≡ 0 → run_len decimal_table v ≡ 16 }
     ensures some { 0 < result → trailing_zeros w16 result ≡ run_len decimal_table v }
+    ensures fewer { 0 < result → run_len decimal_table v < 16 }
 {
     // The sum needs these differences, too. Adding 118 sets the top bit of 10 to 127.
     let values = v - u8x16::splat(b'0');

@@ -1,12 +1,14 @@
 //! The engine `Lanes`, which reads sixteen bytes at once into vector lanes.
-ghost use Rattle.std.specs.Prelude.{◌≡◌, ◌+◌};
+ghost use Rattle.std.specs.Prelude.{◌≡◌, ◌+◌, IfSome};
 ghost use Rattle.std.proofs.Common.{arith};
 ghost use Rattle.std.proofs.lemmas.Bool.Decides.{nat_tests};
 ghost use Rattle.atoi_core.specs.Digit.{decimal_table};
 ghost use Rattle.atoi_core.specs.Reading.{window_of};
 ghost use Rattle.atoi_lanes.specs.Lanes.{lane_window};
 
-use crate::kernels::{ShortRun, len_lanes, load_lanes, read_short, sum_lanes, zeroes_lanes};
+use crate::kernels::{
+    ShortRun, load_lanes, others, read_medium, read_short, sum_lanes, zeroes_lanes,
+};
 use crate::wide_lanes::{prefix_64_lanes, prefix_128_lanes};
 use atoi_core::{AtoiSimdError, Engine, Steps, Window};
 use std::simd::prelude::*;
@@ -19,8 +21,8 @@ pub struct Lanes;
 fn lane_window(lanes: u8x16, size: u32) -> Window
     ensures { result ≡ lane_window size lanes }
 {
-    let len = len_lanes(lanes);
-    if len == 16 {
+    let others = others(lanes);
+    if others == 0 {
         // Sixteen digits need no shuffle.
         return Window {
             len: 16,
@@ -28,11 +30,48 @@ fn lane_window(lanes: u8x16, size: u32) -> Window
             number: sum_lanes(lanes, 16),
         };
     }
+    let len = others.trailing_zeros();
     Window {
         len,
-        zeroes: if len == size { zeroes_lanes(lanes) } else { 0 },
+        zeroes: if size < 16 && len == size {
+            zeroes_lanes(lanes)
+        } else {
+            0
+        },
         number: sum_lanes(lanes, len),
     }
+}
+
+// Returns the window of 16 bytes.
+#[inline(always)]
+#[tactic(auto, using(crate::proofs::lemmas::LaneWindows::window_of_lanes))]
+fn read_window(s: &[u8]) -> Window
+    ensures { result ≡ window_of decimal_table 16 s.now }
+{
+    // In this order, LLVM puts no jump before long slices.
+    if s.len() >= 16 {
+        return lane_window(load_lanes(s), 16);
+    }
+    if s.len() < 8 {
+        return match read_short(s) {
+            ShortRun::Whole(number) => Window::not_full(s.len() as u32, number),
+            ShortRun::Part(len, number) => Window::not_full(len, number),
+        };
+    }
+    lane_window(load_lanes(s), 16)
+}
+
+// The same if all of 8 to 15 bytes are digits, otherwise `None`.
+#[inline(always)]
+#[tactic(auto, using(crate::proofs::lemmas::LaneWindows::window_of_all))]
+fn medium_window(s: &[u8]) -> Option<Window>
+    ensures { IfSome result (λ window. window ≡ window_of decimal_table 16 s.now) }
+{
+    if s.len() < 8 || s.len() >= 16 {
+        return None;
+    }
+    let number = read_medium(s)?;
+    Some(Window::not_full(s.len() as u32, number))
 }
 
 impl Engine for Lanes {
@@ -40,25 +79,18 @@ impl Engine for Lanes {
 
     /// Returns the window of 16 bytes.
     #[inline(always)]
-    #[tactic(auto, using(crate::proofs::lemmas::LaneWindows::window_of_lanes))]
     fn window(s: &[u8], steps: &mut Steps) -> Window {
         steps.tick();
-        // In this order, LLVM puts no jump before long slices.
-        if s.len() >= 16 {
-            return lane_window(load_lanes(s), 16);
-        }
-        if s.len() < 8 {
-            return match read_short(s) {
-                ShortRun::Whole(number) => Window::not_full(s.len() as u32, number),
-                ShortRun::Part(len, number) => Window::not_full(len, number),
-            };
-        }
-        lane_window(load_lanes(s), 16)
+        read_window(s)
     }
 
     #[inline(always)]
     fn whole_window(s: &[u8], steps: &mut Steps) -> Window {
-        let window = Lanes::window(s, steps);
+        steps.tick();
+        if let Some(window) = medium_window(s) {
+            return window;
+        }
+        let window = read_window(s);
         // Shows LLVM that both lengths are equal.
         if s.len() <= 8 && window.len == s.len() as u32 {
             return Window {

@@ -10,9 +10,12 @@ use Rattle.atoi_lanes.specs.Lanes.{itself, padded}
 use Rattle.atoi_lanes.proofs.lemmas.Shuffles.{first_at_end}
 use lib.Lanes.{Each1, zip2}
 
--- A byte minus 48, which wraps.
-abbrev above_zero : ℕ → ℕ
-above_zero x = (x + (2 ^ 8 - 48)) % 2 ^ 8
+-- A byte minus another, which wraps.
+abbrev pub less : ℕ → ℕ → ℕ
+less x y = (x + (2 ^ 8 - y)) % 2 ^ 8
+
+abbrev pub above_zero : ℕ → ℕ
+above_zero x = less x 48
 
 above_zero-digit : (x : ℕ) → is_digit decimal_table x ≡ true → (above_zero x ≡ digit_value decimal_table x) × (above_zero x < 10)
 above_zero-digit x h = (grind (arith, nat_tests), grind (arith, nat_tests))
@@ -42,16 +45,19 @@ pub after_zeros : (P : ℕ → Type 0) → P 0 → (n : ℕ) (xs : List ℕ) →
 after_zeros P holds zero xs h = h
 after_zeros P holds (suc n) xs h = (holds, after_zeros P holds n xs h)
 
+-- At the end of the lanes, the first n digits, less 48, spell their value.
+pub end_values : (m n : ℕ) (s lanes : List ℕ) → n ≤ run_len decimal_table s → lanes ≡ replicate m 0 ++ take n (map above_zero s)
+    → (value itself lanes ≡ value decimal_table (take n s)) × Each1 (λ x. x < 10) lanes
+end_values m n s lanes digits is =
+    let known = digits_value above_zero above_zero-digit n s digits in (
+      ap (value itself) is ∙ value-replicate itself 0 refl m (take n (map above_zero s)) ∙ known.0,
+      subst (Each1 (λ x. x < 10)) (sym is) (after_zeros (λ x. x < 10) (lit< tt) m _ known.1),
+    )
+
 -- The first n lanes, less 48 and moved to the end, spell their value.
 pub moved_values : (n : ℕ) (v lanes : List ℕ) → n ≤ 16 → length v ≡ 16 → n ≤ run_len decimal_table v
-    → lanes ≡ take 16 (drop n (padded (zip2 (λ x y. (x + (2 ^ 8 - y)) % 2 ^ 8) v (replicate 16 48))))
+    → lanes ≡ take 16 (drop n (padded (zip2 less v (replicate 16 48))))
     → (value itself lanes ≡ value decimal_table (take n v)) × Each1 (λ x. x < 10) lanes
 moved_values n v lanes le long digits moved =
-    let values = map above_zero v in
-    let known = digits_value above_zero above_zero-digit n v digits in
-    let all : lanes ≡ replicate (16 - n) 0 ++ take n values =
-    moved ∙ ap (λ l. take 16 (drop n (padded l))) (zip2_splat (λ x y. (x + (2 ^ 8 - y)) % 2 ^ 8) v 16 48 long)
-    ∙ first_at_end n values le (length-map v above_zero ∙ long) in (
-      ap (value itself) all ∙ value-replicate itself 0 refl (16 - n) (take n values) ∙ known.0,
-      subst (Each1 (λ x. x < 10)) (sym all) (after_zeros (λ x. x < 10) (lit< tt) (16 - n) _ known.1),
-    )
+    end_values (16 - n) n v lanes digits
+    (moved ∙ ap (λ l. take 16 (drop n (padded l))) (zip2_splat less v 16 48 long) ∙ first_at_end n (map above_zero v) le (length-map v above_zero ∙ long))

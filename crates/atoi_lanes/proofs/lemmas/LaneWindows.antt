@@ -1,14 +1,15 @@
 -- The lanes of a slice, and the windows and readings that they show.
-use Rattle.std.proofs.Common.{◌≡◌, ℕ, ◌+◌, ◌^◌, ◌<◌, ◌==◌, Bool, List, [], ◌∷◌, ◌++◌, length, take, replicate, get_or, min, refl, sym, ap, ap₂, ◌∙◌, arith, if◌then◌else◌, ◌≤◌, drop}
-use Rattle.std.proofs.lemmas.List.{take_all, length-take, take-append-le, length-drop, take-take}
+use Rattle.std.proofs.Common.{◌≡◌, ℕ, ◌+◌, ◌<◌, ◌==◌, Bool, List, ◌++◌, length, take, replicate, min, refl, sym, ap, ap₂, ◌∙◌, arith, if◌then◌else◌, ◌≤◌, ◌≢◌}
+use Rattle.std.proofs.lemmas.Bool.{ne_eqb}
+use Rattle.std.proofs.lemmas.List.{take_all, length-take, take-append-le, take-take}
 use Rattle.atoi_core.specs.Digit.{decimal_table, is_digit, is_zero}
 use Rattle.atoi_core.specs.Reading.{Reading, window_of}
 use Rattle.atoi_core.specs.Run.{run_len, run, zeros, value}
 use Rattle.atoi_core.specs.Words.{word_of}
 use Rattle.atoi_core.specs.declared.window.Window.{Window}
-use Rattle.atoi_core.proofs.lemmas.LoadedWords.{bytes, bytes_above, digits-of_bytes, prefix_len-padded, word_start}
+use Rattle.atoi_core.proofs.lemmas.LoadedWords.{digits-of_bytes, prefix_len-padded}
 use Rattle.atoi_lanes.specs.Lanes.{lane_window, padded_start}
-use lib.Lanes.{Each1, digits_l, number_l}
+use lib.Lanes.{Each1, digits_l}
 use Rattle.std.specs.List.{prefix_len}
 use Rattle.std.proofs.lemmas.List.Sums.{prefix_len-le-length}
 
@@ -16,15 +17,6 @@ use Rattle.std.proofs.lemmas.List.Sums.{prefix_len-le-length}
 pub lanes-of_bytes : (m : ℕ) (xs : List ℕ) → Each1 (λ x. x < 256) xs → 16 ≤ length xs + m → digits_l 256 16 (word_of xs) ≡ take 16 (xs ++ replicate m 0)
 unfolding word_of
 lanes-of_bytes m xs h room = digits-of_bytes 16 m xs h room
-
--- Two words of a slice below 16 bytes make 16 lanes.
-pub lanes-of_words : (s : List ℕ) → ((i : ℕ) → get_or s i 0 < 256) → length s < 16
-    → digits_l 256 16 (number_l (2 ^ 64) (word_of (take 8 s) ∷ word_of (take 8 (drop 8 s)) ∷ [])) ≡ padded_start 16 s
-lanes-of_words s fits few =
-    let rest = ap word_of (take_all 8 (drop 8 s) (omega (arith, length-drop 8 s))) in
-    let all : number_l (2 ^ 64) (word_of (take 8 s) ∷ word_of (take 8 (drop 8 s)) ∷ []) ≡ word_of s =
-    omega (arith, rest, word_start 8 s fits, bytes_above 8 s fits) in
-    ap (digits_l 256 16) all ∙ lanes-of_bytes 16 s (bytes s fits) (omega arith)
 
 -- With and without bytes after a slice, its first n elements begin with the same run.
 prefix-padded : (p : ℕ → Bool) (n : ℕ) (s zs : List ℕ) → take (prefix_len p (take n s)) (take n (s ++ zs)) ≡ take (prefix_len p (take n s)) (take n s)
@@ -46,6 +38,13 @@ lanes_show size s =
 
 pub window_of_lanes : (s : List ℕ) → lane_window 16 (padded_start 16 s) ≡ window_of decimal_table 16 s
 window_of_lanes s = lanes_show 16 s
+
+-- Fewer than 16 bytes that are all digits.
+pub window_of_all : (s : List ℕ) → length s < 16 → run_len decimal_table s ≡ length s → (number : ℕ) → number ≡ value decimal_table s
+    → ◌≡◌ {A = Window} (record { len = length s; zeroes = 0; number = number }) (window_of decimal_table 16 s)
+window_of_all s few all number is =
+    let short : length s ≢ 16 = λ e. absurd (omega arith) in
+    rw (take_all 16 s (omega arith), all, ne_eqb (length s) 16 short, take_all (length s) s (omega arith), is) refl
 
 pub window-of_half_the_lanes : (s : List ℕ) → lane_window 8 (padded_start 16 (take 8 s)) ≡ window_of decimal_table 8 s
 window-of_half_the_lanes s = lanes_show 8 (take 8 s) ∙ ap (lane_window 8) (take_all 16 (take 8 s) (omega (arith, length-take 8 s)))

@@ -1,6 +1,7 @@
-use Rattle.std.proofs.Common.{◌≡◌, ℕ, leb, cond, not, bit_or, length, map, ◌+◌, ◌-◌, ◌%◌, ◌^◌, ◌∙◌, refl, arith}
+use Rattle.std.proofs.Common.{◌≡◌, ℕ, leb, cond, not, bit_or, w16, length, map, ◌+◌, ◌-◌, ◌%◌, ◌^◌, ◌∙◌, refl, arith}
 use Rattle.std.proofs.lemmas.List.{length-map}
 use Rattle.std.proofs.lemmas.Simd.{mask_l-lt, splat_is_map, zip2_of_maps, zip2_splat}
+use Rattle.std.proofs.lemmas.Nat.Bits.{bit_at-trailing_zeros}
 use Rattle.atoi_core.specs.Digit.{decimal_table, is_digit}
 use Rattle.atoi_lanes.proofs.lemmas.Masks.{mask-of_lanes, run-of_others}
 use Rattle.atoi_lanes.proofs.kernels.others.Goals as goal
@@ -22,14 +23,18 @@ returns-clause-mask c =
     mask-of_lanes (λ byte. not (is_digit decimal_table byte)) v _ _ (omega (arith, sixteen)) c.fits-v.1
     (zip2_of_maps mask _ _ v (splat_is_map v 16 128 sixteen) marks) refl
 
+pub overflow_cast-result : goal.overflow_cast-result
+overflow_cast-result c =
+    let other = map (λ byte. not (is_digit decimal_table byte)) c.args.v in
+    let bits : length other ≡ 16 = length-map c.args.v _ ∙ c.fits-v.0 in
+    record { fits = omega (arith, returns-clause-mask c, rw bits at (mask_l-lt other)) }
+
 pub returns-clause-none : goal.returns-clause-none
 returns-clause-none c = (run-of_others (is_digit decimal_table) c.args.v c.fits-v.0 _ (returns-clause-mask c)).0
 
 pub returns-clause-some : goal.returns-clause-some
 returns-clause-some c = (run-of_others (is_digit decimal_table) c.args.v c.fits-v.0 _ (returns-clause-mask c)).1
 
-pub overflow_cast-result : goal.overflow_cast-result
-overflow_cast-result c =
-    let other = map (λ byte. not (is_digit decimal_table byte)) c.args.v in
-    let bits : length other ≡ 16 = length-map c.args.v _ ∙ c.fits-v.0 in
-    record { fits = omega (arith, returns-clause-mask c, rw bits at (mask_l-lt other)) }
+pub returns-clause-fewer : goal.returns-clause-fewer
+returns-clause-fewer c some =
+    omega (arith, returns-clause-some c some, (bit_at-trailing_zeros w16 _ some (overflow_cast-result c).fits).0)
