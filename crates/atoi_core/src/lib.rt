@@ -19,7 +19,7 @@ mod text;
 pub mod wide_answer;
 mod window;
 mod window_loops;
-mod word_digits;
+pub mod word_digits;
 mod word_engine;
 pub mod word_loads;
 pub mod words;

@@ -1,5 +1,5 @@
 //! How many digits and zeros a word begins with, and the number that they spell.
-ghost use Rattle.std.specs.Prelude.{◌≡◌, ◌-◌, ◌<◌, ◌≤◌, ◌++◌, nat_lt, replicate};
+ghost use Rattle.std.specs.Prelude.{◌≡◌, ◌-◌, ◌<◌, ◌≤◌, ◌++◌, nat_lt, drop, replicate};
 ghost use Rattle.atoi_core.specs.Digit.{decimal_table};
 ghost use Rattle.atoi_core.specs.Run.{run_len, zeros};
 ghost use Rattle.atoi_core.specs.Words.{low_bytes, low_value, word_of};
@@ -7,6 +7,9 @@ ghost use Rattle.std.specs.Int.Bits.{bit_and};
 
 // Eight zeros, each the byte 48.
 pub(crate) const ZEROS: u64 = 0x3030_3030_3030_3030;
+
+// Four of them.
+const FOUR_ZEROS: u32 = 0x3030_3030;
 
 // The word of `8 - len` zeros.
 #[tactic(auto, using(crate::proofs::lemmas::WordWindows::zeros_shifted, crate::proofs::lemmas::WordWindows::zeros_left_out))]
@@ -18,10 +21,11 @@ pub(crate) fn fill_of_zeros(len: usize) -> u64
     ZEROS - (ZEROS << (64 - 8 * len))
 }
 
-// `check_len_8` with fewer operations. A byte is no digit if adding 70 or subtracting 48 sets its top
-// bit. A carry or a borrow changes only bytes above the first that is no digit.
+/// Returns how many digits the word begins with. `check_len_8` does so with more operations.
+// A byte is no digit if adding 70 or subtracting 48 sets its top bit. A carry or a borrow changes only
+// bytes above the first that is no digit.
 #[tactic(auto, using(crate::proofs::lemmas::WordRuns::marks_of_8, crate::proofs::lemmas::WordRuns::none_marked))]
-pub(crate) fn digits_of(word: u64) -> u32
+pub fn digits_of(word: u64) -> u32
     ensures len { result ≡ run_len decimal_table (low_bytes 8 word) }
     ensures most { result ≤ 8 }
 {
@@ -131,4 +135,51 @@ pub(crate) fn sum_of(digits: u64) -> u64
     let tens = (digits.wrapping_mul(0xA01) >> 8) & 0x00FF_00FF_00FF_00FF;
     let hundreds = tens.wrapping_mul(0x64_0001);
     ((hundreds >> 16) & 0xFFFF) * 10_000 + (hundreds >> 48)
+}
+
+/// `digits_of` for a word of four bytes.
+#[tactic(auto, using(crate::proofs::lemmas::WordRuns::marks_of_4, crate::proofs::lemmas::WordRuns::none_marked_of_4))]
+pub fn digits_of_four(word: u32) -> u32
+    ensures len { result ≡ run_len decimal_table (low_bytes 4 word) }
+    ensures most { result ≤ 4 }
+{
+    let above = word.wrapping_add(0x4646_4646);
+    let below = word.wrapping_sub(FOUR_ZEROS);
+    let marks = (above | below) & 0x8080_8080;
+    if marks == 0 {
+        4
+    } else {
+        marks.trailing_zeros() / 8
+    }
+}
+
+/// Whether the first byte of a word of four is a digit.
+#[tactic(auto, using(crate::proofs::lemmas::WordRuns::first_byte_of_4))]
+pub fn starts_with_digit_of_four(word: u32) -> bool
+    ensures { result ≡ nat_lt 0 (run_len decimal_table (low_bytes 4 word)) }
+{
+    ((word & 0xFF) as u8).is_ascii_digit()
+}
+
+/// Returns the number that the first `len` bytes of a word of four bytes spell. They are digits, at
+/// least one.
+#[tactic(auto, using(crate::proofs::lemmas::WordRuns::lowered_in_four))]
+pub fn value_in_four(word: u32, len: u32) -> u32
+    requires some { 1 ≤ len }
+    requires few { len ≤ 4 }
+    requires digits { len ≤ run_len decimal_table (low_bytes 4 word) }
+    ensures { result ≡ low_value (low_bytes len word) }
+{
+    sum_of_four(word.wrapping_sub(FOUR_ZEROS) << (32 - 8 * len))
+}
+
+/// Returns the number that a word of four digits spells after its first `skipped` bytes.
+#[tactic(auto, using(crate::proofs::lemmas::WordRuns::lowered_end))]
+pub fn value_at_end(word: u32, skipped: usize) -> u32
+    requires digits { run_len decimal_table (low_bytes 4 word) ≡ 4 }
+    requires few { skipped < 4 }
+    ensures { result ≡ low_value (drop skipped (low_bytes 4 word)) }
+{
+    let bits = 8 * skipped;
+    sum_of_four((word.wrapping_sub(FOUR_ZEROS) >> bits) << bits)
 }

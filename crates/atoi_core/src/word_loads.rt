@@ -59,6 +59,46 @@ pub fn load_from(s: &[u8], at: usize) -> u64
     }
 }
 
+/// `load_from` for four bytes, of which the first is there.
+#[inline(always)]
+#[tactic(auto, using(crate::proofs::lemmas::LoadedWords::word_of_rest))]
+pub fn load_four_from(s: &[u8], at: usize) -> u32
+    requires enough { 4 ≤ length s.now }
+    requires inside { at < length s.now }
+    requires low { at ≤ 16 }
+    ensures { result ≡ word_of (take 4 (drop at s.now)) }
+{
+    if s.len() < at + 4 {
+        load_last_four(s) >> (8 * (at + 4 - s.len()))
+    } else {
+        load_first_four(&s[at..])
+    }
+}
+
+// The word of the first four bytes.
+#[tactic(auto, using(crate::proofs::lemmas::LoadedWords::word_from_four))]
+fn load_first_four(s: &[u8]) -> u32
+    requires { 4 ≤ length s.now }
+    ensures { result ≡ word_of (take 4 s.now) }
+{
+    match s.first_chunk::<4>() {
+        Some(first) => u32::from_le_bytes(*first),
+        None => 0,
+    }
+}
+
+/// Returns the word of the last four bytes.
+#[tactic(auto, using(crate::proofs::lemmas::LoadedWords::word_from_four))]
+pub fn load_last_four(s: &[u8]) -> u32
+    requires { 4 ≤ length s.now }
+    ensures { result ≡ word_of (drop (length s.now - 4) s.now) }
+{
+    match s.last_chunk::<4>() {
+        Some(last) => u32::from_le_bytes(*last),
+        None => 0,
+    }
+}
+
 // `load_8` without code for shorter slices, which would enlarge each function that reads a window.
 #[tactic(auto, using(crate::proofs::lemmas::LoadedWords::word_of_first))]
 pub(crate) fn load_full(s: &[u8]) -> u64

@@ -100,16 +100,21 @@ bytes_above (suc k) (b ∷ bs) fits =
     ap (λ p. (b + 256 * word) / p) up ∙ sym (div-div-eq-div-mul (b + 256 * word) 256 (2 ^ (k * 8)))
     ∙ ap (λ w. w / 2 ^ (k * 8)) rest ∙ bytes_above k bs (λ i. fits (suc i))
 
--- Fewer than eight bytes from `at` on are the highest of the last eight.
+-- The bytes from `at` on, of which n or fewer are there, are the highest of the last n.
+pub word_of_rest : (n : ℕ) (s : List ℕ) (at : ℕ) → n ≤ length s → at ≤ length s → length s ≤ at + n → ((i : ℕ) → get_or s i 0 < 256)
+    → word_of (drop (length s - n) s) / 2 ^ (8 * (at + n - length s)) ≡ word_of (take n (drop at s))
+word_of_rest n s at enough inside few fits =
+    let missing = at + n - length s in
+    let bits : 8 * missing ≡ missing * 8 = omega arith in
+    let above : length s - n + missing ≡ at = omega arith in
+    ap (λ e. word_of (drop (length s - n) s) / 2 ^ e) bits
+    ∙ bytes_above missing (drop (length s - n) s) (λ i. rw get_or-drop (fits (length s - n + i)))
+    ∙ ap word_of (drop-drop missing (length s - n) s ∙ ap (λ k. drop k s) above ∙ sym (take_all n (drop at s) (omega (arith, length-drop at s))))
+
 pub last_bytes : (s last : List ℕ) (at : ℕ) → 8 ≤ length s → at ≤ length s → length s < at + 8 → ((i : ℕ) → get_or s i 0 < 256)
     → last ≡ drop (length s - 8) s → from_le_bytes w64 last / 2 ^ (8 * (at + 8 - length s)) ≡ word_of (take 8 (drop at s))
 last_bytes s last at enough inside few fits is =
-    let missing = at + 8 - length s in
-    let bits : 8 * missing ≡ missing * 8 = omega arith in
-    let above : length s - 8 + missing ≡ at = omega arith in
-    ap₂ (λ w e. w / 2 ^ e) (word_of_last s last is) bits
-    ∙ bytes_above missing (drop (length s - 8) s) (λ i. rw get_or-drop (fits (length s - 8 + i)))
-    ∙ ap word_of (drop-drop missing (length s - 8) s ∙ ap (λ n. drop n s) above ∙ sym (take_all 8 (drop at s) (omega (arith, length-drop at s))))
+    ap (λ w. w / 2 ^ (8 * (at + 8 - length s))) (word_of_last s last is) ∙ word_of_rest 8 s at enough inside (omega arith) fits
 
 -- After all bytes, there are none.
 pub word_after_all : (s : List ℕ) (at : ℕ) → length s ≤ at → 0 ≡ word_of (take 8 (drop at s))
@@ -255,43 +260,45 @@ prefix_len-padded p none n m s = prefix_len-take p n (s ++ replicate m 0) ∙ ap
 half_is_value : (b : ℕ) → is_digit decimal_table b ≡ true → b % 16 ≡ digit_value decimal_table b
 half_is_value b digit = grind (arith, nat_tests)
 
-low_value_is : (n : ℕ) (s : List ℕ) → n ≤ run_len decimal_table s → low_value (take n s) ≡ value decimal_table (take n s)
+pub low_value_is : (n : ℕ) (s : List ℕ) → n ≤ run_len decimal_table s → low_value (take n s) ≡ value decimal_table (take n s)
 low_value_is zero s digits = refl
 low_value_is (suc n) [] digits = absurd (omega arith)
 low_value_is (suc n) (b ∷ bs) digits =
     let passes = first_passes (is_digit decimal_table b) n (run_len decimal_table bs) digits in
     ap₂ (λ x v. x * 10 ^ length (take n bs) + v) (half_is_value b passes.0) (low_value_is n bs passes.1)
 
-module _ (s : List ℕ) (fits : (i : ℕ) → get_or s i 0 < 256) (word : ℕ) (is : word ≡ word_of (take 8 s)) where
-  loaded_start : (p : ℕ → Bool) → p 0 ≡ false → prefix_len p (low_bytes 8 word) ≡ prefix_len p (take 8 s)
+-- The word of the first `width` bytes of a slice.
+module _ (width : ℕ) (s : List ℕ) (fits : (i : ℕ) → get_or s i 0 < 256) (word : ℕ) (is : word ≡ word_of (take width s)) where
+  loaded_start : (p : ℕ → Bool) → p 0 ≡ false → prefix_len p (low_bytes width word) ≡ prefix_len p (take width s)
   unfolding low_bytes word_of
   loaded_start p stops =
-      ap (λ w. prefix_len p (digits_l 256 8 w)) is ∙ ap (prefix_len p) (digits-of_bytes 8 8 (take 8 s) (Each1-chunk _ 0 8 s (bytes s fits)) (omega arith))
-      ∙ prefix_len-padded p stops 8 8 (take 8 s) ∙ ap (prefix_len p) (take-take 8 8 s (omega arith))
+      ap (λ w. prefix_len p (digits_l 256 width w)) is
+      ∙ ap (prefix_len p) (digits-of_bytes width width (take width s) (Each1-chunk _ 0 width s (bytes s fits)) (omega arith))
+      ∙ prefix_len-padded p stops width width (take width s) ∙ ap (prefix_len p) (take-take width width s (omega arith))
 
-  pub loaded_run : run_len decimal_table (low_bytes 8 word) ≡ run_len decimal_table (take 8 s)
+  pub loaded_run : run_len decimal_table (low_bytes width word) ≡ run_len decimal_table (take width s)
   loaded_run = loaded_start (is_digit decimal_table) refl
 
-  pub loaded_zeros : zeros decimal_table (low_bytes 8 word) ≡ zeros decimal_table (take 8 s)
+  pub loaded_zeros : zeros decimal_table (low_bytes width word) ≡ zeros decimal_table (take width s)
   loaded_zeros = loaded_start (is_zero decimal_table) refl
 
   -- The first bytes of the word are the slice.
-  loaded_first : (n : ℕ) → n ≤ 8 → n ≤ length s → low_bytes n word ≡ take n s
+  loaded_first : (n : ℕ) → n ≤ width → n ≤ length s → low_bytes n word ≡ take n s
   unfolding low_bytes word_of
   loaded_first n few enough =
-      ap (digits_l 256 n) is ∙ digits-of_bytes n 0 (take 8 s) (Each1-chunk _ 0 8 s (bytes s fits)) (omega (arith, length-take 8 s))
-      ∙ ap (take n) (append-nil (take 8 s)) ∙ take-take n 8 s few
+      ap (digits_l 256 n) is ∙ digits-of_bytes n 0 (take width s) (Each1-chunk _ 0 width s (bytes s fits)) (omega (arith, length-take width s))
+      ∙ ap (take n) (append-nil (take width s)) ∙ take-take n width s few
 
-  pub loaded_bytes : 8 ≤ length s → low_bytes 8 word ≡ take 8 s
-  loaded_bytes enough = loaded_first 8 (omega arith) enough
+  pub loaded_bytes : width ≤ length s → low_bytes width word ≡ take width s
+  loaded_bytes enough = loaded_first width (omega arith) enough
 
   -- The weighted sum of leading digits is their value.
-  pub loaded_part : (len : ℕ) → len ≤ run_len decimal_table (low_bytes 8 word) → low_value (low_bytes len word) ≡ value decimal_table (take len s)
+  pub loaded_part : (len : ℕ) → len ≤ run_len decimal_table (low_bytes width word) → low_value (low_bytes len word) ≡ value decimal_table (take len s)
   loaded_part len within =
-      let digits : run_len decimal_table (low_bytes 8 word) ≡ min 8 (run_len decimal_table s) = loaded_run ∙ prefix_len-take (is_digit decimal_table) 8 s in
+      let digits : run_len decimal_table (low_bytes width word) ≡ min width (run_len decimal_table s) = loaded_run ∙ prefix_len-take (is_digit decimal_table) width s in
       ap low_value (loaded_first len (omega arith) (omega (arith, digits, prefix_len-le-length (is_digit decimal_table) s))) ∙ low_value_is len s (omega arith)
 
-  pub loaded_sum : (len : ℕ) → len ≡ run_len decimal_table (low_bytes 8 word) → low_value (low_bytes len word) ≡ value decimal_table (take len s)
+  pub loaded_sum : (len : ℕ) → len ≡ run_len decimal_table (low_bytes width word) → low_value (low_bytes len word) ≡ value decimal_table (take len s)
   loaded_sum len len_is = loaded_part len (omega arith)
 
 pub fits_after : (s : List ℕ) → ((i : ℕ) → get_or s i 0 < 256) → (i : ℕ) → get_or (drop 8 s) i 0 < 256

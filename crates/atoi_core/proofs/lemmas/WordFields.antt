@@ -187,7 +187,7 @@ digits_cut g (suc k) word =
     cc (cut, mod-mul-add rest b (word % b) small, div-mul-add rest b (word % b) small, digits_cut g k (word / b))
 
 -- Lowest bytes of 0 keep the weighted sum.
-low_value_shifted : (z k word : ℕ) → low_value (digits_l 256 (z + k) (word * 2 ^ (z * 8))) ≡ low_value (digits_l 256 k word)
+pub low_value_shifted : (z k word : ℕ) → low_value (digits_l 256 (z + k) (word * 2 ^ (z * 8))) ≡ low_value (digits_l 256 k word)
 low_value_shifted zero k word = cc (zero-add k, mul-one word)
 low_value_shifted (suc z) k word =
     let up : word * 2 ^ (suc z * 8) ≡ word * 2 ^ (z * 8) * 256 + 0 = rw (suc-mul z 8, pow-add 2 (z * 8) 8) (omega arith) in

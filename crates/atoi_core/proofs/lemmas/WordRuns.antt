@@ -1,9 +1,9 @@
 -- How many digits and zeros a word begins with.
-use Rattle.std.proofs.Common.{◌≡◌, ℕ, zero, suc, ◌+◌, ◌*◌, ◌/◌, ◌%◌, ◌^◌, ◌<◌, ◌≤◌, ◌-◌, Bool, true, false, cond, ◌==◌, nat_lt, List, [], ◌∷◌, map, refl, sym, ap, ap₂, ◌∙◌, arith, mod-lt, zero-lt-suc}
+use Rattle.std.proofs.Common.{◌≡◌, ℕ, zero, suc, ◌+◌, ◌*◌, ◌/◌, ◌%◌, ◌^◌, ◌<◌, ◌≤◌, ◌-◌, Bool, true, false, cond, ◌==◌, nat_lt, List, [], ◌∷◌, map, drop, refl, sym, ap, ap₂, ◌∙◌, arith, mod-lt, zero-lt-suc}
 use Rattle.std.proofs.Math.Dec.{lit<}
 use Rattle.std.proofs.lemmas.Bool.{agree_below_at, lt-ltb}
 use Rattle.std.proofs.lemmas.Nat.{and_shr, pow-add, mod-pow-add, and_mask, and_block, and_assoc, mul-mod_first}
-use Rattle.std.proofs.Math.Nat.{zero-add, suc-mul, suc-add}
+use Rattle.std.proofs.Math.Nat.{zero-add, suc-mul, suc-add, div-one, div-div-eq-div-mul, div-mul-le_self, mod-eq_of_lt}
 use Rattle.std.proofs.Math.Pow.{mod-mod-pow}
 use Rattle.std.proofs.lemmas.Bool.Decides.{nat_tests}
 use Rattle.std.specs.Char.{is_ascii_digit}
@@ -15,7 +15,7 @@ use Rattle.atoi_core.specs.Digit.{decimal_table, is_digit, is_zero}
 use Rattle.atoi_core.specs.Run.{run_len, zeros}
 use Rattle.atoi_core.specs.Words.{low_bytes, low_value}
 use Rattle.atoi_core.proofs.lemmas.Calls.{digit_in_range}
-use Rattle.atoi_core.proofs.lemmas.WordFields.{trailing_bytes, repeated, or_bytes, and_repeated, xor_repeated, upper_halves, digits_cut, shifted_value, low_value_halves, shift_cut}
+use Rattle.atoi_core.proofs.lemmas.WordFields.{trailing_bytes, repeated, or_bytes, and_repeated, xor_repeated, upper_halves, digits_cut, shifted_value, low_value_halves, low_value_shifted, shift_cut}
 
 -- A test of mapped elements.
 prefix_len-map : (p : ℕ → Bool) (f : ℕ → ℕ) (xs : List ℕ) → prefix_len p (map f xs) ≡ prefix_len (λ x. p (f x)) xs
@@ -203,6 +203,17 @@ pub none_marked : (word : ℕ) → marks_in word ≡ 0 → run_len decimal_table
 unfolding count_trailing_zeros
 none_marked word none = sym (marks_of_8 word) ∙ ap (λ marks. count_trailing_zeros 64 marks / 8) none
 
+-- The same for four bytes.
+abbrev marks_in_four : ℕ → ℕ
+marks_in_four word = bit_and (bit_or ((word + 0x4646_4646) % 2 ^ 32) ((word + 0xCFCF_CFD0) % 2 ^ 32)) 0x8080_8080
+
+pub marks_of_4 : (word : ℕ) → count_trailing_zeros 32 (marks_in_four word) / 8 ≡ run_len decimal_table (low_bytes 4 word)
+marks_of_4 word = marks_counted 4 word
+
+pub none_marked_of_4 : (word : ℕ) → marks_in_four word ≡ 0 → run_len decimal_table (low_bytes 4 word) ≡ 4
+unfolding count_trailing_zeros
+none_marked_of_4 word none = sym (marks_of_4 word) ∙ ap (λ marks. count_trailing_zeros 32 marks / 8) none
+
 -- ---- The word with 48 subtracted from each byte
 
 -- A byte minus 48 is 0 exactly for the digit zero.
@@ -274,38 +285,38 @@ shifted_halves (suc z) k word =
     let next : word * 2 ^ (suc z * 8) ≡ word * 2 ^ (z * 8) * 256 + 0 = rw up (omega arith) in
     rw (suc-add z k, next, up) (omega (arith, shifted_halves z k word, and_block 8 (word * 2 ^ (z * 8)) (repeated 15 (z + k)) 0 15 (lit< tt) (lit< tt)))
 
--- For digits at the top of `size` bytes, subtracting 48 is the mask.
-lowered_at_top : (size len word : ℕ) → size ≤ 8 → len ≤ size → len ≤ run_len decimal_table (low_bytes 8 word)
-    → (word + without_48 8) % 2 ^ 64 * 2 ^ (size * 8 - 8 * len) % 2 ^ (size * 8)
+-- For digits at the top of `size` bytes of a word of `width`, subtracting 48 is the mask.
+lowered_at_top : (width size len word : ℕ) → size ≤ width → len ≤ size → len ≤ run_len decimal_table (low_bytes width word)
+    → (word + without_48 width) % 2 ^ (width * 8) * 2 ^ (size * 8 - 8 * len) % 2 ^ (size * 8)
     ≡ bit_and (word * 2 ^ (size * 8 - 8 * len) % 2 ^ (size * 8)) (repeated 15 size)
 unfolding low_bytes
-lowered_at_top size len word small few digits =
+lowered_at_top width size len word small few digits =
     let z = size - len in
-    let others = 8 - len in
-    let all : len + others ≡ 8 = omega arith in
+    let others = width - len in
+    let all : len + others ≡ width = omega arith in
     let places : size * 8 - 8 * len ≡ z * 8 = omega arith in
     let bits : size * 8 ≡ len * 8 + z * 8 = omega arith in
-    let word_bits : 64 ≡ others * 8 + len * 8 = omega arith in
+    let word_bits : width * 8 ≡ others * 8 + len * 8 = omega arith in
     let top : z + len ≡ size = omega arith in
-    let lower = word + without_48 8 in
+    let lower = word + without_48 width in
     let kept : lower % 2 ^ (len * 8) ≡ bit_and (word % 2 ^ (len * 8)) (repeated 15 len) =
     cc (all, lowered_digits others len word (rw all digits)) in
     let cut : (x : ℕ) → x * 2 ^ (size * 8 - 8 * len) % 2 ^ (size * 8) ≡ x % 2 ^ (len * 8) * 2 ^ (z * 8) =
     λ x. ap₂ (λ e f. x * 2 ^ e % 2 ^ f) places bits ∙ shift_cut x (len * 8) (z * 8) in
-    cut (lower % 2 ^ 64)
+    cut (lower % 2 ^ (width * 8))
     ∙ ap (λ e. lower % 2 ^ e % 2 ^ (len * 8) * 2 ^ (z * 8)) word_bits
     ∙ ap (λ x. x * 2 ^ (z * 8)) (mod-mod-pow lower (others * 8) (len * 8) ∙ kept)
     ∙ shifted_halves z len (word % 2 ^ (len * 8))
     ∙ ap₂ (λ x n. bit_and x (repeated 15 n)) (sym (cut word)) top
 
 -- The shifted bytes are below 16, and keep the sum.
-lowered_bytes : (size len word ones : ℕ) → size ≤ 8 → len ≤ size → len ≤ run_len decimal_table (low_bytes 8 word)
-    → ones ≡ (word + without_48 8) % 2 ^ 64 * 2 ^ (size * 8 - 8 * len) % 2 ^ (size * 8)
+lowered_bytes : (width size len word ones : ℕ) → size ≤ width → len ≤ size → len ≤ run_len decimal_table (low_bytes width word)
+    → ones ≡ (word + without_48 width) % 2 ^ (width * 8) * 2 ^ (size * 8 - 8 * len) % 2 ^ (size * 8)
     → (bit_and ones (repeated 15 size) ≡ ones) × (low_value (low_bytes size ones) ≡ low_value (low_bytes len word))
 unfolding low_bytes
-lowered_bytes size len word ones small few digits is =
+lowered_bytes width size len word ones small few digits is =
     let at_top = word * 2 ^ (size * 8 - 8 * len) % 2 ^ (size * 8) in
-    let e = is ∙ lowered_at_top size len word small few digits in (
+    let e = is ∙ lowered_at_top width size len word small few digits in (
       cc (e, and_assoc (repeated 15 size) at_top (repeated 15 size), and_self (repeated 15 size)),
       ap (λ x. low_value (digits_l 256 size x)) e ∙ ap low_value (and_repeated 15 (lit< tt) size at_top) ∙ low_value_halves (digits_l 256 size at_top)
           ∙ shifted_value (size * 8 - 8 * len) size len word (omega arith) few,
@@ -314,7 +325,7 @@ lowered_bytes size len word ones small few digits is =
 pub lowered_value : (len word ones : ℕ) → len ≤ 8 → len ≤ run_len decimal_table (low_bytes 8 word)
     → ones ≡ (word + without_48 8) % 2 ^ 64 * 2 ^ (64 - 8 * len) % 2 ^ 64
     → (bit_and ones (repeated 15 8) ≡ ones) × (low_value (low_bytes 8 ones) ≡ low_value (low_bytes len word))
-lowered_value len word ones few digits is = lowered_bytes 8 len word ones (omega arith) few digits is
+lowered_value len word ones few digits is = lowered_bytes 8 8 len word ones (omega arith) few digits is
 
 -- Four bytes suffice for at most four digits.
 pub lowered_four : (len word ones : ℕ) → len ≤ 4 → len ≤ run_len decimal_table (low_bytes 8 word)
@@ -322,12 +333,58 @@ pub lowered_four : (len word ones : ℕ) → len ≤ 4 → len ≤ run_len decim
     → (bit_and ones (repeated 15 4) ≡ ones) × (low_value (low_bytes 4 ones) ≡ low_value (low_bytes len word))
 lowered_four len word ones few digits is =
     let lower = (word + 0xCFCF_CFCF_CFCF_CFD0) % 2 ^ 64 in
-    lowered_bytes 4 len word ones (omega arith) few digits
+    lowered_bytes 8 4 len word ones (omega arith) few digits
     (is ∙ ap (λ x. x * 2 ^ (32 - 8 * len) % 2 ^ 32) (and_mask lower 32) ∙ mul-mod_first lower (2 ^ (32 - 8 * len)) (2 ^ 32))
+
+pub lowered_in_four : (len word ones : ℕ) → len ≤ 4 → len ≤ run_len decimal_table (low_bytes 4 word)
+    → ones ≡ (word + 0xCFCF_CFD0) % 2 ^ 32 * 2 ^ (32 - 8 * len) % 2 ^ 32
+    → (bit_and ones (repeated 15 4) ≡ ones) × (low_value (low_bytes 4 ones) ≡ low_value (low_bytes len word))
+lowered_in_four len word ones few digits is = lowered_bytes 4 4 len word ones (omega arith) few digits is
 
 pub lowered_sum : (len word ones number : ℕ) → number ≡ low_value (low_bytes 8 ones) → len ≤ 8 → len ≤ run_len decimal_table (low_bytes 8 word)
     → ones ≡ (word + without_48 8) % 2 ^ 64 * 2 ^ (64 - 8 * len) % 2 ^ 64 → number ≡ low_value (low_bytes len word)
 lowered_sum len word ones number sum few digits is = sum ∙ (lowered_value len word ones few digits is).1
+
+one_more : (z : ℕ) → 2 ^ (suc z * 8) ≡ 256 * 2 ^ (z * 8)
+one_more z = rw (suc-mul z 8) (omega (arith, pow-add 2 (z * 8) 8))
+
+-- The bytes after the first z, and what the mask is for them.
+bytes_after : (z k word : ℕ) → drop z (digits_l 256 (z + k) word) ≡ digits_l 256 k (word / 2 ^ (z * 8))
+bytes_after zero k word = cc (zero-add k, div-one word)
+bytes_after (suc z) k word =
+    rw (suc-add z k, one_more z) (bytes_after z k (word / 256) ∙ ap (digits_l 256 k) (div-div-eq-div-mul word 256 (2 ^ (z * 8))))
+
+mask_after : (z k : ℕ) → repeated 15 (z + k) / 2 ^ (z * 8) ≡ repeated 15 k
+mask_after zero k = cc (zero-add k, div-one (repeated 15 k))
+mask_after (suc z) k =
+    let rest : (repeated 15 (z + k) * 256 + 15) / 256 ≡ repeated 15 (z + k) = omega arith in
+    rw (suc-add z k, one_more z, ← div-div-eq-div-mul (repeated 15 (z + k) * 256 + 15) 256 (2 ^ (z * 8)), rest) (mask_after z k)
+
+-- Of four digits, those after the first z: shifted down and up, they are the last bytes.
+pub lowered_end : (z word ones : ℕ) → z < 4 → run_len decimal_table (low_bytes 4 word) ≡ 4
+    → ones ≡ (word + 0xCFCF_CFD0) % 2 ^ 32 / 2 ^ (8 * z) * 2 ^ (8 * z) % 2 ^ 32
+    → (bit_and ones (repeated 15 4) ≡ ones) × (low_value (low_bytes 4 ones) ≡ low_value (drop z (low_bytes 4 word)))
+unfolding low_bytes
+lowered_end z word ones few full is =
+    let k = 4 - z in
+    let all : z + k ≡ 4 = omega arith in
+    let bits : 8 * z ≡ z * 8 = omega arith in
+    let p = 2 ^ (z * 8) in
+    let lower = (word + 0xCFCF_CFD0) % 2 ^ 32 in
+    let rest = word % 2 ^ 32 / p in
+    let kept : lower / p ≡ bit_and rest (repeated 15 k) =
+    ap (λ x. x / p) (lowered_digits 0 4 word (omega arith)) ∙ and_shr (word % 2 ^ 32) (repeated 15 4) (z * 8)
+    ∙ ap (bit_and rest) (ap (λ n. repeated 15 n / p) (sym all) ∙ mask_after z k) in
+    let small : lower / p * p < 2 ^ 32 = omega (arith, div-mul-le_self lower p) in
+    let e : ones ≡ bit_and (rest * p) (repeated 15 4) =
+    is ∙ ap (λ b. lower / 2 ^ b * 2 ^ b % 2 ^ 32) bits ∙ mod-eq_of_lt small
+    ∙ ap (λ x. x * p) kept ∙ shifted_halves z k rest ∙ ap (λ n. bit_and (rest * p) (repeated 15 n)) all in (
+      cc (e, and_assoc (repeated 15 4) (rest * p) (repeated 15 4), and_self (repeated 15 4)),
+      ap (λ x. low_value (digits_l 256 4 x)) e ∙ ap low_value (and_repeated 15 (lit< tt) 4 (rest * p)) ∙ low_value_halves (digits_l 256 4 (rest * p))
+          ∙ ap (λ n. low_value (digits_l 256 n (rest * p))) (sym all) ∙ low_value_shifted z k rest
+          ∙ ap low_value (sym (bytes_after z k (word % 2 ^ 32)) ∙ ap (λ n. drop z (digits_l 256 n (word % 2 ^ 32))) all)
+          ∙ ap (λ l. low_value (drop z l)) (digits_cut 8 4 word),
+    )
 
 -- Eight digits need no shift.
 pub lowered_eight : (word ones : ℕ) → run_len decimal_table (low_bytes 8 word) ≡ 8 → ones ≡ (word + without_48 8) % 2 ^ 64
@@ -348,11 +405,17 @@ some_if : (t : Bool) (n : ℕ) → nat_lt 0 (cond t (1 + n) 0) ≡ t
 some_if true n = lt-ltb 0 (1 + n) (omega arith)
 some_if false n = refl
 
--- The lowest byte decides whether the word begins with a digit.
-pub first_byte : (word : ℕ) → is_ascii_digit (bit_and word 255) ≡ nat_lt 0 (run_len decimal_table (low_bytes 8 word))
+-- The lowest byte decides whether a word of k bytes more begins with a digit.
+lowest_byte : (k word : ℕ) → is_ascii_digit (bit_and word 255) ≡ nat_lt 0 (run_len decimal_table (low_bytes (suc k) word))
 unfolding low_bytes
-first_byte word =
+lowest_byte k word =
     let byte = word % 256 in
     ap is_ascii_digit (and_mask word 8)
     ∙ agree_below_at is_ascii_digit (is_digit decimal_table) 256 byte refl (mod-lt word (zero-lt-suc 255))
-    ∙ sym (some_if (is_digit decimal_table byte) (run_len decimal_table (digits_l 256 7 (word / 256))))
+    ∙ sym (some_if (is_digit decimal_table byte) (run_len decimal_table (digits_l 256 k (word / 256))))
+
+pub first_byte : (word : ℕ) → is_ascii_digit (bit_and word 255) ≡ nat_lt 0 (run_len decimal_table (low_bytes 8 word))
+first_byte word = lowest_byte 7 word
+
+pub first_byte_of_4 : (word : ℕ) → is_ascii_digit (bit_and word 255) ≡ nat_lt 0 (run_len decimal_table (low_bytes 4 word))
+first_byte_of_4 word = lowest_byte 3 word

@@ -41,9 +41,9 @@ pub loaded_window : (s : List ℕ) → ((i : ℕ) → get_or s i 0 < 256) → (w
     → w ≡ window_of decimal_table 8 s
 loaded_window s fits word w is len_is zeroes_are number_is =
     window_from 8 s w.len w.zeroes w.number
-    (len_is ∙ loaded_run s fits word is)
-    (rw (loaded_zeros s fits word is) at zeroes_are)
-    (number_is ∙ loaded_sum s fits word is w.len len_is)
+    (len_is ∙ loaded_run 8 s fits word is)
+    (rw (loaded_zeros 8 s fits word is) at zeroes_are)
+    (number_is ∙ loaded_sum 8 s fits word is w.len len_is)
 
 -- Without eight digits at the start, eight bytes determine the window of 16.
 pub window_short : (s : List ℕ) (len number : ℕ) → len ≡ run_len decimal_table (take 8 s) → len ≢ 8
@@ -94,15 +94,15 @@ window_of_both s more few fits first last len high low first_is last_is full ful
     let fits_back : (i : ℕ) → get_or back i 0 < 256 = λ i. rw get_or-drop (fits (front + i)) in
     let word_is : last ≡ word_of (take 8 back) = last_is ∙ ap word_of (sym (take_all 8 back (omega (arith, length-drop front s)))) in
     let last_run : run_len decimal_table (take 8 back) ≡ min 8 (run_len decimal_table back) = prefix_len-take (is_digit decimal_table) 8 back in
-    let eight : 8 ≤ run_len decimal_table s = omega (arith, full, prefix_len-take (is_digit decimal_table) 8 s, loaded_run s fits first first_is) in
-    let eight_last : 8 ≤ run_len decimal_table back = omega (arith, full_last, last_run, loaded_run back fits_back last word_is) in
+    let eight : 8 ≤ run_len decimal_table s = omega (arith, full, prefix_len-take (is_digit decimal_table) 8 s, loaded_run 8 s fits first first_is) in
+    let eight_last : 8 ≤ run_len decimal_table back = omega (arith, full_last, last_run, loaded_run 8 back fits_back last word_is) in
     let run_is : run_len decimal_table s ≡ front + run_len decimal_table back = prefix_len-drop (is_digit decimal_table) front s (omega arith) in
     let within : run_len decimal_table s ≤ length s = prefix_len-le-length (is_digit decimal_table) s in
     let length_is : front + 8 ≡ len = omega arith in
     let number : high * 10 ^ 8 + low ≡ value decimal_table (take len s) =
     ap₂ (λ x y. x * 10 ^ 8 + y)
-    (high_is ∙ loaded_part s fits first first_is front (omega arith))
-    (low_is ∙ loaded_part back fits_back last word_is 8 (omega arith))
+    (high_is ∙ loaded_part 8 s fits first first_is front (omega arith))
+    (low_is ∙ loaded_part 8 back fits_back last word_is 8 (omega arith))
     ∙ sym (value-take-add decimal_table front 8 s (omega arith)) ∙ ap (λ n. value decimal_table (take n s)) length_is in
     window_from 16 s len 0 (high * 10 ^ 8 + low)
     (rw (take_all 16 s (omega arith)) (omega arith))
@@ -155,7 +155,7 @@ filled_digits s few fits word filling digits word_is filling_is digits_is =
     let filled = replicate m 48 ++ s in
     let all : take 8 filled ≡ filled = take_all 8 filled (omega (arith, filled_length m 48 s)) in
     digits_is
-    ∙ loaded_run filled (filled_fit m s fits) (word + filling)
+    ∙ loaded_run 8 filled (filled_fit m s fits) (word + filling)
     (ap₂ (λ x y. x + y) word_is filling_is ∙ word_filled m s ∙ ap word_of (sym all))
     ∙ ap (run_len decimal_table) all
     ∙ prefix_len-replicate_append (is_digit decimal_table) 48 refl m s
@@ -190,7 +190,7 @@ filled_window s few fits filled digits found number filled_is digits_is found_is
     let word_is : filled ≡ word_of (replicate m 48 ++ take 8 s) = filled_is ∙ ap (λ x. word_of (replicate m 48 ++ x)) (sym eight) in
     let sum : number ≡ value decimal_table (take len s) =
     number_is ∙ ap₂ (λ n w. low_value (digits_l 256 n w)) digits_is word_is ∙ low_value_filled m len (take 8 s)
-    ∙ loaded_sum s fits (word_of (take 8 s)) refl len (ap (run_len decimal_table) (sym eight) ∙ sym (loaded_run s fits (word_of (take 8 s)) refl)) in
+    ∙ loaded_sum 8 s fits (word_of (take 8 s)) refl len (ap (run_len decimal_table) (sym eight) ∙ sym (loaded_run 8 s fits (word_of (take 8 s)) refl)) in
     let left : found ≡ len = omega arith in
     ap (λ n. let w : Window = record { len = n; zeroes = 0; number = number } in w) left
     ∙ window_from 16 s len 0 number (ap (run_len decimal_table) (sym all)) (sym (reported_none len 16 (zeros decimal_table (take 16 s)) (omega arith))) sum

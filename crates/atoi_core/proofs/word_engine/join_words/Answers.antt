@@ -17,10 +17,10 @@ following : (c : After-digits_of-more) (i : ℕ) → get_or (drop 8 c.args.s.now
 following c = fits_after c.args.s.now (bytes c)
 
 full : (c : After-digits_of-more) → run_len decimal_table (take 8 c.args.s.now) ≡ 8
-full c = sym (loaded_run c.args.s.now (bytes c) c.args.first c.requires.loaded) ∙ c.requires.full
+full c = sym (loaded_run 8 c.args.s.now (bytes c) c.args.first c.requires.loaded) ∙ c.requires.full
 
 more_is : (c : After-digits_of-more) → c.digits_of-more.result ≡ run_len decimal_table (take 8 (drop 8 c.args.s.now))
-more_is c = c.digits_of-more.ensures.len ∙ loaded_run (drop 8 c.args.s.now) (following c) c.load_from-next.result c.load_from-next.ensures
+more_is c = c.digits_of-more.ensures.len ∙ loaded_run 8 (drop 8 c.args.s.now) (following c) c.load_from-next.result c.load_from-next.ensures
 
 pub returns-then-more-eq8 : goal.returns-then-more-eq8
 returns-then-more-eq8 c =
@@ -34,16 +34,16 @@ returns-then-more-eq8 c =
     let len : 16 ≡ 8 + more = omega arith in
     let whole : zeros decimal_table (low_bytes 8 first ++ low_bytes 8 next) ≡ all_zeros =
     ap₂ (λ xs ys. zeros decimal_table (xs ++ ys))
-    (loaded_bytes s (bytes at) first c.requires.loaded (enough_bytes s (full at)))
-    (loaded_bytes (drop 8 s) (following at) next c.load_from-next.ensures (enough_bytes (drop 8 s) (sym (more_is at) ∙ sym eight))) in
+    (loaded_bytes 8 s (bytes at) first c.requires.loaded (enough_bytes s (full at)))
+    (loaded_bytes 8 (drop 8 s) (following at) next c.load_from-next.ensures (enough_bytes (drop 8 s) (sym (more_is at) ∙ sym eight))) in
     let window : ℕ → ℕ → Window =
     λ n p. record { len = n; zeroes = c.zeroes_of_two.result; number = c.value_of.result * p + c.value_of-then-more-eq8.result } in
     ap₂ window len (c.power_of_ten.ensures.power ∙ ap (λ (n : ℕ). 10 ^ n) eight)
     ∙ window_joined s more c.zeroes_of_two.result c.value_of.result c.value_of-then-more-eq8.result (full at) (more_is at)
     (c.zeroes_of_two.ensures ∙ whole ∙ sym (reported_full more 8 all_zeros (sym eight)))
-    (c.value_of.ensures.sum ∙ loaded_sum s (bytes at) first c.requires.loaded 8 (sym c.requires.full))
+    (c.value_of.ensures.sum ∙ loaded_sum 8 s (bytes at) first c.requires.loaded 8 (sym c.requires.full))
     (c.value_of-then-more-eq8.ensures.sum ∙ ap (λ (n : ℕ). low_value (low_bytes n next)) eight
-    ∙ loaded_sum (drop 8 s) (following at) next c.load_from-next.ensures more c.digits_of-more.ensures.len)
+    ∙ loaded_sum 8 (drop 8 s) (following at) next c.load_from-next.ensures more c.digits_of-more.ensures.len)
 
 pub returns-else-more-eq8 : goal.returns-else-more-eq8
 returns-else-more-eq8 c =
@@ -56,5 +56,5 @@ returns-else-more-eq8 c =
     c.power_of_ten-else-more-eq8.ensures.power
     ∙ window_joined s more 0 c.value_of-else-more-eq8.result c.value_of_fewer.result (full at) (more_is at)
     (sym (reported_none more 8 (zeros decimal_table (take 8 s ++ take 8 (drop 8 s))) c.if-more-eq8.false))
-    (c.value_of-else-more-eq8.ensures.sum ∙ loaded_sum s (bytes at) c.args.first c.requires.loaded 8 (sym c.requires.full))
-    (c.value_of_fewer.ensures.sum ∙ loaded_sum (drop 8 s) (following at) c.load_from-next.result c.load_from-next.ensures more c.digits_of-more.ensures.len)
+    (c.value_of-else-more-eq8.ensures.sum ∙ loaded_sum 8 s (bytes at) c.args.first c.requires.loaded 8 (sym c.requires.full))
+    (c.value_of_fewer.ensures.sum ∙ loaded_sum 8 (drop 8 s) (following at) c.load_from-next.result c.load_from-next.ensures more c.digits_of-more.ensures.len)

@@ -12,6 +12,6 @@ returns-else-len-eq8 g c =
     let len = c.digits_of-len.result in
     c.not_full.ensures
     ∙ window_short s len c.number_in_word.result
-    (c.digits_of-len.ensures.len ∙ loaded_run s fits first c.load_full-first.ensures)
+    (c.digits_of-len.ensures.len ∙ loaded_run 8 s fits first c.load_full-first.ensures)
     c.if-len-eq8.false
-    (c.number_in_word.ensures.sum ∙ loaded_sum s fits first c.load_full-first.ensures len c.digits_of-len.ensures.len)
+    (c.number_in_word.ensures.sum ∙ loaded_sum 8 s fits first c.load_full-first.ensures len c.digits_of-len.ensures.len)
