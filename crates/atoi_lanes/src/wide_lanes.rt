@@ -7,9 +7,10 @@ ghost use Rattle.atoi_core.specs.Refusal.{answer_of, empty};
 ghost use Rattle.atoi_core.specs.Run.{run_len, run, value, zeros};
 ghost use Rattle.atoi_lanes.specs.Lanes.{ReadsAfterZeros};
 
+use crate::after_16::{answer_to_end, last_four, prefix_64_after_16};
 use crate::kernels::{ShortRun, len_lanes, load_lanes, read_short, sum_lanes};
 use crate::lanes::Lanes;
-use crate::window_32::{Window32, load_after_16, window_32};
+use crate::window_32::{Window32, window_32};
 use atoi_core::powers::append_digits;
 use atoi_core::wide_answer::{answer_64, answer_128, found_or_empty};
 use atoi_core::{AtoiSimdError, Engine, Steps};
@@ -121,18 +122,14 @@ fn prefix_64_unskipped<'a>(
         // With `s.len()`, LLVM drops the caller's test.
         return Ok((sum_lanes(first, 16), s.len()));
     }
-    let second = load_after_16(s);
-    let more = len_lanes(second);
     let high = sum_lanes(first, 16);
-    if more == 0 {
-        return Ok((high, 16));
+    if s.len() <= limit as usize {
+        if let Some(low) = last_four(s) {
+            let number = append_digits(high, s.len() as u32 - 16, u64::from(low));
+            return answer_to_end(bound, number, s);
+        }
     }
-    let number = append_digits(high, more, sum_lanes(second, more));
-    let len = 16 + more;
-    if len < limit {
-        return Ok((number as u64, len as usize));
-    }
-    answer_64(bound, limit, 0, len, number, s)
+    prefix_64_after_16(bound, limit, high, s)
 }
 
 // Only this path zeroes the stack slot of the result.

@@ -1,15 +1,15 @@
 -- When windows of 32 bytes decide, and how many loads that takes.
 use Rattle.std.proofs.Common.{◌≡◌, ℕ, ◌+◌, ◌<◌, Bool, true, false, cond, Ok, Err, List, length, take, refl, sym, ap, ◌∙◌, arith, ◌-◌, ◌≤◌, drop, ◌⊎◌, ◌*◌, min, inl, inr, ◌^◌, eqb, subst, lit<}
-use Rattle.std.proofs.lemmas.List.{drop-drop, length-drop, take_all, take_rest}
-use Rattle.atoi_core.specs.Digit.{decimal_table}
+use Rattle.std.proofs.lemmas.List.{drop-drop, length-drop, take-take, take_all, take_rest}
+use Rattle.atoi_core.specs.Digit.{decimal_table, is_digit}
 use Rattle.atoi_core.specs.Loads.{LoadsWithin}
 use Rattle.atoi_core.specs.Reading.{Reading, IsSkipped, answer_by_digits, window_of}
-use Rattle.atoi_core.proofs.lemmas.Runs.{decimal_below_ten}
-use Rattle.atoi_core.proofs.lemmas.Readings.{zeros_left, join_readings, within, below, decided, all_decide, short}
+use Rattle.atoi_core.proofs.lemmas.Runs.{decimal_below_ten, prefix_len-take}
+use Rattle.atoi_core.proofs.lemmas.Readings.{zeros_left, join_readings, within, below, below_bound, decided, all_decide, short}
 use Rattle.atoi_core.specs.Run.{run_len, run, value, zeros}
 use Rattle.atoi_core.specs.declared.window.Window.{Window}
 use Rattle.atoi_lanes.specs.Lanes.{ReadsAfterZeros}
-use Rattle.std.proofs.lemmas.Bool.{cases_lt, false≢true}
+use Rattle.std.proofs.lemmas.Bool.{cases_lt, false≢true, le-ltb}
 use Rattle.atoi_core.specs.Magnitude.{HasDigits, wide64, wide128, prefix_magnitude}
 use Rattle.atoi_core.specs.Refusal.{empty}
 use Rattle.std.proofs.Math.Nat.{zero-add}
@@ -62,6 +62,27 @@ pub few_digits : (skip : Bool) {s : List ℕ} {len leading number : ℕ} (bound 
     → (number ≤ bound) × (prefix_magnitude decimal_table wide64 bound limit skip s ≡ cond (eqb len 0) (Err empty) (Ok (number, len)))
 few_digits skip bound limit most digits reading few =
     rw zero-add at (short decimal_below_ten wide64 bound limit (omega arith) digits (start skip _) reading (omega arith) few)
+
+-- The first 24 bytes decide a 64-bit answer without skipping.
+pub by_digits : (bound limit : ℕ) (s : List ℕ) (len number : ℕ) → limit ≤ 20 → len ≡ min 24 (run_len decimal_table s) → number ≡ value decimal_table (take len s)
+    → (len ≤ length s) × (number < 10 ^ len)
+    × (answer_by_digits wide64 bound limit 0 len number s ≡ prefix_magnitude decimal_table wide64 bound limit false s)
+by_digits bound limit s len number few len_is number_is =
+    let count : len ≡ run_len decimal_table (take 24 s) = len_is ∙ sym (prefix_len-take (is_digit decimal_table) 24 s) in
+    let reading : Reading decimal_table 24 s len (zeros decimal_table (take 24 s)) number =
+    record { digits_are = count; leading_are = refl; number_is = cc (number_is, count, take-take len 24 s (omega arith)) } in (
+      omega (arith, within reading),
+      below reading decimal_below_ten,
+      sym (all_decide wide64 bound limit (omega arith) (start false s) reading (λ on. absurd (cc on))),
+    )
+
+-- Sixteen digits are fewer than the limit.
+pub ended_at_16 : (bound limit : ℕ) (s : List ℕ) (high : ℕ) → 17 ≤ limit → limit ≤ 20 → HasDigits limit bound → run_len decimal_table s ≡ 16
+    → high ≡ value decimal_table (take 16 s) → Ok (high, 16) ≡ prefix_magnitude decimal_table wide64 bound limit false s
+ended_at_16 bound limit s high low few digits ends number_is =
+    let known = by_digits bound limit s 16 high few (omega arith) number_is in
+    let within_bound = below_bound limit bound 16 high digits (omega arith) known.1 in
+    rw (le-ltb limit 16 (omega arith), le-ltb bound high (omega arith)) at known.2
 
 -- For 64 bits, the last window decides the answer.
 pub decided_64 : (bound limit : ℕ) (s : List ℕ) (at : ℕ) (w : Window32) → limit ≤ 20 → ReadsAfterZeros true s at w

@@ -1,36 +1,29 @@
--- A vector decides, if full with the next one.
-use Rattle.std.proofs.Common.{◌≡◌, ℕ, ◌+◌, ◌*◌, ◌^◌, ◌⊎◌, ◌-◌, ◌<◌, ◌≤◌, cond, eqb, false, [], inl, inr, Ok, refl, sym, ◌∙◌, ap, take, drop, arith, ne_eqb}
-use Rattle.std.proofs.lemmas.Bool.{cases_lt}
-use Rattle.std.proofs.lemmas.List.{drop_all}
-use Rattle.atoi_core.specs.Digit.{decimal_table}
-use Rattle.atoi_core.specs.Magnitude.{wide64, prefix_magnitude}
-use Rattle.atoi_core.specs.Reading.{Reading}
-use Rattle.atoi_core.specs.Run.{zeros, value}
-use Rattle.atoi_core.proofs.lemmas.Readings.{widened, join_readings, decided, within, below}
-use Rattle.atoi_core.proofs.lemmas.Runs.{decimal_below_ten}
+-- A vector decides, if full with the bytes after it.
+use Rattle.std.proofs.Common.{◌≡◌, ℕ, ◌+◌, ◌*◌, ◌^◌, ◌-◌, ◌≤◌, false, List, length, take, drop, Ok, refl, sym, ◌∙◌, ap, arith, ne_eqb, le-ltb}
+use Rattle.std.proofs.Math.Nat.{zero-add}
+use Rattle.std.proofs.lemmas.List.{length-drop, take-append-le, take-take, take_all}
+use Rattle.std.proofs.lemmas.List.Sums.{prefix_len-le-length}
+use Rattle.atoi_core.specs.Digit.{decimal_table, is_digit}
+use Rattle.atoi_core.specs.Run.{run_len, value}
+use Rattle.atoi_core.proofs.lemmas.Readings.{widened}
+use Rattle.atoi_core.proofs.lemmas.Runs.{prefix_len-take, value-take-add}
 use Rattle.atoi_lanes.proofs.lemmas.LaneWindows.{reading-of_lanes}
-use Rattle.atoi_lanes.proofs.lemmas.WideAnswers.{few_digits, start}
+use Rattle.atoi_lanes.proofs.lemmas.WideAnswers.{by_digits, ended_at_16, few_digits}
 use Rattle.atoi_lanes.proofs.wide_lanes.prefix_64_unskipped.Goals as goal
-use Rattle.atoi_lanes.proofs.wide_lanes.prefix_64_unskipped.Goals.{Else-len-lt16, After-append_digits-number}
+use Rattle.atoi_lanes.proofs.wide_lanes.prefix_64_unskipped.Goals.{Else-len-lt16}
 
--- Without a digit after them, the first 16 are all.
-ended : (c : Else-len-lt16) {high others low : ℕ} → high ≡ value decimal_table (take 16 c.load_lanes-first.result)
-    → Reading decimal_table 16 (drop 16 c.args.s.now) 0 others low
-    → Ok (high, 16) ≡ prefix_magnitude decimal_table wide64 c.args.bound c.args.limit false c.args.s.now
-ended c {high = high} {low = low} summed after =
-    let front = reading-of_lanes _ c.load_lanes-first.result 16 _ c.load_lanes-first.ensures
-    (omega (arith, c.len_lanes-len.ensures, c.if-len-lt16.false)) summed in
-    let number : high * 10 ^ 0 + low ≡ high = omega (arith, below after decimal_below_ten) in
-    sym (rw number at (few_digits false c.args.bound c.args.limit c.requires.limit_high c.requires.digits (join_readings front after) (omega arith)).1)
+-- The full vector has the first 16 bytes, which are digits.
+full : (c : Else-len-lt16) → let s : List ℕ = c.args.s.now in
+    (c.load_lanes-first.result ≡ take 16 s) × (16 ≤ run_len decimal_table s)
+full c =
+    let s : List ℕ = c.args.s.now in
+    let lanes : c.load_lanes-first.result ≡ take 16 s = c.load_lanes-first.ensures ∙ take-append-le 16 s _ c.requires.enough in
+    let digits = c.len_lanes-len.ensures.len ∙ ap (run_len decimal_table) lanes ∙ prefix_len-take (is_digit decimal_table) 16 s in
+    (lanes, omega (arith, digits, c.if-len-lt16.false))
 
-both : (c : After-append_digits-number) → let leading = zeros decimal_table c.load_lanes-first.result in
-    Reading decimal_table 32 c.args.s.now (16 + c.len_lanes-more.result) (cond (eqb leading 16) (16 + zeros decimal_table c.load_after_16-second.result) leading)
-    c.append_digits-number.result
-both c =
-    let front = reading-of_lanes c.args.s.now c.load_lanes-first.result 16 _ c.load_lanes-first.ensures
-    (omega (arith, c.len_lanes-len.ensures, c.if-len-lt16.false)) c.sum_lanes-high.ensures in
-    let after = reading-of_lanes _ c.load_after_16-second.result _ _ c.load_after_16-second.ensures c.len_lanes-more.ensures.len refl in
-    rw (c.append_digits-number.ensures, c.sum_lanes-2.ensures) (join_readings front after)
+high_is : (c : Else-len-lt16) (high : ℕ) → high ≡ value decimal_table (take 16 c.load_lanes-first.result) → high ≡ value decimal_table (take 16 c.args.s.now)
+high_is c high summed =
+    summed ∙ ap (λ lanes. value decimal_table (take 16 lanes)) (full c).0 ∙ ap (value decimal_table) (take-take 16 16 c.args.s.now (omega arith))
 
 pub returns-then-len-lt16-clause-answer : goal.returns-then-len-lt16-clause-answer
 returns-then-len-lt16-clause-answer c =
@@ -40,35 +33,34 @@ returns-then-len-lt16-clause-answer c =
 
 pub returns-then-s-eq16-clause-answer : goal.returns-then-s-eq16-clause-answer
 returns-then-s-eq16-clause-answer c =
-    let none : drop 16 c.args.s.now ≡ [] = drop_all 16 c.args.s.now (omega (arith, c.if-s-eq16.true)) in
-    let after : Reading decimal_table 16 (drop 16 c.args.s.now) 0 0 0 = rw none (record { digits_are = refl; leading_are = refl; number_is = refl }) in
+    let s : List ℕ = c.args.s.now in
+    let r = c.requires in
+    let at = (goal.at.returns-then-s-eq16-clause-answer c).Else-len-lt16 in
+    let all : run_len decimal_table s ≡ 16 = omega (arith, (full at).1, c.if-s-eq16.true, prefix_len-le-length (is_digit decimal_table) s) in
     ap (λ len. Ok (c.sum_lanes-then-s-eq16.result, len)) c.if-s-eq16.true
-    ∙ ended (goal.at.returns-then-s-eq16-clause-answer c).Else-len-lt16 c.sum_lanes-then-s-eq16.ensures after
+    ∙ ended_at_16 c.args.bound c.args.limit s _ r.limit_low r.limit_high r.digits all (high_is at _ c.sum_lanes-then-s-eq16.ensures)
 
-pub returns-then-more-eq0-clause-answer : goal.returns-then-more-eq0-clause-answer
-returns-then-more-eq0-clause-answer c =
-    let after = reading-of_lanes _ c.load_after_16-second.result _ _ c.load_after_16-second.ensures c.len_lanes-more.ensures.len refl in
-    ended (goal.at.returns-then-more-eq0-clause-answer c).Else-len-lt16 c.sum_lanes-high.ensures (rw c.if-more-eq0.true at after)
+pub last_four-requires-clause-full : goal.last_four-requires-clause-full
+last_four-requires-clause-full c = (full (goal.at.last_four-requires-clause-full c).Else-len-lt16).1
 
-pub overflow_cast-result : goal.overflow_cast-result
-overflow_cast-result c =
-    let reading = both (goal.at.overflow_cast-result c).After-append_digits-number in
-    let few = few_digits false c.args.bound c.args.limit c.requires.limit_high c.requires.digits reading c.if-len-limit.true in
-    record { fits = omega (arith, few.0, c.ranges.bound.fits) }
+pub returns-in-Some-clause-answer : goal.returns-in-Some-clause-answer
+returns-in-Some-clause-answer c =
+    let s : List ℕ = c.args.s.now in
+    let more : ℕ = length s - 16 in
+    let high = high_is (goal.at.returns-in-Some-clause-answer c).Else-len-lt16 _ c.sum_lanes-high.ensures in
+    let rest : value decimal_table (take more (drop 16 s)) ≡ value decimal_table (drop 16 s) =
+    ap (value decimal_table) (take_all more (drop 16 s) (omega (arith, length-drop 16 s))) in
+    let len : 16 + more ≡ length s = omega (arith, c.requires.enough) in
+    let number : c.append_digits-number.result ≡ value decimal_table (take (length s) s) =
+    c.append_digits-number.ensures
+    ∙ rw (high, c.from.ensures ∙ c.in-Some.ensures.1, ← rest) (sym (value-take-add decimal_table 16 more s (omega arith)) ∙ ap (λ n. value decimal_table (take n s)) len) in
+    let known = by_digits c.args.bound c.args.limit s (length s) _ c.requires.limit_high (omega (arith, c.in-Some.ensures.0, c.if-s-limit.true, c.requires.limit_high)) number in
+    c.answer_to_end.ensures
+    ∙ (rw (zero-add (length s), ne_eqb (length s) 0 (omega arith), le-ltb c.args.limit (length s) c.if-s-limit.true) at known.2)
 
-pub returns-then-len-limit-clause-answer : goal.returns-then-len-limit-clause-answer
-returns-then-len-limit-clause-answer c =
-    let reading = both (goal.at.returns-then-len-limit-clause-answer c).After-append_digits-number in
-    let few = few_digits false c.args.bound c.args.limit c.requires.limit_high c.requires.digits reading c.if-len-limit.true in
-    sym (rw (ne_eqb (16 + c.len_lanes-more.result) 0 (omega arith)) at few.1)
+pub prefix_64_after_16-requires-clause-full : goal.prefix_64_after_16-requires-clause-full
+prefix_64_after_16-requires-clause-full c = (full (goal.at.prefix_64_after_16-requires-clause-full c).Else-len-lt16).1
 
-pub answer_64-requires : goal.answer_64-requires
-answer_64-requires c = omega (arith, within (both (goal.at.answer_64-requires c).After-append_digits-number))
-
-pub returns-clause-answer : goal.returns-clause-answer
-returns-clause-answer c =
-    let reading = both (goal.at.returns-clause-answer c).After-append_digits-number in
-    let len = 16 + c.len_lanes-more.result in
-    let enough : (len < 32) ⊎ (24 ≤ len) = elim (cases_lt len 32) [ inl h ↦ inl h | inr h ↦ inr (omega (arith, h)) ] in
-    let none : len - len ≡ 0 = omega arith in
-    c.answer_64.ensures ∙ sym (rw none at (decided wide64 c.args.bound c.args.limit (omega arith) (start false c.args.s.now) reading enough))
+pub prefix_64_after_16-requires-clause-number : goal.prefix_64_after_16-requires-clause-number
+prefix_64_after_16-requires-clause-number c =
+    high_is (goal.at.prefix_64_after_16-requires-clause-number c).Else-len-lt16 _ c.sum_lanes-high.ensures
