@@ -16,7 +16,7 @@ pub const CRATES: [&str; 5] =
 
 // The conditions that callers must meet, with the path of each definition that they name, and what
 // tests them in Rust.
-const CONDITIONS: [(&str, &str); 2] = [
+const CONDITIONS: [(&str, &str); 3] = [
     (
         "Rattle.atoi_column.specs.Fields.is_separator separator \
             Rattle.std.specs.Prelude.≡ Rattle.std.specs.Prelude.true",
@@ -26,6 +26,14 @@ const CONDITIONS: [(&str, &str); 2] = [
         "Rattle.std.specs.Prelude.IsFalse ( Rattle.atoi_core.specs.Digit.is_digit \
             Rattle.atoi_core.specs.Digit.decimal_table byte )",
         "assert!(!byte.is_ascii_digit(), \"a digit is to follow the number\");",
+    ),
+    (
+        "( index Rattle.std.specs.Prelude.+ Rattle.std.specs.Prelude.length self.rest \
+            Rattle.std.specs.Prelude.< 2 Rattle.std.specs.Prelude.^ 64 ) \
+            × ( place Rattle.std.specs.Prelude.+ Rattle.std.specs.Prelude.length self.rest \
+            Rattle.std.specs.Prelude.< 2 Rattle.std.specs.Prelude.^ 64 )",
+        "assert!(self.rest.len() <= usize::MAX - index, \"the fields have too many indices\"); \
+            assert!(self.rest.len() <= usize::MAX - place, \"the fields end above usize::MAX\");",
     ),
 ];
 
@@ -270,7 +278,9 @@ impl<'a> Eraser<'a> {
             let is_import = |import: &&(&str, &str)| import.1.trim_matches('◌') == word;
             let paths = self.imports.iter().filter(is_import).filter(|_| !is_hidden);
             let paths = paths.map(|(module, _)| format!("{module}.{word}"));
-            paths.reduce(|one, other| one + " or " + &other).unwrap_or(word.into())
+            let either =
+                |one: String, other: String| if one == other { one } else { one + " or " + &other };
+            paths.reduce(either).unwrap_or(word.into())
         };
         let words = clause.replace('(', "( ").replace(')', " )");
         words.split_whitespace().map(with_path).collect::<Vec<_>>().join(" ")

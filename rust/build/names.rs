@@ -32,7 +32,8 @@ const MACROS: &str = "assert matches write";
 // `copy_from_slice` panic in Rust alone, where proofs exclude it. No item of ours has such a name.
 const METHODS: &str = "len is_empty iter first first_chunk last_chunk split_at split_at_checked \
     split_first copy_from_slice is_ascii_digit checked_add checked_mul cmp min partial_cmp \
-    to_le_bytes trailing_ones trailing_zeros unsigned_abs wrapping_add wrapping_mul wrapping_sub \
+    saturating_sub to_le_bytes trailing_ones trailing_zeros unsigned_abs \
+    wrapping_add wrapping_mul wrapping_sub \
     count enumerate take_while ok unwrap write_str dot4 simd_eq simd_ge simd_le \
     reduce_sum swizzle_dyn_within to_array to_bitmask";
 const OWN_METHODS: &str = "parts text tick";

@@ -5,7 +5,7 @@
 pub type Token = (usize, String);
 
 /// The conditions of exported functions, and how their bodies begin in Rust.
-const TESTS: [(&str, &str); 2] = [
+const TESTS: [(&str, &str); 3] = [
     (
         "is_separatorseparator≡true",
         "assert!(crate::column::is_separator(separator), \"a sign or a digit separates fields\");",
@@ -13,6 +13,11 @@ const TESTS: [(&str, &str); 2] = [
     (
         "IsFalse(is_digitdecimal_tablebyte)",
         "assert!(!byte.is_ascii_digit(), \"a digit is to follow the number\");",
+    ),
+    (
+        "(index+lengthself.rest<2^64)×(place+lengthself.rest<2^64)",
+        "assert!(self.rest.len() <= usize::MAX - index, \"the fields have too many indices\");
+            assert!(self.rest.len() <= usize::MAX - place, \"the fields end above usize::MAX\");",
     ),
 ];
 
