@@ -3,7 +3,7 @@
 
 use std::panic::catch_unwind;
 use torkettle::AtoiSimdError;
-use torkettle::column::{Column, ColumnError, Fields, is_separator};
+use torkettle::column::{Column, ColumnError, FieldError, Fields, is_separator};
 
 // Columns with good fields, and fields that are refused: empty, with other bytes, out of range.
 const COLUMNS: [&str; 12] = [
@@ -96,4 +96,81 @@ fn a_separator_is_no_part_of_a_number() {
         let fields = catch_unwind(|| Fields::<u8>::new(b"1", byte).count());
         assert_eq!(fields.is_ok(), expected, "fields with separator {byte}");
     }
+}
+
+// The items of both parts of a text, where the second goes on after the first, and the last position.
+fn items_of_parts<'a>(
+    first: Fields<'a, i8>,
+    second: Fields<'a, i8>,
+) -> (Vec<Result<i8, FieldError<'a>>>, (usize, usize)) {
+    let mut first = first;
+    let mut items: Vec<_> = first.by_ref().collect();
+    let (index, place) = first.position();
+    let mut second = second.starting_at(index, place);
+    items.extend(second.by_ref());
+    (items, second.position())
+}
+
+#[test]
+fn a_text_that_is_cut_after_a_separator_has_the_same_items() {
+    for text in COLUMNS {
+        for ending in [",", "\n", "\r\n"] {
+            let text = text.replace(',', ending);
+            let separator = ending.as_bytes()[ending.len() - 1];
+            let fields: Vec<_> = Fields::<i8>::new(text.as_bytes(), separator).collect();
+            let lines: Vec<_> = Fields::<i8>::lines(text.as_bytes()).collect();
+            let ends = text.match_indices(char::from(separator)).map(|(place, _)| place + 1);
+            for cut in [0].into_iter().chain(ends) {
+                let (first, second) = text.as_bytes().split_at(cut);
+                let (items, position) =
+                    items_of_parts(Fields::new(first, separator), Fields::new(second, separator));
+                assert_eq!(items, fields, "the fields of {text:?}, cut at {cut}");
+                assert_eq!(position, (fields.len(), text.len()));
+                if separator == b'\n' {
+                    let (items, position) =
+                        items_of_parts(Fields::lines(first), Fields::lines(second));
+                    assert_eq!(items, lines, "the lines of {text:?}, cut at {cut}");
+                    assert_eq!(position, (lines.len(), text.len()));
+                }
+            }
+        }
+    }
+}
+
+#[test]
+fn the_position_is_that_of_the_next_field() {
+    for text in COLUMNS {
+        let mut place = 0;
+        let mut items = Fields::<i8>::new(text.as_bytes(), b',');
+        for (index, field) in fields(text, ',').into_iter().enumerate() {
+            assert_eq!(items.position(), (index, place), "field {index} of {text:?}");
+            items.next();
+            place += field.len() + 1;
+        }
+        assert_eq!(
+            items.position(),
+            (fields(text, ',').len(), text.len()),
+            "at the end of {text:?}"
+        );
+        items.next();
+        assert_eq!(items.position().1, text.len(), "after the end of {text:?}");
+    }
+}
+
+#[test]
+fn a_start_leaves_room_for_the_fields() {
+    std::panic::set_hook(Box::new(|_| {}));
+    let starts =
+        |index, place| catch_unwind(|| Fields::<u8>::new(b"1,x", b',').starting_at(index, place));
+    for (index, place, expected) in [
+        (usize::MAX - 3, usize::MAX - 3, true),
+        (usize::MAX - 2, 0, false),
+        (0, usize::MAX - 2, false),
+        (usize::MAX, usize::MAX, false),
+    ] {
+        assert_eq!(starts(index, place).is_ok(), expected, "from {index} at {place}");
+    }
+    let error =
+        Fields::<u8>::new(b"1,x", b',').starting_at(usize::MAX - 3, 7).find_map(Result::err);
+    assert_eq!(error.map(|error| (error.index, error.place)), Some((usize::MAX - 2, 9)));
 }

@@ -1,6 +1,7 @@
 -- The items of `Fields`: for each field, in order, its value or an error.
-use Rattle.std.specs.Prelude.{ℕ, ◌+◌, ◌-◌, ◌==◌, Bool, true, false, if◌then◌else◌, ℤ, Result, Ok, Err, List, [], ◌∷◌, length}
-use Rattle.std.specs.List.{slice_split}
+use Rattle.std.specs.Prelude.{◌≡◌, ℕ, ◌+◌, ◌-◌, ◌==◌, Bool, true, false, if◌then◌else◌, ℤ, Option, None, Some, Result, Ok, Err, List, [], ◌∷◌, length}
+use Rattle.std.specs.List.{slice_split, after_first}
+use Rattle.std.specs.Iterator.{YieldsFirstBy}
 use Rattle.std.specs.Str.Lines.{strip_carriage_return}
 use Rattle.atoi_core.specs.Refusal.{Refusal, refusal_of}
 use Rattle.atoi_core.specs.IntType.{IntType}
@@ -46,16 +47,48 @@ abbrev pub cut_of : (trims : Bool) → List ℕ → List ℕ
 cut_of false part = part
 cut_of true part = strip_carriage_return part
 
--- The items still to be read: `rest`, up to the offset `end`.
-unfoldable pub field_items_left : IntType → (trims : Bool) → (separator index end : ℕ) → List ℕ → List (Result ℤ BadField)
-field_items_left int trims separator index end rest =
-    items_of_parts (cut_of trims) (parse_answer int true true) index (end - length rest)
-    (slice_split (λ byte. byte == separator) rest)
+-- What `Fields` is still to read. The field `index` begins at offset `place`, where `rest` begins.
+pub record FieldsLeft : Type 0 where
+  pub trims : Bool
+  pub separator : ℕ
+  pub index : ℕ
+  pub place : ℕ
+  pub rest : List ℕ
+
+-- The items still to be read.
+unfoldable pub field_items_left : IntType → FieldsLeft → List (Result ℤ BadField)
+field_items_left int left =
+    items_of_parts (cut_of left.trims) (parse_answer int true true) left.index left.place
+    (slice_split (λ byte. byte == left.separator) left.rest)
+
+-- After the first field.
+abbrev pub after_first_field : FieldsLeft → FieldsLeft
+after_first_field left =
+    let rest = after_first (λ byte. byte == left.separator) left.rest in
+    record left { index = left.index + 1; place = left.place + (length left.rest - length rest); rest = rest }
+
+-- A call that returns an item goes on to the next field. At the end, nothing changes.
+abbrev pub MovesOn : {A : Type 0} → FieldsLeft → Option A → FieldsLeft → Type 0
+MovesOn old None new = (old.rest ≡ []) × (new ≡ old)
+MovesOn old (Some item) new = new ≡ after_first_field old
+
+-- A call of `next` returns the first item, if there is one, and leaves the others.
+abbrev pub GivesFirstField : {T : Type 0} → IntType → (T → ℤ) → FieldsLeft → Option (Result T FieldError) → FieldsLeft → Type 0
+GivesFirstField int number old result new =
+    YieldsFirstBy (field_item_of number) (field_items_left int) old result new × MovesOn old result new
+
+-- The fields of an input, before the first is read.
+abbrev pub fields_in : (separator : ℕ) → List ℕ → FieldsLeft
+fields_in separator input = record { trims = false; separator = separator; index = 0; place = 0; rest = input }
+
+-- Its lines.
+abbrev pub lines_in : List ℕ → FieldsLeft
+lines_in input = record { trims = true; separator = 10; index = 0; place = 0; rest = input }
 
 -- The items of the fields of an input.
 abbrev pub field_items : IntType → (separator : ℕ) → List ℕ → List (Result ℤ BadField)
-field_items int separator input = field_items_left int false separator 0 (length input) input
+field_items int separator input = field_items_left int (fields_in separator input)
 
 -- The items of its lines.
 abbrev pub line_items : IntType → List ℕ → List (Result ℤ BadField)
-line_items int input = field_items_left int true 10 0 (length input) input
+line_items int input = field_items_left int (lines_in input)

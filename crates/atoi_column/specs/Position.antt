@@ -11,4 +11,5 @@ pub record IsPosition (separator index place : ℕ) (rest : List ℕ) : Type 0 w
 -- The field `index` begins where `rest` begins, and `rest` ends at the offset `end`.
 pub record IsBeforeEnd (separator index end : ℕ) (rest : List ℕ) : Type 0 where
   pub separates : is_separator separator ≡ true
-  pub fewer : index + length rest ≤ end
+  pub counts : index + length rest < 2 ^ 64
+  pub within : length rest ≤ end

@@ -1,11 +1,11 @@
 //! An iterator over the fields of a byte slice, which goes on after an error.
-ghost use Rattle.std.specs.Prelude.{◌≡◌, ◌<◌, ◌≤◌, ◌==◌, ℕ, ℤ, true, None, Ok, length, drop, All, IfSome, IfNone, IfErr};
-ghost use Rattle.std.specs.Iterator.{YieldsFirstBy, item_count};
+ghost use Rattle.std.specs.Prelude.{◌≡◌, ◌+◌, ◌^◌, ◌<◌, ◌≤◌, ◌==◌, ℕ, ℤ, true, None, Ok, length, drop, All, IfSome, IfNone, IfErr};
+ghost use Rattle.std.specs.Iterator.{item_count};
 ghost use Rattle.std.specs.Option.{option_map};
 ghost use Rattle.std.specs.List.{position_or_len, after_first};
 ghost use Rattle.atoi_core.specs.Answer.{parse_answer, parse_prefix_answer};
 ghost use Rattle.atoi_column.specs.Fields.{is_separator};
-ghost use Rattle.atoi_column.specs.FieldItems.{cut_of, field_item, field_item_of, field_items, line_items};
+ghost use Rattle.atoi_column.specs.FieldItems.{cut_of, field_item, field_item_of, fields_in, lines_in, field_items, field_items_left, line_items, GivesFirstField};
 ghost use Rattle.atoi_column.specs.FirstField.{after_field, first_text, IsAcceptedField};
 
 use crate::column::fields_are_prefixes;
@@ -32,16 +32,20 @@ pub struct Fields<'a, T: Parse> {
 }
 
 impl<'a, T: Parse> Model for Fields<'a, T> {
-    ghost use Rattle.std.specs.Prelude.{List, Result, ℤ};
-    ghost use Rattle.atoi_column.specs.FieldItems.{BadField};
+    ghost use Rattle.std.specs.Prelude.{◌-◌, length};
+    ghost use Rattle.atoi_column.specs.FieldItems.{FieldsLeft};
 
-    ghost Value = { List (Result ℤ BadField) };
+    ghost Value = { FieldsLeft };
 
-    ghost use Rattle.atoi_column.specs.FieldItems.{field_items_left};
     ghost use Rattle.atoi_column.specs.Position.{IsBeforeEnd};
 
-    ghost view = { λ fields. field_items_left T.int_type fields.trims
-        fields.separator fields.index fields.end fields.rest.now };
+    ghost view = { λ fields. record {
+      trims = fields.trims;
+      separator = fields.separator;
+      index = fields.index;
+      place = fields.end - length fields.rest.now;
+      rest = fields.rest.now;
+    } };
 
     ghost invariant = { λ fields. IsBeforeEnd fields.separator fields.index fields.end
         fields.rest.now };
@@ -56,10 +60,11 @@ impl<'a, T: Parse> Fields<'a, T> {
     #[inline]
     pub fn new(input: &'a [u8], separator: u8) -> Fields<'a, T>
         requires { is_separator separator ≡ true }
-        ensures items { result ≡ field_items T.int_type separator input.now }
-        ensures fits { length result ≤ length input.now }
-        ensures places { All (λ item. IfErr item (λ bad.
-            (bad.place < length input.now) × (bad.index < length input.now))) result }
+        ensures left { result ≡ fields_in separator input.now }
+        ensures items { field_items_left T.int_type result ≡ field_items T.int_type separator input.now }
+        ensures fits { length (field_items_left T.int_type result) ≤ length input.now }
+        ensures places { All (λ item. IfErr item (λ bad. (bad.place < length input.now)
+            × (bad.index < length input.now))) (field_items_left T.int_type result) }
     {
         Fields {
             rest: input,
@@ -75,10 +80,11 @@ impl<'a, T: Parse> Fields<'a, T> {
     /// no part of it.
     #[inline]
     pub fn lines(input: &'a [u8]) -> Fields<'a, T>
-        ensures items { result ≡ line_items T.int_type input.now }
-        ensures fits { length result ≤ length input.now }
-        ensures places { All (λ item. IfErr item (λ bad.
-            (bad.place < length input.now) × (bad.index < length input.now))) result }
+        ensures left { result ≡ lines_in input.now }
+        ensures items { field_items_left T.int_type result ≡ line_items T.int_type input.now }
+        ensures fits { length (field_items_left T.int_type result) ≤ length input.now }
+        ensures places { All (λ item. IfErr item (λ bad. (bad.place < length input.now)
+            × (bad.index < length input.now))) (field_items_left T.int_type result) }
     {
         Fields {
             rest: input,
@@ -89,14 +95,67 @@ impl<'a, T: Parse> Fields<'a, T> {
             values: PhantomData,
         }
     }
+
+    /// Returns the same fields, but the first has the index `index` and begins at the offset `place`.
+    /// This reads one piece of a longer input, if each piece before the last ends with a separator.
+    ///
+    /// ```
+    /// use torkettle::column::Fields;
+    ///
+    /// let (mut index, mut place) = (0, 0);
+    /// let mut bad = Vec::new();
+    /// for piece in [&b"80\n44x\n"[..], b"443\n8O"] {
+    ///     let mut lines = Fields::<u16>::lines(piece).starting_at(index, place);
+    ///     bad.extend(lines.by_ref().filter_map(Result::err));
+    ///     (index, place) = lines.position();
+    /// }
+    /// assert_eq!((bad[0].index, bad[0].place, bad[0].text), (1, 3, &b"44x"[..]));
+    /// assert_eq!((bad[1].index, bad[1].place, bad[1].text), (3, 11, &b"8O"[..]));
+    /// assert_eq!((index, place), (4, 13));
+    /// ```
+    ///
+    /// # Panics
+    ///
+    /// In Rust, if `index` or `place` exceeds `usize::MAX` when the number of bytes that are still to be
+    /// read is added.
+    #[inline]
+    pub fn starting_at(mut self, index: usize, place: usize) -> Fields<'a, T>
+        requires { (index + length self.rest < 2 ^ 64) × (place + length self.rest < 2 ^ 64) }
+        ensures { result ≡ record self.entry { index = index; place = place } }
+    {
+        self.index = index;
+        self.end = place + self.rest.len();
+        self
+    }
+
+    /// Returns the index of the next field, and the offset at which it begins. At the end, these are
+    /// the number of all fields, and the offset at which the input ends. To look for an item, call
+    /// `Iterator::position` by this name.
+    ///
+    /// ```
+    /// use torkettle::column::Fields;
+    ///
+    /// let mut fields = Fields::<u8>::new(b"1,22,3", b',');
+    /// assert_eq!(fields.position(), (0, 0));
+    /// assert_eq!(fields.nth(1), Some(Ok(22)));
+    /// assert_eq!(fields.position(), (2, 5));
+    /// assert_eq!(fields.next(), Some(Ok(3)));
+    /// assert_eq!(fields.position(), (3, 6));
+    /// ```
+    #[inline]
+    pub fn position(&self) -> (usize, usize)
+        ensures { result ≡ (self.now.index, self.now.place) }
+    {
+        (self.index, self.end - self.rest.len())
+    }
 }
 
 impl<'a, T: Parse> Iterator for Fields<'a, T> {
     type Item = Result<T, FieldError<'a>>;
 
-    ghost next_gives = { YieldsFirstBy (field_item_of T.number) (λ left. left) };
+    ghost next_gives = { GivesFirstField T.int_type T.number };
 
-    ghost remaining = { item_count (λ left. left) };
+    ghost remaining = { item_count (field_items_left T.int_type) };
 
     /// Returns the value of the next field, or an error that says why it has none. Returns `None`
     /// at the end.

@@ -1,7 +1,7 @@
 -- Where the fields of errors begin.
 use Rattle.std.proofs.Common.{◌≡◌, ℕ, ◌+◌, ◌-◌, ◌<◌, ◌≤◌, ◌==◌, true, false, not, inl, inr, if◌then◌else◌, Bool, List, [], ◌∷◌, ◌++◌, length, take, drop, length-drop, ℤ, Result, Ok, Err, refl, sym, ap, ◌∙◌, arith, append_assoc, append-nil}
 use Rattle.std.specs.List.{slice_split, slice_index, position_or_len, before_first, after_first}
-use Rattle.std.proofs.lemmas.List.{take-append-drop, drop-drop}
+use Rattle.std.proofs.lemmas.List.{take-append-drop, drop-drop, nil_from_length}
 use Rattle.std.proofs.lemmas.List.Folds.{length-prefix_len}
 use Rattle.std.proofs.lemmas.List.Splits.{slice_split_first}
 use Rattle.std.proofs.lemmas.Bool.Decides.{leb_tells}
@@ -11,7 +11,7 @@ use Rattle.atoi_core.specs.Answer.{parse_answer}
 use Rattle.atoi_column.specs.FieldItems.{BadField, cut_of, field_item, field_items_left}
 use Rattle.atoi_column.specs.FirstField.{first_text}
 use Rattle.atoi_column.specs.Laws.{place_after, IsPlaced, ErrorsArePlaced}
-use Rattle.atoi_column.proofs.lemmas.FieldItems.{field_items_left-empty, field_items_left-next}
+use Rattle.atoi_column.proofs.lemmas.FieldItems.{first_item, left_before, field_items_left-empty, first_field_step}
 use Rattle.atoi_column.proofs.lemmas.Places.{place_after-cons}
 
 -- A part begins with its text.
@@ -40,7 +40,7 @@ module _ (int : IntType) (trims : Bool) (separator : ℕ) (input : List ℕ) whe
   ends byte = byte == separator
 
   abbrev left : (index : ℕ) → List ℕ → List (Result ℤ BadField)
-  left index rest = field_items_left int trims separator index (length input) rest
+  left index rest = field_items_left int (left_before trims separator index (length input) rest)
 
   abbrev place_of : List ℕ → ℕ
   place_of rest = length input - length rest
@@ -104,10 +104,17 @@ module _ (int : IntType) (trims : Bool) (separator : ℕ) (input : List ℕ) whe
   some_left before after bad index rest same =
       elim (leb_tells (length rest) 0) [
         | inl none ↦
-            let empty : left index rest ≡ [] = field_items_left-empty int trims separator index (length input) rest (omega (arith, none.1)) in
+            let nothing : rest ≡ [] = nil_from_length rest (omega (arith, none.1)) in
+            let empty : left index rest ≡ [] = field_items_left-empty int (left_before trims separator index (length input) rest) nothing in
             absurd (no_error before after bad (sym empty ∙ same))
         | inr some ↦ some.1
       ]
+
+  -- The first item, and what is left after it.
+  first_step : (index : ℕ) (rest : List ℕ) → 0 < length rest → length rest ≤ length input
+      → left index rest ≡ first_item int (left_before trims separator index (length input) rest) ∷ left (index + 1) (after_first ends rest)
+  first_step index rest some within =
+      (first_field_step int {trims = trims} {separator = separator} {index = index} {end = length input} {rest = rest} refl some within refl refl).0
 
   -- What follows the first separator is the end of the input, too.
   following_is : (rest : List ℕ) → length rest ≤ length input → position_or_len ends rest < length rest → drop (place_of rest) input ≡ rest
@@ -120,22 +127,24 @@ module _ (int : IntType) (trims : Bool) (separator : ℕ) (input : List ℕ) whe
   placed : (before after : List (Result ℤ BadField)) (bad : BadField) (index : ℕ) (rest : List ℕ) → length rest ≤ length input → drop (place_of rest) input ≡ rest
       → left index rest ≡ before ++ Err bad ∷ after → IsPlacedIn index rest before bad
   placed [] after bad index rest within is same =
-      let first = field_items_left-next int trims separator index (length input) rest (some_left [] after bad index rest same) within refl refl in
+      let first = first_step index rest (some_left [] after bad index rest same) within in
       placed_first bad index rest is (cc (first, same))
   placed (item ∷ before) after bad index rest within is same =
       let following = after_first ends rest in
       let left_over : length following ≡ length rest - (position_or_len ends rest + 1) = length-drop (position_or_len ends rest + 1) rest in
-      let first = field_items_left-next int trims separator index (length input) rest (some_left (item ∷ before) after bad index rest same) within refl refl in
+      let first = first_step index rest (some_left (item ∷ before) after bad index rest same) within in
       let later : left (index + 1) following ≡ before ++ Err bad ∷ after = cc (first, same) in
       let some = some_left before after bad (index + 1) following later in
       let found : position_or_len ends rest < length rest = omega (arith, left_over, some) in
       placed_later item before bad index rest within found
       (placed before after bad (index + 1) following (omega (arith, left_over)) (following_is rest within found is) later)
 
-  is_placed : (before after : List (Result ℤ BadField)) (bad : BadField) → left 0 input ≡ before ++ Err bad ∷ after → IsPlaced separator input before bad
+  is_placed : (before after : List (Result ℤ BadField)) (bad : BadField)
+      → field_items_left int (record { trims = trims; separator = separator; index = 0; place = 0; rest = input }) ≡ before ++ Err bad ∷ after
+      → IsPlaced separator input before bad
   is_placed before after bad same =
       let start : place_of input ≡ 0 = omega arith in
-      let all = placed before after bad 0 input (omega arith) (rw start refl) same in
+      let all = placed before after bad 0 input (omega arith) (rw start refl) (rw start same) in
       let index : bad.index ≡ length before = omega (arith, all.index_is) in
       record {
         index_is = index;

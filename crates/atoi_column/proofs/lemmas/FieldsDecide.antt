@@ -1,5 +1,5 @@
 -- The items of fields decide them, and up to the first error they are a column's.
-use Rattle.std.proofs.Common.{◌≡◌, ℕ, ◌+◌, ◌-◌, ◌≤◌, ◌==◌, true, false, if◌then◌else◌, List, [], ◌∷◌, length, drop, ℤ, Result, Ok, Err, refl, arith}
+use Rattle.std.proofs.Common.{◌≡◌, ℕ, ◌+◌, ◌≤◌, ◌==◌, true, false, if◌then◌else◌, List, [], ◌∷◌, length, drop, ℤ, Result, Ok, Err, refl, arith}
 use Rattle.std.specs.List.{AllZip, slice_split}
 use Rattle.std.specs.Str.Lines.{lines_of_parts}
 use Rattle.atoi_core.specs.Refusal.{Refusal}
@@ -44,8 +44,8 @@ module _ (int : IntType) (texts : AcceptedTexts int) (numbers : AcceptedNumbers 
 pub fields_decide : (int : IntType) → AcceptedTexts int → AcceptedNumbers int → FieldsDecide int
 unfolding field_items_left
 fields_decide int texts numbers = record {
-  fields = λ separator input. fields int texts numbers 0 (length input - length input) (slice_split (λ byte. byte == separator) input);
-  lines = λ input. of_lines int texts numbers 0 (length input - length input) (slice_split (λ byte. byte == 10) input);
+  fields = λ separator input. fields int texts numbers 0 0 (slice_split (λ byte. byte == separator) input);
+  lines = λ input. of_lines int texts numbers 0 0 (slice_split (λ byte. byte == 10) input);
 }
 
 module _ (whole : List ℕ → Result ℤ Refusal) (prefix : List ℕ → Result (ℤ × ℕ) Refusal) where
@@ -81,5 +81,4 @@ module _ (whole : List ℕ → Result ℤ Refusal) (prefix : List ℕ → Result
 pub column_stops_at_error : (int : IntType) → ColumnStopsAtError int
 unfolding items_left field_items_left
 column_stops_at_error int separator input =
-    let none : length input - length input ≡ 0 = omega arith in
-    rw none (stops (parse_answer int true true) (parse_prefix_answer int true true) 0 0 input (slice_split (λ byte. byte == separator) input))
+    stops (parse_answer int true true) (parse_prefix_answer int true true) 0 0 input (slice_split (λ byte. byte == separator) input)

@@ -159,10 +159,10 @@ module _ {int : IntType} {separator index place : ℕ} {rest : List ℕ} (begins
       flaw_alone (λ v ok. absurd (cc (h, ok))) ∙ ap (λ r. Err (flaw_at index place r) ∷ items_left int separator index place []) h
 
 -- Giving the first item leaves one less.
-pub one_item_less : {A B : Type 0} (can : List B → Type 0) → ((left : List B) → can left) → {before after : List B} {item : B} (given : A)
-    → before ≡ item ∷ after → MakesProgress can (item_count (λ left. left)) before (Some given) after
-one_item_less can always {before} {after} {item} given first = record {
-  on = λ _. (always after, tt, subst (λ left. length after < length left) (sym first) (omega arith));
+pub one_item_less : {S A B : Type 0} (items : S → List B) (can : S → Type 0) → ((left : S) → can left) → {before after : S} {item : B} (given : A)
+    → items before ≡ item ∷ items after → MakesProgress can (item_count items) before (Some given) after
+one_item_less items can always {before} {after} given first = record {
+  on = λ _. (always after, tt, subst (λ left. length (items after) < length left) (sym first) (omega arith));
   keeps = always after;
   rests = λ _. tt;
 }

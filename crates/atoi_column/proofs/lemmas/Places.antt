@@ -12,7 +12,7 @@ use Rattle.atoi_core.specs.IntType.{IntType}
 use Rattle.atoi_core.specs.Answer.{parse_answer, parse_prefix_answer}
 use Rattle.atoi_column.specs.Fields.{is_separator, fields_of}
 use Rattle.atoi_column.specs.Items.{Flaw, flaw_at, index_of, place_of, items_from, items_left}
-use Rattle.atoi_column.specs.FieldItems.{BadField, cut_of, field_item, items_of_parts, field_items_left}
+use Rattle.atoi_column.specs.FieldItems.{BadField, FieldsLeft, cut_of, field_item, items_of_parts, field_items_left}
 use Rattle.atoi_column.specs.Laws.{FieldsArePrefixes, place_after}
 use Rattle.atoi_column.proofs.lemmas.Fields.{fields_of_first, length-fields_of}
 use Rattle.atoi_column.proofs.lemmas.Items.{items_from-cases}
@@ -25,15 +25,15 @@ place_after-some [] some = absurd (omega arith)
 place_after-some (text ∷ texts) some = omega (arith, place_after-cons text texts)
 
 -- One more byte in the first piece is one in all.
-onto_first-place : (x : ℕ) (pieces : List (List ℕ)) → 0 < length pieces → place_after (onto_first x pieces) ≤ place_after pieces + 1
+onto_first-place : (x : ℕ) (pieces : List (List ℕ)) → 0 < length pieces → place_after (onto_first x pieces) ≡ place_after pieces + 1
 onto_first-place x [] some = absurd (omega arith)
 onto_first-place x (piece ∷ pieces) some = omega (arith, place_after-cons (x ∷ piece) pieces, place_after-cons piece pieces)
 
--- Pieces with a separator each are at most one byte longer.
-split-place : (p : ℕ → Bool) (xs : List ℕ) → place_after (slice_split p xs) ≤ length xs + 1
-split-place p [] = omega arith
+-- Pieces with a separator each are one byte longer.
+pub split-place : (p : ℕ → Bool) (xs : List ℕ) → place_after (slice_split p xs) ≡ length xs + 1
+split-place p [] = omega (arith, place_after-cons [] [])
 split-place p (x ∷ xs) =
-    elim (p x) as (λ b. place_after (if b then [] ∷ slice_split p xs else onto_first x (slice_split p xs)) ≤ length (x ∷ xs) + 1) [
+    elim (p x) as (λ b. place_after (if b then [] ∷ slice_split p xs else onto_first x (slice_split p xs)) ≡ length (x ∷ xs) + 1) [
       | true ↦ omega (arith, place_after-cons [] (slice_split p xs), split-place p xs)
       | false ↦ omega (arith, onto_first-place x (slice_split p xs) (omega (arith, length-slice_split p xs)), split-place p xs)
     ]
@@ -118,9 +118,9 @@ module _ (cut : List ℕ → List ℕ) (answer : List ℕ → Result ℤ Refusal
       All-cons IsBadInside _ _ (field_item-inside index place (cut part) (answer (cut part)) (omega arith) (omega arith))
       (items_of_parts-inside (index + 1) (place + length part + 1) (next ∷ parts) (omega arith) within)
 
-pub field_items_left-inside : (int : IntType) (trims : Bool) (separator : ℕ) (input : List ℕ)
-    → All (λ item. IfErr item (λ bad. (bad.place < length input) × (bad.index < length input))) (field_items_left int trims separator 0 (length input) input)
+pub field_items_left-inside : (int : IntType) (left : FieldsLeft) → left.index ≡ 0 → left.place ≡ 0
+    → All (λ item. IfErr item (λ bad. (bad.place < length left.rest) × (bad.index < length left.rest))) (field_items_left int left)
 unfolding field_items_left
-field_items_left-inside int trims separator input =
-    items_of_parts-inside (cut_of trims) (parse_answer int true true) (length input) 0 (length input - length input) (slice_split (λ byte. byte == separator) input)
-    (omega arith) (omega (arith, split-place (λ byte. byte == separator) input))
+field_items_left-inside int left first start =
+    items_of_parts-inside (cut_of left.trims) (parse_answer int true true) (length left.rest) left.index left.place
+    (slice_split (λ byte. byte == left.separator) left.rest) (omega arith) (omega (arith, split-place (λ byte. byte == left.separator) left.rest))

@@ -78,13 +78,13 @@ returns-in-Err-clause-steps g c =
     left_is g at ∙ items_left-refused begins (refusal_of c.in-Err.cause) (sym c.in-Err.ensures.answer)
 
 pub returns-in-None-clause-goes : goal.returns-in-None-clause-goes
-returns-in-None-clause-goes g c = one_item_less _ (λ _. tt) _ (returns-in-None-clause-steps g c)
+returns-in-None-clause-goes g c = one_item_less (λ left. left) _ (λ _. tt) _ (returns-in-None-clause-steps g c)
 
 pub returns-in-Some-clause-goes : goal.returns-in-Some-clause-goes
-returns-in-Some-clause-goes g c = one_item_less _ (λ _. tt) _ (returns-in-Some-clause-steps g c)
+returns-in-Some-clause-goes g c = one_item_less (λ left. left) _ (λ _. tt) _ (returns-in-Some-clause-steps g c)
 
 pub returns-in-Some-2-clause-goes : goal.returns-in-Some-2-clause-goes
-returns-in-Some-2-clause-goes g c = one_item_less _ (λ _. tt) _ (returns-in-Some-2-clause-steps g c)
+returns-in-Some-2-clause-goes g c = one_item_less (λ left. left) _ (λ _. tt) _ (returns-in-Some-2-clause-steps g c)
 
 pub returns-in-Err-clause-goes : goal.returns-in-Err-clause-goes
-returns-in-Err-clause-goes g c = one_item_less _ (λ _. tt) _ (returns-in-Err-clause-steps g c)
+returns-in-Err-clause-goes g c = one_item_less (λ left. left) _ (λ _. tt) _ (returns-in-Err-clause-steps g c)
