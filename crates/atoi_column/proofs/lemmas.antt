@@ -9,3 +9,4 @@ pub mod Decides
 pub mod Turns
 pub mod FieldsDecide
 pub mod FieldPlaces
+pub mod Pieces

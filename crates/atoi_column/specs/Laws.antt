@@ -1,5 +1,5 @@
 -- Laws about fields and items, over the definitions only.
-use Rattle.std.specs.Prelude.{◌≡◌, ℕ, ◌+◌, ◌<◌, ◌≤◌, ◌==◌, true, List, [], ◌∷◌, ◌++◌, length, take, drop, map, All, ℤ, Result, Ok, Err}
+use Rattle.std.specs.Prelude.{◌≡◌, ◌⊎◌, ℕ, ◌+◌, ◌<◌, ◌≤◌, ◌==◌, true, List, [], ◌∷◌, ◌++◌, length, take, drop, map, All, ℤ, Result, Ok, Err}
 use Rattle.std.specs.Bool.{⊤}
 use Rattle.std.specs.List.{AllZip, slice_split, before_first, after_first, position_or_len, sum_by}
 use Rattle.std.specs.Str.Lines.{lines}
@@ -9,7 +9,7 @@ use Rattle.atoi_core.specs.Answer.{parse_answer, parse_prefix_answer}
 use Rattle.atoi_core.specs.Text.{IsText, TextWrites}
 use Rattle.atoi_column.specs.Fields.{is_separator, fields_of}
 use Rattle.atoi_column.specs.Items.{Flaw, flaw_at, index_of, place_of, items_of}
-use Rattle.atoi_column.specs.FieldItems.{BadField, field_items, line_items}
+use Rattle.atoi_column.specs.FieldItems.{BadField, FieldsLeft, after_first_field, field_items_left, field_items, line_items}
 
 -- `whole` accepts the first field of `rest` exactly if `prefix` finds a number that ends with it,
 -- with the same value. No found number extends past the field.
@@ -148,3 +148,22 @@ StopsAtError column fields = ⊥
 -- `StopsAtError` holds for every input, with any byte as the separator.
 abbrev pub ColumnStopsAtError : IntType → Type 0
 ColumnStopsAtError int = (separator : ℕ) (input : List ℕ) → StopsAtError (items_of int separator input) (field_items int separator input)
+
+-- A piece of an input that ends where a field does: it is empty, or a separator is its last byte.
+abbrev pub IsPiece : (separator : ℕ) → List ℕ → Type 0
+IsPiece separator piece = (piece ≡ []) ⊎ ((front : List ℕ) × (piece ≡ front ++ separator ∷ []))
+
+-- Where an iterator is after all items that are left.
+abbrev pub end_of : IntType → FieldsLeft → FieldsLeft
+end_of int left =
+    record left { index = left.index + length (field_items_left int left); place = left.place + length left.rest; rest = [] }
+
+-- The items of a piece and more are the items of the piece, and then the items of what follows,
+-- started at the end of the piece (`cut`). No step moves that end, and the last reaches it.
+pub record PiecesInTurn (int : IntType) : Type 0 where
+  pub cut : (left : FieldsLeft) (more : List ℕ) → IsPiece left.separator left.rest
+      → field_items_left int (record left { rest = left.rest ++ more })
+      ≡ field_items_left int left ++ field_items_left int (record (end_of int left) { rest = more })
+  pub step : (old new : FieldsLeft) (item : Result ℤ BadField) → field_items_left int old ≡ item ∷ field_items_left int new
+      → new ≡ after_first_field old → end_of int new ≡ end_of int old
+  pub end : (left : FieldsLeft) → left.rest ≡ [] → end_of int left ≡ left

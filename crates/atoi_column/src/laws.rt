@@ -1,5 +1,5 @@
 //! Laws about columns and fields, for the proofs of callers; `specs/Laws.antt` says each in words.
-ghost use Rattle.atoi_column.specs.Laws.{TextsAndItems, ItemsDecide, ItemsInTurn, FirstField, FieldsDecide, ErrorsArePlaced, ColumnStopsAtError};
+ghost use Rattle.atoi_column.specs.Laws.{TextsAndItems, ItemsDecide, ItemsInTurn, FirstField, FieldsDecide, ErrorsArePlaced, ColumnStopsAtError, PiecesInTurn};
 
 use atoi_core::Number;
 use atoi_core::laws::{accepted_numbers, accepted_texts};
@@ -52,4 +52,10 @@ pub fn errors_are_placed<T: Number>()
 #[tactic(auto, using(crate::proofs::lemmas::FieldsDecide::column_stops_at_error))]
 pub fn column_stops_at_error<T: Number>()
     ensures { ColumnStopsAtError T.int_type }
+{}
+
+/// The items of an input that is cut after a separator, and where an iterator ends.
+#[tactic(auto, using(crate::proofs::lemmas::Pieces::pieces_in_turn))]
+pub fn pieces_in_turn<T: Number>()
+    ensures { PiecesInTurn T.int_type }
 {}
