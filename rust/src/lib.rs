@@ -112,6 +112,23 @@ pub use proved::atoi_simd::{
 /// assert_eq!(column.next(), None);
 /// ```
 ///
+/// A longer input can be read by pieces, each of which ends with a separator:
+///
+/// ```
+/// use torkettle::column::Fields;
+///
+/// let (mut index, mut place) = (0, 0);
+/// let mut bad = Vec::new();
+/// for piece in [&b"80\n44x\n"[..], b"443\n8O"] {
+///     let mut lines = Fields::<u16>::lines(piece).starting_at(index, place);
+///     bad.extend(lines.by_ref().filter_map(Result::err));
+///     (index, place) = lines.position();
+/// }
+/// assert_eq!((bad[0].index, bad[0].place, bad[0].text), (1, 3, &b"44x"[..]));
+/// assert_eq!((bad[1].index, bad[1].place, bad[1].text), (3, 11, &b"8O"[..]));
+/// assert_eq!((index, place), (4, 13));
+/// ```
+///
 /// The separator must not be a digit, `+` or `-`. Both constructors panic otherwise.
 #[cfg(target_pointer_width = "64")]
 pub mod column {

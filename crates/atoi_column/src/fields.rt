@@ -96,28 +96,20 @@ impl<'a, T: Parse> Fields<'a, T> {
         }
     }
 
-    /// Returns the same fields, but the first has the index `index` and begins at the offset `place`.
-    /// This reads one piece of a longer input, if each piece before the last ends with a separator.
+    /// Returns the same fields, but the first has the index `index` and begins at offset `place`. So a
+    /// piece of a longer input can continue at the `position` where the last piece ended.
     ///
     /// ```
     /// use torkettle::column::Fields;
     ///
-    /// let (mut index, mut place) = (0, 0);
-    /// let mut bad = Vec::new();
-    /// for piece in [&b"80\n44x\n"[..], b"443\n8O"] {
-    ///     let mut lines = Fields::<u16>::lines(piece).starting_at(index, place);
-    ///     bad.extend(lines.by_ref().filter_map(Result::err));
-    ///     (index, place) = lines.position();
-    /// }
-    /// assert_eq!((bad[0].index, bad[0].place, bad[0].text), (1, 3, &b"44x"[..]));
-    /// assert_eq!((bad[1].index, bad[1].place, bad[1].text), (3, 11, &b"8O"[..]));
-    /// assert_eq!((index, place), (4, 13));
+    /// let mut lines = Fields::<u8>::lines(b"80\n4x").starting_at(2, 9);
+    /// let error = lines.find_map(Result::err).unwrap();
+    /// assert_eq!((error.index, error.place), (3, 12));
     /// ```
     ///
     /// # Panics
     ///
-    /// In Rust, if `index` or `place` exceeds `usize::MAX` when the number of bytes that are still to be
-    /// read is added.
+    /// In Rust, if `index` or `place`, plus the number of bytes left, exceeds `usize::MAX`.
     #[inline]
     pub fn starting_at(mut self, index: usize, place: usize) -> Fields<'a, T>
         requires { (index + length self.rest < 2 ^ 64) × (place + length self.rest < 2 ^ 64) }
