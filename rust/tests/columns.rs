@@ -6,7 +6,7 @@ use torkettle::AtoiSimdError;
 use torkettle::column::{Column, ColumnError, FieldError, Fields, is_separator};
 
 // Columns with good fields, and fields that are refused: empty, with other bytes, out of range.
-const COLUMNS: [&str; 12] = [
+const COLUMNS: [&str; 13] = [
     "",
     "1",
     "1,",
@@ -19,6 +19,7 @@ const COLUMNS: [&str; 12] = [
     "1 ,2",
     "1,2\r",
     "--1,+-2,-,+,9",
+    "+12x3,-7.,-128-,1271,",
 ];
 
 // The fields of a text, of which the last is none if it is empty.
@@ -28,6 +29,20 @@ fn fields(text: &str, separator: char) -> Vec<&str> {
         fields.pop();
     }
     fields
+}
+
+// What is wrong with a field that is no `i8`, by what std parses.
+fn message(index: usize, place: usize, field: &str) -> String {
+    let body = field.strip_prefix(['+', '-']).unwrap_or(field);
+    let end = field.len() - body.trim_start_matches(|byte: char| byte.is_ascii_digit()).len();
+    let fault = if end == field.len() - body.len() {
+        "has no digit at its start".to_string()
+    } else if field[..end].parse::<i8>().is_err() {
+        "is out of range".to_string()
+    } else {
+        format!("has an unexpected byte at byte {}", place + end)
+    };
+    format!("field {index} at byte {place} {fault}")
 }
 
 #[test]
@@ -43,8 +58,7 @@ fn each_field_has_the_item_that_std_gives() {
                 assert_eq!(found, (index, place, field.as_bytes()), "{text:?}");
                 assert_eq!(error.text.as_ptr(), text[place..].as_ptr(), "the text is borrowed");
                 assert_eq!(torkettle::parse::<i8, true, true>(error.text), Err(error.cause));
-                let start = format!("field {index} at byte {place} is not a number: atoi_simd ");
-                assert!(error.to_string().starts_with(&start), "{error}");
+                assert_eq!(error.to_string(), message(index, place, field));
             }
             place += field.len() + 1;
         }

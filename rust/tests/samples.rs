@@ -48,18 +48,10 @@ fn columns() {
     assert_eq!(fields.next(), None);
 }
 
-fn total(input: &[u8]) -> Result<u64, String> {
+fn total(input: &[u8]) -> Result<u64, ColumnError<'_>> {
     let mut total = 0;
     for item in Column::<u32>::new(input, b',') {
-        match item {
-            Ok(number) => total += u64::from(number),
-            Err(ColumnError::Field { index, cause, .. }) => {
-                return Err(format!("field {index}: not a number: {cause}"));
-            }
-            Err(ColumnError::Trailing { index, place }) => {
-                return Err(format!("field {index}: a byte after the number, at offset {place}"));
-            }
-        }
+        total += u64::from(item?);
     }
     Ok(total)
 }
@@ -69,7 +61,9 @@ fn total_of_good_lines(input: &[u8]) -> u64 {
     for item in Fields::<u32>::lines(input) {
         match item {
             Ok(number) => total += u64::from(number),
-            Err(error) => eprintln!("line {}: {}", error.index + 1, error.cause),
+            Err(error) => {
+                eprintln!("line {}: \"{}\"", error.index + 1, error.text.escape_ascii());
+            }
         }
     }
     total
@@ -83,12 +77,18 @@ fn total_between(input: &[u8], separator: u8) -> Option<Result<u64, ColumnError<
     }
 }
 
-fn total_of_lines(input: &[u8]) -> Result<u64, AtoiSimdError<'_>> {
+fn total_of_lines(input: &[u8]) -> Result<u64, FieldError<'_>> {
     let mut total = 0;
-    for line in input.split(|byte| *byte == b'\n') {
-        let text = line.trim_ascii();
-        if !text.is_empty() {
-            total += u64::from(parse::<u32, true, true>(text)?);
+    for item in Fields::<u32>::lines(input) {
+        match item {
+            Ok(number) => total += u64::from(number),
+            // A blank line is skipped.
+            Err(error) if error.text.is_empty() => {}
+            // There may be spaces around the number.
+            Err(error) => match parse::<u32, true, true>(error.text.trim_ascii()) {
+                Ok(number) => total += u64::from(number),
+                Err(_) => return Err(error),
+            },
         }
     }
     Ok(total)
@@ -105,14 +105,15 @@ fn name_and_numbers(line: &str) -> Option<(&str, u32, i8)> {
 #[test]
 fn totals() {
     assert_eq!(total(b"1,2,3"), Ok(6));
-    let error = "field 1: not a number: atoi_simd string is empty";
-    assert_eq!(total(b"1,,3"), Err(error.to_string()));
-    let error = "field 1: a byte after the number, at offset 3";
-    assert_eq!(total(b"1,2x"), Err(error.to_string()));
+    let error = total(b"1,,3").map_err(|error| error.to_string());
+    assert_eq!(error, Err("field 1 at byte 2 has no digit at its start".to_string()));
+    let error = total(b"1,2x").map_err(|error| error.to_string());
+    assert_eq!(error, Err("field 1 has an unexpected byte at byte 3".to_string()));
     assert_eq!(total_of_good_lines(b"1\r\nx\r\n3\r\n"), 4);
     assert_eq!(total_between(b"1;2", b';'), Some(Ok(3)));
     assert_eq!(total_between(b"1;2", b'-'), None);
-    assert_eq!(total_of_lines(b" 1\n\n2 \n"), Ok(3));
+    assert_eq!(total_of_lines(b" 1\n\n2 \r\n30\n"), Ok(33));
+    assert_eq!(total_of_lines(b"1\n \n").map_err(|error| error.index), Err(1));
     assert_eq!(name_and_numbers("tea,250,-3"), Some(("tea", 250, -3)));
     assert_eq!(name_and_numbers("tea,250"), None);
 }

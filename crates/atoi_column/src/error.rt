@@ -1,5 +1,7 @@
 //! Why a field of a column has no value.
 ghost use Rattle.std.specs.Prelude.{◌≡◌, ◌↔◌, IsTrue};
+ghost use Rattle.atoi_core.specs.Refusal.{refusal_of};
+ghost use Rattle.atoi_column.specs.ErrorText.{fault_text};
 
 use atoi_core::clones_are_the_same;
 use atoi_simd::AtoiSimdError;
@@ -77,12 +79,26 @@ impl fmt::Display for ColumnError<'_> {
                 index,
                 place,
                 cause,
-            } => write!(f, "field {index} at byte {place} is not a number: {cause}"),
+            } => {
+                let fault = fault(cause);
+                write!(f, "field {index} at byte {place} {fault}")
+            }
             ColumnError::Trailing { index, place } => {
-                write!(f, "field {index} has an unexpected byte at offset {place}")
+                write!(f, "field {index} has an unexpected byte at byte {place}")
             }
         }
     }
 }
 
 impl Error for ColumnError<'_> {}
+
+// Says what is wrong with a field, in words that follow its place.
+pub(crate) fn fault(cause: AtoiSimdError<'_>) -> &'static str
+    ensures { result.now ≡ fault_text (refusal_of cause.entry) }
+{
+    match cause {
+        AtoiSimdError::Empty => "has no digit at its start",
+        AtoiSimdError::Size(..) | AtoiSimdError::Overflow(_) => "is out of range",
+        AtoiSimdError::Invalid64(..) | AtoiSimdError::Invalid128(..) => "has an unexpected byte",
+    }
+}

@@ -1,7 +1,10 @@
 //! What is wrong with a field that `Fields` refuses.
 ghost use Rattle.std.specs.Prelude.{◌≡◌, ◌↔◌, IsTrue};
+ghost use Rattle.atoi_core.specs.Refusal.{refusal_of};
+ghost use Rattle.atoi_column.specs.ErrorText.{unexpected_place};
 ghost use Rattle.atoi_column.specs.FieldItems.{bad_field_of};
 
+use crate::error::fault;
 use atoi_core::clones_are_the_same;
 use atoi_simd::AtoiSimdError;
 use std::error::Error;
@@ -45,10 +48,27 @@ impl fmt::Display for FieldError<'_> {
         let FieldError {
             index,
             place,
+            text,
             cause,
-            ..
         } = *self;
-        write!(f, "field {index} at byte {place} is not a number: {cause}")
+        let fault = fault(cause);
+        match unexpected_place(place, text, cause) {
+            Some(byte) => write!(f, "field {index} at byte {place} {fault} at byte {byte}"),
+            None => write!(f, "field {index} at byte {place} {fault}"),
+        }
+    }
+}
+
+// Returns the offset in the input of the byte that ends the digits of the field `text`, if one does.
+fn unexpected_place(place: usize, text: &[u8], cause: AtoiSimdError<'_>) -> Option<u128>
+    ensures { result ≡ unexpected_place place text.now (refusal_of cause.entry) }
+{
+    match cause {
+        AtoiSimdError::Invalid64(_, index, body) | AtoiSimdError::Invalid128(_, index, body) => {
+            let sign = text.len().saturating_sub(body.len());
+            Some(place as u128 + sign as u128 + index as u128)
+        }
+        _ => None,
     }
 }
 

@@ -70,22 +70,73 @@ fn a_line_loses_one_carriage_return_before_its_line_feed(rt: HostRuntime) {
 }
 
 #[test]
-fn an_error_prints_its_index_place_and_cause(rt: HostRuntime) -> Result<(), Fail> {
+fn an_error_prints_what_is_wrong_and_where(rt: HostRuntime) -> Result<(), Fail> {
+    for (input, expected) in [
+        (&b"1,,2"[..], "field 1 at byte 2 has no digit at its start"),
+        (b"12,-x", "field 1 at byte 3 has no digit at its start"),
+        (b"128,1", "field 0 at byte 0 is out of range"),
+        (
+            b"1,+12x3,",
+            "field 1 at byte 2 has an unexpected byte at byte 5",
+        ),
+    ] {
+        for item in Fields::<i8>::new(input, b',') {
+            if let Err(error) = item {
+                gives(&rt, printed(rt.alloc(), &error)?.as_str(), expected);
+            }
+        }
+    }
+    Ok(())
+}
+
+#[test]
+fn an_error_of_any_size_prints(rt: HostRuntime) -> Result<(), Fail> {
     let error = FieldError {
-        index: 3,
-        place: 17,
-        text: b"256",
-        cause: AtoiSimdError::Overflow(b"256"),
+        index: usize::MAX,
+        place: usize::MAX,
+        text: b"2x",
+        cause: AtoiSimdError::Invalid128(u128::MAX, usize::MAX, b"2xy"),
     };
     gives(
         &rt,
         printed(rt.alloc(), &error)?.as_str(),
-        "field 3 at byte 17 is not a number: atoi_simd overflow, input: [32, 35, 36]",
+        "field 18446744073709551615 at byte 18446744073709551615 has an unexpected byte at byte 36893488147419103230",
+    );
+    let size = FieldError {
+        index: 1,
+        cause: AtoiSimdError::Size(20, b"2x"),
+        ..error
+    };
+    gives(
+        &rt,
+        printed(rt.alloc(), &size)?.as_str(),
+        "field 1 at byte 18446744073709551615 is out of range",
     );
     gives(&rt, error.is_same_as(&error), true);
-    let other = FieldError { index: 4, ..error };
-    gives(&rt, error.is_same_as(&other), false);
+    gives(&rt, error.is_same_as(&size), false);
     Ok(())
+}
+
+#[test]
+fn a_piece_starts_where_the_last_one_ended(rt: HostRuntime) {
+    let mut fields = Fields::<u8>::new(b"1,22,x", b',');
+    gives(&rt, fields.position(), (0, 0));
+    gives(&rt, fields.next(), Some(Ok(1)));
+    gives(&rt, fields.position(), (1, 2));
+    gives(&rt, fields.nth(1), bad(2, 5, b"x", AtoiSimdError::Empty));
+    gives(&rt, fields.position(), (3, 6));
+    gives(&rt, fields.next(), None);
+    gives(&rt, fields.position(), (3, 6));
+
+    let mut lines = Fields::<u8>::lines(b"80\r\n").starting_at(7, 100);
+    gives(&rt, lines.next(), Some(Ok(80)));
+    let (index, place) = lines.position();
+    gives(&rt, (index, place), (8, 104));
+    let mut lines = Fields::<u8>::lines(b"x\r\n443\r\n").starting_at(8, 104);
+    gives(&rt, lines.next(), bad(8, 104, b"x", AtoiSimdError::Empty));
+    let overflow = AtoiSimdError::Overflow(b"443");
+    gives(&rt, lines.next(), bad(9, 107, b"443", overflow));
+    gives(&rt, lines.position(), (10, 112));
 }
 
 const INPUTS: [&str; 12] = [

@@ -37,7 +37,7 @@ fn errors_print(rt: HostRuntime) -> Result<(), Fail> {
     gives(
         &rt,
         printed(rt.alloc(), &bad)?.as_str(),
-        "field 1 has an unexpected byte at offset 3",
+        "field 1 has an unexpected byte at byte 3",
     );
     gives(
         &rt,
