@@ -9,3 +9,4 @@ pub mod Points
 pub mod Durations
 pub mod BadFields
 pub mod Arrays
+pub mod BadLines

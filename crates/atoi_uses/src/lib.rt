@@ -4,6 +4,7 @@
 mod addresses;
 mod arrays;
 mod bad_fields;
+mod bad_lines;
 mod cents;
 mod commands;
 mod durations;
@@ -18,6 +19,7 @@ mod versions;
 pub use crate::addresses::{Address, parse_address};
 pub use crate::arrays::total_of_array;
 pub use crate::bad_fields::count_bad_fields;
+pub use crate::bad_lines::first_bad_line;
 pub use crate::cents::Cents;
 pub use crate::commands::{Command, CommandError, Word, read_command};
 pub use crate::durations::{DurationError, duration};

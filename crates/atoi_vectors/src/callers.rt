@@ -4,6 +4,7 @@
 mod addresses;
 mod arrays;
 mod bad_fields;
+mod bad_lines;
 mod cents;
 mod commands;
 mod durations;
