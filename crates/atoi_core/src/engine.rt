@@ -1,10 +1,11 @@
 //! The reads that parsers make, and the parses of wide integers that they are enough for.
-ghost use Rattle.std.specs.Prelude.{◌≡◌, ◌+◌, ◌-◌, ◌≤◌};
+ghost use Rattle.std.specs.Prelude.{◌≡◌, ◌+◌, ◌-◌, ◌≤◌, MatchOption};
 ghost use Rattle.atoi_core.specs.Digit.{Table, IsBelowTen};
 ghost use Rattle.atoi_core.specs.Loads.{LoadsWithin, most_loads};
 ghost use Rattle.atoi_core.specs.Magnitude.{HasDigits, wide64, wide128, prefix_magnitude};
 ghost use Rattle.atoi_core.specs.Refusal.{answer_of};
 ghost use Rattle.atoi_core.specs.Reading.{window_of};
+ghost use Rattle.atoi_core.specs.Run.{run_len};
 
 use crate::error::AtoiSimdError;
 use crate::powers::append_digits;
@@ -29,6 +30,17 @@ pub trait Engine {
         ensures one_step { steps.new ≡ steps.old + 1 }
     {
         Self::window(s, steps)
+    }
+
+    /// Like `window`, for the bytes after a full window. If `s` begins with no digit, it may return
+    /// `None`.
+    #[inline(always)]
+    fn next_window(s: &[u8], steps: &mut Steps) -> Option<Window>
+        ensures window { MatchOption result (run_len table s.now ≡ 0)
+            (λ window. window ≡ window_of table 16 s.now) }
+        ensures one_step { steps.new ≡ steps.old + 1 }
+    {
+        Some(Self::window(s, steps))
     }
 
     /// Loads the first 8 bytes of `s`.

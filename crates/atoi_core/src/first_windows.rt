@@ -75,7 +75,10 @@ fn first_two_windows<'a, E: Engine, const WHOLE: bool>(
     if skip && first.zeroes > 0 {
         return None;
     }
-    let second = E::window(&s[16..], steps);
+    let second = match E::next_window(&s[16..], steps) {
+        Some(second) => second,
+        None => return Some(Ok((u128::from(first.number), 16))),
+    };
     if second.len < 16 {
         let number = append_digits(first.number, second.len, second.number);
         return Some(Ok((number, 16 + second.len as usize)));

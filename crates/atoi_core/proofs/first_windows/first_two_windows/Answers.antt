@@ -1,8 +1,11 @@
 -- Two windows decide the answer, unless both are full or zeros are to be skipped.
-use Rattle.std.proofs.Common.{◌<◌, inl, inr, ◌∙◌, arith, lit<, rules}
+use Rattle.std.proofs.Common.{◌≡◌, ◌<◌, drop, inl, inr, refl, ◌∙◌, arith, lit<, rules}
+use Rattle.std.proofs.lemmas.List.{take_rest}
 use Rattle.std.proofs.lemmas.List.Sums.{prefix_len-le-length}
 use Rattle.atoi_core.proofs.lemmas.LoopAnswers.{answers_short, answers_two}
-use Rattle.atoi_core.proofs.lemmas.Windows.{Skipped, Skipped-at_once, Skipped-first, Skipped-loads, shows, shows_rest, two_full}
+use Rattle.atoi_core.proofs.lemmas.Windows.{Shows, Skipped, Skipped-at_once, Skipped-first, Skipped-loads, shows, shows_rest, two_full}
+use Rattle.atoi_core.specs.Reading.{window_of}
+use Rattle.atoi_core.specs.Run.{run_len}
 use Rattle.atoi_core.proofs.first_windows.first_two_windows.Goals as goal
 use Rattle.atoi_core.proofs.first_windows.first_two_windows.Goals.{After-window-first}
 
@@ -22,22 +25,42 @@ returns-then-first-lt16-clause-loads g c =
     let after_skip = short g (goal.at.returns-then-first-lt16-clause-loads g c).After-window-first c.if-first-lt16.true in
     Skipped-loads after_skip 0 (omega arith) (omega arith) (omega arith)
 
-pub slice_bounds-window-start : goal.slice_bounds-window-start
-slice_bounds-window-start g c = search (rules, shows, prefix_len-le-length)
+pub slice_bounds-next_window-start : goal.slice_bounds-next_window-start
+slice_bounds-next_window-start g c = search (rules, shows, prefix_len-le-length)
 
-pub slice_bounds-window-count : goal.slice_bounds-window-count
-slice_bounds-window-count g c = slice_bounds-window-start g c
+pub slice_bounds-next_window-count : goal.slice_bounds-next_window-count
+slice_bounds-next_window-count g c = slice_bounds-next_window-start g c
+
+-- Without a digit after them, the first 16 are all.
+pub returns-in-None : goal.returns-in-None
+returns-in-None g c =
+    let s = c.args.s.now in
+    let after_skip = Skipped-at_once g.met.E.Engine.below_ten c.args.skip s c.window-first.ensures.window c.window-first.ensures.one_step
+    (elim c.else-skip.either [ inl h ↦ inr (h.0, omega (arith, h.1)) | inr h ↦ inl h ]) in
+    let none : run_len g.E.Engine.table (drop 16 s) ≡ 0 = rw take_rest at c.in-None.ensures.window in
+    let window = window_of g.E.Engine.table 16 (drop 16 s) in
+    let back : Shows g.E.Engine.table 16 (drop 16 s) window = shows g.met.E.Engine.below_ten 16 (drop 16 s) refl in
+    let len : window.len ≡ 0 = omega (arith, back.len_is, none) in
+    let number = rw len at back.below in
+    record {
+      answer = λ bound digits.
+          answers_two g.met.E.Engine.below_ten bound after_skip c.if-first-lt16.false back (omega (arith, len)) digits (rw len (omega (arith, number))) (omega (arith, len));
+      loads = Skipped-loads after_skip 1 (omega (arith, c.in-None.ensures.one_step)) (omega arith) (omega arith);
+      none_only_from_32 = search rules;
+      fewest = omega arith;
+      most = omega arith;
+    }
 
 pub returns-then-second-lt16 : goal.returns-then-second-lt16
 returns-then-second-lt16 g c =
     let s = c.args.s.now in
     let after_skip = Skipped-at_once g.met.E.Engine.below_ten c.args.skip s c.window-first.ensures.window c.window-first.ensures.one_step
     (elim c.else-skip.either [ inl h ↦ inr (h.0, omega (arith, h.1)) | inr h ↦ inl h ]) in
-    let second = shows_rest g.met.E.Engine.below_ten 16 s 16 c.window-second.ensures.window in
+    let second = shows_rest g.met.E.Engine.below_ten 16 s 16 c.in-Some.ensures.window in
     record {
       answer = λ bound digits.
           answers_two g.met.E.Engine.below_ten bound after_skip c.if-first-lt16.false second c.if-second-lt16.true digits (cc) (omega arith);
-      loads = Skipped-loads after_skip 1 (omega (arith, c.window-second.ensures.one_step)) (omega arith) (omega arith);
+      loads = Skipped-loads after_skip 1 (omega (arith, c.in-Some.ensures.one_step)) (omega arith) (omega arith);
       none_only_from_32 = search rules;
       fewest = omega arith;
       most = omega arith;
@@ -46,5 +69,5 @@ returns-then-second-lt16 g c =
 pub returns-clause-none_only_from_32 : goal.returns-clause-none_only_from_32
 returns-clause-none_only_from_32 g c none off =
     let s = c.args.s.now in
-    let second = shows_rest g.met.E.Engine.below_ten 16 s 16 c.window-second.ensures.window in
+    let second = shows_rest g.met.E.Engine.below_ten 16 s 16 c.in-Some.ensures.window in
     λ _. two_full s (shows g.met.E.Engine.below_ten 16 s c.window-first.ensures.window) c.if-first-lt16.false second c.if-second-lt16.false
