@@ -6,6 +6,7 @@ ghost use Rattle.atoi_core.specs.Digit.{decimal_table};
 ghost use Rattle.atoi_core.specs.Reading.{window_of};
 ghost use Rattle.atoi_lanes.specs.Lanes.{lane_window};
 
+use crate::after_16::begins_with_digit;
 use crate::kernels::{
     ShortRun, load_lanes, others, read_medium, read_short, sum_lanes, zeroes_lanes,
 };
@@ -45,7 +46,7 @@ fn lane_window(lanes: u8x16, size: u32) -> Window
 // Returns the window of 16 bytes.
 #[inline(always)]
 #[tactic(auto, using(crate::proofs::lemmas::LaneWindows::window_of_lanes))]
-fn read_window(s: &[u8]) -> Window
+pub(crate) fn read_window(s: &[u8]) -> Window
     ensures { result ≡ window_of decimal_table 16 s.now }
 {
     // In this order, LLVM puts no jump before long slices.
@@ -99,6 +100,16 @@ impl Engine for Lanes {
             };
         }
         window
+    }
+
+    #[inline(always)]
+    fn next_window(s: &[u8], steps: &mut Steps) -> Option<Window> {
+        steps.tick();
+        // A number of 16 digits mostly ends here.
+        if !begins_with_digit(s) {
+            return None;
+        }
+        Some(read_window(s))
     }
 
     /// Returns the window of 8 bytes.
