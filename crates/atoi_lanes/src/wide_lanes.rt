@@ -8,8 +8,8 @@ ghost use Rattle.atoi_core.specs.Run.{run_len, run, value, zeros};
 ghost use Rattle.atoi_lanes.specs.Lanes.{ReadsAfterZeros};
 
 use crate::after_16::{answer_to_end, last_four, prefix_64_after_16};
-use crate::kernels::{ShortRun, len_lanes, load_lanes, read_short, sum_lanes};
-use crate::lanes::Lanes;
+use crate::kernels::{ShortRun, len_lanes, load_lanes, read_medium, read_short, sum_lanes};
+use crate::lanes::{Lanes, read_window};
 use crate::window_32::{Window32, window_32};
 use atoi_core::powers::append_digits;
 use atoi_core::wide_answer::{answer_64, answer_128, found_or_empty};
@@ -85,11 +85,14 @@ fn prefix_64_short<'a>(s: &'a [u8], steps: &mut Steps) -> Result<(u64, usize), A
         else Ok (value decimal_table (run decimal_table s.now), run_len decimal_table s.now)) }
     ensures one_step { steps.new ≡ steps.old + 1 }
 {
+    steps.tick();
     if s.len() >= 8 {
-        let only = Lanes::window(s, steps);
+        if let Some(number) = read_medium(s) {
+            return Ok((number, s.len()));
+        }
+        let only = read_window(s);
         return found_or_empty(only.number, only.len as usize);
     }
-    steps.tick();
     match read_short(s) {
         ShortRun::Whole(number) => Ok((number, s.len())),
         ShortRun::Part(len, number) => found_or_empty(number, len as usize),
