@@ -54,10 +54,8 @@ pub fn refusal(text: &str, offset: usize, reason: String) -> Refusal {
 pub fn erase(name: &str, source: &str, exported: &[&str]) -> Result<String, Refusal> {
     let scanner = Scanner { source, at: 0 };
     let mut eraser = Eraser { name, exported, source, scanner, ..Eraser::default() };
-    match eraser.run() {
-        Ok(()) => Ok(eraser.out),
-        Err(reason) => Err(refusal(source, eraser.scanner.at, reason)),
-    }
+    let result = eraser.run();
+    result.map_err(|reason| refusal(source, eraser.scanner.at, reason)).map(|()| eraser.out)
 }
 
 #[derive(Clone, Copy, Default)]
@@ -110,7 +108,8 @@ impl<'a> Eraser<'a> {
                 _ => self.keep(token),
             }
             let is_documentation = token.text.starts_with("///") || token.text == "#";
-            self.is_documented = is_documentation || self.is_documented && is_comment(token);
+            self.is_documented =
+                is_documentation || self.is_documented && token.kind == Kind::Comment;
             self.last = token.text;
         }
         self.copy_to(self.source.len());
@@ -278,9 +277,8 @@ impl<'a> Eraser<'a> {
             let is_import = |import: &&(&str, &str)| import.1.trim_matches('◌') == word;
             let paths = self.imports.iter().filter(is_import).filter(|_| !is_hidden);
             let paths = paths.map(|(module, _)| format!("{module}.{word}"));
-            let either =
-                |one: String, other: String| if one == other { one } else { one + " or " + &other };
-            paths.reduce(either).unwrap_or(word.into())
+            let or = |one: String, two: String| if one == two { one } else { one + " or " + &two };
+            paths.reduce(or).unwrap_or(word.into())
         };
         let words = clause.replace('(', "( ").replace(')', " )");
         words.split_whitespace().map(with_path).collect::<Vec<_>>().join(" ")
@@ -316,7 +314,7 @@ impl<'a> Eraser<'a> {
             match self.scanner.next_token()? {
                 next if next.text == "ghost" => self.pass_ghost()?,
                 next if next.text == "}" => break,
-                next if is_comment(next) => {}
+                next if next.kind == Kind::Comment => {}
                 _ => return Err("an `impl` of `Model` with an item that is not ghost".into()),
             }
         }
@@ -384,7 +382,7 @@ impl<'a> Eraser<'a> {
     // Keeps a token as another text. A comment starts no item.
     fn keep_as(&mut self, token: Token<'a>, text: &str) {
         self.copy_to(token.start.max(self.done));
-        if !is_comment(token) {
+        if token.kind != Kind::Comment {
             self.item.start.get_or_insert(self.out.len());
         }
         self.out.push_str(text);
@@ -398,8 +396,4 @@ impl<'a> Eraser<'a> {
         self.out.extend(std::iter::repeat_n('\n', lines));
         self.done = self.scanner.at;
     }
-}
-
-fn is_comment(token: Token) -> bool {
-    token.kind == Kind::Comment
 }

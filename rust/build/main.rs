@@ -18,16 +18,14 @@ fn main() -> ExitCode {
     ExitCode::from(u8::from(written.is_err()))
 }
 
-// A module: its source, its file in Rust, and what is in that file.
-type Module = (PathBuf, PathBuf, String);
-
 /// Writes the Rust of the sources below `top` into `out`.
 pub fn write_all(top: &Path, out: &Path) -> Result<(), String> {
     println!("cargo::rerun-if-changed=rust/build");
     println!("cargo::rerun-if-changed=rust/src/lib.rs");
     let facade = top.join("rust/src/lib.rs");
     let text = read(&facade)?;
-    let exported = names::words(&text).map_err(|refusal| fault(&facade, refusal))?;
+    let exported = names::tokens(&text).map_err(|refusal| fault(&facade, refusal))?;
+    let exported: Vec<&str> = exported.iter().map(|token| token.text).collect();
     let (mut modules, mut crates) = (Vec::new(), String::new());
     for name in erase::CRATES {
         println!("cargo::rerun-if-changed=crates/{name}/src");
@@ -68,7 +66,8 @@ fn find(from: &Path, to: &Path, sources: &mut BTreeMap<PathBuf, PathBuf>) -> Res
     Ok(())
 }
 
-fn write_known(modules: &[Module]) -> Result<(), String> {
+// Writes modules, each with its source, its file and what is to be in that file.
+fn write_known(modules: &[(PathBuf, PathBuf, String)]) -> Result<(), String> {
     let mut declared = BTreeSet::new();
     for (source, _, rust) in modules {
         names::declare(rust, &mut declared).map_err(|refusal| fault(source, refusal))?;

@@ -48,18 +48,14 @@ pub fn has(list: &str, name: &str) -> bool {
     list.split_whitespace().any(|listed| listed == name)
 }
 
-fn tokens(rust: &str) -> Result<Vec<Token<'_>>, Refusal> {
+/// Returns the tokens of a source without its comments.
+pub fn tokens(rust: &str) -> Result<Vec<Token<'_>>, Refusal> {
     let (mut scanner, mut tokens) = (Scanner { source: rust, at: 0 }, Vec::new());
     while let Some(token) = scanner.token().map_err(|reason| refusal(rust, scanner.at, reason))? {
         tokens.push(token);
     }
     tokens.retain(|token| token.kind != Kind::Comment);
     Ok(tokens)
-}
-
-/// Returns the words of a source.
-pub fn words(rust: &str) -> Result<Vec<&str>, Refusal> {
-    Ok(tokens(rust)?.iter().map(|token| token.text).collect())
 }
 
 /// Adds the names of the items and variants that a module declares.

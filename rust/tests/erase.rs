@@ -365,7 +365,8 @@ fn what_means_the_same_is_taken() {
 fn what_must_remain_remains() {
     let top = Path::new(env!("CARGO_MANIFEST_DIR"));
     let facade = fs::read_to_string(top.join("rust/src/lib.rs")).unwrap();
-    let exported = names::words(&facade).unwrap();
+    let exported = names::tokens(&facade).unwrap();
+    let exported: Vec<&str> = exported.iter().map(|token| token.text).collect();
     assert!(exported.contains(&"parse_prefix") && exported.contains(&"fixed_width"));
     assert!(exported.windows(2).all(|pair| pair != ["::", "*"]), "an export without a name");
     let mut files = 0;
