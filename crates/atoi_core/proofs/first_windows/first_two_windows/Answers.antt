@@ -1,5 +1,5 @@
 -- Two windows decide the answer, unless both are full or zeros are to be skipped.
-use Rattle.std.proofs.Common.{◌≡◌, ◌<◌, drop, inl, inr, refl, ◌∙◌, arith, lit<, rules}
+use Rattle.std.proofs.Common.{◌≡◌, ◌⊎◌, ◌<◌, ◌≤◌, true, false, drop, inl, inr, refl, ◌∙◌, arith, lit<, rules}
 use Rattle.std.proofs.lemmas.List.{take_rest}
 use Rattle.std.proofs.lemmas.List.Sums.{prefix_len-le-length}
 use Rattle.atoi_core.proofs.lemmas.LoopAnswers.{answers_short, answers_two}
@@ -14,6 +14,13 @@ short : (g : _) (c : After-window-first g) → c.window-first.result.len < 16
     → Skipped g.E.Engine.table c.args.skip c.args.s.now 0 c.args.steps.now c.window-first.new.steps c.window-first.result
 short g c few =
     Skipped-first g.met.E.Engine.below_ten c.args.skip c.args.s.now c.window-first.ensures.window c.window-first.ensures.one_step few
+
+-- What holds if zeros are not skipped, or the first window reports none.
+last : (g : _) (c : After-window-first g) → (c.args.skip ≡ true × c.window-first.result.zeroes ≤ 0) ⊎ (c.args.skip ≡ false)
+    → Skipped g.E.Engine.table c.args.skip c.args.s.now 0 c.args.steps.now c.window-first.new.steps c.window-first.result
+last g c stops =
+    Skipped-at_once g.met.E.Engine.below_ten c.args.skip c.args.s.now c.window-first.ensures.window c.window-first.ensures.one_step
+    (elim stops [ inl h ↦ inr (h.0, omega (arith, h.1)) | inr h ↦ inl h ])
 
 pub returns-then-first-lt16-clause-answer : goal.returns-then-first-lt16-clause-answer
 returns-then-first-lt16-clause-answer g c bound digits =
@@ -35,8 +42,7 @@ slice_bounds-next_window-count g c = slice_bounds-next_window-start g c
 pub returns-in-None : goal.returns-in-None
 returns-in-None g c =
     let s = c.args.s.now in
-    let after_skip = Skipped-at_once g.met.E.Engine.below_ten c.args.skip s c.window-first.ensures.window c.window-first.ensures.one_step
-    (elim c.else-skip.either [ inl h ↦ inr (h.0, omega (arith, h.1)) | inr h ↦ inl h ]) in
+    let after_skip = last g (goal.at.returns-in-None g c).After-window-first c.else-skip.either in
     let none : run_len g.E.Engine.table (drop 16 s) ≡ 0 = rw take_rest at c.in-None.ensures.window in
     let window = window_of g.E.Engine.table 16 (drop 16 s) in
     let back : Shows g.E.Engine.table 16 (drop 16 s) window = shows g.met.E.Engine.below_ten 16 (drop 16 s) refl in
@@ -54,8 +60,7 @@ returns-in-None g c =
 pub returns-then-second-lt16 : goal.returns-then-second-lt16
 returns-then-second-lt16 g c =
     let s = c.args.s.now in
-    let after_skip = Skipped-at_once g.met.E.Engine.below_ten c.args.skip s c.window-first.ensures.window c.window-first.ensures.one_step
-    (elim c.else-skip.either [ inl h ↦ inr (h.0, omega (arith, h.1)) | inr h ↦ inl h ]) in
+    let after_skip = last g (goal.at.returns-then-second-lt16 g c).After-window-first c.else-skip.either in
     let second = shows_rest g.met.E.Engine.below_ten 16 s 16 c.in-Some.ensures.window in
     record {
       answer = λ bound digits.
