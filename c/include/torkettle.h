@@ -113,6 +113,14 @@ typedef struct torkettle_error {
  * TORKETTLE_OK if it does not.
  *
  *
+ * bool torkettle_json_integer_i64(const char *text, size_t length, int64_t *value, size_t *count);
+ *
+ * Reads the number at the start of a text, as JSON writes integers: a `-` or none, then `0`, or digits of which the
+ * first is not `0`. Writes the number to `*value` and its length in bytes to `*count`, and returns true. If there is
+ * no such number, if it is out of range, or if a digit, `.`, `e` or `E` follows it, writes nothing and returns false.
+ * `-0` is in the range of every type.
+ *
+ *
  * Columns: numbers with one byte between them, such as a comma. Each number may have leading zeros and a sign. The
  * separator after the last number is optional.
  *
@@ -146,8 +154,8 @@ typedef struct torkettle_error {
  *
  *
  * What follows is of the library's own, and may change: the functions below whose names begin with torkettle_whole_,
- * torkettle_prefix_ and torkettle_next_, one for each choice of flags. They return a number and its length in two
- * registers, the length 0 if there is none. Where `flags` is a constant, the compiler leaves one call.
+ * torkettle_prefix_ and torkettle_next_, one for each choice of flags, and one for JSON. They return a number and its
+ * length in two registers, the length 0 if there is none. Where `flags` is a constant, the compiler leaves one call.
  */
 /* `suffix` is `_i64` and so on. The program may have `i64` itself as a macro, which the call would expand. */
 #define TORKETTLE_PICK_(kind, suffix)                                                                                  \
@@ -178,6 +186,7 @@ typedef struct torkettle_error {
     torkettle_found_##name torkettle_prefix_zeroes_##name(const char *text, size_t length) TORKETTLE_NOEXCEPT;         \
     torkettle_found_##name torkettle_prefix_plus_##name(const char *text, size_t length) TORKETTLE_NOEXCEPT;           \
     torkettle_found_##name torkettle_prefix_zeroes_plus_##name(const char *text, size_t length) TORKETTLE_NOEXCEPT;    \
+    torkettle_found_##name torkettle_prefix_json_##name(const char *text, size_t length) TORKETTLE_NOEXCEPT;           \
     torkettle_found_##name torkettle_next_##name(torkettle_column_##name *column) TORKETTLE_NOEXCEPT;                  \
                                                                                                                        \
     torkettle_error torkettle_parse_error_##name(const char *text, size_t length, unsigned flags) TORKETTLE_NOEXCEPT;  \
@@ -205,6 +214,17 @@ typedef struct torkettle_error {
         *value = found.value;                                                                                          \
         *count = found.length;                                                                                         \
         return TORKETTLE_OK;                                                                                           \
+    }                                                                                                                  \
+                                                                                                                       \
+    static inline bool torkettle_json_integer_##name(const char *text, size_t length, type *value, size_t *count)      \
+        TORKETTLE_NOEXCEPT                                                                                             \
+    {                                                                                                                  \
+        torkettle_found_##name found = torkettle_prefix_json_##name(text, length);                                     \
+        if (found.length == 0)                                                                                         \
+            return false;                                                                                              \
+        *value = found.value;                                                                                          \
+        *count = found.length;                                                                                         \
+        return true;                                                                                                   \
     }                                                                                                                  \
                                                                                                                        \
     static inline bool torkettle_column_##name##_next(torkettle_column_##name *column, type *value) TORKETTLE_NOEXCEPT \

@@ -1,4 +1,4 @@
-// Torkettle for C++17: `torkettle::from_chars`, with the results of `std::from_chars`.
+// Torkettle for C++17: `torkettle::from_chars`, with the results of `std::from_chars`, and integers of JSON.
 //
 // Link with the library that torkettle.h describes.
 #ifndef TORKETTLE_HPP
@@ -12,13 +12,14 @@
 #include <string_view>
 #include <system_error>
 #include <type_traits>
+#include <utility>
 
 namespace torkettle {
 
 namespace detail {
 
-// The functions of torkettle.h for the integers with this size and sign. They begin with a sign where the type has one,
-// skip zeros and take no plus.
+// The functions of torkettle.h for the integers with this size and sign. `whole` and `prefix` begin with a sign where
+// the type has one, skip zeros and take no plus.
 template <std::size_t size, bool is_signed>
 struct functions;
 
@@ -32,6 +33,10 @@ struct functions;
         static auto prefix(const char *text, std::size_t length) noexcept                                              \
         {                                                                                                              \
             return torkettle_prefix_zeroes_##name(text, length);                                                       \
+        }                                                                                                              \
+        static auto json(const char *text, std::size_t length) noexcept                                                \
+        {                                                                                                              \
+            return torkettle_prefix_json_##name(text, length);                                                         \
         }                                                                                                              \
     };
 
@@ -110,6 +115,19 @@ inline std::optional<T> parse(std::string_view text) noexcept
     if (found.length == 0)
         return std::nullopt;
     return static_cast<T>(found.value);
+}
+
+// Reads the number at the start of a text, as JSON writes integers: a `-` or none, then `0`, or digits of which the
+// first is not `0`. Returns the number and what follows it, or nothing if there is no such number, if it is out of
+// range, or if a digit, `.`, `e` or `E` follows it. `-0` is in the range of every type.
+template <class T, std::enable_if_t<detail::is_integer<T>, int> = 0>
+inline std::optional<std::pair<T, std::string_view>> json_integer(std::string_view text) noexcept
+{
+    const auto found = detail::functions_of<T>::json(text.data(), text.size());
+    if (found.length == 0)
+        return std::nullopt;
+    text.remove_prefix(found.length);
+    return std::pair(static_cast<T>(found.value), text);
 }
 
 } // namespace torkettle

@@ -14,6 +14,7 @@ mod stop;
 use core::ffi::{CStr, c_char, c_uint};
 use core::slice::{from_raw_parts, from_raw_parts_mut};
 use torkettle::column::{Column, ColumnError, is_separator};
+use torkettle::formats::json_integer;
 use torkettle::{AtoiSimdError, Parse, parse, parse_prefix};
 
 /// A number and the length of the text that it was read from, which is 0 for a refused text.
@@ -127,6 +128,14 @@ fn found_prefix<T: Default>(answer: Result<(T, usize), AtoiSimdError<'_>>) -> Fo
     match answer {
         Ok((value, length)) => Found { value, length },
         Err(_) => Found { value: T::default(), length: 0 },
+    }
+}
+
+#[inline(always)]
+fn found_json<T: Parse + Default>(text: &[u8]) -> Found<T> {
+    match json_integer(text) {
+        Some((value, rest)) => Found { value, length: text.len() - rest.len() },
+        None => Found { value: T::default(), length: 0 },
     }
 }
 
@@ -285,6 +294,10 @@ macro_rules! exports_of_types {
             concat!("torkettle_prefix_zeroes_plus_", stringify!($type)) =>
             fn prefix_zeroes_plus(text: *const c_char, length: usize) -> Found<$type> {
                 prefix::<$type, true, true>(bytes(text, length))
+            }
+            concat!("torkettle_prefix_json_", stringify!($type)) =>
+            fn prefix_json(text: *const c_char, length: usize) -> Found<$type> {
+                found_json(bytes(text, length))
             }
             concat!("torkettle_parse_error_", stringify!($type)) =>
             fn explain_whole(text: *const c_char, length: usize, flags: c_uint) -> Error {

@@ -304,12 +304,47 @@ static int is_error(torkettle_error error, torkettle_status status, unsigned bit
         }                                                                                                              \
     }                                                                                                                  \
                                                                                                                        \
+    /* Whether a text begins with this number of JSON, of `length` bytes. The length 0 is for no number. */            \
+    static int json_##name(const char *text, type value, size_t length)                                                \
+    {                                                                                                                  \
+        char *copy = exact(text);                                                                                      \
+        type found = UNTOUCHED_##name;                                                                                 \
+        size_t count = 999;                                                                                            \
+        bool is_number = torkettle_json_integer_##name(copy, strlen(text), &found, &count);                            \
+        free(copy);                                                                                                    \
+        if (length == 0)                                                                                               \
+            return !is_number && found == UNTOUCHED_##name && count == 999;                                            \
+        return is_number && found == value && count == length;                                                         \
+    }                                                                                                                  \
+                                                                                                                       \
+    static void check_json_##name(const char *smallest, const char *below, type min, const char *largest,              \
+                                  const char *above, type max)                                                         \
+    {                                                                                                                  \
+        const char *type_name = #name;                                                                                 \
+        const char *none[] = {"",   "-",  "+1",  "--1", "00",  "01",  "-00", "-01", "x",   " 1",                       \
+                              "-x", ".5", "1.5", "1.",  "0.0", "1e3", "1E3", "0e1", "-0E", "-0.5"};                    \
+        type value = UNTOUCHED_##name;                                                                                 \
+        size_t count = 999, at;                                                                                        \
+        for (at = 0; at < sizeof none / sizeof *none; at++)                                                            \
+            CHECK(json_##name(none[at], 0, 0));                                                                        \
+        CHECK(json_##name("0", 0, 1) && json_##name("-0", 0, 2) && json_##name("-0,7", 0, 2));                         \
+        CHECK(json_##name("0]", 0, 1) && json_##name("0x1", 0, 1) && json_##name("0-1", 0, 1));                        \
+        CHECK(json_##name("7", 7, 1) && json_##name("12, -0, 7]", 12, 2) && json_##name("120 ", 120, 3));              \
+        CHECK(is_signed ? json_##name("-42}", (type)-42, 3) : json_##name("-42}", 0, 0));                              \
+        CHECK(json_##name(smallest, min, strlen(smallest)) && json_##name(below, 0, 0));                               \
+        CHECK(json_##name(largest, max, strlen(largest)) && json_##name(above, 0, 0));                                 \
+        CHECK(json_##name("9999999999999999999999999999999999999999", 0, 0));                                          \
+        CHECK(!torkettle_json_integer_##name(NULL, 0, &value, &count));                                                \
+        CHECK(value == UNTOUCHED_##name && count == 999);                                                              \
+    }                                                                                                                  \
+                                                                                                                       \
     static void check_##name(const char *smallest, const char *below, type min, const char *largest,                   \
                              const char *above, type max)                                                              \
     {                                                                                                                  \
         check_flags_##name();                                                                                          \
         check_bounds_##name(smallest, below, min, largest, above, max);                                                \
         check_errors_##name(above);                                                                                    \
+        check_json_##name(smallest, below, min, largest, above, max);                                                  \
         check_columns_##name(above);                                                                                   \
     }
 

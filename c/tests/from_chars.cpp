@@ -1,4 +1,5 @@
-// Compares torkettle::from_chars and torkettle::parse with std::from_chars, for generated texts and each integer type.
+// Compares torkettle::from_chars, torkettle::parse and torkettle::json_integer with std::from_chars, for generated
+// texts and each integer type.
 //
 //     from_chars [TEXTS]
 #include "torkettle.hpp"
@@ -88,8 +89,9 @@ void generate(Random &random, std::string &text)
     if (random.below(4) == 0)
         text.append(random.below(random.below(4) == 0 ? 70 : 9), '0');
     add_digits(random, text);
-    const char *const junk[] = {"", "", "", "", "x", ",", "-", "+", ".5", " 7", "/", ":", "\n", ",123456789012345678"};
-    text += junk[random.below(14)];
+    const char *const junk[] = {"",   "",   "",  "",  "x", ",",  "-",  "+",
+                                ".5", " 7", "/", ":", "e", "E3", "\n", ",123456789012345678"};
+    text += junk[random.below(16)];
     if (random.below(8) == 0)
         text += static_cast<char>(random.below(256));
     if (random.below(50) == 0 && !text.empty())
@@ -100,6 +102,32 @@ std::uint64_t calls = 0;
 std::uint64_t accepted = 0;
 std::uint64_t out_of_range = 0;
 std::uint64_t differences = 0;
+
+// The length of the number that a text begins with in JSON, without a fraction and an exponent, or 0.
+std::size_t json_length(std::string_view text)
+{
+    const std::size_t start = text.substr(0, 1) == "-";
+    const std::size_t found = text.find_first_not_of("0123456789", start);
+    const std::size_t end = found == text.npos ? text.size() : found;
+    const bool has_needless_zero = end > start + 1 && text[start] == '0';
+    const bool goes_on = end < text.size() && (text[end] == '.' || text[end] == 'e' || text[end] == 'E');
+    return end == start || has_needless_zero || goes_on ? 0 : end;
+}
+
+// What json_integer returns, from the grammar and std::from_chars, which takes no minus for an unsigned type.
+template <class T>
+bool is_json(std::string_view text)
+{
+    const std::optional<std::pair<T, std::string_view>> found = torkettle::json_integer<T>(text);
+    const std::size_t length = json_length(text);
+    const std::string_view number = text.substr(0, length) == "-0" ? "0" : text.substr(0, length);
+    T value = 77;
+    const std::from_chars_result read = std::from_chars(number.data(), number.data() + number.size(), value);
+    if (length == 0 || read.ec != std::errc())
+        return !found.has_value();
+    return found.has_value() && found->first == value && found->second.data() == text.data() + length &&
+           found->second.size() == text.size() - length;
+}
 
 template <class T>
 void compare(std::string_view text, const char *type)
@@ -115,7 +143,7 @@ void compare(std::string_view text, const char *type)
     accepted += right.ec == std::errc();
     out_of_range += right.ec == std::errc::result_out_of_range;
     if (left.ptr != right.ptr || left.ec != right.ec || ours != theirs || whole.has_value() != is_whole ||
-        (is_whole && *whole != theirs)) {
+        (is_whole && *whole != theirs) || !is_json<T>(text)) {
         if (differences++ < 10)
             std::fprintf(stderr, "%s differs for \"%.*s\"\n", type, static_cast<int>(text.size()), first);
     }
