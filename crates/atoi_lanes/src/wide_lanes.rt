@@ -8,7 +8,7 @@ ghost use Rattle.atoi_core.specs.Run.{run_len, run, value, zeros};
 ghost use Rattle.atoi_lanes.specs.Lanes.{ReadsAfterZeros};
 
 use crate::after_16::{answer_to_end, last_four, prefix_64_after_16};
-use crate::kernels::{ShortRun, len_lanes, load_lanes, read_medium, read_short, sum_lanes};
+use crate::kernels::{ShortRun, load_lanes, others, read_medium, read_short, sum_lanes};
 use crate::lanes::{Lanes, read_window};
 use crate::window_32::{Window32, window_32};
 use atoi_core::powers::append_digits;
@@ -117,8 +117,9 @@ fn prefix_64_unskipped<'a>(
 {
     steps.tick();
     let first = load_lanes(s);
-    let len = len_lanes(first);
-    if len < 16 {
+    let others = others(first);
+    if others != 0 {
+        let len = others.trailing_zeros();
         return found_or_empty(sum_lanes(first, len), len as usize);
     }
     if s.len() == 16 {
