@@ -23,6 +23,9 @@ pub trait Engine {
         ensures window { result ≡ window_of table 16 s.now }
         ensures one_step { steps.new ≡ steps.old + 1 };
 
+    /// Up to how many bytes a whole slice of a narrow type is read inlined. Above 15 it counts as 15.
+    const INLINED: usize = 8;
+
     /// Like `window`, but may be faster if `s` is all digits.
     #[inline(always)]
     fn whole_window(s: &[u8], steps: &mut Steps) -> Window
@@ -41,6 +44,15 @@ pub trait Engine {
         ensures one_step { steps.new ≡ steps.old + 1 }
     {
         Some(Self::window(s, steps))
+    }
+
+    /// Like `window`, but may be faster if there are at most 8 digits.
+    #[inline(always)]
+    fn narrow_window(s: &[u8], steps: &mut Steps) -> Window
+        ensures window { result ≡ window_of table 16 s.now }
+        ensures one_step { steps.new ≡ steps.old + 1 }
+    {
+        Self::window(s, steps)
     }
 
     /// Loads the first 8 bytes of `s`.

@@ -35,7 +35,7 @@ pub fn narrow_prefix<'a, E: Engine>(
     ensures unskipped { skip ≡ false → steps.new ≡ steps.old
         + (if nat_lt (run_len E.table s.now) 16 then 1 else 2) }
 {
-    let window = E::window(s, steps);
+    let window = first_window::<E>(bound, skip, s, steps);
     if window.len == 0 {
         Err(AtoiSimdError::Empty)
     } else if skip && window.zeroes > 0 {
@@ -44,6 +44,19 @@ pub fn narrow_prefix<'a, E: Engine>(
         Err(AtoiSimdError::Size(17, s))
     } else {
         answer_at(bound, 0, window, s)
+    }
+}
+
+// With zeros to skip, numbers of a type of 32 bits more often have more than 8 digits.
+#[inline(always)]
+fn first_window<E: Engine>(bound: u64, skip: bool, s: &[u8], steps: &mut Steps) -> Window
+    ensures window { result ≡ window_of E.table 16 s.now }
+    ensures one_step { steps.new ≡ steps.old + 1 }
+{
+    if skip && bound > 65535 {
+        E::window(s, steps)
+    } else {
+        E::narrow_window(s, steps)
     }
 }
 
@@ -74,7 +87,7 @@ pub fn narrow_whole_windows<'a, E: Engine>(
     ensures loads { LoadsWithin (most_loads E.table narrow s.now) 2 E.table true s.now
         steps.old steps.new }
 {
-    if s.len() <= 8 {
+    if s.len() <= E::INLINED.min(15) {
         // LLVM joins this cast with the engine's.
         let size = s.len() as u32;
         let window = E::whole_window(s, steps);

@@ -11,9 +11,9 @@ pub(crate) const ZEROS: u64 = 0x3030_3030_3030_3030;
 // Four of them.
 const FOUR_ZEROS: u32 = 0x3030_3030;
 
-// The word of `8 - len` zeros.
+/// Returns the word of `8 - len` zeros, which fills a short slice to eight bytes.
 #[tactic(auto, using(crate::proofs::lemmas::WordWindows::zeros_shifted, crate::proofs::lemmas::WordWindows::zeros_left_out))]
-pub(crate) fn fill_of_zeros(len: usize) -> u64
+pub fn fill_of_zeros(len: usize) -> u64
     requires some { 0 < len }
     requires few { len ≤ 8 }
     ensures { result ≡ word_of (replicate (8 - len) 48) }

@@ -1,5 +1,5 @@
 //! Vectors of sixteen bytes: loaded, counted, and summed.
-ghost use Rattle.std.specs.Prelude.{◌≡◌, ◌-◌, ◌/◌, ◌^◌, ◌≤◌, ◌<◌, ◌++◌, IfSome, None, not, length, map, take, drop, replicate};
+ghost use Rattle.std.specs.Prelude.{◌≡◌, ◌-◌, ◌*◌, ◌/◌, ◌%◌, ◌^◌, ◌≤◌, ◌<◌, ◌++◌, IfSome, None, not, length, map, take, drop, replicate};
 ghost use Rattle.std.specs.Int.{trailing_zeros, w16};
 ghost use Rattle.std.specs.Simd.Lanes.{Each1, mask_l, digits_l, number_l};
 ghost use Rattle.atoi_core.specs.Digit.{decimal_table, is_digit};
@@ -7,6 +7,7 @@ ghost use Rattle.atoi_core.specs.Run.{run_len, zeros, value};
 ghost use Rattle.atoi_core.specs.Words.{word_of};
 ghost use Rattle.atoi_lanes.specs.Lanes.{IsShortRun, itself, padded, padded_start, paired};
 
+use atoi_core::word_digits::{digits_of, fill_of_zeros};
 use atoi_core::word_loads::{load_8, load_high};
 use std::simd::prelude::*;
 
@@ -55,9 +56,6 @@ const TO_START: [[u8; 16]; 8] = [
     [0, 1, 2, 3, 4, 5, 6, 7, 10, 11, 12, 13, 14, 15, 128, 128],
     [0, 1, 2, 3, 4, 5, 6, 7, 9, 10, 11, 12, 13, 14, 15, 128],
 ];
-
-// The digit masks of slices of digits, by length.
-const DIGIT_MASKS: [u8; 8] = [0, 128, 192, 224, 240, 248, 252, 254];
 
 // The weights that join two pairs of digits, each in the upper byte of its 16 bits.
 const HUNDREDS: [u8; 16] = [0, 100, 0, 1, 0, 100, 0, 1, 0, 100, 0, 1, 0, 100, 0, 1];
@@ -147,14 +145,6 @@ pub(crate) fn others(v: u8x16) -> u16
     marks.simd_ge(u8x16::splat(128)).to_bitmask() as u16
 }
 
-// Returns one bit for each lane, the lowest for the first: 1 if the lane is a digit.
-fn digit_mask(v: u8x16) -> u64
-    ensures { result ≡ mask_l (map (is_digit decimal_table) v) }
-{
-    let digits = v.simd_ge(u8x16::splat(b'0')) & v.simd_le(u8x16::splat(b'9'));
-    digits.to_bitmask()
-}
-
 /// Returns how many zeros (48) the lanes begin with.
 pub fn zeroes_lanes(v: u8x16) -> u32
     ensures zeroes { result ≡ zeros decimal_table v }
@@ -176,6 +166,18 @@ pub fn sum_lanes(v: u8x16, len: u32) -> u64
     number_in_lanes(shuffle(digit_values, len as usize))
 }
 
+// The same for at most 8 lanes.
+#[inline(always)]
+pub(crate) fn sum_half(v: u8x16, len: u32) -> u64
+    requires within { len ≤ 8 }
+    requires digits { len ≤ run_len decimal_table v }
+    ensures { result ≡ value decimal_table (take len v) }
+{
+    let digit_values = v - u8x16::splat(b'0');
+    let [_, fours] = fours(shuffle(digit_values, len as usize)).to_array();
+    join_fours(fours)
+}
+
 // Returns 16 of 48 lanes, from lane `p` on: 16 lanes of 0, the lanes of `v`, and 16 lanes of 0.
 #[tactic(auto, using(crate::proofs::lemmas::Shuffles::shuffled, crate::proofs::lemmas::Shuffles::shuffle_ok))]
 pub(crate) fn shuffle(v: u8x16, p: usize) -> u8x16
@@ -195,6 +197,7 @@ pub(crate) enum ShortRun {
 
 // Reads fewer than 8 bytes.
 #[inline(always)]
+#[tactic(auto, using(atoi_core::proofs::lemmas::WordWindows::filled_fits, atoi_core::proofs::lemmas::WordWindows::filled_digits))]
 pub(crate) fn read_short(s: &[u8]) -> ShortRun
     requires few { length s.now < 8 }
     ensures { IsShortRun s.now result }
@@ -203,16 +206,15 @@ pub(crate) fn read_short(s: &[u8]) -> ShortRun
         return ShortRun::Part(0, 0);
     }
     let word = load_high(s);
-    let lanes = half(word);
-    let mask = digit_mask(lanes);
-    if mask as u8 == DIGIT_MASKS[s.len()] {
+    let digits = digits_of(word + fill_of_zeros(s.len()));
+    if digits == 8 {
         // The number need not wait for its length.
-        return ShortRun::Whole(number_in_half(lanes & u8x16::splat(0x0F)));
+        return ShortRun::Whole(number_in_half(half(word) & u8x16::splat(0x0F)));
     }
-    let len = (mask >> (8 - s.len())).trailing_ones();
+    let len = digits - (8 - s.len() as u32);
     // Drops the bytes after the digits.
-    let digits = half(word << (8 * (s.len() - len as usize)));
-    ShortRun::Part(len, number_in_half(digits & u8x16::splat(0x0F)))
+    let first = half(word << (8 * (s.len() - len as usize)));
+    ShortRun::Part(len, number_in_half(first & u8x16::splat(0x0F)))
 }
 
 // Returns the bytes of a word in the first eight lanes, the lowest first. The others are 0.
@@ -222,14 +224,21 @@ fn half(word: u64) -> u8x16
     u64x2::from_array([word, 0]).to_le_bytes()
 }
 
-#[tactic(auto, using(crate::proofs::lemmas::JoinedDigits::half_joined))]
+#[tactic(auto, using(crate::proofs::lemmas::JoinedDigits::halves_joined))]
 fn number_in_half(digits: u8x16) -> u64
     requires { Each1 (λ digit. digit < 10) digits }
     ensures { result ≡ value itself (take 8 digits) }
 {
-    let [both, _] = fours(digits).to_array();
-    // Adds 10,000 times the lower half to the upper half.
-    both.wrapping_mul(10_000 << 32 | 1) >> 32
+    let [fours, _] = fours(digits).to_array();
+    join_fours(fours)
+}
+
+// Returns 10,000 times the lower half and the upper half in one sum, which fits in 32 bits.
+#[inline(always)]
+fn join_fours(fours: u64) -> u64
+    ensures { result ≡ fours * 42949672960001 % 2 ^ 64 / 2 ^ 32 }
+{
+    fours.wrapping_mul(10_000 << 32 | 1) >> 32
 }
 
 #[tactic(auto, using(crate::proofs::lemmas::JoinedDigits::lanes_joined))]

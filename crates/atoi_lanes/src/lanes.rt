@@ -8,7 +8,7 @@ ghost use Rattle.atoi_lanes.specs.Lanes.{lane_window};
 
 use crate::after_16::begins_with_digit;
 use crate::kernels::{
-    ShortRun, load_lanes, others, read_medium, read_short, sum_lanes, zeroes_lanes,
+    ShortRun, load_lanes, others, read_medium, read_short, sum_half, sum_lanes, zeroes_lanes,
 };
 use crate::wide_lanes::{prefix_64_lanes, prefix_128_lanes};
 use atoi_core::{AtoiSimdError, Engine, Steps, Window};
@@ -76,6 +76,8 @@ fn medium_window(s: &[u8]) -> Option<Window>
 }
 
 impl Engine for Lanes {
+    const INLINED: usize = 15;
+
     ghost table = { decimal_table };
 
     /// Returns the window of 16 bytes.
@@ -110,6 +112,21 @@ impl Engine for Lanes {
             return None;
         }
         Some(read_window(s))
+    }
+
+    // Nine lanes tell whether there are at most 8 digits. Half a vector then holds them.
+    #[inline(always)]
+    fn narrow_window(s: &[u8], steps: &mut Steps) -> Window {
+        steps.tick();
+        if s.len() >= 16 {
+            let lanes = load_lanes(s);
+            let others = others(lanes);
+            if others & 0x1FF != 0 {
+                let len = others.trailing_zeros();
+                return Window::not_full(len, sum_half(lanes, len));
+            }
+        }
+        read_window(s)
     }
 
     /// Returns the window of 8 bytes.

@@ -1,5 +1,5 @@
 -- Neighbouring digits of base t, joined to base t * t, spell the same number.
-use Rattle.std.proofs.Common.{◌≡◌, ℕ, zero, suc, ◌+◌, ◌*◌, ◌/◌, ◌%◌, ◌^◌, ◌<◌, ◌≤◌, List, [], ◌∷◌, map, length, take, get_or, replicate, refl, sym, ap, ap₂, subst, ◌∙◌, arith, Fits, w16}
+use Rattle.std.proofs.Common.{◌≡◌, ℕ, zero, suc, ◌+◌, ◌*◌, ◌/◌, ◌%◌, ◌^◌, ◌<◌, ◌≤◌, List, [], ◌∷◌, map, length, take, drop, get_or, replicate, refl, sym, ap, ap₂, subst, ◌∙◌, arith, Fits, w16}
 use Rattle.std.specs.List.{range_with_len}
 use Rattle.std.specs.Int.Bits.{bit_and}
 use Rattle.std.proofs.Math.Arith.{digits_lt}
@@ -26,10 +26,10 @@ abbrev Spelled : List ℕ → Type 0
 Spelled xs =
     let eights = paired 10000 (paired 100 (paired 10 xs)) in
     Each1 (λ x. x < 10) xs → (get_or eights 0 0 ≡ value itself (take 8 xs)) × (get_or eights 0 0 < 100000000) × (get_or eights 1 0 < 100000000)
-    × (get_or eights 0 0 * 100000000 + get_or eights 1 0 ≡ value itself xs)
+    × (get_or eights 0 0 * 100000000 + get_or eights 1 0 ≡ value itself xs) × (get_or eights 1 0 ≡ value itself (drop 8 xs))
 
 spelled_16 : (f : ℕ → ℕ) → Spelled (map f (range_with_len 0 16))
-spelled_16 f below = (omega arith, omega arith, omega arith, omega arith)
+spelled_16 f below = (omega arith, omega arith, omega arith, omega arith, omega arith)
 
 pub spelled : (xs : List ℕ) → length xs ≡ 16 → Spelled xs
 spelled xs long = subst Spelled (pick_l_whole 0 xs 16 long) (spelled_16 (λ i. get_or xs i 0))
@@ -157,11 +157,15 @@ eights_joined digits fields long below are =
 abbrev half : ℕ → ℕ
 half field = field * 42949672960001 % 2 ^ 64 / 2 ^ 32
 
-pub half_joined : (digits fields : List ℕ) → length digits ≡ 16 → Each1 (λ x. x < 10) digits
-    → fields ≡ digits_l (2 ^ 64) 2 (number_l (2 ^ 32) (paired 100 (paired 10 digits))) → half (get_or fields 0 0) ≡ value itself (take 8 digits)
-half_joined digits fields long below are =
-    ap (λ l. half (get_or l 0 0)) are ∙ ap (λ l. get_or (map half l) 0 0) (sym are)
-    ∙ ap (λ l. get_or l 0 0) (eights_by half (λ x y a b. omega arith) digits fields long below are) ∙ (spelled digits long below).0
+pub halves_joined : (digits fields : List ℕ) → length digits ≡ 16 → Each1 (λ x. x < 10) digits
+    → fields ≡ digits_l (2 ^ 64) 2 (number_l (2 ^ 32) (paired 100 (paired 10 digits)))
+    → (half (get_or fields 0 0) ≡ value itself (take 8 digits)) × (half (get_or fields 1 0) ≡ value itself (drop 8 digits))
+halves_joined digits fields long below are =
+    let known = spelled digits long below in
+    let joined = ap (map half) (sym are) ∙ eights_by half (λ x y a b. omega arith) digits fields long below are in (
+      ap (λ l. half (get_or l 0 0)) are ∙ ap (λ l. get_or l 0 0) joined ∙ known.0,
+      ap (λ l. half (get_or l 1 0)) are ∙ ap (λ l. get_or l 1 0) joined ∙ known.4,
+    )
 
 -- The last product and sum.
 pub lanes_joined : (digits eights : List ℕ) → length digits ≡ 16 → Each1 (λ x. x < 10) digits → eights ≡ paired 10000 (paired 100 (paired 10 digits))

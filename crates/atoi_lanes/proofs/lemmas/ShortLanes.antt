@@ -1,28 +1,22 @@
--- A slice below eight bytes at the end of the first half of a vector.
-use Rattle.std.proofs.Common.{◌≡◌, ℕ, zero, suc, ◌+◌, ◌-◌, ◌*◌, ◌/◌, ◌%◌, ◌^◌, ◌<◌, ◌≤◌, true, false, cond, eqb, List, [], ◌∷◌, ◌++◌, map, length, take, drop, replicate, get_or, refl, sym, ap, ap₂, subst, ◌∙◌, arith, lit<, Bool, w64}
-use Rattle.std.specs.Int.{trailing_ones}
+-- A slice of less than eight bytes at the end of the first half of a vector.
+use Rattle.std.proofs.Common.{◌≡◌, ℕ, zero, suc, ◌+◌, ◌-◌, ◌*◌, ◌%◌, ◌^◌, ◌<◌, ◌≤◌, List, [], ◌∷◌, ◌++◌, map, length, take, replicate, get_or, refl, sym, ap, ap₂, subst, ◌∙◌, arith, lit<}
 use Rattle.std.specs.Int.Bits.{bit_and}
-use Rattle.std.specs.Int.RustNames.{count_ones}
-use Rattle.std.specs.List.{prefix_len, count_by}
-use Rattle.std.proofs.lemmas.Bool.{agree_below_at, eqb-true}
 use Rattle.std.proofs.lemmas.Bool.Decides.{nat_tests}
-use Rattle.std.proofs.lemmas.List.{length-map, length-take, length-take-le, length-append, map-append, take_all, take-append-le, drop-append-le, drop-map, drop_at}
-use Rattle.std.proofs.lemmas.List.Sums.{count_by-le-length, prefix_len-le-length, sum_by-cons, sum_by-append}
-use Rattle.std.proofs.lemmas.List.Folds.{sum_by-replicate}
+use Rattle.std.proofs.lemmas.List.{length-map, length-take, length-take-le, length-append, map-append, take_all, take-append-le}
+use Rattle.std.proofs.lemmas.List.Sums.{prefix_len-le-length}
 use Rattle.std.proofs.lemmas.Nat.{pow-add, and_mask}
-use Rattle.std.proofs.lemmas.Simd.{zip2_splat, Each1-chunk, length-replicate, mask_l-lt, ones-mask_l}
+use Rattle.std.proofs.lemmas.Simd.{zip2_splat, Each1-chunk}
 use Rattle.atoi_core.specs.Digit.{decimal_table, is_digit}
 use Rattle.atoi_core.specs.Run.{run_len, value, run}
 use Rattle.atoi_core.specs.Words.{word_of}
-use Rattle.atoi_core.proofs.lemmas.LoadedWords.{bytes, high_word, prefix_len-before_zeros, word_shifted, word_start}
+use Rattle.atoi_core.proofs.lemmas.LoadedWords.{bytes, high_word, word_shifted, word_start}
 use Rattle.atoi_core.proofs.lemmas.Runs.{prefix_len-take, value-replicate}
 use Rattle.atoi_core.proofs.lemmas.WordFields.{shift_cut}
 use Rattle.atoi_core.proofs.lemmas.WordWindows.{filled_length}
 use Rattle.atoi_lanes.specs.Lanes.{itself}
 use Rattle.atoi_lanes.proofs.lemmas.DigitLanes.{GivesDigitValues, after_zeros, digits_value}
 use Rattle.atoi_lanes.proofs.lemmas.LaneWindows.{lanes-of_bytes}
-use Rattle.atoi_lanes.proofs.lemmas.Masks.{mask-drop, ones-of_mask}
-use lib.Lanes.{Each1, zip2, digits_l, mask_l}
+use lib.Lanes.{Each1, zip2, digits_l}
 use lib.LanesLaws.{map-replicate}
 
 -- The 16 lanes of such a slice.
@@ -57,68 +51,6 @@ half_of_start len s fits le few =
     let count = length-take-le len s le in
     ap (digits_l 256 16) (shifted_word len s fits le few ∙ ap (λ k. word_of (replicate (8 - k) 0 ++ take len s)) (sym count))
     ∙ half_of_word (take len s) (Each1-chunk _ 0 len s (bytes s fits)) (omega (arith, count))
-
--- ---- The mask of the digits
-
-abbrev digit : ℕ → Bool
-digit = is_digit decimal_table
-
-abbrev one_if : ℕ → ℕ
-one_if x = cond (digit x) 1 0
-
--- As many lanes are digits as bytes of the slice.
-count-in_half : (s : List ℕ) → count_by digit (in_half s) ≡ count_by digit s
-count-in_half s =
-    let front : List ℕ = replicate (8 - length s) 0 in
-    omega (arith, sum_by-append one_if (front ++ s) (replicate 8 0), sum_by-append one_if front s, sum_by-replicate one_if (8 - length s) 0)
-
-all_pass : (p : ℕ → Bool) (s : List ℕ) → count_by p s ≡ length s → prefix_len p s ≡ length s
-all_pass p [] h = refl
-all_pass p (x ∷ xs) h =
-    (elim (p x) as (λ b. count_by p (x ∷ xs) ≡ cond b 1 0 + count_by p xs → cond b (1 + prefix_len p xs) 0 ≡ suc (length xs)) [
-      | true ↦ λ more. omega (arith, all_pass p xs (omega (arith, more, h)))
-      | false ↦ λ more. absurd (omega (arith, more, h, count_by-le-length p xs))
-    ]) (sum_by-cons (λ y. cond (p y) 1 0) x xs)
-
--- The table `DIGIT_MASKS`.
-abbrev full : List ℕ
-full = 0 ∷ 128 ∷ 192 ∷ 224 ∷ 240 ∷ 248 ∷ 252 ∷ 254 ∷ []
-
-ones-full : (n : ℕ) → n < 8 → count_ones (get_or full n 0) ≡ n
-unfolding count_ones
-ones-full n few = eqb-true _ n (agree_below_at (λ k. eqb (count_ones (get_or full k 0)) k) (λ _. true) 8 n refl few)
-
--- If the mask has as many ones as bytes, all are digits.
-counts_all : (s v : List ℕ) (mask : ℕ) → v ≡ in_half s → mask ≡ mask_l (map digit v) → count_ones mask ≡ length s → run_len decimal_table s ≡ length s
-counts_all s v mask is ones h = all_pass digit s (sym (ap count_ones ones ∙ ones-mask_l digit v ∙ ap (count_by digit) is ∙ count-in_half s) ∙ h)
-
-mask-before_false : (ms : List Bool) (n : ℕ) → mask_l (ms ++ replicate n false) ≡ mask_l ms
-mask-before_false [] zero = refl
-mask-before_false [] (suc n) = omega (arith, mask-before_false [] n)
-mask-before_false (m ∷ ms) n = ap (λ k. cond m 1 zero + 2 * k) (mask-before_false ms n)
-
--- The mask has 8 bits.
-pub mask_below : (s : List ℕ) → ((i : ℕ) → get_or s i 0 < 256) → length s < 8 → (word mask : ℕ) (v : List ℕ) → word ≡ high_word s
-    → v ≡ digits_l 256 16 word → mask ≡ mask_l (map digit v) → mask < 256
-mask_below s fits few word mask v loaded lanes ones =
-    let front = replicate (8 - length s) 0 ++ s in
-    let is : v ≡ in_half s = lanes ∙ ap (digits_l 256 16) loaded ∙ half_of_word s (bytes s fits) (omega arith) in
-    let first : mask ≡ mask_l (map digit front) =
-    ones ∙ ap (λ l. mask_l (map digit l)) is ∙ ap mask_l (map-append digit front (replicate 8 0)) ∙ mask-before_false (map digit front) 8 in
-    let size : length (map digit front) ≡ 8 = omega (arith, length-map front digit, filled_length (8 - length s) 0 s) in
-    omega (arith, first, rw size at (mask_l-lt (map digit front)))
-
--- The trailing ones after the lanes before the slice are its run.
-digits_first : (s v : List ℕ) (mask : ℕ) → length s ≤ 8 → v ≡ in_half s → mask ≡ mask_l (map digit v)
-    → trailing_ones w64 (mask / 2 ^ (8 - length s)) ≡ run_len decimal_table s
-digits_first s v mask few is ones =
-    let zeros = 8 - length s in
-    let rest : drop zeros v ≡ s ++ replicate 8 0 =
-    ap (drop zeros) is ∙ drop-append-le zeros (replicate zeros 0 ++ s) (replicate 8 0) (omega (arith, filled_length (8 - length s) 0 s))
-    ∙ ap (λ l. l ++ replicate 8 0) (drop_at (replicate zeros 0) s zeros (length-replicate {A = ℕ} zeros 0)) in
-    ones-of_mask digit (s ++ replicate 8 0) (omega (arith, length-append s (replicate 8 0))) _
-    (ap (λ m. m / 2 ^ zeros) ones ∙ mask-drop zeros (map digit v) ∙ ap mask_l (drop-map digit zeros v ∙ ap (map digit) rest))
-    ∙ prefix_len-before_zeros digit refl 8 s
 
 -- ---- The value of the digits
 
@@ -160,29 +92,20 @@ half_values s few digits v is =
       subst (Each1 (λ x. x < 10)) (sym lanes) (before_zeros 8 _ (after_zeros (λ x. x < 10) (lit< tt) zeros values (subst (Each1 (λ x. x < 10)) whole known.1))),
     )
 
--- A full mask: all bytes are digits, and the lanes spell them.
-pub all_digits : (s : List ℕ) → ((i : ℕ) → get_or s i 0 < 256) → length s < 8 → (word mask : ℕ) (v : List ℕ) → word ≡ high_word s
-    → v ≡ digits_l 256 16 word → mask ≡ mask_l (map digit v) → mask ≡ get_or full (length s) 0
-    → (run_len decimal_table s ≡ length s) × Written s v
-all_digits s fits few word mask v loaded lanes ones full_is =
-    let is : v ≡ in_half s = lanes ∙ ap (digits_l 256 16) loaded ∙ half_of_word s (bytes s fits) (omega arith) in
-    let digits = counts_all s v mask is ones (ap count_ones full_is ∙ ones-full (length s) few) in
-    (digits, half_values s (omega arith) digits v is)
+-- The lanes of the word spell the slice if it has only digits.
+pub all_digits : (s : List ℕ) → ((i : ℕ) → get_or s i 0 < 256) → length s < 8 → run_len decimal_table s ≡ length s → (word : ℕ) (v : List ℕ)
+    → word ≡ high_word s → v ≡ digits_l 256 16 word → Written s v
+all_digits s fits few digits word v loaded lanes =
+    half_values s (omega arith) digits v (lanes ∙ ap (digits_l 256 16) loaded ∙ half_of_word s (bytes s fits) (omega arith))
 
--- Otherwise the shifted word's lanes spell the run.
-pub first_digits : (s : List ℕ) → ((i : ℕ) → get_or s i 0 < 256) → length s < 8 → (word mask len : ℕ) (v : List ℕ) → word ≡ high_word s
-    → v ≡ digits_l 256 16 word → mask ≡ mask_l (map digit v) → len ≡ trailing_ones w64 (mask / 2 ^ (8 - length s))
-    → (len ≡ run_len decimal_table s) × (len ≤ length s)
-    × ((w : List ℕ) → w ≡ digits_l 256 16 (word * 2 ^ (8 * (length s - len)) % 2 ^ 64) → Written (run decimal_table s) w)
-first_digits s fits few word mask len v loaded lanes ones counted =
-    let is : v ≡ in_half s = lanes ∙ ap (digits_l 256 16) loaded ∙ half_of_word s (bytes s fits) (omega arith) in
-    let size : len ≡ run_len decimal_table s = counted ∙ digits_first s v mask (omega arith) is ones in
+-- Otherwise those of the shifted word spell the run.
+pub first_digits : (s : List ℕ) → ((i : ℕ) → get_or s i 0 < 256) → length s < 8 → (word len : ℕ) (v : List ℕ) → word ≡ high_word s
+    → len ≡ run_len decimal_table s → v ≡ digits_l 256 16 (word * 2 ^ (8 * (length s - len)) % 2 ^ 64) → Written (run decimal_table s) v
+first_digits s fits few word len v loaded size lanes =
+    let digit = is_digit decimal_table in
     let within : len ≤ length s = omega (arith, size, prefix_len-le-length digit s) in
     let front : take len s ≡ run decimal_table s = ap (λ n. take n s) size in
-    let all : run_len decimal_table (take len s) ≡ length (take len s) = omega (arith, size, prefix_len-take digit len s, length-take len s) in (
-      size,
-      within,
-      λ w made. subst (λ r. Written r w) front
-          (half_values (take len s) (omega (arith, length-take-le len s within)) all w
-          (made ∙ ap (λ k. digits_l 256 16 (k * 2 ^ (8 * (length s - len)) % 2 ^ 64)) loaded ∙ half_of_start len s fits within (omega arith))),
-    )
+    let all : run_len decimal_table (take len s) ≡ length (take len s) = omega (arith, size, prefix_len-take digit len s, length-take len s) in
+    subst (λ r. Written r v) front
+    (half_values (take len s) (omega (arith, length-take-le len s within)) all v
+    (lanes ∙ ap (λ k. digits_l 256 16 (k * 2 ^ (8 * (length s - len)) % 2 ^ 64)) loaded ∙ half_of_start len s fits within (omega arith)))

@@ -14,11 +14,11 @@ first g c =
     let e = c.whole_window-window.ensures in
     let seen = shows g.met.E.Engine.below_ten 16 c.args.s.now e.window in
     let few : c.whole_window-window.result.len < 16 =
-    omega (arith, seen.len_is, prefix_len-le-length (is_digit g.E.Engine.table) c.args.s.now, c.if-s-le8.true) in
+    omega (arith, seen.len_is, prefix_len-le-length (is_digit g.E.Engine.table) c.args.s.now, c.if-s-min.true, c.min.ensures) in
     Skipped-first g.met.E.Engine.below_ten true c.args.s.now e.window e.one_step few
 
-pub returns-then-s-le8-clause-answer : goal.returns-then-s-le8-clause-answer
-returns-then-s-le8-clause-answer g c = c.narrow_answer.ensures ∙ narrow_decides (first g c) (omega arith) c.args.bound c.requires.high
+pub returns-then-s-min-clause-answer : goal.returns-then-s-min-clause-answer
+returns-then-s-min-clause-answer g c = c.narrow_answer.ensures ∙ narrow_decides (first g c) (omega arith) c.args.bound c.requires.high
 
-pub returns-then-s-le8-clause-loads : goal.returns-then-s-le8-clause-loads
-returns-then-s-le8-clause-loads g c = Skipped-loads (first g c) 0 (omega arith) (omega arith) (omega arith)
+pub returns-then-s-min-clause-loads : goal.returns-then-s-min-clause-loads
+returns-then-s-min-clause-loads g c = Skipped-loads (first g c) 0 (omega arith) (omega arith) (omega arith)
