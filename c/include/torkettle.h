@@ -143,6 +143,12 @@ typedef struct torkettle_error {
  * Reads the next field. Writes its number to `*value` and returns true, or writes nothing and returns false: at the
  * end of the text, at a field that is refused, and ever after.
  *
+ * size_t torkettle_column_i64_read(torkettle_column_i64 *column, int64_t *values, size_t count);
+ *
+ * Reads the next fields, as torkettle_column_i64_next does, but faster. Writes their numbers to `values`, at most
+ * `count`, and returns how many it has written. These are fewer than `count` only at the end of the text and at a
+ * field that is refused. If `count` is 0, it reads nothing, and `values` may be NULL.
+ *
  * struct torkettle_column_i64 {
  *     torkettle_status status;  TORKETTLE_OK until a field is refused, then why. TORKETTLE_INVALID says that a byte
  *                               which is not the separator follows the number.
@@ -194,6 +200,8 @@ typedef struct torkettle_error {
         TORKETTLE_NOEXCEPT;                                                                                            \
     void torkettle_column_##name##_init(torkettle_column_##name *column, const char *text, size_t length,              \
                                         char separator) TORKETTLE_NOEXCEPT;                                            \
+    size_t torkettle_column_##name##_read(torkettle_column_##name *column, type *values, size_t count)                 \
+        TORKETTLE_NOEXCEPT;                                                                                            \
                                                                                                                        \
     static inline torkettle_status torkettle_parse_##name(const char *text, size_t length, unsigned flags,             \
                                                           type *value) TORKETTLE_NOEXCEPT                              \

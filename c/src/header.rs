@@ -1,7 +1,7 @@
 //! Whether `include/torkettle.h` declares each function as it is exported, and each struct as it is
 //! laid out: a C compiler compares them.
 
-use crate::{CheckedColumn, Error, Found};
+use crate::{CheckedColumn, Error, Found, Values};
 use std::env;
 use std::ffi::{c_char, c_uint};
 use std::io::Write;
@@ -70,6 +70,12 @@ integers! {
 impl<T: Integer> InC for Found<T> {
     fn name() -> String {
         format!("torkettle_found_{}", T::NAME)
+    }
+}
+
+impl<T: Integer> InC for Values<T> {
+    fn name() -> String {
+        format!("{} *", T::IN_C)
     }
 }
 

@@ -12,6 +12,7 @@ mod header;
 mod stop;
 
 use core::ffi::{CStr, c_char, c_uint};
+use core::ptr;
 use core::slice::{from_raw_parts, from_raw_parts_mut};
 use torkettle::column::{Column, ColumnError, is_separator};
 use torkettle::formats::json_integer;
@@ -23,6 +24,11 @@ pub struct Found<T> {
     value: T,
     length: usize,
 }
+
+/// Where numbers are written to.
+#[repr(transparent)]
+#[derive(Clone, Copy)]
+pub struct Values<T>(*mut T);
 
 const SKIP_ZEROES: c_uint = 1;
 const SKIP_PLUS: c_uint = 2;
@@ -222,6 +228,31 @@ impl<'a, T: Parse> CheckedColumn<'a, T> {
         }
     }
 
+    /// Writes the next numbers to `values`, at most `count`, and returns how many they are.
+    ///
+    /// # Safety
+    ///
+    /// `values` has room for as many numbers as are written.
+    #[inline(always)]
+    unsafe fn read(&mut self, values: Values<T>, count: usize) -> usize {
+        // A copy stays in registers: no number is written into it.
+        let mut column = unsafe { ptr::read(&self.column) };
+        let mut read = 0;
+        while read < count {
+            match column.next() {
+                Some(Ok(value)) => unsafe { values.0.add(read).write(value) },
+                Some(Err(error)) => {
+                    self.refuse(&error);
+                    break;
+                }
+                None => break,
+            }
+            read += 1;
+        }
+        self.column = column;
+        read
+    }
+
     #[cold]
     fn refuse(&mut self, error: &ColumnError<'_>) {
         self.index = error.index();
@@ -322,6 +353,14 @@ macro_rules! exports_of_types {
                     Some(value) => Found { value, length: 1 },
                     None => Found { value: 0, length: 0 },
                 }
+            }
+            concat!("torkettle_column_", stringify!($type), "_read") =>
+            fn read(
+                column: *mut CheckedColumn<'static, $type>,
+                values: Values<$type>,
+                count: usize
+            ) -> usize {
+                (*column).read(values, count)
             }
         })*
 

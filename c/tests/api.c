@@ -239,6 +239,28 @@ static int is_error(torkettle_error error, torkettle_status status, unsigned bit
         }                                                                                                              \
     }                                                                                                                  \
                                                                                                                        \
+    /* Whether the column has these numbers before it ends so, if `part` are read by one call, and then the others. */ \
+    static int column_in_parts_##name(const char *text, size_t length, char separator, size_t numbers,                 \
+                                      const type *values, torkettle_status status, size_t index, size_t offset,        \
+                                      size_t part)                                                                     \
+    {                                                                                                                  \
+        torkettle_column_##name column;                                                                                \
+        type read[8];                                                                                                  \
+        size_t first = part < numbers ? part : numbers, at;                                                            \
+        int is_right = 1;                                                                                              \
+        for (at = 0; at < 8; at++)                                                                                     \
+            read[at] = UNTOUCHED_##name;                                                                               \
+        memset(&column, 0x5A, sizeof column);                                                                          \
+        torkettle_column_##name##_init(&column, text, length, separator);                                              \
+        is_right &= torkettle_column_##name##_read(&column, part > 0 ? read : NULL, part) == first;                    \
+        is_right &= read[first] == UNTOUCHED_##name;                                                                   \
+        is_right &= torkettle_column_##name##_read(&column, read + first, SIZE_MAX) == numbers - first;                \
+        for (at = 0; at < 8; at++)                                                                                     \
+            is_right &= read[at] == (at < numbers ? values[at] : UNTOUCHED_##name);                                    \
+        is_right &= torkettle_column_##name##_read(&column, read, 8) == 0;                                             \
+        return is_right && column.status == status && column.index == index && column.offset == offset;                \
+    }                                                                                                                  \
+                                                                                                                       \
     /* Whether the column has these numbers before it ends so. */                                                      \
     static int column_##name(const char *text, char separator, size_t numbers, const type *values,                     \
                              torkettle_status status, size_t index, size_t offset)                                     \
@@ -258,6 +280,9 @@ static int is_error(torkettle_error error, torkettle_status status, unsigned bit
             is_right &= !torkettle_column_##name##_next(&column, &value) && value == UNTOUCHED_##name;                 \
             is_right &= column.status == status && column.index == index && column.offset == offset;                   \
         }                                                                                                              \
+        for (at = 0; at < 6; at++)                                                                                     \
+            is_right &=                                                                                                \
+                column_in_parts_##name(copy, strlen(text), separator, numbers, values, status, index, offset, at);     \
         free(copy);                                                                                                    \
         return is_right;                                                                                               \
     }                                                                                                                  \
