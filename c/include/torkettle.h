@@ -159,9 +159,65 @@ typedef struct torkettle_error {
  * };
  *
  *
+ * Fields: a column that goes on after a bad field, by which we mean one that is not a number. An empty field is bad,
+ * too, but nothing after the last separator is no field.
+ *
+ *     torkettle_fields_i64 fields;
+ *     int64_t value;
+ *     torkettle_fields_i64_init_lines(&fields, text, length);
+ *     while (torkettle_fields_i64_next(&fields, &value))
+ *         if (fields.status == TORKETTLE_OK)
+ *             sum += value;
+ *         else
+ *             fprintf(stderr, "line %zu is no number: %.*s\n", fields.index + 1, (int)fields.length, fields.text);
+ *
+ * void torkettle_fields_i64_init(torkettle_fields_i64 *fields, const char *text, size_t length, char separator);
+ *
+ * Makes the fields of a text, which must stay as it is while you read them. `text` may be NULL only if `length` is 0.
+ * The struct is yours, as that of a column. If the separator is a digit, `+` or `-`, there is only one field: it is
+ * bad, with TORKETTLE_INVALID, the index and the offset SIZE_MAX, and no text, which is NULL with the length 0.
+ *
+ * void torkettle_fields_i64_init_lines(torkettle_fields_i64 *fields, const char *text, size_t length);
+ *
+ * Makes the lines of a text. A line ends with "\n" or "\r\n", which is no part of it.
+ *
+ * void torkettle_fields_i64_starting_at(torkettle_fields_i64 *fields, size_t index, size_t offset);
+ *
+ * Lets the next field have this index and this offset, from which the later ones are counted. So a long text can be
+ * read by pieces that end with a separator: start each at the next_index and the next_offset of the one before it.
+ *
+ * bool torkettle_fields_i64_next(torkettle_fields_i64 *fields, int64_t *value);
+ *
+ * Reads the next field. Returns true if there is one, and false at the end of the text and ever after. Writes its
+ * number to `*value` and sets the status to TORKETTLE_OK, or writes nothing and sets the status to why it is bad. At
+ * the end, it writes nothing, and the status is TORKETTLE_OK.
+ *
+ * size_t torkettle_fields_i64_read(torkettle_fields_i64 *fields, int64_t *values, size_t count);
+ *
+ * Reads the next fields faster. Writes their numbers to `values`, at most `count`, and returns how many it has
+ * written. These are fewer than `count` only at a bad field, of which it sets the status, and at the end. Otherwise
+ * the status is TORKETTLE_OK. The next call goes on after the bad field. If `count` is 0, `values` may be NULL.
+ *
+ *     while ((count = torkettle_fields_i64_read(&fields, values, 256)) > 0 || fields.status != TORKETTLE_OK) ...
+ *
+ * struct torkettle_fields_i64 {
+ *     torkettle_status status;  What torkettle_parse_i64 with both flags returns for the bad field at which the last
+ *                               call stopped, or TORKETTLE_OK if it stopped at none.
+ *     size_t index;             The index of the bad field, from 0. If the status is TORKETTLE_OK, this and the next
+ *                               three say nothing about the last call.
+ *     size_t offset;            The offset of its first byte.
+ *     const char *text;         Its bytes, in the text that was given, without the separator.
+ *     size_t length;            How many they are.
+ *     size_t next_index;        The index of the next field: at the end, how many fields there are.
+ *     size_t next_offset;       The offset at which the next field begins: at the end, that of the text's end.
+ *     ...                       The others are for the library alone.
+ * };
+ *
+ *
  * What follows is of the library's own, and may change: the functions below whose names begin with torkettle_whole_,
  * torkettle_prefix_ and torkettle_next_, one for each choice of flags, and one for JSON. They return a number and its
- * length in two registers, the length 0 if there is none. Where `flags` is a constant, the compiler leaves one call.
+ * length in two registers, the length 0 if there is none. For torkettle_next_field_ it is 1 for a number, and 2 for a
+ * bad field. Where `flags` is a constant, the compiler leaves one call.
  */
 /* `suffix` is `_i64` and so on. The program may have `i64` itself as a macro, which the call would expand. */
 #define TORKETTLE_PICK_(kind, suffix)                                                                                  \
@@ -184,6 +240,20 @@ typedef struct torkettle_error {
         uint64_t state[5];                                                                                             \
     } torkettle_column_##name;                                                                                         \
                                                                                                                        \
+    typedef struct torkettle_fields_##name {                                                                           \
+        torkettle_status status;                                                                                       \
+        size_t index;                                                                                                  \
+        size_t offset;                                                                                                 \
+        const char *text;                                                                                              \
+        size_t length;                                                                                                 \
+        size_t next_index;                                                                                             \
+        size_t next_offset;                                                                                            \
+        const char *rest;                                                                                              \
+        size_t rest_length;                                                                                            \
+        char separator;                                                                                                \
+        char is_lines;                                                                                                 \
+    } torkettle_fields_##name;                                                                                         \
+                                                                                                                       \
     torkettle_found_##name torkettle_whole_##name(const char *text, size_t length) TORKETTLE_NOEXCEPT;                 \
     torkettle_found_##name torkettle_whole_zeroes_##name(const char *text, size_t length) TORKETTLE_NOEXCEPT;          \
     torkettle_found_##name torkettle_whole_plus_##name(const char *text, size_t length) TORKETTLE_NOEXCEPT;            \
@@ -194,6 +264,7 @@ typedef struct torkettle_error {
     torkettle_found_##name torkettle_prefix_zeroes_plus_##name(const char *text, size_t length) TORKETTLE_NOEXCEPT;    \
     torkettle_found_##name torkettle_prefix_json_##name(const char *text, size_t length) TORKETTLE_NOEXCEPT;           \
     torkettle_found_##name torkettle_next_##name(torkettle_column_##name *column) TORKETTLE_NOEXCEPT;                  \
+    torkettle_found_##name torkettle_next_field_##name(torkettle_fields_##name *fields) TORKETTLE_NOEXCEPT;            \
                                                                                                                        \
     torkettle_error torkettle_parse_error_##name(const char *text, size_t length, unsigned flags) TORKETTLE_NOEXCEPT;  \
     torkettle_error torkettle_parse_prefix_error_##name(const char *text, size_t length, unsigned flags)               \
@@ -201,6 +272,8 @@ typedef struct torkettle_error {
     void torkettle_column_##name##_init(torkettle_column_##name *column, const char *text, size_t length,              \
                                         char separator) TORKETTLE_NOEXCEPT;                                            \
     size_t torkettle_column_##name##_read(torkettle_column_##name *column, type *values, size_t count)                 \
+        TORKETTLE_NOEXCEPT;                                                                                            \
+    size_t torkettle_fields_##name##_read(torkettle_fields_##name *fields, type *values, size_t count)                 \
         TORKETTLE_NOEXCEPT;                                                                                            \
                                                                                                                        \
     static inline torkettle_status torkettle_parse_##name(const char *text, size_t length, unsigned flags,             \
@@ -242,6 +315,40 @@ typedef struct torkettle_error {
             return false;                                                                                              \
         *value = found.value;                                                                                          \
         return true;                                                                                                   \
+    }                                                                                                                  \
+                                                                                                                       \
+    static inline void torkettle_fields_##name##_init(torkettle_fields_##name *fields, const char *text,               \
+                                                      size_t length, char separator) TORKETTLE_NOEXCEPT                \
+    {                                                                                                                  \
+        fields->status = TORKETTLE_OK;                                                                                 \
+        fields->index = fields->offset = fields->length = fields->next_index = fields->next_offset = 0;                \
+        fields->text = NULL;                                                                                           \
+        fields->rest = text;                                                                                           \
+        fields->rest_length = length;                                                                                  \
+        fields->separator = separator;                                                                                 \
+        fields->is_lines = 0;                                                                                          \
+    }                                                                                                                  \
+                                                                                                                       \
+    static inline void torkettle_fields_##name##_init_lines(torkettle_fields_##name *fields, const char *text,         \
+                                                            size_t length) TORKETTLE_NOEXCEPT                          \
+    {                                                                                                                  \
+        torkettle_fields_##name##_init(fields, text, length, '\n');                                                    \
+        fields->is_lines = 1;                                                                                          \
+    }                                                                                                                  \
+                                                                                                                       \
+    static inline void torkettle_fields_##name##_starting_at(torkettle_fields_##name *fields, size_t index,            \
+                                                             size_t offset) TORKETTLE_NOEXCEPT                         \
+    {                                                                                                                  \
+        fields->next_index = index;                                                                                    \
+        fields->next_offset = offset;                                                                                  \
+    }                                                                                                                  \
+                                                                                                                       \
+    static inline bool torkettle_fields_##name##_next(torkettle_fields_##name *fields, type *value) TORKETTLE_NOEXCEPT \
+    {                                                                                                                  \
+        torkettle_found_##name found = torkettle_next_field_##name(fields);                                            \
+        if (found.length == 1)                                                                                         \
+            *value = found.value;                                                                                      \
+        return found.length != 0;                                                                                      \
     }
 
 TORKETTLE_FUNCTIONS_(i8, int8_t)

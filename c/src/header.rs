@@ -1,7 +1,7 @@
 //! Whether `include/torkettle.h` declares each function as it is exported, and each struct as it is
 //! laid out: a C compiler compares them.
 
-use crate::{CheckedColumn, Error, Found, Values};
+use crate::{CheckedColumn, CheckedFields, Error, Found, Values};
 use std::env;
 use std::ffi::{c_char, c_uint};
 use std::io::Write;
@@ -85,6 +85,12 @@ impl<T: Integer> InC for *mut CheckedColumn<'_, T> {
     }
 }
 
+impl<T: Integer> InC for *mut CheckedFields<T> {
+    fn name() -> String {
+        format!("torkettle_fields_{} *", T::NAME)
+    }
+}
+
 /// A function that C calls.
 pub trait Function {
     /// Its type in C.
@@ -149,6 +155,7 @@ fn layout_of_error() -> Vec<String> {
 
 fn layouts_of<T: Integer>() -> Vec<String> {
     let (found, column) = (Found::<T>::name(), format!("torkettle_column_{}", T::NAME));
+    let fields = format!("torkettle_fields_{}", T::NAME);
     vec![
         size(&found, size_of::<Found<T>>()),
         field!(&found, Found<T>, value, T::IN_C),
@@ -157,6 +164,18 @@ fn layouts_of<T: Integer>() -> Vec<String> {
         field!(&column, CheckedColumn<'_, T>, status, "torkettle_status"),
         field!(&column, CheckedColumn<'_, T>, index, "size_t"),
         field!(&column, CheckedColumn<'_, T>, offset, "size_t"),
+        size(&fields, size_of::<CheckedFields<T>>()),
+        field!(&fields, CheckedFields<T>, status, "torkettle_status"),
+        field!(&fields, CheckedFields<T>, index, "size_t"),
+        field!(&fields, CheckedFields<T>, offset, "size_t"),
+        field!(&fields, CheckedFields<T>, text, "const char *"),
+        field!(&fields, CheckedFields<T>, length, "size_t"),
+        field!(&fields, CheckedFields<T>, next_index, "size_t"),
+        field!(&fields, CheckedFields<T>, next_offset, "size_t"),
+        field!(&fields, CheckedFields<T>, rest, "const char *"),
+        field!(&fields, CheckedFields<T>, rest_length, "size_t"),
+        field!(&fields, CheckedFields<T>, separator, "char"),
+        field!(&fields, CheckedFields<T>, is_lines, "char"),
     ]
 }
 

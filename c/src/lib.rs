@@ -12,9 +12,10 @@ mod header;
 mod stop;
 
 use core::ffi::{CStr, c_char, c_uint};
+use core::marker::PhantomData;
 use core::ptr;
 use core::slice::{from_raw_parts, from_raw_parts_mut};
-use torkettle::column::{Column, ColumnError, is_separator};
+use torkettle::column::{Column, ColumnError, FieldError, Fields, is_separator};
 use torkettle::formats::json_integer;
 use torkettle::{AtoiSimdError, Parse, parse, parse_prefix};
 
@@ -61,6 +62,25 @@ pub struct CheckedColumn<'a, T: Parse> {
     index: usize,
     offset: usize,
     column: Column<'a, T>,
+}
+
+/// `torkettle_fields_i64`, and so on.
+#[repr(C)]
+pub struct CheckedFields<T> {
+    // About the bad field at which the last call stopped.
+    status: c_uint,
+    index: usize,
+    offset: usize,
+    text: *const c_char,
+    length: usize,
+    // Where the next field begins.
+    next_index: usize,
+    next_offset: usize,
+    rest: *const c_char,
+    rest_length: usize,
+    separator: c_char,
+    is_lines: c_char,
+    values: PhantomData<T>,
 }
 
 // C says how many words a column has.
@@ -264,6 +284,100 @@ impl<'a, T: Parse> CheckedColumn<'a, T> {
     }
 }
 
+// What `torkettle_next_field_i64` found, and so on: the length of its result.
+const END: usize = 0;
+const NUMBER: usize = 1;
+const BAD_FIELD: usize = 2;
+
+impl<T: Parse + Default> CheckedFields<T> {
+    /// # Safety
+    ///
+    /// `rest` points to `rest_length` bytes that nothing writes, or `rest_length` is 0.
+    #[inline(always)]
+    unsafe fn next(&mut self) -> Found<T> {
+        let Some(mut fields) = (unsafe { self.fields() }) else {
+            self.refuse_separator();
+            return Found { value: T::default(), length: BAD_FIELD };
+        };
+        self.status = OK;
+        let found = match fields.next() {
+            Some(Ok(value)) => Found { value, length: NUMBER },
+            Some(Err(error)) => {
+                self.refuse(&error);
+                Found { value: T::default(), length: BAD_FIELD }
+            }
+            None => Found { value: T::default(), length: END },
+        };
+        self.go_on_after(&fields);
+        found
+    }
+
+    /// Writes the next numbers to `values`, at most `count`, and returns how many they are.
+    ///
+    /// # Safety
+    ///
+    /// As for `next`, and `values` has room for as many numbers as are written.
+    #[inline(always)]
+    unsafe fn read(&mut self, values: Values<T>, count: usize) -> usize {
+        let Some(mut fields) = (unsafe { self.fields() }) else {
+            self.refuse_separator();
+            return 0;
+        };
+        self.status = OK;
+        let mut read = 0;
+        while read < count {
+            match fields.next() {
+                Some(Ok(value)) => unsafe { values.0.add(read).write(value) },
+                Some(Err(error)) => {
+                    self.refuse(&error);
+                    break;
+                }
+                None => break,
+            }
+            read += 1;
+        }
+        self.go_on_after(&fields);
+        read
+    }
+
+    // The fields that are left, counted from 0, unless the separator is a digit or a sign.
+    #[inline(always)]
+    unsafe fn fields<'a>(&self) -> Option<Fields<'a, T>> {
+        let rest = unsafe { bytes(self.rest, self.rest_length) };
+        match self.separator as u8 {
+            _ if self.is_lines != 0 => Some(Fields::lines(rest)),
+            separator if is_separator(separator) => Some(Fields::new(rest, separator)),
+            _ => None,
+        }
+    }
+
+    #[inline(always)]
+    fn go_on_after(&mut self, fields: &Fields<'_, T>) {
+        let (index, place) = fields.position();
+        self.next_index = self.next_index.wrapping_add(index);
+        self.next_offset = self.next_offset.wrapping_add(place);
+        self.rest = self.rest.wrapping_add(place);
+        self.rest_length -= place;
+    }
+
+    #[cold]
+    fn refuse(&mut self, error: &FieldError<'_>) {
+        self.status = status(&error.cause);
+        self.index = self.next_index.wrapping_add(error.index);
+        self.offset = self.next_offset.wrapping_add(error.place);
+        self.text = error.text.as_ptr().cast();
+        self.length = error.text.len();
+    }
+
+    // Tells of the separator as of one bad field, after which the fields end.
+    #[cold]
+    fn refuse_separator(&mut self) {
+        (self.status, self.index, self.offset) = (INVALID, usize::MAX, usize::MAX);
+        (self.text, self.length) = (ptr::null(), 0);
+        (self.rest_length, self.separator) = (0, b',' as c_char);
+    }
+}
+
 // Defines functions that C calls, and for a test a list of their declarations in C. What a caller has to
 // see to, the header says.
 macro_rules! exports {
@@ -361,6 +475,18 @@ macro_rules! exports_of_types {
                 count: usize
             ) -> usize {
                 (*column).read(values, count)
+            }
+            concat!("torkettle_next_field_", stringify!($type)) =>
+            fn next_field(fields: *mut CheckedFields<$type>) -> Found<$type> {
+                (*fields).next()
+            }
+            concat!("torkettle_fields_", stringify!($type), "_read") =>
+            fn read_fields(
+                fields: *mut CheckedFields<$type>,
+                values: Values<$type>,
+                count: usize
+            ) -> usize {
+                (*fields).read(values, count)
             }
         })*
 

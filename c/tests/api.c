@@ -363,6 +363,97 @@ static int is_error(torkettle_error error, torkettle_status status, unsigned bit
         CHECK(value == UNTOUCHED_##name && count == 999);                                                              \
     }                                                                                                                  \
                                                                                                                        \
+    static int number_##name(torkettle_fields_##name *fields, type number)                                             \
+    {                                                                                                                  \
+        type value = UNTOUCHED_##name;                                                                                 \
+        return torkettle_fields_##name##_next(fields, &value) && value == number && fields->status == TORKETTLE_OK;    \
+    }                                                                                                                  \
+                                                                                                                       \
+    static int is_bad_##name(const torkettle_fields_##name *fields, torkettle_status status, size_t index,             \
+                             size_t offset, const char *text)                                                          \
+    {                                                                                                                  \
+        return fields->status == status && fields->index == index && fields->offset == offset &&                       \
+               fields->length == strlen(text) && memcmp(fields->text, text, fields->length) == 0;                      \
+    }                                                                                                                  \
+                                                                                                                       \
+    static int bad_##name(torkettle_fields_##name *fields, torkettle_status status, size_t index, size_t offset,       \
+                          const char *text)                                                                            \
+    {                                                                                                                  \
+        type value = UNTOUCHED_##name;                                                                                 \
+        return torkettle_fields_##name##_next(fields, &value) && value == UNTOUCHED_##name &&                          \
+               is_bad_##name(fields, status, index, offset, text);                                                     \
+    }                                                                                                                  \
+                                                                                                                       \
+    static int end_##name(torkettle_fields_##name *fields, size_t index, size_t offset)                                \
+    {                                                                                                                  \
+        type value = UNTOUCHED_##name;                                                                                 \
+        int is_end = 1, at;                                                                                            \
+        for (at = 0; at < 2; at++) {                                                                                   \
+            is_end &= !torkettle_fields_##name##_next(fields, &value) && fields->status == TORKETTLE_OK;               \
+            is_end &= torkettle_fields_##name##_read(fields, &value, 1) == 0 && fields->status == TORKETTLE_OK;        \
+            is_end &= value == UNTOUCHED_##name && fields->next_index == index && fields->next_offset == offset;       \
+        }                                                                                                              \
+        return is_end;                                                                                                 \
+    }                                                                                                                  \
+                                                                                                                       \
+    static void check_refused_separators_##name(void)                                                                  \
+    {                                                                                                                  \
+        const char *type_name = #name;                                                                                 \
+        const char *refused = "0123456789+-";                                                                          \
+        size_t at;                                                                                                     \
+        for (at = 0; at < strlen(refused); at++) {                                                                     \
+            torkettle_fields_##name fields;                                                                            \
+            type value = UNTOUCHED_##name;                                                                             \
+            torkettle_fields_##name##_init(&fields, "1", at & 1, refused[at]);                                         \
+            if (at < 6)                                                                                                \
+                CHECK(torkettle_fields_##name##_next(&fields, &value));                                                \
+            else                                                                                                       \
+                CHECK(torkettle_fields_##name##_read(&fields, &value, 1) == 0);                                        \
+            CHECK(fields.status == TORKETTLE_INVALID && fields.index == SIZE_MAX && fields.offset == SIZE_MAX);        \
+            CHECK(fields.text == NULL && fields.length == 0 && value == UNTOUCHED_##name);                             \
+            CHECK(end_##name(&fields, 0, 0));                                                                          \
+        }                                                                                                              \
+    }                                                                                                                  \
+                                                                                                                       \
+    static void check_fields_##name(const char *above)                                                                 \
+    {                                                                                                                  \
+        const char *type_name = #name;                                                                                 \
+        torkettle_fields_##name fields, copy;                                                                          \
+        type values[] = {UNTOUCHED_##name, UNTOUCHED_##name, UNTOUCHED_##name};                                        \
+        char input[80], *text;                                                                                         \
+        snprintf(input, sizeof input, "1,x,+3,,2x;,%s,7,", above);                                                     \
+        text = exact(input);                                                                                           \
+        memset(&fields, 0x5A, sizeof fields);                                                                          \
+        torkettle_fields_##name##_init(&fields, text, strlen(input), ',');                                             \
+        CHECK(number_##name(&fields, 1) && fields.next_index == 1 && fields.next_offset == 2);                         \
+        CHECK(bad_##name(&fields, TORKETTLE_EMPTY, 1, 2, "x") && fields.text == text + 2);                             \
+        CHECK(number_##name(&fields, 3) && bad_##name(&fields, TORKETTLE_EMPTY, 3, 7, ""));                            \
+        copy = fields;                                                                                                 \
+        CHECK(bad_##name(&fields, TORKETTLE_INVALID, 4, 8, "2x;"));                                                    \
+        CHECK(bad_##name(&fields, TORKETTLE_OVERFLOW, 5, 12, above));                                                  \
+        CHECK(number_##name(&fields, 7) && end_##name(&fields, 7, strlen(input)));                                     \
+        torkettle_fields_##name##_starting_at(&copy, SIZE_MAX, 100);                                                   \
+        CHECK(torkettle_fields_##name##_read(&copy, values, 3) == 0 && values[0] == UNTOUCHED_##name);                 \
+        CHECK(is_bad_##name(&copy, TORKETTLE_INVALID, SIZE_MAX, 100, "2x;") && copy.next_index == 0);                  \
+        CHECK(bad_##name(&copy, TORKETTLE_OVERFLOW, 0, 104, above) && number_##name(&copy, 7));                        \
+        free(text);                                                                                                    \
+        text = exact("1\r\n2\n3\r4\n+5\r\n\r\n6\r");                                                                   \
+        torkettle_fields_##name##_init_lines(&fields, text, 17);                                                       \
+        CHECK(torkettle_fields_##name##_read(&fields, NULL, 0) == 0 && fields.status == TORKETTLE_OK);                 \
+        CHECK(torkettle_fields_##name##_read(&fields, values, 2) == 2 && fields.status == TORKETTLE_OK);               \
+        CHECK(values[0] == 1 && values[1] == 2 && values[2] == UNTOUCHED_##name);                                      \
+        CHECK(fields.next_index == 2 && fields.next_offset == 5);                                                      \
+        CHECK(torkettle_fields_##name##_read(&fields, values, SIZE_MAX) == 0 && values[0] == 1);                       \
+        CHECK(is_bad_##name(&fields, TORKETTLE_INVALID, 2, 5, "3\r4"));                                                \
+        CHECK(torkettle_fields_##name##_read(&fields, values, SIZE_MAX) == 1 && values[0] == 5 && values[1] == 2);     \
+        CHECK(is_bad_##name(&fields, TORKETTLE_EMPTY, 4, 13, ""));                                                     \
+        CHECK(bad_##name(&fields, TORKETTLE_INVALID, 5, 15, "6\r") && end_##name(&fields, 6, 17));                     \
+        free(text);                                                                                                    \
+        torkettle_fields_##name##_init(&fields, NULL, 0, '\n');                                                        \
+        CHECK(end_##name(&fields, 0, 0));                                                                              \
+        check_refused_separators_##name();                                                                             \
+    }                                                                                                                  \
+                                                                                                                       \
     static void check_##name(const char *smallest, const char *below, type min, const char *largest,                   \
                              const char *above, type max)                                                              \
     {                                                                                                                  \
@@ -371,6 +462,7 @@ static int is_error(torkettle_error error, torkettle_status status, unsigned bit
         check_errors_##name(above);                                                                                    \
         check_json_##name(smallest, below, min, largest, above, max);                                                  \
         check_columns_##name(above);                                                                                   \
+        check_fields_##name(above);                                                                                    \
     }
 
 DEFINE_CHECKS(i8, int8_t, true, 32, 0)
