@@ -1,4 +1,5 @@
-//! The C library beside `std::from_chars`, called from one C++ program, and its column from C.
+//! The C library beside `std::from_chars`, called from one C++ program, and its columns from C, read
+//! by calls of `_read` and beside that by calls of `_next`.
 
 use super::cargo::release_of;
 use super::package::Package;
@@ -12,6 +13,7 @@ use std::process::Command;
 
 const OURS: &str = "ours_";
 const STANDARD: &str = "std_";
+const NEXT: &str = "next_";
 
 /// The C library, and then what is beside it.
 pub fn builds(cache: &Cache, package: &Package) -> Result<Vec<Build>, String> {
@@ -35,9 +37,11 @@ pub fn builds(cache: &Cache, package: &Package) -> Result<Vec<Build>, String> {
         let build = Build::of_both(name, placed.clone());
         Build { prefix, has_loops: true, ..build }
     };
+    let next = build(String::from("the column in C, by _next"), NEXT);
     Ok(vec![
-        build(String::from("torkettle::from_chars, and the column in C"), OURS),
+        build(String::from("torkettle::from_chars, and the column in C, by _read"), OURS),
         build(format!("std::from_chars, g++ {}", compilers[0]), STANDARD),
+        Build { calls: None, ..next },
     ])
 }
 
@@ -94,8 +98,9 @@ impl Sources {
         for integer in types {
             let name = Shape::export(*integer);
             c += &column(&format!("{OURS}{name}"), *integer);
+            c += &column_by_next(&format!("{NEXT}{name}"), *integer);
             cpp += &cpp::column(&format!("{STANDARD}{name}"), *integer);
-            names.extend([format!("{OURS}{name}"), format!("{STANDARD}{name}")]);
+            names.extend([OURS, STANDARD, NEXT].map(|prefix| format!("{prefix}{name}")));
         }
         Sources { cpp, c, names }
     }
@@ -146,8 +151,31 @@ extern "C" uint64_t {name}(const uint8_t *text, size_t size) {{
     )
 }
 
-// A loop over a column, in C.
+// A loop over a column, in C, of which each call reads many numbers.
 fn column(name: &str, integer: Integer) -> String {
+    let [c_type, unsigned] = cpp::types(integer);
+    let column = format!("torkettle_column_{}", integer.name());
+    format!(
+        r#"
+uint64_t {name}(const uint8_t *text, size_t size) {{
+    {column} column;
+    {c_type} values[128];
+    uint64_t sum = 0;
+    size_t count;
+    {column}_init(&column, (const char *)text, size, ',');
+    do {{
+        count = {column}_read(&column, values, 128);
+        for (size_t at = 0; at < count; at++)
+            sum += (uint64_t)({unsigned})values[at];
+    }} while (count == 128);
+    return column.status == TORKETTLE_OK ? sum : ERROR;
+}}
+"#
+    )
+}
+
+// The same, but each call reads one number.
+fn column_by_next(name: &str, integer: Integer) -> String {
     let [c_type, unsigned] = cpp::types(integer);
     let column = format!("torkettle_column_{}", integer.name());
     format!(
