@@ -1,4 +1,5 @@
-// Torkettle for C++17: `torkettle::from_chars`, with the results of `std::from_chars`, and integers of JSON.
+// Torkettle for C++17: `torkettle::from_chars`, with the results of `std::from_chars`, integers of JSON, and ranges
+// over the numbers of a text. Nothing here throws or allocates.
 //
 // Link with the library that torkettle.h describes.
 #ifndef TORKETTLE_HPP
@@ -8,6 +9,7 @@
 
 #include <charconv>
 #include <cstddef>
+#include <iterator>
 #include <optional>
 #include <string_view>
 #include <system_error>
@@ -37,6 +39,16 @@ struct functions;
         static auto json(const char *text, std::size_t length) noexcept                                                \
         {                                                                                                              \
             return torkettle_prefix_json_##name(text, length);                                                         \
+        }                                                                                                              \
+        using fields = torkettle_fields_##name;                                                                        \
+        static auto next(fields &state) noexcept                                                                       \
+        {                                                                                                              \
+            return torkettle_next_field_##name(&state);                                                                \
+        }                                                                                                              \
+        static std::size_t read(fields &state, void *values, std::size_t count) noexcept                               \
+        {                                                                                                              \
+            using number = decltype(torkettle_found_##name::value);                                                    \
+            return torkettle_fields_##name##_read(&state, static_cast<number *>(values), count);                       \
         }                                                                                                              \
     };
 
@@ -128,6 +140,196 @@ inline std::optional<std::pair<T, std::string_view>> json_integer(std::string_vi
         return std::nullopt;
     text.remove_prefix(found.length);
     return std::pair(static_cast<T>(found.value), text);
+}
+
+// A field of a text: a number, or an error.
+template <class T>
+struct item {
+    // The number, which may have leading zeros, and a `+` or, if the type is signed, a `-` before it.
+    std::optional<T> value;
+    // `std::errc()` for a number. Otherwise `std::errc::invalid_argument` if no digit is at the start,
+    // `std::errc::result_out_of_range` if the digits there spell no number of the type, and else, because another byte
+    // follows them, `std::errc::invalid_argument`.
+    std::errc error = std::errc();
+    // The bytes of a field that is no number, without the separator. Empty for a number.
+    std::string_view text;
+    // How many fields precede it, and the offset at which it begins.
+    std::size_t index = 0;
+    std::size_t offset = 0;
+};
+
+namespace detail {
+
+// The items of a text, read once: a loop goes on where the last one ended. If `ends`, the first error is the last item.
+template <class T, bool ends>
+class range {
+    static_assert(is_integer<T>, "T is an integer type that std::from_chars takes");
+
+public:
+    // An input iterator. It reads on in the range that it was made by, and is equal to `end()` when nothing is left.
+    class iterator {
+    public:
+        using iterator_category = std::input_iterator_tag;
+        using value_type = item<T>;
+        using difference_type = std::ptrdiff_t;
+        using pointer = const item<T> *;
+        using reference = const item<T> &;
+
+        iterator() noexcept = default;
+        explicit iterator(range &all) noexcept : items(&all)
+        {
+            ++*this;
+        }
+        reference operator*() const noexcept
+        {
+            return current;
+        }
+        pointer operator->() const noexcept
+        {
+            return &current;
+        }
+        iterator &operator++() noexcept
+        {
+            if (!items->next(current))
+                items = nullptr;
+            return *this;
+        }
+        iterator operator++(int) noexcept
+        {
+            const iterator before = *this;
+            ++*this;
+            return before;
+        }
+        friend bool operator==(const iterator &left, const iterator &right) noexcept
+        {
+            return left.items == right.items;
+        }
+        friend bool operator!=(const iterator &left, const iterator &right) noexcept
+        {
+            return left.items != right.items;
+        }
+
+    private:
+        range *items = nullptr;
+        item<T> current;
+    };
+
+    // The fields of a text, which must stay as it is, with a separator between them. One more may follow the last. If
+    // the separator is a digit, `+` or `-`, there is one item, an error with the index and the offset SIZE_MAX.
+    range(std::string_view text, char separator) noexcept : range(text, separator, 0)
+    {
+    }
+
+    // The lines of a text. A line ends with "\n" or "\r\n", which is no part of it.
+    static range of_lines(std::string_view text) noexcept
+    {
+        return range(text, '\n', 1);
+    }
+
+    iterator begin() noexcept
+    {
+        return iterator(*this);
+    }
+    iterator end() const noexcept
+    {
+        return iterator();
+    }
+
+    // Reads the next field into `field`. At the end, returns false, and leaves `field` as it is.
+    bool next(item<T> &field) noexcept
+    {
+        const std::size_t index = state.next_index, offset = state.next_offset;
+        const auto found = functions::next(state);
+        if (found.length == 0)
+            return false;
+        if (found.length == 1)
+            field = {static_cast<T>(found.value), std::errc(), std::string_view(), index, offset};
+        else
+            field = refused();
+        return true;
+    }
+
+    // Reads the next numbers into `values`, at most `count`, and returns how many they are: fewer only at the end and
+    // at an error, which `error_item` then returns. The next call goes on after it. This is faster than a loop.
+    std::size_t read(T *values, std::size_t count) noexcept
+    {
+        const std::size_t numbers = functions::read(state, values, count);
+        if (state.status != TORKETTLE_OK)
+            refused();
+        return numbers;
+    }
+
+    // Returns the error at which the last call of `read` or `next` stopped, or nothing if it stopped at none.
+    std::optional<item<T>> error_item() const noexcept
+    {
+        if (state.status == TORKETTLE_OK)
+            return std::nullopt;
+        return error();
+    }
+
+    // Returns the same fields, but with this index and this offset of the next one. So a long text can be read by
+    // pieces that end with a separator: each starts at `next_index` and `next_offset` of the one before it.
+    range starting_at(std::size_t index, std::size_t offset) const noexcept
+    {
+        range other = *this;
+        other.state.next_index = index;
+        other.state.next_offset = offset;
+        return other;
+    }
+
+    // The index of the next field: at the end, how many fields there are.
+    std::size_t next_index() const noexcept
+    {
+        return state.next_index;
+    }
+
+    // The offset at which the next field begins: at the end, that of the text's end.
+    std::size_t next_offset() const noexcept
+    {
+        return state.next_offset;
+    }
+
+private:
+    using functions = functions_of<T>;
+
+    range(std::string_view text, char separator, char is_lines) noexcept
+        : state{TORKETTLE_OK, 0, 0, nullptr, 0, 0, 0, text.data(), text.size(), separator, is_lines}
+    {
+    }
+
+    item<T> error() const noexcept
+    {
+        const bool is_large = state.status == TORKETTLE_SIZE || state.status == TORKETTLE_OVERFLOW;
+        const auto code = is_large ? std::errc::result_out_of_range : std::errc::invalid_argument;
+        return {std::nullopt, code, std::string_view(state.text, state.length), state.index, state.offset};
+    }
+
+    item<T> refused() noexcept
+    {
+        if (ends)
+            state.rest_length = 0;
+        return error();
+    }
+
+    typename functions::fields state;
+};
+
+} // namespace detail
+
+// The fields of a text, for a `for` loop and for algorithms: `torkettle::fields<int>(text, ',')`. They go on after an
+// error.
+template <class T>
+using fields = detail::range<T, false>;
+
+// The same, but they end at the first error, which is the last item.
+template <class T>
+using column = detail::range<T, true>;
+
+// The lines of a text, as fields.
+template <class T>
+inline fields<T> lines(std::string_view text) noexcept
+{
+    return fields<T>::of_lines(text);
 }
 
 } // namespace torkettle
