@@ -79,7 +79,7 @@ impl<T: Integer> InC for Values<T> {
     }
 }
 
-impl<T: Integer> InC for *mut CheckedColumn<'_, T> {
+impl<T: Integer> InC for *mut CheckedColumn<T> {
     fn name() -> String {
         format!("torkettle_column_{} *", T::NAME)
     }
@@ -128,13 +128,19 @@ fn size(name: &str, bytes: usize) -> String {
     asserted(&format!("sizeof({name}) == {bytes}"))
 }
 
-// A field, by the name that Rust and C both have for it.
+// A field, by the name that Rust and C both have for it. C has the fields of `Rest` in the struct itself.
 macro_rules! field {
-    ($name:expr, $type:ty, $field:ident, $in_c:expr) => {{
-        let (name, field, place) = ($name, stringify!($field), offset_of!($type, $field));
-        let types = same_types(&format!("__typeof__((({name} *)0)->{field})"), $in_c);
-        asserted(&format!("offsetof({name}, {field}) == {place}")) + &types
-    }};
+    ($name:expr, $type:ty, rest.$field:ident, $in_c:expr) => {
+        field($name, stringify!($field), offset_of!($type, rest.$field), $in_c)
+    };
+    ($name:expr, $type:ty, $field:ident, $in_c:expr) => {
+        field($name, stringify!($field), offset_of!($type, $field), $in_c)
+    };
+}
+
+fn field(name: &str, field: &str, place: usize, in_c: &str) -> String {
+    let types = same_types(&format!("__typeof__((({name} *)0)->{field})"), in_c);
+    asserted(&format!("offsetof({name}, {field}) == {place}")) + &types
 }
 
 fn layout_of_error() -> Vec<String> {
@@ -160,22 +166,22 @@ fn layouts_of<T: Integer>() -> Vec<String> {
         size(&found, size_of::<Found<T>>()),
         field!(&found, Found<T>, value, T::IN_C),
         field!(&found, Found<T>, length, "size_t"),
-        size(&column, size_of::<CheckedColumn<'_, T>>()),
-        field!(&column, CheckedColumn<'_, T>, status, "torkettle_status"),
-        field!(&column, CheckedColumn<'_, T>, index, "size_t"),
-        field!(&column, CheckedColumn<'_, T>, offset, "size_t"),
+        size(&column, size_of::<CheckedColumn<T>>()),
+        field!(&column, CheckedColumn<T>, status, "torkettle_status"),
+        field!(&column, CheckedColumn<T>, index, "size_t"),
+        field!(&column, CheckedColumn<T>, offset, "size_t"),
         size(&fields, size_of::<CheckedFields<T>>()),
         field!(&fields, CheckedFields<T>, status, "torkettle_status"),
         field!(&fields, CheckedFields<T>, index, "size_t"),
         field!(&fields, CheckedFields<T>, offset, "size_t"),
         field!(&fields, CheckedFields<T>, text, "const char *"),
         field!(&fields, CheckedFields<T>, length, "size_t"),
-        field!(&fields, CheckedFields<T>, next_index, "size_t"),
-        field!(&fields, CheckedFields<T>, next_offset, "size_t"),
-        field!(&fields, CheckedFields<T>, rest, "const char *"),
-        field!(&fields, CheckedFields<T>, rest_length, "size_t"),
-        field!(&fields, CheckedFields<T>, separator, "char"),
-        field!(&fields, CheckedFields<T>, is_lines, "char"),
+        field!(&fields, CheckedFields<T>, rest.next_index, "size_t"),
+        field!(&fields, CheckedFields<T>, rest.next_offset, "size_t"),
+        field!(&fields, CheckedFields<T>, rest.rest, "const char *"),
+        field!(&fields, CheckedFields<T>, rest.rest_length, "size_t"),
+        field!(&fields, CheckedFields<T>, rest.separator, "char"),
+        field!(&fields, CheckedFields<T>, rest.is_lines, "char"),
     ]
 }
 

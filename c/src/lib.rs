@@ -15,7 +15,7 @@ use core::ffi::{CStr, c_char, c_uint};
 use core::marker::PhantomData;
 use core::ptr;
 use core::slice::{from_raw_parts, from_raw_parts_mut};
-use torkettle::column::{Column, ColumnError, FieldError, Fields, is_separator};
+use torkettle::column::{FieldError, Fields, is_separator};
 use torkettle::formats::json_integer;
 use torkettle::{AtoiSimdError, Parse, parse, parse_prefix};
 
@@ -55,13 +55,25 @@ pub struct Error {
     value_high: u64,
 }
 
+/// What is left to read of a text, and where it begins.
+#[repr(C)]
+pub struct Rest {
+    next_index: usize,
+    next_offset: usize,
+    rest: *const c_char,
+    rest_length: usize,
+    separator: c_char,
+    is_lines: c_char,
+}
+
 /// `torkettle_column_i64`, and so on.
 #[repr(C)]
-pub struct CheckedColumn<'a, T: Parse> {
+pub struct CheckedColumn<T> {
     status: c_uint,
     index: usize,
     offset: usize,
-    column: Column<'a, T>,
+    rest: Rest,
+    values: PhantomData<T>,
 }
 
 /// `torkettle_fields_i64`, and so on.
@@ -73,18 +85,12 @@ pub struct CheckedFields<T> {
     offset: usize,
     text: *const c_char,
     length: usize,
-    // Where the next field begins.
-    next_index: usize,
-    next_offset: usize,
-    rest: *const c_char,
-    rest_length: usize,
-    separator: c_char,
-    is_lines: c_char,
+    rest: Rest,
     values: PhantomData<T>,
 }
 
-// C says how many words a column has.
-const _: () = assert!(size_of::<Column<'_, i128>>() == size_of::<[u64; 5]>());
+// C says how many words of a column are for the library.
+const _: () = assert!(size_of::<Rest>() == size_of::<[u64; 5]>());
 
 /// # Safety
 ///
@@ -225,22 +231,100 @@ impl Error {
     }
 }
 
-impl<'a, T: Parse> CheckedColumn<'a, T> {
-    // No field can be separated by a digit or a sign, which is an error of no field.
-    fn new(text: &'a [u8], separator: u8) -> Self {
-        if is_separator(separator) {
-            let column = Column::new(text, separator);
-            CheckedColumn { status: OK, index: 0, offset: 0, column }
+impl Rest {
+    fn new(text: *const c_char, length: usize, separator: c_char) -> Rest {
+        let (next_index, next_offset, is_lines) = (0, 0, 0);
+        Rest { next_index, next_offset, rest: text, rest_length: length, separator, is_lines }
+    }
+
+    /// The fields that are left, counted from 0, unless the separator is a digit or a sign.
+    ///
+    /// # Safety
+    ///
+    /// `rest` points to `rest_length` bytes that nothing writes, or `rest_length` is 0.
+    #[inline(always)]
+    unsafe fn separated<'a, T: Parse>(&self) -> Option<Fields<'a, T>> {
+        let (rest, separator) =
+            (unsafe { bytes(self.rest, self.rest_length) }, self.separator as u8);
+        is_separator(separator).then(|| Fields::new(rest, separator))
+    }
+
+    /// The same, but these may be lines.
+    ///
+    /// # Safety
+    ///
+    /// As for `separated`.
+    #[inline(always)]
+    unsafe fn fields<'a, T: Parse>(&self) -> Option<Fields<'a, T>> {
+        if self.is_lines == 0 {
+            unsafe { self.separated() }
         } else {
-            let column = Column::new(&[], b',');
-            CheckedColumn { status: INVALID, index: usize::MAX, offset: usize::MAX, column }
+            Some(Fields::lines(unsafe { bytes(self.rest, self.rest_length) }))
         }
     }
 
     #[inline(always)]
-    fn next(&mut self) -> Option<T> {
-        match self.column.next()? {
-            Ok(value) => Some(value),
+    fn go_on_after<T: Parse>(&mut self, fields: &Fields<'_, T>) {
+        let (index, place) = fields.position();
+        self.next_index = self.next_index.wrapping_add(index);
+        self.next_offset = self.next_offset.wrapping_add(place);
+        self.rest = self.rest.wrapping_add(place);
+        self.rest_length -= place;
+    }
+}
+
+/// Writes the next numbers to `values`, at most `count`. Returns how many they are, and the bad field at
+/// which it stopped. The fields stay in registers, because no number is written into them.
+///
+/// # Safety
+///
+/// `values` has room for as many numbers as are written.
+#[inline(always)]
+unsafe fn read_numbers<'a, T: Parse>(
+    fields: &mut Fields<'a, T>,
+    values: Values<T>,
+    count: usize,
+) -> (usize, Option<FieldError<'a>>) {
+    let mut read = 0;
+    while read < count {
+        match fields.next() {
+            Some(Ok(value)) => unsafe { values.0.add(read).write(value) },
+            Some(Err(error)) => return (read, Some(error)),
+            None => break,
+        }
+        read += 1;
+    }
+    (read, None)
+}
+
+impl<T: Parse> CheckedColumn<T> {
+    // No field can be separated by a digit or a sign, which is an error of no field.
+    fn new(text: *const c_char, length: usize, separator: c_char) -> Self {
+        let column = |status, place, rest| Self {
+            status,
+            index: place,
+            offset: place,
+            rest,
+            values: PhantomData,
+        };
+        if is_separator(separator as u8) {
+            column(OK, 0, Rest::new(text, length, separator))
+        } else {
+            column(INVALID, usize::MAX, Rest::new(ptr::null(), 0, b',' as c_char))
+        }
+    }
+
+    /// # Safety
+    ///
+    /// As for `Rest::separated`.
+    #[inline(always)]
+    unsafe fn next(&mut self) -> Option<T> {
+        let mut fields = unsafe { self.rest.separated() }?;
+        match fields.next()? {
+            Ok(value) => {
+                self.rest.go_on_after(&fields);
+                Some(value)
+            }
             Err(error) => {
                 self.refuse(&error);
                 None
@@ -248,39 +332,29 @@ impl<'a, T: Parse> CheckedColumn<'a, T> {
         }
     }
 
-    /// Writes the next numbers to `values`, at most `count`, and returns how many they are.
-    ///
     /// # Safety
     ///
-    /// `values` has room for as many numbers as are written.
+    /// As for `next` and `read_numbers`.
     #[inline(always)]
     unsafe fn read(&mut self, values: Values<T>, count: usize) -> usize {
-        // A copy stays in registers: no number is written into it.
-        let mut column = unsafe { ptr::read(&self.column) };
-        let mut read = 0;
-        while read < count {
-            match column.next() {
-                Some(Ok(value)) => unsafe { values.0.add(read).write(value) },
-                Some(Err(error)) => {
-                    self.refuse(&error);
-                    break;
-                }
-                None => break,
-            }
-            read += 1;
+        let Some(mut fields) = (unsafe { self.rest.separated() }) else { return 0 };
+        let (read, bad) = unsafe { read_numbers(&mut fields, values, count) };
+        match bad {
+            None => self.rest.go_on_after(&fields),
+            Some(error) => self.refuse(&error),
         }
-        self.column = column;
         read
     }
 
+    // Ends the column.
     #[cold]
-    fn refuse(&mut self, error: &ColumnError<'_>) {
-        self.index = error.index();
-        self.offset = error.place();
-        self.status = match error {
-            ColumnError::Field { cause, .. } => status(cause),
-            ColumnError::Trailing { .. } => INVALID,
-        };
+    fn refuse(&mut self, bad: &FieldError<'_>) {
+        let told = error::<T>(Err(bad.cause), bad.text);
+        let digits = if told.status == INVALID { told.offset + told.count } else { 0 };
+        self.status = told.status;
+        self.index = self.rest.next_index + bad.index;
+        self.offset = self.rest.next_offset + bad.place + digits;
+        self.rest.rest_length = 0;
     }
 }
 
@@ -292,10 +366,10 @@ const BAD_FIELD: usize = 2;
 impl<T: Parse + Default> CheckedFields<T> {
     /// # Safety
     ///
-    /// `rest` points to `rest_length` bytes that nothing writes, or `rest_length` is 0.
+    /// As for `Rest::fields`.
     #[inline(always)]
     unsafe fn next(&mut self) -> Found<T> {
-        let Some(mut fields) = (unsafe { self.fields() }) else {
+        let Some(mut fields) = (unsafe { self.rest.fields() }) else {
             self.refuse_separator();
             return Found { value: T::default(), length: BAD_FIELD };
         };
@@ -308,65 +382,35 @@ impl<T: Parse + Default> CheckedFields<T> {
             }
             None => Found { value: T::default(), length: END },
         };
-        self.go_on_after(&fields);
+        self.rest.go_on_after(&fields);
         found
     }
 
-    /// Writes the next numbers to `values`, at most `count`, and returns how many they are.
-    ///
     /// # Safety
     ///
-    /// As for `next`, and `values` has room for as many numbers as are written.
+    /// As for `next` and `read_numbers`.
     #[inline(always)]
     unsafe fn read(&mut self, values: Values<T>, count: usize) -> usize {
-        let Some(mut fields) = (unsafe { self.fields() }) else {
+        let Some(mut fields) = (unsafe { self.rest.fields() }) else {
             self.refuse_separator();
             return 0;
         };
         self.status = OK;
-        let mut read = 0;
-        while read < count {
-            match fields.next() {
-                Some(Ok(value)) => unsafe { values.0.add(read).write(value) },
-                Some(Err(error)) => {
-                    self.refuse(&error);
-                    break;
-                }
-                None => break,
-            }
-            read += 1;
+        let (read, bad) = unsafe { read_numbers(&mut fields, values, count) };
+        if let Some(error) = bad {
+            self.refuse(&error);
         }
-        self.go_on_after(&fields);
+        self.rest.go_on_after(&fields);
         read
     }
 
-    // The fields that are left, counted from 0, unless the separator is a digit or a sign.
-    #[inline(always)]
-    unsafe fn fields<'a>(&self) -> Option<Fields<'a, T>> {
-        let rest = unsafe { bytes(self.rest, self.rest_length) };
-        match self.separator as u8 {
-            _ if self.is_lines != 0 => Some(Fields::lines(rest)),
-            separator if is_separator(separator) => Some(Fields::new(rest, separator)),
-            _ => None,
-        }
-    }
-
-    #[inline(always)]
-    fn go_on_after(&mut self, fields: &Fields<'_, T>) {
-        let (index, place) = fields.position();
-        self.next_index = self.next_index.wrapping_add(index);
-        self.next_offset = self.next_offset.wrapping_add(place);
-        self.rest = self.rest.wrapping_add(place);
-        self.rest_length -= place;
-    }
-
     #[cold]
-    fn refuse(&mut self, error: &FieldError<'_>) {
-        self.status = status(&error.cause);
-        self.index = self.next_index.wrapping_add(error.index);
-        self.offset = self.next_offset.wrapping_add(error.place);
-        self.text = error.text.as_ptr().cast();
-        self.length = error.text.len();
+    fn refuse(&mut self, bad: &FieldError<'_>) {
+        self.status = status(&bad.cause);
+        self.index = self.rest.next_index.wrapping_add(bad.index);
+        self.offset = self.rest.next_offset.wrapping_add(bad.place);
+        self.text = bad.text.as_ptr().cast();
+        self.length = bad.text.len();
     }
 
     // Tells of the separator as of one bad field, after which the fields end.
@@ -374,7 +418,7 @@ impl<T: Parse + Default> CheckedFields<T> {
     fn refuse_separator(&mut self) {
         (self.status, self.index, self.offset) = (INVALID, usize::MAX, usize::MAX);
         (self.text, self.length) = (ptr::null(), 0);
-        (self.rest_length, self.separator) = (0, b',' as c_char);
+        (self.rest.rest_length, self.rest.separator) = (0, b',' as c_char);
     }
 }
 
@@ -454,15 +498,15 @@ macro_rules! exports_of_types {
             }
             concat!("torkettle_column_", stringify!($type), "_init") =>
             fn start(
-                column: *mut CheckedColumn<'static, $type>,
+                column: *mut CheckedColumn<$type>,
                 text: *const c_char,
                 length: usize,
                 separator: c_char
             ) -> () {
-                column.write(CheckedColumn::new(bytes(text, length), separator as u8));
+                column.write(CheckedColumn::new(text, length, separator));
             }
             concat!("torkettle_next_", stringify!($type)) =>
-            fn next(column: *mut CheckedColumn<'static, $type>) -> Found<$type> {
+            fn next(column: *mut CheckedColumn<$type>) -> Found<$type> {
                 match (*column).next() {
                     Some(value) => Found { value, length: 1 },
                     None => Found { value: 0, length: 0 },
@@ -470,7 +514,7 @@ macro_rules! exports_of_types {
             }
             concat!("torkettle_column_", stringify!($type), "_read") =>
             fn read(
-                column: *mut CheckedColumn<'static, $type>,
+                column: *mut CheckedColumn<$type>,
                 values: Values<$type>,
                 count: usize
             ) -> usize {
