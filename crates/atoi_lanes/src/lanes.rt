@@ -32,14 +32,17 @@ fn lane_window(lanes: u8x16, size: u32) -> Window
         };
     }
     let len = others.trailing_zeros();
+    // In this order, LLVM keeps both cases apart.
+    let number = sum_lanes(lanes, len);
+    let zeroes = if size < 16 && len == size {
+        zeroes_lanes(lanes)
+    } else {
+        0
+    };
     Window {
         len,
-        zeroes: if size < 16 && len == size {
-            zeroes_lanes(lanes)
-        } else {
-            0
-        },
-        number: sum_lanes(lanes, len),
+        zeroes,
+        number,
     }
 }
 
