@@ -1,80 +1,136 @@
 /*
- * Adds up the numbers of its standard input, one per line.
+ * Adds up the numbers of its standard input, one on each line, and prints the lines that are not a number. It reads
+ * pieces that end with a line feed, so an input of any length needs little memory.
  *
  *     $ cc -O2 sum.c $(pkg-config --cflags --libs torkettle) -o sum
  *     $ ./sum < sum.stdin
  *     17 numbers
  *     sum 4831941775
  *     $ printf '200\n40x\n' | ./sum
- *     line 2: no number at byte 6
+ *     line 2 is skipped: "40x"
+ *     1 numbers
+ *     sum 200
  *
  * sum.stdout has what the second command prints.
  */
 #include <torkettle.h>
 
 #include <stdio.h>
-#include <stdlib.h>
+#include <string.h>
 
-/* Returns all that a file has, or NULL if it cannot be read. */
-static char *read_all(FILE *file, size_t *length)
+#define PIECE ((size_t)1 << 18)
+#define LONGEST_LINE ((size_t)1 << 20)
+
+/* What was read so far. */
+struct total {
+    size_t lines;
+    uint64_t numbers;
+    int64_t sum;
+    bool is_out_of_range;
+};
+
+static void add(struct total *total, int64_t number)
 {
-    size_t size = 4096;
-    char *text = (char *)malloc(size);
-    *length = 0;
-    while (text != NULL) {
-        *length += fread(text + *length, 1, size - *length, file);
-        if (*length < size)
-            break;
-        size *= 2;
-        char *larger = (char *)realloc(text, size);
-        if (larger == NULL)
-            free(text);
-        text = larger;
-    }
-    if (text != NULL && ferror(file)) {
-        free(text);
-        return NULL;
-    }
-    return text;
+    const int64_t sum = total->sum;
+    const bool has_room = number < 0 ? sum >= INT64_MIN - number : sum <= INT64_MAX - number;
+    total->numbers++;
+    if (has_room)
+        total->sum += number;
+    else
+        total->is_out_of_range = true;
 }
 
-static bool has_room(int64_t sum, int64_t value)
+/* Prints printable ASCII, and the other bytes as escapes. */
+static void print_escaped(const char *text, size_t length)
 {
-    return value < 0 ? sum >= INT64_MIN - value : sum <= INT64_MAX - value;
+    for (const char *at = text; at < text + length; at++) {
+        const unsigned char byte = (unsigned char)*at;
+        if (byte == '\t')
+            fputs("\\t", stdout);
+        else if (byte == '\r')
+            fputs("\\r", stdout);
+        else if (byte == '\n')
+            fputs("\\n", stdout);
+        else if (byte == '\'' || byte == '"' || byte == '\\')
+            printf("\\%c", byte);
+        else if (' ' <= byte && byte <= '~')
+            putchar(byte);
+        else
+            printf("\\x%02x", byte);
+    }
 }
 
-/* Adds up a column. Returns whether each of its fields is a number. */
-static bool print_sum(const char *text, size_t length)
+/* Adds up whole lines. */
+static void add_lines(struct total *total, const char *text, size_t length)
 {
-    torkettle_column_i64 column;
-    int64_t value, sum = 0;
-    size_t numbers = 0;
-    torkettle_column_i64_init(&column, text, length, '\n');
-    while (torkettle_column_i64_next(&column, &value)) {
-        numbers++;
-        if (!has_room(sum, value)) {
-            printf("line %zu: the sum is too large\n", numbers);
-            return false;
+    torkettle_fields_i64 lines;
+    int64_t numbers[256];
+    size_t count;
+    torkettle_fields_i64_init_lines(&lines, text, length);
+    torkettle_fields_i64_starting_at(&lines, total->lines, 0);
+    while ((count = torkettle_fields_i64_read(&lines, numbers, 256)) > 0 || lines.status != TORKETTLE_OK) {
+        for (size_t at = 0; at < count; at++)
+            add(total, numbers[at]);
+        if (lines.status != TORKETTLE_OK) {
+            printf("line %zu is skipped: \"", lines.index + 1);
+            print_escaped(lines.text, lines.length);
+            printf("\"\n");
         }
-        sum += value;
     }
-    if (column.status != TORKETTLE_OK) {
-        printf("line %zu: no number at byte %zu\n", column.index + 1, column.offset);
-        return false;
+    total->lines = lines.next_index;
+}
+
+/* Returns the length of the whole lines that a text begins with. */
+static size_t length_of_lines(const char *text, size_t length)
+{
+    while (length > 0 && text[length - 1] != '\n')
+        length--;
+    return length;
+}
+
+/* Skips what is left of a line that is too long. */
+static void skip_line(struct total *total, FILE *input)
+{
+    int byte = getc(input);
+    while (byte != EOF && byte != '\n')
+        byte = getc(input);
+    total->lines++;
+    printf("line %zu is skipped: more than %zu bytes\n", total->lines, LONGEST_LINE);
+}
+
+/* Adds up the lines of a file. The last one may have no line feed. */
+static void add_file(struct total *total, FILE *input)
+{
+    static char text[LONGEST_LINE + 1];
+    size_t length = 0;
+    for (;;) {
+        const size_t room = LONGEST_LINE + 1 - length;
+        const size_t count = fread(text + length, 1, room < PIECE ? room : PIECE, input);
+        const size_t lines = count > 0 ? length_of_lines(text, length + count) : length;
+        add_lines(total, text, lines);
+        if (count == 0)
+            return;
+        length += count - lines;
+        memmove(text, text + lines, length);
+        if (length > LONGEST_LINE) {
+            skip_line(total, input);
+            length = 0;
+        }
     }
-    printf("%zu numbers\nsum %lld\n", numbers, (long long)sum);
-    return true;
 }
 
 int main(void)
 {
-    size_t length;
-    char *text = read_all(stdin, &length);
-    if (text == NULL) {
+    struct total total = {0, 0, 0, false};
+    add_file(&total, stdin);
+    if (ferror(stdin)) {
         fprintf(stderr, "cannot read the input\n");
-        return 2;
+        return 1;
     }
-    bool is_good = print_sum(text, length);
-    free(text);
-    return is_good ? 0 : 1;
+    printf("%llu numbers\n", (unsigned long long)total.numbers);
+    if (total.is_out_of_range)
+        printf("sum out of range\n");
+    else
+        printf("sum %lld\n", (long long)total.sum);
+    return fflush(stdout) != 0;
 }
