@@ -52,6 +52,40 @@ static uint64_t sum_of_column(const char *text, size_t length)
     return sum;
 }
 
+static uint64_t sum_by_read(const char *text, size_t length)
+{
+    uint64_t sum = 0;
+
+    torkettle_column_u32 column;
+    uint32_t values[256];
+    size_t count;
+    torkettle_column_u32_init(&column, text, length, ',');
+    do {
+        count = torkettle_column_u32_read(&column, values, 256); /* fewer than 256 at the end and at a bad field */
+        for (size_t at = 0; at < count; at++)
+            sum += values[at];
+    } while (count == 256);
+
+    return sum;
+}
+
+static uint64_t sum_of_lines(const char *text, size_t length)
+{
+    uint64_t sum = 0;
+
+    torkettle_fields_u32 lines;
+    uint32_t value;
+    torkettle_fields_u32_init_lines(&lines, text, length); /* or torkettle_fields_u32_init(.., text, length, ',') */
+    while (torkettle_fields_u32_next(&lines, &value)) {
+        if (lines.status == TORKETTLE_OK)
+            sum += value;
+        else
+            printf("line %zu is skipped: %.*s\n", lines.index + 1, (int)lines.length, lines.text);
+    }
+
+    return sum;
+}
+
 int main(void)
 {
     const char *text = "80,44x,8080";
@@ -65,5 +99,7 @@ int main(void)
     if (!is_error_of_a_parse())
         return 1;
     printf("sum %u\n", (unsigned)sum_of_column(text, strlen(text)));
+    printf("sum %u\n", (unsigned)sum_by_read("1,2,3,x", 7));
+    printf("sum %u\n", (unsigned)sum_of_lines("80\r\n44x\n443", 11));
     return 0;
 }

@@ -1,0 +1,44 @@
+// The samples of c/README.md for C++ that are no whole programs. .ci/samples compares them with the page, and .ci/c
+// runs this program.
+#include <torkettle.hpp>
+
+#include <cstdint>
+#include <iostream>
+#include <iterator>
+#include <numeric>
+#include <string_view>
+
+static std::uint64_t sum_of_lines(std::string_view text)
+{
+    std::uint64_t sum = 0;
+    for (const auto &item : torkettle::lines<std::uint32_t>(text)) {
+        if (item.value)
+            sum += *item.value;
+        else // item.error is a std::errc, and item.offset is where the line begins
+            std::cout << "line " << item.index + 1 << " is skipped: " << item.text << '\n';
+    }
+    return sum;
+}
+
+static std::uint64_t sum_of_column(std::string_view text)
+{
+    std::uint64_t sum = 0;
+
+    torkettle::column<std::uint32_t> column(text, ',');
+    std::uint32_t values[256];
+    std::size_t count;
+    do {
+        count = column.read(values, std::size(values));
+        sum += std::accumulate(values, values + count, std::uint64_t(0));
+    } while (count == std::size(values));
+    if (const auto error = column.error_item())
+        std::cout << "no number in field " << error->index << ", at byte " << error->offset << '\n';
+
+    return sum;
+}
+
+int main()
+{
+    const std::uint64_t lines = sum_of_lines("80\r\n44x\n443"), column = sum_of_column("80,44x,8080");
+    std::cout << "sums " << lines << ' ' << column << '\n';
+}
