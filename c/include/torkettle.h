@@ -346,9 +346,12 @@ typedef struct torkettle_error {
     static inline bool torkettle_fields_##name##_next(torkettle_fields_##name *fields, type *value) TORKETTLE_NOEXCEPT \
     {                                                                                                                  \
         torkettle_found_##name found = torkettle_next_field_##name(fields);                                            \
-        if (found.length == 1)                                                                                         \
+        if (found.length == 0)                                                                                         \
+            return false;                                                                                              \
+        /* The caller tests the status, too: so no compiler warns of a value that is not set. */                       \
+        if (fields->status == TORKETTLE_OK)                                                                            \
             *value = found.value;                                                                                      \
-        return found.length != 0;                                                                                      \
+        return true;                                                                                                   \
     }
 
 TORKETTLE_FUNCTIONS_(i8, int8_t)
