@@ -159,8 +159,8 @@ typedef struct torkettle_error {
  * };
  *
  *
- * Fields: a column that goes on after a bad field, by which we mean one that is not a number. An empty field is bad,
- * too, but nothing after the last separator is no field.
+ * Fields: a column that goes on after a bad field. A field is bad if it is not a number, as an empty field is. If the
+ * text ends with a separator, no field follows it.
  *
  *     torkettle_fields_i64 fields;
  *     int64_t value;
@@ -183,8 +183,8 @@ typedef struct torkettle_error {
  *
  * void torkettle_fields_i64_starting_at(torkettle_fields_i64 *fields, size_t index, size_t offset);
  *
- * Lets the next field have this index and this offset, from which the later ones are counted. So a long text can be
- * read by pieces that end with a separator: start each at the next_index and the next_offset of the one before it.
+ * Gives the next field this index and this offset, from which those of the later fields are counted. To read a long
+ * text by pieces that end with a separator, start each at the next_index and the next_offset of the one before it.
  *
  * bool torkettle_fields_i64_next(torkettle_fields_i64 *fields, int64_t *value);
  *
@@ -194,7 +194,7 @@ typedef struct torkettle_error {
  *
  * size_t torkettle_fields_i64_read(torkettle_fields_i64 *fields, int64_t *values, size_t count);
  *
- * Reads the next fields faster. Writes their numbers to `values`, at most `count`, and returns how many it has
+ * Reads the next fields, but faster. Writes their numbers to `values`, at most `count`, and returns how many it has
  * written. These are fewer than `count` only at a bad field, of which it sets the status, and at the end. Otherwise
  * the status is TORKETTLE_OK. The next call goes on after the bad field. If `count` is 0, `values` may be NULL.
  *

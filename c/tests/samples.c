@@ -44,8 +44,7 @@ static uint64_t sum_of_column(const char *text, size_t length)
     while (torkettle_column_u32_next(&column, &value))
         sum += value;
     /* column.offset is where the bad field begins or, if the status is TORKETTLE_INVALID, where its number ends. If
-       the separator is a digit or a sign, the status is TORKETTLE_INVALID, too, but index and offset are SIZE_MAX. To
-       continue after a bad field, start a new column after the next separator. */
+       the separator is a digit or a sign, the status is TORKETTLE_INVALID, too, but index and offset are SIZE_MAX. */
     if (column.status != TORKETTLE_OK)
         printf("no number in field %zu, at byte %zu\n", column.index, column.offset);
 
