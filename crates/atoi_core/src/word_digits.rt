@@ -21,9 +21,9 @@ pub fn fill_of_zeros(len: usize) -> u64
     ZEROS - (ZEROS << (64 - 8 * len))
 }
 
-/// Returns how many digits the word begins with. `check_len_8` does so with more operations.
 // A byte is no digit if adding 70 or subtracting 48 sets its top bit. A carry or a borrow changes only
 // bytes above the first that is no digit.
+/// Returns how many digits the word begins with. `check_len_8` does so with more operations.
 #[tactic(auto, using(crate::proofs::lemmas::WordRuns::marks_of_8, crate::proofs::lemmas::WordRuns::none_marked))]
 pub fn digits_of(word: u64) -> u32
     ensures len { result ≡ run_len decimal_table (low_bytes 8 word) }
