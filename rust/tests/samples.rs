@@ -1,5 +1,6 @@
 //! The code that the pages quote and that no example has.
 
+use std::io::{self, Read};
 use torkettle::column::{Column, ColumnError, FieldError, Fields, is_separator};
 use torkettle::{
     AtoiSimdError, parse, parse_neg, parse_pos, parse_prefix, parse_prefix_neg, parse_prefix_pos,
@@ -30,6 +31,10 @@ fn errors() {
     // A byte that is not a digit follows the digits, at offset 7. The value of the digits is 12.
     let text = b"0000012x";
     assert_eq!(parse::<u128, true, false>(text), Err(AtoiSimdError::Invalid128(12, 7, text)));
+
+    let mut buffer = [0; 400];
+    let length = AtoiSimdError::Overflow(b"256").text(&mut buffer);
+    assert_eq!(&buffer[..length], b"atoi_simd overflow, input: [32, 35, 36]");
 }
 
 #[test]
@@ -56,11 +61,13 @@ fn total(input: &[u8]) -> Result<u64, ColumnError<'_>> {
     Ok(total)
 }
 
-fn total_of_good_lines(input: &[u8]) -> u64 {
+fn total_of_good_lines(lines: &mut Fields<'_, u32>) -> u64 {
     let mut total = 0;
-    for item in Fields::<u32>::lines(input) {
+    for item in lines {
         match item {
             Ok(number) => total += u64::from(number),
+            // A blank line is skipped.
+            Err(error) if error.text.is_empty() => {}
             Err(error) => {
                 eprintln!("line {}: \"{}\"", error.index + 1, error.text.escape_ascii());
             }
@@ -69,29 +76,29 @@ fn total_of_good_lines(input: &[u8]) -> u64 {
     total
 }
 
+fn total_of_file(mut file: impl Read) -> io::Result<u64> {
+    let (mut text, mut total, mut index, mut place) = (Vec::new(), 0, 0, 0);
+    loop {
+        let count = file.by_ref().take(1 << 20).read_to_end(&mut text)?;
+        // Reads up to the last line feed or, at the end of the file, everything that is left.
+        let line_feed = text.iter().rposition(|byte| *byte == b'\n');
+        let end = if count == 0 { text.len() } else { line_feed.map_or(0, |offset| offset + 1) };
+        let mut lines = Fields::lines(&text[..end]).starting_at(index, place);
+        total += total_of_good_lines(&mut lines);
+        (index, place) = lines.position();
+        text.drain(..end);
+        if count == 0 {
+            return Ok(total);
+        }
+    }
+}
+
 fn total_between(input: &[u8], separator: u8) -> Option<Result<u64, ColumnError<'_>>> {
     if is_separator(separator) {
         Some(Column::<u32>::new(input, separator).map(|item| item.map(u64::from)).sum())
     } else {
         None
     }
-}
-
-fn total_of_lines(input: &[u8]) -> Result<u64, FieldError<'_>> {
-    let mut total = 0;
-    for item in Fields::<u32>::lines(input) {
-        match item {
-            Ok(number) => total += u64::from(number),
-            // A blank line is skipped.
-            Err(error) if error.text.is_empty() => {}
-            // There may be spaces around the number.
-            Err(error) => match parse::<u32, true, true>(error.text.trim_ascii()) {
-                Ok(number) => total += u64::from(number),
-                Err(_) => return Err(error),
-            },
-        }
-    }
-    Ok(total)
 }
 
 fn name_and_numbers(line: &str) -> Option<(&str, u32, i8)> {
@@ -109,11 +116,11 @@ fn totals() {
     assert_eq!(error, Err("field 1 at byte 2 has no digit at its start".to_string()));
     let error = total(b"1,2x").map_err(|error| error.to_string());
     assert_eq!(error, Err("field 1 has an unexpected byte at byte 3".to_string()));
-    assert_eq!(total_of_good_lines(b"1\r\nx\r\n3\r\n"), 4);
+    assert_eq!(total_of_good_lines(&mut Fields::lines(b"1\r\nx\r\n\r\n3\r\n")), 4);
+    let text = "1\n".repeat((1 << 20) + 1) + "x\r\n7";
+    assert_eq!(total_of_file(text.as_bytes()).unwrap(), (1 << 20) + 8);
     assert_eq!(total_between(b"1;2", b';'), Some(Ok(3)));
     assert_eq!(total_between(b"1;2", b'-'), None);
-    assert_eq!(total_of_lines(b" 1\n\n2 \r\n30\n"), Ok(33));
-    assert_eq!(total_of_lines(b"1\n \n").map_err(|error| error.index), Err(1));
     assert_eq!(name_and_numbers("tea,250,-3"), Some(("tea", 250, -3)));
     assert_eq!(name_and_numbers("tea,250"), None);
 }
