@@ -7,27 +7,15 @@
 #include <stdio.h>
 #include <string.h>
 
-/* Each function exists for i8, i16, i32, i64, u8, u16, u32, u64 and, if the compiler has __int128, for i128 and u128.
-   For size_t, call the functions for u64 with a uint64_t. The two functions below are inline in the header, so the
-   library does not export them. To call them from another language, wrap them in a C file. Do not call exported
-   functions whose names begin with torkettle_whole_, torkettle_prefix_ or torkettle_next_: these may change. */
 torkettle_status torkettle_parse_u64(const char *text, size_t length, unsigned flags, uint64_t *value);
 torkettle_status torkettle_parse_prefix_u64(const char *text, size_t length, unsigned flags, uint64_t *value,
-                                            size_t *count); /* *count becomes the length of the number in bytes */
-/* TORKETTLE_OK is 0, TORKETTLE_EMPTY 1, TORKETTLE_SIZE 2, TORKETTLE_OVERFLOW 3, TORKETTLE_INVALID 4. TORKETTLE_VERSION
-   is "0.1.0", and torkettle_version() returns the version of the library in the same form. */
+                                            size_t *count);
 
 static int is_error_of_a_parse(void)
 {
-    /* This is for torkettle_parse_u32. For torkettle_parse_prefix_u32, call torkettle_parse_prefix_error_u32. */
-    char message[TORKETTLE_ERROR_TEXT_SIZE]; /* every message fits, with its NUL */
+    char message[TORKETTLE_ERROR_TEXT_SIZE];
     torkettle_error error = torkettle_parse_error_u32("12x", 3, 0);
-    /* error.status is TORKETTLE_INVALID, and error.offset, where the digits begin in the text, is 0. For
-       TORKETTLE_SIZE and TORKETTLE_OVERFLOW, error.offset may be after skipped zeros. For TORKETTLE_EMPTY, it is
-       always 0. For TORKETTLE_INVALID, error.count is the number of digits (here 2), for TORKETTLE_SIZE the count in
-       the message, and otherwise 0. */
     size_t bad_byte = error.offset + error.count; /* only for TORKETTLE_INVALID */
-    /* Like snprintf, this truncates the message if the buffer is too small, and returns the full length. */
     torkettle_error_text(message, sizeof message, &error, "12x", 3);
 
     return error.status == TORKETTLE_INVALID && error.offset == 0 && error.count == 2 && bad_byte == 2 &&
@@ -43,8 +31,6 @@ static uint64_t sum_of_column(const char *text, size_t length)
     torkettle_column_u32_init(&column, text, length, ',');
     while (torkettle_column_u32_next(&column, &value))
         sum += value;
-    /* column.offset is where the bad field begins or, if the status is TORKETTLE_INVALID, where its number ends. If
-       the separator is a digit or a sign, the status is TORKETTLE_INVALID, too, but index and offset are SIZE_MAX. */
     if (column.status != TORKETTLE_OK)
         printf("no number in field %zu, at byte %zu\n", column.index, column.offset);
 
@@ -60,7 +46,7 @@ static uint64_t sum_by_read(const char *text, size_t length)
     size_t count;
     torkettle_column_u32_init(&column, text, length, ',');
     do {
-        count = torkettle_column_u32_read(&column, values, 256); /* fewer than 256 at the end and at a bad field */
+        count = torkettle_column_u32_read(&column, values, 256);
         for (size_t at = 0; at < count; at++)
             sum += values[at];
     } while (count == 256);
@@ -74,7 +60,7 @@ static uint64_t sum_of_lines(const char *text, size_t length)
 
     torkettle_fields_u32 lines;
     uint32_t value;
-    torkettle_fields_u32_init_lines(&lines, text, length); /* or torkettle_fields_u32_init(.., text, length, ',') */
+    torkettle_fields_u32_init_lines(&lines, text, length);
     while (torkettle_fields_u32_next(&lines, &value)) {
         if (lines.status == TORKETTLE_OK)
             sum += value;

@@ -14,7 +14,7 @@ static std::uint64_t sum_of_lines(std::string_view text)
     for (const auto &item : torkettle::lines<std::uint32_t>(text)) {
         if (item.value)
             sum += *item.value;
-        else // item.error is a std::errc, and item.offset is where the line begins
+        else
             std::cout << "line " << item.index + 1 << " is skipped: " << item.text << '\n';
     }
     return sum;
