@@ -9,7 +9,7 @@ use crate::arguments::{Arguments, Task};
 use crate::builds::Cache;
 use crate::formats::Format;
 use crate::tables::{self, InputList, Shape};
-use crate::timing::Processor;
+use crate::timing::{Processor, predicts_jumps};
 
 /// Does everything, and returns how many answers differed.
 pub fn run(arguments: &Arguments) -> Result<u64, String> {
@@ -22,6 +22,9 @@ pub fn run(arguments: &Arguments) -> Result<u64, String> {
     if task != Task::Compare {
         check_only(arguments)?;
         println!("timed or counted on {Processor}");
+        if !predicts_jumps() {
+            println!("it predicts no jumps by tables: libraries that have them take longer here");
+        }
     }
     if task.includes(Task::Exports) || task == Task::Count {
         differences += exports::run(arguments, &cache)?;

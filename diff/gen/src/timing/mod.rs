@@ -14,7 +14,7 @@ pub use lists::{Rows, lists};
 pub use object::Object;
 use processor::pin;
 
-pub use processor::Processor;
+pub use processor::{Processor, predicts_jumps};
 pub use ratios::{Comparison, Ratios};
 
 use crate::tables::Form;

@@ -2,6 +2,8 @@
 
 use std::ffi::c_int;
 use std::fs;
+use std::hint::black_box;
+use std::time::Instant;
 
 // A set of processors, one bit for each.
 type Set = [u64; 16];
@@ -38,4 +40,21 @@ impl std::fmt::Display for Processor {
         let name = told.lines().find_map(|line| line.strip_prefix("model name")?.split_once(": "));
         f.write_str(name.map_or("an unknown processor", |(_, name)| name))
     }
+}
+
+// A call through a pointer takes at least so many nanoseconds if its target is not predicted.
+const UNPREDICTED: f64 = 5.0;
+
+/// Whether the processor predicts where jumps through pointers and tables go. Some systems turn that
+/// off, and then code with such jumps, as that of the original, takes up to five times as long.
+pub fn predicts_jumps() -> bool {
+    const CALLS: u32 = 4096;
+    let count: fn(u32) -> u32 = u32::count_ones;
+    let time = |_| {
+        let from = Instant::now();
+        let sum: u32 = (0..CALLS).map(|number| black_box(count)(number)).sum();
+        black_box(sum);
+        from.elapsed().as_nanos() as f64 / f64::from(CALLS)
+    };
+    (0..60).map(time).fold(f64::INFINITY, f64::min) < UNPREDICTED
 }
