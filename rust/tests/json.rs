@@ -5,9 +5,9 @@
 
 #![allow(dead_code)]
 
-#[path = "../../diff/gen/src/random.rs"]
+#[path = "../../diff/common/src/random.rs"]
 mod random;
-#[path = "../../diff/gen/src/texts.rs"]
+#[path = "../../diff/compare/src/texts.rs"]
 mod texts;
 
 use random::Random;

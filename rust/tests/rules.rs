@@ -1,26 +1,28 @@
-//! Compares the results of generated calls with the rules of `docs/SPECIFICATION.md`, which `diff/gen`
+//! Compares the results of generated calls with the rules of `docs/SPECIFICATION.md`, which `diff/compare`
 //! states digit by digit, and with `str::parse`. With the feature `lanes`, the calls are those of
 //! `lanes`.
 //!
 //! `TORKETTLE_TEXTS` sets how many texts are generated. Every call, type and choice of flags is asked
 //! about each of them.
 
-// The texts, the rules and the calls are those of `diff/gen`, which uses more of them.
+// The texts, the rules and the calls are those of `diff/compare`, which uses more of them.
 #![allow(dead_code)]
 
-#[path = "../../diff/gen/src/answer.rs"]
+#[path = "../../diff/compare/src/answer.rs"]
 mod answer;
-#[path = "../../diff/exports/ask.rs"]
+#[path = "../../diff/compare/exports/ask.rs"]
 mod ask;
-#[path = "../../diff/gen/src/question.rs"]
+#[path = "../../diff/common/src/integer.rs"]
+mod integer;
+#[path = "../../diff/compare/src/question.rs"]
 mod question;
-#[path = "../../diff/gen/src/random.rs"]
+#[path = "../../diff/common/src/random.rs"]
 mod random;
-#[path = "../../diff/gen/src/rules.rs"]
+#[path = "../../diff/compare/src/rules.rs"]
 mod rules;
-#[path = "../../diff/gen/src/standard.rs"]
+#[path = "../../diff/compare/src/standard.rs"]
 mod standard;
-#[path = "../../diff/gen/src/texts.rs"]
+#[path = "../../diff/compare/src/texts.rs"]
 mod texts;
 
 mod calls {

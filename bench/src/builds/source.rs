@@ -1,0 +1,252 @@
+//! The text of the exports of libraries in Rust: a call, a loop over an input list, and a loop over
+//! a column.
+
+use crate::tables::{Function, TimedCall};
+use torkettle_common::Form;
+use torkettle_common::integer::Integer;
+
+/// How the exports of a library are written.
+#[derive(Clone, Copy)]
+pub struct Calls {
+    pub parse: Parse,
+    pub column: Column,
+}
+
+/// How a text is parsed.
+#[derive(Clone, Copy)]
+pub enum Parse {
+    /// By functions of this crate or module, which has the interface of the original.
+    By(&'static str),
+    /// By `str::parse`, on whole texts.
+    Standard,
+    /// By `str::parse`, on the digits at the start of a text.
+    StandardPrefix,
+    Lexical,
+    /// By functions of `atoi` that test no overflow.
+    Atoi,
+}
+
+impl Parse {
+    // An expression for a call, in which `T` is the type and `text` the whole text. Its value is an
+    // `Option<T>`, or an `Option<(T, usize)>` if a prefix is parsed. None if there is no such call.
+    fn expression(self, call: &TimedCall) -> Option<String> {
+        let is_signed = call.integer.is_signed();
+        let expression = match (self, call.is_whole()) {
+            (Parse::By(module), _) => return Some(format!("{module}::{}(text).ok()", call.path())),
+            (Parse::Standard, true) => "from_text::<T>(text)",
+            (Parse::StandardPrefix, false) => "from_prefix::<T>(text)",
+            (Parse::Lexical, true) => "lexical_core::parse::<T>(text).ok()",
+            // Other libraries always take a minus if the type is signed. Version 0.7.6 reads wrong values
+            // from prefixes of more than 18 digits at 128 bits.
+            (Parse::Lexical, false)
+                if call.takes_minus() == is_signed && call.integer.bits() < 128 =>
+            {
+                "lexical_core::parse_partial::<T>(text).ok()"
+            }
+            (Parse::Atoi, true) if !is_signed => "from_all_digits::<T>(text)",
+            (Parse::Atoi, false) if !is_signed => "from_digits::<T>(text)",
+            _ => return None,
+        };
+        Some(String::from(expression))
+    }
+
+    /// Functions that the expressions use.
+    pub fn helpers(self) -> &'static str {
+        match self {
+            Parse::Standard | Parse::StandardPrefix => FROM_TEXT,
+            Parse::Atoi => FROM_DIGITS,
+            Parse::By(_) | Parse::Lexical => "",
+        }
+    }
+}
+
+const FROM_TEXT: &str = "
+#[inline(always)]
+fn from_text<T: std::str::FromStr>(text: &[u8]) -> Option<T> {
+    // SAFETY: the texts are ASCII. They are not checked, since that would be timed too.
+    unsafe { std::str::from_utf8_unchecked(text) }.parse().ok()
+}
+
+#[inline(always)]
+fn from_prefix<T: std::str::FromStr>(text: &[u8]) -> Option<(T, usize)> {
+    let sign = usize::from(text.starts_with(b\"-\"));
+    let digits = text[sign..].iter().position(|byte| !byte.is_ascii_digit());
+    let length = digits.map_or(text.len(), |digits| sign + digits);
+    Some((from_text(&text[..length])?, length))
+}
+";
+
+const FROM_DIGITS: &str = "
+#[inline(always)]
+fn from_digits<T: atoi::FromRadix10>(text: &[u8]) -> Option<(T, usize)> {
+    Some(T::from_radix_10(text)).filter(|(_, length)| *length > 0)
+}
+
+#[inline(always)]
+fn from_all_digits<T: atoi::FromRadix10>(text: &[u8]) -> Option<T> {
+    let (value, length) = from_digits(text)?;
+    (length == text.len()).then_some(value)
+}
+";
+
+/// How a column is added up.
+#[derive(Clone, Copy)]
+pub enum Column {
+    /// Its fields are split at commas, and then parsed as whole texts.
+    Split,
+    /// The same, but a field that is no number counts as 1.
+    SplitGoesOn,
+    /// A prefix is parsed, and then the comma taken, as often as there are fields.
+    Prefixes,
+    /// This iterator, which ends at an error.
+    Iterator(&'static str),
+    /// This iterator, which goes on. An error counts as 1.
+    IteratorGoesOn(&'static str),
+}
+
+/// The first lines of a source.
+pub const HEAD: &str = "//! What is timed: `bench` wrote this file.
+#![allow(dead_code)]
+
+const ERROR: u64 = 0x8000_0000_0000_0001;
+
+#[repr(C)]
+struct Row {
+    bytes: [u8; 96],
+    length: usize,
+}
+";
+
+impl Calls {
+    /// An export that makes one call. None if the library has no such call.
+    pub fn call(&self, call: &TimedCall) -> Option<String> {
+        let found = found(call);
+        let body = format!(
+            "\n    match {} {{\n        {found}\n        None => ERROR,\n    }}",
+            self.parse.expression(call)?
+        );
+        Some(export(&call.export(Form::Words), call.integer, &body))
+    }
+
+    /// An export that makes the same call with each row of an input list.
+    pub fn rows(&self, name: &str, call: &TimedCall) -> Option<String> {
+        let parse = self.parse.expression(call)?;
+        let body = ROWS.replace("PARSE", &parse).replace("FOUND", found(call));
+        Some(export(name, call.integer, &body))
+    }
+
+    /// An export that reads each row of texts of a format, by the body of a function.
+    pub fn format(name: &str, body: &str) -> String {
+        let read = format!("{FORMAT}{}", ROWS.replace("PARSE", "read(text)"))
+            .replace("BODY", body)
+            .replace("FOUND", "Some(value) => value,");
+        export(name, Integer::U64, &read)
+    }
+
+    /// An export that adds up a column. None if the library has no call for it.
+    pub fn column(&self, name: &str, integer: Integer) -> Option<String> {
+        let (function, iterator, body) = match self.column {
+            Column::Split => (Function::Parse, "", SPLIT),
+            Column::SplitGoesOn => (Function::Parse, "", SPLIT_GOES_ON),
+            Column::Prefixes => (Function::Prefix, "", PREFIXES),
+            Column::Iterator(iterator) => (Function::Parse, iterator, ITERATOR),
+            Column::IteratorGoesOn(iterator) => (Function::Parse, iterator, ITERATOR_GOES_ON),
+        };
+        let call = TimedCall { function, integer, skip_zeroes: true, skip_plus: true };
+        let parse = self.parse.expression(&call)?;
+        let body = body.replace("PARSE", &parse).replace("ITERATOR", iterator);
+        Some(export(name, integer, &body))
+    }
+}
+
+// The arm of a `match` for a value.
+fn found(call: &TimedCall) -> &'static str {
+    match call.is_whole() {
+        true => "Some(value) => value as Unsigned as u64,",
+        false => "Some((value, length)) => (value as Unsigned as u64).wrapping_add(length as u64),",
+    }
+}
+
+fn export(name: &str, integer: Integer, body: &str) -> String {
+    let integer = integer.name();
+    let unsigned = integer.replacen('i', "u", usize::from(integer.starts_with('i')));
+    format!(
+        "
+/// # Safety
+/// As many bytes, or rows, as the length says must be readable.
+#[unsafe(no_mangle)]
+pub unsafe extern \"C\" fn {name}(text: *const u8, length: usize) -> u64 {{
+    type T = {integer};
+    type Unsigned = {unsigned};
+    let text = unsafe {{ std::slice::from_raw_parts(text, length) }};{body}
+}}
+"
+    )
+}
+
+// Here the length is that of the list, and `text` is first its rows.
+const ROWS: &str = "
+    let rows = unsafe { std::slice::from_raw_parts(text.as_ptr().cast::<Row>(), length) };
+    let mut sum = 0_u64;
+    for row in rows {
+        let text = unsafe { row.bytes.get_unchecked(..row.length) };
+        sum = sum.wrapping_add(match PARSE {
+            FOUND
+            None => ERROR,
+        });
+    }
+    sum";
+
+const FORMAT: &str = "
+    #[inline(always)]
+    fn read(text: &[u8]) -> Option<u64> {
+        BODY
+    }";
+
+const SPLIT: &str = "
+    let mut sum = 0_u64;
+    for text in text.split(|byte| *byte == b',') {
+        let Some(value) = PARSE else { return ERROR };
+        sum = sum.wrapping_add(value as Unsigned as u64);
+    }
+    sum";
+
+const SPLIT_GOES_ON: &str = "
+    let mut sum = 0_u64;
+    for text in text.split(|byte| *byte == b',') {
+        sum = sum.wrapping_add(match PARSE {
+            Some(value) => value as Unsigned as u64,
+            None => 1,
+        });
+    }
+    sum";
+
+const PREFIXES: &str = "
+    let (mut text, mut sum) = (text, 0_u64);
+    loop {
+        let Some((value, length)) = PARSE else { return ERROR };
+        sum = sum.wrapping_add(value as Unsigned as u64);
+        match &text[length..] {
+            [] => return sum,
+            [b',', rest @ ..] => text = rest,
+            _ => return ERROR,
+        }
+    }";
+
+const ITERATOR: &str = "
+    let mut sum = 0_u64;
+    for item in ITERATOR::<T>::new(text, b',') {
+        let Ok(value) = item else { return ERROR };
+        sum = sum.wrapping_add(value as Unsigned as u64);
+    }
+    sum";
+
+const ITERATOR_GOES_ON: &str = "
+    let mut sum = 0_u64;
+    for item in ITERATOR::<T>::new(text, b',') {
+        sum = sum.wrapping_add(match item {
+            Ok(value) => value as Unsigned as u64,
+            Err(_) => 1,
+        });
+    }
+    sum";

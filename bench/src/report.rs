@@ -1,0 +1,223 @@
+//! Prints times and counts.
+
+use crate::builds::Build;
+use crate::timing::{self, Comparison, Ratios, Side, Timed, Times};
+use torkettle_common::Form;
+use torkettle_common::random::Random;
+
+// The means of the passes of an idle machine differ by less, in percent.
+const BUSY: f64 = 3.0;
+
+// A ratio above this one is told. One nearer to 1 may be chance.
+const SLOWER: f64 = 1.02;
+
+// If more sides are compared, their ratios are not printed for each line.
+const SHOWN: usize = 6;
+
+// If more sides are compared, the lines on which we are slower are told once more.
+const FEW: usize = 2;
+
+/// The times of several sides.
+pub struct Table {
+    // What is read in the time of a line, and how, as `call, inlined in Rust`.
+    unit: String,
+    // What each line is for, as `input lists`.
+    lines: &'static str,
+    sides: Vec<Side>,
+    pub times: Vec<Times>,
+}
+
+impl Table {
+    /// Times lines of one kind. `how` says how the calls are made.
+    pub fn new(
+        builds: &[Build],
+        timed: &[Timed],
+        how: &str,
+        passes: usize,
+        random: &mut Random,
+    ) -> Result<Table, String> {
+        let (item, lines) = match timed.first() {
+            Some(Timed::Column { .. }) => ("field", "columns"),
+            Some(Timed::Format(_)) => ("text", "formats"),
+            Some(Timed::List { .. }) | None => ("call", "input lists"),
+        };
+        let (sides, tasks) = timing::tasks(builds, timed, random)?;
+        let unit = format!("{item}{how}");
+        Ok(Table { unit, lines, sides, times: timing::time(tasks, passes) })
+    }
+
+    /// Prints everything, if anything was timed, and returns how many sides answered otherwise than
+    /// they should.
+    pub fn print(&self) -> usize {
+        if self.times.is_empty() {
+            return 0;
+        }
+        let comparisons = self.comparisons();
+        self.print_times(&comparisons);
+        println!("\nour time divided by theirs: geometric mean of the {} (slowest)\n", self.lines);
+        let has_lanes = self.sides.iter().any(|side| side.form == Form::Lanes);
+        let forms = if has_lanes { "Words | Lanes" } else { "Ours" };
+        println!("| Compared with | {} | {forms} | passes differ by |", self.lines);
+        println!("|---|---|---|---|{}", if has_lanes { "---|" } else { "" });
+        let mut spread = 0.0;
+        for pair in comparisons.chunk_by(|one, other| self.build(one) == self.build(other)) {
+            spread = self.print_ratios(pair).max(spread);
+        }
+        println!();
+        if comparisons.len() > FEW {
+            comparisons.iter().for_each(|comparison| self.print_slower(comparison));
+        }
+        if spread > BUSY {
+            println!("the machine is busy: figures differ by {spread:.0} % between passes");
+        }
+        self.times.iter().map(|times| times.wrong().count()).sum()
+    }
+
+    // Each side of ours with the sides of each other build. Words are compared with words, and
+    // lanes with lanes if the build has them.
+    fn comparisons(&self) -> Vec<Comparison> {
+        let side = |build, form| {
+            self.sides.iter().position(|side| side.build == build && side.form == form)
+        };
+        let mut builds: Vec<usize> = self.sides.iter().map(|side| side.build).collect();
+        builds.dedup();
+        let mut comparisons = Vec::new();
+        for build in builds.into_iter().skip(1) {
+            let words = side(build, Form::Words);
+            let pairs = [
+                (side(0, Form::Words), words),
+                (side(0, Form::Lanes), side(build, Form::Lanes).or(words)),
+            ];
+            let compared = |(ours, theirs)| Some(Comparison { ours: ours?, theirs: theirs? });
+            comparisons.extend(pairs.into_iter().filter_map(compared));
+        }
+        comparisons
+    }
+
+    fn build(&self, comparison: &Comparison) -> usize {
+        self.sides[comparison.theirs].build
+    }
+
+    // Prints the times of every side on every line. If few sides are compared, prints their ratios.
+    fn print_times(&self, comparisons: &[Comparison]) {
+        println!("\nnanoseconds per {}:", self.unit);
+        for (side, letter) in self.sides.iter().zip('A'..) {
+            println!("    {letter}  {}", self.name_of(side));
+        }
+        let shown = if has_ratios(comparisons) { comparisons } else { &[] };
+        let width = self.times.first().map_or(0, |times| times.name.len());
+        print!("{:width$}", "");
+        self.sides.iter().zip('A'..).for_each(|(_, letter)| print!("{letter:>7}"));
+        let letter = |side: usize| ('A'..).nth(side).unwrap_or('?');
+        shown.iter().for_each(|it| print!("    {}/{}", letter(it.ours), letter(it.theirs)));
+        println!();
+        for times in &self.times {
+            print!("{}", times.name);
+            for side in 0..self.sides.len() {
+                let time = times.of(side).map(|time| format!("{time:.1}"));
+                print!("{:>7}", time.unwrap_or_default());
+            }
+            for comparison in shown {
+                let ratio = comparison.ratio(times).map(|ratio| format!("{ratio:.2}"));
+                print!("{:>7}", ratio.unwrap_or_default());
+            }
+            let wrong: String = times.wrong().map(letter).collect();
+            println!("{}{wrong}", if wrong.is_empty() { "" } else { "  WRONG ANSWERS: " });
+        }
+    }
+
+    fn name_of(&self, side: &Side) -> String {
+        let has_lanes =
+            self.sides.iter().any(|it| it.build == side.build && it.form == Form::Lanes);
+        match has_lanes {
+            true => format!("{}, {}", side.form.name(), side.name),
+            false => side.name.clone(),
+        }
+    }
+
+    // Prints the lines of one build, and returns by how many percent the passes differ at most. If
+    // some lists have numbers of one width and some have not, each group has a line too.
+    fn print_ratios(&self, pair: &[Comparison]) -> f64 {
+        let has_both = |times: &&Times| pair.iter().all(|it| it.ratio(times).is_some());
+        let all: Vec<&Times> = self.times.iter().filter(has_both).collect();
+        let (one_width, mixed): (Vec<&Times>, Vec<&Times>) =
+            all.iter().partition(|times| times.is_one_width);
+        let name = &self.sides[pair[0].theirs].name;
+        if !one_width.is_empty() && !mixed.is_empty() {
+            print_group(pair, &format!("{name} | {} mixed", mixed.len()), &mixed);
+            print_group(pair, &format!("{name} | {} of one width", one_width.len()), &one_width);
+        }
+        print_group(pair, &format!("{name} | {}", all.len()), &all)
+    }
+
+    /// Prints our times, and those of std and the original, as a table in Markdown.
+    pub fn print_markdown(&self) {
+        let is_std = |side: &&usize| self.sides[**side].name.starts_with("str::parse");
+        let is_shown = |side: &&usize| {
+            self.sides[**side].build == 0 || self.sides[**side].name.contains("original")
+        };
+        let all: Vec<usize> = (0..self.sides.len()).collect();
+        let (standard, shown): (Vec<&usize>, Vec<&usize>) =
+            (all.iter().filter(is_std).collect(), all.iter().filter(is_shown).collect());
+        let names = shown.iter().map(|side| format!(" {} |", self.name_of(&self.sides[**side])));
+        println!("\n| nanoseconds per {} |{} `str::parse` |", self.unit, names.collect::<String>());
+        println!("|---|{}---|", "---|".repeat(shown.len()));
+        for times in &self.times {
+            let line: Vec<&str> = times.name.split_whitespace().collect();
+            let cell = |time: Option<f64>| {
+                time.map_or(String::from("  |"), |time| format!(" {time:.1} |"))
+            };
+            let cells: String = shown.iter().map(|side| cell(times.of(**side))).collect();
+            let standard = standard.iter().find_map(|side| times.of(**side));
+            println!("| `{}` |{cells}{}", line.join(" "), cell(standard));
+        }
+    }
+
+    // Prints the lines on which we are slower.
+    fn print_slower(&self, comparison: &Comparison) {
+        let form = self.sides[comparison.ours].form.name();
+        let name = &self.sides[comparison.theirs].name;
+        for times in &self.times {
+            if let Some(ratio) = comparison.ratio(times).filter(|ratio| *ratio > SLOWER) {
+                let line: Vec<&str> = times.name.split_whitespace().collect();
+                println!("    {form} take {ratio:.2} times as long as {name}: {}", line.join(" "));
+            }
+        }
+    }
+}
+
+// Prints the line of one build for a group of lists, and returns by how many percent the passes
+// differ at most.
+fn print_group(pair: &[Comparison], name: &str, times: &[&Times]) -> f64 {
+    let ratios: Vec<Ratios> = pair.iter().filter_map(|it| it.ratios(times)).collect();
+    let spread = ratios.iter().map(|ratios| ratios.spread).fold(0.0, f64::max);
+    let shown = |ratios: &Ratios| format!("{:.2} ({:.2})", ratios.mean, ratios.worst);
+    let shown: Vec<String> = ratios.iter().map(shown).collect();
+    println!("| {name} | {} | {spread:.1} % |", shown.join(" | "));
+    spread
+}
+
+// Whether the ratios of each line are printed beside its times.
+fn has_ratios(comparisons: &[Comparison]) -> bool {
+    comparisons.len() <= SHOWN
+}
+
+/// Prints our times on input lists without a plus and on the same input lists with a plus before
+/// half of the numbers, and returns how many sides answered otherwise than they should.
+pub fn print_plus(without: &[Times], with: &[Times]) -> usize {
+    println!(
+        "\na plus before half of the numbers: nanoseconds per call without, with, and the ratio"
+    );
+    println!("{:28}words{:18}lanes", "", "");
+    for (without, with) in without.iter().zip(with) {
+        print!("{}", without.name);
+        for side in [0, 1] {
+            let times = without.of(side).zip(with.of(side));
+            let shown =
+                times.map(|(one, other)| format!("{one:6.1}{other:7.1}{:7.2}", other / one));
+            print!("{:23}", shown.unwrap_or_default());
+        }
+        println!("{}", if with.wrong().count() > 0 { "  WRONG ANSWERS" } else { "" });
+    }
+    with.iter().map(|times| times.wrong().count()).sum()
+}

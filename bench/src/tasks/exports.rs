@@ -1,0 +1,98 @@
+//! Times or counts the exports of the kit's build beside those of other libraries, or of a commit.
+
+use super::{columns, lists};
+use crate::arguments::{Arguments, Task};
+use crate::builds::{self, Build, State};
+use crate::count;
+use crate::report::{self, Table};
+use crate::tables;
+use crate::timing::Timed;
+use torkettle_common::cache::Cache;
+use torkettle_common::command::print_left_out;
+use torkettle_common::integer::Integer;
+use torkettle_common::kit;
+use torkettle_common::original;
+use torkettle_common::random::Random;
+
+/// Times or counts them, and returns how many answers differed. Without the kit there are none.
+pub fn run(arguments: &Arguments, cache: &Cache) -> Result<usize, String> {
+    let kit = match kit::version() {
+        Ok(kit) => kit,
+        Err(fault) if arguments.task == Task::Everything => {
+            print_left_out("the times of exports", &fault);
+            return Ok(0);
+        }
+        Err(fault) => return Err(fault),
+    };
+    let builds = builds_of(arguments, cache)?;
+    println!("{kit}; ours is built for {}", arguments.cpu());
+    match arguments.task {
+        Task::Count => count(cache, &builds),
+        _ => time(arguments, &builds),
+    }
+}
+
+// What is timed or counted. Our library is the first.
+fn builds_of(arguments: &Arguments, cache: &Cache) -> Result<Vec<Build>, String> {
+    let state = State::of_checkout(cache, arguments.cpu());
+    let is_timed = arguments.task != Task::Count;
+    // A call through a pointer takes a time of its own, which hides how two states differ.
+    let in_loops = arguments.against.is_some() && is_timed;
+    let timed = |state: &State, name: &str| match in_loops {
+        true => state.timed_in_loops(name),
+        false => state.timed(name),
+    };
+    let mut builds = vec![timed(&state, "this checkout")?];
+    if is_timed {
+        builds.push(state.two_loops(Integer::U32)?);
+    }
+    if let Some(commit) = &arguments.against {
+        let (state, name) = State::of_commit(cache, commit, arguments.cpu())?;
+        let copies = cache.empty_folder("copies")?;
+        builds.push(timed(&state, &name)?.copied(&copies)?);
+    } else {
+        let original = original::find(cache, arguments.original.as_deref())?;
+        builds.extend(builds::others(cache, original.as_ref()));
+    }
+    Ok(builds)
+}
+
+fn count(cache: &Cache, builds: &[Build]) -> Result<usize, String> {
+    let mut counts = Vec::new();
+    for build in builds {
+        counts.extend(count::counts(cache, build)?);
+    }
+    count::print(&counts)
+}
+
+fn time(arguments: &Arguments, builds: &[Build]) -> Result<usize, String> {
+    let mut random = Random::new(arguments.seed);
+    let mut time = |builds: &[Build], timed: &[Timed]| {
+        Table::new(builds, timed, "", arguments.passes, &mut random)
+    };
+    let input_lists = lists(arguments, tables::input_lists()?);
+    let table = time(builds, &input_lists)?;
+    let mut wrong = table.print();
+    if arguments.is_markdown {
+        table.print_markdown();
+    }
+    wrong += time(builds, &columns(arguments, false)?)?.print();
+    if arguments.against.is_none() {
+        let (without, with) = with_plus(input_lists);
+        let without = time(&builds[..1], &without)?.times;
+        wrong += report::print_plus(&without, &time(&builds[..1], &with)?.times);
+    }
+    Ok(wrong)
+}
+
+// The input lists whose calls skip a plus, without a plus and with one before half of the numbers.
+fn with_plus(input_lists: Vec<Timed>) -> (Vec<Timed>, Vec<Timed>) {
+    let with = |timed| match timed {
+        Timed::List { list, .. } if list.call.skip_plus => {
+            let without = Timed::List { list: list.clone(), has_plus: false };
+            Some((without, Timed::List { list, has_plus: true }))
+        }
+        _ => None,
+    };
+    input_lists.into_iter().filter_map(with).unzip()
+}

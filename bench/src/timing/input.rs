@@ -1,0 +1,127 @@
+//! What is read while it is timed: random texts, and the sum of the answers that they have.
+
+use super::ERROR;
+use crate::formats::Format;
+use crate::numbers::{Written, push_number};
+use crate::tables::{InputList, Shape};
+use torkettle_common::integer::Integer;
+use torkettle_common::object::Call;
+use torkettle_common::random::Random;
+
+// How many bytes each text has room for. An export may read its length only.
+const ROOM: usize = 96;
+
+// The smallest number of bytes that a column has.
+const COLUMN: usize = 65_536;
+
+/// Texts, and the sum of the answers that they have.
+pub struct Input {
+    texts: Texts,
+    /// How many texts or fields there are.
+    pub items: usize,
+    pub expected: u64,
+}
+
+enum Texts {
+    Rows(Vec<Row>),
+    Column(Vec<u8>),
+}
+
+// A text, in the form in which a loop of `builds` reads it.
+#[repr(C)]
+struct Row {
+    bytes: [u8; ROOM],
+    length: usize,
+}
+
+impl Input {
+    /// The texts of an input list. About half of the numbers of a signed type are negative, except
+    /// for `prefix_pos`; if `has_plus`, half of all numbers have a plus instead. If the call parses
+    /// a prefix, a comma and sixteen digits follow the number.
+    pub fn list(list: &InputList, has_plus: bool, items: usize, random: &mut Random) -> Input {
+        let call = list.call;
+        let sign = match has_plus {
+            true => Some(b'+'),
+            false => call.takes_minus().then_some(b'-'),
+        };
+        Input::rows(items, || {
+            let mut text = Vec::with_capacity(ROOM);
+            let value = low_bits(call.integer, &push_number(random, &list.digits, sign, &mut text));
+            if call.is_whole() {
+                return (text, value);
+            }
+            let answer = value.wrapping_add(text.len() as u64);
+            text.extend_from_slice(b",0123456789012345");
+            (text, answer)
+        })
+    }
+
+    /// Texts of a format.
+    pub fn format(format: Format, items: usize, random: &mut Random) -> Input {
+        Input::rows(items, || format.text(random))
+    }
+
+    /// A column of this shape, with a comma after each field except the last. About half of the
+    /// numbers of a signed type are negative. One field in ten is no number if `has_errors`, and
+    /// counts as 1.
+    pub fn column(shape: &Shape, has_errors: bool, random: &mut Random) -> Input {
+        let sign = shape.integer.is_signed().then_some(b'-');
+        let (mut text, mut items, mut expected) = (Vec::new(), 0, 0_u64);
+        while text.len() < COLUMN {
+            if items > 0 {
+                text.push(b',');
+            }
+            let start = text.len();
+            let written = push_number(random, &shape.digits, sign, &mut text);
+            let mut value = low_bits(shape.integer, &written);
+            if has_errors && random.one_in(10) {
+                let place = start + random.below(text.len() - start);
+                text[place] = random.pick(b"x.; /:");
+                value = 1;
+            }
+            expected = expected.wrapping_add(value);
+            items += 1;
+        }
+        Input { texts: Texts::Column(text), items, expected }
+    }
+
+    fn rows(items: usize, mut next: impl FnMut() -> (Vec<u8>, u64)) -> Input {
+        let (mut rows, mut expected) = (Vec::with_capacity(items), 0_u64);
+        for _ in 0..items {
+            let (mut text, answer) = next();
+            let length = text.len();
+            text.resize(ROOM, 0);
+            rows.push(Row { bytes: text.try_into().expect("a text has room"), length });
+            expected = expected.wrapping_add(answer);
+        }
+        Input { texts: Texts::Rows(rows), items, expected }
+    }
+
+    /// Calls an export, and returns the sum of the answers. An export that `has_loop` takes all
+    /// rows of an input list, and makes the calls itself.
+    pub fn sum(&self, call: Call, has_loop: bool) -> u64 {
+        match &self.texts {
+            // SAFETY: an export reads as many bytes of the text as the length says.
+            Texts::Column(text) => unsafe { call(text.as_ptr(), text.len()) },
+            // SAFETY: a loop reads as many rows as the length says, of the form that they have.
+            Texts::Rows(rows) if has_loop => unsafe { call(rows.as_ptr().cast(), rows.len()) },
+            Texts::Rows(rows) => sum_of_calls(rows, call),
+        }
+    }
+}
+
+#[inline(never)]
+fn sum_of_calls(rows: &[Row], call: Call) -> u64 {
+    // SAFETY: an export reads as many bytes of the text as the length says.
+    let answer = |row: &Row| unsafe { call(row.bytes.as_ptr(), row.length) };
+    rows.iter().map(answer).fold(0, u64::wrapping_add)
+}
+
+// The low 64 bits of the value of a number at a type.
+fn low_bits(integer: Integer, written: &Written) -> u64 {
+    let Written { is_negative, magnitude } = *written;
+    let value = if is_negative { magnitude.wrapping_neg() } else { magnitude };
+    let low = value as u64 & (u64::MAX >> 64_u32.saturating_sub(integer.bits()));
+    debug_assert!(low != ERROR);
+    low
+}

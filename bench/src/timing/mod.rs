@@ -1,0 +1,210 @@
+//! Measures how long calls and columns take. Every side is timed in turn within a round, at each
+//! placement of its code. A figure is the mean over the placements of the best round.
+
+mod input;
+pub mod processor;
+mod ratios;
+
+pub use input::Input;
+pub use ratios::{Comparison, Ratios};
+
+use crate::builds::Build;
+use crate::formats::Format;
+use crate::tables::{InputList, Shape};
+use std::time::Instant;
+use torkettle_common::Form;
+use torkettle_common::object::Call;
+use torkettle_common::random::Random;
+
+/// What an export returns for an error.
+pub const ERROR: u64 = 0x8000_0000_0000_0001;
+
+// How many texts an input list or a format has.
+const ROWS: usize = 4096;
+
+// How many rounds each pass has.
+const ROUNDS: usize = 60;
+
+/// What is timed: a line of a table.
+pub enum Timed {
+    List {
+        list: InputList,
+        /// Whether half of the numbers have a plus.
+        has_plus: bool,
+    },
+    Column {
+        shape: Shape,
+        /// Whether one field in ten is no number.
+        has_errors: bool,
+    },
+    Format(Format),
+}
+
+impl Timed {
+    fn name(&self) -> String {
+        match self {
+            Timed::List { list, .. } => list.to_string(),
+            Timed::Column { shape, .. } => shape.to_string(),
+            Timed::Format(format) => format!("{:10}", format.name()),
+        }
+    }
+
+    fn is_one_width(&self) -> bool {
+        match self {
+            Timed::List { list, .. } => list.digits.is_one_width(),
+            Timed::Column { shape, .. } => shape.digits.is_one_width(),
+            Timed::Format(_) => false,
+        }
+    }
+
+    // The name of the export that reads it. Only input lists are read in both forms.
+    fn export(&self, form: Form) -> Option<String> {
+        match (self, form) {
+            (Timed::List { list, .. }, form) => Some(list.call.export(form)),
+            (Timed::Column { shape, .. }, Form::Words) => Some(Shape::export(shape.integer)),
+            (Timed::Format(format), Form::Words) => Some(format.export()),
+            (_, Form::Lanes) => None,
+        }
+    }
+
+    fn input(&self, random: &mut Random) -> Input {
+        match self {
+            Timed::List { list, has_plus } => Input::list(list, *has_plus, ROWS, random),
+            Timed::Column { shape, has_errors } => Input::column(shape, *has_errors, random),
+            Timed::Format(format) => Input::format(*format, ROWS, random),
+        }
+    }
+}
+
+/// One side of a table.
+#[derive(Clone)]
+pub struct Side {
+    /// The number of its build, from 0. Ours is 0.
+    pub build: usize,
+    pub form: Form,
+    pub name: String,
+}
+
+/// What the sides do with one input list, column or format.
+pub struct Task {
+    times: Times,
+    input: Input,
+    sides: Vec<Calls>,
+}
+
+// The calls of a side, one for each placement. There are none if it has no such call.
+struct Calls {
+    calls: Vec<Call>,
+    has_loops: bool,
+}
+
+/// The times of all sides on one input list, column or format.
+pub struct Times {
+    pub name: String,
+    /// Whether all numbers have the same number of digits.
+    pub is_one_width: bool,
+    // For each pass and side, the best round at each placement.
+    passes: Vec<Vec<Vec<f64>>>,
+    // For each side, whether one of its sums was not the expected one.
+    is_wrong: Vec<bool>,
+}
+
+impl Times {
+    /// The time of a side in nanoseconds, over all passes.
+    pub fn of(&self, side: usize) -> Option<f64> {
+        let mut passes = self.passes.iter();
+        let mut best = passes.next()?[side].clone();
+        for pass in passes {
+            best.iter_mut().zip(&pass[side]).for_each(|(best, time)| *best = best.min(*time));
+        }
+        mean(&best)
+    }
+
+    /// The time of a side in nanoseconds, in one pass.
+    pub fn in_pass(&self, side: usize, pass: usize) -> Option<f64> {
+        mean(&self.passes[pass][side])
+    }
+
+    /// The sides that answered otherwise than they should.
+    pub fn wrong(&self) -> impl Iterator<Item = usize> {
+        self.is_wrong.iter().enumerate().filter(|(_, is_wrong)| **is_wrong).map(|(side, _)| side)
+    }
+}
+
+/// The sides that the builds have, and what they do with each line.
+pub fn tasks(
+    builds: &[Build],
+    timed: &[Timed],
+    random: &mut Random,
+) -> Result<(Vec<Side>, Vec<Task>), String> {
+    let mut tasks: Vec<Task> = timed.iter().map(|timed| Task::new(timed, random)).collect();
+    let mut sides = Vec::new();
+    for (number, build) in builds.iter().enumerate() {
+        for form in Form::BOTH {
+            let calls = |timed: &Timed| match timed.export(form) {
+                Some(export) => build.calls(&export),
+                None => Ok(Vec::new()),
+            };
+            let calls = timed.iter().map(calls).collect::<Result<Vec<_>, String>>()?;
+            if calls.iter().any(|calls| !calls.is_empty()) {
+                sides.push(Side { build: number, form, name: build.name.clone() });
+                tasks.iter_mut().zip(calls).for_each(|(task, calls)| task.add(build, calls));
+            }
+        }
+    }
+    Ok((sides, tasks))
+}
+
+impl Task {
+    fn new(timed: &Timed, random: &mut Random) -> Task {
+        let (name, is_one_width) = (timed.name(), timed.is_one_width());
+        let times = Times { name, is_one_width, passes: Vec::new(), is_wrong: Vec::new() };
+        Task { times, input: timed.input(random), sides: Vec::new() }
+    }
+
+    fn add(&mut self, build: &Build, calls: Vec<Call>) {
+        self.sides.push(Calls { calls, has_loops: build.has_loops });
+        self.times.is_wrong.push(false);
+    }
+
+    fn pass(&mut self) {
+        let places = self.sides.iter().map(|side| side.calls.len()).max().unwrap_or_default();
+        let times = |side: &Calls| match side.calls.is_empty() {
+            true => Vec::new(),
+            false => vec![f64::INFINITY; places],
+        };
+        let mut best: Vec<Vec<f64>> = self.sides.iter().map(times).collect();
+        for round in 0..ROUNDS * places {
+            self.round(round % places, &mut best);
+        }
+        self.times.passes.push(best);
+    }
+
+    // Runs each side once at one placement. A side with fewer placements repeats them.
+    fn round(&mut self, place: usize, best: &mut [Vec<f64>]) {
+        let sides = self.sides.iter().zip(best).zip(&mut self.times.is_wrong);
+        for ((side, best), is_wrong) in sides.filter(|((side, _), _)| !side.calls.is_empty()) {
+            let call = side.calls[place % side.calls.len()];
+            let from = Instant::now();
+            let sum = self.input.sum(call, side.has_loops);
+            let time = from.elapsed().as_nanos() as f64 / self.input.items as f64;
+            best[place] = best[place].min(time);
+            *is_wrong |= sum != self.input.expected;
+        }
+    }
+}
+
+/// Times every task in each pass. This also keeps the program on one processor.
+pub fn time(mut tasks: Vec<Task>, passes: usize) -> Vec<Times> {
+    let passes = if tasks.is_empty() { 0 } else { passes };
+    processor::pin();
+    for pass in 1..=passes {
+        tasks.iter_mut().for_each(Task::pass);
+        eprintln!("pass {pass} of {passes}");
+    }
+    tasks.into_iter().map(|task| task.times).collect()
+}
+
+fn mean(times: &[f64]) -> Option<f64> {
+    (!times.is_empty()).then(|| times.iter().sum::<f64>() / times.len() as f64)
+}

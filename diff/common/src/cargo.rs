@@ -1,0 +1,171 @@
+//! Crates that this program writes to the cache, and that cargo builds there. They need no network
+//! if each crate that they use is in a folder.
+
+use crate::cache::{Cache, failed, write};
+use crate::command::run;
+use crate::stamp::Stamp;
+use std::fs;
+use std::path::{Path, PathBuf};
+use std::process::Command;
+
+// Where Debian's packages `librust-*-dev` put the sources of crates.
+const DEBIAN: &str = "/usr/share/cargo/registry";
+
+// The shared object that cargo makes.
+const OBJECT: &str = "libtimed.so";
+
+/// A crate that a generated crate uses.
+#[derive(Clone)]
+pub struct Dependency {
+    // The name of its package.
+    package: &'static str,
+    // The line of the manifest that asks for it.
+    line: String,
+    // What it is made of, as far as the line does not say it.
+    contents: Stamp,
+    is_in_debian: bool,
+}
+
+impl Dependency {
+    /// A crate from Debian's packages, or else of this version from crates.io.
+    pub fn of_registry(package: &'static str, version: &str) -> Dependency {
+        match debian_version(package) {
+            Some(version) => {
+                let dependency = Dependency::of_crates_io(package, &version);
+                Dependency { is_in_debian: true, ..dependency }
+            }
+            None => Dependency::of_crates_io(package, version),
+        }
+    }
+
+    /// A crate of this version from crates.io.
+    pub fn of_crates_io(package: &'static str, version: &str) -> Dependency {
+        let line = format!("{package} = \"{version}\"");
+        Dependency { package, line, contents: Stamp::new(), is_in_debian: false }
+    }
+
+    /// A crate in a folder, under the name that the source uses. `contents` are its files.
+    pub fn of_folder(
+        package: &'static str,
+        name: &str,
+        folder: &Path,
+        contents: Stamp,
+    ) -> Dependency {
+        let path = folder.display();
+        let line = format!("{name} = {{ package = \"{package}\", path = \"{path}\" }}");
+        Dependency { package, line, contents, is_in_debian: false }
+    }
+
+    /// The same crate with a feature.
+    pub fn with_feature(mut self, feature: &str) -> Dependency {
+        let line = self.line.trim_end_matches(" }");
+        self.line = format!("{line}, features = [\"{feature}\"] }}");
+        self
+    }
+}
+
+/// What cargo makes of a generated crate.
+#[derive(Clone, Copy)]
+pub enum Kind {
+    /// An archive, in which the crates are inlined into each other.
+    Archive,
+    /// An archive of many units of code, built as cargo builds a program in release mode.
+    ArchiveOfUnits,
+    /// A shared object, built as cargo builds a program in release mode.
+    SharedObject,
+    /// The same without optimisation, and with checks for overflow.
+    DebugSharedObject,
+}
+
+/// A generated crate.
+pub struct Generated {
+    pub kind: Kind,
+    pub dependencies: Vec<Dependency>,
+    /// The name and the text of each file. One is `lib.rs`.
+    pub files: Vec<(&'static str, String)>,
+    /// What rustc is told.
+    pub flags: String,
+}
+
+impl Generated {
+    /// What everything is made of, with the compiler.
+    pub fn stamp(&self) -> Result<Stamp, String> {
+        let version = run(Command::new("rustc").arg("--version"))?;
+        let stamp = Stamp::new().with(self.manifest()).with(&self.flags).with(version);
+        let files = self.files.iter();
+        let stamp = files.fold(stamp, |stamp, (name, text)| stamp.with(name).with(text));
+        let contents = self.dependencies.iter().map(|it| it.contents.to_string());
+        Ok(contents.fold(stamp, |stamp, contents| stamp.with(contents)))
+    }
+
+    /// Builds the crate in a folder, and returns the file that cargo made.
+    pub fn build(&self, folder: &Path) -> Result<PathBuf, String> {
+        write(&folder.join("Cargo.toml"), self.manifest())?;
+        for (name, text) in &self.files {
+            write(&folder.join("src").join(name), text)?;
+        }
+        let mut cargo = Command::new("cargo");
+        cargo.args(["build", "--quiet"]).current_dir(folder);
+        let (profile, file) = match self.kind {
+            Kind::Archive | Kind::ArchiveOfUnits => ("release", "libtimed.a"),
+            Kind::SharedObject => ("release", OBJECT),
+            Kind::DebugSharedObject => ("debug", OBJECT),
+        };
+        if profile == "release" {
+            cargo.arg("--release");
+        }
+        if self.dependencies.iter().any(|it| it.is_in_debian) {
+            cargo.arg("--config").arg("source.crates-io.replace-with=\"debian\"");
+            cargo.arg("--config").arg(format!("source.debian.directory=\"{DEBIAN}\""));
+        }
+        cargo.env("CARGO_TARGET_DIR", folder.join("target")).env("CARGO_NET_RETRY", "0");
+        cargo.env("RUSTFLAGS", &self.flags);
+        run(&mut cargo)?;
+        Ok(folder.join("target").join(profile).join(file))
+    }
+
+    /// Builds the shared object, unless the cache has it.
+    pub fn shared_object(&self, cache: &Cache, name: &str) -> Result<PathBuf, String> {
+        let name = format!("{name}-{}", self.stamp()?);
+        let folder = cache.built(&name, |room, filled| {
+            let built = self.build(room)?;
+            fs::copy(&built, filled.join(OBJECT)).map_err(|error| failed(&built, error)).map(|_| ())
+        })?;
+        Ok(folder.join(OBJECT))
+    }
+
+    fn manifest(&self) -> String {
+        let (kind, profile) = match self.kind {
+            Kind::Archive => ("staticlib", "panic = \"abort\"\nlto = true\ncodegen-units = 1\n"),
+            Kind::ArchiveOfUnits => ("staticlib", "codegen-units = 256\n"),
+            Kind::SharedObject | Kind::DebugSharedObject => ("cdylib", "codegen-units = 256\n"),
+        };
+        let lines = self.dependencies.iter().map(|it| it.line.as_str());
+        let dependencies = lines.collect::<Vec<_>>().join("\n");
+        format!(
+            "[package]\nname = \"timed\"\nversion = \"0.1.0\"\nedition = \"2024\"\n\n\
+             [lib]\ncrate-type = [\"{kind}\"]\n\n[profile.release]\n{profile}\n\
+             [workspace]\n\n[dependencies]\n{dependencies}\n"
+        )
+    }
+}
+
+// The version of a crate that Debian's packages have put on this machine.
+fn debian_version(package: &str) -> Option<String> {
+    let entries = fs::read_dir(DEBIAN).ok()?;
+    let names = entries.filter_map(|entry| entry.ok()?.file_name().into_string().ok());
+    let mut versions = names.filter_map(|name| {
+        let version = name.strip_prefix(package)?.strip_prefix('-')?;
+        version.starts_with(|first: char| first.is_ascii_digit()).then(|| version.to_string())
+    });
+    versions.next().map(|version| format!("={version}"))
+}
+
+/// The version of a crate that cargo took, by its `Cargo.lock`.
+pub fn locked_version(lock: &Path, dependency: &Dependency) -> Result<String, String> {
+    let text = fs::read_to_string(lock).map_err(|error| failed(lock, error))?;
+    let name = format!("name = \"{}\"", dependency.package);
+    let mut lines = text.lines().skip_while(|line| *line != name);
+    let version = lines.nth(1).and_then(|line| line.split('"').nth(1));
+    version.map(String::from).ok_or_else(|| format!("{} has no {name}", lock.display()))
+}

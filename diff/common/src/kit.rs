@@ -1,0 +1,117 @@
+//! Static libraries that the kit proves and builds, in a folder outside the repository: the merge gate
+//! refuses a Rattle file that belongs to no crate of the repository.
+
+use crate::cache::{entries, failed, write};
+use crate::command::run;
+use crate::stamp::Stamp;
+use std::collections::BTreeMap;
+use std::fs;
+use std::path::{Path, PathBuf};
+use std::process::Command;
+
+// The folders of a crate that are copied. What `rt` keeps for a crate is in another one.
+const PARTS: [&str; 3] = ["src", "specs", "proofs"];
+
+/// Which kit there is, in one line.
+pub fn version() -> Result<String, String> {
+    let line = run(Command::new("rt").arg("version"))?;
+    Ok(line.trim().to_string())
+}
+
+/// A static library of exports.
+pub struct Library {
+    pub name: &'static str,
+    /// The libraries that it uses: crates of the repository or of the kit.
+    pub uses: &'static str,
+    /// The name and the text of each file.
+    pub files: Vec<(&'static str, String)>,
+}
+
+impl Library {
+    /// Everything that the library is made of, with the crates of the repository at `top`.
+    pub fn stamp(&self, top: &Path, cpu: &str) -> Result<Stamp, String> {
+        let mut stamp = Stamp::new().with(self.name).with(self.uses).with(cpu).with(version()?);
+        for (name, text) in &self.files {
+            stamp = stamp.with(name).with(text);
+        }
+        for (name, uses) in self.crates(top)? {
+            stamp = stamp.with(&name).with(uses);
+            for folder in parts(top, &name) {
+                stamp = stamp.with_folder(&folder)?;
+            }
+        }
+        Ok(stamp)
+    }
+
+    /// Builds the library in a workspace, and returns its file. This proves it and what it uses.
+    pub fn build(&self, top: &Path, workspace: &Path, cpu: &str) -> Result<PathBuf, String> {
+        let mut graph = format!("{} staticlib: {}\n", self.name, self.uses);
+        for (name, uses) in self.crates(top)? {
+            graph += &format!("{name}:{uses}\n");
+            let folder = workspace.join("crates").join(&name);
+            for part in PARTS {
+                mirror(&top.join("crates").join(&name).join(part), &folder.join(part))?;
+            }
+        }
+        let folder = workspace.join("crates").join(self.name);
+        write_changed(&workspace.join("crates.txt"), graph.as_bytes())?;
+        for (file, text) in &self.files {
+            write_changed(&folder.join("src").join(file), text.as_bytes())?;
+        }
+        run(Command::new("rt").args(["lib", "--cpu", cpu]).current_dir(&folder))?;
+        Ok(folder.join("out").join(format!("lib{}.a", self.name)))
+    }
+
+    // The crates of the repository that the library needs, and what each uses.
+    fn crates(&self, top: &Path) -> Result<BTreeMap<String, String>, String> {
+        let file = top.join("crates.txt");
+        let text = fs::read_to_string(&file).map_err(|error| failed(&file, error))?;
+        let graph: BTreeMap<&str, &str> =
+            text.lines().filter_map(|line| line.split_once(':')).collect();
+        let mut crates = BTreeMap::new();
+        let mut wanted: Vec<&str> = self.uses.split_whitespace().collect();
+        while let Some(name) = wanted.pop() {
+            let Some(uses) = graph.get(name) else { continue };
+            if crates.insert(name.to_string(), uses.to_string()).is_none() {
+                wanted.extend(uses.split_whitespace());
+            }
+        }
+        Ok(crates)
+    }
+}
+
+// The folders that a crate has.
+fn parts(top: &Path, name: &str) -> impl Iterator<Item = PathBuf> {
+    let folder = top.join("crates").join(name);
+    PARTS.into_iter().map(move |part| folder.join(part)).filter(|part| part.is_dir())
+}
+
+// Gives a folder the files of another. A file that stays the same is not touched.
+fn mirror(from: &Path, to: &Path) -> Result<(), String> {
+    let files = |folder: &Path| if folder.is_dir() { entries(folder) } else { Ok(Vec::new()) };
+    for old in files(to)? {
+        let new = from.join(old.file_name().unwrap_or_default());
+        let removed = match (old.is_dir(), new.is_dir()) {
+            (true, false) => fs::remove_dir_all(&old),
+            (false, is_folder) if is_folder || !new.exists() => fs::remove_file(&old),
+            _ => Ok(()),
+        };
+        removed.map_err(|error| failed(&old, error))?;
+    }
+    for new in files(from)? {
+        let copy = to.join(new.file_name().unwrap_or_default());
+        if new.is_dir() {
+            mirror(&new, &copy)?;
+        } else {
+            write_changed(&copy, &fs::read(&new).map_err(|error| failed(&new, error))?)?;
+        }
+    }
+    Ok(())
+}
+
+fn write_changed(file: &Path, text: &[u8]) -> Result<(), String> {
+    match fs::read(file) {
+        Ok(now) if now == text => Ok(()),
+        _ => write(file, text),
+    }
+}

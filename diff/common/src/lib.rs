@@ -1,0 +1,34 @@
+//! What `diff/compare` and `bench` share: a cache outside the repository, and what builds the library, the
+//! Cargo package and the original there.
+
+pub mod cache;
+pub mod cargo;
+pub mod command;
+pub mod integer;
+pub mod kit;
+pub mod object;
+pub mod original;
+pub mod package;
+pub mod random;
+pub mod stamp;
+
+/// One of the two forms in which the library has each function.
+#[derive(Clone, Copy, PartialEq, Eq)]
+pub enum Form {
+    /// `atoi_simd`, on words.
+    Words,
+    /// `atoi_simd::lanes`.
+    Lanes,
+}
+
+impl Form {
+    pub const BOTH: [Form; 2] = [Form::Words, Form::Lanes];
+
+    /// What the form is called in tables.
+    pub fn name(self) -> &'static str {
+        match self {
+            Form::Words => "words",
+            Form::Lanes => "lanes",
+        }
+    }
+}

@@ -1,0 +1,51 @@
+//! The Cargo package at the top of the repository.
+
+use crate::cache::{entries, failed};
+use crate::cargo::Dependency;
+use crate::stamp::Stamp;
+use std::fs;
+use std::path::{Path, PathBuf};
+
+/// The name of the package.
+pub const PACKAGE: &str = "torkettle";
+
+/// The Cargo package of one state of the repository.
+#[derive(Clone)]
+pub struct Package {
+    folder: PathBuf,
+    contents: Stamp,
+}
+
+impl Package {
+    /// The package whose manifest is in this folder.
+    pub fn of_folder(folder: &Path) -> Result<Package, String> {
+        let manifest = folder.join("Cargo.toml");
+        let text = fs::read(&manifest).map_err(|error| failed(&manifest, error))?;
+        let mut contents = Stamp::new().with(text);
+        for part in ["rust/build", "rust/src"] {
+            contents = contents.with_folder(&folder.join(part))?;
+        }
+        let crates = entries(&folder.join("crates"))?;
+        for source in crates.iter().map(|it| it.join("src")).filter(|source| source.is_dir()) {
+            contents = contents.with(source.to_string_lossy().as_bytes()).with_folder(&source)?;
+        }
+        Ok(Package { folder: folder.to_path_buf(), contents })
+    }
+
+    /// Everything that it is made of.
+    pub fn stamp(&self) -> Stamp {
+        self.contents
+    }
+
+    /// Whether the public interface has an item of this name.
+    pub fn has(&self, item: &str) -> bool {
+        let text = fs::read_to_string(self.folder.join("rust/src/lib.rs")).unwrap_or_default();
+        let mut code = text.lines().filter(|line| !line.trim_start().starts_with("//"));
+        code.any(|line| line.split(|c: char| !c.is_alphanumeric()).any(|word| word == item))
+    }
+
+    /// What a generated crate writes into its manifest to use the package under this name.
+    pub fn dependency(&self, name: &str) -> Dependency {
+        Dependency::of_folder(PACKAGE, name, &self.folder, self.contents)
+    }
+}
