@@ -14,9 +14,12 @@ pub struct Digits {
 }
 
 impl Digits {
-    /// Whether all numbers have the same number of digits.
-    pub fn is_one_width(&self) -> bool {
-        self.counts.len() == 1
+    /// The number of digits, if all numbers have the same.
+    pub fn width(&self) -> Option<usize> {
+        match self.counts[..] {
+            [width] => Some(width),
+            _ => None,
+        }
     }
 
     /// The largest number of digits.

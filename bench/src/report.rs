@@ -2,6 +2,7 @@
 
 use crate::builds::Build;
 use crate::timing::{self, Comparison, Ratios, Side, Timed, Times};
+use std::ops::RangeInclusive;
 use torkettle_common::Form;
 use torkettle_common::random::Random;
 
@@ -16,6 +17,14 @@ const SHOWN: usize = 6;
 
 // If more sides are compared, the lines on which we are slower are told once more.
 const FEW: usize = 2;
+
+// Groups of lists, by the number of digits that all numbers of a list have: 0 if they differ.
+const GROUPS: [(&str, RangeInclusive<usize>); 4] = [
+    ("mixed", 0..=0),
+    ("of one width", 1..=usize::MAX),
+    ("of one width, 1 to 4 digits", 1..=4),
+    ("of one width, 5 or more", 5..=usize::MAX),
+];
 
 /// The times of several sides.
 pub struct Table {
@@ -135,17 +144,18 @@ impl Table {
         }
     }
 
-    // Prints the lines of one build, and returns by how many percent the passes differ at most. If
-    // some lists have numbers of one width and some have not, each group has a line too.
+    // Prints the lines of one build, and returns by how many percent the passes differ at most. Each
+    // group that has some of the lists has a line too.
     fn print_ratios(&self, pair: &[Comparison]) -> f64 {
         let has_both = |times: &&Times| pair.iter().all(|it| it.ratio(times).is_some());
         let all: Vec<&Times> = self.times.iter().filter(has_both).collect();
-        let (one_width, mixed): (Vec<&Times>, Vec<&Times>) =
-            all.iter().partition(|times| times.is_one_width);
         let name = &self.sides[pair[0].theirs].name;
-        if !one_width.is_empty() && !mixed.is_empty() {
-            print_group(pair, &format!("{name} | {} mixed", mixed.len()), &mixed);
-            print_group(pair, &format!("{name} | {} of one width", one_width.len()), &one_width);
+        for (group, widths) in GROUPS {
+            let is_in = |times: &&Times| widths.contains(&times.width.unwrap_or_default());
+            let times: Vec<&Times> = all.iter().copied().filter(is_in).collect();
+            if !times.is_empty() && times.len() < all.len() {
+                print_group(pair, &format!("{name} | {} {group}", times.len()), &times);
+            }
         }
         print_group(pair, &format!("{name} | {}", all.len()), &all)
     }

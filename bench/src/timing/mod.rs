@@ -49,11 +49,11 @@ impl Timed {
         }
     }
 
-    fn is_one_width(&self) -> bool {
+    fn width(&self) -> Option<usize> {
         match self {
-            Timed::List { list, .. } => list.digits.is_one_width(),
-            Timed::Column { shape, .. } => shape.digits.is_one_width(),
-            Timed::Format(_) => false,
+            Timed::List { list, .. } => list.digits.width(),
+            Timed::Column { shape, .. } => shape.digits.width(),
+            Timed::Format(_) => None,
         }
     }
 
@@ -101,8 +101,8 @@ struct Calls {
 /// The times of all sides on one input list, column or format.
 pub struct Times {
     pub name: String,
-    /// Whether all numbers have the same number of digits.
-    pub is_one_width: bool,
+    /// The number of digits, if all numbers have the same.
+    pub width: Option<usize>,
     // For each pass and side, the best round at each placement.
     passes: Vec<Vec<Vec<f64>>>,
     // For each side, whether one of its sums was not the expected one.
@@ -157,8 +157,8 @@ pub fn tasks(
 
 impl Task {
     fn new(timed: &Timed, random: &mut Random) -> Task {
-        let (name, is_one_width) = (timed.name(), timed.is_one_width());
-        let times = Times { name, is_one_width, passes: Vec::new(), is_wrong: Vec::new() };
+        let (name, width) = (timed.name(), timed.width());
+        let times = Times { name, width, passes: Vec::new(), is_wrong: Vec::new() };
         Task { times, input: timed.input(random), sides: Vec::new() }
     }
 
