@@ -4,16 +4,27 @@
 //! ```
 //! use torkettle::{AtoiSimdError, parse, parse_prefix};
 //!
-//! assert_eq!(parse::<u16, false, false>(b"8080"), Ok(8080));
-//! assert_eq!(parse::<i8, false, false>(b"-128"), Ok(-128));
-//! assert_eq!(parse_prefix::<i32, true, true>(b"+0042,7"), Ok((42, 5)));
-//! assert_eq!(parse::<u8, false, false>(b"256x"), Err(AtoiSimdError::Overflow(b"256x")));
+//! const SKIP_ZEROES: bool = true; // allows any number of leading zeros
+//! const SKIP_PLUS: bool = false; // allows no `+`
+//!
+//! assert_eq!(parse::<u8, SKIP_ZEROES, SKIP_PLUS>(b"042"), Ok(42));
+//! assert_eq!(parse::<u8, SKIP_ZEROES, SKIP_PLUS>(b"+42"), Err(AtoiSimdError::Empty));
+//! assert_eq!(parse_prefix::<u16, SKIP_ZEROES, SKIP_PLUS>(b"8080/tcp"), Ok((8080, 4)));
 //! ```
 //!
-//! `parse` reads a whole slice. `parse_prefix` reads the number at the start of a slice, and also
-//! returns the length of that number in bytes. The two `bool` parameters are flags. The first,
-//! `SKIP_ZEROES`, allows any number of leading zeros: without it, they count as digits, of which some
-//! types have a limit. The second, `SKIP_PLUS`, allows a `+` before the digits.
+//! | To read | Call |
+//! |---|---|
+//! | a slice that is one number | [`parse`] |
+//! | the number at the start of a slice, and its length | [`parse_prefix`] |
+//! | digits without a sign, or after a `-` | [`parse_pos`], [`parse_neg`], [`parse_prefix_pos`], [`parse_prefix_neg`] |
+//! | numbers with a separator between them, or one per line | [`column::Fields`] |
+//! | such numbers up to the first error | [`column::Column`] |
+//! | the integers of a version, a date, an address or JSON | the functions of [`formats`] |
+//!
+//! Without `SKIP_ZEROES`, leading zeros are accepted too, but they count as digits, of which some calls
+//! accept only a certain number ([`AtoiSimdError::Size`]).
+//!
+//! # In place of `atoi_simd`
 //!
 //! Names, signatures and results are those of the crate `atoi_simd` 0.18.1, apart from [a few
 //! differences][differences]. To use this crate in its place, change one line of `Cargo.toml`:
@@ -21,24 +32,6 @@
 //! ```toml
 //! [dependencies]
 //! atoi_simd = { package = "torkettle", path = "../torkettle" }
-//! ```
-//!
-//! Where a number ends, the rest begins:
-//!
-//! ```
-//! use torkettle::{AtoiSimdError, parse_prefix};
-//!
-//! // Reads the numbers of `7x42`.
-//! fn size(text: &[u8]) -> Result<Option<(u32, u32)>, AtoiSimdError<'_>> {
-//!     let (width, count) = parse_prefix::<u32, false, false>(text)?;
-//!     let Some(rest) = text[count..].strip_prefix(b"x") else { return Ok(None) };
-//!     let (height, count) = parse_prefix::<u32, false, false>(rest)?;
-//!     Ok(rest[count..].is_empty().then_some((width, height)))
-//! }
-//!
-//! assert_eq!(size(b"7x42"), Ok(Some((7, 42))));
-//! assert_eq!(size(b"7x"), Err(AtoiSimdError::Empty));
-//! assert_eq!(size(b"7-42"), Ok(None));
 //! ```
 //!
 //! # What is proved
@@ -59,7 +52,7 @@
 #![no_std]
 #![cfg_attr(not(feature = "lanes"), forbid(unsafe_code))]
 #![cfg_attr(feature = "lanes", deny(unsafe_code))]
-#![warn(missing_docs)]
+#![warn(missing_docs, clippy::missing_errors_doc, clippy::missing_panics_doc)]
 
 #[cfg(not(target_pointer_width = "64"))]
 compile_error!("torkettle needs a target with 64-bit pointers: its proofs are for no others");
@@ -98,18 +91,15 @@ pub use proved::atoi_simd::{
 /// assert_eq!(total, 8160);
 /// ```
 ///
-/// [`Column`](column::Column) ends after the first field that is not a number, and says why:
+/// [`Column`](column::Column) ends after the first field that is not a number, so that you can collect
+/// or add up its items:
 ///
 /// ```
 /// use torkettle::column::{Column, ColumnError};
 ///
-/// let total: Result<u16, ColumnError> = Column::<u16>::new(b"80,443,8080", b',').sum();
-/// assert_eq!(total, Ok(8603));
-///
-/// let mut column = Column::<u16>::new(b"80,44x,8080", b',');
-/// assert_eq!(column.next(), Some(Ok(80)));
-/// assert_eq!(column.next(), Some(Err(ColumnError::Trailing { index: 1, place: 5 })));
-/// assert_eq!(column.next(), None);
+/// let total = |text| Column::<u16>::new(text, b',').sum::<Result<u16, ColumnError>>();
+/// assert_eq!(total(b"80,443,8080"), Ok(8603));
+/// assert_eq!(total(b"80,44x,8080"), Err(ColumnError::Trailing { index: 1, place: 5 }));
 /// ```
 ///
 /// A longer input can be read by pieces, each of which ends with a separator:
@@ -201,6 +191,12 @@ pub mod formats {
 /// They are faster for many calls on long numbers, if the target has the feature `ssse3`, as with
 /// `-C target-cpu=x86-64-v2`. Without that feature, use the functions at the root. `docs/PERFORMANCE.md`
 /// has the figures. No version promises that this module stays as it is.
+///
+/// ```
+/// use torkettle::lanes::parse;
+///
+/// assert_eq!(parse::<u64, false, false>(b"18446744073709551615"), Ok(u64::MAX));
+/// ```
 #[cfg(all(target_pointer_width = "64", feature = "lanes"))]
 pub mod lanes {
     pub use crate::proved::atoi_lanes::{

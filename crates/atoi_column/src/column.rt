@@ -13,6 +13,13 @@ use std::iter::FusedIterator;
 use std::marker::{Model, PhantomData};
 
 /// Returns whether `byte` may separate fields: any byte except a digit, `+` or `-`.
+///
+/// ```
+/// use torkettle::column::is_separator;
+///
+/// assert!(is_separator(b','));
+/// assert!(!is_separator(b'-'));
+/// ```
 #[inline]
 pub fn is_separator(byte: u8) -> bool
     ensures { result ≡ is_separator byte }
@@ -20,12 +27,19 @@ pub fn is_separator(byte: u8) -> bool
     !matches!(byte, b'0'..=b'9' | b'+' | b'-')
 }
 
-/// The numbers of a byte slice, each but the last ended by a separator. Two separators in a row have
-/// an empty field between them. A field that `atoi_simd::parse::<T, true, true>` refuses gives an
-/// error and ends the column: `1,002,x` has the items `Ok(1)`, `Ok(2)` and an error.
+/// The numbers of a byte slice, with a separator between them, up to the first field that
+/// `parse::<T, true, true>` refuses. Its [error](ColumnError) is the last item.
+///
+/// ```
+/// use torkettle::column::{Column, ColumnError};
+///
+/// let mut column = Column::<u16>::new(b"80,44x,8080", b',');
+/// assert_eq!(column.next(), Some(Ok(80)));
+/// assert_eq!(column.next(), Some(Err(ColumnError::Trailing { index: 1, place: 5 })));
+/// assert_eq!(column.next(), None);
+/// ```
 #[derive(Drop)]
 pub struct Column<'a, T: Parse> {
-    // What is still to be read.
     rest: &'a [u8],
     // Set after the last field, and after an error.
     has_ended: bool,
@@ -53,7 +67,15 @@ impl<'a, T: Parse> Model for Column<'a, T> {
 }
 
 impl<'a, T: Parse> Column<'a, T> {
-    /// Makes a column of the fields of `input`.
+    /// Makes a column of the fields of `input`. One more separator may follow the last field. Between
+    /// two separators in a row, there is an empty field, which is refused.
+    ///
+    /// ```
+    /// use torkettle::column::{Column, ColumnError};
+    ///
+    /// let total: Result<u16, ColumnError> = Column::<u16>::new(b"80,443,+07,", b',').sum();
+    /// assert_eq!(total, Ok(530));
+    /// ```
     ///
     /// # Panics
     ///
@@ -97,8 +119,6 @@ impl<'a, T: Parse> Iterator for Column<'a, T> {
 
     ghost remaining = { item_count (λ left. left) };
 
-    /// Returns the value of the next field, or an error that says why it has none. Returns `None`
-    /// at the end, and after an error.
     #[inline(always)]
     fn next(&mut self) -> Option<Result<T, ColumnError<'a>>> {
         fields_are_prefixes::<T>();

@@ -10,6 +10,16 @@ use std::fmt;
 
 /// Why a field of a column has no value. `index` counts the fields from 0, and `place` is an offset
 /// in the slice that the column was made from.
+///
+/// ```
+/// use torkettle::AtoiSimdError;
+/// use torkettle::column::{Column, ColumnError};
+///
+/// let error = Column::<u8>::new(b"80,443", b',').find_map(Result::err).unwrap();
+/// let cause = AtoiSimdError::Overflow(b"443");
+/// assert_eq!(error, ColumnError::Field { index: 1, place: 3, cause });
+/// assert_eq!(error.to_string(), "field 1 at byte 3 is out of range");
+/// ```
 #[derive(Debug, Clone, Copy, PartialEq, Eq)]
 pub enum ColumnError<'a> {
     /// No number of the type can be read at the start of the field.
@@ -33,6 +43,13 @@ impl ColumnError<'_> {
     ghost use Rattle.atoi_column.specs.Items.{flaw_of, index_of, place_of};
 
     /// Returns the index of the field, from 0.
+    ///
+    /// ```
+    /// use torkettle::column::Column;
+    ///
+    /// let error = Column::<u8>::new(b"1,2x", b',').find_map(Result::err).unwrap();
+    /// assert_eq!(error.index(), 1);
+    /// ```
     #[inline]
     pub fn index(&self) -> usize
         ensures { result ≡ index_of (flaw_of self.now) }
@@ -42,8 +59,16 @@ impl ColumnError<'_> {
         }
     }
 
-    /// Returns the offset of the field's first byte if no number can be read there, otherwise that
-    /// of the byte after the number.
+    /// Returns the offset of the field's first byte if no number can be read there, and otherwise the
+    /// offset of the byte after the number.
+    ///
+    /// ```
+    /// use torkettle::column::Column;
+    ///
+    /// let place = |text| Column::<u8>::new(text, b',').find_map(Result::err).unwrap().place();
+    /// assert_eq!(place(b"1,x2"), 2);
+    /// assert_eq!(place(b"1,2x"), 3);
+    /// ```
     #[inline]
     pub fn place(&self) -> usize
         ensures { result ≡ place_of (flaw_of self.now) }

@@ -11,6 +11,16 @@ use std::error::Error;
 use std::fmt;
 
 /// A field that is not a number of the type, and why.
+///
+/// ```
+/// use torkettle::AtoiSimdError;
+/// use torkettle::column::Fields;
+///
+/// let error = Fields::<u8>::new(b"80,+44x", b',').find_map(Result::err).unwrap();
+/// assert_eq!((error.index, error.place, error.text), (1, 3, &b"+44x"[..]));
+/// assert_eq!(error.cause, AtoiSimdError::Invalid64(44, 2, b"44x"));
+/// assert_eq!(error.to_string(), "field 1 at byte 3 has an unexpected byte at byte 6");
+/// ```
 #[derive(Debug, Clone, Copy, PartialEq, Eq)]
 pub struct FieldError<'a> {
     /// How many fields precede it.

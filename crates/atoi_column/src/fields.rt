@@ -15,12 +15,20 @@ use atoi_simd::{Parse, parse, parse_prefix};
 use std::iter::FusedIterator;
 use std::marker::{Model, PhantomData};
 
-/// The fields of a byte slice, each but the last ended by a separator. The item of a field that
-/// `atoi_simd::parse::<T, true, true>` refuses is an error: `1,x,3` has the items `Ok(1)`, an error
-/// and `Ok(3)`.
+/// The numbers of a byte slice, with a separator between them. The item of a field that
+/// `parse::<T, true, true>` refuses is an [error](FieldError), and the next field follows.
+///
+/// ```
+/// use torkettle::column::Fields;
+///
+/// let mut fields = Fields::<u8>::new(b"1,x,3", b',');
+/// assert_eq!(fields.next(), Some(Ok(1)));
+/// assert_eq!(fields.next().unwrap().unwrap_err().text, b"x");
+/// assert_eq!(fields.next(), Some(Ok(3)));
+/// assert_eq!(fields.next(), None);
+/// ```
 #[derive(Drop)]
 pub struct Fields<'a, T: Parse> {
-    // What is still to be read.
     rest: &'a [u8],
     separator: u8,
     // A carriage return before the separator is no part of the field.
@@ -54,6 +62,13 @@ impl<'a, T: Parse> Model for Fields<'a, T> {
 impl<'a, T: Parse> Fields<'a, T> {
     /// The fields of `input`, with a separator between them. One more may follow the last field.
     ///
+    /// ```
+    /// use torkettle::column::Fields;
+    ///
+    /// let numbers: Vec<u8> = Fields::new(b"1;x;+03;", b';').flatten().collect();
+    /// assert_eq!(numbers, [1, 3]);
+    /// ```
+    ///
     /// # Panics
     ///
     /// In Rust, if `separator` is a digit, `+` or `-`.
@@ -78,6 +93,13 @@ impl<'a, T: Parse> Fields<'a, T> {
 
     /// The lines of `input`, as `str::lines` splits them: a line ends with `\n` or `\r\n`, which are
     /// no part of it.
+    ///
+    /// ```
+    /// use torkettle::column::Fields;
+    ///
+    /// let lines = Fields::<u8>::lines(b"80\r\n\n443");
+    /// assert_eq!(lines.map(|item| item.ok()).collect::<Vec<_>>(), [Some(80), None, None]);
+    /// ```
     #[inline]
     pub fn lines(input: &'a [u8]) -> Fields<'a, T>
         ensures left { result ≡ lines_in input.now }
@@ -149,8 +171,6 @@ impl<'a, T: Parse> Iterator for Fields<'a, T> {
 
     ghost remaining = { item_count (field_items_left T.int_type) };
 
-    /// Returns the value of the next field, or an error that says why it has none. Returns `None`
-    /// at the end.
     #[inline(always)]
     fn next(&mut self) -> Option<Result<T, FieldError<'a>>> {
         let (rest, index) = (self.rest, self.index);

@@ -11,6 +11,14 @@ use std::str::from_utf8;
 impl AtoiSimdError<'_> {
     /// Writes what `Display` prints to the start of `out`, and returns its length. It shows at most
     /// 48 bytes of the slice, in hexadecimal.
+    ///
+    /// ```
+    /// let error = torkettle::AtoiSimdError::Overflow(b"256");
+    /// let mut out = [0; 400];
+    /// let length = error.text(&mut out);
+    /// assert_eq!(&out[..length], b"atoi_simd overflow, input: [32, 35, 36]");
+    /// assert_eq!(&out[..length], error.to_string().as_bytes());
+    /// ```
     pub fn text(&self, out: &mut [u8; 400]) -> usize
         ensures text { take result out.new ≡ error_text (refusal_of self.now) }
         ensures fits { result ≤ 332 }

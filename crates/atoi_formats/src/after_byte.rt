@@ -1,7 +1,7 @@
 //! Steps over one expected byte.
 ghost use Rattle.std.specs.Prelude.{◌≡◌, ℕ, List, ◌∷◌, IfSome, IfNone};
 
-/// Returns what follows `byte`, if `text` begins with it.
+/// Returns what follows `byte` if `text` begins with it, and otherwise `None`.
 ///
 /// ```
 /// use torkettle::formats::after;

@@ -42,8 +42,10 @@ pub fn canonical<T: Parse>(text: &[u8]) -> Option<T>
     }
 }
 
-/// Reads the number that `text` begins with, as `canonical` does, and the `byte` after it, which must
+/// Reads the number that `text` begins with, as [`canonical`] does, and the `byte` after it, which must
 /// not be a digit. Returns the number, and what follows the byte.
+///
+/// Returns `None` if `text` does not begin with such a number in the range of `T` and the byte.
 ///
 /// ```
 /// use torkettle::formats::canonical_then;
@@ -51,6 +53,10 @@ pub fn canonical<T: Parse>(text: &[u8]) -> Option<T>
 /// assert_eq!(canonical_then::<u8>(b"192.168", b'.'), Some((192, &b"168"[..])));
 /// assert_eq!(canonical_then::<u8>(b"01.2", b'.'), None);
 /// ```
+///
+/// # Panics
+///
+/// In Rust, if `byte` is a digit.
 #[inline]
 #[tactic(auto, unfolding(crate::specs::Formats::IsCanonical))]
 pub fn canonical_then<T: Parse>(text: &[u8], byte: u8) -> Option<(T, &[u8])>

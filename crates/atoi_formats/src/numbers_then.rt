@@ -8,8 +8,8 @@ use crate::after_byte::after;
 use atoi_simd::laws::number_then_byte;
 use atoi_simd::{Parse, parse_prefix, parse_prefix_pos};
 
-/// Reads the number that `text` begins with, as `number` does, and the `byte` after it, which must
-/// not be a digit. Returns the number, and what follows the byte.
+/// Reads the number that `text` begins with, as [`number`](crate::formats::number) does, and the `byte`
+/// after it, which must not be a digit. Returns the number, and what follows the byte.
 ///
 /// Returns `None` if `text` does not begin with a number in the range of `T` and the byte.
 ///
@@ -20,6 +20,10 @@ use atoi_simd::{Parse, parse_prefix, parse_prefix_pos};
 /// assert_eq!(number_then::<i32>(b"-3;40", b','), None);
 /// assert_eq!(number_then::<i32>(b"-3", b','), None);
 /// ```
+///
+/// # Panics
+///
+/// In Rust, if `byte` is a digit.
 #[inline]
 #[tactic(auto, unfolding(crate::specs::Formats::IsNumber))]
 pub fn number_then<T: Parse>(text: &[u8], byte: u8) -> Option<(T, &[u8])>
@@ -41,7 +45,7 @@ pub fn number_then<T: Parse>(text: &[u8], byte: u8) -> Option<(T, &[u8])>
     Some((number, rest))
 }
 
-/// As `number_then`, for digits without a sign.
+/// Like [`number_then`], for digits without a sign.
 ///
 /// ```
 /// use torkettle::formats::digits_then;
@@ -49,6 +53,10 @@ pub fn number_then<T: Parse>(text: &[u8], byte: u8) -> Option<(T, &[u8])>
 /// assert_eq!(digits_then::<u32>(b"1.22.333", b'.'), Some((1, &b"22.333"[..])));
 /// assert_eq!(digits_then::<u32>(b"+1.22", b'.'), None);
 /// ```
+///
+/// # Panics
+///
+/// In Rust, if `byte` is a digit.
 #[inline]
 pub fn digits_then<T: Parse>(text: &[u8], byte: u8) -> Option<(T, &[u8])>
     requires { IsFalse (is_digit decimal_table byte) }

@@ -10,18 +10,19 @@ use atoi_core::AtoiSimdError;
 use atoi_core::laws::{accepted_texts, prefix_results, whole_results};
 
 /// Parses all of `s`: an optional sign, which is a `-` if `T` is signed or a `+` with `SKIP_PLUS`, then
-/// one or more digits. With `SKIP_ZEROES`, leading zeros do not count towards the limit of digits, and
-/// every such text is accepted if its value is in the range of `T`.
+/// one or more digits. With `SKIP_ZEROES`, leading zeros do not count towards the limit of digits.
 ///
-/// `parse::<i64, false, false>(b"-2345")` returns `Ok(-2345)`.
+/// ```
+/// use torkettle::{AtoiSimdError, parse};
+/// assert_eq!(parse::<i64, false, false>(b"-2345"), Ok(-2345));
+/// assert_eq!(parse::<u8, false, false>(b"256"), Err(AtoiSimdError::Overflow(b"256")));
+/// ```
 ///
 /// # Errors
 ///
-/// The first that applies; `AtoiSimdError` says what each holds.
-/// - `Empty` if no digit follows the sign.
-/// - `Size` if there are too many digits for a type of 64 or 128 bits.
-/// - `Overflow` if the value does not fit in `T`.
-/// - `Invalid64`, or `Invalid128` for types of 128 bits, if another byte follows the digits.
+/// The first [error](AtoiSimdError) that applies: `Empty` if no digit follows the sign, `Size` if a type
+/// of 64 or 128 bits has too many digits, `Overflow` if the value does not fit in `T`, and `Invalid64`
+/// or `Invalid128` if another byte follows the digits.
 #[inline(always)]
 pub fn parse<T: Parse, const SKIP_ZEROES: bool, const SKIP_PLUS: bool>(
     s: &[u8],
@@ -39,9 +40,17 @@ pub fn parse<T: Parse, const SKIP_ZEROES: bool, const SKIP_PLUS: bool>(
     T::atoi_simd_parse(s, SKIP_ZEROES, SKIP_PLUS)
 }
 
-/// Like `parse`, but accepts no sign. The errors are the same.
+/// Like [`parse`], but accepts no sign.
 ///
-/// `parse_pos::<u128, true>(b"0012")` returns `Ok(12)`.
+/// ```
+/// use torkettle::{AtoiSimdError, parse_pos};
+/// assert_eq!(parse_pos::<u128, true>(b"0012"), Ok(12));
+/// assert_eq!(parse_pos::<i8, false>(b"-5"), Err(AtoiSimdError::Empty));
+/// ```
+///
+/// # Errors
+///
+/// As for [`parse`].
 #[inline(always)]
 pub fn parse_pos<T: Parse, const SKIP_ZEROES: bool>(s: &[u8]) -> Result<T, AtoiSimdError<'_>>
     ensures answer { typed_answer T.number result
@@ -54,10 +63,17 @@ pub fn parse_pos<T: Parse, const SKIP_ZEROES: bool>(s: &[u8]) -> Result<T, AtoiS
     T::atoi_simd_parse_pos(s, SKIP_ZEROES)
 }
 
-/// Like `parse_pos`, but returns minus the value of the digits. `s` holds no `-`. The errors are the
-/// same.
+/// Like [`parse_pos`], but returns minus the value of the digits. `s` holds no `-`.
 ///
-/// `parse_neg::<i8, false>(b"128")` returns `Ok(-128)`.
+/// ```
+/// use torkettle::{AtoiSimdError, parse_neg};
+/// assert_eq!(parse_neg::<i8, false>(b"128"), Ok(-128));
+/// assert_eq!(parse_neg::<i8, false>(b"129"), Err(AtoiSimdError::Overflow(b"129")));
+/// ```
+///
+/// # Errors
+///
+/// As for [`parse`].
 #[inline(always)]
 pub fn parse_neg<T: ParseNeg, const SKIP_ZEROES: bool>(s: &[u8]) -> Result<T, AtoiSimdError<'_>>
     ensures answer { typed_answer T.number result
@@ -70,15 +86,19 @@ pub fn parse_neg<T: ParseNeg, const SKIP_ZEROES: bool>(s: &[u8]) -> Result<T, At
     T::atoi_simd_parse_neg(s, SKIP_ZEROES)
 }
 
-/// Like `parse`, but parses the number at the start of `s`, up to the first other byte. Returns the
+/// Like [`parse`], but parses the number at the start of `s`, up to the first other byte. Returns the
 /// number and how many bytes it has, a sign and leading zeros included.
 ///
-/// `parse_prefix::<u64, false, false>(b"123something_else")` returns `Ok((123, 3))`.
+/// ```
+/// use torkettle::{AtoiSimdError, parse_prefix};
+/// assert_eq!(parse_prefix::<u64, false, false>(b"123something_else"), Ok((123, 3)));
+/// assert_eq!(parse_prefix::<u64, false, false>(b"-123"), Err(AtoiSimdError::Empty));
+/// ```
 ///
 /// # Errors
 ///
-/// `Empty`, `Size` and `Overflow`, as for `parse`. Without `SKIP_ZEROES`, `Size` is returned for more
-/// than 16 digits of a type of at most 32 bits too.
+/// `Empty`, `Size` and `Overflow`, as for [`parse`]. Without `SKIP_ZEROES`, `Size` also for more than 16
+/// digits of a type of at most 32 bits.
 #[inline(always)]
 pub fn parse_prefix<T: Parse, const SKIP_ZEROES: bool, const SKIP_PLUS: bool>(
     s: &[u8],
@@ -95,9 +115,17 @@ pub fn parse_prefix<T: Parse, const SKIP_ZEROES: bool, const SKIP_PLUS: bool>(
     T::atoi_simd_parse_prefix(s, SKIP_ZEROES, SKIP_PLUS)
 }
 
-/// Like `parse_prefix`, but accepts no sign. The errors are the same.
+/// Like [`parse_prefix`], but accepts no sign.
 ///
-/// `parse_prefix_pos::<u16, false>(b"80/tcp")` returns `Ok((80, 2))`.
+/// ```
+/// use torkettle::{AtoiSimdError, parse_prefix_pos};
+/// assert_eq!(parse_prefix_pos::<u16, false>(b"80/tcp"), Ok((80, 2)));
+/// assert_eq!(parse_prefix_pos::<u16, false>(b"+80"), Err(AtoiSimdError::Empty));
+/// ```
+///
+/// # Errors
+///
+/// As for [`parse_prefix`].
 #[inline(always)]
 pub fn parse_prefix_pos<T: Parse, const SKIP_ZEROES: bool>(
     s: &[u8],
@@ -114,10 +142,17 @@ pub fn parse_prefix_pos<T: Parse, const SKIP_ZEROES: bool>(
     T::atoi_simd_parse_prefix_pos(s, SKIP_ZEROES)
 }
 
-/// Like `parse_prefix_pos`, but returns minus the value of the digits. `s` holds no `-`. The errors are
-/// the same.
+/// Like [`parse_prefix_pos`], but returns minus the value of the digits. `s` holds no `-`.
 ///
-/// `parse_prefix_neg::<i32, false>(b"12a")` returns `Ok((-12, 2))`.
+/// ```
+/// use torkettle::{AtoiSimdError, parse_prefix_neg};
+/// assert_eq!(parse_prefix_neg::<i32, false>(b"12a"), Ok((-12, 2)));
+/// assert_eq!(parse_prefix_neg::<i32, false>(b"-12a"), Err(AtoiSimdError::Empty));
+/// ```
+///
+/// # Errors
+///
+/// As for [`parse_prefix`].
 #[inline(always)]
 pub fn parse_prefix_neg<T: ParseNeg, const SKIP_ZEROES: bool>(
     s: &[u8],
@@ -134,9 +169,15 @@ pub fn parse_prefix_neg<T: ParseNeg, const SKIP_ZEROES: bool>(
     T::atoi_simd_parse_prefix_neg(s, SKIP_ZEROES)
 }
 
-/// The old name of `parse::<T, true, true>`, with the same errors.
+/// The old name of `parse::<T, true, true>`.
 ///
-/// `parse_skipped::<isize>(b"+007")` returns `Ok(7)`.
+/// ```
+/// assert_eq!(torkettle::parse_skipped::<isize>(b"+007"), Ok(7));
+/// ```
+///
+/// # Errors
+///
+/// As for [`parse`].
 #[inline(always)]
 pub fn parse_skipped<T: Parse>(s: &[u8]) -> Result<T, AtoiSimdError<'_>>
     ensures answer { typed_answer T.number result ≡ parse_answer T.int_type true true s.now }
@@ -147,9 +188,15 @@ pub fn parse_skipped<T: Parse>(s: &[u8]) -> Result<T, AtoiSimdError<'_>>
     parse::<T, true, true>(s)
 }
 
-/// The old name of `parse_prefix::<T, false, false>`, with the same errors.
+/// The old name of `parse_prefix::<T, false, false>`.
 ///
-/// `parse_any::<usize>(b"7 ")` returns `Ok((7, 1))`.
+/// ```
+/// assert_eq!(torkettle::parse_any::<usize>(b"7 "), Ok((7, 1)));
+/// ```
+///
+/// # Errors
+///
+/// As for [`parse_prefix`].
 #[inline(always)]
 pub fn parse_any<T: Parse>(s: &[u8]) -> Result<(T, usize), AtoiSimdError<'_>>
     ensures answer { typed_prefix_answer T.number result
@@ -161,9 +208,15 @@ pub fn parse_any<T: Parse>(s: &[u8]) -> Result<(T, usize), AtoiSimdError<'_>>
     parse_prefix::<T, false, false>(s)
 }
 
-/// The old name of `parse_prefix_pos::<T, false>`, with the same errors.
+/// The old name of `parse_prefix_pos::<T, false>`.
 ///
-/// `parse_any_pos::<u8>(b"255.")` returns `Ok((255, 3))`.
+/// ```
+/// assert_eq!(torkettle::parse_any_pos::<u8>(b"255."), Ok((255, 3)));
+/// ```
+///
+/// # Errors
+///
+/// As for [`parse_prefix`].
 #[inline(always)]
 pub fn parse_any_pos<T: Parse>(s: &[u8]) -> Result<(T, usize), AtoiSimdError<'_>>
     ensures answer { typed_prefix_answer T.number result
@@ -175,9 +228,15 @@ pub fn parse_any_pos<T: Parse>(s: &[u8]) -> Result<(T, usize), AtoiSimdError<'_>
     parse_prefix_pos::<T, false>(s)
 }
 
-/// The old name of `parse_prefix_neg::<T, false>`, with the same errors.
+/// The old name of `parse_prefix_neg::<T, false>`.
 ///
-/// `parse_any_neg::<i16>(b"1-")` returns `Ok((-1, 1))`.
+/// ```
+/// assert_eq!(torkettle::parse_any_neg::<i16>(b"1-"), Ok((-1, 1)));
+/// ```
+///
+/// # Errors
+///
+/// As for [`parse_prefix`].
 #[inline(always)]
 pub fn parse_any_neg<T: ParseNeg>(s: &[u8]) -> Result<(T, usize), AtoiSimdError<'_>>
     ensures answer { typed_prefix_answer T.number result

@@ -4,9 +4,6 @@
 //! Names, flags, results and errors are as in the Rust crate `atoi_simd` 0.18.1, as compared by
 //! tests; `docs/DIFFERENCES.md` lists what differs.
 //!
-//! `parse::<u16, false, false>(b"8080")` returns `Ok(8080)`, and
-//! `parse_prefix::<i32, true, true>(b"+0042,7")` returns `Ok((42, 5))`.
-//!
 //! These functions read eight bytes at a time. The functions in `lanes` return the same results, read 16
 //! or 32 bytes at a time, and are faster for long numbers of 64 and 128 bits.
 #![tactic(auto)]

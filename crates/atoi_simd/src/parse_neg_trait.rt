@@ -7,13 +7,31 @@ use crate::default_engine::DefaultEngine;
 use atoi_core::{AtoiSimdError, Parsed, Signed, Steps, prefix_neg, whole_neg};
 
 /// A signed type that is parsed from the digits of a negative number.
+///
+/// ```
+/// use torkettle::{ParseNeg, parse_neg};
+///
+/// fn below_zero<T: ParseNeg>(digits: &[u8]) -> Option<T> {
+///     parse_neg::<T, false>(digits).ok()
+/// }
+/// assert_eq!(below_zero::<i8>(b"128"), Some(-128));
+/// assert_eq!(below_zero::<i8>(b"129"), None);
+/// ```
 pub trait ParseNeg: Signed {
-    /// The function `parse_neg`, with its flag as an argument, and with the same errors.
+    /// The function [`parse_neg`](crate::parse_neg), with its flag as an argument.
+    ///
+    /// # Errors
+    ///
+    /// As for `parse_neg`.
     fn atoi_simd_parse_neg(s: &[u8], skip_zeroes: bool) -> Result<Self, AtoiSimdError<'_>>
         ensures answer { typed_answer Self.number result
             ≡ whole_answer decimal_table Self.int_type true skip_zeroes s.now };
 
-    /// The function `parse_prefix_neg`, with its flag as an argument, and with the same errors.
+    /// The function [`parse_prefix_neg`](crate::parse_prefix_neg), with its flag as an argument.
+    ///
+    /// # Errors
+    ///
+    /// As for `parse_prefix_neg`.
     fn atoi_simd_parse_prefix_neg(
         s: &[u8],
         skip_zeroes: bool,

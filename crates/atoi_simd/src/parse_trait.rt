@@ -10,9 +10,24 @@ use atoi_core::{
 };
 
 /// An integer type that is parsed with a sign. No other crate can implement it, since none can name
-/// `ParsePos`.
+/// `ParsePos`. Its methods take flags that are known only at run time.
+///
+/// ```
+/// use torkettle::{AtoiSimdError, Parse, parse};
+///
+/// fn trimmed<T: Parse>(text: &[u8]) -> Result<T, AtoiSimdError<'_>> {
+///     parse::<T, false, false>(text.trim_ascii())
+/// }
+/// assert_eq!(trimmed::<u16>(b" 80\n"), Ok(80));
+/// let (skip_zeroes, skip_plus) = (true, false);
+/// assert_eq!(u16::atoi_simd_parse(b"+80", skip_zeroes, skip_plus), Err(AtoiSimdError::Empty));
+/// ```
 pub trait Parse: ParsePos {
-    /// The function `parse`, with its flags as arguments, and with the same errors.
+    /// The function [`parse`](crate::parse), with its flags as arguments.
+    ///
+    /// # Errors
+    ///
+    /// As for `parse`.
     fn atoi_simd_parse(
         s: &[u8],
         skip_zeroes: bool,
@@ -21,7 +36,11 @@ pub trait Parse: ParsePos {
         ensures answer { typed_answer Self.number result
             ≡ parse_answer Self.int_type skip_zeroes skip_plus s.now };
 
-    /// The function `parse_prefix`, with its flags as arguments, and with the same errors.
+    /// The function [`parse_prefix`](crate::parse_prefix), with its flags as arguments.
+    ///
+    /// # Errors
+    ///
+    /// As for `parse_prefix`.
     fn atoi_simd_parse_prefix(
         s: &[u8],
         skip_zeroes: bool,

@@ -10,7 +10,6 @@ use std::marker::Model;
 /// How many bytes a `Block` can hold.
 pub const ROOM: usize = 8192;
 
-// The largest number of digits that a number has.
 const DIGITS: usize = 39;
 
 /// The largest number of bytes that a number has: a minus and 39 digits.
@@ -40,7 +39,6 @@ impl Model for Block {
 }
 
 impl Block {
-    /// Returns an empty block.
     pub fn new() -> Block
         ensures { result ≡ [] }
     {
@@ -50,7 +48,6 @@ impl Block {
         }
     }
 
-    /// Returns the bytes so far.
     pub fn as_bytes(&self) -> &[u8]
         ensures { result.now ≡ self.now }
     {
@@ -78,7 +75,6 @@ impl Block {
         self.len += decimal_in(room, value);
     }
 
-    /// Removes all bytes.
     pub fn clear(&mut self)
         ensures { self.new ≡ [] }
     {

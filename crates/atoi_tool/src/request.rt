@@ -49,7 +49,6 @@ pub enum Integer {
 }
 
 impl Integer {
-    /// Returns whether the type is signed.
     pub fn is_signed(self) -> bool
         ensures { result ≡ (int_type_of self).signed }
     {
@@ -160,15 +159,11 @@ pub fn flags_of(word: &[u8]) -> Option<Flags>
 /// What a row about one number asks for, without its text.
 #[derive(Clone, Copy)]
 pub struct Request {
-    /// The library that parses.
     pub engine: Engine,
     /// The sign, which with `extent` names the function.
     pub sign: Sign,
-    /// The part of the text that is parsed.
     pub extent: Extent,
-    /// The type of the number.
     pub integer: Integer,
-    /// What is skipped at the start of the text.
     pub flags: Flags,
 }
 
@@ -193,7 +188,6 @@ pub enum Query {
     Number(Request),
     /// All numbers of a column.
     Column {
-        /// The type of the numbers.
         integer: Integer,
         /// The byte between two fields: any byte except a digit, `+` and `-`.
         separator: u8,

@@ -54,7 +54,6 @@ pub struct ToWriter<W> {
 impl<W: Write> ToWriter<W> {
     ghost use Rattle.atoi_tool.specs.ToWriter.{to_writer_inner, to_writer_failures};
 
-    /// Returns a sink that writes to `inner`.
     pub fn new(inner: W) -> ToWriter<W>
         ensures inner { to_writer_inner result ≡ inner }
         ensures failures { to_writer_failures result ≡ 0 }
@@ -65,7 +64,6 @@ impl<W: Write> ToWriter<W> {
         }
     }
 
-    /// Returns the writer.
     pub fn into_inner(self) -> W
         ensures { result ≡ to_writer_inner self }
     {

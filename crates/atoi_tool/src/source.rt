@@ -36,7 +36,6 @@ pub struct FromReader<R> {
 impl<R: Read> FromReader<R> {
     ghost use Rattle.atoi_tool.specs.FromReader.{from_reader_inner, from_reader_failures};
 
-    /// Returns a source that reads from `inner`.
     pub fn new(inner: R) -> FromReader<R>
         ensures inner { from_reader_inner result ≡ inner }
         ensures failures { from_reader_failures result ≡ 0 }
@@ -47,7 +46,6 @@ impl<R: Read> FromReader<R> {
         }
     }
 
-    /// Returns the reader.
     pub fn into_inner(self) -> R
         ensures { result ≡ from_reader_inner self }
     {

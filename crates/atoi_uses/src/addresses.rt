@@ -8,13 +8,9 @@ use atoi_formats::{canonical, canonical_then};
 /// An IPv4 address.
 #[derive(Clone, Copy, Debug, PartialEq, Eq)]
 pub struct Address {
-    /// The first octet.
     pub first: u8,
-    /// The second octet.
     pub second: u8,
-    /// The third octet.
     pub third: u8,
-    /// The fourth octet.
     pub fourth: u8,
 }
 

@@ -61,8 +61,7 @@ impl Error for CommandError<'_> {}
 ///
 /// # Errors
 ///
-/// - `UnknownWord` if the line does not begin with one of the two words and a space;
-/// - `BadNumber` if what follows the word and the space is not a number of type `i64`.
+/// Each variant of `CommandError` says when it is returned.
 pub fn read_command(line: &[u8]) -> Result<Command, CommandError<'_>>
     ensures exact { (command : Command) → (result ≡ Ok command) ↔ IsCommand line.now command }
     ensures refused { IfErr result (λ error. IsNoCommand line.now error) }

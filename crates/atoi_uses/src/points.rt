@@ -8,11 +8,8 @@ use atoi_formats::{number, number_then};
 /// A point in space.
 #[derive(Clone, Copy, Debug, PartialEq, Eq)]
 pub struct Point {
-    /// The first coordinate.
     pub x: i64,
-    /// The second coordinate.
     pub y: i64,
-    /// The third coordinate.
     pub z: i64,
 }
 

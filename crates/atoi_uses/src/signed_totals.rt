@@ -18,14 +18,14 @@ pub enum SignedTotalError<'a> {
     OutOfRange(i128),
 }
 
-/// Adds up the numbers of `input`, whose fields are separated by `separator`.
+/// Adds up the numbers of `input`, whose fields are separated by `separator`. Each may have a sign and
+/// leading zeros.
 ///
 /// The sum of the first few numbers may be out of the range of `i64`; only the sum of all matters.
 ///
 /// # Errors
 ///
-/// - `BadField` if a field is not a number of type `i64`, which may have a sign and leading zeros;
-/// - `OutOfRange` if the sum is out of the range of `i64`.
+/// Each variant of `SignedTotalError` says when it is returned.
 pub fn signed_total(input: &[u8], separator: u8) -> Result<i64, SignedTotalError<'_>>
     requires { is_separator separator ≡ true }
     ensures total { IfOk result (λ total. HasTotal separator input.now total) }

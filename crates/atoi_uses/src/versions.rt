@@ -9,11 +9,8 @@ use atoi_simd::parse_pos;
 /// A version of three numbers.
 #[derive(Clone, Copy, Debug, PartialEq, Eq)]
 pub struct Version {
-    /// The first number.
     pub major: u32,
-    /// The number after the first dot.
     pub minor: u32,
-    /// The number after the second dot.
     pub patch: u32,
 }
 
