@@ -22,7 +22,8 @@
 //! | the integers of a version, a date, an address or JSON | the functions of [`formats`] |
 //!
 //! Without `SKIP_ZEROES`, leading zeros are accepted too, but they count as digits, of which some calls
-//! accept only a certain number ([`AtoiSimdError::Size`]).
+//! accept only a certain number ([`AtoiSimdError::Size`]). The [`guide`] has more: flags, errors, files,
+//! embedded systems, debug builds and platforms.
 //!
 //! # In place of `atoi_simd`
 //!
@@ -37,10 +38,11 @@
 //! # What is proved
 //!
 //! The sources are written in Rattle, which is Rust with contracts, and a proof checker has verified
-//! that every function there returns exactly what its contract says. A build script leaves the
-//! contracts out, and this crate is what remains. What the proofs do not cover is that script, rustc,
-//! and that Rust's `core` means what Rattle's `std` says. Tests compare the results of this crate with
-//! the rules, with `str::parse`, with `atoi_simd`, and with the build of the checker's own compiler.
+//! that every function there returns exactly what its contract says. The checker is not public. A build
+//! script leaves the contracts out, and this crate is what remains. What the proofs do not cover is that
+//! script, rustc, and that Rust's `core` means what Rattle's `std` says. Tests compare the results of
+//! this crate with the rules, with `str::parse`, with `atoi_simd`, and with the build of the checker's
+//! own compiler.
 //!
 //! # Features
 //!
@@ -72,6 +74,13 @@ pub use proved::atoi_simd::{
     AtoiSimdError, Parse, ParseNeg, parse, parse_any, parse_any_neg, parse_any_pos, parse_neg,
     parse_pos, parse_prefix, parse_prefix_neg, parse_prefix_pos, parse_skipped,
 };
+
+/// The guide for Rust, which is `docs/GUIDE.md` in the repository.
+///
+/// Its links to other files work there.
+///
+#[cfg_attr(all(doc, not(doctest)), doc = include_str!("../../docs/GUIDE.md"))]
+pub mod guide {}
 
 /// Columns: the numbers of a byte slice that are separated by one byte, such as a comma.
 ///
@@ -119,7 +128,8 @@ pub use proved::atoi_simd::{
 /// assert_eq!((index, place), (4, 13));
 /// ```
 ///
-/// The separator must not be a digit, `+` or `-`. Both constructors panic otherwise.
+/// The separator must not be a digit, `+` or `-`. The constructors panic otherwise. The
+/// [guide](crate::guide#read-files) reads a file that is larger than memory.
 #[cfg(target_pointer_width = "64")]
 pub mod column {
     pub use crate::proved::atoi_column::{Column, ColumnError, FieldError, Fields, is_separator};
@@ -178,6 +188,7 @@ pub mod column {
 /// ```
 ///
 /// The byte after the number of a `_then` function must not be a digit. The functions panic otherwise.
+/// The [guide](crate::guide#read-other-formats) says which function reads which format.
 #[cfg(target_pointer_width = "64")]
 pub mod formats {
     pub use crate::proved::atoi_formats::{

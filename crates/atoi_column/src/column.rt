@@ -20,6 +20,8 @@ use std::marker::{Model, PhantomData};
 /// assert!(is_separator(b','));
 /// assert!(!is_separator(b'-'));
 /// ```
+///
+/// See the [guide](crate::guide#read-columns-and-lines).
 #[inline]
 pub fn is_separator(byte: u8) -> bool
     ensures { result ≡ is_separator byte }
@@ -38,6 +40,8 @@ pub fn is_separator(byte: u8) -> bool
 /// assert_eq!(column.next(), Some(Err(ColumnError::Trailing { index: 1, place: 5 })));
 /// assert_eq!(column.next(), None);
 /// ```
+///
+/// See the [guide](crate::guide#read-columns-and-lines).
 #[derive(Drop)]
 pub struct Column<'a, T: Parse> {
     rest: &'a [u8],
@@ -68,7 +72,8 @@ impl<'a, T: Parse> Model for Column<'a, T> {
 
 impl<'a, T: Parse> Column<'a, T> {
     /// Makes a column of the fields of `input`. One more separator may follow the last field. Between
-    /// two separators in a row, there is an empty field, which is refused.
+    /// two separators in a row, there is an empty field, which is refused
+    /// ([guide](crate::guide#read-columns-and-lines)).
     ///
     /// ```
     /// use torkettle::column::{Column, ColumnError};

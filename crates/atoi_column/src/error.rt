@@ -20,6 +20,8 @@ use std::fmt;
 /// assert_eq!(error, ColumnError::Field { index: 1, place: 3, cause });
 /// assert_eq!(error.to_string(), "field 1 at byte 3 is out of range");
 /// ```
+///
+/// See the [guide](crate::guide#read-columns-and-lines).
 #[derive(Debug, Clone, Copy, PartialEq, Eq)]
 pub enum ColumnError<'a> {
     /// No number of the type can be read at the start of the field.
@@ -42,7 +44,7 @@ pub enum ColumnError<'a> {
 impl ColumnError<'_> {
     ghost use Rattle.atoi_column.specs.Items.{flaw_of, index_of, place_of};
 
-    /// Returns the index of the field, from 0.
+    /// Returns the index of the field, from 0 ([guide](crate::guide#read-columns-and-lines)).
     ///
     /// ```
     /// use torkettle::column::Column;
@@ -60,7 +62,7 @@ impl ColumnError<'_> {
     }
 
     /// Returns the offset of the field's first byte if no number can be read there, and otherwise the
-    /// offset of the byte after the number.
+    /// offset of the byte after the number ([guide](crate::guide#read-columns-and-lines)).
     ///
     /// ```
     /// use torkettle::column::Column;

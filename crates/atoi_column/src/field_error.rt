@@ -21,6 +21,8 @@ use std::fmt;
 /// assert_eq!(error.cause, AtoiSimdError::Invalid64(44, 2, b"44x"));
 /// assert_eq!(error.to_string(), "field 1 at byte 3 has an unexpected byte at byte 6");
 /// ```
+///
+/// See the [guide](crate::guide#read-columns-and-lines).
 #[derive(Debug, Clone, Copy, PartialEq, Eq)]
 pub struct FieldError<'a> {
     /// How many fields precede it.

@@ -27,6 +27,8 @@ use std::marker::{Model, PhantomData};
 /// assert_eq!(fields.next(), Some(Ok(3)));
 /// assert_eq!(fields.next(), None);
 /// ```
+///
+/// See the [guide](crate::guide#read-columns-and-lines).
 #[derive(Drop)]
 pub struct Fields<'a, T: Parse> {
     rest: &'a [u8],
@@ -60,7 +62,8 @@ impl<'a, T: Parse> Model for Fields<'a, T> {
 }
 
 impl<'a, T: Parse> Fields<'a, T> {
-    /// The fields of `input`, with a separator between them. One more may follow the last field.
+    /// The fields of `input`, with a separator between them. One more may follow the last field
+    /// ([guide](crate::guide#read-columns-and-lines)).
     ///
     /// ```
     /// use torkettle::column::Fields;
@@ -92,7 +95,7 @@ impl<'a, T: Parse> Fields<'a, T> {
     }
 
     /// The lines of `input`, as `str::lines` splits them: a line ends with `\n` or `\r\n`, which are
-    /// no part of it.
+    /// no part of it ([guide](crate::guide#read-columns-and-lines)).
     ///
     /// ```
     /// use torkettle::column::Fields;
@@ -118,8 +121,8 @@ impl<'a, T: Parse> Fields<'a, T> {
         }
     }
 
-    /// Returns the same fields, but the first has the index `index` and begins at offset `place`. So a
-    /// piece of a longer input can continue at the `position` where the last piece ended.
+    /// Returns the same fields, but the first has the index `index` and begins at offset `place`: the
+    /// [`position`](Fields::position) at which the last piece of a [file](crate::guide#read-files) ended.
     ///
     /// ```
     /// use torkettle::column::Fields;
@@ -144,7 +147,7 @@ impl<'a, T: Parse> Fields<'a, T> {
 
     /// Returns the index of the next field, and the offset at which it begins. At the end, these are
     /// the number of all fields, and the offset at which the input ends. To look for an item, call
-    /// `Iterator::position` by this name.
+    /// `Iterator::position` by this name ([guide](crate::guide#read-files)).
     ///
     /// ```
     /// use torkettle::column::Fields;

@@ -5,16 +5,17 @@ ghost use Rattle.atoi_core.specs.Refusal.{refusal_of, refusal_cmp};
 use std::cmp::Ordering;
 use std::error::Error;
 
-/// Why a slice was refused: the first variant here that applies. Numbers, offsets and slices are about
-/// the *body*, the slice after its sign. Errors are ordered by variant, then by their numbers from left
-/// to right, then by their slices.
+/// Why a slice was refused: the first variant here that applies.
+///
+/// Numbers, offsets and slices are about the *body*, the slice after its sign. Errors are ordered by
+/// variant, then by their numbers from left to right, then by their slices. See the
+/// [guide](crate::guide#errors).
 ///
 /// ```
 /// use torkettle::{AtoiSimdError::*, parse};
 /// assert_eq!(parse::<u8, false, false>(b"+5"), Err(Empty));
 /// assert_eq!(parse::<u8, false, false>(b"256"), Err(Overflow(b"256")));
 /// assert_eq!(parse::<u8, false, true>(b"+12x"), Err(Invalid64(12, 2, b"12x")));
-/// assert_eq!(parse::<u128, false, false>(b"12x"), Err(Invalid128(12, 2, b"12x")));
 /// let text = b"000018446744073709551616"; // 24 digits, of which a `u64` may have 20
 /// assert_eq!(parse::<u64, false, false>(text), Err(Size(24, text)));
 /// ```

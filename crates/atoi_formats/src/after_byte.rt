@@ -9,6 +9,8 @@ ghost use Rattle.std.specs.Prelude.{◌≡◌, ℕ, List, ◌∷◌, IfSome, IfN
 /// assert_eq!(after(b":80", b':'), Some(&b"80"[..]));
 /// assert_eq!(after(b"80", b':'), None);
 /// ```
+///
+/// See the [guide](crate::guide#read-other-formats).
 #[inline]
 pub fn after(text: &[u8], byte: u8) -> Option<&[u8]>
     ensures some { IfSome result (λ rest. text.now ≡ byte ∷ rest.now) }

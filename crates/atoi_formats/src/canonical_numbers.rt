@@ -22,6 +22,8 @@ use atoi_simd::{Parse, parse, parse_prefix};
 /// assert_eq!(canonical::<i8>(b"+7"), None);
 /// assert_eq!(canonical::<i8>(b"-0"), None);
 /// ```
+///
+/// See the [guide](crate::guide#read-other-formats).
 #[inline]
 #[tactic(auto, unfolding(crate::specs::Formats::IsCanonical))]
 pub fn canonical<T: Parse>(text: &[u8]) -> Option<T>
@@ -53,6 +55,8 @@ pub fn canonical<T: Parse>(text: &[u8]) -> Option<T>
 /// assert_eq!(canonical_then::<u8>(b"192.168", b'.'), Some((192, &b"168"[..])));
 /// assert_eq!(canonical_then::<u8>(b"01.2", b'.'), None);
 /// ```
+///
+/// See the [guide](crate::guide#read-other-formats).
 ///
 /// # Panics
 ///

@@ -18,6 +18,8 @@ use atoi_simd::{Parse, parse_pos};
 /// assert_eq!(fixed_width::<u16>(b"20240229", 4), Some((2024, &b"0229"[..])));
 /// assert_eq!(fixed_width::<u8>(b"7:30", 2), None);
 /// ```
+///
+/// See the [guide](crate::guide#read-other-formats).
 #[inline]
 pub fn fixed_width<T: Parse>(text: &[u8], width: usize) -> Option<(T, &[u8])>
     ensures some { IfSome result (λ found.

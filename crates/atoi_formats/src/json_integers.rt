@@ -24,6 +24,8 @@ use atoi_simd::{Number, Parse, parse_prefix};
 /// assert_eq!(json_integer::<i32>(b"1e3"), None);
 /// assert_eq!(json_integer::<u8>(b"256"), None);
 /// ```
+///
+/// See the [guide](crate::guide#read-other-formats).
 #[inline]
 pub fn json_integer<T: Parse>(text: &[u8]) -> Option<(T, &[u8])>
     ensures some { IfSome result (λ found.

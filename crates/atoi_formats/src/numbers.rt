@@ -18,6 +18,8 @@ use atoi_simd::{Parse, parse};
 /// assert_eq!(number::<u16>(b"65536"), None);
 /// assert_eq!(number::<u16>(b"7 "), None);
 /// ```
+///
+/// See the [guide](crate::guide#read-other-formats).
 #[inline]
 #[tactic(auto, unfolding(crate::specs::Formats::IsNumber))]
 pub fn number<T: Parse>(text: &[u8]) -> Option<T>

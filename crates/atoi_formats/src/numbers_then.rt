@@ -21,6 +21,8 @@ use atoi_simd::{Parse, parse_prefix, parse_prefix_pos};
 /// assert_eq!(number_then::<i32>(b"-3", b','), None);
 /// ```
 ///
+/// See the [guide](crate::guide#read-other-formats).
+///
 /// # Panics
 ///
 /// In Rust, if `byte` is a digit.
@@ -53,6 +55,8 @@ pub fn number_then<T: Parse>(text: &[u8], byte: u8) -> Option<(T, &[u8])>
 /// assert_eq!(digits_then::<u32>(b"1.22.333", b'.'), Some((1, &b"22.333"[..])));
 /// assert_eq!(digits_then::<u32>(b"+1.22", b'.'), None);
 /// ```
+///
+/// See the [guide](crate::guide#read-other-formats).
 ///
 /// # Panics
 ///

@@ -10,7 +10,7 @@ use atoi_core::{
 };
 
 /// An integer type that is parsed with a sign. No other crate can implement it, since none can name
-/// `ParsePos`. Its methods take flags that are known only at run time.
+/// `ParsePos`. Its methods take [flags](crate::guide#choose-the-flags) that are known only at run time.
 ///
 /// ```
 /// use torkettle::{AtoiSimdError, Parse, parse};
