@@ -12,7 +12,6 @@ mod narrow;
 mod number;
 mod plain;
 pub mod powers;
-mod reference_kernels;
 mod sign;
 mod steps;
 mod text;

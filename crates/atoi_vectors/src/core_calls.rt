@@ -3,6 +3,7 @@ ghost use Rattle.std.specs.Prelude.{◌<◌};
 
 use crate::checks::{give, gives};
 use crate::plain_rules::{self, Body, Class};
+use atoi_core::words::Kernels;
 use atoi_core::{
     AtoiSimdError, Engine, Number, Plain, Signed, Steps, Window, Words, narrow_prefix,
     narrow_whole, narrow_whole_windows, prefix_neg, prefix_pos, whole_64, whole_128, whole_neg,
@@ -11,12 +12,13 @@ use atoi_core::{
 use atoi_simd::lanes::Lanes;
 use std::process::Abort;
 
-/// Checks, on one slice, the windows of each of the three engines, the parses over each engine, and
+/// Checks, on one slice, the windows of each of the four engines, the parses over each engine, and
 /// `narrow_whole`, which reads digit by digit. A window is what an engine reads from the first 8 or
 /// 16 bytes.
 pub(crate) fn check(rt: &impl Abort, text: &[u8]) {
     check_digit_loop(rt, text);
     check_decimal::<Plain>(rt, text);
+    check_decimal::<Kernels>(rt, text);
     check_decimal::<Words>(rt, text);
     check_decimal::<Lanes>(rt, text);
 }
@@ -25,6 +27,7 @@ pub(crate) fn check(rt: &impl Abort, text: &[u8]) {
 pub(crate) fn check_all(rt: &impl Abort, text: &[u8]) {
     check(rt, text);
     check_types::<Plain>(rt, Body::of(text));
+    check_types::<Kernels>(rt, Body::of(text));
     check_types::<Words>(rt, Body::of(text));
     check_types::<Lanes>(rt, Body::of(text));
 }

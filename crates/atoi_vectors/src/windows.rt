@@ -1,5 +1,6 @@
 //! Worked examples of windows, over each engine: the digits that the first 8 or 16 bytes begin with.
 
+use atoi_core::words::Kernels;
 use atoi_core::{Engine, Plain, Steps, Window, Words};
 use atoi_simd::lanes::Lanes;
 use std::process::Abort;
@@ -40,6 +41,7 @@ fn windows_of_sixteen_bytes(rt: HostRuntime) {
         (b"12345678901", (11, 0, 12345678901)),
     ];
     check_windows::<Plain>(&rt, 16, &rows);
+    check_windows::<Kernels>(&rt, 16, &rows);
     check_windows::<Words>(&rt, 16, &rows);
     check_windows::<Lanes>(&rt, 16, &rows);
 }
@@ -59,6 +61,7 @@ fn windows_of_eight_bytes(rt: HostRuntime) {
         (b":1234567", (0, 0, 0)),
     ];
     check_windows::<Plain>(&rt, 8, &rows);
+    check_windows::<Kernels>(&rt, 8, &rows);
     check_windows::<Words>(&rt, 8, &rows);
     check_windows::<Lanes>(&rt, 8, &rows);
 }

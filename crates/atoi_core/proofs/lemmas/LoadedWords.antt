@@ -11,6 +11,7 @@ use Rattle.std.proofs.lemmas.Bool.{cases_lt}
 use Rattle.std.proofs.lemmas.Bool.Decides.{nat_tests}
 use Rattle.std.proofs.lemmas.Simd.{Each1-from_get_or, Each1-chunk}
 use Rattle.std.proofs.lemmas.List.Sums.{prefix_len-le-length}
+use Rattle.std.proofs.Math.Seq.{take-add}
 use Rattle.std.proofs.lemmas.List.Folds.{prefix_len-append}
 use Rattle.std.specs.List.{prefix_len}
 use Rattle.atoi_core.specs.Digit.{decimal_table, is_digit, is_zero, digit_value}
@@ -146,6 +147,29 @@ word_shifted zero s = omega arith
 word_shifted (suc m) s =
     let rest = word_shifted m s in
     omega (arith, ap (λ p. number_l 256 s * p) (ap (λ e. 2 ^ e) (suc-mul m 8) ∙ pow-add 2 (m * 8) 8))
+
+-- The word of two lists in a row.
+word_appended : (xs ys : List ℕ) → word_of (xs ++ ys) ≡ word_of ys * 2 ^ (length xs * 8) + word_of xs
+unfolding word_of
+word_appended [] ys = omega arith
+word_appended (x ∷ xs) ys =
+    let rest = word_appended xs ys in
+    omega (arith, ap (λ p. number_l 256 ys * p) (ap (λ e. 2 ^ e) (suc-mul (length xs) 8) ∙ pow-add 2 (length xs * 8) 8))
+
+-- Two words of eight bytes join to one of sixteen.
+pub words_joined : (s : List ℕ) (first next : ℕ) → 8 ≤ length s → first ≡ word_of (take 8 s) → next ≡ word_of (take 8 (drop 8 s))
+    → first < 2 ^ 64 → next < 2 ^ 64 → bit_or (next * 2 ^ 64 % 2 ^ 128) first ≡ word_of (take 16 s)
+words_joined s first next enough first_is next_is small small_next =
+    let length_is : length (take 8 s) * 8 ≡ 64 = omega (arith, length-take 8 s) in
+    let high : next * 2 ^ 64 % 2 ^ 128 ≡ next * 2 ^ 64 + 0 = omega arith in
+    let low : first ≡ 0 * 2 ^ 64 + first = omega arith in
+    ap₂ bit_or high low
+    ∙ or_block 64 next 0 0 first (pow_pos 64) small
+    ∙ ap (λ x. x * 2 ^ 64 + first) (or_zero_r next)
+    ∙ ap₂ (λ x y. x * 2 ^ 64 + y) next_is first_is
+    ∙ ap (λ e. word_of (take 8 (drop 8 s)) * 2 ^ e + word_of (take 8 s)) (sym length_is)
+    ∙ sym (word_appended (take 8 s) (take 8 (drop 8 s)))
+    ∙ ap word_of (sym (take-add 8 8 s))
 
 -- A shift right gives the word of the slice back.
 pub shifted_back : (s : List ℕ) → length s ≤ 8 → word_of (replicate (8 - length s) 0 ++ s) / 2 ^ (64 - 8 * length s) ≡ word_of s

@@ -7,7 +7,6 @@ use Rattle.atoi_core.specs.Words.{word_of, low_bytes, low_value}
 use Rattle.std.proofs.lemmas.Bool.{eq-eqb, ne_eqb, eqb-true, agree_below_at}
 use Rattle.std.proofs.lemmas.Bool.Decides.{nat_tests}
 use Rattle.std.proofs.lemmas.List.Sums.{prefix_len-le-length}
-use Rattle.std.proofs.Math.Seq.{take-add}
 use Rattle.atoi_core.specs.Digit.{decimal_table, is_digit}
 use Rattle.atoi_core.specs.Run.{run_len, zeros, value}
 use Rattle.atoi_core.specs.Reading.{window_of}
@@ -61,26 +60,37 @@ few_in_both s few = search (arith, prefix_len-le-length, take_all, ne_eqb)
 pub enough_bytes : (s : List ℕ) → run_len decimal_table (take 8 s) ≡ 8 → 8 ≤ length s
 enough_bytes s full = omega (arith, prefix_len-le-length (is_digit decimal_table) (take 8 s), length-take 8 s)
 
--- After eight digits, the window of 16 follows from both halves.
-pub window_joined : (s : List ℕ) (more leading first next : ℕ)
-    → run_len decimal_table (take 8 s) ≡ 8
-    → more ≡ run_len decimal_table (take 8 (drop 8 s))
-    → leading ≡ (if more == 8 then zeros decimal_table (take 8 s ++ take 8 (drop 8 s)) else 0)
-    → first ≡ value decimal_table (take 8 s)
-    → next ≡ value decimal_table (take more (drop 8 s))
-    → ◌≡◌ {A = Window} (record { len = 8 + more; zeroes = leading; number = first * 10 ^ more + next }) (window_of decimal_table 16 s)
-window_joined s more leading first next full more_is leading_is first_is next_is =
-    let few : run_len decimal_table (take 8 s) ≡ min 8 (run_len decimal_table s) = prefix_len-take (is_digit decimal_table) 8 s in
-    let following = prefix_len-take (is_digit decimal_table) 8 (drop 8 s) in
-    let all : run_len decimal_table (take 16 s) ≡ min 16 (run_len decimal_table s) = prefix_len-take (is_digit decimal_table) 16 s in
-    let run_after_eight : run_len decimal_table s ≡ 8 + run_len decimal_table (drop 8 s) = prefix_len-drop (is_digit decimal_table) 8 s (omega arith) in
-    let within : run_len decimal_table s ≤ length s = prefix_len-le-length (is_digit decimal_table) s in
-    let same_test : (more == 8) ≡ (8 + more == 16) = grind (arith, nat_tests) in
-    let same_leading : leading ≡ (if 8 + more == 16 then zeros decimal_table (take 16 s) else 0) =
-    rw (← same_test, take-add 8 8 s) leading_is in
-    let same_number : first * 10 ^ more + next ≡ value decimal_table (take (8 + more) s) =
-    rw (first_is, next_is) (sym (value-take-add decimal_table 8 more s (omega arith))) in
-    window_from 16 s (8 + more) leading (first * 10 ^ more + next) (omega arith) same_leading same_number
+-- Eight digits and `more` after them.
+module _ (s : List ℕ) (more leading : ℕ) (full : run_len decimal_table (take 8 s) ≡ 8) (more_is : more ≡ run_len decimal_table (take 8 (drop 8 s)))
+    (leading_is : leading ≡ (if more == 8 then zeros decimal_table (take 16 s) else 0)) where
+  run_after_eight : run_len decimal_table s ≡ 8 + run_len decimal_table (drop 8 s)
+  run_after_eight = prefix_len-drop (is_digit decimal_table) 8 s (omega (arith, full, prefix_len-take (is_digit decimal_table) 8 s))
+
+  pub joined_len : 8 + more ≡ run_len decimal_table (take 16 s)
+  joined_len =
+      omega (arith, more_is, run_after_eight, prefix_len-take (is_digit decimal_table) 8 (drop 8 s), prefix_len-take (is_digit decimal_table) 16 s)
+
+  joined_leading : leading ≡ (if 8 + more == 16 then zeros decimal_table (take 16 s) else 0)
+  joined_leading =
+      let same_test : (more == 8) ≡ (8 + more == 16) = grind (arith, nat_tests) in
+      rw (← same_test) leading_is
+
+  -- The window of 16 follows from both halves,
+  pub window_joined : (first next : ℕ) → first ≡ value decimal_table (take 8 s) → next ≡ value decimal_table (take more (drop 8 s))
+      → ◌≡◌ {A = Window} (record { len = 8 + more; zeroes = leading; number = first * 10 ^ more + next }) (window_of decimal_table 16 s)
+  window_joined first next first_is next_is =
+      let following = prefix_len-take (is_digit decimal_table) 8 (drop 8 s) in
+      let within : run_len decimal_table s ≤ length s = prefix_len-le-length (is_digit decimal_table) s in
+      let same_number : first * 10 ^ more + next ≡ value decimal_table (take (8 + more) s) =
+      rw (first_is, next_is) (sym (value-take-add decimal_table 8 more s (omega (arith, run_after_eight)))) in
+      window_from 16 s (8 + more) leading (first * 10 ^ more + next) joined_len joined_leading same_number
+
+  -- or from the word of all sixteen bytes.
+  pub window_of_16 : (fits : (i : ℕ) → get_or s i 0 < 256) (word number : ℕ) → word ≡ word_of (take 16 s) → number ≡ low_value (low_bytes (8 + more) word)
+      → ◌≡◌ {A = Window} (record { len = 8 + more; zeroes = leading; number = number }) (window_of decimal_table 16 s)
+  window_of_16 fits word number is number_is =
+      window_from 16 s (8 + more) leading number joined_len joined_leading
+      (number_is ∙ loaded_sum 16 s fits word is (8 + more) (joined_len ∙ sym (loaded_run 16 s fits word is)))
 
 -- The first and the last eight of 9 to 15 digits give the window of 16.
 pub window_of_both : (s : List ℕ) → 8 < length s → length s < 16 → ((i : ℕ) → get_or s i 0 < 256) → (first last len high low : ℕ)
