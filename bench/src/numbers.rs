@@ -21,11 +21,6 @@ impl Digits {
             _ => None,
         }
     }
-
-    /// The largest number of digits.
-    pub fn longest(&self) -> usize {
-        self.counts.iter().copied().max().unwrap_or_default()
-    }
 }
 
 impl FromStr for Digits {

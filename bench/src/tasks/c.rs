@@ -3,14 +3,13 @@
 use crate::arguments::{Arguments, Task};
 use crate::builds;
 use crate::report::Table;
-use crate::tables::{self, InputList};
+use crate::tables;
 use torkettle_common::cache::Cache;
 use torkettle_common::command::print_left_out;
 use torkettle_common::package::Package;
 use torkettle_common::random::Random;
 
-/// Times them, and returns how many answers differed. Numbers of one and of two digits have a table
-/// of their own, since the call itself takes most of the time there.
+/// Times them, and returns how many answers differed.
 pub fn run(arguments: &Arguments, cache: &Cache) -> Result<usize, String> {
     let builds = match builds::of_c(cache, &Package::of_folder(cache.repository())?) {
         Ok(builds) => builds,
@@ -25,9 +24,6 @@ pub fn run(arguments: &Arguments, cache: &Cache) -> Result<usize, String> {
         let table = Table::new(&builds, timed, how, arguments.passes, &mut random)?;
         Ok::<usize, String>(table.print())
     };
-    let (longer, short): (Vec<InputList>, Vec<InputList>) =
-        tables::c_lists()?.into_iter().partition(|list| list.digits.longest() > 2);
-    Ok(time(&super::lists(arguments, longer), ", from C++")?
-        + time(&super::lists(arguments, short), ", from C++, one or two digits")?
+    Ok(time(&super::lists(arguments, tables::c_lists()?), ", from C++")?
         + time(&super::columns(arguments, false)?, ", from C and C++")?)
 }
