@@ -27,30 +27,35 @@
 //!
 //! # In place of `atoi_simd`
 //!
-//! Names, signatures and results are those of the crate `atoi_simd` 0.18.1, apart from [a few
-//! differences][differences]. To use this crate in its place, change one line of `Cargo.toml`:
+//! Names, signatures and results are those of the crate `atoi_simd` 0.18.1, apart from the differences
+//! that `docs/DIFFERENCES.md` in the repository lists. To use this crate in its place, change one line of
+//! `Cargo.toml`:
 //!
 //! ```toml
 //! [dependencies]
 //! atoi_simd = { package = "torkettle", path = "../torkettle" }
 //! ```
 //!
-//! # What is proved
+//! # What is proved, and what you trust
 //!
-//! The sources are written in Rattle, which is Rust with contracts, and a proof checker has verified
-//! that every function there returns exactly what its contract says. The checker is not public. A build
-//! script leaves the contracts out, and this crate is what remains. What the proofs do not cover is that
-//! script, rustc, and that Rust's `core` means what Rattle's `std` says. Tests compare the results of
-//! this crate with the rules, with `str::parse`, with `atoi_simd`, and with the build of the checker's
-//! own compiler.
+//! The sources are written in Rattle, a dialect of Rust in which functions have contracts. A proof
+//! checker has verified that every parser returns exactly what its contract says, for every input, and
+//! that no input makes it panic or run forever. A build script leaves the contracts out, and this crate
+//! is what remains. No proof covers these three items. You trust them:
+//!
+//! 1. The proof checker of Rattle. It is not public, so you cannot repeat the proofs.
+//! 2. Our definitions of the correct results, which `docs/SPECIFICATION.md` explains.
+//! 3. The build script, which turns the Rattle sources into Rust, the Rust code in `rust/src`, rustc, and
+//!    Rust's `core`, which must do what Rattle's `std` specifies.
+//!
+//! Tests compare the results of this crate with the specification, with `str::parse`, with `atoi_simd`,
+//! and with the build of Rattle's own compiler.
 //!
 //! # Features
 //!
 //! - `std`, which is on by default, changes nothing. The crate never uses `std`.
 //! - `lanes` adds the module `lanes`, which has the ten functions on vectors of sixteen bytes. It works on
 //!   stable Rust and contains one `unsafe` expression. No version promises that it stays as it is.
-//!
-//! [differences]: https://docs.rs/crate/torkettle/latest/source/docs/DIFFERENCES.md
 #![no_std]
 #![cfg_attr(not(feature = "lanes"), forbid(unsafe_code))]
 #![cfg_attr(feature = "lanes", deny(unsafe_code))]
@@ -201,7 +206,8 @@ pub mod formats {
 ///
 /// They are faster for many calls on long numbers, if the target has the feature `ssse3`, as with
 /// `-C target-cpu=x86-64-v2`. Without that feature, use the functions at the root. `docs/PERFORMANCE.md`
-/// has the figures. No version promises that this module stays as it is.
+/// has the figures. No version promises that this module stays as it is. The
+/// [guide](crate::guide#lanes) says how to use it.
 ///
 /// ```
 /// use torkettle::lanes::parse;

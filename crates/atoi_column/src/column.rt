@@ -73,7 +73,7 @@ impl<'a, T: Parse> Model for Column<'a, T> {
 impl<'a, T: Parse> Column<'a, T> {
     /// Makes a column of the fields of `input`. One more separator may follow the last field. Between
     /// two separators in a row, there is an empty field, which is refused
-    /// ([guide](crate::guide#read-columns-and-lines)).
+    /// (see the [guide](crate::guide#read-columns-and-lines)).
     ///
     /// ```
     /// use torkettle::column::{Column, ColumnError};

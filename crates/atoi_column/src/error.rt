@@ -44,7 +44,7 @@ pub enum ColumnError<'a> {
 impl ColumnError<'_> {
     ghost use Rattle.atoi_column.specs.Items.{flaw_of, index_of, place_of};
 
-    /// Returns the index of the field, from 0 ([guide](crate::guide#read-columns-and-lines)).
+    /// Returns the index of the field, from 0 (see the [guide](crate::guide#read-columns-and-lines)).
     ///
     /// ```
     /// use torkettle::column::Column;
@@ -62,7 +62,7 @@ impl ColumnError<'_> {
     }
 
     /// Returns the offset of the field's first byte if no number can be read there, and otherwise the
-    /// offset of the byte after the number ([guide](crate::guide#read-columns-and-lines)).
+    /// offset of the byte after the number (see the [guide](crate::guide#read-columns-and-lines)).
     ///
     /// ```
     /// use torkettle::column::Column;

@@ -63,7 +63,7 @@ impl<'a, T: Parse> Model for Fields<'a, T> {
 
 impl<'a, T: Parse> Fields<'a, T> {
     /// The fields of `input`, with a separator between them. One more may follow the last field
-    /// ([guide](crate::guide#read-columns-and-lines)).
+    /// (see the [guide](crate::guide#read-columns-and-lines)).
     ///
     /// ```
     /// use torkettle::column::Fields;
@@ -95,7 +95,7 @@ impl<'a, T: Parse> Fields<'a, T> {
     }
 
     /// The lines of `input`, as `str::lines` splits them: a line ends with `\n` or `\r\n`, which are
-    /// no part of it ([guide](crate::guide#read-columns-and-lines)).
+    /// no part of it (see the [guide](crate::guide#read-columns-and-lines)).
     ///
     /// ```
     /// use torkettle::column::Fields;
@@ -147,7 +147,7 @@ impl<'a, T: Parse> Fields<'a, T> {
 
     /// Returns the index of the next field, and the offset at which it begins. At the end, these are
     /// the number of all fields, and the offset at which the input ends. To look for an item, call
-    /// `Iterator::position` by this name ([guide](crate::guide#read-files)).
+    /// `Iterator::position` by this name (see the [guide](crate::guide#read-files)).
     ///
     /// ```
     /// use torkettle::column::Fields;

@@ -1,5 +1,4 @@
-//! Columns of decimal integers: the fields of a byte slice, separated by one byte, up to the first
-//! that is refused.
+//! Columns of decimal integers: the fields of a byte slice, separated by one byte.
 #![tactic(auto)]
 
 mod column;

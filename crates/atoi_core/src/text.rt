@@ -10,7 +10,7 @@ use std::str::from_utf8;
 
 impl AtoiSimdError<'_> {
     /// Writes what `Display` prints to the start of `out`, and returns its length. It shows at most
-    /// 48 bytes of the slice, in hexadecimal ([guide](crate::guide#embedded-systems)).
+    /// 48 bytes of the slice, in hexadecimal (see the [guide](crate::guide#embedded-systems)).
     ///
     /// ```
     /// let error = torkettle::AtoiSimdError::Overflow(b"256");

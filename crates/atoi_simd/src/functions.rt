@@ -22,7 +22,7 @@ use atoi_core::laws::{accepted_texts, prefix_results, whole_results};
 ///
 /// The first [error](AtoiSimdError) that applies: `Empty` if no digit follows the sign, `Size` if a type
 /// of 64 or 128 bits has too many digits, `Overflow` if the value does not fit in `T`, and `Invalid64`
-/// or `Invalid128` if another byte follows the digits ([guide](crate::guide#errors)).
+/// or `Invalid128` if another byte follows the digits (see the [guide](crate::guide#errors)).
 #[inline(always)]
 pub fn parse<T: Parse, const SKIP_ZEROES: bool, const SKIP_PLUS: bool>(
     s: &[u8],
@@ -50,7 +50,7 @@ pub fn parse<T: Parse, const SKIP_ZEROES: bool, const SKIP_PLUS: bool>(
 ///
 /// # Errors
 ///
-/// As for [`parse`] ([guide](crate::guide#errors)).
+/// As for [`parse`] (see the [guide](crate::guide#errors)).
 #[inline(always)]
 pub fn parse_pos<T: Parse, const SKIP_ZEROES: bool>(s: &[u8]) -> Result<T, AtoiSimdError<'_>>
     ensures answer { typed_answer T.number result
@@ -73,7 +73,7 @@ pub fn parse_pos<T: Parse, const SKIP_ZEROES: bool>(s: &[u8]) -> Result<T, AtoiS
 ///
 /// # Errors
 ///
-/// As for [`parse`] ([guide](crate::guide#errors)).
+/// As for [`parse`] (see the [guide](crate::guide#errors)).
 #[inline(always)]
 pub fn parse_neg<T: ParseNeg, const SKIP_ZEROES: bool>(s: &[u8]) -> Result<T, AtoiSimdError<'_>>
     ensures answer { typed_answer T.number result
@@ -98,7 +98,7 @@ pub fn parse_neg<T: ParseNeg, const SKIP_ZEROES: bool>(s: &[u8]) -> Result<T, At
 /// # Errors
 ///
 /// `Empty`, `Size` and `Overflow`, as for [`parse`]. Without `SKIP_ZEROES`, `Size` also for more than 16
-/// digits of a type of at most 32 bits ([guide](crate::guide#errors)).
+/// digits of a type of at most 32 bits (see the [guide](crate::guide#errors)).
 #[inline(always)]
 pub fn parse_prefix<T: Parse, const SKIP_ZEROES: bool, const SKIP_PLUS: bool>(
     s: &[u8],
@@ -125,7 +125,7 @@ pub fn parse_prefix<T: Parse, const SKIP_ZEROES: bool, const SKIP_PLUS: bool>(
 ///
 /// # Errors
 ///
-/// As for [`parse_prefix`] ([guide](crate::guide#errors)).
+/// As for [`parse_prefix`] (see the [guide](crate::guide#errors)).
 #[inline(always)]
 pub fn parse_prefix_pos<T: Parse, const SKIP_ZEROES: bool>(
     s: &[u8],
@@ -152,7 +152,7 @@ pub fn parse_prefix_pos<T: Parse, const SKIP_ZEROES: bool>(
 ///
 /// # Errors
 ///
-/// As for [`parse_prefix`] ([guide](crate::guide#errors)).
+/// As for [`parse_prefix`] (see the [guide](crate::guide#errors)).
 #[inline(always)]
 pub fn parse_prefix_neg<T: ParseNeg, const SKIP_ZEROES: bool>(
     s: &[u8],
@@ -177,7 +177,7 @@ pub fn parse_prefix_neg<T: ParseNeg, const SKIP_ZEROES: bool>(
 ///
 /// # Errors
 ///
-/// As for [`parse`] ([guide](crate::guide#errors)).
+/// As for [`parse`] (see the [guide](crate::guide#errors)).
 #[inline(always)]
 pub fn parse_skipped<T: Parse>(s: &[u8]) -> Result<T, AtoiSimdError<'_>>
     ensures answer { typed_answer T.number result ≡ parse_answer T.int_type true true s.now }
@@ -196,7 +196,7 @@ pub fn parse_skipped<T: Parse>(s: &[u8]) -> Result<T, AtoiSimdError<'_>>
 ///
 /// # Errors
 ///
-/// As for [`parse_prefix`] ([guide](crate::guide#errors)).
+/// As for [`parse_prefix`] (see the [guide](crate::guide#errors)).
 #[inline(always)]
 pub fn parse_any<T: Parse>(s: &[u8]) -> Result<(T, usize), AtoiSimdError<'_>>
     ensures answer { typed_prefix_answer T.number result
@@ -216,7 +216,7 @@ pub fn parse_any<T: Parse>(s: &[u8]) -> Result<(T, usize), AtoiSimdError<'_>>
 ///
 /// # Errors
 ///
-/// As for [`parse_prefix`] ([guide](crate::guide#errors)).
+/// As for [`parse_prefix`] (see the [guide](crate::guide#errors)).
 #[inline(always)]
 pub fn parse_any_pos<T: Parse>(s: &[u8]) -> Result<(T, usize), AtoiSimdError<'_>>
     ensures answer { typed_prefix_answer T.number result
@@ -236,7 +236,7 @@ pub fn parse_any_pos<T: Parse>(s: &[u8]) -> Result<(T, usize), AtoiSimdError<'_>
 ///
 /// # Errors
 ///
-/// As for [`parse_prefix`] ([guide](crate::guide#errors)).
+/// As for [`parse_prefix`] (see the [guide](crate::guide#errors)).
 #[inline(always)]
 pub fn parse_any_neg<T: ParseNeg>(s: &[u8]) -> Result<(T, usize), AtoiSimdError<'_>>
     ensures answer { typed_prefix_answer T.number result

@@ -13,9 +13,7 @@ pub struct Refused;
 pub enum ToolError {
     /// A request for memory for the input was refused.
     Memory,
-    /// A read was refused.
     Read,
-    /// A write was refused.
     Write,
 }
 

@@ -1,4 +1,4 @@
-//! Reads IPv4 addresses, whose numbers have no needless leading zeros.
+//! Reads IPv4 addresses.
 ghost use Rattle.std.specs.Prelude.{IfSome, IfNone};
 ghost use Rattle.atoi_uses.specs.Addresses.{IsAddress};
 ghost use Rattle.atoi_uses.specs.declared.addresses.Address.{Address as AddressValue};

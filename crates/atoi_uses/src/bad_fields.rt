@@ -1,4 +1,4 @@
-//! Counts the fields of a column that are not numbers. An error does not end the loop.
+//! Counts the fields of a column that are not numbers.
 ghost use Rattle.std.specs.Prelude.{◌≡◌, true};
 ghost use Rattle.atoi_core.specs.IntType.{u32_type};
 ghost use Rattle.atoi_column.specs.Fields.{is_separator};

@@ -1,4 +1,4 @@
-//! Finds the first bad line of a text that comes in two pieces. Its index counts the lines of both.
+//! Finds the first bad line of a text that comes in two pieces.
 ghost use Rattle.std.specs.Prelude.{◌≡◌, ◌++◌};
 ghost use Rattle.atoi_core.specs.IntType.{u32_type};
 ghost use Rattle.atoi_column.specs.FieldItems.{line_items};

@@ -21,9 +21,7 @@ pub enum Word {
 /// A command. `INCRBY -7` has the word `IncrBy` and the number -7.
 #[derive(Clone, Copy, Debug, PartialEq, Eq)]
 pub struct Command {
-    /// What to do.
     pub word: Word,
-    /// The argument.
     pub number: i64,
 }
 

@@ -1,4 +1,4 @@
-//! Reads durations such as `1h30m15s`, and says exactly when one is too large.
+//! Reads durations such as `1h30m15s`.
 ghost use Rattle.std.specs.Prelude.{◌≡◌, ◌<◌, ◌^◌, ◌≤◌, ◌++◌, ◌∷◌, ℕ, List, length, min, IfOk, IfErr, IfSome, IfNone, MatchOption};
 ghost use Rattle.std.specs.Str.Parse.{IsNumeral};
 ghost use Rattle.atoi_uses.specs.Durations.{AreLeadingDigits, HasParts, IsDuration, IsNoDuration, capped, total_of};

@@ -1,4 +1,4 @@
-//! Adds up a column of signed numbers, and says exactly when the total is out of range.
+//! Adds up a column of signed numbers.
 ghost use Rattle.std.specs.Prelude.{◌≡◌, true, IfOk, IfErr};
 ghost use Rattle.atoi_column.specs.Fields.{is_separator};
 ghost use Rattle.atoi_uses.specs.SignedTotals.{HasTotal, HasNoTotal};
