@@ -6,7 +6,7 @@ use std::path::PathBuf;
 /// What the program is asked to do.
 #[derive(Debug)]
 pub struct Arguments {
-    pub task: Task,
+    pub work: Work,
     pub seed: u64,
     /// Which processor our library is built for, if one is named.
     pub cpu: Option<String>,
@@ -26,7 +26,7 @@ pub struct Arguments {
 
 /// What is done.
 #[derive(Clone, Copy, PartialEq, Eq, Debug)]
-pub enum Task {
+pub enum Work {
     /// Everything is timed.
     Everything,
     /// The exports of the kit's build are timed.
@@ -39,10 +39,10 @@ pub enum Task {
     Count,
 }
 
-impl Task {
+impl Work {
     /// Whether this is a part of it.
-    pub fn includes(self, part: Task) -> bool {
-        self == part || self == Task::Everything
+    pub fn includes(self, part: Work) -> bool {
+        self == part || self == Work::Everything
     }
 }
 
@@ -72,7 +72,7 @@ impl Arguments {
     /// Reads the arguments. An error says what is wrong with them.
     pub fn read(words: Vec<String>) -> Result<Arguments, String> {
         let mut arguments = Arguments {
-            task: Task::Everything,
+            work: Work::Everything,
             seed: 1,
             cpu: None,
             has_lanes: false,
@@ -92,10 +92,10 @@ impl Arguments {
     fn take(&mut self, word: &str, words: &mut impl Iterator<Item = String>) -> Result<(), String> {
         let mut value = || words.next().ok_or_else(|| format!("{word} needs a value"));
         match word {
-            "--exports-only" => self.does(Task::Exports)?,
-            "--inlined-only" => self.does(Task::Inlined)?,
-            "--c-only" => self.does(Task::C)?,
-            "--count" => self.does(Task::Count)?,
+            "--exports-only" => self.does(Work::Exports)?,
+            "--inlined-only" => self.does(Work::Inlined)?,
+            "--c-only" => self.does(Work::C)?,
+            "--count" => self.does(Work::Count)?,
             "--lanes" => self.has_lanes = true,
             "--markdown" => self.is_markdown = true,
             "--original" => self.original = Some(PathBuf::from(value()?)),
@@ -109,13 +109,13 @@ impl Arguments {
         Ok(())
     }
 
-    fn does(&mut self, task: Task) -> Result<(), String> {
-        if self.task != Task::Everything {
+    fn does(&mut self, work: Work) -> Result<(), String> {
+        if self.work != Work::Everything {
             return Err(String::from(
                 "--count and the arguments that end in -only exclude each other",
             ));
         }
-        self.task = task;
+        self.work = work;
         Ok(())
     }
 
@@ -124,10 +124,10 @@ impl Arguments {
             return Err(String::from("--passes is at least 3, to see how far the passes differ"));
         }
         if self.against.is_some() {
-            match self.task {
-                Task::Everything => self.task = Task::Exports,
-                Task::C => return Err(String::from("--against does not time calls from C")),
-                Task::Exports | Task::Inlined | Task::Count => {}
+            match self.work {
+                Work::Everything => self.work = Work::Exports,
+                Work::C => return Err(String::from("--against does not time calls from C")),
+                Work::Exports | Work::Inlined | Work::Count => {}
             }
         }
         Ok(self)
@@ -151,7 +151,7 @@ fn number(word: &str, text: &str) -> Result<u64, String> {
 
 #[cfg(test)]
 mod tests {
-    use super::{Arguments, Task};
+    use super::{Arguments, Work};
 
     fn read(words: &str) -> Result<Arguments, String> {
         Arguments::read(words.split_whitespace().map(String::from).collect())
@@ -159,11 +159,11 @@ mod tests {
 
     #[test]
     fn tasks() {
-        let task = |words| read(words).map(|arguments| arguments.task);
-        assert_eq!(task(""), Ok(Task::Everything));
-        assert_eq!(task("--against HEAD"), Ok(Task::Exports));
-        assert_eq!(task("--inlined-only --against HEAD"), Ok(Task::Inlined));
-        assert_eq!(task("--count --against HEAD"), Ok(Task::Count));
+        let task = |words| read(words).map(|arguments| arguments.work);
+        assert_eq!(task(""), Ok(Work::Everything));
+        assert_eq!(task("--against HEAD"), Ok(Work::Exports));
+        assert_eq!(task("--inlined-only --against HEAD"), Ok(Work::Inlined));
+        assert_eq!(task("--count --against HEAD"), Ok(Work::Count));
         for refused in ["--c-only --against HEAD", "--c-only --count", "--original", "--passes 2"] {
             assert!(read(refused).is_err());
         }

@@ -1,10 +1,9 @@
 //! Prints times and counts.
 
 use crate::builds::Build;
-use crate::timing::{self, Comparison, Ratios, Side, Timed, Times};
+use crate::timing::{self, Comparison, Ratios, Side, Task, Times};
 use std::ops::RangeInclusive;
 use torkettle_common::Form;
-use torkettle_common::random::Random;
 
 // The means of the passes of an idle machine differ by less, in percent.
 const BUSY: f64 = 3.0;
@@ -30,29 +29,20 @@ const GROUPS: [(&str, RangeInclusive<usize>); 4] = [
 pub struct Table {
     // What is read in the time of a line, and how, as `call, inlined in Rust`.
     unit: String,
-    // What each line is for, as `input lists`.
-    lines: &'static str,
     sides: Vec<Side>,
-    pub times: Vec<Times>,
+    times: Vec<Times>,
 }
 
 impl Table {
-    /// Times lines of one kind. `how` says how the calls are made.
+    /// Times lines whose unit is, for example, `call, inlined in Rust`.
     pub fn new(
         builds: &[Build],
-        timed: &[Timed],
-        how: &str,
+        mut tasks: Vec<Task>,
+        unit: &str,
         passes: usize,
-        random: &mut Random,
     ) -> Result<Table, String> {
-        let (item, lines) = match timed.first() {
-            Some(Timed::Column { .. }) => ("field", "columns"),
-            Some(Timed::Format(_)) => ("text", "formats"),
-            Some(Timed::List { .. }) | None => ("call", "input lists"),
-        };
-        let (sides, tasks) = timing::tasks(builds, timed, random)?;
-        let unit = format!("{item}{how}");
-        Ok(Table { unit, lines, sides, times: timing::time(tasks, passes) })
+        let sides = timing::sides(builds, &mut tasks)?;
+        Ok(Table { unit: unit.to_string(), sides, times: timing::time(tasks, passes) })
     }
 
     /// Prints everything, if anything was timed, and returns how many sides answered otherwise than
@@ -63,10 +53,17 @@ impl Table {
         }
         let comparisons = self.comparisons();
         self.print_times(&comparisons);
-        println!("\nour time divided by theirs: geometric mean of the {} (slowest)\n", self.lines);
+        if !comparisons.is_empty() {
+            self.print_means(&comparisons);
+        }
+        self.times.iter().map(|times| times.wrong().count()).sum()
+    }
+
+    fn print_means(&self, comparisons: &[Comparison]) {
+        println!("\nour time divided by theirs: geometric mean of the lists (slowest)\n");
         let has_lanes = self.sides.iter().any(|side| side.form == Form::Lanes);
         let forms = if has_lanes { "Words | Lanes" } else { "Ours" };
-        println!("| Compared with | {} | {forms} | passes differ by |", self.lines);
+        println!("| Compared with | lists | {forms} | passes differ by |");
         println!("|---|---|---|---|{}", if has_lanes { "---|" } else { "" });
         let mut spread = 0.0;
         for pair in comparisons.chunk_by(|one, other| self.build(one) == self.build(other)) {
@@ -79,7 +76,6 @@ impl Table {
         if spread > BUSY {
             println!("the machine is busy: figures differ by {spread:.0} % between passes");
         }
-        self.times.iter().map(|times| times.wrong().count()).sum()
     }
 
     // Each side of ours with the sides of each other build. Words are compared with words, and
@@ -210,24 +206,4 @@ fn print_group(pair: &[Comparison], name: &str, times: &[&Times]) -> f64 {
 // Whether the ratios of each line are printed beside its times.
 fn has_ratios(comparisons: &[Comparison]) -> bool {
     comparisons.len() <= SHOWN
-}
-
-/// Prints our times on input lists without a plus and on the same input lists with a plus before
-/// half of the numbers, and returns how many sides answered otherwise than they should.
-pub fn print_plus(without: &[Times], with: &[Times]) -> usize {
-    println!(
-        "\na plus before half of the numbers: nanoseconds per call without, with, and the ratio"
-    );
-    println!("{:28}words{:18}lanes", "", "");
-    for (without, with) in without.iter().zip(with) {
-        print!("{}", without.name);
-        for side in [0, 1] {
-            let times = without.of(side).zip(with.of(side));
-            let shown =
-                times.map(|(one, other)| format!("{one:6.1}{other:7.1}{:7.2}", other / one));
-            print!("{:23}", shown.unwrap_or_default());
-        }
-        println!("{}", if with.wrong().count() > 0 { "  WRONG ANSWERS" } else { "" });
-    }
-    with.iter().map(|times| times.wrong().count()).sum()
 }

@@ -1,82 +1,79 @@
 //! The exports of C++'s `std::from_chars`.
 
-use crate::tables::{Function, Shape, TimedCall};
+use super::Build;
+use super::place::{ANYWHERE, placed};
+use crate::tables::{self, Function, Shape, TimedCall};
+use std::path::Path;
+use std::process::Command;
 use torkettle_common::Form;
+use torkettle_common::cache::{Cache, write};
+use torkettle_common::command::run;
 use torkettle_common::integer::Integer;
+use torkettle_common::stamp::Stamp;
 
-const HEAD: &str = r#"#include <charconv>
-#include <cstddef>
-#include <cstdint>
+/// The first lines of a source.
+pub const HEAD: &str = include_str!("../../exports/from_chars.hpp");
 
-static const uint64_t ERROR = 0x8000000000000001;
-"#;
-
-/// The source, and the names of its exports.
-pub fn from_chars(calls: &[TimedCall], types: &[Integer]) -> (String, Vec<String>) {
+/// The functions of C++'s standard library, compiled by g++.
+pub fn from_chars(cache: &Cache) -> Result<Build, String> {
+    // There is no call that takes no minus although the type is signed.
     let has_call =
         |call: &&TimedCall| call.function != Function::PrefixPos || !call.integer.is_signed();
-    let calls: Vec<&TimedCall> = calls.iter().filter(has_call).collect();
-    let mut text = String::from(HEAD);
-    calls.iter().for_each(|call| text += &function(call));
-    types.iter().for_each(|integer| text += &column(&Shape::export(*integer), *integer));
-    let names = calls.iter().map(|call| call.export(Form::Words));
-    (text, names.chain(types.iter().map(|integer| Shape::export(*integer))).collect())
-}
-
-fn function(call: &TimedCall) -> String {
-    let (name, [integer, unsigned]) = (call.export(Form::Words), types(call.integer));
-    let (condition, length) = if call.is_whole() {
-        ("error != std::errc() || stop != end", "")
-    } else {
-        ("error != std::errc()", " + static_cast<uint64_t>(stop - start)")
-    };
-    format!(
-        r#"
-extern "C" uint64_t {name}(const uint8_t *text, size_t size) {{
-    const char *start = reinterpret_cast<const char *>(text), *end = start + size;
-    {integer} value;
-    auto [stop, error] = std::from_chars(start, end, value);
-    if ({condition}) return ERROR;
-    return static_cast<uint64_t>(static_cast<{unsigned}>(value)){length};
-}}
-"#
-    )
-}
-
-/// A loop over the fields of a column.
-pub fn column(name: &str, integer: Integer) -> String {
-    let [integer, unsigned] = types(integer);
-    format!(
-        r#"
-extern "C" uint64_t {name}(const uint8_t *text, size_t size) {{
-    const char *start = reinterpret_cast<const char *>(text), *end = start + size;
-    uint64_t sum = 0;
-    for (;;) {{
-        {integer} value;
-        auto [stop, error] = std::from_chars(start, end, value);
-        if (error != std::errc()) return ERROR;
-        sum += static_cast<uint64_t>(static_cast<{unsigned}>(value));
-        if (stop == end) return sum;
-        if (*stop != ',') return ERROR;
-        start = stop + 1;
-    }}
-}}
-"#
-    )
-}
-
-/// The C++ type of an integer type, and the unsigned type of its size.
-pub fn types(integer: Integer) -> [&'static str; 2] {
-    match integer {
-        Integer::U8 => ["uint8_t", "uint8_t"],
-        Integer::I8 => ["int8_t", "uint8_t"],
-        Integer::U16 => ["uint16_t", "uint16_t"],
-        Integer::I16 => ["int16_t", "uint16_t"],
-        Integer::U32 => ["uint32_t", "uint32_t"],
-        Integer::I32 => ["int32_t", "uint32_t"],
-        Integer::U64 | Integer::Usize => ["uint64_t", "uint64_t"],
-        Integer::I64 | Integer::Isize => ["int64_t", "uint64_t"],
-        Integer::U128 => ["unsigned __int128", "unsigned __int128"],
-        Integer::I128 => ["__int128", "unsigned __int128"],
+    let (mut text, mut names) = (String::from(HEAD), Vec::new());
+    for call in tables::calls()?.iter().filter(has_call) {
+        names.push(call.export(Form::Words));
+        text += &export(&call.export(Form::Words), "call", "Standard", call);
     }
+    for integer in tables::column_types()? {
+        names.push(Shape::export(integer));
+        text += &column(&Shape::export(integer), integer);
+    }
+    let version = version("g++")?;
+    let name = format!("from_chars-{}", Stamp::new().with(&text).with(&version));
+    let placed = placed(cache, &name, &names, &ANYWHERE, |room, _| {
+        let (source, object) = (room.join("from_chars.cc"), room.join("from_chars.o"));
+        compile("g++", &["-std=gnu++17"], &source, &text, &object)?;
+        Ok(vec![object])
+    })?;
+    Ok(Build::new(format!("std::from_chars, g++ {version}"), placed))
+}
+
+/// An export that makes one call, or a loop of calls, by a struct with a `from_chars`.
+pub fn export(name: &str, template: &str, by: &str, call: &TimedCall) -> String {
+    let (integer, is_whole) = (c_type(call.integer), call.is_whole());
+    format!("EXPORT({name}, {template}<{by}, {integer}, {is_whole}>)\n")
+}
+
+/// An export that adds up a column.
+pub fn column(name: &str, integer: Integer) -> String {
+    format!("EXPORT({name}, column<Standard, {}>)\n", c_type(integer))
+}
+
+/// The name of an integer type in C and C++.
+pub fn c_type(integer: Integer) -> String {
+    let sign = if integer.is_signed() { "" } else { "u" };
+    match integer.bits() {
+        128 if integer.is_signed() => String::from("__int128"),
+        128 => String::from("unsigned __int128"),
+        bits => format!("{sign}int{bits}_t"),
+    }
+}
+
+/// The version of a compiler.
+pub fn version(compiler: &str) -> Result<String, String> {
+    Ok(run(Command::new(compiler).arg("-dumpfullversion"))?.trim().to_string())
+}
+
+/// Compiles a text, with optimisation and each function in a section of its own.
+pub fn compile(
+    compiler: &str,
+    arguments: &[&str],
+    source: &Path,
+    text: &str,
+    object: &Path,
+) -> Result<(), String> {
+    write(source, text)?;
+    let mut command = Command::new(compiler);
+    command.args(arguments).args(["-O3", "-fPIC", "-ffunction-sections", "-c", "-o"]);
+    run(command.arg(object).arg(source)).map(|_| ())
 }

@@ -35,17 +35,12 @@ struct Part {
     name: String,
     // What the names of its exports begin with.
     prefix: &'static str,
-    calls: Calls,
-    lanes: Option<Calls>,
-    formats: Option<Formats>,
-    use_of: Use,
-}
-
-// How a library reads formats: the bodies, and what they import.
-#[derive(Clone, Copy)]
-struct Formats {
+    // What the module of each loop imports.
     import: &'static str,
-    bodies: Bodies,
+    calls: Calls,
+    has_lanes: bool,
+    formats: Option<Bodies>,
+    use_of: Use,
 }
 
 // What is timed of a library.
@@ -64,6 +59,9 @@ pub enum Beside {
     Other { package: Package, name: String },
 }
 
+const OURS: &str = "use ours::{self as calls, formats};";
+const THEIRS: &str = "use theirs::{self as calls, formats};";
+
 /// The package and what it is timed beside, built for a processor.
 pub fn inlined(
     cache: &Cache,
@@ -72,25 +70,27 @@ pub fn inlined(
     cpu: &str,
     has_lanes: bool,
 ) -> Result<Inlined, String> {
-    let with_lanes = |dependency: Dependency| match has_lanes {
-        true => dependency.with_feature("lanes"),
-        false => dependency,
+    let dependency = |package: &Package, name| match has_lanes {
+        true => package.dependency(name).with_feature("lanes"),
+        false => package.dependency(name),
     };
-    let mut dependencies = vec![with_lanes(ours.dependency("ours"))];
-    let lanes = has_lanes.then_some(OURS_LANES);
-    let formats = Some(OURS_FORMATS);
-    let mut parts = vec![Part { lanes, formats, ..part("the package", "ours_", OURS) }];
+    let package = |name: &str, prefix, import| Part {
+        import,
+        has_lanes,
+        formats: Some(formats::ours),
+        ..part(name, prefix, PACKAGE)
+    };
+    let mut dependencies = vec![dependency(ours, "ours")];
+    let mut parts = vec![package("the package", "ours_", OURS)];
     match beside {
         Beside::Others { original } => {
             dependencies.extend(original.clone());
             parts.extend(others(original.is_some(), cpu)?);
             parts.extend(going_on());
         }
-        Beside::Other { package, name } => {
-            dependencies.push(with_lanes(package.dependency("theirs")));
-            let lanes = has_lanes.then_some(THEIRS_LANES);
-            let formats = package.has("formats").then_some(THEIRS_FORMATS);
-            parts.push(Part { lanes, formats, ..part(name, "theirs_", THEIRS) });
+        Beside::Other { package: theirs, name } => {
+            dependencies.push(dependency(theirs, "theirs"));
+            parts.push(package(name, "theirs_", THEIRS));
         }
     }
     program(cache, cpu, dependencies, &parts)
@@ -102,16 +102,14 @@ fn others(has_original: bool, cpu: &str) -> Result<Vec<Part>, String> {
     let original = has_original.then(|| part(&original, "original_", ORIGINAL));
     let version = run(Command::new("rustc").arg("--version"))?;
     let version = version.split_whitespace().nth(1).unwrap_or_default().to_string();
-    let std_formats = Some(Formats { import: "", bodies: formats::standard });
-    let by_hand = Some(Formats { import: "", bodies: formats::by_hand });
     let standard = [
         Part {
-            formats: std_formats,
+            formats: Some(formats::standard),
             ..part(&format!("str::parse, rustc {version}"), "std_", STANDARD)
         },
         part(&format!("str::parse on the leading digits, {version}"), "digits_", STANDARD_PREFIX),
         Part {
-            formats: by_hand,
+            formats: Some(formats::by_hand),
             use_of: Use::FormatsAlone,
             ..part("digit by digit", "hand_", STANDARD)
         },
@@ -121,17 +119,26 @@ fn others(has_original: bool, cpu: &str) -> Result<Vec<Part>, String> {
 
 // The iterator that goes on after an error, and what does the same with std.
 fn going_on() -> [Part; 2] {
-    let name = "split and str::parse, counting errors";
-    [part("Fields, which goes on", "fields_", FIELDS), part(name, "split_", SPLIT_GOES_ON)]
-        .map(|part| Part { use_of: Use::ColumnsThatGoOn, ..part })
+    let fields = Calls { column: Column::IteratorGoesOn("calls::column::Fields"), ..PACKAGE };
+    let split = Calls { column: Column::SplitGoesOn, ..STANDARD };
+    let (use_of, import) = (Use::ColumnsThatGoOn, OURS);
+    [
+        Part { use_of, import, ..part("Fields, which goes on", "fields_", fields) },
+        Part { use_of, ..part("split and str::parse, counting errors", "split_", split) },
+    ]
 }
 
 fn part(name: &str, prefix: &'static str, calls: Calls) -> Part {
-    let name = name.to_string();
-    Part { name, prefix, calls, lanes: None, formats: None, use_of: Use::CallsAndColumns }
+    let (name, has_lanes) = (name.to_string(), false);
+    let (import, formats, use_of) = ("", None, Use::CallsAndColumns);
+    Part { name, prefix, import, calls, has_lanes, formats, use_of }
 }
 
-// Builds the program in each layout.
+const PACKAGE: Calls =
+    Calls { parse: Parse::By("calls"), column: Column::Iterator("calls::column::Column") };
+
+// Builds the program in each layout. Each loop is put into a module of its own, and so into a unit of code of
+// its own: then LLVM inlines as much into it as into a program that has only this loop.
 fn program(
     cache: &Cache,
     cpu: &str,
@@ -142,7 +149,8 @@ fn program(
     let mut names = Vec::new();
     for part in parts {
         for (name, source) in part.loops()? {
-            text += &format!("\nmod {name} {{\n    use super::*;\n{source}}}\n");
+            let import = part.import;
+            text += &format!("\nmod {name} {{\n    use super::*;\n    {import}\n{source}}}\n");
             names.push(name);
         }
     }
@@ -160,18 +168,15 @@ fn program(
         })?;
         files.extend(placed.into_iter().skip(number).step_by(LAYOUTS.len()));
     }
-    let builds_of = |use_of| {
-        let parts = parts.iter().filter(|part| part.use_of == use_of);
-        parts.map(|part| part.build(&files)).collect()
+    let builds = |is_in: fn(&Part) -> bool| -> Vec<Build> {
+        parts.iter().filter(|part| is_in(part)).map(|part| part.build(&files)).collect()
     };
-    let mut going_on: Vec<Build> = builds_of(Use::ColumnsThatGoOn);
-    let builds: Vec<Build> = builds_of(Use::CallsAndColumns);
-    let with_formats = parts.iter().filter(|part| part.formats.is_some());
-    let formats = with_formats.map(|part| part.build(&files)).collect();
+    let mut going_on = builds(|part| part.use_of == Use::ColumnsThatGoOn);
     if !going_on.is_empty() {
         going_on.insert(1, Build { name: String::from("Column"), ..parts[0].build(&files) });
     }
-    Ok(Inlined { builds, going_on, formats })
+    let formats = builds(|part| part.formats.is_some());
+    Ok(Inlined { builds: builds(|part| part.use_of == Use::CallsAndColumns), going_on, formats })
 }
 
 impl Part {
@@ -180,59 +185,31 @@ impl Part {
         Build { prefix: self.prefix, has_loops: true, ..build }
     }
 
-    // The name and the source of each loop. Each is put into a module of its own, and so into a unit of
-    // code of its own: then LLVM inlines as much into it as into a program that has only this loop.
+    // The name and the source of each loop.
     fn loops(&self) -> Result<Vec<(String, String)>, String> {
         let mut loops = Vec::new();
+        let mut add = |export: String, source: &dyn Fn(&str) -> Option<String>| {
+            let name = format!("{}{export}", self.prefix);
+            loops.extend(source(&name).map(|source| (name, source)));
+        };
         if self.use_of == Use::CallsAndColumns {
+            let lanes = Calls { parse: Parse::By("calls::lanes"), ..self.calls };
             for call in tables::calls()? {
-                let form = |form, calls: &Calls| {
-                    let name = format!("{}{}", self.prefix, call.export(form));
-                    calls.rows(&name, &call).map(|text| (name, text))
-                };
-                loops.extend(form(Form::Words, &self.calls));
-                loops.extend(self.lanes.and_then(|lanes| form(Form::Lanes, &lanes)));
+                add(call.export(Form::Words), &|name| self.calls.rows(name, &call));
+                if self.has_lanes {
+                    add(call.export(Form::Lanes), &|name| lanes.rows(name, &call));
+                }
             }
         }
         if self.use_of != Use::FormatsAlone {
             for integer in tables::column_types()? {
-                let name = format!("{}{}", self.prefix, Shape::export(integer));
-                loops.extend(self.calls.column(&name, integer).map(|text| (name, text)));
+                add(Shape::export(integer), &|name| self.calls.column(name, integer));
             }
         }
-        loops.extend(self.formats.iter().flat_map(|formats| self.loops_over_formats(*formats)));
+        for (bodies, format) in self.formats.iter().flat_map(|it| Format::ALL.map(|of| (it, of))) {
+            let body = Some(bodies(format)).filter(|body| !body.is_empty());
+            add(format.export(), &|name| body.map(|body| Calls::format(name, body)));
+        }
         Ok(loops)
     }
-
-    fn loops_over_formats(&self, formats: Formats) -> impl Iterator<Item = (String, String)> {
-        let text = move |format| match (formats.bodies)(format) {
-            "" => None,
-            body => {
-                let name = format!("{}{}", self.prefix, format.export());
-                let text = format!("    {}\n{}", formats.import, Calls::format(&name, body));
-                Some((name, text))
-            }
-        };
-        Format::ALL.into_iter().filter_map(text)
-    }
 }
-
-const OURS: Calls =
-    Calls { parse: Parse::By("ours"), column: Column::Iterator("ours::column::Column") };
-
-const OURS_LANES: Calls = Calls { parse: Parse::By("ours::lanes"), ..OURS };
-
-const THEIRS: Calls =
-    Calls { parse: Parse::By("theirs"), column: Column::Iterator("theirs::column::Column") };
-
-const THEIRS_LANES: Calls = Calls { parse: Parse::By("theirs::lanes"), ..THEIRS };
-
-const FIELDS: Calls = Calls { column: Column::IteratorGoesOn("ours::column::Fields"), ..OURS };
-
-const SPLIT_GOES_ON: Calls = Calls { column: Column::SplitGoesOn, ..STANDARD };
-
-const OURS_FORMATS: Formats =
-    Formats { import: "use ours::{self as calls, formats};", bodies: formats::ours };
-
-const THEIRS_FORMATS: Formats =
-    Formats { import: "use theirs::{self as calls, formats};", bodies: formats::ours };

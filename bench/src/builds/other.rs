@@ -5,11 +5,9 @@ use super::exports::{self, Exports};
 use super::place::{ANYWHERE, placed};
 use super::{Build, cpp, rust};
 use crate::tables;
-use std::process::Command;
-use torkettle_common::cache::{Cache, write};
+use torkettle_common::cache::Cache;
 use torkettle_common::cargo::Dependency;
-use torkettle_common::command::{print_left_out, run};
-use torkettle_common::stamp::Stamp;
+use torkettle_common::command::print_left_out;
 
 /// Builds each of the other libraries.
 pub fn all(cache: &Cache, original: Option<&Dependency>) -> Vec<Build> {
@@ -21,25 +19,9 @@ pub fn all(cache: &Cache, original: Option<&Dependency>) -> Vec<Build> {
     for library in rust::all(original) {
         keep(library.name, library.build(cache));
     }
-    keep("C++ std::from_chars", from_chars(cache));
+    keep("C++ std::from_chars", cpp::from_chars(cache));
     keep("the kit's fast_float", fast_float(cache));
     built
-}
-
-// The functions of C++'s standard library, compiled by g++.
-fn from_chars(cache: &Cache) -> Result<Build, String> {
-    let version = run(Command::new("g++").arg("-dumpfullversion"))?;
-    let (text, names) = cpp::from_chars(&tables::calls()?, &tables::column_types()?);
-    let name = format!("from_chars-{}", Stamp::new().with(&text).with(&version));
-    let placed = placed(cache, &name, &names, &ANYWHERE, |room, _| {
-        let (source, object) = (room.join("from_chars.cc"), room.join("from_chars.o"));
-        write(&source, &text)?;
-        let mut compiler = Command::new("g++");
-        compiler.args(["-std=gnu++17", "-O3", "-fPIC", "-ffunction-sections", "-c", "-o"]);
-        run(compiler.arg(&object).arg(&source))?;
-        Ok(vec![object])
-    })?;
-    Ok(Build::new(format!("std::from_chars, g++ {}", version.trim()), placed))
 }
 
 // The two integer calls of the kit's crate `fast_float`.

@@ -106,7 +106,7 @@ pub enum Column {
 
 /// The first lines of a source.
 pub const HEAD: &str = "//! What is timed: `bench` wrote this file.
-#![allow(dead_code)]
+#![allow(dead_code, unused_imports)]
 
 const ERROR: u64 = 0x8000_0000_0000_0001;
 
@@ -145,16 +145,17 @@ impl Calls {
 
     /// An export that adds up a column. None if the library has no call for it.
     pub fn column(&self, name: &str, integer: Integer) -> Option<String> {
-        let (function, iterator, body) = match self.column {
-            Column::Split => (Function::Parse, "", SPLIT),
-            Column::SplitGoesOn => (Function::Parse, "", SPLIT_GOES_ON),
-            Column::Prefixes => (Function::Prefix, "", PREFIXES),
-            Column::Iterator(iterator) => (Function::Parse, iterator, ITERATOR),
-            Column::IteratorGoesOn(iterator) => (Function::Parse, iterator, ITERATOR_GOES_ON),
+        let (function, iterator, body, no_number) = match self.column {
+            Column::Split => (Function::Parse, "", SPLIT, "return ERROR"),
+            Column::SplitGoesOn => (Function::Parse, "", SPLIT, "1"),
+            Column::Prefixes => (Function::Prefix, "", PREFIXES, ""),
+            Column::Iterator(iterator) => (Function::Parse, iterator, ITERATOR, "return ERROR"),
+            Column::IteratorGoesOn(iterator) => (Function::Parse, iterator, ITERATOR, "1"),
         };
         let call = TimedCall { function, integer, skip_zeroes: true, skip_plus: true };
         let parse = self.parse.expression(&call)?;
         let body = body.replace("PARSE", &parse).replace("ITERATOR", iterator);
+        let body = body.replace("NO_NUMBER", no_number);
         Some(export(name, integer, &body))
     }
 }
@@ -206,17 +207,9 @@ const FORMAT: &str = "
 const SPLIT: &str = "
     let mut sum = 0_u64;
     for text in text.split(|byte| *byte == b',') {
-        let Some(value) = PARSE else { return ERROR };
-        sum = sum.wrapping_add(value as Unsigned as u64);
-    }
-    sum";
-
-const SPLIT_GOES_ON: &str = "
-    let mut sum = 0_u64;
-    for text in text.split(|byte| *byte == b',') {
         sum = sum.wrapping_add(match PARSE {
             Some(value) => value as Unsigned as u64,
-            None => 1,
+            None => NO_NUMBER,
         });
     }
     sum";
@@ -236,17 +229,9 @@ const PREFIXES: &str = "
 const ITERATOR: &str = "
     let mut sum = 0_u64;
     for item in ITERATOR::<T>::new(text, b',') {
-        let Ok(value) = item else { return ERROR };
-        sum = sum.wrapping_add(value as Unsigned as u64);
-    }
-    sum";
-
-const ITERATOR_GOES_ON: &str = "
-    let mut sum = 0_u64;
-    for item in ITERATOR::<T>::new(text, b',') {
         sum = sum.wrapping_add(match item {
             Ok(value) => value as Unsigned as u64,
-            Err(_) => 1,
+            Err(_) => NO_NUMBER,
         });
     }
     sum";

@@ -1,9 +1,11 @@
 //! Times the calls from C and C++.
 
-use crate::arguments::{Arguments, Task};
+use super::{columns, lists};
+use crate::arguments::{Arguments, Work};
 use crate::builds;
 use crate::report::Table;
 use crate::tables;
+use crate::timing::Task;
 use torkettle_common::cache::Cache;
 use torkettle_common::command::print_left_out;
 use torkettle_common::package::Package;
@@ -13,17 +15,16 @@ use torkettle_common::random::Random;
 pub fn run(arguments: &Arguments, cache: &Cache) -> Result<usize, String> {
     let builds = match builds::of_c(cache, &Package::of_folder(cache.repository())?) {
         Ok(builds) => builds,
-        Err(fault) if arguments.task == Task::C => return Err(fault),
+        Err(fault) if arguments.work == Work::C => return Err(fault),
         Err(fault) => {
             print_left_out("the C library", &fault);
             return Ok(0);
         }
     };
-    let mut random = Random::new(arguments.seed);
-    let mut time = |timed, how: &str| {
-        let table = Table::new(&builds, timed, how, arguments.passes, &mut random)?;
-        Ok::<usize, String>(table.print())
+    let time = |tasks: Vec<Task>, unit: &str| {
+        Ok::<usize, String>(Table::new(&builds, tasks, unit, arguments.passes)?.print())
     };
-    Ok(time(&super::lists(arguments, tables::c_lists()?), ", from C++")?
-        + time(&super::columns(arguments, false)?, ", from C and C++")?)
+    let random = &mut Random::new(arguments.seed);
+    Ok(time(lists(arguments, tables::c_lists()?, random), "call, from C++")?
+        + time(columns(arguments, false, random)?, "field, from C and C++")?)
 }

@@ -1,12 +1,11 @@
 //! Times or counts the exports of the kit's build beside those of other libraries, or of a commit.
 
-use super::{columns, lists};
-use crate::arguments::{Arguments, Task};
+use super::{columns, lists, lists_with_plus};
+use crate::arguments::{Arguments, Work};
 use crate::builds::{self, Build, State};
 use crate::count;
-use crate::report::{self, Table};
+use crate::report::Table;
 use crate::tables;
-use crate::timing::Timed;
 use torkettle_common::cache::Cache;
 use torkettle_common::command::print_left_out;
 use torkettle_common::integer::Integer;
@@ -18,7 +17,7 @@ use torkettle_common::random::Random;
 pub fn run(arguments: &Arguments, cache: &Cache) -> Result<usize, String> {
     let kit = match kit::version() {
         Ok(kit) => kit,
-        Err(fault) if arguments.task == Task::Everything => {
+        Err(fault) if arguments.work == Work::Everything => {
             print_left_out("the times of exports", &fault);
             return Ok(0);
         }
@@ -26,8 +25,8 @@ pub fn run(arguments: &Arguments, cache: &Cache) -> Result<usize, String> {
     };
     let builds = builds_of(arguments, cache)?;
     println!("{kit}; ours is built for {}", arguments.cpu());
-    match arguments.task {
-        Task::Count => count(cache, &builds),
+    match arguments.work {
+        Work::Count => count(cache, &builds),
         _ => time(arguments, &builds),
     }
 }
@@ -35,7 +34,7 @@ pub fn run(arguments: &Arguments, cache: &Cache) -> Result<usize, String> {
 // What is timed or counted. Our library is the first.
 fn builds_of(arguments: &Arguments, cache: &Cache) -> Result<Vec<Build>, String> {
     let state = State::of_checkout(cache, arguments.cpu());
-    let is_timed = arguments.task != Task::Count;
+    let is_timed = arguments.work != Work::Count;
     // A call through a pointer takes a time of its own, which hides how two states differ.
     let in_loops = arguments.against.is_some() && is_timed;
     let timed = |state: &State, name: &str| match in_loops {
@@ -66,33 +65,18 @@ fn count(cache: &Cache, builds: &[Build]) -> Result<usize, String> {
 }
 
 fn time(arguments: &Arguments, builds: &[Build]) -> Result<usize, String> {
-    let mut random = Random::new(arguments.seed);
-    let mut time = |builds: &[Build], timed: &[Timed]| {
-        Table::new(builds, timed, "", arguments.passes, &mut random)
-    };
-    let input_lists = lists(arguments, tables::input_lists()?);
-    let table = time(builds, &input_lists)?;
+    let time = |builds, tasks, unit: &str| Table::new(builds, tasks, unit, arguments.passes);
+    let random = &mut Random::new(arguments.seed);
+    let input_lists = lists(arguments, tables::input_lists()?, random);
+    let table = time(builds, input_lists, "call")?;
     let mut wrong = table.print();
     if arguments.is_markdown {
         table.print_markdown();
     }
-    wrong += time(builds, &columns(arguments, false)?)?.print();
+    wrong += time(builds, columns(arguments, false, random)?, "field")?.print();
     if arguments.against.is_none() {
-        let (without, with) = with_plus(input_lists);
-        let without = time(&builds[..1], &without)?.times;
-        wrong += report::print_plus(&without, &time(&builds[..1], &with)?.times);
+        let unit = "call, a plus before half of the numbers";
+        wrong += time(&builds[..1], lists_with_plus(arguments, random)?, unit)?.print();
     }
     Ok(wrong)
-}
-
-// The input lists whose calls skip a plus, without a plus and with one before half of the numbers.
-fn with_plus(input_lists: Vec<Timed>) -> (Vec<Timed>, Vec<Timed>) {
-    let with = |timed| match timed {
-        Timed::List { list, .. } if list.call.skip_plus => {
-            let without = Timed::List { list: list.clone(), has_plus: false };
-            Some((without, Timed::List { list, has_plus: true }))
-        }
-        _ => None,
-    };
-    input_lists.into_iter().filter_map(with).unzip()
 }

@@ -5,7 +5,7 @@ use crate::arguments::Arguments;
 use crate::builds::{self, Beside, Build, Inlined};
 use crate::report::Table;
 use crate::tables;
-use crate::timing::Timed;
+use crate::timing::Task;
 use torkettle_common::cache::Cache;
 use torkettle_common::original;
 use torkettle_common::package::Package;
@@ -35,25 +35,26 @@ pub fn run(arguments: &Arguments, cache: &Cache) -> Result<usize, String> {
 }
 
 fn time(arguments: &Arguments, built: &Inlined, cpu: &str) -> Result<usize, String> {
-    let mut random = Random::new(arguments.seed);
-    let mut time = |builds: &[Build], timed: &[Timed], how: &str| {
-        let how = format!(", inlined in Rust, built for {cpu}{how}");
-        Table::new(builds, timed, &how, arguments.passes, &mut random)
+    let time = |builds: &[Build], tasks: Vec<Task>, item: &str| {
+        let unit = format!("{item}, inlined in Rust, built for {cpu}");
+        Table::new(builds, tasks, &unit, arguments.passes)
     };
-    let table = time(&built.builds, &lists(arguments, tables::input_lists()?), "")?;
+    let random = &mut Random::new(arguments.seed);
+    let input_lists = lists(arguments, tables::input_lists()?, random);
+    let table = time(&built.builds, input_lists, "call")?;
     let mut wrong = table.print();
     if arguments.is_markdown {
         table.print_markdown();
     }
-    wrong += time(&built.builds, &columns(arguments, false)?, "")?.print();
+    wrong += time(&built.builds, columns(arguments, false, random)?, "field")?.print();
     if !built.going_on.is_empty() {
-        let how = ", all fields are numbers";
-        wrong += time(&built.going_on, &columns(arguments, false)?, how)?.print();
+        let item = "field of a column of numbers";
+        wrong += time(&built.going_on, columns(arguments, false, random)?, item)?.print();
         // `Column`, the second, does not go on.
         let going_on = [&built.going_on[..1], &built.going_on[2..]].concat();
-        let how = ", one field in ten is no number";
-        wrong += time(&going_on, &columns(arguments, true)?, how)?.print();
+        let item = "field, of which one in ten is no number";
+        wrong += time(&going_on, columns(arguments, true, random)?, item)?.print();
     }
-    wrong += time(&built.formats, &formats(arguments), "")?.print();
+    wrong += time(&built.formats, formats(arguments, random), "text")?.print();
     Ok(wrong)
 }

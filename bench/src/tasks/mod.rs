@@ -4,29 +4,30 @@ mod c;
 mod exports;
 mod inlined;
 
-use crate::arguments::{Arguments, Task};
+use crate::arguments::{Arguments, Work};
 use crate::formats::Format;
 use crate::tables::{self, InputList};
-use crate::timing::{Timed, processor};
+use crate::timing::{Task, processor};
 use torkettle_common::cache::Cache;
+use torkettle_common::random::Random;
 
 /// Does everything, and returns how many builds gave wrong answers to a line.
 pub fn run(arguments: &Arguments) -> Result<usize, String> {
     let cache = Cache::new()?;
-    let task = arguments.task;
+    let work = arguments.work;
     check_only(arguments)?;
     println!("timed or counted on {}", processor::name());
     if !processor::predicts_jumps() {
         println!("it predicts no jumps by tables: libraries that have them take longer here");
     }
     let mut wrong = 0;
-    if task.includes(Task::Exports) || task == Task::Count {
+    if work.includes(Work::Exports) || work == Work::Count {
         wrong += exports::run(arguments, &cache)?;
     }
-    if task.includes(Task::Inlined) {
+    if work.includes(Work::Inlined) {
         wrong += inlined::run(arguments, &cache)?;
     }
-    if task.includes(Task::C) {
+    if work.includes(Work::C) {
         wrong += c::run(arguments, &cache)?;
     }
     Ok(wrong)
@@ -34,29 +35,44 @@ pub fn run(arguments: &Arguments) -> Result<usize, String> {
 
 // Refuses an argument `--only` that leaves nothing.
 fn check_only(arguments: &Arguments) -> Result<(), String> {
-    let lists = lists(arguments, tables::input_lists()?.into_iter().chain(tables::c_lists()?));
-    let has_none = lists.is_empty() && columns(arguments, false)?.is_empty();
-    match has_none && formats(arguments).is_empty() {
+    let random = &mut Random::new(arguments.seed);
+    let has_none = lists(arguments, tables::input_lists()?, random).is_empty()
+        && lists(arguments, tables::c_lists()?, random).is_empty()
+        && columns(arguments, false, random)?.is_empty()
+        && formats(arguments, random).is_empty();
+    match has_none {
         true => Err(String::from("no input list, no column and no format has what --only says")),
         false => Ok(()),
     }
 }
 
-// Those of the input lists that are timed.
-fn lists(arguments: &Arguments, lists: impl IntoIterator<Item = InputList>) -> Vec<Timed> {
-    let lists = lists.into_iter().filter(|list| arguments.has(&list.to_string()));
-    lists.map(|list| Timed::List { list, has_plus: false }).collect()
+// What is done with those of the input lists that are timed.
+fn lists(arguments: &Arguments, mut lists: Vec<InputList>, random: &mut Random) -> Vec<Task> {
+    lists.retain(|list| arguments.has(&list.to_string()));
+    lists.iter().map(|list| Task::list(list, false, random)).collect()
 }
 
-// The columns that are timed.
-fn columns(arguments: &Arguments, has_errors: bool) -> Result<Vec<Timed>, String> {
+// The same with a plus before half of the numbers, for the calls that skip it.
+fn lists_with_plus(arguments: &Arguments, random: &mut Random) -> Result<Vec<Task>, String> {
+    let mut lists = tables::input_lists()?;
+    lists.retain(|list| list.call.skip_plus && arguments.has(&list.to_string()));
+    Ok(lists.iter().map(|list| Task::list(list, true, random)).collect())
+}
+
+// What is done with the columns that are timed.
+fn columns(
+    arguments: &Arguments,
+    has_errors: bool,
+    random: &mut Random,
+) -> Result<Vec<Task>, String> {
     let mut shapes = tables::shapes()?;
     shapes.retain(|shape| arguments.has(&format!("column {shape}")));
-    Ok(shapes.into_iter().map(|shape| Timed::Column { shape, has_errors }).collect())
+    Ok(shapes.iter().map(|shape| Task::column(shape, has_errors, random)).collect())
 }
 
-// The formats that are timed.
-fn formats(arguments: &Arguments) -> Vec<Timed> {
+// What is done with the formats that are timed.
+fn formats(arguments: &Arguments, random: &mut Random) -> Vec<Task> {
     let is_timed = |format: &Format| arguments.has(&format!("format {}", format.name()));
-    Format::ALL.into_iter().filter(is_timed).map(Timed::Format).collect()
+    let formats = Format::ALL.into_iter().filter(is_timed);
+    formats.map(|format| Task::format(format, random)).collect()
 }

@@ -19,62 +19,11 @@ use torkettle_common::random::Random;
 /// What an export returns for an error.
 pub const ERROR: u64 = 0x8000_0000_0000_0001;
 
-// How many texts an input list or a format has.
-const ROWS: usize = 4096;
-
 // How many rounds each pass has.
 const ROUNDS: usize = 60;
 
-/// What is timed: a line of a table.
-pub enum Timed {
-    List {
-        list: InputList,
-        /// Whether half of the numbers have a plus.
-        has_plus: bool,
-    },
-    Column {
-        shape: Shape,
-        /// Whether one field in ten is no number.
-        has_errors: bool,
-    },
-    Format(Format),
-}
-
-impl Timed {
-    fn name(&self) -> String {
-        match self {
-            Timed::List { list, .. } => list.to_string(),
-            Timed::Column { shape, .. } => shape.to_string(),
-            Timed::Format(format) => format!("{:10}", format.name()),
-        }
-    }
-
-    fn width(&self) -> Option<usize> {
-        match self {
-            Timed::List { list, .. } => list.digits.width(),
-            Timed::Column { shape, .. } => shape.digits.width(),
-            Timed::Format(_) => None,
-        }
-    }
-
-    // The name of the export that reads it. Only input lists are read in both forms.
-    fn export(&self, form: Form) -> Option<String> {
-        match (self, form) {
-            (Timed::List { list, .. }, form) => Some(list.call.export(form)),
-            (Timed::Column { shape, .. }, Form::Words) => Some(Shape::export(shape.integer)),
-            (Timed::Format(format), Form::Words) => Some(format.export()),
-            (_, Form::Lanes) => None,
-        }
-    }
-
-    fn input(&self, random: &mut Random) -> Input {
-        match self {
-            Timed::List { list, has_plus } => Input::list(list, *has_plus, ROWS, random),
-            Timed::Column { shape, has_errors } => Input::column(shape, *has_errors, random),
-            Timed::Format(format) => Input::format(*format, ROWS, random),
-        }
-    }
-}
+// How many texts an input list or a format has.
+const ROWS: usize = 4096;
 
 /// One side of a table.
 #[derive(Clone)]
@@ -85,9 +34,11 @@ pub struct Side {
     pub name: String,
 }
 
-/// What the sides do with one input list, column or format.
+/// What the sides do with one line of a table: an input list, a column or a format.
 pub struct Task {
     times: Times,
+    // The names of the exports that read it. Only input lists are read in both forms.
+    exports: Vec<(Form, String)>,
     input: Input,
     sides: Vec<Calls>,
 }
@@ -131,40 +82,39 @@ impl Times {
     }
 }
 
-/// The sides that the builds have, and what they do with each line.
-pub fn tasks(
-    builds: &[Build],
-    timed: &[Timed],
-    random: &mut Random,
-) -> Result<(Vec<Side>, Vec<Task>), String> {
-    let mut tasks: Vec<Task> = timed.iter().map(|timed| Task::new(timed, random)).collect();
-    let mut sides = Vec::new();
-    for (number, build) in builds.iter().enumerate() {
-        for form in Form::BOTH {
-            let calls = |timed: &Timed| match timed.export(form) {
-                Some(export) => build.calls(&export),
-                None => Ok(Vec::new()),
-            };
-            let calls = timed.iter().map(calls).collect::<Result<Vec<_>, String>>()?;
-            if calls.iter().any(|calls| !calls.is_empty()) {
-                sides.push(Side { build: number, form, name: build.name.clone() });
-                tasks.iter_mut().zip(calls).for_each(|(task, calls)| task.add(build, calls));
-            }
-        }
-    }
-    Ok((sides, tasks))
-}
-
 impl Task {
-    fn new(timed: &Timed, random: &mut Random) -> Task {
-        let (name, width) = (timed.name(), timed.width());
-        let times = Times { name, width, passes: Vec::new(), is_wrong: Vec::new() };
-        Task { times, input: timed.input(random), sides: Vec::new() }
+    /// What is done with an input list. Half of the numbers have a plus if `has_plus`.
+    pub fn list(list: &InputList, has_plus: bool, random: &mut Random) -> Task {
+        let exports = Form::BOTH.map(|form| (form, list.call.export(form))).to_vec();
+        let input = Input::list(list, has_plus, ROWS, random);
+        Task::new(list.to_string(), list.digits.width(), exports, input)
     }
 
-    fn add(&mut self, build: &Build, calls: Vec<Call>) {
-        self.sides.push(Calls { calls, has_loops: build.has_loops });
-        self.times.is_wrong.push(false);
+    /// What is done with a column. One field in ten is no number if `has_errors`.
+    pub fn column(shape: &Shape, has_errors: bool, random: &mut Random) -> Task {
+        let exports = vec![(Form::Words, Shape::export(shape.integer))];
+        let input = Input::column(shape, has_errors, random);
+        Task::new(shape.to_string(), shape.digits.width(), exports, input)
+    }
+
+    /// What is done with texts of a format.
+    pub fn format(format: Format, random: &mut Random) -> Task {
+        let exports = vec![(Form::Words, format.export())];
+        let input = Input::format(format, ROWS, random);
+        Task::new(format!("{:10}", format.name()), None, exports, input)
+    }
+
+    fn new(name: String, width: Option<usize>, exports: Vec<(Form, String)>, input: Input) -> Task {
+        let times = Times { name, width, passes: Vec::new(), is_wrong: Vec::new() };
+        Task { times, exports, input, sides: Vec::new() }
+    }
+
+    // The calls that a build has for it in a form.
+    fn calls(&self, build: &Build, form: Form) -> Result<Vec<Call>, String> {
+        match self.exports.iter().find(|(of, _)| *of == form) {
+            Some((_, export)) => build.calls(export),
+            None => Ok(Vec::new()),
+        }
     }
 
     fn pass(&mut self) {
@@ -192,6 +142,26 @@ impl Task {
             *is_wrong |= sum != self.input.expected;
         }
     }
+}
+
+/// Gives each task the sides that the builds have, and returns these.
+pub fn sides(builds: &[Build], tasks: &mut [Task]) -> Result<Vec<Side>, String> {
+    let mut sides = Vec::new();
+    for (number, build) in builds.iter().enumerate() {
+        for form in Form::BOTH {
+            let calls = tasks.iter().map(|task| task.calls(build, form));
+            let calls = calls.collect::<Result<Vec<_>, String>>()?;
+            if calls.iter().all(Vec::is_empty) {
+                continue;
+            }
+            sides.push(Side { build: number, form, name: build.name.clone() });
+            for (task, calls) in tasks.iter_mut().zip(calls) {
+                task.sides.push(Calls { calls, has_loops: build.has_loops });
+                task.times.is_wrong.push(false);
+            }
+        }
+    }
+    Ok(sides)
 }
 
 /// Times every task in each pass. This also keeps the program on one processor.

@@ -37,13 +37,6 @@ impl Package {
         self.contents
     }
 
-    /// Whether the public interface has an item of this name.
-    pub fn has(&self, item: &str) -> bool {
-        let text = fs::read_to_string(self.folder.join("rust/src/lib.rs")).unwrap_or_default();
-        let mut code = text.lines().filter(|line| !line.trim_start().starts_with("//"));
-        code.any(|line| line.split(|c: char| !c.is_alphanumeric()).any(|word| word == item))
-    }
-
     /// What a generated crate writes into its manifest to use the package under this name.
     pub fn dependency(&self, name: &str) -> Dependency {
         Dependency::of_folder(PACKAGE, name, &self.folder, self.contents)

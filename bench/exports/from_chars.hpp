@@ -1,0 +1,65 @@
+// Exports that call a `from_chars` once, with each row of an input list, or with each field of a column. All is inlined
+// into an export, since only exports are placed at chosen addresses.
+#include <charconv>
+#include <cstddef>
+#include <cstdint>
+#include <type_traits>
+
+#define INLINED [[gnu::always_inline]] inline
+#define EXPORT(NAME, ...) \
+    extern "C" uint64_t NAME(const uint8_t *text, size_t size) { return __VA_ARGS__(text, size); }
+
+static const uint64_t ERROR = 0x8000000000000001;
+
+struct Row {
+    char bytes[96];
+    size_t length;
+};
+
+struct Standard {
+    template <typename T> INLINED static auto read(const char *start, const char *end, T &value) {
+        return std::from_chars(start, end, value);
+    }
+};
+
+template <typename T> INLINED uint64_t low_bits(T value) {
+    return static_cast<uint64_t>(static_cast<std::make_unsigned_t<T>>(value));
+}
+
+// Adds the answer to a text, or returns false if there is none.
+template <typename By, typename T, bool IS_WHOLE>
+INLINED bool add(const char *start, const char *end, uint64_t &sum) {
+    T value;
+    auto [stop, error] = By::read(start, end, value);
+    if (error != std::errc() || (IS_WHOLE && stop != end)) return false;
+    sum += low_bits(value) + (IS_WHOLE ? 0 : static_cast<uint64_t>(stop - start));
+    return true;
+}
+
+template <typename By, typename T, bool IS_WHOLE> INLINED uint64_t call(const uint8_t *text, size_t size) {
+    const char *start = reinterpret_cast<const char *>(text);
+    uint64_t answer = 0;
+    return add<By, T, IS_WHOLE>(start, start + size, answer) ? answer : ERROR;
+}
+
+template <typename By, typename T, bool IS_WHOLE> INLINED uint64_t rows(const uint8_t *text, size_t size) {
+    const Row *row = reinterpret_cast<const Row *>(text);
+    uint64_t sum = 0;
+    for (const Row *last = row + size; row != last; ++row)
+        if (!add<By, T, IS_WHOLE>(row->bytes, row->bytes + row->length, sum)) return ERROR;
+    return sum;
+}
+
+template <typename By, typename T> INLINED uint64_t column(const uint8_t *text, size_t size) {
+    const char *start = reinterpret_cast<const char *>(text), *end = start + size;
+    uint64_t sum = 0;
+    for (;;) {
+        T value;
+        auto [stop, error] = By::read(start, end, value);
+        if (error != std::errc()) return ERROR;
+        sum += low_bits(value);
+        if (stop == end) return sum;
+        if (*stop != ',') return ERROR;
+        start = stop + 1;
+    }
+}
