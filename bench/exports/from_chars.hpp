@@ -1,9 +1,10 @@
-// Exports that call a `from_chars` once, with each row of an input list, or with each field of a column. All is inlined
-// into an export, since only exports are placed at chosen addresses.
+// Exports that call a `from_chars` with each row of an input list, or with each field of a column. All is inlined into an
+// export, since only exports are placed at chosen addresses.
 #include <charconv>
 #include <cstddef>
 #include <cstdint>
 #include <type_traits>
+#include "torkettle.hpp"
 
 #define INLINED [[gnu::always_inline]] inline
 #define EXPORT(NAME, ...) \
@@ -22,6 +23,12 @@ struct Standard {
     }
 };
 
+struct Ours {
+    template <typename T> INLINED static auto read(const char *start, const char *end, T &value) {
+        return torkettle::from_chars(start, end, value);
+    }
+};
+
 template <typename T> INLINED uint64_t low_bits(T value) {
     return static_cast<uint64_t>(static_cast<std::make_unsigned_t<T>>(value));
 }
@@ -34,12 +41,6 @@ INLINED bool add(const char *start, const char *end, uint64_t &sum) {
     if (error != std::errc() || (IS_WHOLE && stop != end)) return false;
     sum += low_bits(value) + (IS_WHOLE ? 0 : static_cast<uint64_t>(stop - start));
     return true;
-}
-
-template <typename By, typename T, bool IS_WHOLE> INLINED uint64_t call(const uint8_t *text, size_t size) {
-    const char *start = reinterpret_cast<const char *>(text);
-    uint64_t answer = 0;
-    return add<By, T, IS_WHOLE>(start, start + size, answer) ? answer : ERROR;
 }
 
 template <typename By, typename T, bool IS_WHOLE> INLINED uint64_t rows(const uint8_t *text, size_t size) {

@@ -76,7 +76,7 @@ pub fn make_calls(file: &Path, form: Form) -> Result<(), String> {
             println!("none");
             continue;
         };
-        let input = Input::list(cell, false, TEXTS, &mut Random::new(number as u64));
+        let input = Input::list(cell, TEXTS, &mut Random::new(number as u64));
         let is_right = input.sum(call, false) == input.expected;
         cell_ends();
         println!("{}", if is_right { "right" } else { "wrong" });

@@ -58,7 +58,7 @@ pub struct Written {
     pub magnitude: u128,
 }
 
-/// Appends a number with so many digits, of which the first is 1. If `sign` is a minus or a plus,
+/// Appends a number with so many digits, of which the first is 1. If there is a sign,
 /// it precedes the number with probability one half.
 pub fn push_number(
     random: &mut Random,
@@ -77,5 +77,5 @@ pub fn push_number(
         text.push(digit);
         magnitude = magnitude.wrapping_mul(10).wrapping_add(u128::from(digit - b'0'));
     }
-    Written { is_negative: sign == Some(b'-'), magnitude }
+    Written { is_negative: sign.is_some(), magnitude }
 }

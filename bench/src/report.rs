@@ -8,13 +8,13 @@ use torkettle_common::Form;
 // The means of the passes of an idle machine differ by less, in percent.
 const BUSY: f64 = 3.0;
 
-// A ratio above this one is told. One nearer to 1 may be chance.
+// A ratio above this one is named. One nearer to 1 may be chance.
 const SLOWER: f64 = 1.02;
 
 // If more sides are compared, their ratios are not printed for each line.
 const SHOWN: usize = 6;
 
-// If more sides are compared, the lines on which we are slower are told once more.
+// If more sides are compared, the lines on which we are slower are named once more.
 const FEW: usize = 2;
 
 // Groups of lists, by the number of digits that all numbers of a list have: 0 if they differ.
@@ -156,26 +156,23 @@ impl Table {
         print_group(pair, &format!("{name} | {}", all.len()), &all)
     }
 
-    /// Prints our times, and those of std and the original, as a table in Markdown.
+    /// Prints our times and those of the original and of std, if there are any, as a table in Markdown.
     pub fn print_markdown(&self) {
-        let is_std = |side: &&usize| self.sides[**side].name.starts_with("str::parse");
-        let is_shown = |side: &&usize| {
-            self.sides[**side].build == 0 || self.sides[**side].name.contains("original")
+        let sides = |is_shown: fn(&Side) -> bool| -> Vec<usize> {
+            let sides = self.sides.iter().enumerate().filter(|(_, side)| is_shown(side));
+            sides.map(|(number, _)| number).collect()
         };
-        let all: Vec<usize> = (0..self.sides.len()).collect();
-        let (standard, shown): (Vec<&usize>, Vec<&usize>) =
-            (all.iter().filter(is_std).collect(), all.iter().filter(is_shown).collect());
-        let names = shown.iter().map(|side| format!(" {} |", self.name_of(&self.sides[**side])));
+        let shown = sides(|side| side.build == 0 || side.name.starts_with("the original"));
+        // Std has a side for whole texts, and one for the digits at the start of a text.
+        let standard = sides(|side| side.name.starts_with("str::parse"));
+        let names = shown.iter().map(|side| format!(" {} |", self.name_of(&self.sides[*side])));
         println!("\n| nanoseconds per {} |{} `str::parse` |", self.unit, names.collect::<String>());
         println!("|---|{}---|", "---|".repeat(shown.len()));
         for times in &self.times {
-            let line: Vec<&str> = times.name.split_whitespace().collect();
-            let cell = |time: Option<f64>| {
-                time.map_or(String::from("  |"), |time| format!(" {time:.1} |"))
-            };
-            let cells: String = shown.iter().map(|side| cell(times.of(**side))).collect();
-            let standard = standard.iter().find_map(|side| times.of(**side));
-            println!("| `{}` |{cells}{}", line.join(" "), cell(standard));
+            let of_std = standard.iter().find_map(|side| times.of(*side));
+            let cells = shown.iter().map(|side| times.of(*side)).chain([of_std]);
+            let cells = cells.map(|time| time.map(|time| format!("{time:.1}")).unwrap_or_default());
+            println!("| `{}` | {} |", line(times), cells.collect::<Vec<_>>().join(" | "));
         }
     }
 
@@ -185,8 +182,7 @@ impl Table {
         let name = &self.sides[comparison.theirs].name;
         for times in &self.times {
             if let Some(ratio) = comparison.ratio(times).filter(|ratio| *ratio > SLOWER) {
-                let line: Vec<&str> = times.name.split_whitespace().collect();
-                println!("    {form} take {ratio:.2} times as long as {name}: {}", line.join(" "));
+                println!("    {form} take {ratio:.2} times as long as {name}: {}", line(times));
             }
         }
     }
@@ -201,6 +197,11 @@ fn print_group(pair: &[Comparison], name: &str, times: &[&Times]) -> f64 {
     let shown: Vec<String> = ratios.iter().map(shown).collect();
     println!("| {name} | {} | {spread:.1} % |", shown.join(" | "));
     spread
+}
+
+// What the line of a table says, with one space between its words.
+fn line(times: &Times) -> String {
+    times.name.split_whitespace().collect::<Vec<_>>().join(" ")
 }
 
 // Whether the ratios of each line are printed beside its times.

@@ -1,13 +1,13 @@
 //! The C library beside `std::from_chars`, called from one C++ program, and its columns from C, read
 //! by calls of `_read` and beside that by calls of `_next`.
 
+use super::Build;
 use super::place::{ASSEMBLED_WITHIN_32_BYTES, WITHIN_32_BYTES, WITHIN_LINES, placed};
-use super::{Build, cpp};
 use crate::tables::{self, Shape, TimedCall};
 use std::path::{Path, PathBuf};
 use std::process::Command;
 use torkettle_common::Form;
-use torkettle_common::cache::Cache;
+use torkettle_common::cache::{Cache, write};
 use torkettle_common::command::run;
 use torkettle_common::integer::Integer;
 use torkettle_common::package::Package;
@@ -18,29 +18,20 @@ const OURS: &str = "ours_";
 const STANDARD: &str = "std_";
 const NEXT: &str = "next_";
 
-const BY_OURS: &str = r#"#include "torkettle.hpp"
-
-struct Ours {
-    template <typename T> INLINED static auto read(const char *start, const char *end, T &value) {
-        return torkettle::from_chars(start, end, value);
-    }
-};
-"#;
-
 /// The C library, and then what is beside it.
 pub fn builds(cache: &Cache, package: &Package) -> Result<Vec<Build>, String> {
-    let compilers = [cpp::version("g++")?, cpp::version("cc")?];
+    let compilers = [version("g++")?, version("cc")?];
     let sources = Sources::new(&tables::c_calls()?, &tables::column_types()?);
     let folder = cache.repository().join("c");
     let stamp = package.stamp().with_folder(&folder)?.with(&sources.cpp).with(&sources.c);
     let stamp = compilers.iter().fold(stamp, |stamp: Stamp, version| stamp.with(version));
-    let placed = placed(cache, &format!("c-{stamp}"), &sources.names, &WITHIN_LINES, |room, _| {
+    let placed = placed(cache, &format!("c-{stamp}"), &sources.names, &WITHIN_LINES, |room| {
         let include = format!("-I{}", folder.join("include").display());
         let (loops, columns) = (room.join("loops.o"), room.join("columns.o"));
         let cpp = ["-std=gnu++17", ASSEMBLED_WITHIN_32_BYTES, &include];
-        cpp::compile("g++", &cpp, &room.join("loops.cc"), &sources.cpp, &loops)?;
+        compile("g++", &cpp, &room.join("loops.cc"), &sources.cpp, &loops)?;
         let c = ["-std=c99", ASSEMBLED_WITHIN_32_BYTES, &include];
-        cpp::compile("cc", &c, &room.join("columns.c"), &sources.c, &columns)?;
+        compile("cc", &c, &room.join("columns.c"), &sources.c, &columns)?;
         Ok(vec![loops, columns, library(cache, &folder)?])
     })?;
     let build = |name: String, prefix| {
@@ -52,6 +43,24 @@ pub fn builds(cache: &Cache, package: &Package) -> Result<Vec<Build>, String> {
         build(format!("std::from_chars, g++ {}", compilers[0]), STANDARD),
         build(String::from("the column in C, by _next"), NEXT),
     ])
+}
+
+fn version(compiler: &str) -> Result<String, String> {
+    Ok(run(Command::new(compiler).arg("-dumpfullversion"))?.trim().to_string())
+}
+
+// Compiles a text, with optimisation and each function in a section of its own.
+fn compile(
+    compiler: &str,
+    arguments: &[&str],
+    source: &Path,
+    text: &str,
+    object: &Path,
+) -> Result<(), String> {
+    write(source, text)?;
+    let mut command = Command::new(compiler);
+    command.args(arguments).args(["-O3", "-fPIC", "-ffunction-sections", "-c", "-o"]);
+    run(command.arg(object).arg(source)).map(|_| ())
 }
 
 // The static library, as cargo builds it, but for jumps that cross 32 bytes.
@@ -72,22 +81,29 @@ struct Sources {
 
 impl Sources {
     fn new(calls: &[TimedCall], types: &[Integer]) -> Sources {
-        let mut cpp = format!("{}{BY_OURS}", cpp::HEAD);
+        let mut cpp = String::from(include_str!("../../exports/from_chars.hpp"));
         let mut c = String::from(include_str!("../../exports/columns.h"));
         let mut names = Vec::new();
         for call in calls {
             for (prefix, by) in [(OURS, "Ours"), (STANDARD, "Standard")] {
                 let name = format!("{prefix}{}", call.export(Form::Words));
-                cpp += &cpp::export(&name, "rows", by, call);
+                let (integer, is_whole) = (c_type(call.integer), call.is_whole());
+                cpp += &format!("EXPORT({name}, rows<{by}, {integer}, {is_whole}>)\n");
                 names.push(name);
             }
         }
         for integer in types {
-            let name = Shape::export(*integer);
-            c += &format!("COLUMN({}, {})\n", integer.name(), cpp::c_type(*integer));
-            cpp += &cpp::column(&format!("{STANDARD}{name}"), *integer);
+            let (name, c_type) = (Shape::export(*integer), c_type(*integer));
+            c += &format!("COLUMN({}, {c_type})\n", integer.name());
+            cpp += &format!("EXPORT({STANDARD}{name}, column<Standard, {c_type}>)\n");
             names.extend([OURS, STANDARD, NEXT].map(|prefix| format!("{prefix}{name}")));
         }
         Sources { cpp, c, names }
     }
+}
+
+// The name of an integer type in C.
+fn c_type(integer: Integer) -> String {
+    let sign = if integer.is_signed() { "" } else { "u" };
+    format!("{sign}int{}_t", integer.bits())
 }

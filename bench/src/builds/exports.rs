@@ -41,30 +41,8 @@ pub fn loops(calls: &[TimedCall]) -> Exports {
 
 /// A loop over a column for each type.
 pub fn columns(types: &[Integer]) -> Exports {
-    let columns = types.iter().map(|integer| column(Shape::export(*integer), *integer, "value"));
+    let columns = types.iter().map(|integer| column(*integer));
     Exports::new("atoi_summed", "atoi_column", COLUMNS, columns)
-}
-
-/// Two loops over columns of one type. The second loop adds one to each value, since LLVM would make
-/// equal loops one.
-pub fn two_loops(integer: Integer) -> Exports {
-    let again = format!("column_again_{}", integer.name());
-    let loops = [
-        column(Shape::export(integer), integer, "value"),
-        column(again, integer, "value.wrapping_add(1)"),
-    ];
-    Exports::new("atoi_twice", "atoi_column", COLUMNS, loops.into_iter())
-}
-
-/// The integer calls of the kit's crate `fast_float`.
-pub fn fast_float(calls: &[TimedCall]) -> Exports {
-    let is_read =
-        |call: &&TimedCall| call.is_whole() && matches!(call.integer, Integer::U64 | Integer::I64);
-    let export = |call: &TimedCall| {
-        let parse = format!("fast_float::parse_{}", call.integer.name());
-        function(call, call.export(Form::Words), &parse)
-    };
-    Exports::new("atoi_rival", "fast_float", CALLS, calls.iter().filter(is_read).map(export))
 }
 
 fn in_both_forms(
@@ -82,7 +60,7 @@ fn in_both_forms(
 // An export that returns the low 64 bits of the value, with the length added if it parses a
 // prefix. For an error it returns `timing::ERROR`.
 fn function(call: &TimedCall, name: String, parse: &str) -> (String, String) {
-    let found = found(call, &low_bits(call.integer, "value"));
+    let found = found(call, low_bits(call.integer));
     let text = format!(
         r#"
 #[unsafe(no_mangle)]
@@ -102,7 +80,7 @@ pub extern "C" fn {name}(text: &[u8; 96], length: usize) -> u64
 // An export that makes a call for each row of an input list, and returns the sum of the answers. A
 // row has 96 bytes, and then the length of its text in eight.
 fn call_loop(call: &TimedCall, name: String, parse: &str) -> (String, String) {
-    let found = found(call, &low_bits(call.integer, "value"));
+    let found = found(call, low_bits(call.integer));
     let text = format!(
         r#"
 #[unsafe(no_mangle)]
@@ -132,8 +110,8 @@ fn found(call: &TimedCall, low: &str) -> String {
 }
 
 // An export that returns the sum of the low 64 bits of all values, or `timing::ERROR`.
-fn column(name: String, integer: Integer, value: &str) -> (String, String) {
-    let low = low_bits(integer, value);
+fn column(integer: Integer) -> (String, String) {
+    let (name, low) = (Shape::export(integer), low_bits(integer));
     let integer = integer.name();
     let text = format!(
         r#"
@@ -154,17 +132,15 @@ pub extern "C" fn {name}(text: &[u8]) -> u64 {{
 }
 
 // The Rattle expression for the low 64 bits of a value of this type.
-fn low_bits(integer: Integer, value: &str) -> String {
+fn low_bits(integer: Integer) -> &'static str {
     match integer {
-        Integer::U8 | Integer::U16 | Integer::U32 => format!("u64::from({value})"),
-        Integer::I8 | Integer::I16 | Integer::I32 => {
-            format!("u64::from({value}.cast_unsigned())")
-        }
-        Integer::U64 => value.to_string(),
-        Integer::I64 => format!("{value}.cast_unsigned()"),
-        Integer::Usize => format!("{value} as u64"),
-        Integer::Isize => format!("{value}.cast_unsigned() as u64"),
-        Integer::U128 => format!("({value} & 0xFFFF_FFFF_FFFF_FFFF) as u64"),
-        Integer::I128 => format!("({value}.cast_unsigned() & 0xFFFF_FFFF_FFFF_FFFF) as u64"),
+        Integer::U8 | Integer::U16 | Integer::U32 => "u64::from(value)",
+        Integer::I8 | Integer::I16 | Integer::I32 => "u64::from(value.cast_unsigned())",
+        Integer::U64 => "value",
+        Integer::I64 => "value.cast_unsigned()",
+        Integer::Usize => "value as u64",
+        Integer::Isize => "value.cast_unsigned() as u64",
+        Integer::U128 => "(value & 0xFFFF_FFFF_FFFF_FFFF) as u64",
+        Integer::I128 => "(value.cast_unsigned() & 0xFFFF_FFFF_FFFF_FFFF) as u64",
     }
 }

@@ -98,8 +98,7 @@ pub fn inlined(
 
 // The original, if it is there, and std.
 fn others(has_original: bool, cpu: &str) -> Result<Vec<Part>, String> {
-    let original = format!("the original, {} build {}", original::kind(cpu), original::VERSION);
-    let original = has_original.then(|| part(&original, "original_", ORIGINAL));
+    let original = has_original.then(|| part(&original::name(cpu), "original_", ORIGINAL));
     let version = run(Command::new("rustc").arg("--version"))?;
     let version = version.split_whitespace().nth(1).unwrap_or_default().to_string();
     let standard = [
@@ -145,7 +144,7 @@ fn program(
     dependencies: Vec<Dependency>,
     parts: &[Part],
 ) -> Result<Inlined, String> {
-    let mut text = String::from(HEAD) + STANDARD.parse.helpers();
+    let mut text = String::from(HEAD);
     let mut names = Vec::new();
     for part in parts {
         for (name, source) in part.loops()? {
@@ -163,9 +162,8 @@ fn program(
             flags: format!("-C target-cpu={cpu}{WITHIN_32_BYTES}{layout}"),
         };
         let name = format!("inlined-{}", generated.stamp()?);
-        let placed = placed(cache, &name, &names, &WITHIN_LINES, |room, _| {
-            Ok(vec![generated.build(room)?])
-        })?;
+        let placed =
+            placed(cache, &name, &names, &WITHIN_LINES, |room| Ok(vec![generated.build(room)?]))?;
         files.extend(placed.into_iter().skip(number).step_by(LAYOUTS.len()));
     }
     let builds = |is_in: fn(&Part) -> bool| -> Vec<Build> {

@@ -4,10 +4,8 @@
 
 mod c;
 mod commit;
-mod cpp;
 mod exports;
 mod inlined;
-mod other;
 mod place;
 mod rust;
 mod source;
@@ -15,14 +13,13 @@ mod source;
 pub use c::builds as of_c;
 pub use commit::package as package_of_commit;
 pub use inlined::{Beside, Inlined, inlined};
-pub use other::all as others;
+pub use rust::others;
 
 use crate::tables;
 use exports::Exports;
 use place::{ANYWHERE, copied, placed};
 use std::path::{Path, PathBuf};
 use torkettle_common::cache::Cache;
-use torkettle_common::integer::Integer;
 use torkettle_common::object::{Call, Object};
 
 /// Code that is timed and counted, under the name that the tables have.
@@ -114,19 +111,12 @@ impl State<'_> {
         Ok(Build { libraries, ..Build::new(name.to_string(), Vec::new()) })
     }
 
-    /// A library with two loops over columns of one type. If the loops do not inline the iterator,
-    /// they are slower than one loop.
-    pub fn two_loops(&self, integer: Integer) -> Result<Build, String> {
-        let name = format!("one of two loops over {}", integer.name());
-        Ok(Build::new(name, self.placed(&exports::two_loops(integer))?))
-    }
-
     // Builds a library of exports, unless the cache has it.
     fn placed(&self, exports: &Exports) -> Result<Vec<PathBuf>, String> {
         let Exports { library, names } = exports;
         let name = format!("{}-{}", library.name, library.stamp(&self.top, self.cpu)?);
         let workspace = self.cache.folder(self.workspace);
         let archive = || library.build(&self.top, &workspace, self.cpu);
-        placed(self.cache, &name, names, &ANYWHERE, |_, _| Ok(vec![archive()?]))
+        placed(self.cache, &name, names, &ANYWHERE, |_| Ok(vec![archive()?]))
     }
 }

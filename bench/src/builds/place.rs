@@ -56,18 +56,16 @@ const CONSTANTS: &str = "  .rodata         : { *(.rodata .rodata.* .gnu.linkonce
 const ANCHOR: &str = "    *(.text.unlikely .text.*_unlikely .text.unlikely.*)\n";
 
 /// The shared objects of this name that hold the same code, one for each placement. If the cache does
-/// not have them yet, `compile` makes the object files and archives that are linked. It is given a
-/// folder to work in, and the folder that is kept.
+/// not have them yet, `compile` makes the object files and archives that are linked, in a folder.
 pub fn placed(
     cache: &Cache,
     name: &str,
     exports: &[String],
     places: &[Place],
-    compile: impl FnOnce(&Path, &Path) -> Result<Vec<PathBuf>, String>,
+    compile: impl FnOnce(&Path) -> Result<Vec<PathBuf>, String>,
 ) -> Result<Vec<PathBuf>, String> {
     let name = format!("{name}-placed-{}", places.len());
-    let folder =
-        cache.built(&name, |room, kept| place(&compile(room, kept)?, exports, places, kept))?;
+    let folder = cache.built(&name, |room, kept| place(&compile(room)?, exports, places, kept))?;
     Ok((0..places.len()).map(|number| file(&folder, number)).collect())
 }
 

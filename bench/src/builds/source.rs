@@ -21,73 +21,20 @@ pub enum Parse {
     Standard,
     /// By `str::parse`, on the digits at the start of a text.
     StandardPrefix,
-    Lexical,
-    /// By functions of `atoi` that test no overflow.
-    Atoi,
 }
 
 impl Parse {
     // An expression for a call, in which `T` is the type and `text` the whole text. Its value is an
     // `Option<T>`, or an `Option<(T, usize)>` if a prefix is parsed. None if there is no such call.
     fn expression(self, call: &TimedCall) -> Option<String> {
-        let is_signed = call.integer.is_signed();
-        let expression = match (self, call.is_whole()) {
-            (Parse::By(module), _) => return Some(format!("{module}::{}(text).ok()", call.path())),
-            (Parse::Standard, true) => "from_text::<T>(text)",
-            (Parse::StandardPrefix, false) => "from_prefix::<T>(text)",
-            (Parse::Lexical, true) => "lexical_core::parse::<T>(text).ok()",
-            // Other libraries always take a minus if the type is signed. Version 0.7.6 reads wrong values
-            // from prefixes of more than 18 digits at 128 bits.
-            (Parse::Lexical, false)
-                if call.takes_minus() == is_signed && call.integer.bits() < 128 =>
-            {
-                "lexical_core::parse_partial::<T>(text).ok()"
-            }
-            (Parse::Atoi, true) if !is_signed => "from_all_digits::<T>(text)",
-            (Parse::Atoi, false) if !is_signed => "from_digits::<T>(text)",
-            _ => return None,
-        };
-        Some(String::from(expression))
-    }
-
-    /// Functions that the expressions use.
-    pub fn helpers(self) -> &'static str {
-        match self {
-            Parse::Standard | Parse::StandardPrefix => FROM_TEXT,
-            Parse::Atoi => FROM_DIGITS,
-            Parse::By(_) | Parse::Lexical => "",
+        match (self, call.is_whole()) {
+            (Parse::By(module), _) => Some(format!("{module}::{}(text).ok()", call.path())),
+            (Parse::Standard, true) => Some(String::from("from_text::<T>(text)")),
+            (Parse::StandardPrefix, false) => Some(String::from("from_prefix::<T>(text)")),
+            (Parse::Standard | Parse::StandardPrefix, _) => None,
         }
     }
 }
-
-const FROM_TEXT: &str = "
-#[inline(always)]
-fn from_text<T: std::str::FromStr>(text: &[u8]) -> Option<T> {
-    // SAFETY: the texts are ASCII. They are not checked, since that would be timed too.
-    unsafe { std::str::from_utf8_unchecked(text) }.parse().ok()
-}
-
-#[inline(always)]
-fn from_prefix<T: std::str::FromStr>(text: &[u8]) -> Option<(T, usize)> {
-    let sign = usize::from(text.starts_with(b\"-\"));
-    let digits = text[sign..].iter().position(|byte| !byte.is_ascii_digit());
-    let length = digits.map_or(text.len(), |digits| sign + digits);
-    Some((from_text(&text[..length])?, length))
-}
-";
-
-const FROM_DIGITS: &str = "
-#[inline(always)]
-fn from_digits<T: atoi::FromRadix10>(text: &[u8]) -> Option<(T, usize)> {
-    Some(T::from_radix_10(text)).filter(|(_, length)| *length > 0)
-}
-
-#[inline(always)]
-fn from_all_digits<T: atoi::FromRadix10>(text: &[u8]) -> Option<T> {
-    let (value, length) = from_digits(text)?;
-    (length == text.len()).then_some(value)
-}
-";
 
 /// How a column is added up.
 #[derive(Clone, Copy)]
@@ -114,6 +61,20 @@ const ERROR: u64 = 0x8000_0000_0000_0001;
 struct Row {
     bytes: [u8; 96],
     length: usize,
+}
+
+#[inline(always)]
+fn from_text<T: std::str::FromStr>(text: &[u8]) -> Option<T> {
+    // SAFETY: the texts are ASCII. They are not checked, since that would be timed too.
+    unsafe { std::str::from_utf8_unchecked(text) }.parse().ok()
+}
+
+#[inline(always)]
+fn from_prefix<T: std::str::FromStr>(text: &[u8]) -> Option<(T, usize)> {
+    let sign = usize::from(text.starts_with(b\"-\"));
+    let digits = text[sign..].iter().position(|byte| !byte.is_ascii_digit());
+    let length = digits.map_or(text.len(), |digits| sign + digits);
+    Some((from_text(&text[..length])?, length))
 }
 ";
 

@@ -1,6 +1,6 @@
 //! Times or counts the exports of the kit's build beside those of other libraries, or of a commit.
 
-use super::{columns, lists, lists_with_plus};
+use super::{columns, lists};
 use crate::arguments::{Arguments, Work};
 use crate::builds::{self, Build, State};
 use crate::count;
@@ -8,7 +8,6 @@ use crate::report::Table;
 use crate::tables;
 use torkettle_common::cache::Cache;
 use torkettle_common::command::print_left_out;
-use torkettle_common::integer::Integer;
 use torkettle_common::kit;
 use torkettle_common::original;
 use torkettle_common::random::Random;
@@ -34,24 +33,20 @@ pub fn run(arguments: &Arguments, cache: &Cache) -> Result<usize, String> {
 // What is timed or counted. Our library is the first.
 fn builds_of(arguments: &Arguments, cache: &Cache) -> Result<Vec<Build>, String> {
     let state = State::of_checkout(cache, arguments.cpu());
-    let is_timed = arguments.work != Work::Count;
     // A call through a pointer takes a time of its own, which hides how two states differ.
-    let in_loops = arguments.against.is_some() && is_timed;
+    let in_loops = arguments.against.is_some() && arguments.work != Work::Count;
     let timed = |state: &State, name: &str| match in_loops {
         true => state.timed_in_loops(name),
         false => state.timed(name),
     };
     let mut builds = vec![timed(&state, "this checkout")?];
-    if is_timed {
-        builds.push(state.two_loops(Integer::U32)?);
-    }
     if let Some(commit) = &arguments.against {
         let (state, name) = State::of_commit(cache, commit, arguments.cpu())?;
         let copies = cache.empty_folder("copies")?;
         builds.push(timed(&state, &name)?.copied(&copies)?);
     } else {
         let original = original::find(cache, arguments.original.as_deref())?;
-        builds.extend(builds::others(cache, original.as_ref()));
+        builds.extend(builds::others(cache, original.as_ref())?);
     }
     Ok(builds)
 }
@@ -74,9 +69,5 @@ fn time(arguments: &Arguments, builds: &[Build]) -> Result<usize, String> {
         table.print_markdown();
     }
     wrong += time(builds, columns(arguments, false, random)?, "field")?.print();
-    if arguments.against.is_none() {
-        let unit = "call, a plus before half of the numbers";
-        wrong += time(&builds[..1], lists_with_plus(arguments, random)?, unit)?.print();
-    }
     Ok(wrong)
 }

@@ -49,14 +49,7 @@ fn check_only(arguments: &Arguments) -> Result<(), String> {
 // What is done with those of the input lists that are timed.
 fn lists(arguments: &Arguments, mut lists: Vec<InputList>, random: &mut Random) -> Vec<Task> {
     lists.retain(|list| arguments.has(&list.to_string()));
-    lists.iter().map(|list| Task::list(list, false, random)).collect()
-}
-
-// The same with a plus before half of the numbers, for the calls that skip it.
-fn lists_with_plus(arguments: &Arguments, random: &mut Random) -> Result<Vec<Task>, String> {
-    let mut lists = tables::input_lists()?;
-    lists.retain(|list| list.call.skip_plus && arguments.has(&list.to_string()));
-    Ok(lists.iter().map(|list| Task::list(list, true, random)).collect())
+    lists.iter().map(|list| Task::list(list, random)).collect()
 }
 
 // What is done with the columns that are timed.

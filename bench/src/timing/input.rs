@@ -36,14 +36,10 @@ struct Row {
 
 impl Input {
     /// The texts of an input list. About half of the numbers of a signed type are negative, except
-    /// for `prefix_pos`; if `has_plus`, half of all numbers have a plus instead. If the call parses
-    /// a prefix, a comma and sixteen digits follow the number.
-    pub fn list(list: &InputList, has_plus: bool, items: usize, random: &mut Random) -> Input {
+    /// for `prefix_pos`. If the call parses a prefix, a comma and sixteen digits follow the number.
+    pub fn list(list: &InputList, items: usize, random: &mut Random) -> Input {
         let call = list.call;
-        let sign = match has_plus {
-            true => Some(b'+'),
-            false => call.takes_minus().then_some(b'-'),
-        };
+        let sign = call.takes_minus().then_some(b'-');
         Input::rows(items, || {
             let mut text = Vec::with_capacity(ROOM);
             let value = low_bits(call.integer, &push_number(random, &list.digits, sign, &mut text));

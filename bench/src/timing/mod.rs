@@ -83,10 +83,10 @@ impl Times {
 }
 
 impl Task {
-    /// What is done with an input list. Half of the numbers have a plus if `has_plus`.
-    pub fn list(list: &InputList, has_plus: bool, random: &mut Random) -> Task {
+    /// What is done with an input list.
+    pub fn list(list: &InputList, random: &mut Random) -> Task {
         let exports = Form::BOTH.map(|form| (form, list.call.export(form))).to_vec();
-        let input = Input::list(list, has_plus, ROWS, random);
+        let input = Input::list(list, ROWS, random);
         Task::new(list.to_string(), list.digits.width(), exports, input)
     }
 

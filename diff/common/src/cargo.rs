@@ -8,52 +8,30 @@ use std::fs;
 use std::path::{Path, PathBuf};
 use std::process::Command;
 
-// Where Debian's packages `librust-*-dev` put the sources of crates.
-const DEBIAN: &str = "/usr/share/cargo/registry";
-
 // The shared object that cargo makes.
 const OBJECT: &str = "libtimed.so";
 
 /// A crate that a generated crate uses.
 #[derive(Clone)]
 pub struct Dependency {
-    // The name of its package.
-    package: &'static str,
     // The line of the manifest that asks for it.
     line: String,
     // What it is made of, as far as the line does not say it.
     contents: Stamp,
-    is_in_debian: bool,
 }
 
 impl Dependency {
-    /// A crate from Debian's packages, or else of this version from crates.io.
-    pub fn of_registry(package: &'static str, version: &str) -> Dependency {
-        match debian_version(package) {
-            Some(version) => {
-                let dependency = Dependency::of_crates_io(package, &version);
-                Dependency { is_in_debian: true, ..dependency }
-            }
-            None => Dependency::of_crates_io(package, version),
-        }
-    }
-
     /// A crate of this version from crates.io.
-    pub fn of_crates_io(package: &'static str, version: &str) -> Dependency {
+    pub fn of_crates_io(package: &str, version: &str) -> Dependency {
         let line = format!("{package} = \"{version}\"");
-        Dependency { package, line, contents: Stamp::new(), is_in_debian: false }
+        Dependency { line, contents: Stamp::new() }
     }
 
     /// A crate in a folder, under the name that the source uses. `contents` are its files.
-    pub fn of_folder(
-        package: &'static str,
-        name: &str,
-        folder: &Path,
-        contents: Stamp,
-    ) -> Dependency {
+    pub fn of_folder(package: &str, name: &str, folder: &Path, contents: Stamp) -> Dependency {
         let path = folder.display();
         let line = format!("{name} = {{ package = \"{package}\", path = \"{path}\" }}");
-        Dependency { package, line, contents, is_in_debian: false }
+        Dependency { line, contents }
     }
 
     /// The same crate with a feature.
@@ -114,10 +92,6 @@ impl Generated {
         if profile == "release" {
             cargo.arg("--release");
         }
-        if self.dependencies.iter().any(|it| it.is_in_debian) {
-            cargo.arg("--config").arg("source.crates-io.replace-with=\"debian\"");
-            cargo.arg("--config").arg(format!("source.debian.directory=\"{DEBIAN}\""));
-        }
         cargo.env("CARGO_TARGET_DIR", folder.join("target")).env("CARGO_NET_RETRY", "0");
         cargo.env("RUSTFLAGS", &self.flags);
         run(&mut cargo)?;
@@ -148,24 +122,4 @@ impl Generated {
              [workspace]\n\n[dependencies]\n{dependencies}\n"
         )
     }
-}
-
-// The version of a crate that Debian's packages have put on this machine.
-fn debian_version(package: &str) -> Option<String> {
-    let entries = fs::read_dir(DEBIAN).ok()?;
-    let names = entries.filter_map(|entry| entry.ok()?.file_name().into_string().ok());
-    let mut versions = names.filter_map(|name| {
-        let version = name.strip_prefix(package)?.strip_prefix('-')?;
-        version.starts_with(|first: char| first.is_ascii_digit()).then(|| version.to_string())
-    });
-    versions.next().map(|version| format!("={version}"))
-}
-
-/// The version of a crate that cargo took, by its `Cargo.lock`.
-pub fn locked_version(lock: &Path, dependency: &Dependency) -> Result<String, String> {
-    let text = fs::read_to_string(lock).map_err(|error| failed(lock, error))?;
-    let name = format!("name = \"{}\"", dependency.package);
-    let mut lines = text.lines().skip_while(|line| *line != name);
-    let version = lines.nth(1).and_then(|line| line.split('"').nth(1));
-    version.map(String::from).ok_or_else(|| format!("{} has no {name}", lock.display()))
 }

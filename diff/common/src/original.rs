@@ -8,18 +8,19 @@ use std::fs;
 use std::path::Path;
 
 /// The version that docs/DIFFERENCES.md is about.
-pub const VERSION: &str = "0.18.1";
+const VERSION: &str = "0.18.1";
 
 const PACKAGE: &str = "atoi_simd";
 
-/// What the crate calls the code that it has for a processor.
-pub fn kind(cpu: &str) -> &str {
-    match cpu {
+/// What the crate is called if it is built for a processor.
+pub fn name(cpu: &str) -> String {
+    let kind = match cpu {
         "x86-64" => "portable",
         "x86-64-v2" => "SSE4.1",
         "x86-64-v3" => "AVX2",
         _ => cpu,
-    }
+    };
+    format!("the original, {kind} build {VERSION}")
 }
 
 /// The crate. If no folder is named and it cannot be downloaded, it is left out.
