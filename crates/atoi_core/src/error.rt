@@ -23,21 +23,21 @@ use std::error::Error;
 pub enum AtoiSimdError<'a> {
     /// The body does not start with a digit.
     Empty,
-    /// More than 19 *significant* digits for `i64` and `isize`, 20 for `u64` and `usize`, 39 for
-    /// types of 128 bits, or 16 for a prefix of a narrower type without skipped zeros. Digits are
-    /// significant after the skipped zeros.
+    /// Too many digits, not counting skipped zeros: more than 20 for `u64` and `usize`, 19 for `i64`
+    /// and `isize`, 39 for types of 128 bits, or 16 for a prefix of a narrower type without
+    /// `SKIP_ZEROES`.
     ///
-    /// Holds how many zeros are skipped plus how many digits are significant, counted up to 24 for 64
-    /// bits, 40 for 128, and 17 for a narrower prefix. Then the body from its first significant digit.
+    /// Holds how many digits there are, skipped zeros included, and the body without these zeros. After
+    /// the zeros, at most 17 digits are counted, or 24 for 64 bits and 40 for 128 bits.
     Size(usize, &'a [u8]),
     /// The value does not fit in the type.
     ///
-    /// Holds the body, for types of 64 and 128 bits without the skipped zeros. For a prefix of a
-    /// narrower type with skipped zeros, it starts at the block of 16 bytes with the first other
-    /// digit, or at that digit if the block is full of digits.
+    /// Holds the body. For types of 64 and 128 bits, skipped zeros are left out. For a prefix of a
+    /// narrower type, whole blocks of 16 skipped zeros are left out, or all skipped zeros if the block in
+    /// which they end is full of digits.
     Overflow(&'a [u8]),
-    /// Another byte follows the digits, where all of the body is parsed, for types of at most 64
-    /// bits. Holds the value of the digits, the offset of that byte, and the body.
+    /// Another byte follows the digits, in a call that reads the whole slice, for types of at most 64
+    /// bits. Holds the value of the digits without the sign, the offset of that byte, and the body.
     Invalid64(u64, usize, &'a [u8]),
     /// The same as `Invalid64`, for types of 128 bits.
     Invalid128(u128, usize, &'a [u8]),
