@@ -82,7 +82,7 @@ pub use proved::atoi_simd::{
 
 /// The guide for Rust, which is `docs/GUIDE.md` in the repository.
 ///
-/// Its links to other files work there.
+/// Its links to other files work only there.
 ///
 #[cfg_attr(all(doc, not(doctest)), doc = include_str!("../../docs/GUIDE.md"))]
 pub mod guide {}
