@@ -100,11 +100,15 @@ unsafe fn bytes<'a>(text: *const c_char, length: usize) -> &'a [u8] {
     if length == 0 { &[] } else { unsafe { from_raw_parts(text.cast(), length) } }
 }
 
-// A short text is parsed in few registers, and the others by a jump. It has fewer digits than any
-// limit, so zeros are not skipped in it.
+// The most bytes that `read_window` of atoi_core reads as one word.
+const ONE_WORD: usize = 8;
+
+// A short text is parsed in few registers, and the others by a jump. It has fewer than 16 digits, so
+// its result is the same without skipping zeros: `short_whole` and `short_prefix` of `SkippingAgrees`
+// in `Laws.antt` of atoi_core.
 #[inline(always)]
 fn is_short<T: Parse>(text: &[u8]) -> bool {
-    text.len() <= 8 + usize::from(T::SIGNED)
+    text.len() <= ONE_WORD + usize::from(T::SIGNED)
 }
 
 #[inline(always)]
@@ -144,7 +148,8 @@ fn prefix<T: Parse + Default, const ZEROES: bool, const PLUS: bool>(text: &[u8])
 fn prefix_of_long<T: Parse + Default, const ZEROES: bool, const PLUS: bool>(
     text: &[u8],
 ) -> Found<T> {
-    // A number that is found while zeros count as digits is found without them too, more slowly.
+    // A number that is found while zeros count as digits is found, more slowly, while they are skipped:
+    // `prefix` of `SkippingAgrees`.
     let found = found_prefix(parse_prefix::<T, false, PLUS>(text));
     if ZEROES && found.length == 0 { prefix_after_zeros::<T, PLUS>(text) } else { found }
 }

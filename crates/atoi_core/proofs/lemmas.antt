@@ -11,6 +11,7 @@ pub mod WordRuns
 pub mod LoopAnswers
 pub mod Bounds
 pub mod Texts
+pub mod Skipping
 pub mod Prefixes
 pub mod Numbers
 pub mod SameOutcomes

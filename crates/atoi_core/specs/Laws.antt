@@ -203,11 +203,17 @@ RestChangesNothing int =
     (form : SignForm) (skip : Bool) (s t : List ℕ) → HaveSameRun int form s t
     → HaveSameOutcome (prefix_call int form skip s) (prefix_call int form skip t)
 
--- A whole parse that succeeds without skipping succeeds with it, with the same value.
-abbrev pub SkippingAgrees : IntType → Type 0
-SkippingAgrees int =
-    (form : SignForm) (s : List ℕ) (v : ℤ)
-    → whole_call int form false s ≡ Ok v → whole_call int form true s ≡ Ok v
+-- What a parse finds while zeros count, it finds while they are skipped. With fewer than 16 digits,
+-- the answers are the same, errors too.
+pub record SkippingAgrees (int : IntType) : Type 0 where
+  pub whole : (form : SignForm) (s : List ℕ) (v : ℤ)
+      → whole_call int form false s ≡ Ok v → whole_call int form true s ≡ Ok v
+  pub prefix : (form : SignForm) (s : List ℕ) (v : ℤ) (count : ℕ)
+      → prefix_call int form false s ≡ Ok (v, count) → prefix_call int form true s ≡ Ok (v, count)
+  pub short_whole : (form : SignForm) (s : List ℕ) → run_len decimal_table (sign_in int form s).body < 16
+      → whole_call int form true s ≡ whole_call int form false s
+  pub short_prefix : (form : SignForm) (s : List ℕ) → run_len decimal_table (sign_in int form s).body < 16
+      → prefix_call int form true s ≡ prefix_call int form false s
 
 -- Only the same errors are equal in their order; an error's slice is a suffix.
 pub record OrderAndSuffix (int : IntType) : Type 0 where

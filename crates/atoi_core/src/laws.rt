@@ -89,8 +89,9 @@ pub fn rest_changes_nothing<T: Number>()
     ensures { RestChangesNothing T.int_type }
 {}
 
-/// A whole parse that succeeds without skipping zeros returns the same value with skipping them.
-#[tactic(auto, using(crate::proofs::lemmas::Texts::skipping_agrees))]
+/// A parse that succeeds without skipping zeros returns the same with skipping them; of fewer than 16
+/// digits, any parse does.
+#[tactic(auto, using(crate::proofs::lemmas::Skipping::skipping_agrees))]
 pub fn skipping_agrees<T: Number>()
     ensures { SkippingAgrees T.int_type }
 {}

@@ -66,6 +66,13 @@ pub bound-limit : (int : IntType) → IsSized int → (minus : Bool)
     → (class_of int ≡ narrow) ⊎ (bound_of int minus < 10 ^ limit_of int)
 bound-limit int sized minus = search (arith, sizes, bound-64, magnitude_below)
 
+-- A number of 15 digits is in the range of each wide type.
+pub bound-least : (int : IntType) → IsSized int → (minus : Bool) → (class_of int ≡ narrow) ⊎ (10 ^ 15 ≤ bound_of int minus)
+bound-least int sized minus = search (arith, sizes)
+
+pub limit-least : (int : IntType) → 16 ≤ limit_of int
+limit-least int = search arith
+
 pub bound_below-64 : (int : IntType) → IsSized int → (minus : Bool) → bound_of int minus < 10 ^ 64
 bound_below-64 int sized minus = search (arith, pow-le-pow_right, sizes, magnitude_below)
 

@@ -10,11 +10,11 @@ use Rattle.atoi_core.specs.Magnitude.{whole, is_above}
 use Rattle.atoi_core.specs.IntType.{IntType, IsSized, class_of, bound_of, limit_of}
 use Rattle.atoi_core.specs.Sign.{Sign, sign_of, with_sign, plus_sign, minus_sign}
 use Rattle.atoi_core.specs.Answer.{whole_answer, parse_answer}
-use Rattle.atoi_core.specs.Laws.{least_of, TextOfValue, SkippingAgrees, SignForm, looked_for, given, whole_call, Writes, DecimalTexts}
+use Rattle.atoi_core.specs.Laws.{least_of, TextOfValue, SignForm, looked_for, given, whole_call, Writes, DecimalTexts}
 use Rattle.atoi_core.proofs.lemmas.Runs.{run_all, digits_all}
-use Rattle.atoi_core.proofs.lemmas.Calls.{sign_of_digits, digit_in_range, sign_cases, whole_call-is, from_whole, to_whole, is_whole, whole_is_run}
+use Rattle.atoi_core.proofs.lemmas.Calls.{sign_of_digits, digit_in_range, sign_cases, from_whole, to_whole, is_whole, whole_is_run}
 use Rattle.atoi_core.proofs.lemmas.Refusals.{limit_at, significant_len}
-use Rattle.atoi_core.proofs.lemmas.Bounds.{shorter, short_enough, limit_of_whole, bound-limit, bound_below-64}
+use Rattle.atoi_core.proofs.lemmas.Bounds.{shorter, limit-least, short_enough, limit_of_whole, bound-limit, bound_below-64}
 use Rattle.std.proofs.lemmas.Bool.{and_parts, ne_eqb, eqb-false}
 use Rattle.atoi_core.specs.Text.{SignMark, no_sign, plus, minus, sign_bytes, is_minus, is_plus, DigitsWrite, TextWrites, BeginsWithDigit, has_needless_zero}
 use Rattle.std.specs.Prelude.{IsFalse}
@@ -25,14 +25,10 @@ use Rattle.std.proofs.lemmas.Str.{digit_value_digit}
 -- ---- The decimal text of a number is parsed
 
 -- A body accepted without skipping zeros is accepted with it.
-whole_skipping : (int : IntType) (is_negative : Bool) (body : List ℕ) (v : ℤ)
+pub whole_skipping : (int : IntType) (is_negative : Bool) (body : List ℕ) (v : ℤ)
     → whole_answer decimal_table int is_negative false body ≡ Ok v → whole_answer decimal_table int is_negative true body ≡ Ok v
 whole_skipping int is_negative body v h =
     search (arith, from_whole, limit_of_whole, shorter, to_whole, is_whole, whole_is_run)
-
--- The law `SkippingAgrees`.
-pub skipping_agrees : (int : IntType) → SkippingAgrees int
-skipping_agrees int form s v h = search (arith, whole_call-is, whole_skipping)
 
 -- A byte from 48 to 57 is a digit of value `byte - 48`.
 pub digit_is : (byte : ℕ) → 48 ≤ byte → byte ≤ 57 → decimal_table byte ≡ Some (byte - 48)
@@ -76,16 +72,8 @@ decimal_short int sized is_negative n le =
       | inl e ↦ rw e refl
       | inr lt ↦
           short_enough (class_of int) false (limit_of int) (length (decimal n))
-          (length-decimal-le_wide (limit_of int) n (limit_pos int) (lt_of_le_of_lt le lt) (lt_of_le_of_lt le (bound_below-64 int sized is_negative)))
+          (length-decimal-le_wide (limit_of int) n (omega (arith, limit-least int)) (lt_of_le_of_lt le lt) (lt_of_le_of_lt le (bound_below-64 int sized is_negative)))
     ]
-  where
-    limit_pos : (int : IntType) → 0 < limit_of int
-    limit_pos int = cases (eqb int.bits 64) int.signed
-      where
-        cases : (a b : Bool) → 0 < cond a (cond b 19 20) 39
-        cases true true = omega arith
-        cases true false = omega arith
-        cases false b = omega arith
 
 -- Without skipping, the decimal text of a magnitude in range is parsed.
 counting_text : (int : IntType) → IsSized int → (is_negative : Bool) (n : ℕ) → n ≤ bound_of int is_negative
