@@ -196,7 +196,7 @@ impl<'a> Eraser<'a> {
         } else if text == "[inline(always)]" && self.is_compiled_once()? {
             self.leave_out(token);
             self.out.push_str("#[cfg_attr(not(debug_assertions), inline(always))]");
-        } else if is_hint || text == "[cold]" {
+        } else if is_hint || matches!(text.as_str(), "[cold]" | "[doc(hidden)]") {
             self.copy_to(self.scanner.at);
         } else {
             return Err(format!("the attribute `{text}` is not known here"));

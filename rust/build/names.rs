@@ -11,7 +11,7 @@ const KEYWORDS: &str = "as break const continue crate else enum false fn for if 
     match mod mut pub return static struct trait true type use where while";
 
 // Attributes, built-in types, and what the prelude and the imports give. `from` is between integers.
-const NAMES: &str = "cfg_attr cold derive inline not \
+const NAMES: &str = "cfg_attr cold derive doc inline not \
     i8 i16 i32 i64 i128 isize u8 u16 u32 u64 u128 usize bool str self Self \
     Clone Copy Debug Eq Ord PartialEq PartialOrd Iterator Option Some None Result Ok Err \
     Display Formatter Error Ordering FusedIterator PhantomData fmt from_utf8 \

@@ -97,6 +97,10 @@ fn functions_without_a_hint_get_one() {
     );
     assert_eq!(words("#[inline(never)]\nfn a() {}"), "#[inline(never)] fn a() {}");
     assert_eq!(
+        words("/// A.\n#[doc(hidden)]\npub fn a() {}"),
+        "/// A. #[doc(hidden)] #[inline] pub fn a() {}"
+    );
+    assert_eq!(
         words("#[inline(always)]\nfn a() {}\nfn b() {}"),
         "#[inline(always)] fn a() {} #[inline] fn b() {}"
     );

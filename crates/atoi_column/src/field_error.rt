@@ -37,6 +37,7 @@ pub struct FieldError<'a> {
 
 impl FieldError<'_> {
     /// Returns what `==` returns, with a contract.
+    #[doc(hidden)]
     pub fn is_same_as(&self, other: &FieldError<'_>) -> bool
         ensures { IsTrue result ↔ (bad_field_of self.now ≡ bad_field_of other.now) }
     {

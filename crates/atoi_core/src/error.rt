@@ -48,6 +48,7 @@ pub type Parsed<'a, T> = Result<T, AtoiSimdError<'a>>;
 
 impl AtoiSimdError<'_> {
     /// Returns what `==` returns.
+    #[doc(hidden)]
     pub fn is_same_as(&self, other: &AtoiSimdError<'_>) -> bool
         ensures { IsTrue result ↔ (refusal_of self.now ≡ refusal_of other.now) }
     {
@@ -55,6 +56,7 @@ impl AtoiSimdError<'_> {
     }
 
     /// Returns what `partial_cmp` returns, which is never `None`.
+    #[doc(hidden)]
     pub fn partial_order(&self, other: &AtoiSimdError<'_>) -> Option<Ordering>
         ensures { result ≡ Some (refusal_cmp (refusal_of self.now) (refusal_of other.now)) }
     {
@@ -62,6 +64,7 @@ impl AtoiSimdError<'_> {
     }
 
     /// Returns what `cmp` returns.
+    #[doc(hidden)]
     pub fn order(&self, other: &AtoiSimdError<'_>) -> Ordering
         ensures { result ≡ refusal_cmp (refusal_of self.now) (refusal_of other.now) }
     {
