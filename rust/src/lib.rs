@@ -66,7 +66,10 @@ compile_error!("torkettle needs a target with 64-bit pointers: its proofs are fo
 
 // Public there is also what only the crates themselves call, with conditions that their proofs meet.
 #[cfg(target_pointer_width = "64")]
-#[allow(dead_code, unused_imports, unused_variables, missing_docs, clippy::all)]
+#[allow(dead_code, unused_imports, unused_variables)]
+// Lines that the build script empties, and functions that return a `Result` in other registers.
+#[allow(clippy::empty_line_after_doc_comments, clippy::empty_line_after_outer_attr)]
+#[allow(clippy::needless_match, clippy::manual_unwrap_or)]
 mod proved {
     include!(concat!(env!("OUT_DIR"), "/proved.rs"));
 }

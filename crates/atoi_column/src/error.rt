@@ -26,6 +26,7 @@ use std::fmt;
 pub enum ColumnError<'a> {
     /// No number of the type can be read at the start of the field.
     Field {
+        /// How many fields precede it.
         index: usize,
         /// The offset of the field's first byte.
         place: usize,
@@ -35,6 +36,7 @@ pub enum ColumnError<'a> {
     },
     /// A byte that is not the separator follows the number.
     Trailing {
+        /// How many fields precede it.
         index: usize,
         /// The offset of that byte.
         place: usize,
@@ -81,6 +83,7 @@ impl ColumnError<'_> {
     }
 
     /// Returns what `==` returns, with a contract.
+    #[doc(hidden)]
     pub fn is_same_as(&self, other: &ColumnError<'_>) -> bool
         ensures { IsTrue result ↔ (flaw_of self.now ≡ flaw_of other.now) }
     {
