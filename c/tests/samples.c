@@ -71,6 +71,24 @@ static uint64_t sum_of_lines(const char *text, size_t length)
     return sum;
 }
 
+static uint64_t sum_of_lines_by_read(const char *text, size_t length)
+{
+    uint64_t sum = 0;
+
+    torkettle_fields_u32 lines;
+    uint32_t values[256];
+    size_t count;
+    torkettle_fields_u32_init_lines(&lines, text, length);
+    while ((count = torkettle_fields_u32_read(&lines, values, 256)) > 0 || lines.status != TORKETTLE_OK) {
+        for (size_t at = 0; at < count; at++)
+            sum += values[at];
+        if (lines.status != TORKETTLE_OK)
+            printf("line %zu is skipped: %.*s\n", lines.index + 1, (int)lines.length, lines.text);
+    }
+
+    return sum;
+}
+
 int main(void)
 {
     const char *text = "80,44x,8080";
@@ -86,5 +104,6 @@ int main(void)
     printf("sum %u\n", (unsigned)sum_of_column(text, strlen(text)));
     printf("sum %u\n", (unsigned)sum_by_read("1,2,3,x", 7));
     printf("sum %u\n", (unsigned)sum_of_lines("80\r\n44x\n443", 11));
+    printf("sum %u\n", (unsigned)sum_of_lines_by_read("80\r\n44x\n443", 11));
     return 0;
 }

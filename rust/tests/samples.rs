@@ -2,6 +2,7 @@
 
 use std::io::{self, Read};
 use torkettle::column::{Column, ColumnError, FieldError, Fields, is_separator};
+use torkettle::formats::digits_then;
 use torkettle::{
     AtoiSimdError, parse, parse_neg, parse_pos, parse_prefix, parse_prefix_neg, parse_prefix_pos,
 };
@@ -101,6 +102,13 @@ fn total_between(input: &[u8], separator: u8) -> Option<Result<u64, ColumnError<
     }
 }
 
+fn version(text: &[u8]) -> Option<(u32, u32, u32)> {
+    let (major, rest) = digits_then(text, b'.')?;
+    let (minor, rest) = digits_then(rest, b'.')?;
+    let patch = parse_pos::<u32, true>(rest).ok()?;
+    Some((major, minor, patch))
+}
+
 fn name_and_numbers(line: &str) -> Option<(&str, u32, i8)> {
     let (name, rest) = line.split_once(',')?;
     let (price, change) = rest.split_once(',')?;
@@ -121,6 +129,8 @@ fn totals() {
     assert_eq!(total_of_file(text.as_bytes()).unwrap(), (1 << 20) + 8);
     assert_eq!(total_between(b"1;2", b';'), Some(Ok(3)));
     assert_eq!(total_between(b"1;2", b'-'), None);
+    assert_eq!(version(b"1.22.333"), Some((1, 22, 333)));
+    assert_eq!(version(b"1.22.x"), None);
     assert_eq!(name_and_numbers("tea,250,-3"), Some(("tea", 250, -3)));
     assert_eq!(name_and_numbers("tea,250"), None);
 }
