@@ -147,7 +147,8 @@ typedef struct torkettle_error {
  *
  * Reads the next fields, as torkettle_column_i64_next does, but faster. Writes their numbers to `values`, at most
  * `count`, and returns how many it has written. These are fewer than `count` only at the end of the text and at a
- * field that is refused. If `count` is 0, it reads nothing, and `values` may be NULL.
+ * field that is refused. If `count` is 0, it reads nothing, and `values` may be NULL. If `count` is 128 or more, it is
+ * faster still for numbers of one width, up to 8 bytes.
  *
  * struct torkettle_column_i64 {
  *     torkettle_status status;  TORKETTLE_OK until a field is refused, then why. TORKETTLE_INVALID says that a byte
@@ -196,7 +197,8 @@ typedef struct torkettle_error {
  *
  * Reads the next fields, but faster. Writes their numbers to `values`, at most `count`, and returns how many it has
  * written. These are fewer than `count` only at a bad field, of which it sets the status, and at the end. Otherwise
- * the status is TORKETTLE_OK. The next call goes on after the bad field. If `count` is 0, `values` may be NULL.
+ * the status is TORKETTLE_OK. The next call goes on after the bad field. If `count` is 0, `values` may be NULL. As for
+ * torkettle_column_i64_read, numbers of one width are read faster still.
  *
  *     while ((count = torkettle_fields_i64_read(&fields, values, 256)) > 0 || fields.status != TORKETTLE_OK) ...
  *
@@ -252,6 +254,7 @@ typedef struct torkettle_error {
         size_t rest_length;                                                                                            \
         char separator;                                                                                                \
         char is_lines;                                                                                                 \
+        uint8_t width;                                                                                                 \
     } torkettle_fields_##name;                                                                                         \
                                                                                                                        \
     torkettle_found_##name torkettle_whole_##name(const char *text, size_t length) TORKETTLE_NOEXCEPT;                 \
@@ -327,6 +330,7 @@ typedef struct torkettle_error {
         fields->rest_length = length;                                                                                  \
         fields->separator = separator;                                                                                 \
         fields->is_lines = 0;                                                                                          \
+        fields->width = 0;                                                                                             \
     }                                                                                                                  \
                                                                                                                        \
     static inline void torkettle_fields_##name##_init_lines(torkettle_fields_##name *fields, const char *text,         \

@@ -293,7 +293,7 @@ private:
     using functions = functions_of<T>;
 
     range(std::string_view text, char separator, char is_lines) noexcept
-        : state{TORKETTLE_OK, 0, 0, nullptr, 0, 0, 0, text.data(), text.size(), separator, is_lines}
+        : state{TORKETTLE_OK, 0, 0, nullptr, 0, 0, 0, text.data(), text.size(), separator, is_lines, 0}
     {
     }
 

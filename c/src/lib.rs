@@ -64,6 +64,8 @@ pub struct Rest {
     rest_length: usize,
     separator: c_char,
     is_lines: c_char,
+    // How many bytes each of the next fields may have, or 0: a guess.
+    width: u8,
 }
 
 /// `torkettle_column_i64`, and so on.
@@ -238,68 +240,162 @@ impl Error {
 
 impl Rest {
     fn new(text: *const c_char, length: usize, separator: c_char) -> Rest {
-        let (next_index, next_offset, is_lines) = (0, 0, 0);
-        Rest { next_index, next_offset, rest: text, rest_length: length, separator, is_lines }
+        let (next_index, next_offset, is_lines, width) = (0, 0, 0, 0);
+        Rest {
+            next_index,
+            next_offset,
+            rest: text,
+            rest_length: length,
+            separator,
+            is_lines,
+            width,
+        }
     }
 
-    /// The fields that are left, counted from 0, unless the separator is a digit or a sign.
+    /// The fields that are left, counted from 0, unless the separator is a digit or a sign. They may be
+    /// lines only if `LINES`.
     ///
     /// # Safety
     ///
     /// `rest` points to `rest_length` bytes that nothing writes, or `rest_length` is 0.
     #[inline(always)]
-    unsafe fn separated<'a, T: Parse>(&self) -> Option<Fields<'a, T>> {
-        let (rest, separator) =
-            (unsafe { bytes(self.rest, self.rest_length) }, self.separator as u8);
-        is_separator(separator).then(|| Fields::new(rest, separator))
+    unsafe fn fields<'a, T: Parse, const LINES: bool>(&self) -> Option<Fields<'a, T>> {
+        let text = unsafe { bytes(self.rest, self.rest_length) };
+        if LINES && self.is_lines != 0 {
+            return Some(Fields::lines(text));
+        }
+        let separator = self.separator as u8;
+        is_separator(separator).then(|| Fields::new(text, separator))
     }
 
-    /// The same, but these may be lines.
-    ///
-    /// # Safety
-    ///
-    /// As for `separated`.
     #[inline(always)]
-    unsafe fn fields<'a, T: Parse>(&self) -> Option<Fields<'a, T>> {
-        if self.is_lines == 0 {
-            unsafe { self.separated() }
-        } else {
-            Some(Fields::lines(unsafe { bytes(self.rest, self.rest_length) }))
-        }
+    fn go_on(&mut self, fields: usize, length: usize) {
+        self.next_index = self.next_index.wrapping_add(fields);
+        self.next_offset = self.next_offset.wrapping_add(length);
+        self.rest = self.rest.wrapping_add(length);
+        self.rest_length -= length;
     }
 
     #[inline(always)]
     fn go_on_after<T: Parse>(&mut self, fields: &Fields<'_, T>) {
         let (index, place) = fields.position();
-        self.next_index = self.next_index.wrapping_add(index);
-        self.next_offset = self.next_offset.wrapping_add(place);
-        self.rest = self.rest.wrapping_add(place);
-        self.rest_length -= place;
+        self.go_on(index, place);
+    }
+
+    /// Writes the next numbers to `values`, at most `count`, and returns how many they are. Stops before
+    /// a bad field.
+    ///
+    /// # Safety
+    ///
+    /// As for `fields`, and `values` has room for as many numbers as are written.
+    #[inline(always)]
+    unsafe fn read<T: Parse, const LINES: bool>(
+        &mut self,
+        values: Values<T>,
+        count: usize,
+    ) -> usize {
+        let mut read = 0;
+        while read < count {
+            let (next, left) = (Values(values.0.wrapping_add(read)), count - read);
+            if self.width != 0 {
+                read += unsafe { self.read_of_width(next, left) };
+                continue;
+            }
+            let part = unsafe { self.read_of_any_width::<T, LINES>(next, left.min(PART)) };
+            read += part;
+            if part < PART {
+                break;
+            }
+        }
+        read
+    }
+
+    /// As `read`, and guesses the width of the next fields. The fields stay in registers, because no
+    /// number is written into them.
+    ///
+    /// # Safety
+    ///
+    /// As for `read`.
+    #[inline(always)]
+    unsafe fn read_of_any_width<T: Parse, const LINES: bool>(
+        &mut self,
+        values: Values<T>,
+        count: usize,
+    ) -> usize {
+        let Some(mut fields) = (unsafe { self.fields::<T, LINES>() }) else { return 0 };
+        let (mut read, mut bad_place) = (0, None);
+        while read < count {
+            match fields.next() {
+                Some(Ok(value)) => unsafe { values.0.add(read).write(value) },
+                Some(Err(error)) => {
+                    bad_place = Some(error.place);
+                    break;
+                }
+                None => break,
+            }
+            read += 1;
+        }
+        let length = bad_place.unwrap_or(fields.position().1);
+        self.go_on(read, length);
+        if read == PART && length % PART == 0 {
+            self.width = u8::try_from(length / PART - 1).unwrap_or(0);
+        }
+        read
+    }
+
+    /// As `read`, but also stops before a number of another width than `width`. If it stops at once, the
+    /// guess was wrong.
+    ///
+    /// # Safety
+    ///
+    /// As for `read`.
+    #[inline(never)]
+    unsafe fn read_of_width<T: Parse>(&mut self, values: Values<T>, count: usize) -> usize {
+        let text = unsafe { bytes(self.rest, self.rest_length) };
+        let separator = self.separator as u8;
+        macro_rules! read_of_widths {
+            ($($width:literal)*) => {
+                match self.width {
+                    $($width => unsafe { read_of::<T, $width>(text, separator, values, count) },)*
+                    _ => 0,
+                }
+            };
+        }
+        let read = read_of_widths!(1 2 3 4 5 6 7 8);
+        self.go_on(read, read * (usize::from(self.width) + 1));
+        if read == 0 {
+            self.width = 0;
+        }
+        read
     }
 }
 
-/// Writes the next numbers to `values`, at most `count`. Returns how many they are, and the bad field at
-/// which it stopped. The fields stay in registers, because no number is written into them.
+// How many fields are read before their width is guessed. In a text of many widths, the guess is then
+// rarely wrong, and costs nothing.
+const PART: usize = 128;
+
+/// Reads numbers of `WIDTH` bytes, each with a separator after it. No number waits for the end of the one
+/// before it, so this takes 0.3 to 0.5 of the time of `Fields`.
 ///
 /// # Safety
 ///
 /// `values` has room for as many numbers as are written.
 #[inline(always)]
-unsafe fn read_numbers<'a, T: Parse>(
-    fields: &mut Fields<'a, T>,
+unsafe fn read_of<T: Parse, const WIDTH: usize>(
+    text: &[u8],
+    separator: u8,
     values: Values<T>,
     count: usize,
-) -> (usize, Option<FieldError<'a>>) {
+) -> usize {
     let mut read = 0;
-    while read < count {
-        match fields.next() {
-            Some(Ok(value)) => unsafe { values.0.add(read).write(value) },
-            Some(Err(error)) => return (read, Some(error)),
-            None => break,
+    for field in text.chunks_exact(WIDTH + 1).take(count) {
+        match parse::<T, false, false>(&field[..WIDTH]) {
+            Ok(value) if field[WIDTH] == separator => unsafe { values.0.add(read).write(value) },
+            _ => break,
         }
         read += 1;
     }
-    (read, None)
+    read
 }
 
 impl<T: Parse> CheckedColumn<T> {
@@ -321,10 +417,10 @@ impl<T: Parse> CheckedColumn<T> {
 
     /// # Safety
     ///
-    /// As for `Rest::separated`.
+    /// As for `Rest::fields`.
     #[inline(always)]
     unsafe fn next(&mut self) -> Option<T> {
-        let mut fields = unsafe { self.rest.separated() }?;
+        let mut fields = unsafe { self.rest.fields::<T, false>() }?;
         match fields.next()? {
             Ok(value) => {
                 self.rest.go_on_after(&fields);
@@ -335,20 +431,6 @@ impl<T: Parse> CheckedColumn<T> {
                 None
             }
         }
-    }
-
-    /// # Safety
-    ///
-    /// As for `next` and `read_numbers`.
-    #[inline(always)]
-    unsafe fn read(&mut self, values: Values<T>, count: usize) -> usize {
-        let Some(mut fields) = (unsafe { self.rest.separated() }) else { return 0 };
-        let (read, bad) = unsafe { read_numbers(&mut fields, values, count) };
-        match bad {
-            None => self.rest.go_on_after(&fields),
-            Some(error) => self.refuse(&error),
-        }
-        read
     }
 
     // Ends the column.
@@ -374,7 +456,7 @@ impl<T: Parse + Default> CheckedFields<T> {
     /// As for `Rest::fields`.
     #[inline(always)]
     unsafe fn next(&mut self) -> Found<T> {
-        let Some(mut fields) = (unsafe { self.rest.fields() }) else {
+        let Some(mut fields) = (unsafe { self.rest.fields::<T, true>() }) else {
             self.refuse_separator();
             return Found { value: T::default(), length: BAD_FIELD };
         };
@@ -389,24 +471,6 @@ impl<T: Parse + Default> CheckedFields<T> {
         };
         self.rest.go_on_after(&fields);
         found
-    }
-
-    /// # Safety
-    ///
-    /// As for `next` and `read_numbers`.
-    #[inline(always)]
-    unsafe fn read(&mut self, values: Values<T>, count: usize) -> usize {
-        let Some(mut fields) = (unsafe { self.rest.fields() }) else {
-            self.refuse_separator();
-            return 0;
-        };
-        self.status = OK;
-        let (read, bad) = unsafe { read_numbers(&mut fields, values, count) };
-        if let Some(error) = bad {
-            self.refuse(&error);
-        }
-        self.rest.go_on_after(&fields);
-        read
     }
 
     #[cold]
@@ -523,7 +587,11 @@ macro_rules! exports_of_types {
                 values: Values<$type>,
                 count: usize
             ) -> usize {
-                (*column).read(values, count)
+                let read = (*column).rest.read::<$type, false>(values, count);
+                if read < count {
+                    next(column);
+                }
+                read
             }
             concat!("torkettle_next_field_", stringify!($type)) =>
             fn next_field(fields: *mut CheckedFields<$type>) -> Found<$type> {
@@ -535,7 +603,12 @@ macro_rules! exports_of_types {
                 values: Values<$type>,
                 count: usize
             ) -> usize {
-                (*fields).read(values, count)
+                let read = (*fields).rest.read::<$type, true>(values, count);
+                (*fields).status = OK;
+                if read < count {
+                    next_field(fields);
+                }
+                read
             }
         })*
 

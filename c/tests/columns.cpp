@@ -21,7 +21,7 @@
 
 namespace {
 
-const std::size_t counts[] = {1, 2, 7, 64, 1000000};
+const std::size_t counts[] = {1, 2, 7, 64, 200, 1000000};
 
 // How a text is split: by a separator, or into lines.
 struct Shape {
@@ -409,6 +409,13 @@ private:
     std::vector<Expected<T>> expected;
 };
 
+// How many digits of every kind fit into the type.
+template <class T>
+unsigned most_digits()
+{
+    return sizeof(T) == 16 ? 38 : static_cast<unsigned>(std::numeric_limits<T>::digits10);
+}
+
 // Appends a number that the type holds.
 template <class T>
 void add_number(Random &random, std::string &text)
@@ -416,9 +423,24 @@ void add_number(Random &random, std::string &text)
     const char *const starts[] = {"", "", "", "", "+", "0", "+00", "000000000000000000000000"};
     const bool has_minus = T(-1) < T(0) && random.below(2) == 0;
     text += has_minus ? "-" : starts[random.below(8)];
-    const unsigned most = sizeof(T) == 16 ? 38 : static_cast<unsigned>(std::numeric_limits<T>::digits10);
-    for (unsigned digits = 1 + random.below(most); digits > 0; digits--)
+    for (unsigned digits = 1 + random.below(most_digits<T>()); digits > 0; digits--)
         text += static_cast<char>('0' + random.below(10));
+}
+
+// Appends fields of one width, which _read reads faster. One byte in a hundred is changed if `spoils`.
+template <class T>
+void add_fields_of_width(Random &random, Shape shape, bool spoils, std::string &text)
+{
+    const unsigned width = 1 + random.below(9), most = most_digits<T>();
+    for (unsigned left = random.below(700); left > 0; left--) {
+        for (unsigned place = width; place > 0; place--)
+            text += static_cast<char>('0' + (place > most ? 0 : random.below(10)));
+        if (T(-1) < T(0) && width > 1 && random.below(2) == 0)
+            text[text.size() - width] = '-';
+        if (spoils && random.below(100) == 0)
+            text[text.size() - 1 - random.below(width)] = static_cast<char>(random.below(256));
+        text += shape.separator;
+    }
 }
 
 // Makes a text of at least so many bytes. One field in `rate` is hostile, and none if that is 0.
@@ -428,6 +450,10 @@ void fill(Random &random, Shape shape, std::size_t bytes, unsigned rate, std::st
     std::string field;
     text.clear();
     while (text.size() < bytes) {
+        if (random.below(200) == 0) {
+            add_fields_of_width<T>(random, shape, rate > 0, text);
+            continue;
+        }
         if (rate > 0 && random.below(rate) == 0) {
             generate(random, field);
             text += field;
@@ -514,5 +540,5 @@ int main(int count, char **arguments)
     }
     std::printf("%llu fields, %llu are no number, %llu differ\n", static_cast<unsigned long long>(compared),
                 static_cast<unsigned long long>(refused), static_cast<unsigned long long>(differences));
-    return differences > 0 || refused < compared / 10 || refused > compared - compared / 10;
+    return differences > 0 || refused < compared / 100 || refused > compared - compared / 10;
 }
