@@ -7,7 +7,7 @@ use super::place::{WITHIN_32_BYTES, WITHIN_LINES, placed};
 use super::rust::{ORIGINAL, STANDARD, STANDARD_PREFIX};
 use super::source::{Calls, Column, HEAD, Parse};
 use crate::formats::{self, Bodies, Format};
-use crate::tables::{self, Shape};
+use crate::tables::{self, Shape, TimedCall};
 use std::path::PathBuf;
 use std::process::Command;
 use torkettle_common::Form;
@@ -136,23 +136,14 @@ fn part(name: &str, prefix: &'static str, calls: Calls) -> Part {
 const PACKAGE: Calls =
     Calls { parse: Parse::By("calls"), column: Column::Iterator("calls::column::Column") };
 
-// Builds the program in each layout. Each loop is put into a module of its own, and so into a unit of code of
-// its own: then LLVM inlines as much into it as into a program that has only this loop.
+// Builds the program in each layout.
 fn program(
     cache: &Cache,
     cpu: &str,
     dependencies: Vec<Dependency>,
     parts: &[Part],
 ) -> Result<Inlined, String> {
-    let mut text = String::from(HEAD);
-    let mut names = Vec::new();
-    for part in parts {
-        for (name, source) in part.loops()? {
-            let import = part.import;
-            text += &format!("\nmod {name} {{\n    use super::*;\n    {import}\n{source}}}\n");
-            names.push(name);
-        }
-    }
+    let (text, names) = source(parts)?;
     let mut files = Vec::new();
     for (number, layout) in LAYOUTS.iter().enumerate() {
         let generated = Generated {
@@ -177,6 +168,20 @@ fn program(
     Ok(Inlined { builds: builds(|part| part.use_of == Use::CallsAndColumns), going_on, formats })
 }
 
+// The source of the program, and the names of its exports. Each loop is put into a module of its own, and so
+// into a unit of code of its own: then LLVM inlines as much into it as into a program that has only this loop.
+fn source(parts: &[Part]) -> Result<(String, Vec<String>), String> {
+    let (mut text, mut names) = (String::from(HEAD), Vec::new());
+    for part in parts {
+        for (name, source) in part.loops()? {
+            let import = part.import;
+            text += &format!("\nmod {name} {{\n    use super::*;\n    {import}\n{source}}}\n");
+            names.push(name);
+        }
+    }
+    Ok((text, names))
+}
+
 impl Part {
     fn build(&self, files: &[PathBuf]) -> Build {
         let build = Build::new(self.name.clone(), files.to_vec());
@@ -185,29 +190,34 @@ impl Part {
 
     // The name and the source of each loop.
     fn loops(&self) -> Result<Vec<(String, String)>, String> {
-        let mut loops = Vec::new();
-        let mut add = |export: String, source: &dyn Fn(&str) -> Option<String>| {
-            let name = format!("{}{export}", self.prefix);
-            loops.extend(source(&name).map(|source| (name, source)));
+        let has_calls = self.use_of == Use::CallsAndColumns;
+        let calls = if has_calls { tables::calls()? } else { Vec::new() };
+        let in_lanes = if self.has_lanes { calls.clone() } else { Vec::new() };
+        let has_columns = self.use_of != Use::FormatsAlone;
+        let types = if has_columns { tables::column_types()? } else { Vec::new() };
+        let lanes = Calls { parse: Parse::By("calls::lanes"), ..self.calls };
+        let rows = |form, calls: Calls| {
+            move |call: TimedCall| self.named(call.export(form), |name| calls.rows(name, &call))
         };
-        if self.use_of == Use::CallsAndColumns {
-            let lanes = Calls { parse: Parse::By("calls::lanes"), ..self.calls };
-            for call in tables::calls()? {
-                add(call.export(Form::Words), &|name| self.calls.rows(name, &call));
-                if self.has_lanes {
-                    add(call.export(Form::Lanes), &|name| lanes.rows(name, &call));
-                }
-            }
-        }
-        if self.use_of != Use::FormatsAlone {
-            for integer in tables::column_types()? {
-                add(Shape::export(integer), &|name| self.calls.column(name, integer));
-            }
-        }
-        for (bodies, format) in self.formats.iter().flat_map(|it| Format::ALL.map(|of| (it, of))) {
-            let body = Some(bodies(format)).filter(|body| !body.is_empty());
-            add(format.export(), &|name| body.map(|body| Calls::format(name, body)));
-        }
-        Ok(loops)
+        let words = calls.into_iter().filter_map(rows(Form::Words, self.calls));
+        let lanes = in_lanes.into_iter().filter_map(rows(Form::Lanes, lanes));
+        let columns = types.into_iter().filter_map(|integer| {
+            self.named(Shape::export(integer), |name| self.calls.column(name, integer))
+        });
+        let formats = Format::ALL.into_iter().filter_map(|format| {
+            let body = self.formats?(format);
+            self.named(format.export(), |name| Calls::format(name, body))
+        });
+        Ok(words.chain(lanes).chain(columns).chain(formats).collect())
+    }
+
+    // An export of the library, and its source, if it has one.
+    fn named(
+        &self,
+        export: String,
+        source: impl Fn(&str) -> Option<String>,
+    ) -> Option<(String, String)> {
+        let name = format!("{}{export}", self.prefix);
+        source(&name).map(|source| (name, source))
     }
 }

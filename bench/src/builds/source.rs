@@ -96,12 +96,12 @@ impl Calls {
         Some(export(name, call.integer, &body))
     }
 
-    /// An export that reads each row of texts of a format, by the body of a function.
-    pub fn format(name: &str, body: &str) -> String {
+    /// An export that reads each row of texts of a format, by the body of a function. None if it is empty.
+    pub fn format(name: &str, body: &str) -> Option<String> {
         let read = format!("{FORMAT}{}", ROWS.replace("PARSE", "read(text)"))
             .replace("BODY", body)
             .replace("FOUND", "Some(value) => value,");
-        export(name, Integer::U64, &read)
+        (!body.is_empty()).then(|| export(name, Integer::U64, &read))
     }
 
     /// An export that adds up a column. None if the library has no call for it.

@@ -93,3 +93,18 @@ impl Integer {
         self.greatest() + u128::from(minus)
     }
 }
+
+#[cfg(test)]
+mod tests {
+    use super::Integer;
+
+    #[test]
+    fn ends_of_types() {
+        assert_eq!(Integer::I8.parse(b"-128"), Some((true, 128)));
+        assert_eq!(Integer::I128.parse(i128::MIN.to_string().as_bytes()), Some((true, 1 << 127)));
+        assert_eq!(Integer::U8.parse(b"256"), None);
+        assert_eq!(Integer::Usize.bound(false), usize::MAX as u128);
+        assert_eq!(Integer::I64.bound(true), 1 << 63);
+        assert_eq!(Integer::named("isize").map(Integer::bits), Some(usize::BITS));
+    }
+}
