@@ -46,18 +46,18 @@ impl Work {
     }
 }
 
-/// The processor that `rt` builds for unless it is told another.
+/// The processor that `rt` builds for by default.
 const DEFAULT_CPU: &str = "x86-64-v2";
 
 /// How the program is called: what `--help` prints.
 pub const USAGE: &str = "\
 cargo run --release -- [ARGUMENT..]
   (no argument)       time everything
-  --exports-only      only time the kit's build beside other libraries, called through exports
-  --inlined-only      only time the Cargo package beside others, inlined in Rust
-  --c-only            only time the C library beside std::from_chars, called from C and C++
-  --count             only count instructions, beside other libraries or --against
-  --against COMMIT    only time the kit's build, or what --inlined-only times, beside a commit's, inlined in loops
+  --exports-only      only time the kit's build and other libraries, called through exports
+  --inlined-only      only time the Cargo package and other libraries, inlined in Rust
+  --c-only            only time the C library and std::from_chars, called from C and C++
+  --count             only count instructions, of the kit's build and of other libraries or --against
+  --against COMMIT    only time the kit's build, or with --inlined-only the package, and the same of a commit, in loops
   --lanes             time lanes of the package too
   --only TEXT         time only what has TEXT in its line, as 'parse u64 -- 16' or 'column u64'
   --markdown          print the times of input lists once more, as a table in Markdown

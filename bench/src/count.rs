@@ -47,15 +47,15 @@ pub fn counts(cache: &Cache, build: &Build) -> Result<Vec<Counts>, String> {
 
 // Has valgrind count each cell of a shared object.
 fn cells(cache: &Cache, file: &Path, form: Form) -> Result<Vec<Option<Cell>>, String> {
-    let told = cache.empty_folder("counted")?.join("callgrind");
+    let dump = cache.empty_folder("counted")?.join("callgrind");
     let program = env::current_exe().map_err(|error| format!("this program: {error}"))?;
     let mut valgrind = Command::new("valgrind");
     valgrind.args(["--tool=callgrind", "--combine-dumps=yes", "--dump-after=cell_ends"]);
     valgrind.arg("--toggle-collect=speed_*");
-    valgrind.arg(format!("--callgrind-out-file={}", told.display()));
+    valgrind.arg(format!("--callgrind-out-file={}", dump.display()));
     let said = run(valgrind.arg(program).arg("--cells").arg(file).arg(form.name()))?;
-    let told = fs::read_to_string(&told).map_err(|error| failed(&told, error))?;
-    let mut totals = told.lines().filter_map(|line| line.strip_prefix("totals: "));
+    let dump = fs::read_to_string(&dump).map_err(|error| failed(&dump, error))?;
+    let mut totals = dump.lines().filter_map(|line| line.strip_prefix("totals: "));
     let cell = |line: &str| match line {
         "none" => Ok(None),
         line => {

@@ -21,7 +21,7 @@ impl Format {
         format!("format_{}", self.name())
     }
 
-    /// What stands for it in tables.
+    /// Its name in tables.
     pub fn name(self) -> &'static str {
         match self {
             Format::Date => "date",

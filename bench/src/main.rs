@@ -1,4 +1,4 @@
-//! Times the calls of `atoi_simd` and its module `lanes`, beside other libraries or beside an earlier
+//! Times the calls of `atoi_simd` and its module `lanes`, and those of other libraries or of an earlier
 //! state: exported from the kit's build, inlined from the Cargo package, and from C and C++. Counts
 //! their instructions.
 //!

@@ -204,7 +204,7 @@ fn line(times: &Times) -> String {
     times.name.split_whitespace().collect::<Vec<_>>().join(" ")
 }
 
-// Whether the ratios of each line are printed beside its times.
+// Whether the ratios of each line are printed after its times.
 fn has_ratios(comparisons: &[Comparison]) -> bool {
     comparisons.len() <= SHOWN
 }

@@ -1,5 +1,5 @@
-//! The C library beside `std::from_chars`, called from one C++ program, and its columns from C, read
-//! by calls of `_read` and beside that by calls of `_next`.
+//! The C library and `std::from_chars`, called from one C++ program, and its columns from C, read by
+//! calls of `_read` and by calls of `_next`.
 
 use super::Build;
 use super::place::{ASSEMBLED_WITHIN_32_BYTES, WITHIN_32_BYTES, WITHIN_LINES, placed};
@@ -18,7 +18,7 @@ const OURS: &str = "ours_";
 const STANDARD: &str = "std_";
 const NEXT: &str = "next_";
 
-/// The C library, and then what is beside it.
+/// The C library, and then what it is compared with.
 pub fn builds(cache: &Cache, package: &Package) -> Result<Vec<Build>, String> {
     let compilers = [version("g++")?, version("cc")?];
     let sources = Sources::new(&tables::c_calls()?, &tables::column_types()?);
@@ -63,7 +63,7 @@ fn compile(
     run(command.arg(object).arg(source)).map(|_| ())
 }
 
-// The static library, as cargo builds it, but for jumps that cross 32 bytes.
+// The static library, as cargo builds it, but without jumps that cross 32 bytes.
 fn library(cache: &Cache, folder: &Path) -> Result<PathBuf, String> {
     let target = cache.folder("c");
     let mut cargo = Command::new("cargo");

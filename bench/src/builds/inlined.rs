@@ -17,14 +17,14 @@ use torkettle_common::command::run;
 use torkettle_common::original;
 use torkettle_common::package::Package;
 
-// What rustc is told for each layout, which is taken at each `LAYOUTS.len()`th placement.
+// The flags of rustc for each layout, which is taken at each `LAYOUTS.len()`th placement.
 const LAYOUTS: [&str; 2] = ["", " -C llvm-args=-align-all-nofallthru-blocks=5"];
 
 /// A program with inlined calls, and what is timed of it.
 pub struct Inlined {
-    /// Both forms of ours, and then the libraries beside it.
+    /// Both forms of ours, and then the libraries that it is compared with.
     pub builds: Vec<Build>,
-    /// The iterator that goes on after an error, and then what is beside it. Not for a commit.
+    /// The iterator that goes on after an error, and then what it is compared with. Not for a commit.
     pub going_on: Vec<Build>,
     /// What reads formats.
     pub formats: Vec<Build>,
@@ -51,22 +51,22 @@ enum Use {
     FormatsAlone,
 }
 
-/// What the package is timed beside.
-pub enum Beside {
+/// What the package is compared with.
+pub enum Others {
     /// std and, if it is there, the original.
-    Others { original: Option<Dependency> },
-    /// The package of another state, which has a name.
-    Other { package: Package, name: String },
+    Libraries { original: Option<Dependency> },
+    /// The package of a commit, which has a name.
+    Commit { package: Package, name: String },
 }
 
 const OURS: &str = "use ours::{self as calls, formats};";
 const THEIRS: &str = "use theirs::{self as calls, formats};";
 
-/// The package and what it is timed beside, built for a processor.
+/// The package and what it is compared with, built for a processor.
 pub fn inlined(
     cache: &Cache,
     ours: &Package,
-    beside: &Beside,
+    others: &Others,
     cpu: &str,
     has_lanes: bool,
 ) -> Result<Inlined, String> {
@@ -82,13 +82,13 @@ pub fn inlined(
     };
     let mut dependencies = vec![dependency(ours, "ours")];
     let mut parts = vec![package("the package", "ours_", OURS)];
-    match beside {
-        Beside::Others { original } => {
+    match others {
+        Others::Libraries { original } => {
             dependencies.extend(original.clone());
-            parts.extend(others(original.is_some(), cpu)?);
+            parts.extend(libraries(original.is_some(), cpu)?);
             parts.extend(going_on());
         }
-        Beside::Other { package: theirs, name } => {
+        Others::Commit { package: theirs, name } => {
             dependencies.push(dependency(theirs, "theirs"));
             parts.push(package(name, "theirs_", THEIRS));
         }
@@ -97,7 +97,7 @@ pub fn inlined(
 }
 
 // The original, if it is there, and std.
-fn others(has_original: bool, cpu: &str) -> Result<Vec<Part>, String> {
+fn libraries(has_original: bool, cpu: &str) -> Result<Vec<Part>, String> {
     let original = has_original.then(|| part(&original::name(cpu), "original_", ORIGINAL));
     let version = run(Command::new("rustc").arg("--version"))?;
     let version = version.split_whitespace().nth(1).unwrap_or_default().to_string();

@@ -1,4 +1,4 @@
-//! Builds what is timed and counted: the library as it stands in this checkout, the library of
+//! Builds what is timed and counted: the library in this checkout, the library of
 //! another commit, and other libraries. All builds export their calls under the same names
 //! (`TimedCall::export`), so that each is called in the same way.
 
@@ -12,7 +12,7 @@ mod source;
 
 pub use c::builds as of_c;
 pub use commit::package as package_of_commit;
-pub use inlined::{Beside, Inlined, inlined};
+pub use inlined::{Inlined, Others, inlined};
 pub use rust::others;
 
 use crate::tables;
@@ -59,7 +59,7 @@ impl Build {
         &self.libraries[0][0]
     }
 
-    /// The same files at other paths. If the code of a commit is that of this checkout, it is
+    /// The same files at other paths. If the code of a commit is the code of this checkout, it is
     /// loaded twice nevertheless.
     pub fn copied(self, to: &Path) -> Result<Build, String> {
         let libraries = self.libraries.iter().map(|library| copied(library, to));

@@ -1,5 +1,5 @@
 //! Links shared objects in which the exported functions and the constants have chosen addresses. The
-//! time of a function moves by up to 20 % with its address, and by up to 6 % with that of a table, so
+//! time of a function moves by up to 20 % with its address, and by up to 6 % with the address of a table, so
 //! each function is timed at several.
 
 use std::fs;
@@ -37,7 +37,7 @@ pub const WITHIN_LINES: [Place; 3] = [
     Place { code: 0, constants: 32 },
 ];
 
-/// What tells rustc to let no jump cross or end at a multiple of 32. Times of the same code then differ
+/// The flag of rustc that lets no jump cross or end at a multiple of 32. Times of the same code then differ
 /// by a tenth of what they differ otherwise, on processors that are slow there.
 pub const WITHIN_32_BYTES: &str = " -C llvm-args=-x86-branches-within-32B-boundaries";
 
@@ -79,7 +79,7 @@ pub fn copied(files: &[PathBuf], to: &Path) -> Result<Vec<PathBuf>, String> {
 }
 
 // Links object files and archives into a shared object for each placement. Each export is in a
-// section of its own, whose name is `.text.` and then that of the export.
+// section of its own, whose name is `.text.` and then the name of the export.
 fn place(
     objects: &[PathBuf],
     exports: &[String],

@@ -146,7 +146,7 @@ pub unsafe extern \"C\" fn {name}(text: *const u8, length: usize) -> u64 {{
     )
 }
 
-// Here the length is that of the list, and `text` is first its rows.
+// Here the length is the length of the list, and `text` is first its rows.
 const ROWS: &str = "
     let rows = unsafe { std::slice::from_raw_parts(text.as_ptr().cast::<Row>(), length) };
     let mut sum = 0_u64;

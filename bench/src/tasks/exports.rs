@@ -1,4 +1,4 @@
-//! Times or counts the exports of the kit's build beside those of other libraries, or of a commit.
+//! Times or counts the exports of the kit's build, and the exports of other libraries or of a commit.
 
 use super::{columns, lists};
 use crate::arguments::{Arguments, Work};

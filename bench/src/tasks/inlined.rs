@@ -2,7 +2,7 @@
 
 use super::{columns, formats, lists};
 use crate::arguments::Arguments;
-use crate::builds::{self, Beside, Build, Inlined};
+use crate::builds::{self, Build, Inlined, Others};
 use crate::report::Table;
 use crate::tables;
 use crate::timing::Task;
@@ -14,21 +14,23 @@ use torkettle_common::random::Random;
 // The processors that the calls are built for if none is named. The original uses AVX2 at the second.
 const PROCESSORS: [&str; 2] = ["x86-64", "x86-64-v3"];
 
-/// Times them for each processor, and returns how many answers differed. They are timed beside
-/// those of others, or beside those of a commit.
+/// Times them for each processor, and returns how many answers differed. They are compared
+/// with the calls of other libraries, or of a commit.
 pub fn run(arguments: &Arguments, cache: &Cache) -> Result<usize, String> {
     let ours = Package::of_folder(cache.repository())?;
-    let beside = match &arguments.against {
+    let others = match &arguments.against {
         Some(commit) => {
             let (package, name) = builds::package_of_commit(cache, commit)?;
-            Beside::Other { package, name }
+            Others::Commit { package, name }
         }
-        None => Beside::Others { original: original::find(cache, arguments.original.as_deref())? },
+        None => {
+            Others::Libraries { original: original::find(cache, arguments.original.as_deref())? }
+        }
     };
     let mut wrong = 0;
     let processors = arguments.cpu.as_deref().map_or(PROCESSORS.to_vec(), |cpu| vec![cpu]);
     for cpu in processors {
-        let built = builds::inlined(cache, &ours, &beside, cpu, arguments.has_lanes)?;
+        let built = builds::inlined(cache, &ours, &others, cpu, arguments.has_lanes)?;
         wrong += time(arguments, &built, cpu)?;
     }
     Ok(wrong)

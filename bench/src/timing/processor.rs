@@ -30,7 +30,7 @@ fn line(file: &str, name: &str) -> Option<String> {
 const UNPREDICTED: f64 = 5.0;
 
 /// Whether the processor predicts where jumps through pointers and tables go. Some systems turn that
-/// off, and then code with such jumps, as that of the original, takes up to five times as long.
+/// off, and then code with such jumps, as the original has, takes up to five times as long.
 pub fn predicts_jumps() -> bool {
     const CALLS: u32 = 4096;
     let count: fn(u32) -> u32 = u32::count_ones;

@@ -1,4 +1,4 @@
-//! Our time divided by that of another side, over all input lists or columns.
+//! Our time divided by the time of another side, over all input lists or columns.
 
 use super::Times;
 

@@ -61,7 +61,7 @@ pub struct Generated {
     pub dependencies: Vec<Dependency>,
     /// The name and the text of each file. One is `lib.rs`.
     pub files: Vec<(&'static str, String)>,
-    /// What rustc is told.
+    /// The flags of rustc.
     pub flags: String,
 }
 

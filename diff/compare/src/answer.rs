@@ -40,7 +40,7 @@ impl Answer {
     }
 }
 
-/// An answer as `torkettle_answer` writes it. The fields are those of `Answer` in
+/// An answer as `torkettle_answer` writes it. The fields are the fields of `Answer` in
 /// `exports/answer.rt.in`.
 #[repr(C)]
 #[derive(Clone, Copy, PartialEq, Eq, Debug)]

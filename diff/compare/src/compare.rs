@@ -37,7 +37,7 @@ impl fmt::Display for Ours {
 
 /// With what an answer of ours is compared.
 #[derive(Clone, Copy, PartialEq, Eq)]
-pub enum Beside {
+pub enum Other {
     Rules,
     Standard,
     Original,
@@ -45,17 +45,16 @@ pub enum Beside {
     FirstBuild,
 }
 
-impl Beside {
+impl Other {
     /// All of them.
-    pub const ALL: [Beside; 4] =
-        [Beside::Rules, Beside::Standard, Beside::Original, Beside::FirstBuild];
+    pub const ALL: [Other; 4] = [Other::Rules, Other::Standard, Other::Original, Other::FirstBuild];
 
     pub fn name(self) -> &'static str {
         match self {
-            Beside::Rules => "the rules",
-            Beside::Standard => "str::parse",
-            Beside::Original => "the original",
-            Beside::FirstBuild => "the kit's build",
+            Other::Rules => "the rules",
+            Other::Standard => "str::parse",
+            Other::Original => "the original",
+            Other::FirstBuild => "the kit's build",
         }
     }
 }
@@ -70,7 +69,7 @@ pub struct Count {
 
 /// The result of a comparison.
 pub struct Counts {
-    // For each of ours, in the order of `Beside::ALL`.
+    // For each of ours, in the order of `Other::ALL`.
     counts: Vec<[Count; 4]>,
     /// The differences from the Rust crate that docs/DIFFERENCES.md lists: the name of each, and
     /// how often it was found.
@@ -85,8 +84,8 @@ impl Counts {
     }
 
     /// What was counted for one of ours.
-    pub fn of(&self, ours: usize, beside: Beside) -> Count {
-        self.counts[ours][beside as usize]
+    pub fn of(&self, ours: usize, other: Other) -> Count {
+        self.counts[ours][other as usize]
     }
 
     /// Everything that was counted.
@@ -103,8 +102,8 @@ impl Counts {
     }
 
     // Counts a comparison. Says whether a difference has to be printed.
-    fn count(&mut self, ours: usize, beside: Beside, differs: bool) -> bool {
-        let count = &mut self.counts[ours][beside as usize];
+    fn count(&mut self, ours: usize, other: Other, differs: bool) -> bool {
+        let count = &mut self.counts[ours][other as usize];
         count.compared += 1;
         count.differences += u64::from(differs);
         differs && self.total().differences <= PRINTED
@@ -139,23 +138,23 @@ fn ask(sides: &Sides, question: &Question, signed: &[u8], counts: &mut Counts) {
     let mut first = [None; 2];
     for (number, ours) in sides.ours.iter().enumerate() {
         let answer = ours.answers.of(ours.form, question, text);
-        let mut count = |beside, differs, theirs| {
-            if counts.count(number, beside, differs) {
-                Difference { ours, question, text, answer, beside, theirs }.print();
+        let mut count = |other, differs, theirs| {
+            if counts.count(number, other, differs) {
+                Difference { ours, question, text, answer, other, theirs }.print();
             }
         };
-        count(Beside::Rules, answer != expected, Some(expected));
+        count(Other::Rules, answer != expected, Some(expected));
         if let Some(agrees) = standard::agrees(question, &answer, text, signed) {
-            count(Beside::Standard, !agrees, None);
+            count(Other::Standard, !agrees, None);
         }
         match &mut first[ours.form as usize] {
-            Some(first) => count(Beside::FirstBuild, answer != *first, Some(*first)),
+            Some(first) => count(Other::FirstBuild, answer != *first, Some(*first)),
             none => *none = Some(answer),
         }
         if let Some(original) = original {
-            let kind = original::beside(question, text, &expected, &answer, &original);
+            let kind = original::kind_of(question, text, &expected, &answer, &original);
             let differs = matches!(kind, original::Kind::Unnamed);
-            count(Beside::Original, differs, Some(original));
+            count(Other::Original, differs, Some(original));
             if let original::Kind::Named(name) = kind {
                 *counts.named.entry(name).or_default() += 1;
             }
@@ -169,14 +168,14 @@ struct Difference<'a> {
     question: &'a Question,
     text: &'a [u8],
     answer: Answer,
-    beside: Beside,
+    other: Other,
     theirs: Option<Answer>,
 }
 
 impl Difference<'_> {
     fn print(&self) {
-        let (beside, text) = (self.beside.name(), self.text.escape_ascii());
-        println!("{} differs from {beside}: {} on \"{text}\"", self.ours, self.question);
+        let (other, text) = (self.other.name(), self.text.escape_ascii());
+        println!("{} differs from {other}: {} on \"{text}\"", self.ours, self.question);
         println!("    here  {:?}", self.answer);
         if let Some(theirs) = self.theirs {
             println!("    there {theirs:?}");

@@ -18,7 +18,7 @@ mod standard;
 mod texts;
 
 use arguments::Arguments;
-use compare::{Beside, Counts, Sides};
+use compare::{Counts, Other, Sides};
 use std::env;
 use std::process::ExitCode;
 // `rust/tests` compiles some of the modules with modules of these names.
@@ -52,10 +52,10 @@ fn run(arguments: &Arguments) -> Result<u64, String> {
 fn print_counts(sides: &Sides, counts: &Counts) {
     for (number, ours) in sides.ours.iter().enumerate() {
         println!("{ours}, compared with");
-        for beside in Beside::ALL {
-            let count = counts.of(number, beside);
+        for other in Other::ALL {
+            let count = counts.of(number, other);
             if count.compared > 0 {
-                let (name, differences) = (beside.name(), count.differences);
+                let (name, differences) = (other.name(), count.differences);
                 println!("    {name}: {} answers, {differences} differ", count.compared);
             }
         }

@@ -21,7 +21,7 @@ pub enum Kind {
 
 /// How the two answers compare. `rule` is the answer by the rules: a difference has a name only if
 /// ours is that answer.
-pub fn beside(
+pub fn kind_of(
     question: &Question,
     text: &[u8],
     rule: &Answer,
@@ -68,7 +68,7 @@ fn expected(question: &Question, text: &[u8]) -> (Answer, &'static str) {
 
 #[cfg(test)]
 mod tests {
-    use super::{Kind, beside};
+    use super::{Kind, kind_of};
     use crate::answer::Answer;
     use crate::integer::Integer;
     use crate::question::{Call, Question};
@@ -78,7 +78,7 @@ mod tests {
     fn compared(text: &[u8], ours: Answer, theirs: Answer) -> Kind {
         let (call, integer) = (Call::Prefix, Integer::U8);
         let question = Question { call, integer, skip_zeroes: false, skip_plus: true };
-        beside(&question, text, &rules::answer(&question, text), &ours, &theirs)
+        kind_of(&question, text, &rules::answer(&question, text), &ours, &theirs)
     }
 
     #[test]
