@@ -10,7 +10,6 @@ use std::io::{Stdin, Stdout};
 mod answer;
 mod answer_text;
 mod block;
-mod calls;
 #[cfg(test)]
 mod checks;
 mod columns;
