@@ -5,8 +5,8 @@ ghost use Rattle.atoi_core.specs.Run.{run_len, zeros};
 ghost use Rattle.atoi_core.specs.Words.{low_bytes, low_value, word_of};
 ghost use Rattle.std.specs.Int.Bits.{bit_and};
 
-// Eight zeros, each the byte 48.
-pub(crate) const ZEROS: u64 = 0x3030_3030_3030_3030;
+/// Eight zeros, each the byte 48.
+pub const ZEROS: u64 = 0x3030_3030_3030_3030;
 
 // Four of them.
 const FOUR_ZEROS: u32 = 0x3030_3030;

@@ -7,7 +7,7 @@ ghost use Rattle.atoi_core.specs.Run.{run_len, zeros, value};
 ghost use Rattle.atoi_core.specs.Words.{word_of};
 ghost use Rattle.atoi_lanes.specs.Lanes.{IsShortRun, itself, padded, padded_start, paired};
 
-use atoi_core::word_digits::{digits_of, fill_of_zeros};
+use atoi_core::word_digits::{ZEROS, digits_of, fill_of_zeros};
 use atoi_core::word_loads::{load_8, load_high};
 use std::simd::prelude::*;
 
@@ -166,18 +166,6 @@ pub fn sum_lanes(v: u8x16, len: u32) -> u64
     number_in_lanes(shuffle(digit_values, len as usize))
 }
 
-// The same for at most 8 lanes.
-#[inline(always)]
-pub(crate) fn sum_half(v: u8x16, len: u32) -> u64
-    requires within { len ≤ 8 }
-    requires digits { len ≤ run_len decimal_table v }
-    ensures { result ≡ value decimal_table (take len v) }
-{
-    let digit_values = v - u8x16::splat(b'0');
-    let [_, fours] = fours(shuffle(digit_values, len as usize)).to_array();
-    join_fours(fours)
-}
-
 // Returns 16 of 48 lanes, from lane `p` on: 16 lanes of 0, the lanes of `v`, and 16 lanes of 0.
 #[tactic(auto, using(crate::proofs::lemmas::Shuffles::shuffled, crate::proofs::lemmas::Shuffles::shuffle_ok))]
 pub(crate) fn shuffle(v: u8x16, p: usize) -> u8x16
@@ -206,10 +194,11 @@ pub(crate) fn read_short(s: &[u8]) -> ShortRun
         return ShortRun::Part(0, 0);
     }
     let word = load_high(s);
-    let digits = digits_of(word + fill_of_zeros(s.len()));
+    let filled = word + fill_of_zeros(s.len());
+    let digits = digits_of(filled);
     if digits == 8 {
-        // The number need not wait for its length.
-        return ShortRun::Whole(number_in_half(half(word) & u8x16::splat(0x0F)));
+        // The number need not wait for its length, and `digits_of` subtracts the same.
+        return ShortRun::Whole(number_in_half(half(filled.wrapping_sub(ZEROS))));
     }
     let len = digits - (8 - s.len() as u32);
     // Drops the bytes after the digits.
@@ -218,26 +207,19 @@ pub(crate) fn read_short(s: &[u8]) -> ShortRun
 }
 
 // Returns the bytes of a word in the first eight lanes, the lowest first. The others are 0.
-fn half(word: u64) -> u8x16
+pub(crate) fn half(word: u64) -> u8x16
     ensures { result ≡ digits_l 256 16 word }
 {
     u64x2::from_array([word, 0]).to_le_bytes()
 }
 
-#[tactic(auto, using(crate::proofs::lemmas::JoinedDigits::halves_joined))]
-fn number_in_half(digits: u8x16) -> u64
+#[tactic(auto, using(crate::proofs::lemmas::JoinedDigits::half_joined))]
+pub(crate) fn number_in_half(digits: u8x16) -> u64
     requires { Each1 (λ digit. digit < 10) digits }
     ensures { result ≡ value itself (take 8 digits) }
 {
     let [fours, _] = fours(digits).to_array();
-    join_fours(fours)
-}
-
-// Returns 10,000 times the lower half and the upper half in one sum, which fits in 32 bits.
-#[inline(always)]
-fn join_fours(fours: u64) -> u64
-    ensures { result ≡ fours * 42949672960001 % 2 ^ 64 / 2 ^ 32 }
-{
+    // Adds 10,000 times the lower half to the upper half.
     fours.wrapping_mul(10_000 << 32 | 1) >> 32
 }
 

@@ -1,5 +1,5 @@
 //! The engine `Lanes`, which reads sixteen bytes at once into vector lanes.
-ghost use Rattle.std.specs.Prelude.{◌≡◌, ◌+◌, IfSome};
+ghost use Rattle.std.specs.Prelude.{◌≡◌, ◌+◌, ◌≤◌, IfSome, length};
 ghost use Rattle.std.proofs.Common.{arith};
 ghost use Rattle.std.proofs.lemmas.Bool.Decides.{nat_tests};
 ghost use Rattle.atoi_core.specs.Digit.{decimal_table};
@@ -8,9 +8,12 @@ ghost use Rattle.atoi_lanes.specs.Lanes.{lane_window};
 
 use crate::after_16::begins_with_digit;
 use crate::kernels::{
-    ShortRun, load_lanes, others, read_medium, read_short, sum_half, sum_lanes, zeroes_lanes,
+    ShortRun, half, load_lanes, number_in_half, others, read_medium, read_short, sum_lanes,
+    zeroes_lanes,
 };
 use crate::wide_lanes::{prefix_64_lanes, prefix_128_lanes};
+use atoi_core::word_digits::{ZEROS, digits_of};
+use atoi_core::word_loads::load_8;
 use atoi_core::{AtoiSimdError, Engine, Steps, Window};
 use std::simd::prelude::*;
 
@@ -78,6 +81,24 @@ fn medium_window(s: &[u8]) -> Option<Window>
     Some(Window::not_full(s.len() as u32, number))
 }
 
+// Returns that window if there are fewer than 8 digits. A word shows sooner than lanes how many.
+#[inline(always)]
+fn few_window(s: &[u8]) -> Option<Window>
+    requires { 8 ≤ length s.now }
+    ensures { IfSome result (λ window. window ≡ window_of decimal_table 16 s.now) }
+{
+    let word = load_8(s);
+    let len = digits_of(word);
+    if len == 8 {
+        return None;
+    }
+    if len == 0 {
+        return Some(Window::not_full(0, 0));
+    }
+    let digit_values = half(word.wrapping_sub(ZEROS) << (64 - 8 * len));
+    Some(Window::not_full(len, number_in_half(digit_values)))
+}
+
 impl Engine for Lanes {
     const INLINED: usize = 15;
 
@@ -117,16 +138,12 @@ impl Engine for Lanes {
         Some(read_window(s))
     }
 
-    // Nine lanes tell whether there are at most 8 digits. Half a vector then holds them.
     #[inline(always)]
     fn narrow_window(s: &[u8], steps: &mut Steps) -> Window {
         steps.tick();
         if s.len() >= 16 {
-            let lanes = load_lanes(s);
-            let others = others(lanes);
-            if others & 0x1FF != 0 {
-                let len = others.trailing_zeros();
-                return Window::not_full(len, sum_half(lanes, len));
+            if let Some(window) = few_window(s) {
+                return window;
             }
         }
         read_window(s)

@@ -286,7 +286,7 @@ shifted_halves (suc z) k word =
     rw (suc-add z k, next, up) (omega (arith, shifted_halves z k word, and_block 8 (word * 2 ^ (z * 8)) (repeated 15 (z + k)) 0 15 (lit< tt) (lit< tt)))
 
 -- For digits at the top of `size` bytes of a word of `width`, subtracting 48 is the mask.
-lowered_at_top : (width size len word : ℕ) → size ≤ width → len ≤ size → len ≤ run_len decimal_table (low_bytes width word)
+pub lowered_at_top : (width size len word : ℕ) → size ≤ width → len ≤ size → len ≤ run_len decimal_table (low_bytes width word)
     → (word + without_48 width) % 2 ^ (width * 8) * 2 ^ (size * 8 - 8 * len) % 2 ^ (size * 8)
     ≡ bit_and (word * 2 ^ (size * 8 - 8 * len) % 2 ^ (size * 8)) (repeated 15 size)
 unfolding low_bytes

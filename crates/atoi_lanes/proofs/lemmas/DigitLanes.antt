@@ -1,7 +1,7 @@
 -- The digit values of lanes that hold digits.
 use Rattle.std.proofs.Common.{◌≡◌, ℕ, zero, suc, ◌+◌, ◌-◌, ◌*◌, ◌%◌, ◌^◌, ◌<◌, ◌≤◌, true, false, cond, List, [], ◌∷◌, ◌++◌, map, length, take, drop, replicate, refl, sym, ap, ap₂, subst, ◌∙◌, arith, lit<}
 use Rattle.std.proofs.lemmas.Bool.Decides.{nat_tests}
-use Rattle.std.proofs.lemmas.List.{drop-append-le, drop-replicate, length-map, length-replicate, length-take}
+use Rattle.std.proofs.lemmas.List.{length-map, length-take}
 use Rattle.std.proofs.lemmas.Simd.{zip2_splat}
 use Rattle.atoi_core.specs.Digit.{decimal_table, is_digit, digit_value}
 use Rattle.atoi_core.specs.Run.{run_len, value}
@@ -17,7 +17,7 @@ less x y = (x + (2 ^ 8 - y)) % 2 ^ 8
 abbrev pub above_zero : ℕ → ℕ
 above_zero x = less x 48
 
-above_zero-digit : (x : ℕ) → is_digit decimal_table x ≡ true → (above_zero x ≡ digit_value decimal_table x) × (above_zero x < 10)
+pub above_zero-digit : (x : ℕ) → is_digit decimal_table x ≡ true → (above_zero x ≡ digit_value decimal_table x) × (above_zero x < 10)
 above_zero-digit x h = (grind (arith, nat_tests), grind (arith, nat_tests))
 
 -- f returns the digit value of each digit.
@@ -65,14 +65,3 @@ pub moved_values : (n : ℕ) (v lanes : List ℕ) → n ≤ 16 → length v ≡ 
     → lanes ≡ take 16 (drop n (padded (zip2 less v (replicate 16 48))))
     → (value itself lanes ≡ value decimal_table (take n v)) × Each1 (λ x. x < 10) lanes
 moved_values n v lanes le long digits moved = end_values (16 - n) n v lanes digits (placed n v lanes le long moved)
-
--- For at most eight, so do the lanes of the second half.
-pub half_values : (n : ℕ) (v lanes : List ℕ) → n ≤ 8 → length v ≡ 16 → n ≤ run_len decimal_table v
-    → lanes ≡ take 16 (drop n (padded (zip2 less v (replicate 16 48)))) → value itself (drop 8 lanes) ≡ value decimal_table (take n v)
-half_values n v lanes le long digits moved =
-    let known = digits_value above_zero above_zero-digit n v digits in
-    let rest = take n (map above_zero v) in
-    ap (λ l. value itself (drop 8 l)) (placed n v lanes (omega arith) long moved)
-    ∙ ap (value itself) (drop-append-le 8 (replicate (16 - n) 0) rest (omega (arith, length-replicate {A = ℕ} (16 - n) 0))
-    ∙ ap (λ l. l ++ rest) (drop-replicate 8 (16 - n) 0))
-    ∙ value-replicate itself 0 refl (16 - n - 8) rest ∙ known.0

@@ -1,5 +1,5 @@
 -- Neighbouring digits of base t, joined to base t * t, spell the same number.
-use Rattle.std.proofs.Common.{◌≡◌, ℕ, zero, suc, ◌+◌, ◌*◌, ◌/◌, ◌%◌, ◌^◌, ◌<◌, ◌≤◌, List, [], ◌∷◌, map, length, take, drop, get_or, replicate, refl, sym, ap, ap₂, subst, ◌∙◌, arith, Fits, w16}
+use Rattle.std.proofs.Common.{◌≡◌, ℕ, zero, suc, ◌+◌, ◌*◌, ◌/◌, ◌%◌, ◌^◌, ◌<◌, ◌≤◌, List, [], ◌∷◌, map, length, take, get_or, replicate, refl, sym, ap, ap₂, subst, ◌∙◌, arith, Fits, w16}
 use Rattle.std.specs.List.{range_with_len}
 use Rattle.std.specs.Int.Bits.{bit_and}
 use Rattle.std.proofs.Math.Arith.{digits_lt}
@@ -26,10 +26,10 @@ abbrev Spelled : List ℕ → Type 0
 Spelled xs =
     let eights = paired 10000 (paired 100 (paired 10 xs)) in
     Each1 (λ x. x < 10) xs → (get_or eights 0 0 ≡ value itself (take 8 xs)) × (get_or eights 0 0 < 100000000) × (get_or eights 1 0 < 100000000)
-    × (get_or eights 0 0 * 100000000 + get_or eights 1 0 ≡ value itself xs) × (get_or eights 1 0 ≡ value itself (drop 8 xs))
+    × (get_or eights 0 0 * 100000000 + get_or eights 1 0 ≡ value itself xs)
 
 spelled_16 : (f : ℕ → ℕ) → Spelled (map f (range_with_len 0 16))
-spelled_16 f below = (omega arith, omega arith, omega arith, omega arith, omega arith)
+spelled_16 f below = (omega arith, omega arith, omega arith, omega arith)
 
 pub spelled : (xs : List ℕ) → length xs ≡ 16 → Spelled xs
 spelled xs long = subst Spelled (pick_l_whole 0 xs 16 long) (spelled_16 (λ i. get_or xs i 0))
@@ -40,7 +40,7 @@ number-lt : (p : ℕ) (xs : List ℕ) → Each1 (λ x. x < p) xs → number_l p 
 number-lt p [] h = omega (arith, pow-zero p)
 number-lt p (x ∷ xs) h = omega (arith, h.0, pow-suc p (length xs), mul-le-mul_right p (number-lt p xs h.1))
 
-number-digits : (p n x : ℕ) → 0 < p → x < p ^ n → number_l p (digits_l p n x) ≡ x
+pub number-digits : (p n x : ℕ) → 0 < p → x < p ^ n → number_l p (digits_l p n x) ≡ x
 number-digits p zero x some lt = omega (arith, pow-zero p)
 number-digits p (suc n) x some lt =
     let above : x / p < p ^ n = (div-lt_iff_lt-mul {k = p} some).1 (omega (arith, pow-suc p n)) in
@@ -157,15 +157,11 @@ eights_joined digits fields long below are =
 abbrev half : ℕ → ℕ
 half field = field * 42949672960001 % 2 ^ 64 / 2 ^ 32
 
-pub halves_joined : (digits fields : List ℕ) → length digits ≡ 16 → Each1 (λ x. x < 10) digits
-    → fields ≡ digits_l (2 ^ 64) 2 (number_l (2 ^ 32) (paired 100 (paired 10 digits)))
-    → (half (get_or fields 0 0) ≡ value itself (take 8 digits)) × (half (get_or fields 1 0) ≡ value itself (drop 8 digits))
-halves_joined digits fields long below are =
-    let known = spelled digits long below in
-    let joined = ap (map half) (sym are) ∙ eights_by half (λ x y a b. omega arith) digits fields long below are in (
-      ap (λ l. half (get_or l 0 0)) are ∙ ap (λ l. get_or l 0 0) joined ∙ known.0,
-      ap (λ l. half (get_or l 1 0)) are ∙ ap (λ l. get_or l 1 0) joined ∙ known.4,
-    )
+pub half_joined : (digits fields : List ℕ) → length digits ≡ 16 → Each1 (λ x. x < 10) digits
+    → fields ≡ digits_l (2 ^ 64) 2 (number_l (2 ^ 32) (paired 100 (paired 10 digits))) → half (get_or fields 0 0) ≡ value itself (take 8 digits)
+half_joined digits fields long below are =
+    let joined = ap (map half) (sym are) ∙ eights_by half (λ x y a b. omega arith) digits fields long below are in
+    ap (λ l. half (get_or l 0 0)) are ∙ ap (λ l. get_or l 0 0) joined ∙ (spelled digits long below).0
 
 -- The last product and sum.
 pub lanes_joined : (digits eights : List ℕ) → length digits ≡ 16 → Each1 (λ x. x < 10) digits → eights ≡ paired 10000 (paired 100 (paired 10 digits))

@@ -8,7 +8,6 @@ use Rattle.atoi_core.specs.Run.{run_len, run, zeros, value}
 use Rattle.atoi_core.specs.Words.{word_of}
 use Rattle.atoi_core.specs.declared.window.Window.{Window}
 use Rattle.atoi_core.proofs.lemmas.LoadedWords.{digits-of_bytes, prefix_len-padded}
-use Rattle.atoi_core.proofs.lemmas.WordWindows.{reported_none}
 use Rattle.atoi_lanes.specs.Lanes.{lane_window, padded_start}
 use lib.Lanes.{Each1, digits_l}
 use Rattle.std.specs.List.{prefix_len}
@@ -39,16 +38,6 @@ lanes_show size s =
 
 pub window_of_lanes : (s : List ℕ) → lane_window 16 (padded_start 16 s) ≡ window_of decimal_table 16 s
 window_of_lanes s = lanes_show 16 s
-
--- Lanes that begin with fewer than 16 digits.
-pub window_of_few : (s lanes : List ℕ) (len number : ℕ) → lanes ≡ padded_start 16 s → len ≡ run_len decimal_table lanes → len < 16
-    → number ≡ value decimal_table (take len lanes) → ◌≡◌ {A = Window} (record { len = len; zeroes = 0; number = number }) (window_of decimal_table 16 s)
-window_of_few s lanes len number loaded digits few is =
-    let window : (ℕ → ℕ → ℕ → Window) = λ n z r. record { len = n; zeroes = z; number = r } in
-    ap₂ (λ n r. window n 0 r) digits (is ∙ ap (λ n. value decimal_table (take n lanes)) digits)
-    ∙ ap (λ z. window (run_len decimal_table lanes) z (value decimal_table (run decimal_table lanes)))
-    (sym (reported_none (run_len decimal_table lanes) 16 (zeros decimal_table lanes) (λ e. omega arith)))
-    ∙ ap (lane_window 16) loaded ∙ window_of_lanes s
 
 -- Fewer than 16 bytes that are all digits.
 pub window_of_all : (s : List ℕ) → length s < 16 → run_len decimal_table s ≡ length s → (number : ℕ) → number ≡ value decimal_table s

@@ -1,5 +1,5 @@
 -- If all bytes are digits, their lanes are summed as loaded; otherwise the rest is shifted out.
-use Rattle.std.proofs.Common.{◌≡◌, ◌+◌, ◌-◌, ◌∙◌, length, arith}
+use Rattle.std.proofs.Common.{◌≡◌, ◌+◌, ◌-◌, ◌∙◌, length, refl, arith}
 use Rattle.std.proofs.lemmas.List.Sums.{prefix_len-le-length}
 use Rattle.atoi_core.specs.Digit.{decimal_table, is_digit}
 use Rattle.atoi_core.specs.Run.{run_len}
@@ -20,13 +20,13 @@ whole c all = omega (arith, found c, all)
 
 pub number_in_half-requires : goal.number_in_half-requires
 number_in_half-requires c =
-    (all_digits _ (λ i. (c.type_inv.s i).fits) c.requires.few (whole (goal.at.number_in_half-requires c).After-digits_of-digits c.if-digits-eq8.true) _ _
-    c.load_high-word.ensures c.half.ensures).1
+    (all_digits _ (λ i. (c.type_inv.s i).fits) c.requires.few (whole (goal.at.number_in_half-requires c).After-digits_of-digits c.if-digits-eq8.true) _ _ _ _
+    c.load_high-word.ensures c.fill_of_zeros.ensures refl c.half.ensures).1
 
 pub returns-then-digits-eq8 : goal.returns-then-digits-eq8
 returns-then-digits-eq8 c =
     let all = whole (goal.at.returns-then-digits-eq8 c).After-digits_of-digits c.if-digits-eq8.true in
-    (search arith, all, c.number_in_half.ensures ∙ (all_digits _ (λ i. (c.type_inv.s i).fits) c.requires.few all _ _ c.load_high-word.ensures c.half.ensures).0)
+    (search arith, all, c.number_in_half.ensures ∙ (all_digits _ (λ i. (c.type_inv.s i).fits) c.requires.few all _ _ _ _ c.load_high-word.ensures c.fill_of_zeros.ensures refl c.half.ensures).0)
 
 pub overflow_sub-s : goal.overflow_sub-s
 overflow_sub-s c =
