@@ -19,11 +19,18 @@ pub fn read_on_threads<'a, R: Send>(
             let end = line_feed.map_or(rest.len(), |offset| share + offset + 1);
             let lines = Fields::lines(&rest[..end]).starting_at(index, text.len() - rest.len());
             readers.push(scope.spawn(|| read(lines)));
-            index += rest[..end].iter().filter(|byte| **byte == b'\n').count();
+            index += line_feeds(&rest[..end]);
             rest = &rest[end..];
         }
         readers.into_iter().map(|reader| reader.join().expect("no thread panics")).collect()
     })
+}
+
+// Counts in a byte, 255 bytes at a time: `filter` and `count` would take seven times as long, and the
+// later threads wait for this.
+fn line_feeds(text: &[u8]) -> usize {
+    let in_chunk = |chunk: &[u8]| chunk.iter().map(|byte| u8::from(*byte == b'\n')).sum::<u8>();
+    text.chunks(255).map(|chunk| usize::from(in_chunk(chunk))).sum()
 }
 
 /// Returns how many lines are numbers, their sum, and the other lines.
