@@ -159,6 +159,7 @@ impl Reader<'_> {
 
     fn item(&mut self, start: usize, is_public: bool, is_hinted: bool) {
         match self.text(self.at) {
+            "mod" if self.text(self.at + 2) == "{" => self.block(),
             "use" | "mod" | "const" | "static" | "type" => self.line(),
             "fn" => self.function(start, is_public, is_hinted),
             "struct" => self.fields(),

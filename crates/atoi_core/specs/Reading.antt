@@ -4,7 +4,7 @@ use Rattle.atoi_core.specs.Digit.{Table}
 use Rattle.atoi_core.specs.Run.{run_len, run, zeros, value}
 use Rattle.atoi_core.specs.Refusal.{Refusal, empty, size, overflow, invalid64}
 use Rattle.atoi_core.specs.Magnitude.{Class, prefix, rule_of}
-use Rattle.atoi_core.specs.declared.window.Window.{Window}
+use Rattle.atoi_core.specs.declared.engine.window.Window.{Window}
 
 -- A window: the run of the first `count` bytes, its value, and its zeros if it is full.
 abbrev pub window_of : Table → ℕ → List ℕ → Window

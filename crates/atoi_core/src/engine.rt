@@ -1,4 +1,5 @@
-//! The reads that parsers make, and the parses of wide integers that they are enough for.
+//! The reads that parsers make, and the parses of wide integers that they are enough for. Below: what a
+//! read reports, how reads are counted, and engines that read byte by byte.
 ghost use Rattle.std.specs.Prelude.{◌≡◌, ◌+◌, ◌-◌, ◌≤◌, MatchOption};
 ghost use Rattle.atoi_core.specs.Digit.{Table, IsBelowTen};
 ghost use Rattle.atoi_core.specs.Loads.{LoadsWithin, most_loads};
@@ -7,11 +8,16 @@ ghost use Rattle.atoi_core.specs.Refusal.{answer_of};
 ghost use Rattle.atoi_core.specs.Reading.{window_of};
 ghost use Rattle.atoi_core.specs.Run.{run_len};
 
+pub mod alphabet;
+pub mod plain;
+pub mod steps;
+pub mod window;
+
+use crate::engine::steps::Steps;
+use crate::engine::window::Window;
 use crate::error::AtoiSimdError;
-use crate::powers::append_digits;
-use crate::steps::Steps;
-use crate::wide_answer::{answer_64, answer_128, found_or_empty};
-use crate::window::Window;
+use crate::loops::powers::append_digits;
+use crate::loops::wide_answer::{answer_64, answer_128, found_or_empty};
 
 /// An *engine* reads windows, for one table of digits. Each read is one *load*. It may replace the
 /// provided methods by its own, with the same clauses.

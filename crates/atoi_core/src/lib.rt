@@ -2,39 +2,42 @@
 //! they return.
 #![tactic(auto)]
 
-mod alphabet;
-mod core_calls;
 mod engine;
 mod error;
-mod first_windows;
 pub mod laws;
+mod loops;
 mod narrow;
-mod number;
-mod plain;
-pub mod powers;
-mod sign;
-mod steps;
 mod text;
-pub mod wide_answer;
-mod window;
-mod window_loops;
-pub mod word_digits;
-mod word_engine;
-pub mod word_loads;
+mod types;
+mod wide;
 pub mod words;
 
-pub use crate::alphabet::Alphabet;
-pub use crate::core_calls::{prefix_neg, prefix_pos, whole_64, whole_128, whole_neg, whole_pos};
 pub use crate::engine::Engine;
+pub use crate::engine::alphabet::Alphabet;
+pub use crate::engine::plain::{Plain, narrow_whole};
+pub use crate::engine::steps::Steps;
+pub use crate::engine::window::Window;
 pub use crate::error::{AtoiSimdError, Parsed, clones_are_the_same};
+pub use crate::loops::{count_digits, powers, wide_answer};
 pub use crate::narrow::{narrow_prefix, narrow_whole_windows};
-pub use crate::number::{Number, Signed};
-pub use crate::plain::{Plain, narrow_whole};
-pub use crate::sign::{
+pub use crate::text::decimal;
+pub use crate::types::core_calls::{prefix_neg, prefix_pos, whole_neg, whole_pos};
+pub use crate::types::number::{Number, Signed};
+pub use crate::types::sign::{
     parse_prefix_signed, parse_prefix_unsigned, parse_signed, parse_unsigned, take_sign,
 };
-pub use crate::steps::Steps;
-pub use crate::text::decimal;
-pub use crate::window::Window;
-pub use crate::window_loops::count_digits;
-pub use crate::word_engine::Words;
+pub use crate::wide::{whole_64, whole_128};
+pub use crate::words::engine::Words;
+
+/// Words that are loaded from a slice.
+pub mod word_loads {
+    pub use crate::words::loads::{load_8, load_four_from, load_from, load_high, load_last_four};
+}
+
+/// The digits of words.
+pub mod word_digits {
+    pub use crate::words::digits::{
+        ZEROS, digits_of, digits_of_four, fill_of_zeros, starts_with_digit_of_four, value_at_end,
+        value_in_four,
+    };
+}

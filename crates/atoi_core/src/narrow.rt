@@ -7,10 +7,10 @@ ghost use Rattle.atoi_core.specs.Run.{run_len};
 ghost use Rattle.atoi_core.specs.Reading.{window_of, narrow_decision};
 
 use crate::engine::Engine;
+use crate::engine::steps::Steps;
+use crate::engine::window::Window;
 use crate::error::AtoiSimdError;
-use crate::steps::Steps;
-use crate::window::Window;
-use crate::window_loops::window_after_zeros;
+use crate::loops::window_after_zeros;
 
 /// Parses the digits at the start of `s`, and returns their value, at most `bound`, and their number.
 ///

@@ -3,7 +3,7 @@ use Rattle.std.specs.Prelude.{◌≡◌, ℕ, ◌+◌, ◌*◌, ◌<◌, ◌≤�
 use Rattle.atoi_core.specs.Digit.{Table, decimal_table}
 use Rattle.atoi_core.specs.Reading.{Reading, IsSkipped}
 use Rattle.atoi_core.specs.Run.{run_len, run, zeros, value}
-use Rattle.atoi_core.specs.declared.window.Window.{Window}
+use Rattle.atoi_core.specs.declared.engine.window.Window.{Window}
 use Rattle.atoi_lanes.specs.declared.kernels.ShortRun.{ShortRun}
 use Rattle.atoi_lanes.specs.declared.window_32.Window32.{Window32}
 

@@ -8,7 +8,7 @@ use Rattle.atoi_core.specs.Run.{zeros, run_len, run, value}
 use Rattle.atoi_core.specs.Magnitude.{Class, wide64, wide128, Extent, prefix, rule_of, HasDigits, prefix_magnitude, narrow, whole, Rule, invalid, unless_refused, whole_magnitude, skipped_zeros, is_above}
 use Rattle.atoi_core.specs.Refusal.{empty, Refusal, invalid64, invalid128, size, overflow}
 use Rattle.atoi_core.specs.Reading.{cap, answer_by_digits, window_of, narrow_decision}
-use Rattle.atoi_core.specs.declared.window.Window.{Window}
+use Rattle.atoi_core.specs.declared.engine.window.Window.{Window}
 use Rattle.atoi_core.proofs.lemmas.Refusals.{refusal-is, refused_empty, is_empty, is_long, is_over, too_long, over, limit_at, significant_len, refusal-none, refused_size, refused_overflow}
 use Rattle.atoi_core.proofs.lemmas.Runs.{decimal_below_ten, prefix_len-take, value-take-le, value-least, run_ends, run_more, value_more}
 use Rattle.atoi_core.proofs.lemmas.Readings.{within, below, short, short_below, all_decide}

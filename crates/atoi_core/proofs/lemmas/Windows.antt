@@ -8,7 +8,7 @@ use Rattle.atoi_core.specs.Run.{run_len, run, zeros, value}
 use Rattle.atoi_core.specs.Magnitude.{narrow}
 use Rattle.atoi_core.specs.Reading.{Reading, IsSkipped, window_of}
 use Rattle.atoi_core.proofs.lemmas.Runs.{prefix_len-take, prefix_len-drop, zeros-le, value-drop_zeros}
-use Rattle.atoi_core.specs.declared.window.Window.{Window}
+use Rattle.atoi_core.specs.declared.engine.window.Window.{Window}
 use Rattle.std.proofs.lemmas.Bool.Decides.{nat_tests}
 use Rattle.atoi_core.specs.Loads.{LoadsWithin, most_loads}
 use Rattle.atoi_core.proofs.lemmas.Readings.{join_readings, below}

@@ -10,7 +10,7 @@ use Rattle.std.proofs.lemmas.List.Sums.{prefix_len-le-length}
 use Rattle.atoi_core.specs.Digit.{decimal_table, is_digit}
 use Rattle.atoi_core.specs.Run.{run_len, zeros, value}
 use Rattle.atoi_core.specs.Reading.{window_of}
-use Rattle.atoi_core.specs.declared.window.Window.{Window}
+use Rattle.atoi_core.specs.declared.engine.window.Window.{Window}
 use Rattle.atoi_core.proofs.lemmas.Runs.{prefix_len-take, prefix_len-drop, prefix_len-replicate_append, value-take-add}
 use Rattle.atoi_core.proofs.lemmas.LoadedWords.{word_start, loaded_run, loaded_part, loaded_sum, loaded_zeros}
 

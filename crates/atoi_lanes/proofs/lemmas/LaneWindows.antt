@@ -6,7 +6,7 @@ use Rattle.atoi_core.specs.Digit.{decimal_table, is_digit, is_zero}
 use Rattle.atoi_core.specs.Reading.{Reading, window_of}
 use Rattle.atoi_core.specs.Run.{run_len, run, zeros, value}
 use Rattle.atoi_core.specs.Words.{word_of}
-use Rattle.atoi_core.specs.declared.window.Window.{Window}
+use Rattle.atoi_core.specs.declared.engine.window.Window.{Window}
 use Rattle.atoi_core.proofs.lemmas.LoadedWords.{digits-of_bytes, prefix_len-padded}
 use Rattle.atoi_lanes.specs.Lanes.{lane_window, padded_start}
 use lib.Lanes.{Each1, digits_l}

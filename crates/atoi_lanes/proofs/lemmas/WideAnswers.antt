@@ -7,7 +7,7 @@ use Rattle.atoi_core.specs.Reading.{Reading, IsSkipped, answer_by_digits, window
 use Rattle.atoi_core.proofs.lemmas.Runs.{decimal_below_ten, prefix_len-take}
 use Rattle.atoi_core.proofs.lemmas.Readings.{zeros_left, join_readings, within, below, below_bound, decided, all_decide, short}
 use Rattle.atoi_core.specs.Run.{run_len, run, value, zeros}
-use Rattle.atoi_core.specs.declared.window.Window.{Window}
+use Rattle.atoi_core.specs.declared.engine.window.Window.{Window}
 use Rattle.atoi_lanes.specs.Lanes.{ReadsAfterZeros}
 use Rattle.std.proofs.lemmas.Bool.{cases_lt, false≢true, le-ltb}
 use Rattle.atoi_core.specs.Magnitude.{HasDigits, wide64, wide128, prefix_magnitude}

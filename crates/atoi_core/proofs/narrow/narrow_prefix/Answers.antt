@@ -1,7 +1,7 @@
 -- A first window without zeros to skip decides.
 use Rattle.std.proofs.Common.{◌≡◌, ◌+◌, ◌≤◌, ℕ, Bool, false, not, ◌&&◌, ◌||◌, nat_lt, min, ap, if◌then◌else◌, inl, inr, sym, ◌∙◌, ltb-false, arith}
 use Rattle.std.proofs.lemmas.Bool.Decides.{nat_tests}
-use Rattle.atoi_core.specs.declared.window.Window.{Window}
+use Rattle.atoi_core.specs.declared.engine.window.Window.{Window}
 use Rattle.atoi_core.specs.Digit.{is_digit}
 use Rattle.atoi_core.specs.Run.{run_len}
 use Rattle.atoi_core.proofs.lemmas.Runs.{prefix_len-take}

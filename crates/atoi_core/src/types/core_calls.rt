@@ -1,0 +1,184 @@
+//! The four *core calls*: each parses digits without a sign as an integer of any type, with the
+//! parser for its size.
+ghost use Rattle.std.specs.Prelude.{◌≡◌, ◌≤◌, true, false, IfOk, length};
+ghost use Rattle.atoi_core.specs.Answer.{typed_answer, typed_prefix_answer, whole_answer, prefix_answer};
+ghost use Rattle.atoi_core.specs.IntType.{class_of, bound_of, limit_of};
+ghost use Rattle.atoi_core.specs.Loads.{TypedLoads};
+ghost use Rattle.atoi_core.specs.Magnitude.{whole, prefix, whole_magnitude, prefix_magnitude};
+ghost use Rattle.atoi_core.specs.Refusal.{answer_of};
+
+use crate::engine::Engine;
+use crate::engine::steps::Steps;
+use crate::error::AtoiSimdError;
+use crate::narrow::{narrow_prefix, narrow_whole_windows};
+use crate::types::number::{Number, Signed, greatest_magnitude, limit_64, number_of};
+use crate::wide::{prefix_128_inline, whole_64, whole_128};
+
+/// Parses all of `s`, digits without a sign, as a `T` that is not negative. With `skip`, leading
+/// zeros do not count towards a limit of digits.
+///
+/// # Errors
+///
+/// Every kind of `AtoiSimdError`; `s` is the body.
+#[inline(always)]
+#[tactic(auto, using(crate::proofs::lemmas::Calls::whole_in_bounds))]
+pub fn whole_pos<'a, E: Engine, T: Number>(
+    skip: bool,
+    s: &'a [u8],
+    steps: &mut Steps,
+) -> Result<T, AtoiSimdError<'a>>
+    ensures answer { typed_answer T.number result ≡ whole_answer E.table T.int_type false skip s.now }
+    ensures loads { TypedLoads E.table T.int_type whole skip s.now steps.old steps.new }
+{
+    // Each `match` in place of `?` takes fewer instructions.
+    match whole_by_size::<E, T>(false, skip, s, steps) {
+        Ok(magnitude) => Ok(T::from_pos(magnitude)),
+        Err(error) => Err(error),
+    }
+}
+
+/// Like `whole_pos`, but returns minus the value of the digits. The errors are the same.
+#[inline(always)]
+pub fn whole_neg<'a, E: Engine, T: Signed>(
+    skip: bool,
+    s: &'a [u8],
+    steps: &mut Steps,
+) -> Result<T, AtoiSimdError<'a>>
+    ensures answer { typed_answer T.number result ≡ whole_answer E.table T.int_type true skip s.now }
+    ensures loads { TypedLoads E.table T.int_type whole skip s.now steps.old steps.new }
+{
+    whole_of::<E, T>(true, skip, s, steps)
+}
+
+// Like `whole_neg` if `minus` is set, otherwise like `whole_pos`.
+#[inline(always)]
+#[tactic(auto, using(crate::proofs::lemmas::Calls::whole_in_bounds))]
+pub(crate) fn whole_of<'a, E: Engine, T: Signed>(
+    minus: bool,
+    skip: bool,
+    s: &'a [u8],
+    steps: &mut Steps,
+) -> Result<T, AtoiSimdError<'a>>
+    ensures answer { typed_answer T.number result ≡ whole_answer E.table T.int_type minus skip s.now }
+    ensures loads { TypedLoads E.table T.int_type whole skip s.now steps.old steps.new }
+{
+    match whole_by_size::<E, T>(minus, skip, s, steps) {
+        Ok(magnitude) => Ok(number_of(minus, magnitude)),
+        Err(error) => Err(error),
+    }
+}
+
+/// Like `whole_pos`, but parses the digits at the start of `s`. Also returns how many there are.
+///
+/// # Errors
+///
+/// `Empty`, `Size` and `Overflow`.
+#[inline(always)]
+#[tactic(auto, using(crate::proofs::lemmas::Calls::prefix_within, crate::proofs::lemmas::Calls::prefix_in_bounds))]
+pub fn prefix_pos<'a, E: Engine, T: Number>(
+    skip: bool,
+    s: &'a [u8],
+    steps: &mut Steps,
+) -> Result<(T, usize), AtoiSimdError<'a>>
+    ensures answer { typed_prefix_answer T.number result
+        ≡ prefix_answer E.table T.int_type false skip s.now }
+    ensures within { IfOk result (λ found. found.1 ≤ length s.now) }
+    ensures loads { TypedLoads E.table T.int_type prefix skip s.now steps.old steps.new }
+{
+    match prefix_by_size::<E, T>(false, skip, s, steps) {
+        Ok((magnitude, len)) => Ok((T::from_pos(magnitude), len)),
+        Err(error) => Err(error),
+    }
+}
+
+/// Like `prefix_pos`, but returns minus the value of the digits. The errors are the same.
+#[inline(always)]
+pub fn prefix_neg<'a, E: Engine, T: Signed>(
+    skip: bool,
+    s: &'a [u8],
+    steps: &mut Steps,
+) -> Result<(T, usize), AtoiSimdError<'a>>
+    ensures answer { typed_prefix_answer T.number result
+        ≡ prefix_answer E.table T.int_type true skip s.now }
+    ensures within { IfOk result (λ found. found.1 ≤ length s.now) }
+    ensures loads { TypedLoads E.table T.int_type prefix skip s.now steps.old steps.new }
+{
+    prefix_of::<E, T>(true, skip, s, steps)
+}
+
+// Like `prefix_neg` if `minus` is set, otherwise like `prefix_pos`.
+#[inline(always)]
+#[tactic(auto, using(crate::proofs::lemmas::Calls::prefix_within, crate::proofs::lemmas::Calls::prefix_in_bounds))]
+pub(crate) fn prefix_of<'a, E: Engine, T: Signed>(
+    minus: bool,
+    skip: bool,
+    s: &'a [u8],
+    steps: &mut Steps,
+) -> Result<(T, usize), AtoiSimdError<'a>>
+    ensures answer { typed_prefix_answer T.number result
+        ≡ prefix_answer E.table T.int_type minus skip s.now }
+    ensures within { IfOk result (λ found. found.1 ≤ length s.now) }
+    ensures loads { TypedLoads E.table T.int_type prefix skip s.now steps.old steps.new }
+{
+    match prefix_by_size::<E, T>(minus, skip, s, steps) {
+        Ok((magnitude, len)) => Ok((number_of(minus, magnitude), len)),
+        Err(error) => Err(error),
+    }
+}
+
+// Returns the magnitude, at most `greatest_magnitude::<T>(minus)`.
+#[inline(always)]
+#[tactic(auto, using(crate::proofs::lemmas::Refusals::narrow_whole_limit))]
+fn whole_by_size<'a, E: Engine, T: Number>(
+    minus: bool,
+    skip: bool,
+    s: &'a [u8],
+    steps: &mut Steps,
+) -> Result<u128, AtoiSimdError<'a>>
+    requires signed { minus ≡ true → T.SIGNED ≡ true }
+    ensures answer { answer_of result ≡ whole_magnitude E.table (class_of T.int_type)
+        (bound_of T.int_type minus) (limit_of T.int_type) skip s.now }
+    ensures loads { TypedLoads E.table T.int_type whole skip s.now steps.old steps.new }
+{
+    let bound = greatest_magnitude::<T>(minus);
+    if T::BITS <= 32 {
+        match narrow_whole_windows::<E>(bound as u64, s, steps) {
+            Ok(number) => Ok(u128::from(number)),
+            Err(error) => Err(error),
+        }
+    } else if T::BITS == 64 {
+        let number = whole_64::<E>(bound as u64, limit_64::<T>(), skip, s, steps)?;
+        Ok(u128::from(number))
+    } else {
+        whole_128::<E>(bound, skip, s, steps)
+    }
+}
+
+#[inline(always)]
+#[tactic(auto, using(crate::proofs::lemmas::Refusals::narrow_prefix_limit))]
+fn prefix_by_size<'a, E: Engine, T: Number>(
+    minus: bool,
+    skip: bool,
+    s: &'a [u8],
+    steps: &mut Steps,
+) -> Result<(u128, usize), AtoiSimdError<'a>>
+    requires signed { minus ≡ true → T.SIGNED ≡ true }
+    ensures answer { answer_of result ≡ prefix_magnitude E.table (class_of T.int_type)
+        (bound_of T.int_type minus) (limit_of T.int_type) skip s.now }
+    ensures loads { TypedLoads E.table T.int_type prefix skip s.now steps.old steps.new }
+{
+    let bound = greatest_magnitude::<T>(minus);
+    if T::BITS <= 32 {
+        match narrow_prefix::<E>(bound as u64, skip, s, steps) {
+            Ok((number, len)) => Ok((u128::from(number), len)),
+            Err(error) => Err(error),
+        }
+    } else if T::BITS == 64 {
+        match E::prefix_64(bound as u64, limit_64::<T>(), skip, s, steps) {
+            Ok((number, len)) => Ok((u128::from(number), len)),
+            Err(error) => Err(error),
+        }
+    } else {
+        prefix_128_inline::<E, false>(bound, skip, s, steps)
+    }
+}
