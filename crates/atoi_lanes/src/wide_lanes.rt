@@ -153,7 +153,7 @@ fn prefix_64_cold<'a>(
     ensures most { steps.new ≤ steps.old + zeros decimal_table s.now / 32 + 1 }
     ensures least { steps.old + zeros decimal_table s.now / 32 ≤ steps.new }
 {
-    match prefix_64_after_zeros(bound, limit, zeroes, s, steps) {
+    match prefix_64_past_zeros(bound, limit, zeroes, s, steps) {
         Ok(found) => Ok(found),
         Err(error) => Err(error),
     }
@@ -174,7 +174,7 @@ fn prefix_128_cold<'a>(
     ensures most { steps.new ≤ steps.old + zeros decimal_table s.now / 32 + 2 }
     ensures least { steps.old + zeros decimal_table s.now / 32 ≤ steps.new }
 {
-    match prefix_128_after_zeros(bound, zeroes, s, steps) {
+    match prefix_128_past_zeros(bound, zeroes, s, steps) {
         Ok(found) => Ok(found),
         Err(error) => Err(error),
     }
@@ -183,7 +183,7 @@ fn prefix_128_cold<'a>(
 // `prefix_64_lanes` with `skip`, after a first window that is full of digits and begins with
 // `zeroes` zeros.
 #[inline(never)]
-fn prefix_64_after_zeros<'a>(
+fn prefix_64_past_zeros<'a>(
     bound: u64,
     limit: u32,
     zeroes: u32,
@@ -198,13 +198,13 @@ fn prefix_64_after_zeros<'a>(
     ensures most { steps.new ≤ steps.old + zeros decimal_table s.now / 32 + 1 }
     ensures least { steps.old + zeros decimal_table s.now / 32 ≤ steps.new }
 {
-    let (at, window) = window_after_zeros(zeroes, s, steps);
+    let (at, window) = skip_by_32(zeroes, s, steps);
     answer_from_window_64(bound, limit, at, window, s)
 }
 
-// The same for `prefix_128_lanes`.
+// `prefix_64_past_zeros` for 128 bits.
 #[inline(never)]
-fn prefix_128_after_zeros<'a>(
+fn prefix_128_past_zeros<'a>(
     bound: u128,
     zeroes: u32,
     s: &'a [u8],
@@ -217,13 +217,13 @@ fn prefix_128_after_zeros<'a>(
     ensures most { steps.new ≤ steps.old + zeros decimal_table s.now / 32 + 2 }
     ensures least { steps.old + zeros decimal_table s.now / 32 ≤ steps.new }
 {
-    let (at, window) = window_after_zeros(zeroes, s, steps);
+    let (at, window) = skip_by_32(zeroes, s, steps);
     finish_128(bound, true, at, window, s, steps)
 }
 
 // Skips zeros window by window, from a first window that reported `zeroes`. Returns the first
 // window after it that is not full of digits or does not begin with a zero, and its offset.
-fn window_after_zeros(zeroes: u32, s: &[u8], steps: &mut Steps) -> (usize, Window32)
+fn skip_by_32(zeroes: u32, s: &[u8], steps: &mut Steps) -> (usize, Window32)
     requires some { 0 < zeroes }
     requires first_window { zeroes ≡ zeros decimal_table (take 32 s.now) }
     ensures reached { ReadsAfterZeros true s.now result.0 result.1 }

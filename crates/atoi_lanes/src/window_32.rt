@@ -37,17 +37,17 @@ pub(crate) fn window_32(s: &[u8], steps: &mut Steps) -> Window32
             number: u128::from(sum_lanes(first, len)),
         };
     }
-    let second = load_after_16(s);
+    let second = load_second(s);
     let more = len_lanes(second);
     Window32 {
         len: 16 + more,
-        zeroes: zeroes_of_two(first, second),
+        zeroes: zeroes_of_both(first, second),
         number: number_in_two(first, second, more),
     }
 }
 
 // Returns the 16 bytes after the first 16. A missing byte is 0.
-pub(crate) fn load_after_16(s: &[u8]) -> u8x16
+pub(crate) fn load_second(s: &[u8]) -> u8x16
     ensures { result ≡ padded_start 16 (drop 16 s.now) }
 {
     if s.len() >= 32 {
@@ -59,7 +59,7 @@ pub(crate) fn load_after_16(s: &[u8]) -> u8x16
     }
 }
 
-// The same for 16 to 31 bytes. One shuffle moves the last 16 to the start.
+// `load_second` for 16 to 31 bytes. One shuffle moves the last 16 to the start.
 #[tactic(auto, using(crate::proofs::lemmas::Shuffles::after_first_16))]
 fn load_last_after_16(s: &[u8]) -> u8x16
     requires enough { 16 ≤ length s.now }
@@ -70,7 +70,7 @@ fn load_last_after_16(s: &[u8]) -> u8x16
 }
 
 // Returns how many zeros the lanes of both begin with, which is mostly none.
-fn zeroes_of_two(first: u8x16, second: u8x16) -> u32
+fn zeroes_of_both(first: u8x16, second: u8x16) -> u32
     ensures { result ≡ (if zeros decimal_table first == 16 then 16 + zeros decimal_table second
         else zeros decimal_table first) }
 {

@@ -15,5 +15,5 @@ returns-clause-reading c =
     let s = c.args.s.now in
     let first = reading-of_lanes s c.load_lanes-first.result 16 _ c.load_lanes-first.ensures
     (omega (arith, c.len_lanes-len.ensures, c.if-len-lt16.false)) refl in
-    let second = reading-of_lanes _ c.load_after_16-second.result _ _ c.load_after_16-second.ensures c.len_lanes-more.ensures.len refl in
-    rw (c.zeroes_of_two.ensures, c.number_in_two.ensures) (join_readings first second)
+    let second = reading-of_lanes _ c.load_second-second.result _ _ c.load_second-second.ensures c.len_lanes-more.ensures.len refl in
+    rw (c.zeroes_of_both.ensures, c.number_in_two.ensures) (join_readings first second)

@@ -5,7 +5,7 @@ use Rattle.std.proofs.lemmas.List.Sums.{prefix_len-le-length}
 use Rattle.atoi_core.proofs.lemmas.Readings.{zeros_left, within}
 use Rattle.atoi_core.specs.Digit.{decimal_table, is_zero}
 use Rattle.atoi_core.specs.Run.{zeros}
-use Rattle.atoi_lanes.proofs.wide_lanes.window_after_zeros.Goals as goal
+use Rattle.atoi_lanes.proofs.wide_lanes.skip_by_32.Goals as goal
 
 pub loop-window-init : goal.loop-window-init
 loop-window-init c =
