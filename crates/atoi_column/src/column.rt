@@ -3,11 +3,9 @@ ghost use Rattle.std.specs.Prelude.{◌≡◌, ◌<◌, ◌≤◌, true, length,
 ghost use Rattle.std.specs.Iterator.{YieldsFirstBy, item_count};
 ghost use Rattle.atoi_column.specs.Fields.{is_separator};
 ghost use Rattle.atoi_column.specs.Items.{index_of, item_of, items_of, place_of};
-ghost use Rattle.atoi_column.specs.Laws.{FieldsArePrefixes};
 
 use crate::error::ColumnError;
-use atoi_core::Number;
-use atoi_core::laws::{prefix_is_whole, prefix_of_cut, rest_changes_nothing};
+use crate::laws::fields_are_prefixes;
 use atoi_simd::{Parse, parse_prefix};
 use std::iter::FusedIterator;
 use std::marker::{Model, PhantomData};
@@ -103,17 +101,6 @@ impl<'a, T: Parse> Column<'a, T> {
             values: PhantomData,
         }
     }
-}
-
-// A field is accepted exactly if the number at its start ends where the field ends, so no end is looked
-// for.
-#[tactic(auto, using(crate::proofs::lemmas::Prefixes::fields_are_prefixes))]
-pub(crate) fn fields_are_prefixes<T: Number>()
-    ensures { FieldsArePrefixes T.int_type }
-{
-    prefix_is_whole::<T>();
-    prefix_of_cut::<T>();
-    rest_changes_nothing::<T>();
 }
 
 // There is no `size_hint`: the number of fields is not known before they are read.

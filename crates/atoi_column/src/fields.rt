@@ -8,8 +8,8 @@ ghost use Rattle.atoi_column.specs.Fields.{is_separator};
 ghost use Rattle.atoi_column.specs.FieldItems.{cut_of, field_item, field_item_of, fields_in, lines_in, field_items, field_items_left, line_items, GivesFirstField};
 ghost use Rattle.atoi_column.specs.FirstField.{after_field, first_text, IsAcceptedField};
 
-use crate::column::fields_are_prefixes;
 use crate::field_error::FieldError;
+use crate::laws::fields_are_prefixes;
 use atoi_core::laws::{accepted_texts, prefix_begins};
 use atoi_simd::{Parse, parse, parse_prefix};
 use std::iter::FusedIterator;

@@ -1,8 +1,10 @@
 //! Laws about columns and fields, for the proofs of callers; `specs/Laws.antt` says each in words.
-ghost use Rattle.atoi_column.specs.Laws.{TextsAndItems, ItemsDecide, ItemsInTurn, FirstField, FieldsDecide, ErrorsArePlaced, ColumnStopsAtError, PiecesInTurn};
+ghost use Rattle.atoi_column.specs.Laws.{TextsAndItems, ItemsDecide, ItemsInTurn, FirstField, FieldsDecide, ErrorsArePlaced, ColumnStopsAtError, PiecesInTurn, FieldsArePrefixes};
 
 use atoi_core::Number;
-use atoi_core::laws::{accepted_numbers, accepted_texts};
+use atoi_core::laws::{
+    accepted_numbers, accepted_texts, prefix_is_whole, prefix_of_cut, rest_changes_nothing,
+};
 
 /// The items of an input are the numbers of its fields, up to the first that is no text of the type.
 #[tactic(auto, using(crate::proofs::lemmas::Texts::texts_and_items))]
@@ -59,3 +61,14 @@ pub fn column_stops_at_error<T: Number>()
 pub fn pieces_in_turn<T: Number>()
     ensures { PiecesInTurn T.int_type }
 {}
+
+// A field is accepted exactly if the number at its start ends where the field ends, so no end is looked
+// for.
+#[tactic(auto, using(crate::proofs::lemmas::Prefixes::fields_are_prefixes))]
+pub(crate) fn fields_are_prefixes<T: Number>()
+    ensures { FieldsArePrefixes T.int_type }
+{
+    prefix_is_whole::<T>();
+    prefix_of_cut::<T>();
+    rest_changes_nothing::<T>();
+}
