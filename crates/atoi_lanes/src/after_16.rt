@@ -84,7 +84,7 @@ pub(crate) fn prefix_64_after_16<'a>(
     answer_64(bound, limit, 0, 16 + more, u128::from(number), s)
 }
 
-// The same after 20 digits, which spell `number`.
+// `prefix_64_after_16` after 20 digits, which spell `number`.
 #[inline(always)]
 fn answer_from_20<'a>(
     bound: u64,

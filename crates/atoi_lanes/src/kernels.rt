@@ -41,7 +41,7 @@ const TO_END: [[u8; 16]; 8] = [
     [128, 0, 1, 2, 3, 4, 5, 6, 8, 9, 10, 11, 12, 13, 14, 15],
 ];
 
-// The same so that the first byte is in the first lane.
+// `TO_END`, but the first byte is in the first lane.
 const TO_START: [[u8; 16]; 8] = [
     [
         0, 1, 2, 3, 4, 5, 6, 7, 128, 128, 128, 128, 128, 128, 128, 128,
@@ -91,7 +91,7 @@ fn to_start(v: u8x16, len: usize) -> u8x16
     v.swizzle_dyn_within::<16>(u8x16::from_array(TO_START[len - 8]))
 }
 
-// The same, but moves the last to the last lane.
+// `to_start`, but moves the last to the last lane.
 #[inline(always)]
 fn to_end(v: u8x16, len: usize) -> u8x16
     requires enough { 8 ≤ len }

@@ -68,7 +68,7 @@ pub(crate) fn read_window(s: &[u8]) -> Window
     lane_window(load_lanes(s), 16)
 }
 
-// The same if all of 8 to 15 bytes are digits, otherwise `None`.
+// `read_window` if all of 8 to 15 bytes are digits, otherwise `None`.
 #[inline(always)]
 #[tactic(auto, using(crate::proofs::lemmas::LaneWindows::window_of_all))]
 fn medium_window(s: &[u8]) -> Option<Window>
@@ -81,7 +81,8 @@ fn medium_window(s: &[u8]) -> Option<Window>
     Some(Window::not_full(s.len() as u32, number))
 }
 
-// Returns that window if there are fewer than 8 digits. A word shows sooner than lanes how many.
+// `read_window` if there are fewer than 8 digits, otherwise `None`. A word shows sooner than lanes how
+// many.
 #[inline(always)]
 fn few_window(s: &[u8]) -> Option<Window>
     requires { 8 ≤ length s.now }

@@ -41,7 +41,7 @@ pub fn append_digits(high: u64, digits: u32, low: u64) -> u128
     u128::from(high) * u128::from(power_of_ten(digits)) + u128::from(low)
 }
 
-/// The same for a number that fits in 64 bits.
+/// `append_digits` for a number that fits in 64 bits.
 pub fn append_few(high: u64, digits: u32, low: u64) -> u64
     requires few { digits ≤ 16 }
     requires fits { high * 10 ^ digits + low ≤ 18446744073709551615 }

@@ -99,7 +99,7 @@ pub fn parse_prefix_signed<'a, E: Engine, T: Signed>(
     Ok(count_sign(found, body, s))
 }
 
-/// The same for an unsigned type, which accepts no `-`. Returns the errors of `prefix_pos` for the body.
+/// `parse_prefix_signed` for an unsigned type, which accepts no `-`. Returns the errors of `prefix_pos` for the body.
 #[inline(always)]
 pub fn parse_prefix_unsigned<'a, E: Engine, T: Number>(
     skip: bool,

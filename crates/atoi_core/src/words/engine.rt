@@ -238,7 +238,7 @@ fn full_window<const WHOLE: bool>(s: &[u8], first: u64) -> Window
     join_words(s, first)
 }
 
-// The same without `WHOLE`.
+// `full_window` without `WHOLE`.
 #[inline(always)]
 fn join_words(s: &[u8], first: u64) -> Window
     requires more { 8 < length s.now }
@@ -260,7 +260,7 @@ fn join_words(s: &[u8], first: u64) -> Window
     }
 }
 
-// The same for 9 to 15 digits, from the first and the last 8.
+// `full_window` for 9 to 15 digits, from the first and the last 8.
 #[inline(always)]
 #[tactic(auto, using(crate::proofs::lemmas::WordWindows::window_of_both))]
 fn window_of_ends(s: &[u8], first: u64, last: u64) -> Window
