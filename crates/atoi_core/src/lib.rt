@@ -31,7 +31,9 @@ pub use crate::words::engine::Words;
 
 /// Words that are loaded from a slice.
 pub mod word_loads {
-    pub use crate::words::loads::{load_8, load_four_from, load_from, load_high, load_last_four};
+    pub use crate::words::loads::{
+        load_8, load_four_from, load_from, load_full, load_high, load_last, load_last_four,
+    };
 }
 
 /// The digits of words.

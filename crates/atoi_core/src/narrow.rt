@@ -60,7 +60,6 @@ fn first_window<E: Engine>(bound: u64, skip: bool, s: &[u8], steps: &mut Steps) 
     }
 }
 
-#[inline(always)]
 #[tactic(auto, using(crate::proofs::lemmas::LoopAnswers::digit_after_16))]
 fn is_too_long<E: Engine>(skip: bool, s: &[u8], steps: &mut Steps) -> bool
     requires full { run_len E.table (take 16 s.now) ≡ 16 }

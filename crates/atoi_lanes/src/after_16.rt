@@ -4,6 +4,7 @@ ghost use Rattle.atoi_core.specs.Digit.{decimal_table};
 ghost use Rattle.atoi_core.specs.Magnitude.{HasDigits, wide64, prefix_magnitude};
 ghost use Rattle.atoi_core.specs.Refusal.{answer_of, overflow};
 ghost use Rattle.atoi_core.specs.Run.{run_len, value};
+ghost use Rattle.atoi_core.specs.Words.{word_of};
 
 use atoi_core::AtoiSimdError;
 use atoi_core::powers::{append_digits, append_few};
@@ -14,7 +15,6 @@ use atoi_core::word_digits::{
 use atoi_core::word_loads::{load_four_from, load_from, load_last_four};
 
 /// Returns the number that the bytes after the first 16 spell, if the last four are digits.
-#[inline(always)]
 pub(crate) fn last_four(s: &[u8]) -> Option<u32>
     requires some { 16 < length s.now }
     requires few { length s.now ≤ 20 }
@@ -75,6 +75,24 @@ pub(crate) fn prefix_64_after_16<'a>(
     if !starts_with_digit_of_four(word) {
         return Ok((high, 16));
     }
+    answer_from_17(bound, limit, high, word, s)
+}
+
+// `prefix_64_after_16` if a digit follows. `word` has the four bytes after 16.
+fn answer_from_17<'a>(
+    bound: u64,
+    limit: u32,
+    high: u64,
+    word: u32,
+    s: &'a [u8],
+) -> Result<(u64, usize), AtoiSimdError<'a>>
+    requires limit_high { limit ≤ 20 }
+    requires digits { HasDigits limit bound }
+    requires full { 17 ≤ run_len decimal_table s.now }
+    requires number { high ≡ value decimal_table (take 16 s.now) }
+    requires loaded { word ≡ word_of (take 4 (drop 16 s.now)) }
+    ensures { answer_of result ≡ prefix_magnitude decimal_table wide64 bound limit false s.now }
+{
     let more = digits_of_four(word);
     if more == 4 {
         let number = append_digits(high, 4, u64::from(value_in_four(word, 4)));
@@ -84,8 +102,7 @@ pub(crate) fn prefix_64_after_16<'a>(
     answer_64(bound, limit, 0, 16 + more, u128::from(number), s)
 }
 
-// `prefix_64_after_16` after 20 digits, which spell `number`.
-#[inline(always)]
+// `answer_from_17` after 20 digits, which spell `number`.
 fn answer_from_20<'a>(
     bound: u64,
     limit: u32,

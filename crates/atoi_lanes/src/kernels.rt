@@ -8,7 +8,7 @@ ghost use Rattle.atoi_core.specs.Words.{word_of};
 ghost use Rattle.atoi_lanes.specs.Lanes.{IsShortRun, itself, padded, padded_start, paired};
 
 use atoi_core::word_digits::{ZEROS, digits_of, fill_of_zeros};
-use atoi_core::word_loads::{load_8, load_high};
+use atoi_core::word_loads::{load_8, load_full, load_high, load_last};
 use std::simd::prelude::*;
 
 const LANES: usize = 16;
@@ -73,32 +73,29 @@ pub fn load_lanes(s: &[u8]) -> u8x16
 }
 
 // Returns the first 8 and the last 8 bytes.
-#[inline(always)]
 fn ends(s: &[u8]) -> u8x16
     requires { 8 ≤ length s.now }
     ensures { result ≡ take 8 s.now ++ drop (length s.now - 8) s.now }
 {
-    u64x2::from_array([load_8(s), load_8(&s[s.len() - 8..])]).to_le_bytes()
+    u64x2::from_array([load_full(s), load_last(s)]).to_le_bytes()
 }
 
 // Of `len` bytes, whose first 8 and last 8 are in the lanes of `v`: moves the first to the first lane.
-#[inline(always)]
 fn to_start(v: u8x16, len: usize) -> u8x16
     requires enough { 8 ≤ len }
     requires few { len < 16 }
     ensures { result ≡ take 8 v ++ (drop (24 - len) v ++ replicate (16 - len) 0) }
 {
-    v.swizzle_dyn_within::<16>(u8x16::from_array(TO_START[len - 8]))
+    v.swizzle_dyn_within::<16>(u8x16::from_slice(&TO_START[len - 8]))
 }
 
 // `to_start`, but moves the last to the last lane.
-#[inline(always)]
 fn to_end(v: u8x16, len: usize) -> u8x16
     requires enough { 8 ≤ len }
     requires few { len < 16 }
     ensures { result ≡ replicate (16 - len) 0 ++ (take (len - 8) v ++ drop 8 v) }
 {
-    v.swizzle_dyn_within::<16>(u8x16::from_array(TO_END[len - 8]))
+    v.swizzle_dyn_within::<16>(u8x16::from_slice(&TO_END[len - 8]))
 }
 
 // Returns the number that 8 to 15 bytes spell, if all are digits. It need not wait for their count.

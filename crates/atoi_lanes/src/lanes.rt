@@ -1,9 +1,11 @@
 //! The engine `Lanes`, which reads sixteen bytes at once into vector lanes.
-ghost use Rattle.std.specs.Prelude.{◌≡◌, ◌+◌, ◌≤◌, IfSome, length};
+ghost use Rattle.std.specs.Prelude.{◌≡◌, ◌+◌, ◌≤◌, IfSome, length, take};
 ghost use Rattle.std.proofs.Common.{arith};
 ghost use Rattle.std.proofs.lemmas.Bool.Decides.{nat_tests};
 ghost use Rattle.atoi_core.specs.Digit.{decimal_table};
 ghost use Rattle.atoi_core.specs.Reading.{window_of};
+ghost use Rattle.atoi_core.specs.Run.{run_len};
+ghost use Rattle.atoi_core.specs.Words.{word_of};
 ghost use Rattle.atoi_lanes.specs.Lanes.{lane_window};
 
 use crate::after_16::begins_with_digit;
@@ -13,7 +15,7 @@ use crate::kernels::{
 };
 use crate::wide_lanes::{prefix_64_lanes, prefix_128_lanes};
 use atoi_core::word_digits::{ZEROS, digits_of};
-use atoi_core::word_loads::load_8;
+use atoi_core::word_loads::load_full;
 use atoi_core::{AtoiSimdError, Engine, Steps, Window};
 use std::simd::prelude::*;
 
@@ -51,13 +53,12 @@ fn lane_window(lanes: u8x16, size: u32) -> Window
 
 // Returns the window of 16 bytes.
 #[inline(always)]
-#[tactic(auto, using(crate::proofs::lemmas::LaneWindows::window_of_lanes))]
 pub(crate) fn read_window(s: &[u8]) -> Window
     ensures { result ≡ window_of decimal_table 16 s.now }
 {
     // In this order, LLVM puts no jump before long slices.
     if s.len() >= 16 {
-        return lane_window(load_lanes(s), 16);
+        return read_lanes(s);
     }
     if s.len() < 8 {
         return match read_short(s) {
@@ -65,6 +66,15 @@ pub(crate) fn read_window(s: &[u8]) -> Window
             ShortRun::Part(len, number) => Window::not_full(len, number),
         };
     }
+    read_lanes(s)
+}
+
+// `read_window` by lanes for any number of bytes.
+#[inline(always)]
+#[tactic(auto, using(crate::proofs::lemmas::LaneWindows::window_of_lanes))]
+pub(crate) fn read_lanes(s: &[u8]) -> Window
+    ensures { result ≡ window_of decimal_table 16 s.now }
+{
     lane_window(load_lanes(s), 16)
 }
 
@@ -81,23 +91,20 @@ fn medium_window(s: &[u8]) -> Option<Window>
     Some(Window::not_full(s.len() as u32, number))
 }
 
-// `read_window` if there are fewer than 8 digits, otherwise `None`. A word shows sooner than lanes how
-// many.
+// `read_window` if there are `len` digits, at most 8, at the start of `word`.
 #[inline(always)]
-fn few_window(s: &[u8]) -> Option<Window>
-    requires { 8 ≤ length s.now }
-    ensures { IfSome result (λ window. window ≡ window_of decimal_table 16 s.now) }
+fn few_window(word: u64, len: u32, s: &[u8]) -> Window
+    requires enough { 8 ≤ length s.now }
+    requires loaded { word ≡ word_of (take 8 s.now) }
+    requires few { len ≤ 8 }
+    requires run { len ≡ run_len decimal_table s.now }
+    ensures { result ≡ window_of decimal_table 16 s.now }
 {
-    let word = load_8(s);
-    let len = digits_of(word);
-    if len == 8 {
-        return None;
-    }
     if len == 0 {
-        return Some(Window::not_full(0, 0));
+        return Window::not_full(0, 0);
     }
     let digit_values = half(word.wrapping_sub(ZEROS) << (64 - 8 * len));
-    Some(Window::not_full(len, number_in_half(digit_values)))
+    Window::not_full(len, number_in_half(digit_values))
 }
 
 impl Engine for Lanes {
@@ -143,8 +150,11 @@ impl Engine for Lanes {
     fn narrow_window(s: &[u8], steps: &mut Steps) -> Window {
         steps.tick();
         if s.len() >= 16 {
-            if let Some(window) = few_window(s) {
-                return window;
+            // A word shows sooner than lanes how many digits there are.
+            let word = load_full(s);
+            let len = digits_of(word);
+            if len < 8 || !begins_with_digit(&s[8..]) {
+                return few_window(word, len, s);
             }
         }
         read_window(s)

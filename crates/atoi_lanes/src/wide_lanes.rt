@@ -9,7 +9,7 @@ ghost use Rattle.atoi_lanes.specs.Lanes.{ReadsAfterZeros};
 
 use crate::after_16::{answer_to_end, last_four, prefix_64_after_16};
 use crate::kernels::{ShortRun, load_lanes, others, read_medium, read_short, sum_lanes};
-use crate::lanes::{Lanes, read_window};
+use crate::lanes::{Lanes, read_lanes};
 use crate::window_32::{Window32, window_32};
 use atoi_core::powers::append_digits;
 use atoi_core::wide_answer::{answer_64, answer_128, found_or_empty};
@@ -90,7 +90,7 @@ fn prefix_64_short<'a>(s: &'a [u8], steps: &mut Steps) -> Result<(u64, usize), A
         if let Some(number) = read_medium(s) {
             return Ok((number, s.len()));
         }
-        let only = read_window(s);
+        let only = read_lanes(s);
         return found_or_empty(only.number, only.len as usize);
     }
     match read_short(s) {

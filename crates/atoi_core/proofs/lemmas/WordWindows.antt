@@ -53,6 +53,13 @@ window_short s len number len_is short number_is =
     let more : run_len decimal_table (take 16 s) ≡ min 16 (run_len decimal_table s) = prefix_len-take (is_digit decimal_table) 16 s in
     window_from 16 s len 0 number (omega arith) (sym (reported_none len 16 (zeros decimal_table (take 16 s)) (omega arith))) number_is
 
+-- The window of 16 bytes in which the run ends.
+pub window_ended : (s : List ℕ) (len number : ℕ) → len ≡ run_len decimal_table s → len < 16 → number ≡ value decimal_table (take len s)
+    → ◌≡◌ {A = Window} (record { len = len; zeroes = 0; number = number }) (window_of decimal_table 16 s)
+window_ended s len number len_is short number_is =
+    let more : run_len decimal_table (take 16 s) ≡ min 16 (run_len decimal_table s) = prefix_len-take (is_digit decimal_table) 16 s in
+    window_from 16 s len 0 number (omega arith) (sym (reported_none len 16 (zeros decimal_table (take 16 s)) (omega arith))) number_is
+
 -- Below eight bytes, both windows are the same.
 pub few_in_both : (s : List ℕ) → length s < 8 → window_of decimal_table 16 s ≡ window_of decimal_table 8 s
 few_in_both s few = search (arith, prefix_len-le-length, take_all, ne_eqb)

@@ -41,6 +41,17 @@ impl Engine for Words {
         read_window::<true>(s)
     }
 
+    // The kit inlines no provided method.
+    #[inline(always)]
+    fn next_window(s: &[u8], steps: &mut Steps) -> Option<Window> {
+        Some(Words::window(s, steps))
+    }
+
+    #[inline(always)]
+    fn narrow_window(s: &[u8], steps: &mut Steps) -> Window {
+        Words::window(s, steps)
+    }
+
     #[inline(always)]
     fn window_8(s: &[u8], steps: &mut Steps) -> Window {
         steps.tick();

@@ -99,9 +99,9 @@ pub fn load_last_four(s: &[u8]) -> u32
     }
 }
 
-// `load_8` without code for shorter slices, which would enlarge each function that reads a window.
+/// `load_8` without code for shorter slices, which would enlarge each function that reads a window.
 #[tactic(auto, using(crate::proofs::lemmas::LoadedWords::word_of_first))]
-pub(crate) fn load_full(s: &[u8]) -> u64
+pub fn load_full(s: &[u8]) -> u64
     requires { 8 ≤ length s.now }
     ensures { result ≡ word_of (take 8 s.now) }
 {
@@ -111,9 +111,9 @@ pub(crate) fn load_full(s: &[u8]) -> u64
     }
 }
 
-// The word of the last 8 bytes.
+/// Returns the word of the last 8 bytes.
 #[tactic(auto, using(crate::proofs::lemmas::LoadedWords::word_of_last))]
-pub(crate) fn load_last(s: &[u8]) -> u64
+pub fn load_last(s: &[u8]) -> u64
     requires { 8 ≤ length s.now }
     ensures { result ≡ word_of (drop (length s.now - 8) s.now) }
 {

@@ -1,5 +1,5 @@
 -- Slices of 8 to 15 bytes, from their first eight and their last eight bytes.
-use Rattle.std.proofs.Common.{◌≡◌, ℕ, zero, suc, ◌+◌, ◌-◌, ◌*◌, ◌^◌, ◌<◌, ◌≤◌, List, [], ◌∷◌, ◌++◌, map, length, take, drop, replicate, get_or, refl, sym, ap, ap₂, subst, ◌∙◌, arith, w8}
+use Rattle.std.proofs.Common.{◌≡◌, ℕ, zero, suc, ◌+◌, ◌-◌, ◌*◌, ◌^◌, ◌<◌, ◌≤◌, List, [], ◌∷◌, ◌++◌, map, length, take, drop, replicate, get_or, refl, sym, ap, ap₂, subst, ◌∙◌, arith, rules, w8}
 use Rattle.std.specs.List.{range_with_len}
 use Rattle.std.proofs.Math.Nat.{mul_assoc, mul_comm, pow-zero, pow-suc}
 use Rattle.std.proofs.lemmas.Bool.Decides.{nat_tests}
@@ -7,7 +7,7 @@ use Rattle.std.proofs.lemmas.List.{append_assoc, drop_at, drop-drop, drop-map, l
 use Rattle.std.proofs.Math.Seq.{take-append-add}
 use Rattle.std.proofs.lemmas.List.Folds.{prefix_len-append}
 use Rattle.std.proofs.lemmas.List.Sums.{prefix_len-le-length}
-use Rattle.std.proofs.lemmas.Simd.{Each1-chunk, pick_l_whole, swz_l, zip2_splat}
+use Rattle.std.proofs.lemmas.Simd.{Each1-chunk, Each1-get_or, SwzOk, pick_l_whole, swz_l, zip2_splat}
 use Rattle.atoi_core.specs.Digit.{decimal_table, is_digit}
 use Rattle.atoi_core.specs.Run.{run_len, value}
 use Rattle.atoi_core.specs.Words.{word_of}
@@ -22,8 +22,8 @@ use lib.Lanes.{Each1, digits_l, number_l, zip2}
 -- The lanes that a row of each table selects, by k bytes more than eight.
 abbrev Selected : ℕ → List ℕ → Type 0
 Selected k v =
-    (swz_l w8 16 v 0 (get_or TO_START k []) ≡ take 8 v ++ (drop (16 - k) v ++ replicate (8 - k) 0))
-    × (swz_l w8 16 v 0 (get_or TO_END k []) ≡ replicate (8 - k) 0 ++ (take k v ++ drop 8 v))
+    (swz_l w8 16 v 0 (take 16 (get_or TO_START k [])) ≡ take 8 v ++ (drop (16 - k) v ++ replicate (8 - k) 0))
+    × (swz_l w8 16 v 0 (take 16 (get_or TO_END k [])) ≡ replicate (8 - k) 0 ++ (take k v ++ drop 8 v))
 
 selected_16 : (f : ℕ → ℕ) (k : ℕ) → k < 8 → Selected k (map f (range_with_len 0 16))
 selected_16 f zero few = (refl, refl)
@@ -40,17 +40,24 @@ selected : (v : List ℕ) (len : ℕ) → length v ≡ 16 → len < 16 → Selec
 selected v len long few = subst (Selected (len - 8)) (pick_l_whole 0 v 16 long) (selected_16 (λ i. get_or v i 0) (len - 8) (omega arith))
 
 pub selected_start : (v : List ℕ) (len : ℕ) → length v ≡ 16 → 8 ≤ len → len < 16
-    → swz_l w8 16 v 0 (get_or TO_START (len - 8) []) ≡ take 8 v ++ (drop (24 - len) v ++ replicate (16 - len) 0)
+    → swz_l w8 16 v 0 (take 16 (get_or TO_START (len - 8) [])) ≡ take 8 v ++ (drop (24 - len) v ++ replicate (16 - len) 0)
 selected_start v len long enough few =
     let from : 24 - len ≡ 16 - (len - 8) = omega arith in
     let left : 16 - len ≡ 8 - (len - 8) = omega arith in
     rw (from, left) (selected v len long few).0
 
 pub selected_end : (v : List ℕ) (len : ℕ) → length v ≡ 16 → 8 ≤ len → len < 16
-    → swz_l w8 16 v 0 (get_or TO_END (len - 8) []) ≡ replicate (16 - len) 0 ++ (take (len - 8) v ++ drop 8 v)
+    → swz_l w8 16 v 0 (take 16 (get_or TO_END (len - 8) [])) ≡ replicate (16 - len) 0 ++ (take (len - 8) v ++ drop 8 v)
 selected_end v len long enough few =
     let left : 16 - len ≡ 8 - (len - 8) = omega arith in
     rw left (selected v len long few).1
+
+-- Each row selects lanes, or 0.
+pub start_ok : (len : ℕ) → 8 ≤ len → len < 16 → SwzOk w8 16 16 0 (take 16 (get_or TO_START (len - 8) []))
+start_ok len enough few = Each1-get_or (λ row. SwzOk w8 16 16 0 (take 16 row)) TO_START (len - 8) [] (omega arith) (search rules)
+
+pub end_ok : (len : ℕ) → 8 ≤ len → len < 16 → SwzOk w8 16 16 0 (take 16 (get_or TO_END (len - 8) []))
+end_ok len enough few = Each1-get_or (λ row. SwzOk w8 16 16 0 (take 16 row)) TO_END (len - 8) [] (omega arith) (search rules)
 
 -- The first eight and the last eight bytes.
 abbrev ends : List ℕ → List ℕ
@@ -78,14 +85,14 @@ module _ (s : List ℕ) (enough : 8 ≤ length s) where
   length-ends = length-append (take 8 s) (drop (length s - 8) s) ∙ omega (arith, front, back)
 
   -- They are the lanes of their words.
-  pub lanes-of_ends : ((i : ℕ) → get_or s i 0 < 256) → (first last : ℕ) → first ≡ word_of (take 8 s) → last ≡ word_of (take 8 (drop (length s - 8) s))
+  pub lanes-of_ends : ((i : ℕ) → get_or s i 0 < 256) → (first last : ℕ) → first ≡ word_of (take 8 s) → last ≡ word_of (drop (length s - 8) s)
       → digits_l 256 16 (number_l (2 ^ 64) (first ∷ last ∷ [])) ≡ ends s
   unfolding word_of
   lanes-of_ends fits first last is last_is =
       let all = take_all 8 (drop (length s - 8) s) (omega (arith, back)) in
       let size = ap (λ n. 256 ^ n) front in
       let both : number_l (2 ^ 64) (first ∷ last ∷ []) ≡ number_l 256 (ends s) =
-      omega (arith, word-append (take 8 s) (drop (length s - 8) s), ap (λ p. p * number_l 256 (drop (length s - 8) s)) size, is, last_is ∙ ap (number_l 256) all) in
+      omega (arith, word-append (take 8 s) (drop (length s - 8) s), ap (λ p. p * number_l 256 (drop (length s - 8) s)) size, is, last_is) in
       let each = bytes s fits in
       ap (digits_l 256 16) both
       ∙ lanes-of_bytes 16 (ends s) (each-append _ _ (Each1-chunk _ 0 8 s each) (subst (Each1 (λ x. x < 256)) all (Each1-chunk _ (length s - 8) 8 s each))) (omega (arith, length-ends))
