@@ -19,17 +19,6 @@ macro_rules! give {
 
 pub(crate) use give;
 
-/// Checks that the root of `atoi_simd` and its module `lanes` returned `expected`.
-pub(crate) fn both_give<A: Copy + Debug + PartialEq>(
-    rt: &impl Abort,
-    root: A,
-    lanes: A,
-    expected: A,
-) {
-    assert_eq!(rt; root, expected, "of the root");
-    assert_eq!(rt; lanes, expected, "of lanes");
-}
-
 /// Checks that a call over each of the three engines returned `expected`.
 pub(crate) fn each_gives<A: Copy + Debug + PartialEq>(
     rt: &impl Abort,

@@ -2,8 +2,10 @@
 
 use crate::checks::{gives, printed};
 use atoi_column::{Column, ColumnError, is_separator};
-use atoi_simd::AtoiSimdError;
+use atoi_simd::{AtoiSimdError, Parse};
 use std::alloc::{AllocError, Global};
+use std::fmt::Debug;
+use std::process::Abort;
 use std::test::Fail;
 
 // The item for a field at the offset `place` that begins with no number.
@@ -14,6 +16,21 @@ fn empty<'a>(index: usize, place: usize) -> Result<u8, ColumnError<'a>> {
         place,
         cause,
     })
+}
+
+// Checks that these items are left, and that none follows them.
+fn check_items<T: Parse + Debug + PartialEq>(
+    rt: &impl Abort,
+    column: Column<'_, T>,
+    items: &[Result<T, ColumnError<'_>>],
+) {
+    let mut column = column;
+    for item in items {
+        let found = column.next();
+        gives(rt, found.as_ref(), Some(item));
+    }
+    gives(rt, column.next(), None);
+    gives(rt, column.next(), None);
 }
 
 #[test]
@@ -28,37 +45,30 @@ fn digits_and_signs_separate_nothing(rt: HostRuntime) {
 
 #[test]
 fn a_last_field_may_lack_its_separator(rt: HostRuntime) {
-    let mut column = Column::<u8>::new(b"1\n2\n", b'\n');
-    gives(&rt, column.next(), Some(Ok(1)));
-    gives(&rt, column.next(), Some(Ok(2)));
-    gives(&rt, column.next(), None);
-    gives(&rt, column.next(), None);
-    let mut column = Column::<u8>::new(b"1\n2", b'\n');
-    gives(&rt, column.nth(1), Some(Ok(2)));
-    gives(&rt, column.next(), None);
-    gives(&rt, Column::<u8>::new(b"", b'\n').next(), None);
+    check_items(&rt, Column::<u8>::new(b"1\n2\n", b'\n'), &[Ok(1), Ok(2)]);
+    check_items(&rt, Column::<u8>::new(b"1\n2", b'\n'), &[Ok(1), Ok(2)]);
+    check_items(&rt, Column::<u8>::new(b"", b'\n'), &[]);
 }
 
 #[test]
 fn an_empty_field_is_refused_and_ends_the_column(rt: HostRuntime) {
-    let mut column = Column::<u8>::new(b"1\n\n2", b'\n');
-    gives(&rt, column.next(), Some(Ok(1)));
-    gives(&rt, column.next(), Some(empty(1, 2)));
-    gives(&rt, column.next(), None);
-    gives(&rt, column.next(), None);
+    check_items(
+        &rt,
+        Column::<u8>::new(b"1\n\n2", b'\n'),
+        &[Ok(1), empty(1, 2)],
+    );
 }
 
 #[test]
 fn a_byte_after_a_number_is_reported_by_its_offset(rt: HostRuntime) {
-    let mut column = Column::<u8>::new(b"12a\n", b'\n');
     let trailing = ColumnError::Trailing { index: 0, place: 2 };
-    gives(&rt, column.next(), Some(Err(trailing)));
-    gives(&rt, column.next(), None);
-    let mut column = Column::<i8>::new(b"-128,12a", b',');
+    check_items(&rt, Column::<u8>::new(b"12a\n", b'\n'), &[Err(trailing)]);
     let trailing = ColumnError::Trailing { index: 1, place: 7 };
-    gives(&rt, column.next(), Some(Ok(-128)));
-    gives(&rt, column.next(), Some(Err(trailing)));
-    gives(&rt, column.next(), None);
+    check_items(
+        &rt,
+        Column::<i8>::new(b"-128,12a", b','),
+        &[Ok(-128), Err(trailing)],
+    );
 }
 
 #[test]
@@ -113,16 +123,13 @@ fn an_error_prints_what_is_wrong_and_where(rt: HostRuntime) -> Result<(), Fail> 
 
 #[test]
 fn the_slice_of_a_cause_reaches_to_the_end(rt: HostRuntime) {
-    let input = b"256,1";
-    let mut column = Column::<u8>::new(input, b',');
-    let cause = AtoiSimdError::Overflow(input);
+    let cause = AtoiSimdError::Overflow(b"256,1");
     let refused = ColumnError::Field {
         index: 0,
         place: 0,
         cause,
     };
-    gives(&rt, column.next(), Some(Err(refused)));
-    gives(&rt, column.next(), None);
+    check_items(&rt, Column::<u8>::new(b"256,1", b','), &[Err(refused)]);
 }
 
 fn sum(column: Column<'_, u8>) -> u64 {
@@ -171,8 +178,7 @@ fn a_million_fields_and_a_bad_last_one(rt: HostRuntime) -> Result<(), Fail> {
 #[test]
 fn a_field_of_a_million_zeros(rt: HostRuntime) -> Result<(), Fail> {
     let input = vec![in rt.alloc(); b'0'; 1_000_000]?;
-    let mut column = Column::<u8>::new(&input, b',');
-    gives(&rt, column.next(), Some(Ok(0)));
-    gives(&rt, column.next(), None);
+    let column = Column::<u8>::new(&input, b',');
+    check_items(&rt, column, &[Ok(0)]);
     Ok(())
 }

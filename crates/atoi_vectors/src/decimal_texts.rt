@@ -1,25 +1,16 @@
 //! Every `u8` and every `i8`: `parse` returns the value of the text that std prints for it.
 
-use crate::checks::both_give;
-use atoi_simd::{lanes, parse};
+use crate::both::{self, Integer};
+use crate::checks::gives;
 use std::alloc::AllocError;
-use std::fmt::Debug;
 use std::process::Abort;
 
-// Checks that `parse` of the root and of `lanes` returns the value, whatever the flags.
-fn check<T: atoi_simd::Parse + lanes::Parse + Debug + PartialEq>(
-    rt: &impl Abort,
-    text: &[u8],
-    value: T,
-) {
-    let root = parse::<T, false, false>(text);
-    both_give(rt, root, lanes::parse::<T, false, false>(text), Ok(value));
-    let root = parse::<T, false, true>(text);
-    both_give(rt, root, lanes::parse::<T, false, true>(text), Ok(value));
-    let root = parse::<T, true, false>(text);
-    both_give(rt, root, lanes::parse::<T, true, false>(text), Ok(value));
-    let root = parse::<T, true, true>(text);
-    both_give(rt, root, lanes::parse::<T, true, true>(text), Ok(value));
+// Checks that `parse` returns the value, whatever the flags.
+fn check<T: Integer>(rt: &impl Abort, text: &[u8], value: T) {
+    gives(rt, both::parse::<T, false, false>(rt, text), Ok(value));
+    gives(rt, both::parse::<T, false, true>(rt, text), Ok(value));
+    gives(rt, both::parse::<T, true, false>(rt, text), Ok(value));
+    gives(rt, both::parse::<T, true, true>(rt, text), Ok(value));
 }
 
 #[test]

@@ -2,7 +2,11 @@
 
 use crate::checks::{gives, printed};
 use atoi_column::{FieldError, Fields};
-use atoi_simd::AtoiSimdError;
+use atoi_simd::AtoiSimdError::{Empty, Invalid64, Invalid128, Overflow, Size};
+use atoi_simd::{AtoiSimdError, Parse};
+use std::fmt::Debug;
+use std::process::Abort;
+use std::str::FromStr;
 use std::test::Fail;
 
 // The item of a field that is not a number.
@@ -11,62 +15,72 @@ fn bad<'a, T>(
     place: usize,
     text: &'a [u8],
     cause: AtoiSimdError<'a>,
-) -> Option<Result<T, FieldError<'a>>> {
-    Some(Err(FieldError {
+) -> Result<T, FieldError<'a>> {
+    Err(FieldError {
         index,
         place,
         text,
         cause,
-    }))
+    })
+}
+
+// Checks that these items are left, and that none follows them.
+fn check_items<T: Parse + Debug + PartialEq>(
+    rt: &impl Abort,
+    fields: Fields<'_, T>,
+    items: &[Result<T, FieldError<'_>>],
+) {
+    let mut fields = fields;
+    for item in items {
+        let found = fields.next();
+        gives(rt, found.as_ref(), Some(item));
+    }
+    gives(rt, fields.next(), None);
+    gives(rt, fields.next(), None);
 }
 
 #[test]
 fn a_bad_field_does_not_end_the_fields(rt: HostRuntime) {
-    let mut fields = Fields::<u8>::new(b"1,,256,2x,-3,+003", b',');
-    gives(&rt, fields.next(), Some(Ok(1)));
-    gives(&rt, fields.next(), bad(1, 2, b"", AtoiSimdError::Empty));
-    let overflow = AtoiSimdError::Overflow(b"256");
-    gives(&rt, fields.next(), bad(2, 3, b"256", overflow));
-    let invalid = AtoiSimdError::Invalid64(2, 1, b"2x");
-    gives(&rt, fields.next(), bad(3, 7, b"2x", invalid));
-    gives(&rt, fields.next(), bad(4, 10, b"-3", AtoiSimdError::Empty));
-    gives(&rt, fields.next(), Some(Ok(3)));
-    gives(&rt, fields.next(), None);
-    gives(&rt, fields.next(), None);
+    let items = [
+        Ok(1),
+        bad(1, 2, b"", Empty),
+        bad(2, 3, b"256", Overflow(b"256")),
+        bad(3, 7, b"2x", Invalid64(2, 1, b"2x")),
+        bad(4, 10, b"-3", Empty),
+        Ok(3),
+    ];
+    let fields = Fields::<u8>::new(b"1,,256,2x,-3,+003", b',');
+    check_items(&rt, fields, &items);
 }
 
 #[test]
 fn a_last_field_may_lack_its_separator(rt: HostRuntime) {
-    let mut fields = Fields::<i64>::new(b"x;-2;", b';');
-    let cause = AtoiSimdError::Empty;
-    gives(&rt, fields.next(), bad(0, 0, b"x", cause));
-    gives(&rt, fields.next(), Some(Ok(-2)));
-    gives(&rt, fields.next(), None);
-    let mut fields = Fields::<i64>::new(b"-2;x", b';');
-    gives(&rt, fields.next(), Some(Ok(-2)));
-    gives(&rt, fields.next(), bad(1, 3, b"x", cause));
-    gives(&rt, fields.next(), None);
-    gives(&rt, Fields::<i64>::new(b"", b';').next(), None);
-    let mut fields = Fields::<i64>::new(b";", b';');
-    gives(&rt, fields.next(), bad(0, 0, b"", cause));
-    gives(&rt, fields.next(), None);
+    let items = [bad(0, 0, b"x", Empty), Ok(-2)];
+    check_items(&rt, Fields::<i64>::new(b"x;-2;", b';'), &items);
+    let items = [Ok(-2), bad(1, 3, b"x", Empty)];
+    check_items(&rt, Fields::<i64>::new(b"-2;x", b';'), &items);
+    check_items(&rt, Fields::<i64>::new(b"", b';'), &[]);
+    let items = [bad(0, 0, b"", Empty)];
+    check_items(&rt, Fields::<i64>::new(b";", b';'), &items);
 }
 
 #[test]
 fn a_line_loses_one_carriage_return_before_its_line_feed(rt: HostRuntime) {
-    let mut lines = Fields::<i16>::lines(b"1\r\n-2\n3\r\r\n\r\n4\r");
-    gives(&rt, lines.next(), Some(Ok(1)));
-    gives(&rt, lines.next(), Some(Ok(-2)));
-    let invalid = AtoiSimdError::Invalid64(3, 1, b"3\r");
-    gives(&rt, lines.next(), bad(2, 6, b"3\r", invalid));
-    gives(&rt, lines.next(), bad(3, 10, b"", AtoiSimdError::Empty));
-    let invalid = AtoiSimdError::Invalid64(4, 1, b"4\r");
-    gives(&rt, lines.next(), bad(4, 12, b"4\r", invalid));
-    gives(&rt, lines.next(), None);
+    let items = [
+        Ok(1),
+        Ok(-2),
+        bad(2, 6, b"3\r", Invalid64(3, 1, b"3\r")),
+        bad(3, 10, b"", Empty),
+        bad(4, 12, b"4\r", Invalid64(4, 1, b"4\r")),
+    ];
+    check_items(
+        &rt,
+        Fields::<i16>::lines(b"1\r\n-2\n3\r\r\n\r\n4\r"),
+        &items,
+    );
     // Between other separators, a carriage return is a byte as any.
-    let mut fields = Fields::<i16>::new(b"1\r\n", b'\n');
-    let invalid = AtoiSimdError::Invalid64(1, 1, b"1\r");
-    gives(&rt, fields.next(), bad(0, 0, b"1\r", invalid));
+    let items = [bad(0, 0, b"1\r", Invalid64(1, 1, b"1\r"))];
+    check_items(&rt, Fields::<i16>::new(b"1\r\n", b'\n'), &items);
 }
 
 #[test]
@@ -95,7 +109,7 @@ fn an_error_of_any_size_prints(rt: HostRuntime) -> Result<(), Fail> {
         index: usize::MAX,
         place: usize::MAX,
         text: b"2x",
-        cause: AtoiSimdError::Invalid128(u128::MAX, usize::MAX, b"2xy"),
+        cause: Invalid128(u128::MAX, usize::MAX, b"2xy"),
     };
     gives(
         &rt,
@@ -104,7 +118,7 @@ fn an_error_of_any_size_prints(rt: HostRuntime) -> Result<(), Fail> {
     );
     let size = FieldError {
         index: 1,
-        cause: AtoiSimdError::Size(20, b"2x"),
+        cause: Size(20, b"2x"),
         ..error
     };
     gives(
@@ -117,26 +131,32 @@ fn an_error_of_any_size_prints(rt: HostRuntime) -> Result<(), Fail> {
     Ok(())
 }
 
+// Checks the next item, and the position after it.
+fn check_next(
+    rt: &impl Abort,
+    fields: &mut Fields<'_, u8>,
+    item: Option<Result<u8, FieldError<'_>>>,
+    position: (usize, usize),
+) {
+    gives(rt, fields.next(), item);
+    gives(rt, Fields::position(fields), position);
+}
+
 #[test]
 fn a_piece_starts_where_the_last_one_ended(rt: HostRuntime) {
     let mut fields = Fields::<u8>::new(b"1,22,x", b',');
     gives(&rt, fields.position(), (0, 0));
-    gives(&rt, fields.next(), Some(Ok(1)));
-    gives(&rt, fields.position(), (1, 2));
-    gives(&rt, fields.nth(1), bad(2, 5, b"x", AtoiSimdError::Empty));
+    check_next(&rt, &mut fields, Some(Ok(1)), (1, 2));
+    gives(&rt, fields.nth(1), Some(bad(2, 5, b"x", Empty)));
     gives(&rt, fields.position(), (3, 6));
-    gives(&rt, fields.next(), None);
-    gives(&rt, fields.position(), (3, 6));
+    check_next(&rt, &mut fields, None, (3, 6));
 
     let mut lines = Fields::<u8>::lines(b"80\r\n").starting_at(7, 100);
-    gives(&rt, lines.next(), Some(Ok(80)));
-    let (index, place) = lines.position();
-    gives(&rt, (index, place), (8, 104));
+    check_next(&rt, &mut lines, Some(Ok(80)), (8, 104));
     let mut lines = Fields::<u8>::lines(b"x\r\n443\r\n").starting_at(8, 104);
-    gives(&rt, lines.next(), bad(8, 104, b"x", AtoiSimdError::Empty));
-    let overflow = AtoiSimdError::Overflow(b"443");
-    gives(&rt, lines.next(), bad(9, 107, b"443", overflow));
-    gives(&rt, lines.position(), (10, 112));
+    check_next(&rt, &mut lines, Some(bad(8, 104, b"x", Empty)), (9, 107));
+    let overflow = bad(9, 107, b"443", Overflow(b"443"));
+    check_next(&rt, &mut lines, Some(overflow), (10, 112));
 }
 
 const INPUTS: [&str; 12] = [
@@ -154,53 +174,59 @@ const INPUTS: [&str; 12] = [
     "\u{661}\n\u{ff11}\r\n",
 ];
 
-// Compares items with the texts that the standard library finds, and with what it parses them as.
-macro_rules! same_as_std {
-    ($rt:expr, $integer:ty, $items:expr, $texts:expr) => {
-        let mut items = $items;
-        for text in $texts {
-            match (items.next(), text.parse::<$integer>()) {
-                (Some(Ok(value)), Ok(expected)) => gives($rt, value, expected),
-                (Some(Err(error)), Err(_)) => gives($rt, error.text, text.as_bytes()),
-                _ => gives($rt, text, "one error, or none"),
-            }
-        }
-        gives($rt, items.next(), None);
-    };
+// Compares an item with what the standard library parses the text of its field as.
+fn check_item<T: FromStr + Parse + Debug + PartialEq>(
+    rt: &impl Abort,
+    item: Option<Result<T, FieldError<'_>>>,
+    text: &str,
+)
+where
+    T::Err: Drop,
+{
+    match (item, text.parse::<T>().ok()) {
+        (Some(Ok(value)), Some(expected)) => gives(rt, value, expected),
+        (Some(Err(error)), None) => gives(rt, error.text, text.as_bytes()),
+        _ => gives(rt, text, "one error, or none"),
+    }
+}
+
+fn check_fields<T: FromStr + Parse + Debug + PartialEq>(rt: &impl Abort, input: &str)
+where
+    T::Err: Drop,
+{
+    let mut fields = Fields::<T>::new(input.as_bytes(), b'\n');
+    for text in input.split_terminator('\n') {
+        check_item(rt, fields.next(), text);
+    }
+    gives(rt, fields.next(), None);
+}
+
+fn check_lines<T: FromStr + Parse + Debug + PartialEq>(rt: &impl Abort, input: &str)
+where
+    T::Err: Drop,
+{
+    let mut lines = Fields::<T>::lines(input.as_bytes());
+    for text in input.lines() {
+        check_item(rt, lines.next(), text);
+    }
+    gives(rt, lines.next(), None);
 }
 
 #[test]
 fn fields_are_those_of_the_standard_library(rt: HostRuntime) {
     for input in INPUTS {
-        let bytes = input.as_bytes();
-        same_as_std!(
-            &rt,
-            u8,
-            Fields::<u8>::new(bytes, b'\n'),
-            input.split_terminator('\n')
-        );
-        same_as_std!(
-            &rt,
-            i16,
-            Fields::<i16>::new(bytes, b'\n'),
-            input.split_terminator('\n')
-        );
-        same_as_std!(
-            &rt,
-            u64,
-            Fields::<u64>::new(bytes, b'\n'),
-            input.split_terminator('\n')
-        );
+        check_fields::<u8>(&rt, input);
+        check_fields::<i16>(&rt, input);
+        check_fields::<u64>(&rt, input);
     }
 }
 
 #[test]
 fn lines_are_those_of_the_standard_library(rt: HostRuntime) {
     for input in INPUTS {
-        let bytes = input.as_bytes();
-        same_as_std!(&rt, i8, Fields::<i8>::lines(bytes), input.lines());
-        same_as_std!(&rt, u32, Fields::<u32>::lines(bytes), input.lines());
-        same_as_std!(&rt, i128, Fields::<i128>::lines(bytes), input.lines());
+        check_lines::<i8>(&rt, input);
+        check_lines::<u32>(&rt, input);
+        check_lines::<i128>(&rt, input);
     }
 }
 
@@ -213,7 +239,7 @@ fn each_bad_field_of_a_long_input_is_found(rt: HostRuntime) -> Result<(), Fail> 
     let fields = || Fields::<u8>::new(&input, b',');
     gives(&rt, fields().count(), 200_000);
     gives(&rt, fields().filter(|item| *item == Ok(7)).count(), 100_000);
-    let last = bad(199_999, 399_998, b"x", AtoiSimdError::Empty);
+    let last = Some(bad(199_999, 399_998, b"x", Empty));
     gives(&rt, fields().nth(199_999), last);
     Ok(())
 }

@@ -1,68 +1,18 @@
-//! Calls and their results, which README.md and the pages CALLING.md show.
+//! Calls of columns and loops over numbers, as README.md and the pages CALLING.md show them.
 
+use crate::checks::gives;
 use atoi_column::{Column, ColumnError, FieldError, Fields, is_separator};
-use atoi_simd::{
-    AtoiSimdError, parse, parse_neg, parse_pos, parse_prefix, parse_prefix_neg, parse_prefix_pos,
-};
+use atoi_simd::{AtoiSimdError, parse};
 use std::alloc::{AllocError, Global};
 use std::test::Fail;
 
 #[test]
-fn first_calls(rt: HostRuntime) {
-    assert_eq!(rt; parse::<u16, false, false>(b"8080"), Ok(8080));
-    assert_eq!(rt; parse_prefix::<i32, true, true>(b"+0042,7"), Ok((42, 5)));
-    assert_eq!(rt; parse::<i8, false, false>(b"-128"), Ok(-128));
-    assert_eq!(rt;
-        parse::<u8, false, false>(b"256x"),
-        Err(AtoiSimdError::Overflow(b"256x"))
-    );
-}
-
-#[test]
-fn the_six_functions(rt: HostRuntime) {
-    assert_eq!(rt; parse::<i64, false, false>(b"-2345"), Ok(-2345));
-    assert_eq!(rt; parse_pos::<u128, true>(b"0012"), Ok(12));
-    assert_eq!(rt; parse_neg::<i8, false>(b"128"), Ok(-128));
-    assert_eq!(rt;
-        parse_prefix::<u64, false, false>(b"123something_else"),
-        Ok((123, 3))
-    );
-    assert_eq!(rt; parse_prefix_pos::<u16, false>(b"80/tcp"), Ok((80, 2)));
-    assert_eq!(rt; parse_prefix_neg::<i32, false>(b"12a"), Ok((-12, 2)));
-}
-
-#[test]
-fn errors_of_a_parse(rt: HostRuntime) {
-    // No digit at the start: SKIP_PLUS is off, so the `+` is not accepted.
-    assert_eq!(rt; parse::<i8, false, false>(b"+5"), Err(AtoiSimdError::Empty));
-    // Too many digits: without SKIP_ZEROES, leading zeros count towards the limit.
-    assert_eq!(rt;
-        parse::<i64, false, false>(b"09223372036854775807"),
-        Err(AtoiSimdError::Size(20, b"09223372036854775807"))
-    );
-    // Out of range. The first slice leaves out the skipped zeros. With one zero fewer, it keeps them.
-    assert_eq!(rt;
-        parse_prefix::<u8, true, false>(b"0000000000000999x"),
-        Err(AtoiSimdError::Overflow(b"999x"))
-    );
-    assert_eq!(rt;
-        parse_prefix::<u8, true, false>(b"000000000000999x"),
-        Err(AtoiSimdError::Overflow(b"000000000000999x"))
-    );
-    // Another byte follows the digits, at index 7. The value of the digits is 12.
-    assert_eq!(rt;
-        parse::<u128, true, false>(b"0000012x"),
-        Err(AtoiSimdError::Invalid128(12, 7, b"0000012x"))
-    );
-}
-
-#[test]
 fn items_of_a_column(rt: HostRuntime) {
     let mut column = Column::<u8>::new(b"1,002,+3,", b',');
-    assert_eq!(rt; column.next(), Some(Ok(1)));
-    assert_eq!(rt; column.next(), Some(Ok(2)));
-    assert_eq!(rt; column.next(), Some(Ok(3)));
-    assert_eq!(rt; column.next(), None);
+    gives(&rt, column.next(), Some(Ok(1)));
+    gives(&rt, column.next(), Some(Ok(2)));
+    gives(&rt, column.next(), Some(Ok(3)));
+    gives(&rt, column.next(), None);
 }
 
 #[test]
@@ -74,52 +24,57 @@ fn items_of_fields(rt: HostRuntime) {
         text: b"x2",
         cause: AtoiSimdError::Empty,
     };
-    assert_eq!(rt; fields.next(), Some(Ok(1)));
-    assert_eq!(rt; fields.next(), Some(Err(error)));
-    assert_eq!(rt; fields.next(), Some(Ok(3)));
-    assert_eq!(rt; fields.next(), None);
+    gives(&rt, fields.next(), Some(Ok(1)));
+    gives(&rt, fields.next(), Some(Err(error)));
+    gives(&rt, fields.next(), Some(Ok(3)));
+    gives(&rt, fields.next(), None);
 }
 
 #[test]
 fn errors_of_a_column(rt: HostRuntime) {
     // The second field is empty.
     let cause = AtoiSimdError::Empty;
-    assert_eq!(rt;
+    gives(
+        &rt,
         Column::<u8>::new(b"1,,2", b',').nth(1),
         Some(Err(ColumnError::Field {
             index: 1,
             place: 2,
             cause,
-        }))
+        })),
     );
     // A space is not part of a number, and a column does not skip spaces.
-    assert_eq!(rt;
+    gives(
+        &rt,
         Column::<u8>::new(b"1, 2", b',').nth(1),
         Some(Err(ColumnError::Field {
             index: 1,
             place: 2,
             cause,
-        }))
+        })),
     );
     // Another byte follows the number.
-    assert_eq!(rt;
+    gives(
+        &rt,
         Column::<u8>::new(b"12a,3", b',').next(),
-        Some(Err(ColumnError::Trailing { index: 0, place: 2 }))
+        Some(Err(ColumnError::Trailing { index: 0, place: 2 })),
     );
     // A line that ends in `\r\n` has the byte `\r` after its number.
-    assert_eq!(rt;
+    gives(
+        &rt,
         Column::<u8>::new(b"12\r\n3\r\n", b'\n').next(),
-        Some(Err(ColumnError::Trailing { index: 0, place: 2 }))
+        Some(Err(ColumnError::Trailing { index: 0, place: 2 })),
     );
     // The slice in `cause` extends to the end of the input.
     let cause = AtoiSimdError::Overflow(b"256,1");
-    assert_eq!(rt;
+    gives(
+        &rt,
         Column::<u8>::new(b"256,1", b',').next(),
         Some(Err(ColumnError::Field {
             index: 0,
             place: 0,
             cause,
-        }))
+        })),
     );
 }
 
@@ -138,14 +93,19 @@ fn total_or_fault(alloc: Global, input: &[u8]) -> Result<String, AllocError> {
 #[test]
 fn a_loop_over_a_column(rt: HostRuntime) -> Result<(), Fail> {
     let text = total_or_fault(rt.alloc(), b"1,2,3")?;
-    assert_eq!(rt; text.as_str(), "the total is 6");
+    gives(&rt, text.as_str(), "the total is 6");
     let text = total_or_fault(rt.alloc(), b"1,,3")?;
-    assert_eq!(rt;
+    gives(
+        &rt,
         text.as_str(),
-        "field 1 at byte 2 has no digit at its start"
+        "field 1 at byte 2 has no digit at its start",
     );
     let text = total_or_fault(rt.alloc(), b"1,2a,3")?;
-    assert_eq!(rt; text.as_str(), "field 1 has an unexpected byte at byte 3");
+    gives(
+        &rt,
+        text.as_str(),
+        "field 1 has an unexpected byte at byte 3",
+    );
     Ok(())
 }
 
@@ -165,13 +125,14 @@ fn total_and_fault(input: &[u8]) -> (u64, Option<FieldError<'_>>) {
 
 #[test]
 fn a_loop_over_lines(rt: HostRuntime) -> Result<(), Fail> {
-    assert_eq!(rt; total_and_fault(b"1\r\n2\r\n"), (3, None));
+    gives(&rt, total_and_fault(b"1\r\n2\r\n"), (3, None));
     let (total, fault) = total_and_fault(b"1\n2a\n3\n\n");
-    assert_eq!(rt; total, 4);
+    gives(&rt, total, 4);
     let text = format!(in rt.alloc(); "{}", fault.expect(&rt, "a fault"))?;
-    assert_eq!(rt;
+    gives(
+        &rt,
         text.as_str(),
-        "field 1 at byte 2 has an unexpected byte at byte 3"
+        "field 1 at byte 2 has an unexpected byte at byte 3",
     );
     Ok(())
 }
@@ -193,9 +154,9 @@ fn total_between(input: &[u8], separator: u8) -> Result<Option<u64>, ColumnError
 fn a_separator_known_at_run_time(rt: HostRuntime) {
     for byte in b",;\t" {
         let input = [b'1', *byte, b'2'];
-        assert_eq!(rt; total_between(&input, *byte), Ok(Some(3)));
+        gives(&rt, total_between(&input, *byte), Ok(Some(3)));
     }
-    assert_eq!(rt; total_between(b"102", b'0'), Ok(None));
+    gives(&rt, total_between(b"102", b'0'), Ok(None));
 }
 
 // Reads a line such as `tea,95,-3`, which has a text and numbers of two types.
@@ -209,8 +170,8 @@ fn name_and_numbers(line: &str) -> Option<(&str, u32, i8)> {
 
 #[test]
 fn a_line_of_several_types(rt: HostRuntime) {
-    assert_eq!(rt; name_and_numbers("tea,95,-3"), Some(("tea", 95, -3)));
-    assert_eq!(rt; name_and_numbers("tea,-3,95"), None);
+    gives(&rt, name_and_numbers("tea,95,-3"), Some(("tea", 95, -3)));
+    gives(&rt, name_and_numbers("tea,-3,95"), None);
 }
 
 // Adds up one number per line. A line may have spaces around its number and may end in `\r\n`. Blank
@@ -229,9 +190,10 @@ fn total_of_lines(input: &[u8]) -> Result<u64, AtoiSimdError<'_>> {
 
 #[test]
 fn lines_with_spaces(rt: HostRuntime) {
-    assert_eq!(rt; total_of_lines(b"1\r\n 2\r\n\r\n+3\r\n"), Ok(6));
-    assert_eq!(rt;
+    gives(&rt, total_of_lines(b"1\r\n 2\r\n\r\n+3\r\n"), Ok(6));
+    gives(
+        &rt,
         total_of_lines(b"1\n2 3\n"),
-        Err(AtoiSimdError::Invalid64(2, 1, b"2 3"))
+        Err(AtoiSimdError::Invalid64(2, 1, b"2 3")),
     );
 }

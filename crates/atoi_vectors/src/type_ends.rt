@@ -1,11 +1,10 @@
 //! The largest and the smallest value of each type, and the number one past each, with and without
 //! signs, leading zeros, another byte after them, and SKIP_ZEROES.
 
-use crate::checks::both_give;
+use crate::both::{self, Integer};
+use crate::checks::gives;
 use crate::plain_rules::{Body, Class};
-use atoi_simd::{lanes, parse, parse_prefix};
 use std::alloc::{AllocError, Global};
-use std::fmt::Debug;
 use std::process::Abort;
 
 // The signs of a number that is not negative. Below is the sign of a negative number.
@@ -37,15 +36,9 @@ fn text_of(
     Ok(text)
 }
 
-// Checks that `parse` and `parse_prefix` of both libraries return what `plain_rules` says. That is
-// `value` (for a prefix with its length) or an error.
-fn check_text<T: atoi_simd::Parse + lanes::Parse + Copy + Debug + PartialEq>(
-    rt: &impl Abort,
-    end: End,
-    value: T,
-    sign: &[u8],
-    text: &[u8],
-) {
+// Checks that `parse` and `parse_prefix` return what `plain_rules` says. That is `value` (for a prefix
+// with its length) or an error.
+fn check_text<T: Integer>(rt: &impl Abort, end: End, value: T, sign: &[u8], text: &[u8]) {
     let body = Body::of(text.get(sign.len()..).unwrap_or(text));
     let bound = Body::of(end.digits).number.unwrap_or(0);
     let whole = |skip| body.whole(end.class, bound, skip).map(|_| value);
@@ -53,19 +46,21 @@ fn check_text<T: atoi_simd::Parse + lanes::Parse + Copy + Debug + PartialEq>(
         Ok((_, len)) => Ok((value, len.saturating_add(sign.len()))),
         Err(error) => Err(error),
     };
-    let root = parse::<T, false, true>(text);
-    both_give(rt, root, lanes::parse::<T, false, true>(text), whole(false));
-    let root = parse::<T, true, true>(text);
-    both_give(rt, root, lanes::parse::<T, true, true>(text), whole(true));
-    let root = parse_prefix::<T, false, true>(text);
-    let found = lanes::parse_prefix::<T, false, true>(text);
-    both_give(rt, root, found, prefix(false));
-    let root = parse_prefix::<T, true, true>(text);
-    let found = lanes::parse_prefix::<T, true, true>(text);
-    both_give(rt, root, found, prefix(true));
+    gives(rt, both::parse::<T, false, true>(rt, text), whole(false));
+    gives(rt, both::parse::<T, true, true>(rt, text), whole(true));
+    gives(
+        rt,
+        both::parse_prefix::<T, false, true>(rt, text),
+        prefix(false),
+    );
+    gives(
+        rt,
+        both::parse_prefix::<T, true, true>(rt, text),
+        prefix(true),
+    );
 }
 
-fn check<T: atoi_simd::Parse + lanes::Parse + Copy + Debug + PartialEq>(
+fn check<T: Integer>(
     rt: &impl Abort,
     alloc: Global,
     signs: &[&[u8]],

@@ -1,17 +1,15 @@
 //! Worked examples of the ten functions, at the root and in `lanes`, and of `take_sign`.
 
-use crate::checks::{both_give, gives};
+use crate::both;
+use crate::checks::gives;
 use atoi_core::take_sign;
-use atoi_simd::AtoiSimdError::{Empty, Invalid64, Overflow, Size};
+use atoi_simd::AtoiSimdError::{Empty, Invalid64, Invalid128, Overflow, Size};
 use atoi_simd::{Parse, ParseNeg, lanes};
 
 // Each row is a call and its answer.
 macro_rules! on_both {
     ($rt:expr; $($call:ident::<$($argument:tt),*>($text:expr) => $answer:expr;)*) => {
-        $(
-            let root = atoi_simd::$call::<$($argument),*>($text);
-            both_give(&$rt, root, lanes::$call::<$($argument),*>($text), $answer);
-        )*
+        $( gives(&$rt, both::$call::<$($argument),*>(&$rt, $text), $answer); )*
     };
 }
 
@@ -24,6 +22,16 @@ fn the_examples_of_the_crate(rt: HostRuntime) {
         parse::<i64, false, false>(b"-2345") => Ok(-2345);
         parse_neg::<i64, false>(b"2345") => Ok(-2345);
         parse_prefix::<u64, false, false>(b"123something_else") => Ok((123, 3));
+    );
+}
+
+// The other calls that the pages show are in the tests below.
+#[test]
+fn the_examples_of_the_pages(rt: HostRuntime) {
+    on_both!(rt;
+        parse::<u16, false, false>(b"8080") => Ok(8080);
+        parse_prefix::<i32, true, true>(b"+0042,7") => Ok((42, 5));
+        parse::<u128, true, false>(b"0000012x") => Err(Invalid128(12, 7, b"0000012x"));
     );
 }
 
@@ -43,16 +51,16 @@ fn the_functions_that_take_no_sign(rt: HostRuntime) {
 fn each_method_of_the_public_traits(rt: HostRuntime) {
     let root = <i64 as Parse>::atoi_simd_parse(b"-2345", false, false);
     let on_lanes = <i64 as lanes::Parse>::atoi_simd_parse(b"-2345", false, false);
-    both_give(&rt, root, on_lanes, Ok(-2345));
+    gives(&rt, both::same(&rt, root, on_lanes), Ok(-2345));
     let root = <i32 as Parse>::atoi_simd_parse_prefix(b"+12a", false, true);
     let on_lanes = <i32 as lanes::Parse>::atoi_simd_parse_prefix(b"+12a", false, true);
-    both_give(&rt, root, on_lanes, Ok((12, 3)));
+    gives(&rt, both::same(&rt, root, on_lanes), Ok((12, 3)));
     let root = <i8 as ParseNeg>::atoi_simd_parse_neg(b"128", false);
     let on_lanes = <i8 as lanes::ParseNeg>::atoi_simd_parse_neg(b"128", false);
-    both_give(&rt, root, on_lanes, Ok(-128));
+    gives(&rt, both::same(&rt, root, on_lanes), Ok(-128));
     let root = <i32 as ParseNeg>::atoi_simd_parse_prefix_neg(b"12a", false);
     let on_lanes = <i32 as lanes::ParseNeg>::atoi_simd_parse_prefix_neg(b"12a", false);
-    both_give(&rt, root, on_lanes, Ok((-12, 2)));
+    gives(&rt, both::same(&rt, root, on_lanes), Ok((-12, 2)));
 }
 
 #[test]

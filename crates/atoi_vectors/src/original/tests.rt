@@ -1,74 +1,20 @@
 //! The root and `lanes` give the expected answer to each row.
 
 use super::{ROWS, answer_and_row};
+use crate::both::{self, Integer, SignedInteger};
 use crate::differences::{LONG_ROWS, PLUS_ROWS};
-use atoi_core::{AtoiSimdError, Number, decimal};
+use atoi_core::Parsed;
 use atoi_simd::lanes;
 use std::alloc::{AllocError, Global};
+use std::fmt::Display;
 use std::process::Abort;
 use std::test::Fail;
-
-#[derive(Clone, Copy)]
-enum Call {
-    Parse,
-    Prefix,
-    Pos,
-    PrefixPos,
-    Neg,
-    PrefixNeg,
-}
-
-fn call_of(word: &[u8]) -> Option<Call> {
-    match word {
-        b"parse" => Some(Call::Parse),
-        b"prefix" => Some(Call::Prefix),
-        b"pos" => Some(Call::Pos),
-        b"prefix_pos" => Some(Call::PrefixPos),
-        b"neg" => Some(Call::Neg),
-        b"prefix_neg" => Some(Call::PrefixNeg),
-        _ => None,
-    }
-}
-
-#[derive(Clone, Copy)]
-enum Integer {
-    U8,
-    I8,
-    U16,
-    I16,
-    U32,
-    I32,
-    U64,
-    I64,
-    U128,
-    I128,
-    Usize,
-    Isize,
-}
-
-fn integer_of(word: &[u8]) -> Option<Integer> {
-    match word {
-        b"u8" => Some(Integer::U8),
-        b"i8" => Some(Integer::I8),
-        b"u16" => Some(Integer::U16),
-        b"i16" => Some(Integer::I16),
-        b"u32" => Some(Integer::U32),
-        b"i32" => Some(Integer::I32),
-        b"u64" => Some(Integer::U64),
-        b"i64" => Some(Integer::I64),
-        b"u128" => Some(Integer::U128),
-        b"i128" => Some(Integer::I128),
-        b"usize" => Some(Integer::Usize),
-        b"isize" => Some(Integer::Isize),
-        _ => None,
-    }
-}
 
 // A row, except its engine.
 #[derive(Clone, Copy)]
 struct Row<'a> {
-    call: Call,
-    integer: Integer,
+    call: &'a [u8],
+    integer: &'a [u8],
     skip_zeroes: bool,
     skip_plus: bool,
     text: &'a [u8],
@@ -77,9 +23,7 @@ struct Row<'a> {
 fn row_of(line: &[u8]) -> Option<Row<'_>> {
     let mut words = line.splitn(5, |byte| *byte == b' ');
     let _engine = words.next()?;
-    let call = call_of(words.next()?)?;
-    let integer = integer_of(words.next()?)?;
-    let flags = words.next()?;
+    let (call, integer, flags) = (words.next()?, words.next()?, words.next()?);
     Some(Row {
         call,
         integer,
@@ -89,166 +33,95 @@ fn row_of(line: &[u8]) -> Option<Row<'_>> {
     })
 }
 
-fn put_decimal(value: u128, line: &mut Vec<u8>) -> Result<(), AllocError> {
-    let mut digits = [b'?'; 39];
-    let length = decimal(value, &mut digits);
-    line.extend_from_slice(&digits[..length])
-}
-
-fn put_value<T: Number>(value: T, line: &mut Vec<u8>) -> Result<(), AllocError> {
-    let (minus, magnitude) = value.parts();
-    line.extend_from_slice(if minus { b"ok -" } else { b"ok " })?;
-    put_decimal(magnitude, line)
-}
-
-fn put_refusal(error: AtoiSimdError<'_>, line: &mut Vec<u8>) -> Result<(), AllocError> {
-    let mut text = [b'?'; 400];
-    let length = error.text(&mut text);
-    line.extend_from_slice(b"err ")?;
-    line.extend_from_slice(&text[..length])
-}
-
-fn put_whole<T: Number>(
-    answer: Result<T, AtoiSimdError<'_>>,
-    line: &mut Vec<u8>,
-) -> Result<(), AllocError> {
+fn whole<T: Copy + Display>(alloc: Global, answer: Parsed<'_, T>) -> Result<String, AllocError> {
     match answer {
-        Ok(value) => put_value(value, line),
-        Err(error) => put_refusal(error, line),
+        Ok(value) => format!(in alloc; "ok {value}"),
+        Err(error) => format!(in alloc; "err {error}"),
     }
 }
 
-fn put_prefix<T: Number>(
-    answer: Result<(T, usize), AtoiSimdError<'_>>,
-    line: &mut Vec<u8>,
-) -> Result<(), AllocError> {
+fn prefix<T: Copy + Display>(
+    alloc: Global,
+    answer: Parsed<'_, (T, usize)>,
+) -> Result<String, AllocError> {
     match answer {
-        Ok((value, count)) => {
-            put_value(value, line)?;
-            line.extend_from_slice(b" ")?;
-            put_decimal(count as u128, line)
-        }
-        Err(error) => put_refusal(error, line),
+        Ok((value, length)) => format!(in alloc; "ok {value} {length}"),
+        Err(error) => format!(in alloc; "err {error}"),
     }
 }
 
-// Writes the answer to a row whose call does not exist for its type. This answer is expected for no
-// row, so a test that calls this function fails.
-fn put_unknown(line: &mut Vec<u8>) -> Result<(), AllocError> {
-    line.extend_from_slice(b"unknown")
+fn parse<'a, T: Integer>(rt: &impl Abort, row: Row<'a>) -> Parsed<'a, T> {
+    let (text, zeroes, plus) = (row.text, row.skip_zeroes, row.skip_plus);
+    let root = <T as atoi_simd::Parse>::atoi_simd_parse(text, zeroes, plus);
+    both::same(
+        rt,
+        root,
+        <T as lanes::Parse>::atoi_simd_parse(text, zeroes, plus),
+    )
 }
 
-// Calls a function with the flag SKIP_ZEROES of the row as its const argument. `by_flags` below
-// also passes SKIP_PLUS.
-macro_rules! by_flag {
-    ($surface:ident::$call:ident, $row:expr) => {
+fn parse_prefix<'a, T: Integer>(rt: &impl Abort, row: Row<'a>) -> Parsed<'a, (T, usize)> {
+    let (text, zeroes, plus) = (row.text, row.skip_zeroes, row.skip_plus);
+    let root = <T as atoi_simd::Parse>::atoi_simd_parse_prefix(text, zeroes, plus);
+    both::same(
+        rt,
+        root,
+        <T as lanes::Parse>::atoi_simd_parse_prefix(text, zeroes, plus),
+    )
+}
+
+// Calls a function of `both` whose flag is SKIP_ZEROES.
+macro_rules! by_zeroes {
+    ($call:ident, $rt:expr, $row:expr) => {
         if $row.skip_zeroes {
-            $surface::$call::<T, true>($row.text)
+            both::$call::<T, true>($rt, $row.text)
         } else {
-            $surface::$call::<T, false>($row.text)
+            both::$call::<T, false>($rt, $row.text)
         }
     };
 }
 
-macro_rules! by_flags {
-    ($surface:ident::$call:ident, $row:expr) => {
-        match ($row.skip_zeroes, $row.skip_plus) {
-            (false, false) => $surface::$call::<T, false, false>($row.text),
-            (false, true) => $surface::$call::<T, false, true>($row.text),
-            (true, false) => $surface::$call::<T, true, false>($row.text),
-            (true, true) => $surface::$call::<T, true, true>($row.text),
-        }
-    };
-}
-
-macro_rules! put_answer {
-    ($surface:ident, $row:expr, $line:expr) => {
-        match $row.call {
-            Call::Parse => put_whole(by_flags!($surface::parse, $row), $line),
-            Call::Prefix => put_prefix(by_flags!($surface::parse_prefix, $row), $line),
-            Call::Pos => put_whole(by_flag!($surface::parse_pos, $row), $line),
-            Call::PrefixPos => put_prefix(by_flag!($surface::parse_prefix_pos, $row), $line),
-            _ => put_unknown($line),
-        }
-    };
-}
-
-macro_rules! put_negative_answer {
-    ($surface:ident, $row:expr, $line:expr) => {
-        match $row.call {
-            Call::Neg => put_whole(by_flag!($surface::parse_neg, $row), $line),
-            Call::PrefixNeg => put_prefix(by_flag!($surface::parse_prefix_neg, $row), $line),
-            _ => put_unknown($line),
-        }
-    };
-}
-
-fn root<T: atoi_simd::Parse>(row: &Row<'_>, line: &mut Vec<u8>) -> Result<(), AllocError> {
-    put_answer!(atoi_simd, row, line)
-}
-
-fn root_negative<T: atoi_simd::ParseNeg>(
-    row: &Row<'_>,
-    line: &mut Vec<u8>,
-) -> Result<(), AllocError> {
-    put_negative_answer!(atoi_simd, row, line)
-}
-
-fn in_lanes<T: lanes::Parse>(row: &Row<'_>, line: &mut Vec<u8>) -> Result<(), AllocError> {
-    put_answer!(lanes, row, line)
-}
-
-fn in_lanes_negative<T: lanes::ParseNeg>(
-    row: &Row<'_>,
-    line: &mut Vec<u8>,
-) -> Result<(), AllocError> {
-    put_negative_answer!(lanes, row, line)
-}
-
-macro_rules! by_type {
-    ($answer:ident, $row:expr, $line:expr) => {
-        match $row.integer {
-            Integer::U8 => $answer::<u8>($row, $line),
-            Integer::I8 => $answer::<i8>($row, $line),
-            Integer::U16 => $answer::<u16>($row, $line),
-            Integer::I16 => $answer::<i16>($row, $line),
-            Integer::U32 => $answer::<u32>($row, $line),
-            Integer::I32 => $answer::<i32>($row, $line),
-            Integer::U64 => $answer::<u64>($row, $line),
-            Integer::I64 => $answer::<i64>($row, $line),
-            Integer::U128 => $answer::<u128>($row, $line),
-            Integer::I128 => $answer::<i128>($row, $line),
-            Integer::Usize => $answer::<usize>($row, $line),
-            Integer::Isize => $answer::<isize>($row, $line),
-        }
-    };
-}
-
-macro_rules! by_signed_type {
-    ($answer:ident, $row:expr, $line:expr) => {
-        match $row.integer {
-            Integer::I8 => $answer::<i8>($row, $line),
-            Integer::I16 => $answer::<i16>($row, $line),
-            Integer::I32 => $answer::<i32>($row, $line),
-            Integer::I64 => $answer::<i64>($row, $line),
-            Integer::I128 => $answer::<i128>($row, $line),
-            Integer::Isize => $answer::<isize>($row, $line),
-            _ => put_unknown($line),
-        }
-    };
-}
-
-fn put_root(row: &Row<'_>, line: &mut Vec<u8>) -> Result<(), AllocError> {
+fn of_any<T: Integer + Display>(
+    rt: &impl Abort,
+    alloc: Global,
+    row: Row<'_>,
+) -> Result<String, AllocError> {
     match row.call {
-        Call::Neg | Call::PrefixNeg => by_signed_type!(root_negative, row, line),
-        _ => by_type!(root, row, line),
+        b"parse" => whole(alloc, parse::<T>(rt, row)),
+        b"prefix" => prefix(alloc, parse_prefix::<T>(rt, row)),
+        b"pos" => whole(alloc, by_zeroes!(parse_pos, rt, row)),
+        b"prefix_pos" => prefix(alloc, by_zeroes!(parse_prefix_pos, rt, row)),
+        _ => format!(in alloc; "no such call"),
     }
 }
 
-fn put_lanes(row: &Row<'_>, line: &mut Vec<u8>) -> Result<(), AllocError> {
+fn of_signed<T: SignedInteger + Display>(
+    rt: &impl Abort,
+    alloc: Global,
+    row: Row<'_>,
+) -> Result<String, AllocError> {
     match row.call {
-        Call::Neg | Call::PrefixNeg => by_signed_type!(in_lanes_negative, row, line),
-        _ => by_type!(in_lanes, row, line),
+        b"neg" => whole(alloc, by_zeroes!(parse_neg, rt, row)),
+        b"prefix_neg" => prefix(alloc, by_zeroes!(parse_prefix_neg, rt, row)),
+        _ => of_any::<T>(rt, alloc, row),
+    }
+}
+
+fn answer_to(rt: &impl Abort, alloc: Global, row: Row<'_>) -> Result<String, AllocError> {
+    match row.integer {
+        b"u8" => of_any::<u8>(rt, alloc, row),
+        b"i8" => of_signed::<i8>(rt, alloc, row),
+        b"u16" => of_any::<u16>(rt, alloc, row),
+        b"i16" => of_signed::<i16>(rt, alloc, row),
+        b"u32" => of_any::<u32>(rt, alloc, row),
+        b"i32" => of_signed::<i32>(rt, alloc, row),
+        b"u64" => of_any::<u64>(rt, alloc, row),
+        b"i64" => of_signed::<i64>(rt, alloc, row),
+        b"u128" => of_any::<u128>(rt, alloc, row),
+        b"i128" => of_signed::<i128>(rt, alloc, row),
+        b"usize" => of_any::<usize>(rt, alloc, row),
+        b"isize" => of_signed::<isize>(rt, alloc, row),
+        _ => format!(in alloc; "no such type"),
     }
 }
 
@@ -261,13 +134,8 @@ fn check_rows(rt: &impl Abort, alloc: Global, lines: &[u8], count: usize) -> Res
     assert_eq!(rt; lines.iter().filter(|byte| is_end(byte)).count(), count);
     for (place, line) in lines.split(is_end).take(count).enumerate() {
         let (answer, row) = answer_and_row(line).ok_or("no columns")?;
-        let row = row_of(row).ok_or("no row")?;
-        let mut line = Vec::new(alloc);
-        put_root(&row, &mut line)?;
-        assert_eq!(rt; line.as_slice(), answer, "the root at row {place}");
-        line.clear();
-        put_lanes(&row, &mut line)?;
-        assert_eq!(rt; line.as_slice(), answer, "lanes at row {place}");
+        let found = answer_to(rt, alloc, row_of(row).ok_or("no row")?)?;
+        assert_eq!(rt; found.as_bytes(), answer, "at row {place}");
     }
     Ok(())
 }
@@ -295,10 +163,9 @@ fn check_differences(
         let row = row_of(row).ok_or("no row")?;
         let body = row.text.strip_prefix(b"+").unwrap_or(row.text);
         let text = body.get(..longest).unwrap_or(body);
-        let mut line = Vec::new(alloc);
-        put_root(&Row { text, ..row }, &mut line)?;
+        let found = answer_to(rt, alloc, Row { text, ..row })?;
         assert_eq!(rt;
-            before_comma(line.as_slice()),
+            before_comma(found.as_bytes()),
             before_comma(original.trim_ascii()),
             "at row {place}"
         );
