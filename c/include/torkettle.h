@@ -4,13 +4,14 @@
  *     int64_t value;
  *     if (torkettle_parse_i64(text, length, 0, &value) == TORKETTLE_OK) ...
  *
- * A text is `length` bytes from `text` on. It needs no terminator, and no byte outside of it is read. A text of
- * length 0 is empty, and `text` may then be NULL.
+ * A text consists of the `length` bytes at `text`. It needs no terminator, and no other byte is read. If `length` is 0,
+ * the text is empty, and `text` may be NULL.
  *
  * No function allocates memory or keeps state. You may call each of them from any thread and from a signal handler.
  * The time that a call takes is at most proportional to `length`.
  *
- * Where a name here has `i64`, there is one for each of these types. For `size_t`, use `u64`, with `uint64_t`.
+ * A name with `i64` exists for each of these types. For another type, such as `size_t` or `unsigned long long`, parse
+ * into a `uint64_t` and assign it.
  *
  *     i8   int8_t      u8   uint8_t
  *     i16  int16_t     u16  uint16_t
@@ -45,48 +46,47 @@ extern "C" {
 #define TORKETTLE_VERSION "0.1.0"
 
 /*
- * Flags, for the argument `flags`: 0, one of them, or both with `|`. Other bits have no effect.
+ * The values of the argument `flags`: 0, one of these, or both with `|`. Other bits have no effect.
  *
- * TORKETTLE_SKIP_ZEROES  Leading zeros do not count as digits, of which some calls have a limit
- *                        (see TORKETTLE_SIZE).
- * TORKETTLE_SKIP_PLUS    A `+` may stand before the digits.
+ * TORKETTLE_SKIP_ZEROES  Leading zeros do not count towards the limit of digits (see TORKETTLE_SIZE).
+ * TORKETTLE_SKIP_PLUS    A `+` before the digits is allowed.
  */
 #define TORKETTLE_SKIP_ZEROES 1u
 #define TORKETTLE_SKIP_PLUS 2u
 
-/* What a call returns: whether a text was accepted, or the first reason here for which it was refused. */
+/* The result of a call: TORKETTLE_OK, or the first error of this list that applies. */
 typedef enum torkettle_status {
-    /* A number was read and written to `*value`. With every other status, nothing was written. */
+    /* The number was written to `*value`. With any other status, nothing was written. */
     TORKETTLE_OK = 0,
-    /* The text does not begin with a digit, after the sign if there is one. */
+    /* There is no digit at the start of the text or, if it has a sign, after the sign. */
     TORKETTLE_EMPTY = 1,
     /*
      * The number has more than 20 digits for u64, 19 for i64 or 39 for 128 bits. Without TORKETTLE_SKIP_ZEROES,
      * leading zeros count as digits, and the limit for a prefix of at most 32 bits is 16.
      */
     TORKETTLE_SIZE = 2,
-    /* The number does not fit in the type. */
+    /* The number is out of range for the type. */
     TORKETTLE_OVERFLOW = 3,
-    /* A byte that is no digit follows the number, where the number has to reach to the end of the text. */
+    /* Another byte follows the number, in a call that must read the whole text. */
     TORKETTLE_INVALID = 4
 } torkettle_status;
 
-/* Why a text was refused. What a status does not use is 0. */
+/* An error. Fields that its status does not use are 0. */
 typedef struct torkettle_error {
     torkettle_status status;
-    /* TORKETTLE_INVALID: the width of the value below, which is 64, or 128 for i128 and u128. */
+    /* For TORKETTLE_INVALID, the number of bits of the value below: 128 for i128 and u128, otherwise 64. */
     unsigned bits;
     /*
-     * The offset, in bytes, of the digits that the error is about: the first digit for TORKETTLE_INVALID; that or a
-     * later one, if leading zeros are skipped, for TORKETTLE_SIZE and TORKETTLE_OVERFLOW; 0 for TORKETTLE_EMPTY.
+     * For TORKETTLE_INVALID, the offset of the first digit, in bytes. For TORKETTLE_SIZE and TORKETTLE_OVERFLOW, the
+     * same, or the offset of a later digit if leading zeros are skipped. For TORKETTLE_EMPTY, 0.
      */
     size_t offset;
     /*
-     * TORKETTLE_INVALID: the number of digits. The byte that is none has the offset `offset + count`.
-     * TORKETTLE_SIZE: the number of digits too, of which at most 17, 24 or 40 are counted after skipped zeros.
+     * For TORKETTLE_INVALID, the number of digits. The byte after them is at `offset + count`. For TORKETTLE_SIZE, the
+     * number of digits, too. After skipped zeros, at most 17, 24 or 40 are counted.
      */
     size_t count;
-    /* TORKETTLE_INVALID: the number that the digits spell, without a sign. */
+    /* For TORKETTLE_INVALID, the number that the digits spell, without a sign. */
     uint64_t value_low;
     uint64_t value_high;
 } torkettle_error;
@@ -94,35 +94,36 @@ typedef struct torkettle_error {
 /*
  * torkettle_status torkettle_parse_i64(const char *text, size_t length, unsigned flags, int64_t *value);
  *
- * Parses all of a text: digits, with a `-` before them if the type is signed. Writes the number to `*value` and
- * returns TORKETTLE_OK, or writes nothing and returns another status.
+ * Parses a whole text: digits, with an optional `-` before them if the type is signed. Writes the number to `*value`
+ * and returns TORKETTLE_OK, or writes nothing and returns another status.
  *
  *
  * torkettle_status torkettle_parse_prefix_i64(const char *text, size_t length, unsigned flags, int64_t *value,
  *                                             size_t *count);
  *
- * Parses the number at the start of a text, up to the first byte that is no digit. Writes the number to `*value`
- * and its length in bytes, the sign and leading zeros included, to `*count`, and returns TORKETTLE_OK, or writes
- * nothing and returns another status. The status is never TORKETTLE_INVALID.
+ * Parses the number at the start of a text, up to the first byte that is not a digit. Writes the number to `*value`,
+ * writes its length in bytes, including the sign and leading zeros, to `*count`, and returns TORKETTLE_OK. Otherwise,
+ * writes nothing and returns another status, which is never TORKETTLE_INVALID. If `*count` is `length`, the text may be
+ * cut inside of a number.
  *
  *
  * torkettle_error torkettle_parse_error_i64(const char *text, size_t length, unsigned flags);
  * torkettle_error torkettle_parse_prefix_error_i64(const char *text, size_t length, unsigned flags);
  *
- * Parse again, and return why torkettle_parse_i64 or torkettle_parse_prefix_i64 refuses the text, with
- * TORKETTLE_OK if it does not.
+ * Parse a text again and return the error of torkettle_parse_i64 or torkettle_parse_prefix_i64. If there is none, its
+ * status is TORKETTLE_OK.
  *
  *
  * bool torkettle_json_integer_i64(const char *text, size_t length, int64_t *value, size_t *count);
  *
- * Reads the number at the start of a text, as JSON writes integers: a `-` or none, then `0`, or digits of which the
+ * Reads the number at the start of a text, as JSON writes integers: an optional `-`, then `0`, or digits of which the
  * first is not `0`. Writes the number to `*value` and its length in bytes to `*count`, and returns true. If there is
  * no such number, if it is out of range, or if a digit, `.`, `e` or `E` follows it, writes nothing and returns false.
- * `-0` is in the range of every type.
+ * `-0` is in range for every type.
  *
  *
- * Columns: numbers with one byte between them, such as a comma. Each number may have leading zeros and a sign. The
- * separator after the last number is optional.
+ * Columns: numbers with one byte between them, such as a comma. Each number may have leading zeros, and a `+` or, if
+ * the type is signed, a `-`. The separator after the last number is optional.
  *
  *     torkettle_column_i64 column;
  *     int64_t value;
@@ -134,34 +135,35 @@ typedef struct torkettle_error {
  *
  * void torkettle_column_i64_init(torkettle_column_i64 *column, const char *text, size_t length, char separator);
  *
- * Makes a column of a text, which must stay as it is while you read the column. The struct is yours: it needs no
- * release, and a copy of it goes on from the same field. If the separator is a digit, `+` or `-`, the column has no
- * number, its status is TORKETTLE_INVALID, and its index and its offset are SIZE_MAX.
+ * Starts to read a column. Do not change the text while you read it. You need not free the struct, and a copy of it
+ * continues at the same field. If the separator is a digit, `+` or `-`, the column has no number, its status is
+ * TORKETTLE_INVALID, and its index and its offset are SIZE_MAX.
  *
  * bool torkettle_column_i64_next(torkettle_column_i64 *column, int64_t *value);
  *
- * Reads the next field. Writes its number to `*value` and returns true, or writes nothing and returns false: at the
- * end of the text, at a field that is refused, and ever after.
+ * Reads the next field. Writes its number to `*value` and returns true. At a bad field, at the end of the text and
+ * after that, writes nothing and returns false.
  *
  * size_t torkettle_column_i64_read(torkettle_column_i64 *column, int64_t *values, size_t count);
  *
- * Reads the next fields, as torkettle_column_i64_next does, but faster. Writes their numbers to `values`, at most
- * `count`, and returns how many it has written. These are fewer than `count` only at the end of the text and at a
- * field that is refused. If `count` is 0, it reads nothing, and `values` may be NULL. If `count` is 128 or more, it is
- * faster still for numbers of one width, up to 8 bytes.
+ * Reads several fields, which is faster. Writes at most `count` numbers to `values` and returns how many it has
+ * written. It writes fewer than `count` only if it reaches a bad field or the end of the text. If `count` is 0, it
+ * reads nothing, and `values` may be NULL. If `count` is 128 or more and the fields all have the same width, at most 8
+ * bytes, it is 2 to 3 times as fast.
  *
  * struct torkettle_column_i64 {
- *     torkettle_status status;  TORKETTLE_OK until a field is refused, then why. TORKETTLE_INVALID says that a byte
- *                               which is not the separator follows the number.
- *     size_t index;             The index of the refused field, from 0.
- *     size_t offset;            The offset of the byte after the number for TORKETTLE_INVALID, otherwise that of the
- *                               field. There torkettle_parse_prefix_error_i64 with both flags says more.
- *     uint64_t state[5];        For the library alone.
+ *     torkettle_status status;  TORKETTLE_OK or, after a bad field, its error. TORKETTLE_INVALID means that a byte that
+ *                               is not the separator follows the number.
+ *     size_t index;             The index of the bad field, from 0.
+ *     size_t offset;            For TORKETTLE_INVALID, the offset of the byte after the number, otherwise the offset of
+ *                               the field. To learn more, call torkettle_parse_prefix_error_i64 with both flags for
+ *                               the text from there on.
+ *     uint64_t state[5];        Only for the library.
  * };
  *
  *
- * Fields: a column that goes on after a bad field. A field is bad if it is not a number, as an empty field is. If the
- * text ends with a separator, no field follows it.
+ * Fields: like a column, but you can continue after a bad field. A field is bad if it is not a number, for example if
+ * it is empty. If the text ends with a separator, no field follows it.
  *
  *     torkettle_fields_i64 fields;
  *     int64_t value;
@@ -174,52 +176,52 @@ typedef struct torkettle_error {
  *
  * void torkettle_fields_i64_init(torkettle_fields_i64 *fields, const char *text, size_t length, char separator);
  *
- * Makes the fields of a text, which must stay as it is while you read them. `text` may be NULL only if `length` is 0.
- * The struct is yours, as that of a column. If the separator is a digit, `+` or `-`, there is only one field: it is
- * bad, with TORKETTLE_INVALID, the index and the offset SIZE_MAX, and no text, which is NULL with the length 0.
+ * Starts to read fields. Do not change the text while you read it. You need not free the struct, and a copy of it
+ * continues at the same field. If the separator is a digit, `+` or `-`, the first call that reads a field finds one bad
+ * field: its status is TORKETTLE_INVALID, its index and its offset are SIZE_MAX, its text is NULL, and its length is 0.
  *
  * void torkettle_fields_i64_init_lines(torkettle_fields_i64 *fields, const char *text, size_t length);
  *
- * Makes the lines of a text. A line ends with "\n" or "\r\n", which is no part of it.
+ * Starts to read lines, which are then the fields. A line ends with "\n" or "\r\n", which is not part of it.
  *
  * void torkettle_fields_i64_starting_at(torkettle_fields_i64 *fields, size_t index, size_t offset);
  *
- * Gives the next field this index and this offset, from which those of the later fields are counted. To read a long
- * text by pieces that end with a separator, start each at the next_index and the next_offset of the one before it.
+ * Sets the index and the offset of the next field, from which later fields are counted. To read a long text by pieces
+ * that end with a separator, start each at the next_index and the next_offset of the piece before it.
  *
  * bool torkettle_fields_i64_next(torkettle_fields_i64 *fields, int64_t *value);
  *
- * Reads the next field. Returns true if there is one, and false at the end of the text and ever after. Writes its
- * number to `*value` and sets the status to TORKETTLE_OK, or writes nothing and sets the status to why it is bad. At
- * the end, it writes nothing, and the status is TORKETTLE_OK.
+ * Reads the next field. If there is one, returns true, and either writes its number to `*value` and sets the status to
+ * TORKETTLE_OK, or writes nothing and sets the status to the error of a bad field. At the end, and after that, writes
+ * nothing, sets the status to TORKETTLE_OK, and returns false.
  *
  * size_t torkettle_fields_i64_read(torkettle_fields_i64 *fields, int64_t *values, size_t count);
  *
- * Reads the next fields, but faster. Writes their numbers to `values`, at most `count`, and returns how many it has
- * written. These are fewer than `count` only at a bad field, of which it sets the status, and at the end. Otherwise
- * the status is TORKETTLE_OK. The next call goes on after the bad field. If `count` is 0, `values` may be NULL. As for
- * torkettle_column_i64_read, numbers of one width are read faster still.
+ * Reads several fields, which is faster. Writes at most `count` numbers to `values` and returns how many it has
+ * written. It stops at a bad field and sets the status. Otherwise, the status is TORKETTLE_OK. The next call continues
+ * after the bad field, so a loop must not end because a call wrote fewer than `count` numbers. If `count` is 0,
+ * `values` may be NULL. Fields of the same width are read faster, as by torkettle_column_i64_read.
  *
  *     while ((count = torkettle_fields_i64_read(&fields, values, 256)) > 0 || fields.status != TORKETTLE_OK) ...
  *
  * struct torkettle_fields_i64 {
- *     torkettle_status status;  What torkettle_parse_i64 with both flags returns for the bad field at which the last
- *                               call stopped, or TORKETTLE_OK if it stopped at none.
- *     size_t index;             The index of the bad field, from 0. If the status is TORKETTLE_OK, this and the next
- *                               three say nothing about the last call.
+ *     torkettle_status status;  If the last call stopped at a bad field, what torkettle_parse_i64 with both flags
+ *                               returns for this field. Otherwise TORKETTLE_OK.
+ *     size_t index;             The index of the bad field, from 0. If the status is TORKETTLE_OK, ignore this and the
+ *                               next three.
  *     size_t offset;            The offset of its first byte.
- *     const char *text;         Its bytes, in the text that was given, without the separator.
- *     size_t length;            How many they are.
- *     size_t next_index;        The index of the next field: at the end, how many fields there are.
- *     size_t next_offset;       The offset at which the next field begins: at the end, that of the text's end.
- *     ...                       The others are for the library alone.
+ *     const char *text;         Its bytes, in your text, without the separator.
+ *     size_t length;            Its length.
+ *     size_t next_index;        The index of the next field or, at the end, the number of fields.
+ *     size_t next_offset;       The offset of the next field or, at the end, of the end of the text.
+ *     ...                       The others are only for the library.
  * };
  *
  *
- * What follows is of the library's own, and may change: the functions below whose names begin with torkettle_whole_,
- * torkettle_prefix_ and torkettle_next_, one for each choice of flags, and one for JSON. They return a number and its
- * length in two registers, the length 0 if there is none. For torkettle_next_field_ it is 1 for a number, and 2 for a
- * bad field. Where `flags` is a constant, the compiler leaves one call.
+ * Everything below is internal and may change: the functions whose names begin with torkettle_whole_, torkettle_prefix_
+ * and torkettle_next_, one for each choice of flags, and one for JSON. They return a number and its length in two
+ * registers. The length is 0 if there is no number. The length that torkettle_next_field_ returns is 1 for a number,
+ * and 2 for a bad field. If `flags` is a constant, the compiler keeps only one call.
  */
 /* `suffix` is `_i64` and so on. The program may have `i64` itself as a macro, which the call would expand. */
 #define TORKETTLE_PICK_(kind, suffix)                                                                                  \
@@ -352,7 +354,7 @@ typedef struct torkettle_error {
         torkettle_found_##name found = torkettle_next_field_##name(fields);                                            \
         if (found.length == 0)                                                                                         \
             return false;                                                                                              \
-        /* The caller tests the status, too: so no compiler warns of a value that is not set. */                       \
+        /* The caller also tests the status, so compilers do not warn that the value is not set. */                    \
         if (fields->status == TORKETTLE_OK)                                                                            \
             *value = found.value;                                                                                      \
         return true;                                                                                                   \
@@ -373,14 +375,14 @@ TORKETTLE_FUNCTIONS_(i128, torkettle_i128)
 TORKETTLE_FUNCTIONS_(u128, torkettle_u128)
 #endif
 
-/* The size of a buffer that holds every message of torkettle_error_text. */
+/* The size of a buffer into which every message of torkettle_error_text fits. */
 #define TORKETTLE_ERROR_TEXT_SIZE 333
 
 /*
  * Writes the message of an error to a buffer as snprintf does: at most `size - 1` bytes and a NUL, and nothing if
- * `size` is 0. Returns the length of the whole message, without the NUL. `text` and `length` are those of the call
- * that returned the error. The message of an error with TORKETTLE_OK is empty. A message is ASCII, and shows bytes of
- * the text in hexadecimal:
+ * `size` is 0. Returns the length of the whole message, without the NUL. Pass the `text` and the `length` of the call
+ * that returned the error. For TORKETTLE_OK, the message is empty. A message is ASCII, and shows bytes of the text in
+ * hexadecimal:
  *
  *     atoi_simd overflow, input: [32, 35, 36]
  */

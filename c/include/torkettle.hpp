@@ -118,8 +118,7 @@ inline from_chars_result from_chars(const char *first, const char *last, T &valu
     return {first + found.length, std::errc()};
 }
 
-// Returns the number that all of a text spells, or nothing if there is none: if `from_chars` refuses the text, or ends
-// before its end.
+// Returns the number, if the whole text is one that `from_chars` reads.
 template <class T, std::enable_if_t<detail::is_integer<T>, int> = 0>
 inline std::optional<T> parse(std::string_view text) noexcept
 {
@@ -129,9 +128,9 @@ inline std::optional<T> parse(std::string_view text) noexcept
     return static_cast<T>(found.value);
 }
 
-// Reads the number at the start of a text, as JSON writes integers: a `-` or none, then `0`, or digits of which the
+// Reads the number at the start of a text, as JSON writes integers: an optional `-`, then `0`, or digits of which the
 // first is not `0`. Returns the number and what follows it, or nothing if there is no such number, if it is out of
-// range, or if a digit, `.`, `e` or `E` follows it. `-0` is in the range of every type.
+// range, or if a digit, `.`, `e` or `E` follows it. `-0` is in range for every type.
 template <class T, std::enable_if_t<detail::is_integer<T>, int> = 0>
 inline std::optional<std::pair<T, std::string_view>> json_integer(std::string_view text) noexcept
 {
@@ -145,15 +144,14 @@ inline std::optional<std::pair<T, std::string_view>> json_integer(std::string_vi
 // A field of a text: a number, or an error.
 template <class T>
 struct item {
-    // The number, which may have leading zeros, and a `+` or, if the type is signed, a `-` before it.
+    // The number, which may have leading zeros, and a `+` or, if the type is signed, a `-`.
     std::optional<T> value;
-    // `std::errc()` for a number. Otherwise `std::errc::invalid_argument` if no digit is at the start,
-    // `std::errc::result_out_of_range` if the digits there spell no number of the type, and else, because another byte
-    // follows them, `std::errc::invalid_argument`.
+    // `std::errc()` for a number. `std::errc::result_out_of_range` if the field begins with a number that is out of
+    // range. `std::errc::invalid_argument` for any other field.
     std::errc error = std::errc();
-    // The bytes of a field that is no number, without the separator. Empty for a number.
+    // The bytes of a field that is not a number, without the separator. Empty for a number.
     std::string_view text;
-    // How many fields precede it, and the offset at which it begins.
+    // The index of the field, from 0, and the offset at which it begins.
     std::size_t index = 0;
     std::size_t offset = 0;
 };
@@ -220,7 +218,7 @@ public:
     {
     }
 
-    // The lines of a text. A line ends with "\n" or "\r\n", which is no part of it.
+    // The lines of a text. A line ends with "\n" or "\r\n", which is not part of it.
     static range of_lines(std::string_view text) noexcept
     {
         return range(text, '\n', 1);
@@ -249,8 +247,9 @@ public:
         return true;
     }
 
-    // Reads the next numbers into `values`, at most `count`, and returns how many they are: fewer only at the end and
-    // at an error, which `error_item` then returns. The next call goes on after it. This is faster than a loop.
+    // Reads at most `count` numbers into `values` and returns how many it has read. It reads fewer than `count` only if
+    // it reaches the end or an error, which `error_item` then returns. The next call continues after the error, so a
+    // loop must not end because a call has read fewer. This is faster than `next`.
     std::size_t read(T *values, std::size_t count) noexcept
     {
         const std::size_t numbers = functions::read(state, values, count);
@@ -259,7 +258,7 @@ public:
         return numbers;
     }
 
-    // Returns the error at which the last call of `read` or `next` stopped, or nothing if it stopped at none.
+    // Returns the error at which the last call of `read` or `next` stopped, if any.
     std::optional<item<T>> error_item() const noexcept
     {
         if (state.status == TORKETTLE_OK)
@@ -267,8 +266,8 @@ public:
         return error();
     }
 
-    // Returns the same fields, but with this index and this offset of the next one. So a long text can be read by
-    // pieces that end with a separator: each starts at `next_index` and `next_offset` of the one before it.
+    // Returns the same fields, but the next one has this index and this offset. To read a long text by pieces that end
+    // with a separator, start each at the `next_index` and the `next_offset` of the piece before it.
     range starting_at(std::size_t index, std::size_t offset) const noexcept
     {
         range other = *this;
@@ -277,13 +276,13 @@ public:
         return other;
     }
 
-    // The index of the next field: at the end, how many fields there are.
+    // The index of the next field or, at the end, the number of fields.
     std::size_t next_index() const noexcept
     {
         return state.next_index;
     }
 
-    // The offset at which the next field begins: at the end, that of the text's end.
+    // The offset of the next field or, at the end, of the end of the text.
     std::size_t next_offset() const noexcept
     {
         return state.next_offset;
@@ -316,12 +315,12 @@ private:
 
 } // namespace detail
 
-// The fields of a text, for a `for` loop and for algorithms: `torkettle::fields<int>(text, ',')`. They go on after an
-// error.
+// The fields of a text, for a `for` loop and for algorithms: `torkettle::fields<int>(text, ',')`. An error does not end
+// them.
 template <class T>
 using fields = detail::range<T, false>;
 
-// The same, but they end at the first error, which is the last item.
+// The same, but the first error is the last item.
 template <class T>
 using column = detail::range<T, true>;
 

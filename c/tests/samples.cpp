@@ -20,25 +20,25 @@ static std::uint64_t sum_of_lines(std::string_view text)
     return sum;
 }
 
-static std::uint64_t sum_of_column(std::string_view text)
+static std::uint64_t sum_of_fields(std::string_view text)
 {
     std::uint64_t sum = 0;
 
-    torkettle::column<std::uint32_t> column(text, ',');
+    torkettle::fields<std::uint32_t> fields(text, ',');
     std::uint32_t values[256];
     std::size_t count;
     do {
-        count = column.read(values, std::size(values));
+        count = fields.read(values, std::size(values));
         sum += std::accumulate(values, values + count, std::uint64_t(0));
-    } while (count == std::size(values));
-    if (const auto error = column.error_item())
-        std::cout << "no number in field " << error->index << ", at byte " << error->offset << '\n';
+        if (const auto error = fields.error_item())
+            std::cout << "no number in field " << error->index << ", at byte " << error->offset << '\n';
+    } while (count > 0 || fields.error_item());
 
     return sum;
 }
 
 int main()
 {
-    const std::uint64_t lines = sum_of_lines("80\r\n44x\n443"), column = sum_of_column("80,44x,8080");
-    std::cout << "sums " << lines << ' ' << column << '\n';
+    const std::uint64_t lines = sum_of_lines("80\r\n44x\n443"), fields = sum_of_fields("80,44x,8080");
+    std::cout << "sums " << lines << ' ' << fields << '\n';
 }
