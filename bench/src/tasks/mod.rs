@@ -18,7 +18,7 @@ pub fn run(arguments: &Arguments) -> Result<usize, String> {
     check_only(arguments)?;
     println!("timed or counted on {}", processor::name());
     if !processor::predicts_jumps() {
-        println!("it predicts no jumps by tables: libraries that have them take longer here");
+        println!("the processor does not predict indirect jumps: libraries with them take longer");
     }
     let mut wrong = 0;
     if work.includes(Work::Exports) || work == Work::Count {
