@@ -4,7 +4,8 @@ use std::io::{self, Read};
 use torkettle::column::{Column, ColumnError, FieldError, Fields, is_separator};
 use torkettle::formats::digits_then;
 use torkettle::{
-    AtoiSimdError, parse, parse_neg, parse_pos, parse_prefix, parse_prefix_neg, parse_prefix_pos,
+    AtoiSimdError, Parse, parse, parse_neg, parse_pos, parse_prefix, parse_prefix_neg,
+    parse_prefix_pos,
 };
 
 #[test]
@@ -15,6 +16,9 @@ fn numbers() {
     assert_eq!(parse_prefix::<u64, false, false>(b"123something_else"), Ok((123, 3)));
     assert_eq!(parse_prefix_pos::<u16, false>(b"80/tcp"), Ok((80, 2)));
     assert_eq!(parse_prefix_neg::<i32, false>(b"12a"), Ok((-12, 2)));
+
+    let (skip_zeroes, skip_plus) = (true, false);
+    assert_eq!(u32::atoi_simd_parse(b"0080", skip_zeroes, skip_plus), Ok(80));
 }
 
 #[test]
