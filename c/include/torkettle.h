@@ -186,7 +186,7 @@ typedef struct torkettle_error {
  *
  * void torkettle_fields_i64_starting_at(torkettle_fields_i64 *fields, size_t index, size_t offset);
  *
- * Sets the index and the offset of the next field, from which later fields are counted. To read a long text by pieces
+ * Sets the index and the offset of the next field, from which later fields are counted. To read a long text in pieces
  * that end with a separator, start each at the next_index and the next_offset of the piece before it.
  *
  * bool torkettle_fields_i64_next(torkettle_fields_i64 *fields, int64_t *value);

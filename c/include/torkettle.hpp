@@ -266,7 +266,7 @@ public:
         return error();
     }
 
-    // Returns the same fields, but the next one has this index and this offset. To read a long text by pieces that end
+    // Returns the same fields, but the next one has this index and this offset. To read a long text in pieces that end
     // with a separator, start each at the `next_index` and the `next_offset` of the piece before it.
     range starting_at(std::size_t index, std::size_t offset) const noexcept
     {

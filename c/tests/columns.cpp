@@ -251,7 +251,7 @@ private:
             require(is_at(fields, index) && fields.next_offset == end, "the end of a piece", index);
             at = end;
         }
-        require(index == expected.size(), "the number of fields by pieces", index);
+        require(index == expected.size(), "the number of fields in pieces", index);
     }
 
     // Room for `count` numbers, and one behind them that nothing may write.

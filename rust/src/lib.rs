@@ -119,7 +119,7 @@ pub mod guide {}
 /// assert_eq!(total(b"80,44x,8080"), Err(ColumnError::Trailing { index: 1, place: 5 }));
 /// ```
 ///
-/// A longer input can be read by pieces, each of which ends with a separator:
+/// A longer input can be read in pieces, each of which ends with a separator:
 ///
 /// ```
 /// use torkettle::column::Fields;

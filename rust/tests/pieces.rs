@@ -1,4 +1,4 @@
-//! Compares what the examples read by pieces, and on several threads, with `Fields` over the whole text.
+//! Compares what the examples read in pieces, and on several threads, with `Fields` over the whole text.
 
 #[path = "../examples/sum.rs"]
 #[allow(dead_code)]
