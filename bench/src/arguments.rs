@@ -1,7 +1,7 @@
 //! The arguments of the program.
 
-use std::env;
 use std::path::PathBuf;
+use torkettle_common::arguments::Given;
 
 /// What the program is asked to do.
 #[derive(Debug)]
@@ -40,14 +40,19 @@ pub enum Work {
 }
 
 impl Work {
+    // Arguments that ask for a part of it.
+    const PARTS: [(&str, Work); 4] = [
+        ("--exports-only", Work::Exports),
+        ("--inlined-only", Work::Inlined),
+        ("--c-only", Work::C),
+        ("--count", Work::Count),
+    ];
+
     /// Whether this is a part of it.
     pub fn includes(self, part: Work) -> bool {
         self == part || self == Work::Everything
     }
 }
-
-/// The processor that `rt` builds for by default.
-const DEFAULT_CPU: &str = "x86-64-v2";
 
 /// How the program is called: what `--help` prints.
 pub const USAGE: &str = "\
@@ -70,72 +75,37 @@ Without the kit, the Cargo package and the C library are timed alone.";
 
 impl Arguments {
     /// Reads the arguments. An error says what is wrong with them.
-    pub fn read(words: Vec<String>) -> Result<Arguments, String> {
-        let mut arguments = Arguments {
-            work: Work::Everything,
-            seed: 1,
-            cpu: None,
-            has_lanes: false,
-            is_markdown: false,
-            original: env::var_os("TORKETTLE_ORIGINAL").map(PathBuf::from),
-            passes: 5,
-            only: None,
-            against: None,
+    pub fn read(words: &[String]) -> Result<Arguments, String> {
+        let given = Given::read(USAGE, words)?;
+        let against: Option<String> = given.value("--against")?;
+        let parts = Work::PARTS.into_iter().filter(|(name, _)| given.has(name));
+        let work = match (&parts.collect::<Vec<_>>()[..], &against) {
+            ([], None) => Work::Everything,
+            ([], Some(_)) => Work::Exports,
+            ([(_, Work::C)], Some(_)) => return Err("--against does not time calls from C".into()),
+            ([(_, work)], _) => *work,
+            ([(one, _), (other, _), ..], _) => return Err(format!("{one} excludes {other}")),
         };
-        let mut words = words.into_iter();
-        while let Some(word) = words.next() {
-            arguments.take(&word, &mut words)?;
-        }
-        arguments.check()
-    }
-
-    fn take(&mut self, word: &str, words: &mut impl Iterator<Item = String>) -> Result<(), String> {
-        let mut value = || words.next().ok_or_else(|| format!("{word} needs a value"));
-        match word {
-            "--exports-only" => self.does(Work::Exports)?,
-            "--inlined-only" => self.does(Work::Inlined)?,
-            "--c-only" => self.does(Work::C)?,
-            "--count" => self.does(Work::Count)?,
-            "--lanes" => self.has_lanes = true,
-            "--markdown" => self.is_markdown = true,
-            "--original" => self.original = Some(PathBuf::from(value()?)),
-            "--only" => self.only = Some(value()?),
-            "--against" => self.against = Some(value()?),
-            "--cpu" => self.cpu = Some(value()?),
-            "--passes" => self.passes = number(word, &value()?)? as usize,
-            "--seed" => self.seed = number(word, &value()?)?,
-            _ => return Err(format!("there is no argument {word}: --help lists all")),
-        }
-        Ok(())
-    }
-
-    fn does(&mut self, work: Work) -> Result<(), String> {
-        if self.work != Work::Everything {
-            return Err(String::from(
-                "--count and the arguments that end in -only exclude each other",
-            ));
-        }
-        self.work = work;
-        Ok(())
-    }
-
-    fn check(mut self) -> Result<Arguments, String> {
-        if self.passes < 3 {
+        let passes = given.value("--passes")?.unwrap_or(5);
+        if passes < 3 {
             return Err(String::from("--passes is at least 3, to see how far the passes differ"));
         }
-        if self.against.is_some() {
-            match self.work {
-                Work::Everything => self.work = Work::Exports,
-                Work::C => return Err(String::from("--against does not time calls from C")),
-                Work::Exports | Work::Inlined | Work::Count => {}
-            }
-        }
-        Ok(self)
+        Ok(Arguments {
+            work,
+            seed: given.value("--seed")?.unwrap_or(1),
+            cpu: given.value("--cpu")?,
+            has_lanes: given.has("--lanes"),
+            is_markdown: given.has("--markdown"),
+            original: given.value("--original")?,
+            passes,
+            only: given.value("--only")?,
+            against,
+        })
     }
 
-    /// The processor for which our library is built.
+    /// The processor for which our library is built. By default, it is that of `rt`.
     pub fn cpu(&self) -> &str {
-        self.cpu.as_deref().unwrap_or(DEFAULT_CPU)
+        self.cpu.as_deref().unwrap_or("x86-64-v2")
     }
 
     /// Whether the input list, column or format with this line is timed.
@@ -145,16 +115,20 @@ impl Arguments {
     }
 }
 
-fn number(word: &str, text: &str) -> Result<u64, String> {
-    text.parse().map_err(|_| format!("{word} wants a number, and {text} is none"))
-}
-
 #[cfg(test)]
 mod tests {
     use super::{Arguments, Work};
 
     fn read(words: &str) -> Result<Arguments, String> {
-        Arguments::read(words.split_whitespace().map(String::from).collect())
+        Arguments::read(&words.split_whitespace().map(String::from).collect::<Vec<_>>())
+    }
+
+    #[test]
+    fn values() {
+        let words = "--cpu v3 --lanes --markdown --original .. --passes 3 --only u64 --seed 2";
+        let all = read(words).unwrap();
+        assert_eq!((all.cpu(), all.passes, all.seed), ("v3", 3, 2));
+        assert!(all.has_lanes && all.is_markdown && all.original.is_some() && !all.has("u32"));
     }
 
     #[test]
@@ -164,7 +138,7 @@ mod tests {
         assert_eq!(task("--against HEAD"), Ok(Work::Exports));
         assert_eq!(task("--inlined-only --against HEAD"), Ok(Work::Inlined));
         assert_eq!(task("--count --against HEAD"), Ok(Work::Count));
-        for refused in ["--c-only --against HEAD", "--c-only --count", "--original", "--passes 2"] {
+        for refused in ["--c-only --against HEAD", "--c-only --count", "--passes 2"] {
             assert!(read(refused).is_err());
         }
     }

@@ -69,7 +69,8 @@ fn cells(cache: &Cache, file: &Path, form: Form) -> Result<Vec<Option<Cell>>, St
 }
 
 /// Makes the calls of each cell, and prints whether the answers are right. Valgrind runs it.
-pub fn make_calls(file: &Path, form: Form) -> Result<(), String> {
+pub fn make_calls(file: &Path, form: &str) -> Result<bool, String> {
+    let form = if form == Form::Lanes.name() { Form::Lanes } else { Form::Words };
     let object = Object::open(file)?;
     for (number, cell) in tables::cells()?.iter().enumerate() {
         let Some(call) = object.call(&cell.call.export(form)) else {
@@ -81,7 +82,7 @@ pub fn make_calls(file: &Path, form: Form) -> Result<(), String> {
         cell_ends();
         println!("{}", if is_right { "right" } else { "wrong" });
     }
-    Ok(())
+    Ok(true)
 }
 
 /// Valgrind writes a count when this returns.

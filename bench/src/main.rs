@@ -16,29 +16,14 @@ mod tasks;
 mod timing;
 
 use arguments::Arguments;
-use std::env;
 use std::path::Path;
 use std::process::ExitCode;
-use torkettle_common::Form;
+use torkettle_common::arguments::run;
 
 fn main() -> ExitCode {
-    let words: Vec<String> = env::args().skip(1).collect();
-    let done = match words.iter().map(String::as_str).collect::<Vec<_>>()[..] {
+    run(arguments::USAGE, |words| match words {
         // Valgrind runs the program in this way.
-        ["--cells", file, "words"] => count::make_calls(Path::new(file), Form::Words).map(|()| 0),
-        ["--cells", file, "lanes"] => count::make_calls(Path::new(file), Form::Lanes).map(|()| 0),
-        ["--help"] => {
-            println!("{}", arguments::USAGE);
-            Ok(0)
-        }
-        _ => Arguments::read(words).and_then(|arguments| tasks::run(&arguments)),
-    };
-    match done {
-        Ok(0) => ExitCode::SUCCESS,
-        Ok(_) => ExitCode::from(1),
-        Err(fault) => {
-            eprintln!("torkettle_bench: {fault}");
-            ExitCode::from(2)
-        }
-    }
+        [cells, file, form] if cells == "--cells" => count::make_calls(Path::new(file), form),
+        _ => Ok(tasks::run(&Arguments::read(words)?)? == 0),
+    })
 }

@@ -1,6 +1,7 @@
-//! What `diff/compare` and `bench` share: a cache outside the repository, and what builds the library, the
-//! Cargo package and the original there.
+//! What `diff/compare` and `bench` share: how they read arguments, a cache outside the repository, and what
+//! builds the library, the Cargo package and the original there.
 
+pub mod arguments;
 pub mod cache;
 pub mod cargo;
 pub mod command;

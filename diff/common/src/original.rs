@@ -4,6 +4,7 @@ use crate::cache::{Cache, failed};
 use crate::cargo::{Dependency, Generated, Kind};
 use crate::command::print_left_out;
 use crate::stamp::Stamp;
+use std::env;
 use std::fs;
 use std::path::Path;
 
@@ -23,8 +24,11 @@ pub fn name(cpu: &str) -> String {
     format!("the original, {kind} build {VERSION}")
 }
 
-/// The crate. If no folder is named and it cannot be downloaded, it is left out.
-pub fn find(cache: &Cache, folder: Option<&Path>) -> Result<Option<Dependency>, String> {
+/// The crate, in a folder that is named here or by TORKETTLE_ORIGINAL. If none is named and it cannot
+/// be downloaded, it is left out.
+pub fn find(cache: &Cache, named: Option<&Path>) -> Result<Option<Dependency>, String> {
+    let variable = env::var_os("TORKETTLE_ORIGINAL");
+    let folder = named.or(variable.as_deref().map(Path::new));
     let dependency = dependency(folder)?;
     let files = vec![("lib.rs", String::new())];
     let dependencies = vec![dependency.clone()];

@@ -1,7 +1,7 @@
 //! The arguments of the program.
 
-use std::env;
 use std::path::PathBuf;
+use torkettle_common::arguments::Given;
 
 /// What the program is asked to do.
 #[derive(Debug)]
@@ -30,32 +30,16 @@ Without the kit, only the Cargo package is compared.";
 
 impl Arguments {
     /// Reads the arguments. An error says what is wrong with them.
-    pub fn read(words: Vec<String>) -> Result<Arguments, String> {
-        let mut arguments = Arguments {
-            texts: 200_000,
-            seed: 1,
-            cpu: String::from("x86-64-v2"),
-            is_debug: false,
-            original: env::var_os("TORKETTLE_ORIGINAL").map(PathBuf::from),
-        };
-        let mut words = words.into_iter();
-        while let Some(word) = words.next() {
-            let mut value = || words.next().ok_or_else(|| format!("{word} needs a value"));
-            match word.as_str() {
-                "--texts" => arguments.texts = number(&word, &value()?)?,
-                "--seed" => arguments.seed = number(&word, &value()?)?,
-                "--cpu" => arguments.cpu = value()?,
-                "--debug" => arguments.is_debug = true,
-                "--original" => arguments.original = Some(PathBuf::from(value()?)),
-                _ => return Err(format!("there is no argument {word}: --help lists all")),
-            }
-        }
-        Ok(arguments)
+    pub fn read(words: &[String]) -> Result<Arguments, String> {
+        let given = Given::read(USAGE, words)?;
+        Ok(Arguments {
+            texts: given.value("--texts")?.unwrap_or(200_000),
+            seed: given.value("--seed")?.unwrap_or(1),
+            cpu: given.value("--cpu")?.unwrap_or(String::from("x86-64-v2")),
+            is_debug: given.has("--debug"),
+            original: given.value("--original")?,
+        })
     }
-}
-
-fn number(word: &str, text: &str) -> Result<u64, String> {
-    text.parse().map_err(|_| format!("{word} wants a number, and {text} is none"))
 }
 
 #[cfg(test)]
@@ -63,7 +47,7 @@ mod tests {
     use super::Arguments;
 
     fn read(words: &str) -> Result<Arguments, String> {
-        Arguments::read(words.split_whitespace().map(String::from).collect())
+        Arguments::read(&words.split_whitespace().map(String::from).collect::<Vec<_>>())
     }
 
     #[test]

@@ -17,36 +17,23 @@ mod sides;
 mod standard;
 mod texts;
 
-use arguments::Arguments;
+use arguments::{Arguments, USAGE};
 use compare::{Counts, Other, Sides};
-use std::env;
 use std::process::ExitCode;
 // `rust/tests` compiles some of the modules with modules of these names.
 use torkettle_common::{integer, random};
 
 fn main() -> ExitCode {
-    let words: Vec<String> = env::args().skip(1).collect();
-    if words == ["--help"] {
-        println!("{}", arguments::USAGE);
-        return ExitCode::SUCCESS;
-    }
-    match Arguments::read(words).and_then(|arguments| run(&arguments)) {
-        Ok(0) => ExitCode::SUCCESS,
-        Ok(_) => ExitCode::from(1),
-        Err(fault) => {
-            eprintln!("torkettle_compare: {fault}");
-            ExitCode::from(2)
-        }
-    }
+    torkettle_common::arguments::run(USAGE, |words| run(&Arguments::read(words)?))
 }
 
-// Compares the answers, prints how many differ, and returns that number.
-fn run(arguments: &Arguments) -> Result<u64, String> {
+// Compares the answers, prints how many differ, and returns whether none does.
+fn run(arguments: &Arguments) -> Result<bool, String> {
     println!("seed {}, {} texts", arguments.seed, arguments.texts);
     let sides = sides::open(arguments)?;
     let counts = compare::compare(&sides, arguments.seed, arguments.texts);
     print_counts(&sides, &counts);
-    Ok(counts.total().differences)
+    Ok(counts.total().differences == 0)
 }
 
 fn print_counts(sides: &Sides, counts: &Counts) {
