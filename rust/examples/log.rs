@@ -1,7 +1,7 @@
 //! Adds up the requests of a web server's access log, which it reads from standard input. Skips the
 //! lines that have no status and size, and says why.
 
-use std::io::{self, BufRead};
+use std::io::{self, BufRead, Write};
 use std::str::from_utf8;
 use torkettle::{AtoiSimdError, Parse, parse_prefix};
 
@@ -31,9 +31,10 @@ fn status_and_size(line: &[u8]) -> Result<(u16, u64), &'static str> {
     Ok((status, size))
 }
 
-fn main() -> io::Result<()> {
+// Reads a log, and prints the skipped lines and the sums.
+fn print_sums(input: impl BufRead, mut out: impl Write) -> io::Result<()> {
     let (mut requests, mut failed, mut bytes, mut skipped) = (0_u64, 0_u64, 0_u64, 0_u64);
-    for (number, line) in (1..).zip(io::stdin().lock().split(b'\n')) {
+    for (number, line) in (1..).zip(input.split(b'\n')) {
         match status_and_size(&line?) {
             Ok((status, size)) => {
                 requests += 1;
@@ -41,14 +42,21 @@ fn main() -> io::Result<()> {
                 bytes = bytes.saturating_add(size);
             }
             Err(reason) => {
-                println!("line {number} is skipped: {reason}");
+                writeln!(out, "line {number} is skipped: {reason}")?;
                 skipped += 1;
             }
         }
     }
-    println!("requests {requests:10}");
-    println!("failed   {failed:10}");
-    println!("bytes    {bytes:10}");
-    println!("skipped  {skipped:10}");
-    Ok(())
+    writeln!(out, "requests {requests:10}")?;
+    writeln!(out, "failed   {failed:10}")?;
+    writeln!(out, "bytes    {bytes:10}")?;
+    writeln!(out, "skipped  {skipped:10}")
+}
+
+fn main() -> io::Result<()> {
+    match print_sums(io::stdin().lock(), io::stdout().lock()) {
+        // Nothing reads the rest, as after `head`.
+        Err(error) if error.kind() == io::ErrorKind::BrokenPipe => Ok(()),
+        ended => ended,
+    }
 }

@@ -127,5 +127,9 @@ pub fn print_sum(input: impl Read, mut out: impl Write) -> io::Result<()> {
 }
 
 fn main() -> io::Result<()> {
-    print_sum(io::stdin().lock(), BufWriter::new(io::stdout().lock()))
+    match print_sum(io::stdin().lock(), BufWriter::new(io::stdout().lock())) {
+        // Nothing reads the rest, as after `head`.
+        Err(error) if error.kind() == io::ErrorKind::BrokenPipe => Ok(()),
+        ended => ended,
+    }
 }

@@ -1,7 +1,9 @@
-//! Adds up the numbers of a file, one on each line, on as many threads as the machine has, and prints
-//! the lines that are not a number: `cargo run --release --example threads -- FILE`.
+//! Adds up the numbers of a file, one on each line, and prints the lines that are not a number:
+//! `cargo run --release --example threads -- FILE [THREADS]`. By default, it takes as many threads as
+//! the machine has.
 
-use std::{env, fs, io, thread};
+use std::io::{self, BufWriter, Write};
+use std::{env, fs, thread};
 use torkettle::column::{FieldError, Fields};
 
 /// Calls `read` for the lines of each of `threads` pieces of `text`, each on a thread of its own.
@@ -45,17 +47,30 @@ pub fn sum(lines: Fields<'_, i64>) -> (u64, i128, Vec<FieldError<'_>>) {
     (numbers, sum, bad)
 }
 
-fn main() -> io::Result<()> {
-    let path = env::args_os().nth(1).ok_or(io::ErrorKind::InvalidInput)?;
-    let text = fs::read(path)?;
-    let threads = thread::available_parallelism()?.get();
+// Prints the lines that are not a number, how many others there are, and their sum.
+fn print_sum(text: &[u8], threads: usize, mut out: impl Write) -> io::Result<()> {
     let (mut numbers, mut total) = (0, 0);
-    for (count, sum, bad) in read_on_threads(&text, threads, sum) {
+    for (count, sum, bad) in read_on_threads(text, threads, sum) {
         (numbers, total) = (numbers + count, total + sum);
         for error in bad {
-            println!("line {} is skipped: \"{}\"", error.index + 1, error.text.escape_ascii());
+            let text = error.text.escape_ascii();
+            writeln!(out, "line {} is skipped: \"{text}\"", error.index + 1)?;
         }
     }
-    println!("{numbers} numbers\nsum {total}");
-    Ok(())
+    writeln!(out, "{numbers} numbers\nsum {total}")?;
+    out.flush()
+}
+
+fn main() -> io::Result<()> {
+    let mut arguments = env::args_os().skip(1);
+    let text = fs::read(arguments.next().ok_or(io::ErrorKind::InvalidInput)?)?;
+    let threads = match arguments.next() {
+        Some(number) => number.to_string_lossy().parse().map_err(io::Error::other)?,
+        None => thread::available_parallelism()?,
+    };
+    match print_sum(&text, threads.get(), BufWriter::new(io::stdout().lock())) {
+        // Nothing reads the rest, as after `head`.
+        Err(error) if error.kind() == io::ErrorKind::BrokenPipe => Ok(()),
+        ended => ended,
+    }
 }
