@@ -2,7 +2,7 @@
 
 use std::io::{self, Read};
 use torkettle::column::{Column, ColumnError, FieldError, Fields, is_separator};
-use torkettle::formats::digits_then;
+use torkettle::formats::{after, digits_then, json_integer};
 use torkettle::{
     AtoiSimdError, Parse, parse, parse_neg, parse_pos, parse_prefix, parse_prefix_neg,
     parse_prefix_pos,
@@ -121,6 +121,23 @@ fn name_and_numbers(line: &str) -> Option<(&str, u32, i8)> {
     Some((name, price, change))
 }
 
+fn total_of_second_column(table: &str) -> Result<u64, usize> {
+    let mut total = 0;
+    for (number, line) in (1_usize..).zip(table.lines()) {
+        let cell = line.split('\t').nth(1).ok_or(number)?;
+        total += u64::from(parse::<u32, true, false>(cell.as_bytes()).map_err(|_| number)?);
+    }
+    Ok(total)
+}
+
+#[test]
+fn integers_of_json() {
+    let rest = after(b"[12, -0, 7]", b'[').unwrap();
+    assert_eq!(json_integer::<u32>(rest), Some((12, &b", -0, 7]"[..])));
+    assert_eq!(json_integer::<u32>(b"-0, 7]"), Some((0, &b", 7]"[..])));
+    assert_eq!(json_integer::<u32>(b"7]"), Some((7, &b"]"[..])));
+}
+
 #[test]
 fn totals() {
     assert_eq!(total(b"1,2,3"), Ok(6));
@@ -137,6 +154,9 @@ fn totals() {
     assert_eq!(version(b"1.22.x"), None);
     assert_eq!(name_and_numbers("tea,250,-3"), Some(("tea", 250, -3)));
     assert_eq!(name_and_numbers("tea,250"), None);
+    assert_eq!(total_of_second_column("tea\t250\t-3\r\nmilk\t90"), Ok(340));
+    assert_eq!(total_of_second_column("tea\t250\nmilk\n"), Err(2));
+    assert_eq!(total_of_second_column("tea\t250\n\tx\n"), Err(2));
 }
 
 #[test]
