@@ -1,24 +1,22 @@
 -- Words as lists of fields: how products sum them, what bitwise operators do to each.
-use Rattle.std.proofs.Common.{◌≡◌, ℕ, zero, suc, ◌+◌, ◌-◌, ◌*◌, ◌/◌, ◌%◌, ◌^◌, ◌<◌, ◌≤◌, List, [], ◌∷◌, length, refl, sym, ap, ap₂, ◌∙◌, arith, lit<, map, inl, inr, ◌==◌, mod-lt}
+use Rattle.std.proofs.Common.{◌≡◌, ℕ, zero, suc, ◌+◌, ◌-◌, ◌*◌, ◌/◌, ◌%◌, ◌^◌, ◌<◌, ◌≤◌, List, [], ◌∷◌, length, refl, sym, ap, ap₂, ◌∙◌, arith, lit<, map, inl, inr, mod-lt}
 use Rattle.std.proofs.lemmas.List.{length-map}
-use Rattle.std.proofs.Math.Nat.{add-mul-div_right, div-div-eq-div-mul, mul_comm, zero-mod, suc-mul, mul-le-mul_right, mul_assoc, pow-zero, pow-suc, suc-add, zero-add, mul-one, mod-eq_of_lt, pow-le-pow_right, div-one, add_comm, eq-zero-or-pos}
+use Rattle.std.proofs.Math.Nat.{add-mul-div_right, div-div-eq-div-mul, mul_comm, zero-mod, suc-mul, mul-le-mul_right, mul_assoc, pow-zero, pow-suc, suc-add, zero-add, mul-one, mod-eq_of_lt, pow-le-pow_right, div-one, eq-zero-or-pos}
 use Rattle.std.proofs.Math.Pow.{mod-mod-pow, ones_lt, pow_mono}
-use Rattle.std.proofs.lemmas.Nat.{pow_pos, pow-add, mod-pow-add, field_of, and_mask, and_block, shr_split, div-mul-add, mod-mul-add, and_shr, and_mod, or_shr, or_mod, xor_shr, xor_mod}
-use Rattle.std.specs.Int.Bits.{bit_and, and_zero_r, bit_or, bit_xor}
-use Rattle.std.specs.Simd.Lanes.{digits_l, zip2}
+use Rattle.std.proofs.lemmas.Nat.{pow_pos, pow-add, mod-pow-add, field_of, and_mask, and_block, shr_split, div-mul-add, mod-mul-add, and_shr, and_mod}
+use Rattle.std.specs.Int.Bits.{bit_and, and_zero_r}
+use Rattle.std.specs.Simd.Lanes.{digits_l}
 use Rattle.atoi_core.specs.Words.{low_bytes, low_value}
 use Rattle.std.proofs.Math.Numerals.{add-one}
-use Rattle.std.proofs.lemmas.Bool.{eq-eqb, ne_eqb}
-use Rattle.std.specs.List.{prefix_len}
-use Rattle.std.specs.Int.Count.{count_trailing_zeros, under}
+use Rattle.std.specs.Int.Count.{count_trailing_zeros}
 
 -- ---- One round of a weighted sum
 -- A round joins neighbouring digits of base t: a mask, a product by 1 + t * 2^(h + h), a shift.
 
--- The lower halves of k fields, lowest first.
-abbrev lower_halves : ℕ → ℕ → ℕ → List ℕ
-lower_halves h zero word = []
-lower_halves h (suc k) word = (word % 2 ^ h) ∷ lower_halves h k (word / 2 ^ (h + h))
+-- What the lower halves of k fields spell in base t, the lowest field first.
+abbrev spelled : ℕ → ℕ → ℕ → ℕ → ℕ
+spelled h t zero word = 0
+spelled h t (suc k) word = (word % 2 ^ h) * t ^ k + spelled h t k (word / 2 ^ (h + h))
 
 -- The mask that keeps these lower halves.
 abbrev masks : ℕ → ℕ → ℕ
@@ -29,12 +27,6 @@ masks h (suc k) = masks h k * 2 ^ (h + h) + (2 ^ h - 1)
 abbrev twice : ℕ → ℕ
 twice zero = zero
 twice (suc m) = suc (suc (twice m))
-
--- Neighbouring digits in pairs, the higher one first.
-abbrev pairs : ℕ → List ℕ → List ℕ
-pairs t [] = []
-pairs t (x ∷ []) = x ∷ []
-pairs t (x ∷ y ∷ rest) = (y + x * t) ∷ pairs t rest
 
 -- Half a field of set bits fits in a field.
 half_below : (h : ℕ) → 2 ^ h - 1 < 2 ^ (h + h)
@@ -67,8 +59,8 @@ product_shifted b t word pos =
     let e : word * (1 + t * b) ≡ word + word * t * b = omega arith in
     rw e (add-mul-div_right word (word * t) pos)
 
--- Spreading adds to each field the one below times t.
-spread_pair : (b t u f g : ℕ) → f < b → spread b t ((u * b + g) * b + f) ≡ spread b t u * (b * b) + ((u % b + g * t) * b + (g + f * t))
+-- Spreading adds to each field the one below it times t.
+spread_pair : (b t u f g : ℕ) → f < b → spread b t ((u * b + g) * b + f) ≡ (spread b t u * b + (u % b + g * t)) * b + (g + f * t)
 unfolding spread
 spread_pair b t u f g below =
     let q = u / b in
@@ -77,14 +69,33 @@ spread_pair b t u f g below =
     let e : ((u * b + g) * b + f) / b ≡ (q * b + r) * b + g = cc (split, div-mul-add (u * b + g) b f below) in
     rw e (omega arith)
 
--- A round on all fields, if a sum fits in one.
+-- A power of t * t.
+power_of_square : (t m : ℕ) → (t * t) ^ m ≡ t ^ twice m
+power_of_square t zero = pow-zero (t * t) ∙ sym (pow-zero t)
+power_of_square t (suc m) =
+    cc (pow-suc (t * t) m, power_of_square t m, mul_assoc (t ^ twice m) t t, pow-suc t (twice m), pow-suc t (suc (twice m)))
+
+-- A cut before a shift does not change what is spelled.
+shift_after_cut : (g t m word : ℕ) → spelled g t m (word % 2 ^ (m * (g + g)) / 2 ^ g) ≡ spelled g t m (word / 2 ^ g)
+shift_after_cut g t zero word = refl
+shift_after_cut g t (suc m) word =
+    let b = 2 ^ g in
+    let w = 2 ^ (g + g) in
+    let rest = word / w % 2 ^ (m * (g + g)) in
+    let low_bits = word % 2 ^ (suc m * (g + g)) in
+    let fits : word % w < w = mod-lt word (pow_pos (g + g)) in
+    let cut : low_bits ≡ rest * w + word % w = rw suc-mul (mod-pow-add word (m * (g + g)) (g + g)) in
+    let swap : (x : ℕ) → x / b / w ≡ x / w / b = λ x. cc (div-div-eq-div-mul x b w, mul_comm b w, div-div-eq-div-mul x w b) in
+    let low : low_bits / b % b ≡ word / b % b = cc (field_of low_bits g g, cut, mod-mul-add rest w (word % w) fits, field_of word g g) in
+    let high : low_bits / b / w ≡ rest / b = cc (swap low_bits, cut, div-mul-add rest w (word % w) fits) in
+    cc (low, high, shift_after_cut g t m (word / w), swap word)
+
+-- A round keeps what is spelled, if the sum of a pair fits in a field.
 module _ (h t : ℕ) (room : (2 ^ h - 1) * (1 + t) < 2 ^ (h + h)) where
-  -- The sum of a pair fits in a field.
   two_digits : (f g : ℕ) → f < 2 ^ h → g < 2 ^ h → g + f * t < 2 ^ (h + h)
   two_digits f g f_below g_below = search (arith, mul-le-mul_right)
 
-  -- The spread word has the sums of pairs.
-  spread_masked : (m word : ℕ) → lower_halves (h + h) m (spread (2 ^ (h + h)) t (bit_and word (masks h (twice m)))) ≡ pairs t (lower_halves h (twice m) word)
+  spread_masked : (m word : ℕ) → spelled (h + h) (t * t) m (spread (2 ^ (h + h)) t (bit_and word (masks h (twice m)))) ≡ spelled h t (twice m) word
   spread_masked zero word = refl
   spread_masked (suc m) word =
       let b = 2 ^ (h + h) in
@@ -98,7 +109,7 @@ module _ (h t : ℕ) (room : (2 ^ h - 1) * (1 + t) < 2 ^ (h + h)) where
       let whole : bit_and word (masks h (twice (suc m))) ≡ (u * b + g) * b + f = cc (mask_step h (suc (twice m)) word, mask_step h (twice m) (word / b)) in
       let above = spread b t u * b + (u % b + g * t) in
       let sums = spread b t (bit_and word (masks h (twice (suc m)))) in
-      let is : sums ≡ above * b + (g + f * t) = rw whole (spread_pair b t u f g fits ∙ omega arith) in
+      let is : sums ≡ above * b + (g + f * t) = rw whole (spread_pair b t u f g fits) in
       let low : sums % b ≡ g + f * t = rw is (mod-mul-add above b (g + f * t) lower) in
       let high : sums / 2 ^ ((h + h) + (h + h)) ≡ spread b t u =
       cc (
@@ -108,66 +119,12 @@ module _ (h t : ℕ) (room : (2 ^ h - 1) * (1 + t) < 2 ^ (h + h)) where
         div-mul-add above b (g + f * t) lower,
         div-mul-add (spread b t u) b (u % b + g * t) (two_digits g (u % b) g_below (masked_low h (twice m) rest)),
       ) in
-      cc (low, high, spread_masked m rest)
+      rw (low, high, spread_masked m rest, power_of_square t m, pow-suc t (twice m)) (omega arith)
 
--- A cut before a shift does not change the lower halves.
-shift_after_cut : (g m word : ℕ) → lower_halves g m (word % 2 ^ (m * (g + g)) / 2 ^ g) ≡ lower_halves g m (word / 2 ^ g)
-shift_after_cut g zero word = refl
-shift_after_cut g (suc m) word =
-    let b = 2 ^ g in
-    let w = 2 ^ (g + g) in
-    let rest = word / w % 2 ^ (m * (g + g)) in
-    let low_bits = word % 2 ^ (suc m * (g + g)) in
-    let fits : word % w < w = mod-lt word (pow_pos (g + g)) in
-    let cut : low_bits ≡ rest * w + word % w = rw suc-mul (mod-pow-add word (m * (g + g)) (g + g)) in
-    let swap : (x : ℕ) → x / b / w ≡ x / w / b = λ x. cc (div-div-eq-div-mul x b w, mul_comm b w, div-div-eq-div-mul x w b) in
-    let low : low_bits / b % b ≡ word / b % b = cc (field_of low_bits g g, cut, mod-mul-add rest w (word % w) fits, field_of word g g) in
-    let high : low_bits / b / w ≡ rest / b = cc (swap low_bits, cut, div-mul-add rest w (word % w) fits) in
-    cc (low, high, shift_after_cut g m (word / w), swap word)
-
--- A round turns 2 * m lower halves into m sums.
-round : (h t : ℕ) → (2 ^ h - 1) * (1 + t) < 2 ^ (h + h) → (m word : ℕ)
-    → let product = bit_and word (masks h (twice m)) * (1 + t * 2 ^ (h + h)) in
-    lower_halves (h + h) m (product % 2 ^ (m * ((h + h) + (h + h))) / 2 ^ (h + h)) ≡ pairs t (lower_halves h (twice m) word)
-round h t room m word = search (arith, shift_after_cut, product_shifted, pow_pos, spread_masked)
-
--- What digits spell in base t, the highest first.
-abbrev in_base : ℕ → List ℕ → ℕ
-in_base t [] = 0
-in_base t (digit ∷ digits) = digit * t ^ length digits + in_base t digits
-
-length-lower_halves : (h k word : ℕ) → length (lower_halves h k word) ≡ k
-length-lower_halves h zero word = refl
-length-lower_halves h (suc k) word = cc (length-lower_halves h k (word / 2 ^ (h + h)))
-
--- From 2 * m digits, `pairs` makes m pairs.
-length-pairs : (h t m word : ℕ) → length (pairs t (lower_halves h (twice m) word)) ≡ m
-length-pairs h t zero word = refl
-length-pairs h t (suc m) word = cc (length-pairs h t m (word / 2 ^ (h + h) / 2 ^ (h + h)))
-
--- A power of t * t.
-power_of_square : (t m : ℕ) → (t * t) ^ m ≡ t ^ twice m
-power_of_square t zero = pow-zero (t * t) ∙ sym (pow-zero t)
-power_of_square t (suc m) =
-    cc (pow-suc (t * t) m, power_of_square t m, mul_assoc (t ^ twice m) t t, pow-suc t (twice m), pow-suc t (suc (twice m)))
-
--- Joined pairs spell the same number.
-in_base-pairs : (h t m word : ℕ) → in_base (t * t) (pairs t (lower_halves h (twice m) word)) ≡ in_base t (lower_halves h (twice m) word)
-in_base-pairs h t zero word = refl
-in_base-pairs h t (suc m) word =
-    let f = word % 2 ^ h in
-    let g = word / 2 ^ (h + h) % 2 ^ h in
-    let rest = word / 2 ^ (h + h) / 2 ^ (h + h) in
-    let following = in_base t (lower_halves h (twice m) rest) in
-    let p = t ^ twice m in
-    let regroup : (g + f * t) * p + following ≡ f * (p * t) + (g * p + following) = omega arith in
-    rw (length-pairs h t m rest, power_of_square t m, in_base-pairs h t m rest, length-lower_halves h (twice m) rest, pow-suc t (twice m)) regroup
-
--- So a round keeps the number that is spelled.
-round_number : (h t : ℕ) → (2 ^ h - 1) * (1 + t) < 2 ^ (h + h) → (m word : ℕ)
-    → let product = bit_and word (masks h (twice m)) * (1 + t * 2 ^ (h + h)) in
-    in_base (t * t) (lower_halves (h + h) m (product % 2 ^ (m * ((h + h) + (h + h))) / 2 ^ (h + h))) ≡ in_base t (lower_halves h (twice m) word)
-round_number h t room m word = rw (round h t room m word) (in_base-pairs h t m word)
+  round : (m word : ℕ)
+      → let product = bit_and word (masks h (twice m)) * (1 + t * 2 ^ (h + h)) in
+      spelled (h + h) (t * t) m (product % 2 ^ (m * ((h + h) + (h + h))) / 2 ^ (h + h)) ≡ spelled h t (twice m) word
+  round m word = search (arith, shift_after_cut, product_shifted, pow_pos, spread_masked)
 
 -- ---- Fields of a word are its digits in a base 2^k
 
@@ -196,11 +153,11 @@ low_value_shifted (suc z) k word =
     rw (suc-add, low, high) (omega (arith, low_value_shifted z k word))
 
 -- The weighted sum is what the lower halves spell.
-in_base-low_value : (k word : ℕ) → in_base 10 (lower_halves 4 k word) ≡ low_value (digits_l 256 k word)
-in_base-low_value zero word = refl
-in_base-low_value (suc k) word =
+spelled_by_bytes : (k word : ℕ) → spelled 4 10 k word ≡ low_value (digits_l 256 k word)
+spelled_by_bytes zero word = refl
+spelled_by_bytes (suc k) word =
     let half : word % 16 ≡ word % 256 % 16 = omega arith in
-    cc (half, length-lower_halves 4 k (word / 256), length-digits 256 k (word / 256), in_base-low_value k (word / 256))
+    cc (half, length-digits 256 k (word / 256), spelled_by_bytes k (word / 256))
 
 -- The lowest `len` bytes, shifted to the top, keep their sum.
 pub shifted_value : (k count len word : ℕ) → k ≡ (count - len) * 8 → len ≤ count
@@ -209,9 +166,9 @@ unfolding low_bytes
 shifted_value k count len word e le = search (arith, digits_cut, low_value_shifted)
 
 shifted_sum : (k count len word : ℕ) → k ≡ (count - len) * 8 → len ≤ count
-    → in_base 10 (lower_halves 4 count (word * 2 ^ k % 2 ^ (count * 8))) ≡ low_value (low_bytes len word)
+    → spelled 4 10 count (word * 2 ^ k % 2 ^ (count * 8)) ≡ low_value (low_bytes len word)
 unfolding low_bytes
-shifted_sum k count len word e le = in_base-low_value count (word * 2 ^ k % 2 ^ (count * 8)) ∙ shifted_value k count len word e le
+shifted_sum k count len word e le = spelled_by_bytes count (word * 2 ^ k % 2 ^ (count * 8)) ∙ shifted_value k count len word e le
 
 -- A mask to lower halves keeps the weighted sum.
 pub low_value_halves : (bytes : List ℕ) → low_value (map (λ b. bit_and b 15) bytes) ≡ low_value bytes
@@ -223,19 +180,16 @@ low_value_halves (byte ∷ bytes) =
 -- ---- Weighted sums of eight and of sixteen bytes
 
 -- A word below half a field is its only digit.
-one_field : (base half word : ℕ) → word < 2 ^ half → in_base base (lower_halves half 1 word) ≡ word
+one_field : (base half word : ℕ) → word < 2 ^ half → word ≡ spelled half base 1 word
 one_field base half word below = rw pow-zero (omega (arith, mod-eq_of_lt below))
 
 -- After two rounds, two fields spell the sum in base 10000.
 two_rounds : (val len : ℕ) → len ≤ 8
     → let ones = val * 2 ^ (64 - 8 * len) % 2 ^ 64 in
     let tens = bit_and ones 0x0F0F_0F0F_0F0F_0F0F * 0xA01 % 2 ^ 64 / 2 ^ 8 in
-    in_base 10000 (lower_halves 16 2 (bit_and tens 0x00FF_00FF_00FF_00FF * 0x64_0001 % 2 ^ 64 / 2 ^ 16)) ≡ low_value (low_bytes len val)
+    spelled 16 10000 2 (bit_and tens 0x00FF_00FF_00FF_00FF * 0x64_0001 % 2 ^ 64 / 2 ^ 16) ≡ low_value (low_bytes len val)
 two_rounds val len most =
-    let ones = val * 2 ^ (64 - 8 * len) % 2 ^ 64 in
-    round_number 8 100 (lit< tt) 2 (bit_and ones 0x0F0F_0F0F_0F0F_0F0F * 0xA01 % 2 ^ 64 / 2 ^ 8)
-    ∙ round_number 4 10 (lit< tt) 4 ones
-    ∙ shifted_sum (64 - 8 * len) 8 len val (omega arith) most
+    round 8 100 (lit< tt) 2 _ ∙ round 4 10 (lit< tt) 4 _ ∙ shifted_sum (64 - 8 * len) 8 len val (omega arith) most
 
 -- A third round joins the two fields.
 pub sum_8 : (val len : ℕ) → len ≤ 8
@@ -243,20 +197,9 @@ pub sum_8 : (val len : ℕ) → len ≤ 8
     let tens = bit_and ones 0x0F0F_0F0F_0F0F_0F0F * 0xA01 % 2 ^ 64 / 2 ^ 8 in
     let hundreds = bit_and tens 0x00FF_00FF_00FF_00FF * 0x64_0001 % 2 ^ 64 / 2 ^ 16 in
     bit_and hundreds 0x0000_FFFF_0000_FFFF * 0x2710_0000_0001 % 2 ^ 64 / 2 ^ 32 ≡ low_value (low_bytes len val)
-sum_8 val len most =
-    let ones = val * 2 ^ (64 - 8 * len) % 2 ^ 64 in
-    let tens = bit_and ones 0x0F0F_0F0F_0F0F_0F0F * 0xA01 % 2 ^ 64 / 2 ^ 8 in
-    let hundreds = bit_and tens 0x00FF_00FF_00FF_00FF * 0x64_0001 % 2 ^ 64 / 2 ^ 16 in
-    let sum = bit_and hundreds 0x0000_FFFF_0000_FFFF * 0x2710_0000_0001 % 2 ^ 64 / 2 ^ 32 in
-    sym (one_field 100000000 32 sum (omega arith))
-    ∙ round_number 16 10000 (lit< tt) 1 hundreds
-    ∙ two_rounds val len most
+sum_8 val len most = one_field 100000000 32 _ (omega arith) ∙ round 16 10000 (lit< tt) 1 _ ∙ two_rounds val len most
 
--- A sum of the two fields is what they spell.
-two_fields : (word : ℕ) → word < 2 ^ 64 → bit_and (word / 2 ^ 16) 0xFFFF * 10000 + word / 2 ^ 48 ≡ in_base 10000 (lower_halves 16 2 (word / 2 ^ 16))
-two_fields word fits = omega (arith, and_mask (word / 2 ^ 16) 16)
-
--- Two rounds and that sum, for digits in bytes below 16.
+-- Two rounds and a sum of the two fields, for digits in bytes below 16.
 pub sum_of_fields : (digits : ℕ) → digits < 2 ^ 64 → bit_and digits 0x0F0F_0F0F_0F0F_0F0F ≡ digits
     → let tens = digits * 0xA01 % 2 ^ 64 / 2 ^ 8 in
     let hundreds = bit_and tens 0x00FF_00FF_00FF_00FF * 0x64_0001 % 2 ^ 64 in
@@ -264,18 +207,16 @@ pub sum_of_fields : (digits : ℕ) → digits < 2 ^ 64 → bit_and digits 0x0F0F
 sum_of_fields digits fits halves =
     let hundreds = bit_and (digits * 0xA01 % 2 ^ 64 / 2 ^ 8) 0x00FF_00FF_00FF_00FF * 0x64_0001 % 2 ^ 64 in
     let whole : digits * 2 ^ (64 - 8 * 8) % 2 ^ 64 ≡ digits = omega arith in
-    two_fields hundreds (omega arith) ∙ (rw (whole, halves) at (two_rounds digits 8 (omega arith)))
+    let spells = rw (whole, halves) at (two_rounds digits 8 (omega arith)) in
+    omega (arith, and_mask (hundreds / 2 ^ 16) 16)
 
 -- Two rounds join four digits in bytes below 16.
 pub sum_of_four : (digits : ℕ) → bit_and digits 0x0F0F_0F0F ≡ digits
     → bit_and (digits * 0xA01 % 2 ^ 32 / 2 ^ 8) 0x00FF_00FF * 0x64_0001 % 2 ^ 32 / 2 ^ 16 ≡ low_value (low_bytes 4 digits)
 unfolding low_bytes
 sum_of_four digits halves =
-    let tens = digits * 0xA01 % 2 ^ 32 / 2 ^ 8 in
-    sym (one_field 10000 16 (bit_and tens 0x00FF_00FF * 0x64_0001 % 2 ^ 32 / 2 ^ 16) (omega arith))
-    ∙ round_number 8 100 (lit< tt) 1 tens
-    ∙ (rw halves at (round_number 4 10 (lit< tt) 2 digits))
-    ∙ in_base-low_value 4 digits
+    one_field 10000 16 _ (omega arith) ∙ round 8 100 (lit< tt) 1 _
+    ∙ (rw halves at (round 4 10 (lit< tt) 2 digits)) ∙ spelled_by_bytes 4 digits
 
 -- Four rounds compute the weighted sum of at most 16 bytes.
 pub sum_16 : (val len : ℕ) → len ≤ 16
@@ -285,16 +226,11 @@ pub sum_16 : (val len : ℕ) → len ≤ 16
     let ten_thousands = bit_and hundreds 0x0000_FFFF_0000_FFFF_0000_FFFF_0000_FFFF * 0x2710_0000_0001 % 2 ^ 128 / 2 ^ 32 in
     bit_and ten_thousands 0x0000_0000_FFFF_FFFF_0000_0000_FFFF_FFFF * 0x5F5_E100_0000_0000_0000_0001 % 2 ^ 128 / 2 ^ 64 ≡ low_value (low_bytes len val)
 sum_16 val len most =
-    let ones = val * 2 ^ (128 - 8 * len) % 2 ^ 128 in
-    let tens = bit_and ones 0x0F0F_0F0F_0F0F_0F0F_0F0F_0F0F_0F0F_0F0F * 0xA01 % 2 ^ 128 / 2 ^ 8 in
-    let hundreds = bit_and tens 0x00FF_00FF_00FF_00FF_00FF_00FF_00FF_00FF * 0x64_0001 % 2 ^ 128 / 2 ^ 16 in
-    let ten_thousands = bit_and hundreds 0x0000_FFFF_0000_FFFF_0000_FFFF_0000_FFFF * 0x2710_0000_0001 % 2 ^ 128 / 2 ^ 32 in
-    let sum = bit_and ten_thousands 0x0000_0000_FFFF_FFFF_0000_0000_FFFF_FFFF * 0x5F5_E100_0000_0000_0000_0001 % 2 ^ 128 / 2 ^ 64 in
-    sym (one_field 10000000000000000 64 sum (omega arith))
-    ∙ round_number 32 100000000 (lit< tt) 1 ten_thousands
-    ∙ round_number 16 10000 (lit< tt) 2 hundreds
-    ∙ round_number 8 100 (lit< tt) 4 tens
-    ∙ round_number 4 10 (lit< tt) 8 ones
+    one_field 10000000000000000 64 _ (omega arith)
+    ∙ round 32 100000000 (lit< tt) 1 _
+    ∙ round 16 10000 (lit< tt) 2 _
+    ∙ round 8 100 (lit< tt) 4 _
+    ∙ round 4 10 (lit< tt) 8 _
     ∙ shifted_sum (128 - 8 * len) 16 len val (omega arith) most
 
 -- The sum of lower halves is at most 15 times 11..1.
@@ -316,43 +252,14 @@ abbrev pub repeated : ℕ → ℕ → ℕ
 repeated b zero = 0
 repeated b (suc k) = repeated b k * 256 + b
 
--- An operator that splits into low and high bits acts on each field.
-module _ (op : ℕ → ℕ → ℕ)
-    (high : (a b g : ℕ) → op a b / 2 ^ g ≡ op (a / 2 ^ g) (b / 2 ^ g))
-    (low : (a b g : ℕ) → op a b % 2 ^ g ≡ op (a % 2 ^ g) (b % 2 ^ g)) where
-  op_fields : (g k a b : ℕ) → digits_l (2 ^ g) k (op a b) ≡ zip2 op (digits_l (2 ^ g) k a) (digits_l (2 ^ g) k b)
-  op_fields g zero a b = refl
-  op_fields g (suc k) a b =
-      cc (low a b g, high a b g, op_fields g k (a / 2 ^ g) (b / 2 ^ g))
-
-  -- A repeated b acts on each byte as b does.
-  pub op_repeated : (b : ℕ) → b < 256 → (k a : ℕ) → digits_l 256 k (op a (repeated b k)) ≡ map (λ x. op x b) (digits_l 256 k a)
-  op_repeated b fits zero a = refl
-  op_repeated b fits (suc k) a =
-      let word = repeated b (suc k) in
-      cc (low a word 8, mod-mul-add (repeated b k) 256 b fits, high a word 8, div-mul-add (repeated b k) 256 b fits, op_repeated b fits k (a / 256))
-
-pub or_bytes : (k a b : ℕ) → digits_l 256 k (bit_or a b) ≡ zip2 bit_or (digits_l 256 k a) (digits_l 256 k b)
-or_bytes = op_fields bit_or or_shr or_mod 8
-
+-- A mask by a repeated b acts on each byte as b does.
 pub and_repeated : (b : ℕ) → b < 256 → (k a : ℕ) → digits_l 256 k (bit_and a (repeated b k)) ≡ map (λ x. bit_and x b) (digits_l 256 k a)
-and_repeated = op_repeated bit_and and_shr and_mod
+and_repeated b fits zero a = refl
+and_repeated b fits (suc k) a =
+    let word = repeated b (suc k) in
+    cc (and_mod a word 8, mod-mul-add (repeated b k) 256 b fits, and_shr a word 8, div-mul-add (repeated b k) 256 b fits, and_repeated b fits k (a / 256))
 
-pub xor_repeated : (b : ℕ) → b < 256 → (k a : ℕ) → digits_l 256 k (bit_xor a (repeated b k)) ≡ map (λ x. bit_xor x b) (digits_l 256 k a)
-xor_repeated = op_repeated bit_xor xor_shr xor_mod
-
--- A shift by four bits and a mask give the upper halves.
-pub upper_halves : (k a : ℕ) → digits_l 256 k (bit_and (a / 16) (repeated 15 k)) ≡ map (λ x. x / 16) (digits_l 256 k a)
-upper_halves k a = and_repeated 15 (omega arith) k (a / 16) ∙ halves k a
-  where
-    halves : (k a : ℕ) → map (λ x. bit_and x 15) (digits_l 256 k (a / 16)) ≡ map (λ x. x / 16) (digits_l 256 k a)
-    halves zero a = refl
-    halves (suc k) a =
-        let next : a / 16 / 256 ≡ a / 256 / 16 = omega arith in
-        let half : bit_and (a / 16 % 256) 15 ≡ a % 256 / 16 = and_mask (a / 16 % 256) 4 ∙ omega arith in
-        cc (half, next, halves k (a / 256))
-
--- ---- Trailing zero bits by eight count the lowest bytes of 0
+-- ---- Trailing zero bits
 
 -- A field is its lowest bit and the others.
 lowest_bit : (a n : ℕ) → n % 2 ^ suc a ≡ (n / 2 % 2 ^ a) * 2 + n % 2
@@ -363,7 +270,7 @@ halves : (a n : ℕ) → n / 2 / 2 ^ a ≡ n / 2 ^ suc a
 halves a n = cc (div-div-eq-div-mul n 2 (2 ^ a), mul_comm 2 (2 ^ a), pow-suc 2 a)
 
 -- If the lowest a bits are 0, the count goes on.
-zero_field : (a b n : ℕ) → n % 2 ^ a ≡ 0 → count_trailing_zeros (a + b) n ≡ a + count_trailing_zeros b (n / 2 ^ a)
+pub zero_field : (a b n : ℕ) → n % 2 ^ a ≡ 0 → count_trailing_zeros (a + b) n ≡ a + count_trailing_zeros b (n / 2 ^ a)
 unfolding count_trailing_zeros
 zero_field zero b n e = cc (zero-add b, div-one n, zero-add (count_trailing_zeros b (n / 1)))
 zero_field (suc a) b n e =
@@ -373,35 +280,15 @@ zero_field (suc a) b n e =
     rw (suc-add a b, even, zero_field a b (n / 2) rest, halves a n) (sym (suc-add a (count_trailing_zeros b (n / 2 ^ suc a))))
 
 -- If one is set, the count is below a.
-stopping_field : (a b n : ℕ) → 0 < n % 2 ^ a → count_trailing_zeros (a + b) n < a
+pub stopping_field : (a b n : ℕ) → 0 < n % 2 ^ a → count_trailing_zeros (a + b) n < a
 unfolding count_trailing_zeros
 stopping_field zero b n some = absurd (omega (arith, mod-lt n (pow_pos 0)))
-stopping_field (suc a) b n some = go (n % 2) refl (stopping_field a b (n / 2))
-  where
-    bits : count_trailing_zeros (suc a + b) n ≡ under (n % 2) (count_trailing_zeros (a + b) (n / 2))
-    bits = rw suc-add
-
-    go : (d : ℕ) → n % 2 ≡ d → (0 < n / 2 % 2 ^ a → count_trailing_zeros (a + b) (n / 2) < a) → count_trailing_zeros (suc a + b) n < suc a
-    go zero e above =
-        let split = lowest_bit a n in
-        let below = above (omega arith) in
-        let is : count_trailing_zeros (suc a + b) n ≡ suc (count_trailing_zeros (a + b) (n / 2)) = rw (bits, e) in
-        omega arith
-    go (suc d) e above =
-        let is : count_trailing_zeros (suc a + b) n ≡ 0 = rw (bits, e) in
-        omega arith
-
--- Of k bytes, they count the leading bytes of 0.
-pub trailing_bytes : (k word : ℕ) → count_trailing_zeros (k * 8) word / 8 ≡ prefix_len (λ b. b == 0) (digits_l 256 k word)
-unfolding count_trailing_zeros
-trailing_bytes zero word = refl
-trailing_bytes (suc k) word =
-    let bits : suc k * 8 ≡ 8 + k * 8 = suc-mul k 8 ∙ add_comm (k * 8) 8 in
-    let rest = trailing_bytes k (word / 256) in
-    rw bits
-    (elim (eq-zero-or-pos (word % 256)) [
-      | inl e ↦ rw (zero_field 8 (k * 8) word e, eq-eqb (word % 256) 0 e) (omega (arith, rest))
-      | inr some ↦ rw (ne_eqb (word % 256) 0 (omega arith)) (omega (arith, stopping_field 8 (k * 8) word some))
+stopping_field (suc a) b n some =
+    let split = lowest_bit a n in
+    rw suc-add
+    (elim (eq-zero-or-pos (n % 2)) [
+      | inl even ↦ rw even (omega (arith, stopping_field a b (n / 2) (omega arith)))
+      | inr odd ↦ (let one : n % 2 ≡ 1 = omega arith in rw one (omega arith))
     ])
 
 -- A cut after a shift by z bits is one before it.

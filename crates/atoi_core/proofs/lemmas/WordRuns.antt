@@ -1,81 +1,36 @@
 -- How many digits and zeros a word begins with.
-use Rattle.std.proofs.Common.{◌≡◌, ℕ, zero, suc, ◌+◌, ◌*◌, ◌/◌, ◌%◌, ◌^◌, ◌<◌, ◌≤◌, ◌-◌, Bool, true, false, cond, ◌==◌, nat_lt, List, [], ◌∷◌, map, drop, refl, sym, ap, ap₂, ◌∙◌, arith, mod-lt, zero-lt-suc}
+use Rattle.std.proofs.Common.{◌≡◌, ℕ, zero, suc, ◌+◌, ◌*◌, ◌/◌, ◌%◌, ◌^◌, ◌<◌, ◌≤◌, ◌-◌, Bool, true, false, cond, ◌==◌, nat_lt, drop, refl, sym, ap, ap₂, ◌∙◌, arith, mod-lt, zero-lt-suc, inl, inr}
 use Rattle.std.proofs.Math.Dec.{lit<}
-use Rattle.std.proofs.lemmas.Bool.{agree_below_at, lt-ltb}
-use Rattle.std.proofs.lemmas.Nat.{and_shr, pow-add, mod-pow-add, and_mask, and_block, and_assoc, mul-mod_first}
-use Rattle.std.proofs.Math.Nat.{zero-add, suc-mul, suc-add, div-one, div-div-eq-div-mul, div-mul-le_self, mod-eq_of_lt}
+use Rattle.std.proofs.lemmas.Bool.{agree_below, agree_below_at, eq-eqb, ne_eqb, lt-ltb}
+use Rattle.std.proofs.lemmas.Nat.{and_shr, and_mod, or_shr, or_mod, xor_shr, xor_mod, pow-add, mod-pow-add, and_mask, and_block, and_assoc, mul-mod_first}
+use Rattle.std.proofs.Math.Nat.{eq-zero-or-pos, zero-add, suc-mul, suc-add, div-one, div-div-eq-div-mul, div-mul-le_self, mod-eq_of_lt}
 use Rattle.std.proofs.Math.Pow.{mod-mod-pow}
 use Rattle.std.proofs.lemmas.Bool.Decides.{nat_tests}
 use Rattle.std.specs.Char.{is_ascii_digit}
 use Rattle.std.specs.List.{prefix_len}
 use Rattle.std.specs.Int.Bits.{bit_and, bit_or, bit_xor, and_zero_r, and_self}
-use Rattle.std.specs.Int.Count.{count_trailing_zeros}
-use Rattle.std.specs.Simd.Lanes.{digits_l, zip2}
+use Rattle.std.specs.Int.Count.{count_trailing_zeros, trailing_of_zero}
+use Rattle.std.specs.Simd.Lanes.{digits_l}
 use Rattle.atoi_core.specs.Digit.{decimal_table, is_digit, is_zero}
 use Rattle.atoi_core.specs.Run.{run_len, zeros}
 use Rattle.atoi_core.specs.Words.{low_bytes, low_value}
 use Rattle.atoi_core.proofs.lemmas.Calls.{digit_in_range}
-use Rattle.atoi_core.proofs.lemmas.WordFields.{trailing_bytes, repeated, or_bytes, and_repeated, xor_repeated, upper_halves, digits_cut, shifted_value, low_value_halves, low_value_shifted, shift_cut}
+use Rattle.atoi_core.proofs.lemmas.WordFields.{zero_field, stopping_field, repeated, and_repeated, digits_cut, shifted_value, low_value_halves, low_value_shifted, shift_cut}
 
--- A test of mapped elements.
-prefix_len-map : (p : ℕ → Bool) (f : ℕ → ℕ) (xs : List ℕ) → prefix_len p (map f xs) ≡ prefix_len (λ x. p (f x)) xs
-prefix_len-map p f [] = refl
-prefix_len-map p f (x ∷ xs) = cc (prefix_len-map p f xs)
+-- ---- Counting digits and zeros
 
--- ---- Counting zeros
-
--- A byte xor 48 is 0 exactly for the digit zero.
-combined_is_zero : (b : ℕ) → b < 256 → (bit_xor b 48 == 0) ≡ is_zero decimal_table b
-combined_is_zero b h = agree_below_at (λ x. bit_xor x 48 == 0) (is_zero decimal_table) 256 b refl h
-
--- Tests that agree on each byte pass equally far.
-prefix_len-agree : (p q : ℕ → Bool) → ((b : ℕ) → b < 256 → p b ≡ q b) → (k word : ℕ) → prefix_len p (digits_l 256 k word) ≡ prefix_len q (digits_l 256 k word)
-prefix_len-agree p q agree zero word = refl
-prefix_len-agree p q agree (suc k) word =
-    cc (agree (word % 256) (mod-lt word (zero-lt-suc 255)), prefix_len-agree p q agree k (word / 256))
-
--- After a xor with 48, trailing zero bits count the zeros.
-zeros_counted : (k word : ℕ) → count_trailing_zeros (k * 8) (bit_xor word (repeated 48 k)) / 8 ≡ zeros decimal_table (low_bytes k word)
-unfolding low_bytes
-zeros_counted k word = search (arith, trailing_bytes, xor_repeated, prefix_len-map, prefix_len-agree, combined_is_zero)
-
--- Of eight bytes, and of sixteen.
-pub zeros_of_8 : (word : ℕ) → count_trailing_zeros 64 (bit_xor word 0x3030_3030_3030_3030) / 8 ≡ zeros decimal_table (low_bytes 8 word)
-zeros_of_8 word = zeros_counted 8 word
-
-pub zeros_of_16 : (word : ℕ) → count_trailing_zeros 128 (bit_xor word 0x3030_3030_3030_3030_3030_3030_3030_3030) / 8 ≡ zeros decimal_table (low_bytes 16 word)
-zeros_of_16 word = zeros_counted 16 word
-
--- ---- Counting digits
-
--- Lengths that are 0 unless a test passes, and equal where it does.
-run_goes_on : (t : Bool) (m n : ℕ) → (t ≡ true → m ≡ n) → cond t (1 + m) 0 ≡ cond t (1 + n) 0
-run_goes_on true m n e = cc (e refl)
-run_goes_on false m n e = refl
-
--- Mapping the results of a pairwise operation is one pairwise operation.
-marked : (h : ℕ → ℕ) (op : ℕ → ℕ → ℕ) (xs ys : List ℕ) → map h (zip2 op xs ys) ≡ zip2 (λ x y. h (op x y)) xs ys
-marked h op [] ys = refl
-marked h op (x ∷ xs) [] = refl
-marked h op (x ∷ xs) (y ∷ ys) = cc (marked h op xs ys)
-
--- So is mapping both lists first.
-changed : (f g : ℕ → ℕ) (op : ℕ → ℕ → ℕ) (xs ys : List ℕ) → zip2 op (map f xs) (map g ys) ≡ zip2 (λ x y. op (f x) (g y)) xs ys
-changed f g op [] ys = refl
-changed f g op (x ∷ xs) [] = refl
-changed f g op (x ∷ xs) (y ∷ ys) = cc (changed f g op xs ys)
-
--- An addition to each byte at once: exact for the lowest byte (`low`), and a digit carries nothing
--- (`rest`).
+-- A function of words that is exact in the lowest byte (`low`), where no digit carries (`rest`).
 record Change : Type 0 where
   of_word : ℕ → ℕ → ℕ
   of_byte : ℕ → ℕ
   low : (k word : ℕ) → of_word (suc k) word % 256 ≡ of_byte (word % 256)
   rest : (k word : ℕ) → is_digit decimal_table (word % 256) ≡ true → of_word (suc k) word / 256 ≡ of_word k (word / 256)
 
--- The change that leaves the word as it is.
 abbrev unchanged : Change
 unchanged = record { of_word = λ k word. word; of_byte = λ b. b; low = λ k word. refl; rest = λ k word e. refl }
+
+abbrev constant : (c : ℕ) → c < 256 → Change
+constant c h = record { of_word = λ k word. repeated c k; of_byte = λ b. c; low = λ k word. omega arith; rest = λ k word e. omega arith }
 
 -- Adds c to each byte; below 199, no digit carries.
 abbrev added : (c : ℕ) → c < 199 → Change
@@ -96,7 +51,7 @@ without_48-some : (k : ℕ) → 1 ≤ without_48 k
 without_48-some zero = omega arith
 without_48-some (suc k) = let some = without_48-some k in omega arith
 
--- The change that subtracts 48 from each byte. No digit borrows.
+-- Subtracts 48 from each byte. No digit borrows.
 abbrev lowered : Change
 lowered =
     record {
@@ -108,141 +63,128 @@ lowered =
           omega arith;
     }
 
--- A mark per byte, 0 exactly for digits up to the first other byte.
-module _ (first second : Change) (mark : ℕ → ℕ → ℕ)
-    (digit_byte : (b : ℕ) → b < 256 → (mark (first.of_byte b) (second.of_byte b) == 0) ≡ is_digit decimal_table b) where
-  carried_run : (k word : ℕ)
-      → prefix_len (λ b. b == 0) (zip2 mark (digits_l 256 k (first.of_word k word)) (digits_l 256 k (second.of_word k word)))
-      ≡ prefix_len (is_digit decimal_table) (digits_l 256 k word)
-  carried_run zero word = refl
-  carried_run (suc k) word =
+-- Cuts a change to k bytes.
+abbrev cut : Change → Change
+cut c =
+    record {
+      of_word = λ k word. c.of_word k word % 2 ^ (k * 8);
+      of_byte = c.of_byte;
+      low = λ k word. rw (suc-mul k 8) (omega (arith, mod-pow-add (c.of_word (suc k) word) (k * 8) 8, c.low k word));
+      rest = λ k word e. rw (suc-mul k 8, ← c.rest k word e) (omega (arith, mod-pow-add (c.of_word (suc k) word) (k * 8) 8));
+    }
+
+-- The upper half of each byte.
+abbrev upper : Change → Change
+upper c =
+    record {
+      of_word = λ k word. bit_and (c.of_word k word / 16) (repeated 15 k);
+      of_byte = λ b. c.of_byte b / 16;
+      low = λ k word.
+          let x = c.of_word (suc k) word / 16 in
+          let mask : repeated 15 (suc k) % 256 ≡ 15 = omega arith in
+          rw (and_mod x (repeated 15 (suc k)) 8, mask, and_mask (x % 256) 4) (omega (arith, c.low k word));
+      rest = λ k word e.
+          let x = c.of_word (suc k) word in
+          let mask : repeated 15 (suc k) / 256 ≡ repeated 15 k = omega arith in
+          let swap : x / 16 / 256 ≡ x / 256 / 16 = omega arith in
+          and_shr (x / 16) (repeated 15 (suc k)) 8 ∙ ap₂ bit_and (swap ∙ ap (λ y. y / 16) (c.rest k word e)) mask;
+    }
+
+-- A bitwise operator on two changes.
+module _ (op : ℕ → ℕ → ℕ)
+    (high : (a b g : ℕ) → op a b / 2 ^ g ≡ op (a / 2 ^ g) (b / 2 ^ g))
+    (low : (a b g : ℕ) → op a b % 2 ^ g ≡ op (a % 2 ^ g) (b % 2 ^ g)) where
+  abbrev both : Change → Change → Change
+  both c d =
+      record {
+        of_word = λ k word. op (c.of_word k word) (d.of_word k word);
+        of_byte = λ b. op (c.of_byte b) (d.of_byte b);
+        low = λ k word. low (c.of_word (suc k) word) (d.of_word (suc k) word) 8 ∙ ap₂ op (c.low k word) (d.low k word);
+        rest = λ k word e. high (c.of_word (suc k) word) (d.of_word (suc k) word) 8 ∙ ap₂ op (c.rest k word e) (d.rest k word e);
+      }
+
+-- If a change is 0 exactly at the digits that pass p, trailing zero bits count these.
+module _ (c : Change) (p : ℕ → Bool) (agree : agree_below (λ b. c.of_byte b == 0) p 256 ≡ true)
+    (digit : (b : ℕ) → b < 256 → p b ≡ true → is_digit decimal_table b ≡ true) where
+  counted : (k word : ℕ) → count_trailing_zeros (k * 8) (c.of_word k word) / 8 ≡ prefix_len p (low_bytes k word)
+  unfolding low_bytes count_trailing_zeros
+  counted zero word = refl
+  counted (suc k) word =
       let byte = word % 256 in
-      let run : ℕ → ℕ → ℕ = λ x y. prefix_len (λ b. b == 0) (zip2 mark (digits_l 256 k x) (digits_l 256 k y)) in
-      let now = run (first.of_word (suc k) word / 256) (second.of_word (suc k) word / 256) in
-      rw (first.low k word, second.low k word, digit_byte byte (mod-lt word (zero-lt-suc 255)))
-      (run_goes_on (is_digit decimal_table byte) now (prefix_len (is_digit decimal_table) (digits_l 256 k (word / 256)))
-      (λ e. rw (first.rest k word e, second.rest k word e) (carried_run k (word / 256))))
+      let marks = c.of_word (suc k) word in
+      let fits : byte < 256 = mod-lt word (zero-lt-suc 255) in
+      let test = agree_below_at (λ b. c.of_byte b == 0) p 256 byte agree fits in
+      let bits : suc k * 8 ≡ 8 + k * 8 = omega arith in
+      rw bits
+      (elim (eq-zero-or-pos (marks % 256)) [
+        | inl e ↦
+            (let passes : p byte ≡ true = sym test ∙ eq-eqb (c.of_byte byte) 0 (sym (c.low k word) ∙ e) in
+            rw (zero_field 8 (k * 8) marks e, passes, c.rest k word (digit byte fits passes)) (omega (arith, counted k (word / 256))))
+        | inr some ↦
+            (let fails : p byte ≡ false = sym test ∙ ne_eqb (c.of_byte byte) 0 (omega (arith, c.low k word)) in
+            rw fails (omega (arith, stopping_field 8 (k * 8) marks some)))
+      ])
 
--- The mark that the kernel `check_len_8` computes for a byte.
-abbrev kernel_mark : ℕ → ℕ → ℕ
-kernel_mark raised byte = bit_xor (bit_or (raised / 16) (bit_and byte 240)) 51
+-- A zero is a digit.
+zero_is_digit : (b : ℕ) → b < 256 → is_zero decimal_table b ≡ true → is_digit decimal_table b ≡ true
+zero_is_digit b h e = grind (arith, nat_tests)
 
--- This mark is 0 exactly for digits.
-kernel_byte : (b : ℕ) → b < 256 → (kernel_mark ((b + 6) % 256) b == 0) ≡ is_digit decimal_table b
-kernel_byte b h = agree_below_at (λ x. kernel_mark ((x + 6) % 256) x == 0) (is_digit decimal_table) 256 b refl h
+-- A zero xor 48 is 0.
+zeros_counted : (k word : ℕ) → count_trailing_zeros (k * 8) (bit_xor word (repeated 48 k)) / 8 ≡ zeros decimal_table (low_bytes k word)
+zeros_counted = counted (both bit_xor xor_shr xor_mod unchanged (constant 48 (lit< tt))) (is_zero decimal_table) refl zero_is_digit
 
--- Trailing zero bits of these marks count the digits.
-digits_counted : (k word : ℕ)
-    → let high = bit_and ((word + repeated 6 k) % 2 ^ (k * 8) / 16) (repeated 15 k) in
-    count_trailing_zeros (k * 8) (bit_xor (bit_or high (bit_and word (repeated 240 k))) (repeated 51 k)) / 8
-    ≡ run_len decimal_table (low_bytes k word)
-unfolding low_bytes
-digits_counted k word =
-    let raised = (word + repeated 6 k) % 2 ^ (k * 8) in
-    let high = bit_and (raised / 16) (repeated 15 k) in
-    let low = bit_and word (repeated 240 k) in
-    let above = digits_l 256 k (word + repeated 6 k) in
-    let below = digits_l 256 k word in
-    rw (
-      trailing_bytes k (bit_xor (bit_or high low) (repeated 51 k)),
-      xor_repeated 51 (lit< tt) k (bit_or high low),
-      or_bytes k high low,
-      upper_halves k raised,
-      digits_cut 8 k (word + repeated 6 k),
-      and_repeated 240 (lit< tt) k word,
-      changed (λ x. x / 16) (λ x. bit_and x 240) bit_or above below,
-      marked (λ x. bit_xor x 51) (λ x y. bit_or (x / 16) (bit_and y 240)) above below,
-    )
-    (carried_run (added 6 (lit< tt)) unchanged kernel_mark kernel_byte k word)
+pub zeros_of_8 : (word : ℕ) → count_trailing_zeros 64 (bit_xor word 0x3030_3030_3030_3030) / 8 ≡ zeros decimal_table (low_bytes 8 word)
+zeros_of_8 = zeros_counted 8
 
--- The mask may come before the shift.
+pub zeros_of_16 : (word : ℕ) → count_trailing_zeros 128 (bit_xor word 0x3030_3030_3030_3030_3030_3030_3030_3030) / 8 ≡ zeros decimal_table (low_bytes 16 word)
+zeros_of_16 = zeros_counted 16
+
+-- So is a zero minus 48.
+pub lowered_zeros_of_8 : (word : ℕ)
+    → count_trailing_zeros 64 ((word + 0xCFCF_CFCF_CFCF_CFD0) % 0x1_0000_0000_0000_0000) / 8 ≡ zeros decimal_table (low_bytes 8 word)
+lowered_zeros_of_8 = counted (cut lowered) (is_zero decimal_table) refl zero_is_digit 8
+
+-- In `check_len_8`, the mask comes before the shift.
 pub digits_of_8 : (val : ℕ)
     → let high = bit_and ((val + 0x0606_0606_0606_0606) % 0x1_0000_0000_0000_0000) 0xF0F0_F0F0_F0F0_F0F0 / 16 in
     count_trailing_zeros 64 (bit_xor (bit_or high (bit_and val 0xF0F0_F0F0_F0F0_F0F0)) 0x3333_3333_3333_3333) / 8
     ≡ run_len decimal_table (low_bytes 8 val)
 digits_of_8 val =
-    rw (and_shr ((val + 0x0606_0606_0606_0606) % 2 ^ 64) 0xF0F0_F0F0_F0F0_F0F0 4) (digits_counted 8 val)
+    let halves = both bit_and and_shr and_mod unchanged (constant 240 (lit< tt)) in
+    let marks = both bit_xor xor_shr xor_mod (both bit_or or_shr or_mod (upper (cut (added 6 (lit< tt)))) halves) (constant 51 (lit< tt)) in
+    rw (and_shr ((val + 0x0606_0606_0606_0606) % 2 ^ 64) 0xF0F0_F0F0_F0F0_F0F0 4) (counted marks (is_digit decimal_table) refl (λ b h e. e) 8 val)
 
--- The mark that the word engine computes for a byte.
-abbrev engine_mark : ℕ → ℕ → ℕ
-engine_mark above below = bit_and (bit_or above below) 128
+-- The marks of the word engine.
+abbrev marks : Change
+marks = both bit_and and_shr and_mod (both bit_or or_shr or_mod (cut (added 70 (lit< tt))) (cut lowered)) (constant 128 (lit< tt))
 
--- This mark is 0 exactly for digits too.
-engine_byte : (b : ℕ) → b < 256 → (engine_mark ((b + 70) % 256) ((b + 208) % 256) == 0) ≡ is_digit decimal_table b
-engine_byte b h =
-    agree_below_at (λ x. engine_mark ((x + 70) % 256) ((x + 208) % 256) == 0) (is_digit decimal_table) 256 b refl h
+marks_counted : (k word : ℕ) → count_trailing_zeros (k * 8) (marks.of_word k word) / 8 ≡ run_len decimal_table (low_bytes k word)
+marks_counted = counted marks (is_digit decimal_table) refl (λ b h e. e)
 
--- Trailing zero bits of the engine's marks count the digits too.
-marks_counted : (k word : ℕ)
-    → let above = (word + repeated 70 k) % 2 ^ (k * 8) in
-    count_trailing_zeros (k * 8) (bit_and (bit_or above ((word + without_48 k) % 2 ^ (k * 8))) (repeated 128 k)) / 8
-    ≡ run_len decimal_table (low_bytes k word)
-unfolding low_bytes
-marks_counted k word =
-    let above = (word + repeated 70 k) % 2 ^ (k * 8) in
-    let below = (word + without_48 k) % 2 ^ (k * 8) in
-    rw (
-      trailing_bytes k (bit_and (bit_or above below) (repeated 128 k)),
-      and_repeated 128 (lit< tt) k (bit_or above below),
-      or_bytes k above below,
-      digits_cut 8 k (word + repeated 70 k),
-      digits_cut 8 k (word + without_48 k),
-      marked (λ x. bit_and x 128) bit_or (digits_l 256 k (word + repeated 70 k)) (digits_l 256 k (word + without_48 k)),
-    )
-    (carried_run (added 70 (lit< tt)) lowered engine_mark engine_byte k word)
+-- Without a mark, all bytes are digits.
+none_counted : (k word : ℕ) → marks.of_word k word ≡ 0 → run_len decimal_table (low_bytes k word) ≡ k
+none_counted k word none = omega (arith, rw (none, trailing_of_zero) at (marks_counted k word))
 
--- The marks of eight bytes.
 abbrev marks_in : ℕ → ℕ
 marks_in word = bit_and (bit_or ((word + 0x4646_4646_4646_4646) % 2 ^ 64) ((word + 0xCFCF_CFCF_CFCF_CFD0) % 2 ^ 64)) 0x8080_8080_8080_8080
 
 pub marks_of_8 : (word : ℕ) → count_trailing_zeros 64 (marks_in word) / 8 ≡ run_len decimal_table (low_bytes 8 word)
-marks_of_8 word = marks_counted 8 word
+marks_of_8 = marks_counted 8
 
--- Without a mark, all eight are digits.
 pub none_marked : (word : ℕ) → marks_in word ≡ 0 → run_len decimal_table (low_bytes 8 word) ≡ 8
-unfolding count_trailing_zeros
-none_marked word none = sym (marks_of_8 word) ∙ ap (λ marks. count_trailing_zeros 64 marks / 8) none
+none_marked = none_counted 8
 
 -- The same for four bytes.
 abbrev marks_in_four : ℕ → ℕ
 marks_in_four word = bit_and (bit_or ((word + 0x4646_4646) % 2 ^ 32) ((word + 0xCFCF_CFD0) % 2 ^ 32)) 0x8080_8080
 
 pub marks_of_4 : (word : ℕ) → count_trailing_zeros 32 (marks_in_four word) / 8 ≡ run_len decimal_table (low_bytes 4 word)
-marks_of_4 word = marks_counted 4 word
+marks_of_4 = marks_counted 4
 
 pub none_marked_of_4 : (word : ℕ) → marks_in_four word ≡ 0 → run_len decimal_table (low_bytes 4 word) ≡ 4
-unfolding count_trailing_zeros
-none_marked_of_4 word none = sym (marks_of_4 word) ∙ ap (λ marks. count_trailing_zeros 32 marks / 8) none
+none_marked_of_4 = none_counted 4
 
 -- ---- The word with 48 subtracted from each byte
-
--- A byte minus 48 is 0 exactly for the digit zero.
-lowered_zero : (b : ℕ) → b < 256 → ((b + 208) % 256 == 0) ≡ is_zero decimal_table b
-lowered_zero b h = agree_below_at (λ x. (x + 208) % 256 == 0) (is_zero decimal_table) 256 b refl h
-
--- A zero is a digit.
-zero_is_digit : (b : ℕ) → b < 256 → is_zero decimal_table b ≡ true → is_digit decimal_table b ≡ true
-zero_is_digit b h e = grind (arith, nat_tests)
-
--- After the subtraction, leading bytes of 0 count the zeros.
-lowered_zeros : (k word : ℕ) → prefix_len (λ b. b == 0) (digits_l 256 k (word + without_48 k)) ≡ prefix_len (is_zero decimal_table) (digits_l 256 k word)
-lowered_zeros zero word = refl
-lowered_zeros (suc k) word =
-    let byte = word % 256 in
-    let fits : byte < 256 = mod-lt word (zero-lt-suc 255) in
-    let now = prefix_len (λ b. b == 0) (digits_l 256 k ((word + without_48 (suc k)) / 256)) in
-    rw (lowered.low k word, lowered_zero byte fits)
-    (run_goes_on (is_zero decimal_table byte) now (prefix_len (is_zero decimal_table) (digits_l 256 k (word / 256)))
-    (λ e. rw (lowered.rest k word (zero_is_digit byte fits e)) (lowered_zeros k (word / 256))))
-
--- Trailing zero bits of the difference count the zeros.
-lowered_zeros_counted : (k word : ℕ) → count_trailing_zeros (k * 8) ((word + without_48 k) % 2 ^ (k * 8)) / 8 ≡ zeros decimal_table (low_bytes k word)
-unfolding low_bytes
-lowered_zeros_counted k word = search (arith, trailing_bytes, digits_cut, lowered_zeros)
-
-pub lowered_zeros_of_8 : (word : ℕ)
-    → count_trailing_zeros 64 ((word + 0xCFCF_CFCF_CFCF_CFD0) % 0x1_0000_0000_0000_0000) / 8 ≡ zeros decimal_table (low_bytes 8 word)
-lowered_zeros_of_8 word = lowered_zeros_counted 8 word
 
 -- If n + 1 elements pass, so does the first, then n.
 pub first_passes : (t : Bool) (n m : ℕ) → suc n ≤ cond t (1 + m) 0 → (t ≡ true) × (n ≤ m)
