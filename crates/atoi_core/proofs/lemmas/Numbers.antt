@@ -23,7 +23,7 @@ use Rattle.atoi_core.proofs.lemmas.Runs.{length-run, run_len-run, digits_all}
 -- ---- A number and what follows it
 
 not_digit : (byte : ℕ) (rest : List ℕ) → IsFalse (is_digit decimal_table byte) → ¬ BeginsWithDigit (byte ∷ rest)
-not_digit byte rest not = no_digit (byte ∷ rest) (λ some. not)
+not_digit byte rest not = no_digit (byte ∷ rest) 0 (λ some. not)
 
 module _ (int : IntType) (sized : IsSized int) (form : SignForm) (s : List ℕ) (number : ℤ) (byte : ℕ) (rest : List ℕ)
     (not : IsFalse (is_digit decimal_table byte)) where
@@ -130,9 +130,7 @@ run_too_large int is_negative body some above =
       numeral = (omega (arith, length-run decimal_table body), all);
       above = rw (own.same digits all) at above;
       within = prefix_len-le-length (is_digit decimal_table) body;
-      ends = no_digit (drop count body) (λ lt.
-          let at : get_or (drop count body) 0 0 ≡ get_or body count 0 = get_or-drop count body 0 0 ∙ ap (λ (i : ℕ). get_or body i 0) (omega arith) in
-          rw at (prefix_len_stops (is_digit decimal_table) body 0 (omega (arith, length-drop count body))));
+      ends = no_digit body count (prefix_len_stops (is_digit decimal_table) body 0);
     }
 
 split_once : (digits other rest more : List ℕ) → digits ++ rest ≡ other ++ more → AllDigits 10 digits → AllDigits 10 other

@@ -1,5 +1,5 @@
 -- Prefix parses: where they stop, how they agree with whole parses, and what they find.
-use Rattle.std.proofs.Common.{◌≡◌, ℕ, ◌≤◌, Bool, List, ◌++◌, length, take, get_or, Ok, ℤ, refl, sym, ap, ◌∙◌, subst, arith, inl, inr, get_or-drop, take-add, add_comm, ◌+◌, ◌<◌, true, IsFalse, [], ◌∷◌, drop, IsOk, Result, Err, eq-eqb, length-drop, append_assoc, append-nil, length-append, IfOk, OnErr}
+use Rattle.std.proofs.Common.{zero, suc, is_some, ◌≡◌, ℕ, ◌≤◌, Bool, List, ◌++◌, length, take, get_or, Ok, ℤ, refl, sym, ap, ◌∙◌, subst, arith, inl, inr, get_or-drop, take-add, add_comm, ◌+◌, ◌<◌, true, IsFalse, [], ◌∷◌, drop, IsOk, Result, Err, eq-eqb, length-drop, append_assoc, append-nil, length-append, IfOk, IsTrue, OnErr}
 use Rattle.std.proofs.lemmas.Bool.{cases_lt, cases_Bool}
 use Rattle.std.proofs.lemmas.List.Sums.{prefix_len-le-length, prefix_len_stops}
 use Rattle.atoi_core.specs.Digit.{decimal_table, is_digit}
@@ -116,13 +116,12 @@ stops [] ends = refl
 stops (byte ∷ bytes) ends =
     elim (cases_Bool (is_digit decimal_table byte)) [ inl e ↦ absurd (ends (digit_in_range byte e)) | inr e ↦ rw e refl ]
 
--- A rest whose first byte, if any, is no digit.
-pub no_digit : (rest : List ℕ) → (0 < length rest → IsFalse (is_digit decimal_table (get_or rest 0 0))) → ¬ BeginsWithDigit rest
-no_digit [] h = λ digit. digit
-no_digit (byte ∷ bytes) h = λ digit.
-    let stops = h (omega arith) in
-    let yes : is_digit decimal_table byte ≡ true = rw (digit_is byte digit.0 digit.1) refl in
-    absurd (cc)
+-- Where no digit stands, the rest begins with none.
+pub no_digit : (s : List ℕ) (count : ℕ) → (count < length s → IsFalse (is_digit decimal_table (get_or s count 0))) → ¬ BeginsWithDigit (drop count s)
+no_digit [] zero h = λ digit. digit
+no_digit [] (suc count) h = λ digit. digit
+no_digit (byte ∷ bytes) zero h = λ digit. absurd (cc (h (omega arith), ap is_some (digit_is byte digit.0 digit.1)))
+no_digit (byte ∷ bytes) (suc count) h = no_digit bytes count (λ more. h (omega arith))
 
 module _ (digits rest : List ℕ) (all : AllDigits 10 digits) (ends : ¬ BeginsWithDigit rest) where
   -- Digits that no digit follows are the run.
@@ -167,38 +166,23 @@ found_text int sized takes_plus s number count h =
     subst (λ (g : Sign). IsFound int g true number count) (sym sign_is)
     (rw len at (prefix_found int sized (is_minus text.sign) (length (sign_bytes text.sign)) text.digits rest number text.written h.ends))
 
--- A prefix parse returns only a number and the length of a prefix that writes it, with no digit
--- after it; with zeros skipped, it finds each such prefix.
-record AcceptedPrefixes (int : IntType) : Type 0 where
-  written : (form : SignForm) (skip : Bool) (s : List ℕ) (number : ℤ) (count : ℕ)
-      → prefix_call int form skip s ≡ Ok (number, count) → PrefixWrites (Writes int form) s number count
-  accepted : (form : SignForm) (s : List ℕ) (number : ℤ) (count : ℕ)
-      → PrefixWrites (Writes int form) s number count → prefix_call int form true s ≡ Ok (number, count)
+prefix_written : (int : IntType) (form : SignForm) (skip : Bool) (s : List ℕ) (number : ℤ) (count : ℕ)
+    → prefix_call int form skip s ≡ Ok (number, count) → PrefixWrites (Writes int form) s number count
+prefix_written int form skip s number count h =
+    let cut = found_in_cut int form skip s number count h in
+    let to_end : prefix_call int form skip (take count s) ≡ Ok (number, length (take count s)) = rw (length-take-le count s cut.1) cut.2 in
+    record {
+      written = whole_written int form skip (take count s) number (whole_of_prefix int form skip (take count s) number to_end);
+      some = omega (arith, cut.0);
+      within = cut.1;
+      ends = no_digit s count (λ more. elim (prefix_stops_at_rest int form skip s number count h) [ inl all ↦ absurd (omega arith) | inr end ↦ end.1 ]);
+    }
 
-accepted_prefixes : (int : IntType) → IsSized int → AcceptedPrefixes int
-accepted_prefixes int sized = record { written = written; accepted = accepted }
-  where
-    written : (form : SignForm) (skip : Bool) (s : List ℕ) (number : ℤ) (count : ℕ)
-        → prefix_call int form skip s ≡ Ok (number, count) → PrefixWrites (Writes int form) s number count
-    written form skip s number count h =
-        let cut = (prefix_of_cut int).cut form skip s number count h in
-        let len : count ≡ length (take count s) = sym (length-take-le count s cut.1) in
-        let to_end : prefix_call int form skip (take count s) ≡ Ok (number, length (take count s)) = cut.2 ∙ ap (λ (n : ℕ). Ok (number, n)) len in
-        record {
-          written = whole_written int form skip (take count s) number ((prefix_is_whole int).whole form skip (take count s) number to_end);
-          some = omega (arith, cut.0);
-          within = cut.1;
-          ends = no_digit (drop count s) (λ lt.
-              let at : get_or (drop count s) 0 0 ≡ get_or s count 0 = get_or-drop count s 0 0 ∙ ap (λ (i : ℕ). get_or s i 0) (omega arith) in
-              elim (prefix_stops_at_rest int form skip s number count h) [ inl e ↦ absurd (omega (arith, length-drop count s)) | inr end ↦ rw at end.1 ]);
-        }
-
-    accepted : (form : SignForm) (s : List ℕ) (number : ℤ) (count : ℕ)
-        → PrefixWrites (Writes int form) s number count → prefix_call int form true s ≡ Ok (number, count)
-    accepted (looked_for takes_plus) s number count h =
-        ok_prefix int (looked_for takes_plus) true s number count (found_text int sized takes_plus s number count h)
-    accepted (given is_negative) s number count h =
-        ok_prefix int (given is_negative) true s number count (found_digits int sized is_negative s number count h)
+prefix_accepted : (int : IntType) → IsSized int → (form : SignForm) (s : List ℕ) (number : ℤ) (count : ℕ)
+    → PrefixWrites (Writes int form) s number count → prefix_call int form true s ≡ Ok (number, count)
+prefix_accepted int sized (looked_for plus) s number count h = ok_prefix int (looked_for plus) true s number count (found_text int sized plus s number count h)
+prefix_accepted int sized (given is_negative) s number count h =
+    ok_prefix int (given is_negative) true s number count (found_digits int sized is_negative s number count h)
 
 -- Bytes that write a number are not empty.
 some : (int : IntType) (form : SignForm) (prefix_bytes : List ℕ) (number : ℤ) → Writes int form prefix_bytes number → 0 < length prefix_bytes
@@ -217,8 +201,8 @@ same_answer a b m n answer one other = search (arith)
 only : (int : IntType) → IsSized int → (form : SignForm) (s : List ℕ) (number other : ℤ) (count len : ℕ)
     → PrefixWrites (Writes int form) s number count → PrefixWrites (Writes int form) s other len → (number ≡ other) × (count ≡ len)
 only int sized form s number other count len h g =
-    let found = (accepted_prefixes int sized).accepted in
-    same_answer number other count len (prefix_call int form true s) (found form s number count h) (found form s other len g)
+    let found = prefix_accepted int sized form s in
+    same_answer number other count len (prefix_call int form true s) (found number count h) (found other len g)
 
 -- Such a prefix is the bytes before a rest that begins with no digit.
 cut : (int : IntType) → IsSized int → (form : SignForm) (s prefix_bytes rest : List ℕ) (number other : ℤ) (count : ℕ)
@@ -240,8 +224,8 @@ prefixes_and_rests int sized = record { of_parts = of_parts int; only = only int
 -- A slice that writes a number is its own prefix.
 whole_accepted : (int : IntType) → IsSized int → (form : SignForm) (s : List ℕ) (number : ℤ) → Writes int form s number → whole_call int form true s ≡ Ok number
 whole_accepted int sized form s number h =
-    (prefix_is_whole int).whole form true s number
-    ((accepted_prefixes int sized).accepted form s number (length s) (of_parts int form s s [] number (sym (append-nil s)) h (λ digit. digit)))
+    whole_of_prefix int form true s number
+    (prefix_accepted int sized form s number (length s) (of_parts int form s s [] number (sym (append-nil s)) h (λ digit. digit)))
 
 -- The law `AcceptedNumbers`.
 pub accepted_numbers : (int : IntType) → IsSized int → AcceptedNumbers int
@@ -268,67 +252,43 @@ accepted_texts int sized = record {
 }
 
 -- ---- Results of a type
--- A `Result` means an answer, so these lemmas follow from the laws on answers.
-
-module _ {T : Type 0} (number : T → ℤ) where
-  -- A property of each number that is the answer holds of the number of the result.
-  if_ok : (result : Result T AtoiSimdError) (answer : Result ℤ Refusal) (P : ℤ → Type 0) → typed_answer number result ≡ answer
-      → ((any : ℤ) → answer ≡ Ok any → P any) → IfOk result (λ value. P (number value))
-  if_ok (Ok value) answer P is h = h (number value) (sym is)
-  if_ok (Err error) answer P is h = tt
-
-  -- If each number with a property is the answer, an error means that there is none.
-  on_err : (result : Result T AtoiSimdError) (answer : Result ℤ Refusal) (P : ℤ → Type 0) → typed_answer number result ≡ answer
-      → ((any : ℤ) → P any → answer ≡ Ok any) → OnErr result ((any : ℤ) → ¬ P any)
-  on_err (Ok value) answer P is h = tt
-  on_err (Err error) answer P is h = λ any p. let same = is ∙ h any p in absurd (cc)
-
-  -- As above for a number with a count.
-  if_found : (result : Result (T × ℕ) AtoiSimdError) (answer : Result (ℤ × ℕ) Refusal) (P : ℤ → ℕ → Type 0) → typed_prefix_answer number result ≡ answer
-      → ((any : ℤ) (count : ℕ) → answer ≡ Ok (any, count) → P any count) → IfOk result (λ found. P (number found.0) found.1)
-  if_found (Ok found) answer P is h = h (number found.0) found.1 (sym is)
-  if_found (Err error) answer P is h = tt
-
-  on_none : (result : Result (T × ℕ) AtoiSimdError) (answer : Result (ℤ × ℕ) Refusal) (P : ℤ → ℕ → Type 0) → typed_prefix_answer number result ≡ answer
-      → ((any : ℤ) (count : ℕ) → P any count → answer ≡ Ok (any, count)) → OnErr result ((any : ℤ) (count : ℕ) → ¬ P any count)
-  on_none (Ok found) answer P is h = tt
-  on_none (Err error) answer P is h = λ any count p. let same = is ∙ h any count p in absurd (cc)
 
 module _ {T : Type 0} (int : IntType) (sized : IsSized int) (number : T → ℤ) (skip : Bool) where
   -- The law `WholeResults`.
   pub whole_results : WholeResults int number skip
   whole_results = record {
-    text = λ plus s result is.
-        if_ok number result (parse_answer int skip plus s) (TextWrites int plus s) is (λ any h. law.written (looked_for plus) skip s any h);
-    no_text = λ plus s result is on.
-        on_err number result (parse_answer int skip plus s) (TextWrites int plus s) is (λ any h. rw on (law.accepted (looked_for plus) s any h));
-    digits = λ is_negative s result is.
-        if_ok number result (whole_answer decimal_table int is_negative skip s) (DigitsWrite int is_negative s) is
-        (λ any h. law.written (given is_negative) skip s any h);
-    no_digits = λ is_negative s result is on.
-        on_err number result (whole_answer decimal_table int is_negative skip s) (DigitsWrite int is_negative s) is
-        (λ any h. rw on (law.accepted (given is_negative) s any h));
+    text = λ plus. if_ok (looked_for plus);
+    no_text = λ plus. on_err (looked_for plus);
+    digits = λ is_negative. if_ok (given is_negative);
+    no_digits = λ is_negative. on_err (given is_negative);
   }
     where
-      law : AcceptedNumbers int
-      law = accepted_numbers int sized
+      if_ok : (form : SignForm) (s : List ℕ) (result : Result T AtoiSimdError) → typed_answer number result ≡ whole_call int form skip s
+          → IfOk result (λ value. Writes int form s (number value))
+      if_ok form s (Ok value) is = whole_written int form skip s (number value) (sym is)
+      if_ok form s (Err error) is = tt
+
+      on_err : (form : SignForm) (s : List ℕ) (result : Result T AtoiSimdError) → typed_answer number result ≡ whole_call int form skip s
+          → IsTrue skip → OnErr result ((any : ℤ) → ¬ Writes int form s any)
+      on_err form s (Ok value) is on = tt
+      on_err form s (Err error) is on = λ any h. let found : whole_call int form skip s ≡ Ok any = rw on (whole_accepted int sized form s any h) in absurd (cc)
 
   -- The law `PrefixResults`.
   pub prefix_results : PrefixResults int number skip
   prefix_results = record {
-    text = λ plus s result is.
-        if_found number result (parse_prefix_answer int skip plus s) (PrefixWrites (TextWrites int plus) s) is
-        (λ any count h. law.written (looked_for plus) skip s any count h);
-    no_text = λ plus s result is on.
-        on_none number result (parse_prefix_answer int skip plus s) (PrefixWrites (TextWrites int plus) s) is
-        (λ any count h. rw on (law.accepted (looked_for plus) s any count h));
-    digits = λ is_negative s result is.
-        if_found number result (prefix_answer decimal_table int is_negative skip s) (PrefixWrites (DigitsWrite int is_negative) s) is
-        (λ any count h. law.written (given is_negative) skip s any count h);
-    no_digits = λ is_negative s result is on.
-        on_none number result (prefix_answer decimal_table int is_negative skip s) (PrefixWrites (DigitsWrite int is_negative) s) is
-        (λ any count h. rw on (law.accepted (given is_negative) s any count h));
+    text = λ plus. if_ok (looked_for plus);
+    no_text = λ plus. on_err (looked_for plus);
+    digits = λ is_negative. if_ok (given is_negative);
+    no_digits = λ is_negative. on_err (given is_negative);
   }
     where
-      law : AcceptedPrefixes int
-      law = accepted_prefixes int sized
+      if_ok : (form : SignForm) (s : List ℕ) (result : Result (T × ℕ) AtoiSimdError) → typed_prefix_answer number result ≡ prefix_call int form skip s
+          → IfOk result (λ found. PrefixWrites (Writes int form) s (number found.0) found.1)
+      if_ok form s (Ok found) is = prefix_written int form skip s (number found.0) found.1 (sym is)
+      if_ok form s (Err error) is = tt
+
+      on_err : (form : SignForm) (s : List ℕ) (result : Result (T × ℕ) AtoiSimdError) → typed_prefix_answer number result ≡ prefix_call int form skip s
+          → IsTrue skip → OnErr result ((any : ℤ) (count : ℕ) → ¬ PrefixWrites (Writes int form) s any count)
+      on_err form s (Ok found) is on = tt
+      on_err form s (Err error) is on = λ any count h.
+          let found : prefix_call int form skip s ≡ Ok (any, count) = rw on (prefix_accepted int sized form s any count h) in absurd (cc)
