@@ -100,9 +100,6 @@ map_unless_err f (Some other) x reason h = cc
 map_unless_none : {A B : Type 0} (f : A → B) (r : Option Refusal) (x : A) → r ≡ None → map_answer f (unless_refused r x) ≡ Ok (f x)
 map_unless_none f r x h = rw h refl
 
-pub whole_is_run : (digits length : ℕ) → leaves_rest whole digits length ≡ false → digits ≡ length
-whole_is_run digits length h = eqb-true digits length (not-false (eqb digits length) h)
-
 with_more_ok : (more : ℕ) (r : Result (ℤ × ℕ) Refusal) (v : ℤ) (count : ℕ) → with_more more r ≡ Ok (v, count)
     → (read : ℕ) × (r ≡ Ok (v, read)) × (count ≡ read + more)
 with_more_ok more (Ok found) v count h =
@@ -118,11 +115,19 @@ module _ (int : IntType) (minus skip : Bool) (body : List ℕ) where
   abbrev pub signed_value : ℤ
   signed_value = with_sign minus (value decimal_table (run decimal_table body))
 
-  pub from_whole : (v : ℤ) → whole_answer decimal_table int minus skip body ≡ Ok v → AcceptedAs whole × (v ≡ signed_value)
-  from_whole v h = search (arith, map_unless_ok, accepted)
+  -- The body is all digits, and passes the tests.
+  pub record IsWhole (v : ℤ) : Type 0 where
+    pub some : 0 < run_len decimal_table body
+    pub short : is_above (limit_at (class_of int) whole skip (limit_of int)) (significant_len decimal_table skip body) ≡ false
+    pub in_range : value decimal_table (run decimal_table body) ≤ bound_of int minus
+    pub all : run_len decimal_table body ≡ length body
+    pub number : v ≡ signed_value
 
-  pub to_whole : AcceptedAs whole → whole_answer decimal_table int minus skip body ≡ Ok signed_value
-  to_whole h = map_unless_none (with_sign minus) _ _ (refusal-none decimal_table (class_of int) (bound_of int minus) (limit_of int) whole skip body h)
+  pub from_whole : (v : ℤ) → whole_answer decimal_table int minus skip body ≡ Ok v → IsWhole v
+  from_whole v h = search (arith, map_unless_ok, accepted, eqb-true, not-false)
+
+  pub to_whole : (v : ℤ) → IsWhole v → whole_answer decimal_table int minus skip body ≡ Ok v
+  to_whole v h = search (arith, map_unless_none, refusal-none, eq-eqb)
 
   pub from_prefix : (v : ℤ) (count : ℕ) → prefix_answer decimal_table int minus skip body ≡ Ok (v, count)
       → AcceptedAs prefix × (v ≡ signed_value) × (count ≡ run_len decimal_table body)
@@ -130,13 +135,6 @@ module _ (int : IntType) (minus skip : Bool) (body : List ℕ) where
 
   pub to_prefix : AcceptedAs prefix → prefix_answer decimal_table int minus skip body ≡ Ok (signed_value, run_len decimal_table body)
   to_prefix h = search (arith, map_unless_none, refusal-none)
-
-  pub is_whole : 0 < run_len decimal_table body
-      → is_above (limit_at (class_of int) whole skip (limit_of int)) (significant_len decimal_table skip body) ≡ false
-      → value decimal_table (run decimal_table body) ≤ bound_of int minus
-      → run_len decimal_table body ≡ length body
-      → AcceptedAs whole
-  is_whole some short in_range all = search (arith, eq-eqb)
 
 -- `Ok` of a prefix: `count` is the run and the sign.
 pub record IsFound (int : IntType) (g : Sign) (skip : Bool) (v : ℤ) (count : ℕ) : Type 0 where

@@ -8,7 +8,7 @@ use Rattle.atoi_core.specs.IntType.{IntType, class_of, limit_of, IsSized}
 use Rattle.atoi_core.specs.Sign.{Sign, sign_of}
 use Rattle.atoi_core.specs.Laws.{SignForm, sign_in, whole_call, prefix_call, HasLimitOfWhole, PrefixIsWhole, PrefixOfCut, PrefixStopsAtRest, looked_for, given, Writes, PrefixesAndRests, AcceptedNumbers, AcceptedTexts, WholeResults, PrefixResults}
 use Rattle.atoi_core.proofs.lemmas.Runs.{length-run, run_len-run, zeros-run, run_all}
-use Rattle.atoi_core.proofs.lemmas.Calls.{drop-taken, length-taken, sign_again, digit_in_range, whole_call-is, from_whole, to_whole, is_whole, whole_is_run, IsFound, found_prefix, ok_prefix}
+use Rattle.atoi_core.proofs.lemmas.Calls.{drop-taken, length-taken, sign_again, digit_in_range, whole_call-is, from_whole, to_whole, IsFound, found_prefix, ok_prefix}
 use Rattle.atoi_core.proofs.lemmas.Refusals.{significant_len}
 use Rattle.atoi_core.proofs.lemmas.Bounds.{long_as_whole, limit_of_prefix, in_range_short}
 use Rattle.std.proofs.Math.Seq.{take-append_seam}
@@ -40,72 +40,54 @@ prefix_stops_at_rest int form skip s v count h =
       | inr le ↦ inl (omega (arith, prefix_len-le-length (is_digit decimal_table) g.body))
     ]
 
--- A prefix parse that reaches the end agrees with the whole parse.
-whole_of_prefix : (int : IntType) (form : SignForm) (skip : Bool) (s : List ℕ) (v : ℤ)
-    → prefix_call int form skip s ≡ Ok (v, length s) → whole_call int form skip s ≡ Ok v
-whole_of_prefix int form skip s v h =
-    let found = found_prefix int form skip s v (length s) h in
-    let g = sign_in int form s in
-    let prefix_is = found.is_prefix in
-    let to_end : run_len decimal_table g.body ≡ length g.body = omega (arith, found.count_is, length-taken int form s) in
-    let short = long_as_whole (class_of int) skip (limit_of int) (significant_len decimal_table skip g.body) prefix_is.short in
-    let body_is = is_whole int g.minus skip g.body prefix_is.some short prefix_is.in_range to_end in
-    whole_call-is int form skip s ∙ to_whole int g.minus skip g.body body_is ∙ ap Ok (sym found.number)
-
--- With the same limit on digits, a whole parse agrees with a prefix parse that reaches the end.
-prefix_of_whole : (int : IntType) (form : SignForm) (skip : Bool) (s : List ℕ) (v : ℤ) → HasLimitOfWhole int skip
-    → whole_call int form skip s ≡ Ok v → prefix_call int form skip s ≡ Ok (v, length s)
-prefix_of_whole int form skip s v limit h =
-    let g = sign_in int form s in
-    let found = from_whole int g.minus skip g.body v (sym (whole_call-is int form skip s) ∙ h) in
-    let body_is = found.0 in
-    let to_end = whole_is_run (run_len decimal_table g.body) (length g.body) body_is.ends in
-    let parts = length-taken int form s in
-    ok_prefix int form skip s v (length s) (record {
-      is_prefix = record {
-        some = body_is.some;
-        short = rw (limit_of_prefix int skip (limit_of int) limit) body_is.short;
-        in_range = body_is.in_range;
-        ends = refl;
-      };
-      number = found.1;
-      count_is = omega arith;
-    })
-
--- The law `PrefixIsWhole`, which has both directions.
+-- The law `PrefixIsWhole`.
 pub prefix_is_whole : (int : IntType) → PrefixIsWhole int
-prefix_is_whole int = record { whole = whole_of_prefix int; back = prefix_of_whole int }
+prefix_is_whole int = record {
+  whole = λ form skip s v h.
+      let found = found_prefix int form skip s v (length s) h in
+      let g = sign_in int form s in
+      whole_call-is int form skip s ∙ to_whole int g.minus skip g.body v (record {
+        some = found.is_prefix.some;
+        short = long_as_whole (class_of int) skip (limit_of int) (significant_len decimal_table skip g.body) found.is_prefix.short;
+        in_range = found.is_prefix.in_range;
+        all = omega (arith, found.count_is, length-taken int form s);
+        number = found.number;
+      });
+  back = λ form skip s v limit h.
+      let g = sign_in int form s in
+      let found = from_whole int g.minus skip g.body v (sym (whole_call-is int form skip s) ∙ h) in
+      ok_prefix int form skip s v (length s) (record {
+        is_prefix = record { some = found.some; short = rw (limit_of_prefix int skip (limit_of int) limit) found.short; in_range = found.in_range; ends = refl };
+        number = found.number;
+        count_is = omega (arith, found.all, length-taken int form s);
+      });
+}
 
 -- A number at the start of a body is in its run too.
 found_again : (int : IntType) (g : Sign) (skip : Bool) (v : ℤ) (count : ℕ) → IsFound int g skip v count
     → IsFound int (record g { body = run decimal_table g.body }) skip v count
 found_again int g skip v count h = search (arith, run_len-run, run_all, length-run, zeros-run)
 
--- A found prefix is not empty, and the cut after it has the same answer.
-found_in_cut : (int : IntType) (form : SignForm) (skip : Bool) (s : List ℕ) (v : ℤ) (count : ℕ) → prefix_call int form skip s ≡ Ok (v, count)
-    → (1 ≤ count) × (count ≤ length s) × (prefix_call int form skip (take count s) ≡ Ok (v, count))
-found_in_cut int form skip s v count h =
-    let found = found_prefix int form skip s v count h in
-    let g = sign_in int form s in
-    let n = run_len decimal_table g.body in
-    let count_is = found.count_is in
-    let most = prefix_len-le-length (is_digit decimal_table) g.body in
-    let parts = length-taken int form s in
-    let cut : take count s ≡ take g.taken s ++ run decimal_table g.body =
-    ap (λ (m : ℕ). take m s) (count_is ∙ add_comm n g.taken) ∙ take-add g.taken n s ∙ ap (λ body. take g.taken s ++ take n body) (drop-taken int form s)
-    in
-    let again : sign_in int form (take count s) ≡ record g { body = run decimal_table g.body } =
-    ap (sign_in int form) cut ∙ sign_again int form s (run decimal_table g.body) (rw (run_len-run decimal_table g.body) found.is_prefix.some)
-    in (
-      omega arith,
-      omega arith,
-      ok_prefix int form skip (take count s) v count
-          (subst (λ (h : Sign). IsFound int h skip v count) (sym again) (found_again int g skip v count found)),
-    )
-
 -- The law `PrefixOfCut`.
 pub prefix_of_cut : (int : IntType) → PrefixOfCut int
-prefix_of_cut int = record { cut = found_in_cut int }
+prefix_of_cut int = record {
+  cut = λ form skip s v count h.
+      let found = found_prefix int form skip s v count h in
+      let g = sign_in int form s in
+      let n = run_len decimal_table g.body in
+      let most = prefix_len-le-length (is_digit decimal_table) g.body in
+      let parts = length-taken int form s in
+      let cut : take count s ≡ take g.taken s ++ run decimal_table g.body =
+      rw (found.count_is, add_comm n g.taken, take-add g.taken n s, drop-taken int form s) refl
+      in
+      let again : sign_in int form (take count s) ≡ record g { body = run decimal_table g.body } =
+      ap (sign_in int form) cut ∙ sign_again int form s (run decimal_table g.body) (rw (run_len-run decimal_table g.body) found.is_prefix.some)
+      in (
+        omega (arith, found.count_is, found.is_prefix.some),
+        omega (arith, found.count_is),
+        ok_prefix int form skip (take count s) v count (rw again (found_again int g skip v count found)),
+      );
+}
 
 -- ---- Slices and prefixes that write a number
 -- With zeros skipped, exactly these are accepted.
@@ -113,8 +95,7 @@ prefix_of_cut int = record { cut = found_in_cut int }
 -- A rest without a digit at its start has an empty run.
 stops : (rest : List ℕ) → ¬ BeginsWithDigit rest → run_len decimal_table rest ≡ 0
 stops [] ends = refl
-stops (byte ∷ bytes) ends =
-    elim (cases_Bool (is_digit decimal_table byte)) [ inl e ↦ absurd (ends (digit_in_range byte e)) | inr e ↦ rw e refl ]
+stops (byte ∷ bytes) ends = grind (arith, cases_Bool, digit_in_range)
 
 -- Where no digit stands, the rest begins with none.
 pub no_digit : (s : List ℕ) (count : ℕ) → (count < length s → IsFalse (is_digit decimal_table (get_or s count 0))) → ¬ BeginsWithDigit (drop count s)
@@ -169,10 +150,10 @@ found_text int sized takes_plus s number count h =
 prefix_written : (int : IntType) (form : SignForm) (skip : Bool) (s : List ℕ) (number : ℤ) (count : ℕ)
     → prefix_call int form skip s ≡ Ok (number, count) → PrefixWrites (Writes int form) s number count
 prefix_written int form skip s number count h =
-    let cut = found_in_cut int form skip s number count h in
+    let cut = (prefix_of_cut int).cut form skip s number count h in
     let to_end : prefix_call int form skip (take count s) ≡ Ok (number, length (take count s)) = rw (length-take-le count s cut.1) cut.2 in
     record {
-      written = whole_written int form skip (take count s) number (whole_of_prefix int form skip (take count s) number to_end);
+      written = whole_written int form skip (take count s) number ((prefix_is_whole int).whole form skip (take count s) number to_end);
       some = omega (arith, cut.0);
       within = cut.1;
       ends = no_digit s count (λ more. elim (prefix_stops_at_rest int form skip s number count h) [ inl all ↦ absurd (omega arith) | inr end ↦ end.1 ]);
@@ -189,47 +170,29 @@ some : (int : IntType) (form : SignForm) (prefix_bytes : List ℕ) (number : ℤ
 some int (looked_for takes_plus) prefix_bytes number h = omega (arith, ap length h.parts, length-append {A = ℕ}, h.written.numeral.0)
 some int (given is_negative) prefix_bytes number h = h.numeral.0
 
-of_parts : (int : IntType) (form : SignForm) (s prefix_bytes rest : List ℕ) (number : ℤ)
-    → s ≡ prefix_bytes ++ rest → Writes int form prefix_bytes number → ¬ BeginsWithDigit rest → PrefixWrites (Writes int form) s number (length prefix_bytes)
-of_parts int form s prefix_bytes rest number parts written ends = search (arith, some, take-append_seam, length-append, front_rest)
-
 -- Equal answers `Ok` have equal parts.
 same_answer : {E : Type 0} (a b : ℤ) (m n : ℕ) (answer : Result (ℤ × ℕ) E) → answer ≡ Ok (a, m) → answer ≡ Ok (b, n) → (a ≡ b) × (m ≡ n)
 same_answer a b m n answer one other = search (arith)
 
--- At most one prefix writes a number that no digit follows: a parse returns it.
-only : (int : IntType) → IsSized int → (form : SignForm) (s : List ℕ) (number other : ℤ) (count len : ℕ)
-    → PrefixWrites (Writes int form) s number count → PrefixWrites (Writes int form) s other len → (number ≡ other) × (count ≡ len)
-only int sized form s number other count len h g =
-    let found = prefix_accepted int sized form s in
-    same_answer number other count len (prefix_call int form true s) (found number count h) (found other len g)
-
--- Such a prefix is the bytes before a rest that begins with no digit.
-cut : (int : IntType) → IsSized int → (form : SignForm) (s prefix_bytes rest : List ℕ) (number other : ℤ) (count : ℕ)
-    → s ≡ prefix_bytes ++ rest → Writes int form prefix_bytes number → ¬ BeginsWithDigit rest → PrefixWrites (Writes int form) s other count
-    → (number ≡ other) × ((take count s ≡ prefix_bytes) × (drop count s ≡ rest))
-cut int sized form s prefix_bytes rest number other count parts written ends found =
-    let same = only int sized form s number other (length prefix_bytes) count (of_parts int form s prefix_bytes rest number parts written ends) found in (
-      same.0,
-      (
-        ap (λ n. take n s) (sym same.1) ∙ (ap (take (length prefix_bytes)) parts ∙ take-append_seam prefix_bytes rest),
-        ap (λ n. drop n s) (sym same.1) ∙ front_rest s prefix_bytes rest parts,
-      ),
-    )
-
 -- The law `PrefixesAndRests`.
 pub prefixes_and_rests : (int : IntType) → IsSized int → PrefixesAndRests int
-prefixes_and_rests int sized = record { of_parts = of_parts int; only = only int sized; cut = cut int sized }
-
--- A slice that writes a number is its own prefix.
-whole_accepted : (int : IntType) → IsSized int → (form : SignForm) (s : List ℕ) (number : ℤ) → Writes int form s number → whole_call int form true s ≡ Ok number
-whole_accepted int sized form s number h =
-    whole_of_prefix int form true s number
-    (prefix_accepted int sized form s number (length s) (of_parts int form s s [] number (sym (append-nil s)) h (λ digit. digit)))
+prefixes_and_rests int sized = record {
+  of_parts = λ form s prefix_bytes rest number parts written ends. search (arith, some, take-append_seam, length-append, front_rest);
+  only = λ form s number other count len h g. search (arith, prefix_accepted, same_answer);
+  cut = λ form s prefix_bytes rest number other count parts written ends found.
+      let front : PrefixWrites (Writes int form) s number (length prefix_bytes) = search (arith, some, take-append_seam, length-append, front_rest) in
+      let same : (number ≡ other) × (length prefix_bytes ≡ count) = search (arith, prefix_accepted, same_answer) in
+      (same.0, (rw (← same.1, parts, take-append_seam prefix_bytes rest) refl, rw (← same.1) (front_rest s prefix_bytes rest parts)));
+}
 
 -- The law `AcceptedNumbers`.
 pub accepted_numbers : (int : IntType) → IsSized int → AcceptedNumbers int
-accepted_numbers int sized = record { written = whole_written int; accepted = whole_accepted int sized }
+accepted_numbers int sized = record {
+  written = whole_written int;
+  accepted = λ form s number h.
+      let all = (prefixes_and_rests int sized).of_parts form s s [] number (sym (append-nil s)) h (λ digit. digit) in
+      (prefix_is_whole int).whole form true s number (prefix_accepted int sized form s number (length s) all);
+}
 
 -- An answer that is `Ok` has a value.
 ok_value : {A E : Type 0} (r : Result A E) → IsOk r → (x : A) × (r ≡ Ok x)
@@ -246,9 +209,9 @@ accepted_texts int sized = record {
   accepted = λ s. (
     λ h. let found = ok_value (parse_answer int true true s) h in
         record { number = found.0; written = whole_written int (looked_for true) true s found.0 found.1 },
-    λ text. ok_is_ok _ _ (whole_accepted int sized (looked_for true) s text.number text.written),
+    λ text. ok_is_ok _ _ ((accepted_numbers int sized).accepted (looked_for true) s text.number text.written),
   );
-  number = whole_accepted int sized (looked_for true);
+  number = (accepted_numbers int sized).accepted (looked_for true);
 }
 
 -- ---- Results of a type
@@ -271,7 +234,7 @@ module _ {T : Type 0} (int : IntType) (sized : IsSized int) (number : T → ℤ)
       on_err : (form : SignForm) (s : List ℕ) (result : Result T AtoiSimdError) → typed_answer number result ≡ whole_call int form skip s
           → IsTrue skip → OnErr result ((any : ℤ) → ¬ Writes int form s any)
       on_err form s (Ok value) is on = tt
-      on_err form s (Err error) is on = λ any h. let found : whole_call int form skip s ≡ Ok any = rw on (whole_accepted int sized form s any h) in absurd (cc)
+      on_err form s (Err error) is on = λ any h. let found : whole_call int form skip s ≡ Ok any = rw on ((accepted_numbers int sized).accepted form s any h) in absurd (cc)
 
   -- The law `PrefixResults`.
   pub prefix_results : PrefixResults int number skip

@@ -12,7 +12,7 @@ use Rattle.atoi_core.specs.Sign.{Sign, sign_of, with_sign, plus_sign, minus_sign
 use Rattle.atoi_core.specs.Answer.{whole_answer, parse_answer}
 use Rattle.atoi_core.specs.Laws.{least_of, TextOfValue, SignForm, looked_for, given, whole_call, Writes, DecimalTexts}
 use Rattle.atoi_core.proofs.lemmas.Runs.{run_all, digits_all}
-use Rattle.atoi_core.proofs.lemmas.Calls.{sign_of_digits, digit_in_range, sign_cases, from_whole, to_whole, is_whole, whole_is_run}
+use Rattle.atoi_core.proofs.lemmas.Calls.{sign_of_digits, digit_in_range, sign_cases, from_whole, to_whole}
 use Rattle.atoi_core.proofs.lemmas.Refusals.{limit_at, significant_len}
 use Rattle.atoi_core.proofs.lemmas.Bounds.{shorter, limit-least, short_enough, limit_of_whole, bound-limit, bound_below-64}
 use Rattle.std.proofs.lemmas.Bool.{and_parts, ne_eqb, eqb-false}
@@ -28,7 +28,7 @@ use Rattle.std.proofs.lemmas.Str.{digit_value_digit}
 pub whole_skipping : (int : IntType) (is_negative : Bool) (body : List ℕ) (v : ℤ)
     → whole_answer decimal_table int is_negative false body ≡ Ok v → whole_answer decimal_table int is_negative true body ≡ Ok v
 whole_skipping int is_negative body v h =
-    search (arith, from_whole, limit_of_whole, shorter, to_whole, is_whole, whole_is_run)
+    search (arith, from_whole, limit_of_whole, shorter, to_whole)
 
 -- A byte from 48 to 57 is a digit of value `byte - 48`.
 pub digit_is : (byte : ℕ) → 48 ≤ byte → byte ≤ 57 → decimal_table byte ≡ Some (byte - 48)
@@ -81,15 +81,14 @@ counting_text : (int : IntType) → IsSized int → (is_negative : Bool) (n : �
 counting_text int sized is_negative n le =
     let text = decimal_text n (lt_of_le_of_lt le (bound_below-64 int sized is_negative)) in
     let is_run = run_all decimal_table (decimal n) text.all in
-    let some : 0 < run_len decimal_table (decimal n) = omega (arith, text.all, text.some) in
     let count : significant_len decimal_table false (decimal n) ≡ length (decimal n) = omega (arith, text.all) in
-    let short : is_above (limit_at (class_of int) whole false (limit_of int)) (significant_len decimal_table false (decimal n)) ≡ false =
-    rw count (decimal_short int sized is_negative n le)
-    in
-    let in_range : value decimal_table (run decimal_table (decimal n)) ≤ bound_of int is_negative = rw (is_run, text.is) le in
-    to_whole int is_negative false (decimal n) (is_whole int is_negative false (decimal n) some short in_range text.all)
-    ∙ ap (λ digits. Ok (with_sign is_negative (value decimal_table digits))) is_run
-    ∙ ap (λ m. Ok (with_sign is_negative m)) text.is
+    to_whole int is_negative false (decimal n) (with_sign is_negative n) (record {
+      some = omega (arith, text.all, text.some);
+      short = rw count (decimal_short int sized is_negative n le);
+      in_range = rw (is_run, text.is) le;
+      all = text.all;
+      number = rw (is_run, text.is) refl;
+    })
 
 -- With skipping or without, the decimal text is parsed with its sign.
 magnitude_text : (int : IntType) → IsSized int → (is_negative skip : Bool) (n : ℕ) → n ≤ bound_of int is_negative
@@ -167,11 +166,10 @@ digits_written : (int : IntType) (is_negative skip : Bool) (body : List ℕ) (nu
     → whole_answer decimal_table int is_negative skip body ≡ Ok number → DigitsWrite int is_negative body number
 digits_written int is_negative skip body number h =
     let found = from_whole int is_negative skip body number h in
-    let all = whole_is_run (run_len decimal_table body) (length body) found.0.ends in
-    let is_run = run_all decimal_table body all in
-    let digits = to_std body (digits_all decimal_table body all) in
+    let is_run = run_all decimal_table body found.all in
+    let digits = to_std body (digits_all decimal_table body found.all) in
     let same = own.same body digits in
-    record { numeral = (omega (arith, found.0.some), digits); in_range = rw (is_run, same) at found.0.in_range; value_is = rw (is_run, same) at found.1 }
+    record { numeral = (omega (arith, found.some, found.all), digits); in_range = rw (is_run, same) at found.in_range; value_is = rw (is_run, same) at found.number }
 
 -- What `parse` accepts writes its number.
 text_written : (int : IntType) (takes_plus skip : Bool) (s : List ℕ) (number : ℤ)
