@@ -48,53 +48,27 @@ run_of_digits (d ∷ ds) h =
     let r = digit_from_value d h.0 in
     rw (digit_is d r.0 r.1) (omega (arith, run_of_digits ds h.1))
 
--- A decimal text of n: one or more digits of value n.
-record IsTextOf (n : ℕ) (ds : List ℕ) : Type 0 where
-  all : run_len decimal_table ds ≡ length ds
-  some : 0 < length ds
-  is : value decimal_table ds ≡ n
-
--- Std's text of a number is a decimal text of it.
-decimal_text : (n : ℕ) → n < 10 ^ 64 → IsTextOf n (decimal n)
-decimal_text n h =
-    let numeral = decimal_is_IsNumeral_wide n h in
-    record {
-      all = run_of_digits (decimal n) numeral.0.1;
-      some = numeral.0.0;
-      is = own.same (decimal n) numeral.0.1 ∙ numeral.1;
-    }
-
 -- The decimal text of a number in range is short enough.
-decimal_short : (int : IntType) → IsSized int → (is_negative : Bool) (n : ℕ) → n ≤ bound_of int is_negative
-    → is_above (limit_at (class_of int) whole false (limit_of int)) (length (decimal n)) ≡ false
-decimal_short int sized is_negative n le =
-    elim (bound-limit int sized is_negative) [
-      | inl e ↦ rw e refl
-      | inr lt ↦
-          short_enough (class_of int) false (limit_of int) (length (decimal n))
-          (length-decimal-le_wide (limit_of int) n (omega (arith, limit-least int)) (lt_of_le_of_lt le lt) (lt_of_le_of_lt le (bound_below-64 int sized is_negative)))
-    ]
+decimal_short : (int : IntType) → IsSized int → (is_negative skip : Bool) (n : ℕ) → n ≤ bound_of int is_negative
+    → is_above (limit_at (class_of int) whole skip (limit_of int)) (length (decimal n)) ≡ false
+decimal_short int sized is_negative skip n le =
+    search (arith, bound-limit, short_enough, length-decimal-le_wide, limit-least, bound_below-64, lt_of_le_of_lt)
 
--- Without skipping, the decimal text of a magnitude in range is parsed.
-counting_text : (int : IntType) → IsSized int → (is_negative : Bool) (n : ℕ) → n ≤ bound_of int is_negative
-    → whole_answer decimal_table int is_negative false (decimal n) ≡ Ok (with_sign is_negative n)
-counting_text int sized is_negative n le =
-    let text = decimal_text n (lt_of_le_of_lt le (bound_below-64 int sized is_negative)) in
-    let is_run = run_all decimal_table (decimal n) text.all in
-    let count : significant_len decimal_table false (decimal n) ≡ length (decimal n) = omega (arith, text.all) in
-    to_whole int is_negative false (decimal n) (with_sign is_negative n) (record {
-      some = omega (arith, text.all, text.some);
-      short = rw count (decimal_short int sized is_negative n le);
-      in_range = rw (is_run, text.is) le;
-      all = text.all;
-      number = rw (is_run, text.is) refl;
-    })
-
--- With skipping or without, the decimal text is parsed with its sign.
+-- With skipping or without, the decimal text of a magnitude in range is parsed with its sign.
 magnitude_text : (int : IntType) → IsSized int → (is_negative skip : Bool) (n : ℕ) → n ≤ bound_of int is_negative
     → whole_answer decimal_table int is_negative skip (decimal n) ≡ Ok (with_sign is_negative n)
-magnitude_text int sized is_negative true n le = whole_skipping int is_negative (decimal n) (with_sign is_negative n) (counting_text int sized is_negative n le)
-magnitude_text int sized is_negative false n le = counting_text int sized is_negative n le
+magnitude_text int sized is_negative skip n le =
+    let numeral = decimal_is_IsNumeral_wide n (lt_of_le_of_lt le (bound_below-64 int sized is_negative)) in
+    let all = run_of_digits (decimal n) numeral.0.1 in
+    let is_run = run_all decimal_table (decimal n) all in
+    let value_is = own.same (decimal n) numeral.0.1 ∙ numeral.1 in
+    to_whole int is_negative skip (decimal n) (with_sign is_negative n) (record {
+      some = omega (arith, all, numeral.0.0);
+      short = shorter _ (length (decimal n)) _ (omega (arith, all)) (decimal_short int sized is_negative skip n le);
+      in_range = rw (is_run, value_is) le;
+      all = all;
+      number = rw (is_run, value_is) refl;
+    })
 
 -- A signed type consumes a minus before digits.
 sign_of_minus : (signed takes_plus : Bool) (digits : List ℕ) → signed ≡ true
@@ -114,14 +88,13 @@ text_of_value int sized = record { parsed = parsed }
   where
     parsed : (skip takes_plus : Bool) (x : ℤ) → least_of int ≤ℤ x → x ≤ℤ pos int.greatest → parse_answer int skip takes_plus (signed_decimal x) ≡ Ok x
     parsed skip takes_plus (pos n) low high =
-        let text = decimal_text n (lt_of_le_of_lt (leb→le n int.greatest high.le) (bound_below-64 int sized false)) in
-        ap (λ (g : Sign). whole_answer decimal_table int g.minus skip g.body)
-        (sign_of_digits int.signed takes_plus (decimal n) (omega (arith, text.all, text.some)))
-        ∙ magnitude_text int sized false skip n (leb→le n int.greatest high.le)
+        let small = lt_of_le_of_lt (leb→le n int.greatest high.le) (bound_below-64 int sized false) in
+        let numeral = decimal_is_IsNumeral_wide n small in
+        rw (sign_of_digits int.signed takes_plus (decimal n) (omega (arith, run_of_digits (decimal n) numeral.0.1, numeral.0.0)))
+        (magnitude_text int sized false skip n (leb→le n int.greatest high.le))
     parsed skip takes_plus (negsuc n) low high =
         let within = negative_in_range int.signed int.greatest n low in
-        ap (λ (g : Sign). whole_answer decimal_table int g.minus skip g.body) (sign_of_minus int.signed takes_plus (decimal (suc n)) within.0)
-        ∙ magnitude_text int sized true skip (suc n) (omega (arith, within.1))
+        rw (sign_of_minus int.signed takes_plus (decimal (suc n)) within.0) (magnitude_text int sized true skip (suc n) (omega (arith, within.1)))
 
 -- ---- Decimal digits are std's
 
@@ -133,24 +106,16 @@ to_std (byte ∷ bytes) h =
 
 -- ---- What a whole parse accepts
 
--- `s` is a sign and the body of `g`: a minus only if signed, a plus only if taken.
-record IsSplit (signed takes_plus : Bool) (s : List ℕ) (g : Sign) : Type 0 where
-  mark : SignMark
-  parts : s ≡ sign_bytes mark ++ g.body
-  same : is_minus mark ≡ g.minus
-  allowed : is_minus mark ≡ true → signed ≡ true
-  plus_taken : is_plus mark ≡ true → takes_plus ≡ true
+-- Digits alone write a number that is not negative.
+no_mark : (int : IntType) (takes_plus : Bool) (s : List ℕ) (number : ℤ) → DigitsWrite int false s number → TextWrites int takes_plus s number
+no_mark int takes_plus s number h =
+    record { sign = no_sign; digits = s; parts = refl; signed = λ e. absurd (cc e); plus_taken = λ e. absurd (cc e); written = h }
 
--- `sign_of` splits each slice so.
-split : (signed takes_plus : Bool) (s : List ℕ) → IsSplit signed takes_plus s (sign_of signed takes_plus s)
-split signed takes_plus [] = record { mark = no_sign; parts = refl; same = refl; allowed = λ e. absurd (cc e); plus_taken = λ e. absurd (cc e) }
-split signed takes_plus (byte ∷ bytes) =
-    sign_cases signed takes_plus byte bytes (IsSplit signed takes_plus (byte ∷ bytes))
-    (λ e. let both = and_parts takes_plus (eqb byte plus_sign) e in
-    record { mark = plus; parts = ap (λ b. b ∷ bytes) (eqb-true byte plus_sign both.1); same = refl; allowed = λ q. absurd (cc q); plus_taken = λ q. both.0 })
-    (λ p e. let both = and_parts signed (eqb byte minus_sign) e in
-    record { mark = minus; parts = ap (λ b. b ∷ bytes) (eqb-true byte minus_sign both.1); same = refl; allowed = λ q. both.0; plus_taken = λ q. absurd (cc q) })
-    (record { mark = no_sign; parts = refl; same = refl; allowed = λ q. absurd (cc q); plus_taken = λ q. absurd (cc q) })
+-- After a minus, digits write a negative number of a signed type.
+minus_mark : (int : IntType) (takes_plus : Bool) (digits : List ℕ) (number : ℤ) → int.signed ≡ true
+    → DigitsWrite int true digits number → TextWrites int takes_plus (45 ∷ digits) number
+minus_mark int takes_plus digits number signed h =
+    record { sign = minus; digits = digits; parts = refl; signed = λ e. signed; plus_taken = λ e. absurd (cc e); written = h }
 
 -- `sign_of` consumes exactly an allowed sign before a digit.
 pub sign_of_text : (signed takes_plus : Bool) (mark : SignMark) (digits : List ℕ) → (is_minus mark ≡ true → signed ≡ true)
@@ -171,25 +136,27 @@ digits_written int is_negative skip body number h =
     let same = own.same body digits in
     record { numeral = (omega (arith, found.some, found.all), digits); in_range = rw (is_run, same) at found.in_range; value_is = rw (is_run, same) at found.number }
 
--- What `parse` accepts writes its number.
-text_written : (int : IntType) (takes_plus skip : Bool) (s : List ℕ) (number : ℤ)
-    → parse_answer int skip takes_plus s ≡ Ok number → TextWrites int takes_plus s number
-text_written int takes_plus skip s number h =
-    let g = sign_of int.signed takes_plus s in
-    let parts = split int.signed takes_plus s in
-    record {
-      sign = parts.mark;
-      digits = g.body;
-      parts = parts.parts;
-      signed = parts.allowed;
-      plus_taken = parts.plus_taken;
-      written = rw parts.same (digits_written int g.minus skip g.body number h);
-    }
-
 -- What a whole call accepts writes its number.
 pub whole_written : (int : IntType) (form : SignForm) (skip : Bool) (s : List ℕ) (number : ℤ)
     → whole_call int form skip s ≡ Ok number → Writes int form s number
-whole_written int (looked_for takes_plus) skip s number h = text_written int takes_plus skip s number h
+whole_written int (looked_for takes_plus) skip [] number h = no_mark int takes_plus [] number (digits_written int false skip [] number h)
+whole_written int (looked_for takes_plus) skip (byte ∷ bytes) number h =
+    (sign_cases int.signed takes_plus byte bytes
+    (λ g. whole_answer decimal_table int g.minus skip g.body ≡ Ok number → TextWrites int takes_plus (byte ∷ bytes) number)
+    (λ e is.
+    let both = and_parts takes_plus (eqb byte plus_sign) e in
+    record {
+      sign = plus;
+      digits = bytes;
+      parts = rw (eqb-true byte plus_sign both.1) refl;
+      signed = λ q. absurd (cc q);
+      plus_taken = λ q. both.0;
+      written = digits_written int false skip bytes number is;
+    })
+    (λ p e is.
+    let both = and_parts int.signed (eqb byte minus_sign) e in
+    rw (eqb-true byte minus_sign both.1) (minus_mark int takes_plus bytes number both.0 (digits_written int true skip bytes number is)))
+    (λ is. no_mark int takes_plus (byte ∷ bytes) number (digits_written int false skip (byte ∷ bytes) number is))) h
 whole_written int (given is_negative) skip s number h = digits_written int is_negative skip s number h
 
 -- ---- Texts without needless zeros
@@ -272,24 +239,10 @@ decimal_only int sized is_negative digits n h shortest = search (arith, decimal_
 -- In range, `signed_decimal x` writes x.
 signed_writes : (int : IntType) → IsSized int → (takes_plus : Bool) (x : ℤ) → least_of int ≤ℤ x → x ≤ℤ pos int.greatest
     → TextWrites int takes_plus (signed_decimal x) x
-signed_writes int sized takes_plus (pos n) low high = record {
-  sign = no_sign;
-  digits = decimal n;
-  parts = refl;
-  signed = λ e. absurd (cc e);
-  plus_taken = λ e. absurd (cc e);
-  written = decimal_writes int sized false n (leb→le n int.greatest high.le);
-}
+signed_writes int sized takes_plus (pos n) low high = no_mark int takes_plus (decimal n) (pos n) (decimal_writes int sized false n (leb→le n int.greatest high.le))
 signed_writes int sized takes_plus (negsuc n) low high =
     let within = negative_in_range int.signed int.greatest n low in
-    record {
-      sign = minus;
-      digits = decimal (suc n);
-      parts = refl;
-      signed = λ e. within.0;
-      plus_taken = λ e. absurd (cc e);
-      written = decimal_writes int sized true (suc n) (omega (arith, within.1));
-    }
+    minus_mark int takes_plus (decimal (suc n)) (negsuc n) within.0 (decimal_writes int sized true (suc n) (omega (arith, within.1)))
 
 -- The text of a negative number is a minus and its magnitude's text.
 minus_text : (x : ℤ) (n : ℕ) → x ≢ pos 0 → x ≡ neg_ℤ (pos n) → 45 ∷ decimal n ≡ signed_decimal x
