@@ -65,9 +65,9 @@ fn every_type_is_parsed_to_its_ends() {
 
 #[test]
 fn functions_are_values() {
+    type Prefix = fn(&[u8]) -> Result<(i64, usize), AtoiSimdError<'_>>;
     let whole: fn(&[u8]) -> Result<u8, AtoiSimdError<'_>> = parse::<u8, false, false>;
-    let prefix: for<'a> fn(&'a [u8]) -> Result<(i64, usize), AtoiSimdError<'a>> =
-        parse_prefix::<i64, true, true>;
+    let prefix: Prefix = parse_prefix::<i64, true, true>;
     assert_eq!(whole(b"255"), Ok(255));
     assert_eq!(prefix(b"-5;"), Ok((-5, 2)));
     let values: Result<Vec<u8>, _> = [&b"1"[..], b"2", b"x"].into_iter().map(whole).collect();

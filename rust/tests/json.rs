@@ -98,7 +98,7 @@ fn edges() -> Vec<String> {
     let near_ends = ends.iter().flat_map(|end| [end - 1, *end, end + 1]);
     let small = 0..=12;
     let above = (0..=9).map(|last| format!("34028236692093846346337460743176821145{last}"));
-    let lengths = (1..=50).flat_map(|length| [b'1', b'9'].map(|digit| vec![digit; length]));
+    let lengths = (1..=50).flat_map(|length| b"19".map(|digit| vec![digit; length]));
     let lengths = lengths.map(|digits| String::from_utf8(digits).expect("digits are ASCII"));
     let greatest = [u128::MAX - 1, u128::MAX];
     let numbers = small.chain(near_ends).chain(greatest).map(|number| number.to_string());
