@@ -26,7 +26,6 @@ static int failures = 0;
 static volatile unsigned any_flags;
 
 static const unsigned ZEROES = TORKETTLE_SKIP_ZEROES;
-static const unsigned PLUS = TORKETTLE_SKIP_PLUS;
 static const unsigned BOTH = TORKETTLE_SKIP_ZEROES | TORKETTLE_SKIP_PLUS;
 
 /* 41 zeros: more than the limit of digits for each type. */
@@ -146,10 +145,8 @@ static int is_error(torkettle_error error, torkettle_status status, unsigned bit
     static void check_flags_##name(void)                                                                               \
     {                                                                                                                  \
         const char *type_name = #name;                                                                                 \
-        const unsigned each[] = {0, ZEROES, PLUS, BOTH};                                                               \
-        size_t at;                                                                                                     \
-        for (at = 0; at < 4; at++) {                                                                                   \
-            unsigned flags = each[at];                                                                                 \
+        unsigned flags;                                                                                                \
+        for (flags = 0; flags <= BOTH; flags++) {                                                                      \
             torkettle_status size = flags & TORKETTLE_SKIP_ZEROES ? TORKETTLE_OK : TORKETTLE_SIZE;                     \
             torkettle_status wide = width == 32 ? TORKETTLE_OK : size;                                                 \
             type value;                                                                                                \
@@ -189,10 +186,8 @@ static int is_error(torkettle_error error, torkettle_status status, unsigned bit
                                     const char *above, type max)                                                       \
     {                                                                                                                  \
         const char *type_name = #name;                                                                                 \
-        const unsigned each[] = {0, ZEROES, PLUS, BOTH};                                                               \
-        size_t at;                                                                                                     \
-        for (at = 0; at < 4; at++) {                                                                                   \
-            unsigned flags = each[at];                                                                                 \
+        unsigned flags;                                                                                                \
+        for (flags = 0; flags <= BOTH; flags++) {                                                                      \
             CHECK(accepts_##name(largest, flags, max) && accepts_prefix_##name(largest, flags, max, strlen(largest))); \
             CHECK(refuses_##name(above, flags, TORKETTLE_OVERFLOW));                                                   \
             CHECK(refuses_prefix_##name(above, flags, TORKETTLE_OVERFLOW));                                            \

@@ -46,11 +46,12 @@ fn message(index: usize, place: usize, field: &str) -> String {
 }
 
 #[test]
-fn each_field_has_the_item_that_std_gives() {
+fn each_field_has_its_position_and_the_item_that_std_gives() {
     for text in COLUMNS {
         let mut place = 0;
         let mut items = Fields::<i8>::new(text.as_bytes(), b',');
         for (index, field) in fields(text, ',').into_iter().enumerate() {
+            assert_eq!(items.position(), (index, place), "field {index} of {text:?}");
             let item = items.next().unwrap_or_else(|| panic!("no item {index} of {text:?}"));
             assert_eq!(item.ok(), field.parse().ok(), "item {index} of {text:?}");
             if let Err(error) = item {
@@ -62,8 +63,11 @@ fn each_field_has_the_item_that_std_gives() {
             }
             place += field.len() + 1;
         }
+        let end = (fields(text, ',').len(), text.len());
+        assert_eq!(items.position(), end, "at the end of {text:?}");
         assert_eq!(items.next(), None, "after the fields of {text:?}");
         assert_eq!(items.next(), None, "after the end of {text:?}");
+        assert_eq!(items.position().1, text.len(), "after the end of {text:?}");
     }
 }
 
@@ -148,26 +152,6 @@ fn a_text_that_is_cut_after_a_separator_has_the_same_items() {
                 }
             }
         }
-    }
-}
-
-#[test]
-fn the_position_is_that_of_the_next_field() {
-    for text in COLUMNS {
-        let mut place = 0;
-        let mut items = Fields::<i8>::new(text.as_bytes(), b',');
-        for (index, field) in fields(text, ',').into_iter().enumerate() {
-            assert_eq!(items.position(), (index, place), "field {index} of {text:?}");
-            items.next();
-            place += field.len() + 1;
-        }
-        assert_eq!(
-            items.position(),
-            (fields(text, ',').len(), text.len()),
-            "at the end of {text:?}"
-        );
-        items.next();
-        assert_eq!(items.position().1, text.len(), "after the end of {text:?}");
     }
 }
 

@@ -74,21 +74,12 @@ fn check<T: Parse + FromStr + PartialEq + Debug>(text: &[u8]) -> bool {
     found.is_some()
 }
 
+// Returns for how many types the text begins with a number.
 fn check_each_type(text: &[u8]) -> usize {
-    let accepted = [
-        check::<i8>(text),
-        check::<u8>(text),
-        check::<i16>(text),
-        check::<u16>(text),
-        check::<i32>(text),
-        check::<u32>(text),
-        check::<i64>(text),
-        check::<u64>(text),
-        check::<i128>(text),
-        check::<u128>(text),
-        check::<isize>(text),
-        check::<usize>(text),
-    ];
+    macro_rules! accepted {
+        ($($integer:ty)*) => { [$(check::<$integer>(text)),*] };
+    }
+    let accepted = accepted!(i8 u8 i16 u16 i32 u32 i64 u64 i128 u128 isize usize);
     accepted.iter().filter(|accepted| **accepted).count()
 }
 
