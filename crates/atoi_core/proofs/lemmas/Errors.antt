@@ -1,5 +1,5 @@
 -- Errors: their order, and their slices.
-use Rattle.std.proofs.Common.{◌≡◌, ◌↔◌, refl, ℕ, ◌+◌, Bool, List, ◌++◌, take, drop, Some, Result, Ok, Err, ℤ, sym, ap, ◌∙◌, take-append-drop, drop-drop, Option}
+use Rattle.std.proofs.Common.{arith, ◌≡◌, ◌↔◌, refl, ℕ, ◌+◌, Bool, List, ◌++◌, take, drop, Some, Result, Ok, Err, ℤ, sym, ap, ◌∙◌, take-append-drop, drop-drop, Option}
 use Rattle.std.specs.declared.cmp.Ordering.{Ordering}
 use Rattle.std.specs.declared.cmp.Ordering.TheVariants.{Equal}
 use Rattle.std.specs.Ordering.{nat_cmp, ordering_then}
@@ -47,38 +47,31 @@ refusal_cmp-Equal a b = (same-refusal_cmp a b, λ same. rw (← same) (tied_itse
 
 -- ---- Slices in errors
 
--- A suffix of the body is a suffix of the slice.
-suffix_of_body : (int : IntType) (form : SignForm) (s t : List ℕ) → (n : ℕ) × (t ≡ drop n (sign_in int form s).body) → IsSuffix t s
-suffix_of_body int form s t end =
-    let taken = (sign_in int form s).taken in
-    let at : t ≡ drop (taken + end.0) s = end.1 ∙ ap (drop end.0) (sym (drop-taken int form s)) ∙ drop-drop end.0 taken s in
-    (take (taken + end.0) s, sym (take-append-drop (taken + end.0) s) ∙ ap (λ rest. take (taken + end.0) s ++ rest) (sym at))
-
 with_more_err : (more : ℕ) (r : Result (ℤ × ℕ) Refusal) (reason : Refusal) → with_more more r ≡ Err reason → r ≡ Err reason
 with_more_err more (Ok found) reason h = absurd (cc h)
 with_more_err more (Err other) reason h = cc
 
-module _ (int : IntType) (form : SignForm) (skip : Bool) (s : List ℕ) where
-  abbrev body_refused : Extent → Option Refusal
-  body_refused extent = refused decimal_table int (sign_in int form s).minus extent skip (sign_in int form s).body
+module _ (int : IntType) (form : SignForm) (skip : Bool) (s : List ℕ) (reason : Refusal) where
+  abbrev Refuses : Extent → Type 0
+  Refuses extent = refused decimal_table int (sign_in int form s).minus extent skip (sign_in int form s).body ≡ Some reason
 
-  whole_refused : (reason : Refusal) → whole_call int form skip s ≡ Err reason → body_refused whole ≡ Some reason
-  whole_refused reason h = map_unless_err (with_sign (sign_in int form s).minus) _ _ reason (sym (whole_call-is int form skip s) ∙ h)
+  whole_refused : whole_call int form skip s ≡ Err reason → Refuses whole
+  whole_refused h = search (arith, whole_call-is, map_unless_err)
 
-  pub prefix_refused : (reason : Refusal) → prefix_call int form skip s ≡ Err reason → body_refused prefix ≡ Some reason
-  prefix_refused reason h =
+  pub prefix_refused : prefix_call int form skip s ≡ Err reason → Refuses prefix
+  prefix_refused h = search (arith, prefix_call-is, map_unless_err, with_more_err)
+
+  -- A suffix of the body is a suffix of the slice.
+  suffix_in : (extent : Extent) → Refuses extent → IsSuffix (input_of reason) s
+  suffix_in extent h =
       let g = sign_in int form s in
-      map_unless_err (counted_number g.minus) _ _ reason
-      (with_more_err g.taken (prefix_answer decimal_table int g.minus skip g.body) reason (sym (prefix_call-is int form skip s) ∙ h))
-
-  suffix_in : (extent : Extent) (reason : Refusal) → body_refused extent ≡ Some reason → IsSuffix (input_of reason) s
-  suffix_in extent reason h =
-      suffix_of_body int form s (input_of reason)
-      (refusal-input decimal_table (class_of int) (bound_of int (sign_in int form s).minus) (limit_of int) extent skip (sign_in int form s).body reason h)
+      let end = refusal-input decimal_table (class_of int) (bound_of int g.minus) (limit_of int) extent skip g.body reason h in
+      let rest : input_of reason ≡ drop (g.taken + end.0) s = end.1 ∙ ap (drop end.0) (sym (drop-taken int form s)) ∙ drop-drop end.0 g.taken s in
+      (take (g.taken + end.0) s, rw (rest, take-append-drop (g.taken + end.0) s) refl)
 
 pub order_and_suffix : (int : IntType) → OrderAndSuffix int
 order_and_suffix int = record {
   order = refusal_cmp-Equal;
-  whole = λ form skip s reason h. suffix_in int form skip s whole reason (whole_refused int form skip s reason h);
-  prefix = λ form skip s reason h. suffix_in int form skip s prefix reason (prefix_refused int form skip s reason h);
+  whole = λ form skip s reason h. suffix_in int form skip s reason whole (whole_refused int form skip s reason h);
+  prefix = λ form skip s reason h. suffix_in int form skip s reason prefix (prefix_refused int form skip s reason h);
 }

@@ -21,8 +21,7 @@ same_outcome : (minus other_minus : Bool) (r q : Option Refusal) (x y : ℕ) →
     → HaveSameOutcome (map_answer (with_sign minus) (unless_refused r x)) (map_answer (with_sign other_minus) (unless_refused q y))
 same_outcome minus other_minus None None x y h e = e
 same_outcome minus other_minus (Some reason) (Some other) x y h e = cc h
-same_outcome minus other_minus None (Some other) x y h e = absurd (cc h)
-same_outcome minus other_minus (Some reason) None x y h e = absurd (cc h)
+same_outcome minus other_minus r q x y h e = absurd (cc h)
 
 -- The same of prefix answers whose counts differ by `more`.
 same_prefix_outcome : (more taken other_taken : ℕ) (minus other_minus : Bool) (r q : Option Refusal) (x y : ℕ × ℕ) → option_map rank r ≡ option_map rank q
@@ -31,8 +30,7 @@ same_prefix_outcome : (more taken other_taken : ℕ) (minus other_minus : Bool) 
     (with_more other_taken (map_answer (counted_number other_minus) (unless_refused q y)))
 same_prefix_outcome more taken other_taken minus other_minus None None x y h e c = λ i. (e i, c i)
 same_prefix_outcome more taken other_taken minus other_minus (Some reason) (Some other) x y h e c = cc h
-same_prefix_outcome more taken other_taken minus other_minus None (Some other) x y h e c = absurd (cc h)
-same_prefix_outcome more taken other_taken minus other_minus (Some reason) None x y h e c = absurd (cc h)
+same_prefix_outcome more taken other_taken minus other_minus r q x y h e c = absurd (cc h)
 
 -- Why the body after the sign `g` is refused, if it is.
 abbrev reason_at : IntType → Bool → Extent → Sign → Option Refusal
@@ -67,37 +65,25 @@ prefix_at int skip g = with_more g.taken (prefix_answer decimal_table int g.minu
 abbrev whole_at : IntType → Bool → Sign → Result ℤ Refusal
 whole_at int skip g = whole_answer decimal_table int g.minus skip g.body
 
--- Equal runs have equal lengths.
-same_len : (s t : List ℕ) → run decimal_table s ≡ run decimal_table t → run_len decimal_table s ≡ run_len decimal_table t
-same_len s t e = sym (length-run decimal_table s) ∙ ap length e ∙ length-run decimal_table t
-
--- Slices with equal runs have equally many leading zeros.
-same_zeros : (s t : List ℕ) → run decimal_table s ≡ run decimal_table t → zeros decimal_table s ≡ zeros decimal_table t
-same_zeros s t e = sym (zeros-run decimal_table s) ∙ ap (zeros decimal_table) e ∙ zeros-run decimal_table t
-
--- Equal runs and the same sign: the same outcome of a prefix parse.
-same_run : (int : IntType) (skip : Bool) (g h : Sign) → g.minus ≡ h.minus → g.taken ≡ h.taken → run decimal_table g.body ≡ run decimal_table h.body
-    → HaveSameOutcome (with_more 0 (prefix_at int skip g)) (prefix_at int skip h)
-same_run int skip g h minus taken runs =
-    let len = same_len g.body h.body runs in
-    let number : number_at g ≡ number_at h = ap (value decimal_table) runs in
-    same_prefix_outcome 0 g.taken h.taken g.minus h.minus (reason_at int skip prefix g) (reason_at int skip prefix h)
-    (number_at g, len_at g) (number_at h, len_at h)
-    (same_reason int skip prefix g h (record {
-      bound = ap (bound_of int) minus;
-      is_empty = ap (λ (n : ℕ). eqb n 0) len;
-      counts = λ i. len i - (if skip then same_zeros g.body h.body runs i else 0);
-      number = number;
-      followed = refl;
-    }))
-    (λ i. with_sign (minus i) (number i)) (omega arith)
-
 -- The law `RestChangesNothing`.
 pub rest_changes_nothing : (int : IntType) → RestChangesNothing int
 rest_changes_nothing int form skip s t same =
-    subst₂ (λ x y. HaveSameOutcome x y) (with_more-zero (prefix_at int skip (sign_in int form s)) ∙ sym (prefix_call-is int form skip s))
-    (sym (prefix_call-is int form skip t))
-    (same_run int skip (sign_in int form s) (sign_in int form t) same.minus same.taken same.run)
+    let g = sign_in int form s in
+    let h = sign_in int form t in
+    let len : len_at g ≡ len_at h = rw (← length-run decimal_table g.body, same.run, length-run decimal_table h.body) refl in
+    let leading : zeros decimal_table g.body ≡ zeros decimal_table h.body = rw (← zeros-run decimal_table g.body, same.run, zeros-run decimal_table h.body) refl in
+    let number : number_at g ≡ number_at h = ap (value decimal_table) same.run in
+    let alike : IsAlike int skip prefix g h =
+    record {
+      bound = ap (bound_of int) same.minus;
+      is_empty = ap (λ (n : ℕ). eqb n 0) len;
+      counts = λ i. len i - (if skip then leading i else 0);
+      number = number;
+      followed = refl;
+    } in
+    rw (prefix_call-is int form skip s, prefix_call-is int form skip t, ← with_more-zero (prefix_at int skip g))
+    (same_prefix_outcome 0 g.taken h.taken g.minus h.minus (reason_at int skip prefix g) (reason_at int skip prefix h)
+    (number_at g, len_at g) (number_at h, len_at h) (same_reason int skip prefix g h alike) (λ i. with_sign (same.minus i) (number i)) (omega (arith, same.taken)))
 
 -- ---- Added leading zeros
 
@@ -107,7 +93,7 @@ padded count body = replicate count zero_byte ++ body
 
 -- The run of the padded body is longer by `count`.
 run_len-padded : (count : ℕ) (body : List ℕ) → run_len decimal_table (padded count body) ≡ count + run_len decimal_table body
-run_len-padded count body = prefix_len-replicate_append (is_digit decimal_table) zero_byte refl count body
+run_len-padded count body = search (arith, prefix_len-replicate_append)
 
 -- The padded body has `count` more leading zeros.
 zeros-padded : (count : ℕ) (body : List ℕ) → zeros decimal_table (padded count body) ≡ count + zeros decimal_table body
@@ -158,36 +144,21 @@ sign_of_padded : (int : IntType) (form : SignForm) (s : List ℕ) (count : ℕ) 
     ≡ record { minus = (sign_in int form s).minus; taken = (sign_in int form s).taken; body = padded count (sign_in int form s).body }
 sign_of_padded int form s count some = search (arith, run_len-padded, sign_again)
 
--- If zeros are skipped and the body begins with a digit, adding zeros after the sign does not
--- change the outcome of a whole parse.
-whole_padded : (int : IntType) (g : Sign) (count : ℕ) → 0 < run_len decimal_table g.body
-    → HaveSameOutcome (whole_at int true g) (whole_at int true (record g { body = padded count g.body }))
-whole_padded int g count some =
-    let h = record g { body = padded count g.body } in
-    same_outcome g.minus g.minus (reason_at int true whole g) (reason_at int true whole h) (number_at g) (number_at h)
-    (same_reason int true whole g h (padded_alike int whole count g some))
-    (ap (with_sign g.minus) (value-padded count g.body))
-
--- With zeros skipped, added zeros only raise the count of a prefix parse.
-prefix_padded : (int : IntType) (g : Sign) (count : ℕ) → 0 < run_len decimal_table g.body
-    → HaveSameOutcome (with_more count (prefix_at int true g)) (prefix_at int true (record g { body = padded count g.body }))
-prefix_padded int g count some =
-    let h = record g { body = padded count g.body } in
-    let more = run_len-padded count g.body in
-    same_prefix_outcome count g.taken g.taken g.minus g.minus (reason_at int true prefix g) (reason_at int true prefix h)
-    (number_at g, len_at g) (number_at h, len_at h)
-    (same_reason int true prefix g h (padded_alike int prefix count g some))
-    (ap (with_sign g.minus) (value-padded count g.body)) (omega arith)
-
 -- The law `ZerosChangeNothing`.
 pub zeros_change_nothing : (int : IntType) → ZerosChangeNothing int
 zeros_change_nothing int = record {
   whole = λ form s count some.
-      subst₂ (λ x y. HaveSameOutcome x y) (sym (whole_call-is int form true s))
-      (ap (whole_at int true) (sym (sign_of_padded int form s count some)) ∙ sym (whole_call-is int form true (with_zeros int form count s)))
-      (whole_padded int (sign_in int form s) count some);
+      let g = sign_in int form s in
+      let h : Sign = record g { body = padded count g.body } in
+      rw (whole_call-is int form true s, whole_call-is int form true (with_zeros int form count s), sign_of_padded int form s count some)
+      (same_outcome g.minus g.minus (reason_at int true whole g) (reason_at int true whole h) (number_at g) (number_at h)
+      (same_reason int true whole g h (padded_alike int whole count g some)) (ap (with_sign g.minus) (value-padded count g.body)));
   prefix = λ form s count some.
-      subst₂ (λ x y. HaveSameOutcome x y) (ap (with_more count) (sym (prefix_call-is int form true s)))
-      (ap (prefix_at int true) (sym (sign_of_padded int form s count some)) ∙ sym (prefix_call-is int form true (with_zeros int form count s)))
-      (prefix_padded int (sign_in int form s) count some);
+      let g = sign_in int form s in
+      let h : Sign = record g { body = padded count g.body } in
+      let more = run_len-padded count g.body in
+      rw (prefix_call-is int form true s, prefix_call-is int form true (with_zeros int form count s), sign_of_padded int form s count some)
+      (same_prefix_outcome count g.taken g.taken g.minus g.minus (reason_at int true prefix g) (reason_at int true prefix h)
+      (number_at g, len_at g) (number_at h, len_at h) (same_reason int true prefix g h (padded_alike int prefix count g some))
+      (ap (with_sign g.minus) (value-padded count g.body)) (omega arith));
 }
