@@ -1,6 +1,6 @@
 -- Which sign precedes a body, and what an `Ok` means.
 use Rattle.std.proofs.Common.{◌≡◌, ℕ, ◌+◌, ◌<◌, ◌≤◌, Bool, true, false, cond, eqb, List, [], length, drop, Option, Some, None, refl, sym, ap, ◌∙◌, arith, ne_eqb, ◌&&◌, ◌∷◌, ◌++◌, take, Result, Ok, Err, ℤ, add-zero, eqb-true, eq-eqb}
-use Rattle.std.proofs.lemmas.Bool.{and_right, not-false}
+use Rattle.std.proofs.lemmas.Bool.{and_right, cases_Bool, not-false}
 use Rattle.atoi_core.specs.Digit.{Table, decimal_table, is_digit}
 use Rattle.atoi_core.specs.Run.{run_len, run, value}
 use Rattle.atoi_core.specs.Refusal.{Refusal}
@@ -48,12 +48,8 @@ pub sign_of_digits : (signed plus : Bool) (s : List ℕ) → 0 < run_len decimal
     → sign_of signed plus s ≡ record { minus = false; taken = 0; body = s }
 sign_of_digits signed plus [] h = absurd (omega arith)
 sign_of_digits signed plus (byte ∷ bytes) h =
-    let r = digit_in_range byte (first (is_digit decimal_table byte) h) in
+    let r : (48 ≤ byte) × (byte ≤ 57) = grind (arith, cases_Bool, digit_in_range) in
     rw (and_right plus (eqb byte 43) (ne_eqb byte 43 (omega arith)), and_right signed (eqb byte 45) (ne_eqb byte 45 (omega arith))) refl
-  where
-    first : (b : Bool) → 0 < cond b (1 + run_len decimal_table bytes) 0 → b ≡ true
-    first true lt = refl
-    first false lt = absurd (omega arith)
 
 -- Another body that begins with a digit has the same sign.
 pub sign_again : (int : IntType) (form : SignForm) (s t : List ℕ) → 0 < run_len decimal_table t
@@ -129,13 +125,6 @@ module _ (int : IntType) (minus skip : Bool) (body : List ℕ) where
   pub to_whole : (v : ℤ) → IsWhole v → whole_answer decimal_table int minus skip body ≡ Ok v
   to_whole v h = search (arith, map_unless_none, refusal-none, eq-eqb)
 
-  pub from_prefix : (v : ℤ) (count : ℕ) → prefix_answer decimal_table int minus skip body ≡ Ok (v, count)
-      → AcceptedAs prefix × (v ≡ signed_value) × (count ≡ run_len decimal_table body)
-  from_prefix v count h = search (arith, map_unless_ok, accepted)
-
-  pub to_prefix : AcceptedAs prefix → prefix_answer decimal_table int minus skip body ≡ Ok (signed_value, run_len decimal_table body)
-  to_prefix h = search (arith, map_unless_none, refusal-none)
-
 -- `Ok` of a prefix: `count` is the run and the sign.
 pub record IsFound (int : IntType) (g : Sign) (skip : Bool) (v : ℤ) (count : ℕ) : Type 0 where
   pub is_prefix : AcceptedAs int g.minus skip g.body prefix
@@ -144,15 +133,11 @@ pub record IsFound (int : IntType) (g : Sign) (skip : Bool) (v : ℤ) (count : �
 
 pub found_prefix : (int : IntType) (form : SignForm) (skip : Bool) (s : List ℕ) (v : ℤ) (count : ℕ)
     → prefix_call int form skip s ≡ Ok (v, count) → IsFound int (sign_in int form s) skip v count
-found_prefix int form skip s v count h =
-    let g = sign_in int form s in
-    let count_is = with_more_ok g.taken (prefix_answer decimal_table int g.minus skip g.body) v count (sym (prefix_call-is int form skip s) ∙ h) in
-    let found = from_prefix int g.minus skip g.body v count_is.0 count_is.1 in
-    record { is_prefix = found.0; number = found.1; count_is = rw (← found.2) count_is.2 }
+found_prefix int form skip s v count h = search (arith, prefix_call-is, with_more_ok, map_unless_ok, accepted)
 
 pub ok_prefix : (int : IntType) (form : SignForm) (skip : Bool) (s : List ℕ) (v : ℤ) (count : ℕ)
     → IsFound int (sign_in int form s) skip v count → prefix_call int form skip s ≡ Ok (v, count)
-ok_prefix int form skip s v count h = search (arith, prefix_call-is, to_prefix)
+ok_prefix int form skip s v count h = search (arith, prefix_call-is, map_unless_none, refusal-none)
 
 -- ---- Answers to a body, with a bound and a limit
 

@@ -21,22 +21,10 @@ record Uncut (table : Table) (count : ℕ) (s : List ℕ) (digits leading number
 
 module _ {table : Table} {count : ℕ} {s : List ℕ} {digits leading number : ℕ} where
   uncut_of : Reading table count s digits leading number → Uncut table count s digits leading number
-  uncut_of reading =
-      let len : digits ≡ min count (run_len table s) = reading.digits_are ∙ prefix_len-take (is_digit table) count s in
-      record {
-        digits_are = len;
-        leading_are = reading.leading_are ∙ prefix_len-take (is_zero table) count s;
-        number_is = cc (reading.number_is, reading.digits_are, take-take digits count s (omega arith));
-      }
+  uncut_of reading = search (arith, prefix_len-take, take-take)
 
   reading_of : Uncut table count s digits leading number → Reading table count s digits leading number
-  reading_of uncut =
-      let len : digits ≡ run_len table (take count s) = uncut.digits_are ∙ sym (prefix_len-take (is_digit table) count s) in
-      record {
-        digits_are = len;
-        leading_are = uncut.leading_are ∙ sym (prefix_len-take (is_zero table) count s);
-        number_is = cc (uncut.number_is, len, take-take digits count s (omega (arith, uncut.digits_are)));
-      }
+  reading_of uncut = search (arith, prefix_len-take, take-take)
 
 pub zeros_left : (table : Table) (count : ℕ) (s : List ℕ) (offset : ℕ) → offset ≤ zeros table s
     → zeros table (take count (drop offset s)) ≡ min count (zeros table s - offset)
@@ -96,19 +84,16 @@ by_many_digits class bound limit skipped significant number s less many = search
 
 skipped_is : (skip : Bool) (z offset digits leading : ℕ) → leading ≤ digits → (skip ≡ false → offset ≡ 0) → (skip ≡ true → z ≡ offset + leading)
     → cond skip z 0 ≡ offset + (digits - significant_digits skip digits leading)
-skipped_is true z offset digits leading most asked zeros_are = omega (arith, zeros_are refl)
-skipped_is false z offset digits leading most asked zeros_are = omega (arith, asked refl)
+skipped_is skip z offset digits leading most asked zeros_are = grind (arith, nat_tests)
 
 counting_most : (skip : Bool) (digits leading : ℕ) → significant_digits skip digits leading ≤ digits
-counting_most true digits leading = omega arith
-counting_most false digits leading = omega arith
+counting_most skip digits leading = grind (arith, nat_tests)
 
 pub below_bound : (limit bound digits number : ℕ) → HasDigits limit bound → digits < limit → number < 10 ^ digits → number < bound
 below_bound limit bound digits number bounds few small = search (arith, pow-le-pow_right)
 
 all_count : (skip : Bool) (digits leading : ℕ) → (skip ≡ true → leading ≡ 0) → significant_digits skip digits leading ≡ digits
-all_count true digits leading none = omega (arith, none refl)
-all_count false digits leading none = refl
+all_count skip digits leading none = grind (arith, nat_tests)
 
 module _ {table : Table} (class : Class) (bound limit : ℕ) (less : limit < cap class) where
   pub decided : {skip : Bool} {s : List ℕ} {offset count digits leading number : ℕ} → IsSkipped table skip s offset

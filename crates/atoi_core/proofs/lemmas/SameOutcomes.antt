@@ -57,14 +57,6 @@ same_reason : (int : IntType) (skip : Bool) (extent : Extent) (g h : Sign) → I
     → option_map rank (reason_at int skip extent g) ≡ option_map rank (reason_at int skip extent h)
 same_reason int skip extent g h alike = search (arith, refusal-rank)
 
--- A prefix call with the sign `g` and its body.
-abbrev prefix_at : IntType → Bool → Sign → Result (ℤ × ℕ) Refusal
-prefix_at int skip g = with_more g.taken (prefix_answer decimal_table int g.minus skip g.body)
-
--- A whole call with the sign `g` and its body.
-abbrev whole_at : IntType → Bool → Sign → Result ℤ Refusal
-whole_at int skip g = whole_answer decimal_table int g.minus skip g.body
-
 -- The law `RestChangesNothing`.
 pub rest_changes_nothing : (int : IntType) → RestChangesNothing int
 rest_changes_nothing int form skip s t same =
@@ -81,7 +73,7 @@ rest_changes_nothing int form skip s t same =
       number = number;
       followed = refl;
     } in
-    rw (prefix_call-is int form skip s, prefix_call-is int form skip t, ← with_more-zero (prefix_at int skip g))
+    rw (prefix_call-is int form skip s, prefix_call-is int form skip t, ← with_more-zero (with_more g.taken (prefix_answer decimal_table int g.minus skip g.body)))
     (same_prefix_outcome 0 g.taken h.taken g.minus h.minus (reason_at int skip prefix g) (reason_at int skip prefix h)
     (number_at g, len_at g) (number_at h, len_at h) (same_reason int skip prefix g h alike) (λ i. with_sign (same.minus i) (number i)) (omega (arith, same.taken)))
 
@@ -111,32 +103,17 @@ take-padded count n body = search (arith, length-replicate, take-add, take_at, d
 value-padded : (count : ℕ) (body : List ℕ) → value decimal_table (run decimal_table body) ≡ value decimal_table (run decimal_table (padded count body))
 value-padded count body = search (arith, value-replicate, take-padded, run_len-padded)
 
--- The same addend on both sides keeps a comparison.
-eqb-add : (more m n : ℕ) → eqb m n ≡ eqb (more + m) (more + n)
-eqb-add more m n = grind (arith, nat_tests)
-
 -- Another byte follows the digits in both bodies or in neither.
 followed-padded : (extent : Extent) (count : ℕ) (body : List ℕ)
     → leaves_rest extent (run_len decimal_table body) (length body)
     ≡ leaves_rest extent (run_len decimal_table (padded count body)) (length (padded count body))
 followed-padded prefix count body = refl
-followed-padded whole count body =
-    ap not (eqb-add count (run_len decimal_table body) (length body))
-    ∙ rw (run_len-padded count body, length-padded count body) refl
+followed-padded whole count body = rw (run_len-padded count body, length-padded count body) (grind (arith, nat_tests))
 
 -- With zeros skipped, the four tests agree after zeros are added.
 padded_alike : (int : IntType) (extent : Extent) (count : ℕ) (g : Sign) → 0 < run_len decimal_table g.body
     → IsAlike int true extent g (record g { body = padded count g.body })
-padded_alike int extent count g some =
-    let longer = run_len-padded count g.body in
-    let leading = zeros-padded count g.body in
-    record {
-      bound = refl;
-      is_empty = ne_eqb (run_len decimal_table g.body) 0 (omega arith) ∙ sym (ne_eqb (run_len decimal_table (padded count g.body)) 0 (omega arith));
-      counts = omega arith;
-      number = value-padded count g.body;
-      followed = followed-padded extent count g.body;
-    }
+padded_alike int extent count g some = search (arith, run_len-padded, zeros-padded, value-padded, followed-padded, ne_eqb)
 
 -- Zeros after the sign do not change the sign that is consumed.
 sign_of_padded : (int : IntType) (form : SignForm) (s : List ℕ) (count : ℕ) → 0 < run_len decimal_table (sign_in int form s).body
