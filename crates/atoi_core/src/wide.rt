@@ -18,7 +18,7 @@ use crate::loops::wide_answer::found_or_empty;
 ///
 /// `Empty`, `Size`, `Overflow` and `Invalid64`.
 #[inline(always)]
-#[tactic(auto, using(crate::proofs::lemmas::LoopAnswers::wide_64, crate::proofs::lemmas::LoopAnswers::whole_err, crate::proofs::lemmas::LoopAnswers::whole_ok, crate::proofs::lemmas::LoopAnswers::whole_invalid64))]
+#[tactic(auto, using(crate::proofs::lemmas::LoopAnswers::whole_is_64))]
 pub fn whole_64<'a, E: Engine>(
     bound: u64,
     limit: u32,
@@ -47,7 +47,7 @@ pub fn whole_64<'a, E: Engine>(
 ///
 /// `Empty`, `Size`, `Overflow` and `Invalid128`.
 #[inline(always)]
-#[tactic(auto, using(crate::proofs::lemmas::LoopAnswers::wide_128, crate::proofs::lemmas::LoopAnswers::whole_err, crate::proofs::lemmas::LoopAnswers::whole_ok, crate::proofs::lemmas::LoopAnswers::whole_invalid128))]
+#[tactic(auto, using(crate::proofs::lemmas::LoopAnswers::whole_is_128))]
 pub fn whole_128<'a, E: Engine>(
     bound: u128,
     skip: bool,

@@ -18,19 +18,6 @@ use Rattle.std.proofs.Math.Nat.{eq-zero-or-pos}
 
 -- ---- Wide types
 
--- A wide class uses the limit as given, and an overflow leaves out the zeros.
-pub record IsWide (class : Class) : Type 0 where
-  pub rule : (extent : Extent) (skip : Bool) (limit digits skipped : ℕ)
-      → rule_of class extent skip limit digits skipped ≡ record { limit = Some limit; cap = cap class; dropped = skipped }
-
--- The class of 64-bit types has these rules.
-pub wide_64 : IsWide wide64
-wide_64 = record { rule = λ extent skip limit digits skipped. refl }
-
--- The class of 128-bit types has these rules.
-pub wide_128 : IsWide wide128
-wide_128 = record { rule = λ extent skip limit digits skipped. refl }
-
 -- A full last window begins with no skipped zero.
 none_left : {table : Table} {skip : Bool} {s : List ℕ} {at before now : ℕ} {w : Window} → Skipped table skip s at before now w → 16 ≤ w.len
     → skip ≡ true → zeros table (take 16 (drop at s)) ≡ 0
@@ -117,52 +104,16 @@ last_reason : (invalid : ℕ → ℕ → List ℕ → Refusal) (s : List ℕ) (a
     unless_refused (if a then Some none else (if b then Some long else (if c then Some above
     else (if not (n == length s) then Some (invalid v n s) else None)))) v
     ≡ whole_from_prefix invalid s (unless_refused (if a then Some none else (if b then Some long else (if c then Some above else None))) (v, n))
-last_reason invalid s true b c none long above v n = refl
-last_reason invalid s false true c none long above v n = refl
-last_reason invalid s false false true none long above v n = refl
-last_reason invalid s false false false none long above v n =
-    elim (n == length s) as (λ d. unless_refused (if not d then Some (invalid v n s) else None) v ≡ (if d then Ok v else Err (invalid v n s)))
-    [ true ↦ refl | false ↦ refl ]
+last_reason invalid s false false false none long above v n = elim (n == length s) as (λ d. unless_refused (if not d then Some (invalid v n s) else None) v ≡ (if d then Ok v else Err (invalid v n s))) [ true ↦ refl | false ↦ refl ]
+last_reason invalid s a b c none long above v n = refl
 
-whole_is : (table : Table) (class : Class) (bound limit : ℕ) (skip : Bool) (s : List ℕ) → IsWide class
-    → whole_magnitude table class bound limit skip s ≡ whole_from_prefix (invalid class) s (prefix_magnitude table class bound limit skip s)
-whole_is table narrow bound limit skip s wide = absurd (cc (ap (λ (rule : Rule). rule.limit) (wide.rule whole skip 0 0 0)))
-whole_is table wide64 bound limit skip s wide =
-    rw (refusal-is table wide64 bound limit whole skip s, refusal-is table wide64 bound limit prefix skip s)
-    (last_reason invalid64 s (is_empty table wide64 bound limit prefix skip s) (is_long table wide64 bound limit prefix skip s)
-    (is_over table wide64 bound limit prefix skip s) empty (too_long table wide64 bound limit prefix skip s)
-    (over table wide64 bound limit prefix skip s) (value table (run table s)) (run_len table s))
-whole_is table wide128 bound limit skip s wide =
-    rw (refusal-is table wide128 bound limit whole skip s, refusal-is table wide128 bound limit prefix skip s)
-    (last_reason invalid128 s (is_empty table wide128 bound limit prefix skip s) (is_long table wide128 bound limit prefix skip s)
-    (is_over table wide128 bound limit prefix skip s) empty (too_long table wide128 bound limit prefix skip s)
-    (over table wide128 bound limit prefix skip s) (value table (run table s)) (run_len table s))
+pub whole_is_64 : (table : Table) (bound limit : ℕ) (skip : Bool) (s : List ℕ)
+    → whole_magnitude table wide64 bound limit skip s ≡ whole_from_prefix invalid64 s (prefix_magnitude table wide64 bound limit skip s)
+whole_is_64 table bound limit skip s = search (arith, refusal-is, last_reason)
 
-module _ (table : Table) (class : Class) (bound limit : ℕ) (skip : Bool) (s : List ℕ) (wide : IsWide class) where
-  -- A refused prefix is a refused whole slice.
-  pub whole_err : (reason : Refusal) → Err reason ≡ prefix_magnitude table class bound limit skip s
-      → Err reason ≡ whole_magnitude table class bound limit skip s
-  whole_err reason of_prefix = rw (whole_is table class bound limit skip s wide, ← of_prefix) refl
-
-  -- A number that ends with the slice is the answer.
-  pub whole_ok : (number len : ℕ) → Ok (number, len) ≡ prefix_magnitude table class bound limit skip s → len ≡ length s
-      → Ok number ≡ whole_magnitude table class bound limit skip s
-  whole_ok number len of_prefix all = rw (whole_is table class bound limit skip s wide, ← of_prefix, eq-eqb len (length s) all) refl
-
-  -- A number that ends before the slice does is `invalid`.
-  pub whole_invalid : (number len : ℕ) → Ok (number, len) ≡ prefix_magnitude table class bound limit skip s → len ≢ length s
-      → Err (invalid class number len s) ≡ whole_magnitude table class bound limit skip s
-  whole_invalid number len of_prefix rest = rw (whole_is table class bound limit skip s wide, ← of_prefix, ne_eqb len (length s) rest) refl
-
-pub whole_invalid64 : (table : Table) (bound limit : ℕ) (skip : Bool) (s : List ℕ) (number len : ℕ)
-    → Ok (number, len) ≡ prefix_magnitude table wide64 bound limit skip s → len ≢ length s
-    → Err (invalid64 number len s) ≡ whole_magnitude table wide64 bound limit skip s
-whole_invalid64 table bound limit skip s = whole_invalid table wide64 bound limit skip s wide_64
-
-pub whole_invalid128 : (table : Table) (bound limit : ℕ) (skip : Bool) (s : List ℕ) (number len : ℕ)
-    → Ok (number, len) ≡ prefix_magnitude table wide128 bound limit skip s → len ≢ length s
-    → Err (invalid128 number len s) ≡ whole_magnitude table wide128 bound limit skip s
-whole_invalid128 table bound limit skip s = whole_invalid table wide128 bound limit skip s wide_128
+pub whole_is_128 : (table : Table) (bound limit : ℕ) (skip : Bool) (s : List ℕ)
+    → whole_magnitude table wide128 bound limit skip s ≡ whole_from_prefix invalid128 s (prefix_magnitude table wide128 bound limit skip s)
+whole_is_128 table bound limit skip s = search (arith, refusal-is, last_reason)
 
 -- ---- Narrow types
 
@@ -171,20 +122,7 @@ pub dropped_is : {table : Table} (skip : Bool) (limit : ℕ) {s : List ℕ} {at 
     Skipped table skip s at before now w → (rule_of narrow prefix skip limit (run_len table s) (skipped_zeros table skip s)).dropped ≡ at
 dropped_is false limit after_skip = sym (after_skip.skipped.asked refl)
 dropped_is {table} true limit {s} after_skip =
-    elim (cases_lt (zeros table s / 16) (run_len table s / 16)) [
-      | inl h ↦
-          rw (lt-ltb _ _ h)
-          (elim (after_skip.offset_is refl) [
-            | inr k ↦ sym k.0
-            | inl k ↦ sym (after_skip.full refl (omega (arith, after_skip.run_is, after_skip.window.len_is)))
-          ])
-      | inr h ↦
-          rw (le-ltb _ _ h)
-          (elim (after_skip.offset_is refl) [
-            | inr k ↦ absurd (omega (arith, k.1))
-            | inl k ↦ sym k
-          ])
-    ]
+    grind (arith, nat_tests, after_skip.offset_is refl, after_skip.full refl, after_skip.run_is, after_skip.window.len_is)
 
 -- A full window without a leading zero is at least 10^15.
 least : {table : Table} {s : List ℕ} {w : Window} → Shows table 16 s w → 16 ≤ w.len → w.zeroes ≡ 0 → 10 ^ 15 ≤ w.number
@@ -203,11 +141,7 @@ not_too_long table false limit s few = le-ltb 16 (significant_len table false s)
 ends : {table : Table} (skip : Bool) {s : List ℕ} {at before now : ℕ} {w : Window} →
     Skipped table skip s at before now w → (skip ≡ false → run_len table s ≤ 16) → w.number ≤ 4294967295 → run_len table (drop at s) ≡ w.len
 ends false after_skip few small = omega (arith, few refl, after_skip.skipped.asked refl, after_skip.run_is, after_skip.window.len_is)
-ends true {w = w} after_skip few small =
-    elim (cases_lt w.len 16) [
-      | inl h ↦ omega (arith, after_skip.window.len_is)
-      | inr h ↦ absurd (omega (arith, least after_skip.window h (after_skip.last refl)))
-    ]
+ends true {w = w} after_skip few small = search (arith, least)
 
 -- Zeros are skipped, or the run has at most 16 digits.
 module _ {table : Table} {skip : Bool} {s : List ℕ} {at before now : ℕ} {w : Window}
@@ -225,23 +159,15 @@ module _ {table : Table} {skip : Bool} {s : List ℕ} {at before now : ℕ} {w :
       (omega (arith, after_skip.run_is), cc (after_skip.value_is, rest, after_skip.window.number_is))
 
   -- With a digit, the last number decides between `Overflow` and `Ok`.
-  narrow_overflow : (bound limit : ℕ) → 0 < at + w.len → bound < w.number →
-      Err (overflow (drop at s)) ≡ prefix_magnitude table narrow bound limit skip s
-  narrow_overflow bound limit some above =
-      let digits : 0 < run_len table s = omega (arith, after_skip.run_is, after_skip.window.len_is) in
-      rw (refused_overflow table narrow bound limit prefix skip s digits (not_too_long table skip limit s few) (omega (arith, number_most)))
-      (rw (dropped_is skip limit after_skip) refl)
-
-  narrow_ok : (bound limit : ℕ) → bound ≤ 4294967295 → 0 < at + w.len → w.number ≤ bound →
-      Ok (w.number, at + w.len) ≡ prefix_magnitude table narrow bound limit skip s
-  narrow_ok bound limit high some within = search (arith, rest_is, not_too_long, refusal-none)
-
   pub narrow_after_skip : (bound limit : ℕ) → bound ≤ 4294967295 → 0 < at + w.len →
       (if nat_lt bound w.number then Err (overflow (drop at s)) else Ok (w.number, at + w.len)) ≡ prefix_magnitude table narrow bound limit skip s
   narrow_after_skip bound limit high some =
+      let digits : 0 < run_len table s = omega (arith, after_skip.run_is, after_skip.window.len_is) in
       elim (cases_lt bound w.number) [
-        | inl above ↦ rw (lt-ltb bound w.number above) (narrow_overflow bound limit some above)
-        | inr fits ↦ rw (le-ltb bound w.number fits) (narrow_ok bound limit high some fits)
+        | inl above ↦
+            rw (lt-ltb bound w.number above, refused_overflow table narrow bound limit prefix skip s digits (not_too_long table skip limit s few) (omega (arith, number_most)))
+            (rw (dropped_is skip limit after_skip) refl)
+        | inr fits ↦ rw (le-ltb bound w.number fits) (search (arith, rest_is, not_too_long, refusal-none))
       ]
 
 -- More than 16 digits without skipping are the error `Size` of 17.
