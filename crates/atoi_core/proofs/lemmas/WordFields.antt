@@ -143,11 +143,15 @@ digits_cut g (suc k) word =
     let small : word % b < b = mod-lt word (pow_pos g) in
     cc (cut, mod-mul-add rest b (word % b) small, div-mul-add rest b (word % b) small, digits_cut g k (word / b))
 
+-- One more byte.
+pub byte_more : (z : ℕ) → 2 ^ (suc z * 8) ≡ 256 * 2 ^ (z * 8)
+byte_more z = rw (suc-mul z 8) (omega (arith, pow-add 2 (z * 8) 8))
+
 -- Lowest bytes of 0 keep the weighted sum.
 pub low_value_shifted : (z k word : ℕ) → low_value (digits_l 256 (z + k) (word * 2 ^ (z * 8))) ≡ low_value (digits_l 256 k word)
 low_value_shifted zero k word = cc (zero-add k, mul-one word)
 low_value_shifted (suc z) k word =
-    let up : word * 2 ^ (suc z * 8) ≡ word * 2 ^ (z * 8) * 256 + 0 = rw (suc-mul z 8, pow-add 2 (z * 8) 8) (omega arith) in
+    let up : word * 2 ^ (suc z * 8) ≡ word * 2 ^ (z * 8) * 256 + 0 = rw byte_more (omega arith) in
     let low : word * 2 ^ (suc z * 8) % 256 ≡ 0 = omega arith in
     let high : word * 2 ^ (suc z * 8) / 256 ≡ word * 2 ^ (z * 8) = omega arith in
     rw (suc-add, low, high) (omega (arith, low_value_shifted z k word))

@@ -1,21 +1,21 @@
 -- How many digits and zeros a word begins with.
 use Rattle.std.proofs.Common.{◌≡◌, ℕ, zero, suc, ◌+◌, ◌*◌, ◌/◌, ◌%◌, ◌^◌, ◌<◌, ◌≤◌, ◌-◌, Bool, true, false, cond, ◌==◌, nat_lt, drop, refl, sym, ap, ap₂, ◌∙◌, arith, mod-lt, zero-lt-suc, inl, inr}
 use Rattle.std.proofs.Math.Dec.{lit<}
-use Rattle.std.proofs.lemmas.Bool.{agree_below, agree_below_at, eq-eqb, ne_eqb, lt-ltb}
-use Rattle.std.proofs.lemmas.Nat.{and_shr, and_mod, or_shr, or_mod, xor_shr, xor_mod, pow-add, mod-pow-add, and_mask, and_block, and_assoc, mul-mod_first}
-use Rattle.std.proofs.Math.Nat.{eq-zero-or-pos, zero-add, suc-mul, suc-add, div-one, div-div-eq-div-mul, div-mul-le_self, mod-eq_of_lt}
+use Rattle.std.proofs.lemmas.Bool.{agree_below, agree_below_at, eq-eqb, ne_eqb}
+use Rattle.std.proofs.lemmas.Nat.{pow_pos, shr_split, and_shr, and_mod, or_shr, or_mod, xor_shr, xor_mod, pow-add, mod-pow-add, and_mask, and_block, and_assoc, mul-mod_first}
+use Rattle.std.proofs.Math.Nat.{eq-zero-or-pos, zero-add, suc-mul, suc-add, div-one, div-div-eq-div-mul, div-mul-le_self, mod-eq_of_lt, mul-one}
 use Rattle.std.proofs.Math.Pow.{mod-mod-pow}
 use Rattle.std.proofs.lemmas.Bool.Decides.{nat_tests}
 use Rattle.std.specs.Char.{is_ascii_digit}
 use Rattle.std.specs.List.{prefix_len}
-use Rattle.std.specs.Int.Bits.{bit_and, bit_or, bit_xor, and_zero_r, and_self}
+use Rattle.std.specs.Int.Bits.{bit_and, bit_or, bit_xor, and_zero_l, and_zero_r, and_self}
 use Rattle.std.specs.Int.Count.{count_trailing_zeros, trailing_of_zero}
 use Rattle.std.specs.Simd.Lanes.{digits_l}
 use Rattle.atoi_core.specs.Digit.{decimal_table, is_digit, is_zero}
 use Rattle.atoi_core.specs.Run.{run_len, zeros}
 use Rattle.atoi_core.specs.Words.{low_bytes, low_value}
 use Rattle.atoi_core.proofs.lemmas.Calls.{digit_in_range}
-use Rattle.atoi_core.proofs.lemmas.WordFields.{zero_field, stopping_field, repeated, and_repeated, digits_cut, shifted_value, low_value_halves, low_value_shifted, shift_cut}
+use Rattle.atoi_core.proofs.lemmas.WordFields.{zero_field, stopping_field, repeated, and_repeated, digits_cut, shifted_value, low_value_halves, low_value_shifted, byte_more, shift_cut}
 
 -- ---- Counting digits and zeros
 
@@ -196,36 +196,32 @@ lower_half : (b : ℕ) → is_digit decimal_table b ≡ true → bit_and b 15 �
 lower_half b digit = and_mask b 4 ∙ (let range = digit_in_range b digit in omega arith)
 
 -- Subtracting 48 from k digits leaves their lower halves.
-lowered_digits : (j k word : ℕ) → k ≤ prefix_len (is_digit decimal_table) (digits_l 256 (k + j) word)
-    → (word + without_48 (k + j)) % 2 ^ (k * 8) ≡ bit_and (word % 2 ^ (k * 8)) (repeated 15 k)
-lowered_digits j zero word digits = omega (arith, and_zero_r (word % 2 ^ (zero * 8)))
-lowered_digits j (suc k) word digits =
+lowered_digits : (n k word : ℕ) → k ≤ prefix_len (is_digit decimal_table) (digits_l 256 n word)
+    → (word + without_48 n) % 2 ^ (k * 8) ≡ bit_and (word % 2 ^ (k * 8)) (repeated 15 k)
+lowered_digits n zero word digits = omega (arith, and_zero_r (word % 2 ^ (zero * 8)))
+lowered_digits zero (suc k) word digits = absurd (omega arith)
+lowered_digits (suc n) (suc k) word digits =
     let byte = word % 256 in
-    let run = prefix_len (is_digit decimal_table) (digits_l 256 (k + j) (word / 256)) in
-    let passes = first_passes (is_digit decimal_table byte) k run (rw (suc-add k j) at digits) in
+    let run = prefix_len (is_digit decimal_table) (digits_l 256 n (word / 256)) in
+    let passes = first_passes (is_digit decimal_table byte) k run digits in
     let block = and_block 8 (word / 256 % 2 ^ (k * 8)) (repeated 15 k) byte 15 (mod-lt word (zero-lt-suc 255)) (lit< tt) in
     cc (
-      suc-add k j,
       suc-mul k 8,
-      mod-pow-add (word + without_48 (suc (k + j))) (k * 8) 8,
-      lowered.rest (k + j) word passes.0,
-      lowered.low (k + j) word,
+      mod-pow-add (word + without_48 (suc n)) (k * 8) 8,
+      lowered.rest n word passes.0,
+      lowered.low n word,
       lower_half byte passes.0,
-      lowered_digits j k (word / 256) passes.1,
+      lowered_digits n k (word / 256) passes.1,
       block,
       mod-pow-add word (k * 8) 8,
     )
 
 -- A mask and a shift by whole bytes commute.
 shifted_halves : (z k word : ℕ) → bit_and word (repeated 15 k) * 2 ^ (z * 8) ≡ bit_and (word * 2 ^ (z * 8)) (repeated 15 (z + k))
-shifted_halves zero k word =
-    let one : bit_and word (repeated 15 k) * 2 ^ (zero * 8) ≡ bit_and word (repeated 15 k) = omega arith in
-    let same : word ≡ word * 2 ^ (zero * 8) = omega arith in
-    cc (one, same, zero-add k)
+shifted_halves zero k word = cc (zero-add k, mul-one word, mul-one (bit_and word (repeated 15 k)))
 shifted_halves (suc z) k word =
-    let up : 2 ^ (suc z * 8) ≡ 2 ^ (z * 8) * 256 = rw suc-mul (pow-add 2 (z * 8) 8) in
-    let next : word * 2 ^ (suc z * 8) ≡ word * 2 ^ (z * 8) * 256 + 0 = rw up (omega arith) in
-    rw (suc-add z k, next, up) (omega (arith, shifted_halves z k word, and_block 8 (word * 2 ^ (z * 8)) (repeated 15 (z + k)) 0 15 (lit< tt) (lit< tt)))
+    let next : word * (256 * 2 ^ (z * 8)) ≡ word * 2 ^ (z * 8) * 256 + 0 = omega arith in
+    rw (suc-add z k, byte_more, next) (omega (arith, shifted_halves z k word, and_block 8 (word * 2 ^ (z * 8)) (repeated 15 (z + k)) 0 15 (lit< tt) (lit< tt)))
 
 -- For digits at the top of `size` bytes of a word of `width`, subtracting 48 is the mask.
 pub lowered_at_top : (width size len word : ℕ) → size ≤ width → len ≤ size → len ≤ run_len decimal_table (low_bytes width word)
@@ -235,34 +231,34 @@ unfolding low_bytes
 lowered_at_top width size len word small few digits =
     let z = size - len in
     let others = width - len in
-    let all : len + others ≡ width = omega arith in
     let places : size * 8 - 8 * len ≡ z * 8 = omega arith in
     let bits : size * 8 ≡ len * 8 + z * 8 = omega arith in
     let word_bits : width * 8 ≡ others * 8 + len * 8 = omega arith in
     let top : z + len ≡ size = omega arith in
     let lower = word + without_48 width in
-    let kept : lower % 2 ^ (len * 8) ≡ bit_and (word % 2 ^ (len * 8)) (repeated 15 len) =
-    cc (all, lowered_digits others len word (rw all digits)) in
     let cut : (x : ℕ) → x * 2 ^ (size * 8 - 8 * len) % 2 ^ (size * 8) ≡ x % 2 ^ (len * 8) * 2 ^ (z * 8) =
     λ x. ap₂ (λ e f. x * 2 ^ e % 2 ^ f) places bits ∙ shift_cut x (len * 8) (z * 8) in
     cut (lower % 2 ^ (width * 8))
     ∙ ap (λ e. lower % 2 ^ e % 2 ^ (len * 8) * 2 ^ (z * 8)) word_bits
-    ∙ ap (λ x. x * 2 ^ (z * 8)) (mod-mod-pow lower (others * 8) (len * 8) ∙ kept)
+    ∙ ap (λ x. x * 2 ^ (z * 8)) (mod-mod-pow lower (others * 8) (len * 8) ∙ lowered_digits width len word digits)
     ∙ shifted_halves z len (word % 2 ^ (len * 8))
     ∙ ap₂ (λ x n. bit_and x (repeated 15 n)) (sym (cut word)) top
 
--- The shifted bytes are below 16, and keep the sum.
+-- Masked bytes are below 16, and keep the sum.
+masked : (size x ones : ℕ) → ones ≡ bit_and x (repeated 15 size) → (bit_and ones (repeated 15 size) ≡ ones) × (low_value (low_bytes size ones) ≡ low_value (low_bytes size x))
+unfolding low_bytes
+masked size x ones is = (
+  cc (is, and_assoc (repeated 15 size) x (repeated 15 size), and_self (repeated 15 size)),
+  ap (λ y. low_value (digits_l 256 size y)) is ∙ ap low_value (and_repeated 15 (lit< tt) size x) ∙ low_value_halves (digits_l 256 size x),
+)
+
+-- So are the shifted bytes.
 lowered_bytes : (width size len word ones : ℕ) → size ≤ width → len ≤ size → len ≤ run_len decimal_table (low_bytes width word)
     → ones ≡ (word + without_48 width) % 2 ^ (width * 8) * 2 ^ (size * 8 - 8 * len) % 2 ^ (size * 8)
     → (bit_and ones (repeated 15 size) ≡ ones) × (low_value (low_bytes size ones) ≡ low_value (low_bytes len word))
-unfolding low_bytes
 lowered_bytes width size len word ones small few digits is =
-    let at_top = word * 2 ^ (size * 8 - 8 * len) % 2 ^ (size * 8) in
-    let e = is ∙ lowered_at_top width size len word small few digits in (
-      cc (e, and_assoc (repeated 15 size) at_top (repeated 15 size), and_self (repeated 15 size)),
-      ap (λ x. low_value (digits_l 256 size x)) e ∙ ap low_value (and_repeated 15 (lit< tt) size at_top) ∙ low_value_halves (digits_l 256 size at_top)
-          ∙ shifted_value (size * 8 - 8 * len) size len word (omega arith) few,
-    )
+    let same = masked size _ ones (is ∙ lowered_at_top width size len word small few digits) in
+    (same.0, same.1 ∙ shifted_value (size * 8 - 8 * len) size len word (omega arith) few)
 
 pub lowered_value : (len word ones : ℕ) → len ≤ 8 → len ≤ run_len decimal_table (low_bytes 8 word)
     → ones ≡ (word + without_48 8) % 2 ^ 64 * 2 ^ (64 - 8 * len) % 2 ^ 64
@@ -287,20 +283,18 @@ pub lowered_sum : (len word ones number : ℕ) → number ≡ low_value (low_byt
     → ones ≡ (word + without_48 8) % 2 ^ 64 * 2 ^ (64 - 8 * len) % 2 ^ 64 → number ≡ low_value (low_bytes len word)
 lowered_sum len word ones number sum few digits is = sum ∙ (lowered_value len word ones few digits is).1
 
-one_more : (z : ℕ) → 2 ^ (suc z * 8) ≡ 256 * 2 ^ (z * 8)
-one_more z = rw (suc-mul z 8) (omega (arith, pow-add 2 (z * 8) 8))
-
--- The bytes after the first z, and what the mask is for them.
+-- The bytes after the first z.
 bytes_after : (z k word : ℕ) → drop z (digits_l 256 (z + k) word) ≡ digits_l 256 k (word / 2 ^ (z * 8))
 bytes_after zero k word = cc (zero-add k, div-one word)
 bytes_after (suc z) k word =
-    rw (suc-add z k, one_more z) (bytes_after z k (word / 256) ∙ ap (digits_l 256 k) (div-div-eq-div-mul word 256 (2 ^ (z * 8))))
+    rw (suc-add z k, byte_more z) (bytes_after z k (word / 256) ∙ ap (digits_l 256 k) (div-div-eq-div-mul word 256 (2 ^ (z * 8))))
 
-mask_after : (z k : ℕ) → repeated 15 (z + k) / 2 ^ (z * 8) ≡ repeated 15 k
-mask_after zero k = cc (zero-add k, div-one (repeated 15 k))
-mask_after (suc z) k =
-    let rest : (repeated 15 (z + k) * 256 + 15) / 256 ≡ repeated 15 (z + k) = omega arith in
-    rw (suc-add z k, one_more z, ← div-div-eq-div-mul (repeated 15 (z + k) * 256 + 15) 256 (2 ^ (z * 8)), rest) (mask_after z k)
+-- A mask may come before the lowest j bits are cleared.
+cleared : (x mask j : ℕ) → bit_and x mask / 2 ^ j * 2 ^ j ≡ bit_and (x / 2 ^ j * 2 ^ j) mask
+cleared x mask j =
+    let none : x / 2 ^ j * 2 ^ j ≡ x / 2 ^ j * 2 ^ j + 0 = omega arith in
+    let block = and_block j (x / 2 ^ j) (mask / 2 ^ j) 0 (mask % 2 ^ j) (pow_pos j) (mod-lt mask (pow_pos j)) in
+    rw (and_shr, none) (omega (arith, rw shr_split at block, and_zero_l (mask % 2 ^ j)))
 
 -- Of four digits, those after the first z: shifted down and up, they are the last bytes.
 pub lowered_end : (z word ones : ℕ) → z < 4 → run_len decimal_table (low_bytes 4 word) ≡ 4
@@ -311,22 +305,15 @@ lowered_end z word ones few full is =
     let k = 4 - z in
     let all : z + k ≡ 4 = omega arith in
     let bits : 8 * z ≡ z * 8 = omega arith in
-    let p = 2 ^ (z * 8) in
+    let low = word % 2 ^ 32 in
     let lower = (word + 0xCFCF_CFD0) % 2 ^ 32 in
-    let rest = word % 2 ^ 32 / p in
-    let kept : lower / p ≡ bit_and rest (repeated 15 k) =
-    ap (λ x. x / p) (lowered_digits 0 4 word (omega arith)) ∙ and_shr (word % 2 ^ 32) (repeated 15 4) (z * 8)
-    ∙ ap (bit_and rest) (ap (λ n. repeated 15 n / p) (sym all) ∙ mask_after z k) in
-    let small : lower / p * p < 2 ^ 32 = omega (arith, div-mul-le_self lower p) in
-    let e : ones ≡ bit_and (rest * p) (repeated 15 4) =
-    is ∙ ap (λ b. lower / 2 ^ b * 2 ^ b % 2 ^ 32) bits ∙ mod-eq_of_lt small
-    ∙ ap (λ x. x * p) kept ∙ shifted_halves z k rest ∙ ap (λ n. bit_and (rest * p) (repeated 15 n)) all in (
-      cc (e, and_assoc (repeated 15 4) (rest * p) (repeated 15 4), and_self (repeated 15 4)),
-      ap (λ x. low_value (digits_l 256 4 x)) e ∙ ap low_value (and_repeated 15 (lit< tt) 4 (rest * p)) ∙ low_value_halves (digits_l 256 4 (rest * p))
-          ∙ ap (λ n. low_value (digits_l 256 n (rest * p))) (sym all) ∙ low_value_shifted z k rest
-          ∙ ap low_value (sym (bytes_after z k (word % 2 ^ 32)) ∙ ap (λ n. drop z (digits_l 256 n (word % 2 ^ 32))) all)
-          ∙ ap (λ l. low_value (drop z l)) (digits_cut 8 4 word),
-    )
+    let lower_is : lower ≡ bit_and low (repeated 15 4) = lowered_digits 4 4 word (omega arith) in
+    let small : lower / 2 ^ (z * 8) * 2 ^ (z * 8) < 2 ^ 32 = omega (arith, div-mul-le_self lower (2 ^ (z * 8))) in
+    let same = masked 4 (low / 2 ^ (z * 8) * 2 ^ (z * 8)) ones
+    (is ∙ ap (λ b. lower / 2 ^ b * 2 ^ b % 2 ^ 32) bits ∙ mod-eq_of_lt small
+    ∙ ap (λ x. x / 2 ^ (z * 8) * 2 ^ (z * 8)) lower_is ∙ cleared low (repeated 15 4) (z * 8)) in
+    let sum = low_value_shifted z k (low / 2 ^ (z * 8)) ∙ ap low_value (sym (bytes_after z k low)) in
+    (same.0, same.1 ∙ (rw all at sum) ∙ ap (λ l. low_value (drop z l)) (digits_cut 8 4 word))
 
 -- Eight digits need no shift.
 pub lowered_eight : (word ones : ℕ) → run_len decimal_table (low_bytes 8 word) ≡ 8 → ones ≡ (word + without_48 8) % 2 ^ 64
@@ -342,22 +329,13 @@ shifted_twice a len few =
     let regroup : a * p * 2 ^ 8 ≡ a * (p * 2 ^ 8) = omega arith in
     cc (mul-mod_first (a * p) (2 ^ 8) (2 ^ 64), regroup, whole)
 
--- A test that fails leaves nothing to count.
-some_if : (t : Bool) (n : ℕ) → nat_lt 0 (cond t (1 + n) 0) ≡ t
-some_if true n = lt-ltb 0 (1 + n) (omega arith)
-some_if false n = refl
-
 -- The lowest byte decides whether a word of k bytes more begins with a digit.
 lowest_byte : (k word : ℕ) → is_ascii_digit (bit_and word 255) ≡ nat_lt 0 (run_len decimal_table (low_bytes (suc k) word))
 unfolding low_bytes
-lowest_byte k word =
-    let byte = word % 256 in
-    ap is_ascii_digit (and_mask word 8)
-    ∙ agree_below_at is_ascii_digit (is_digit decimal_table) 256 byte refl (mod-lt word (zero-lt-suc 255))
-    ∙ sym (some_if (is_digit decimal_table byte) (run_len decimal_table (digits_l 256 k (word / 256))))
+lowest_byte k word = grind (arith, nat_tests, and_mask word 8)
 
 pub first_byte : (word : ℕ) → is_ascii_digit (bit_and word 255) ≡ nat_lt 0 (run_len decimal_table (low_bytes 8 word))
-first_byte word = lowest_byte 7 word
+first_byte = lowest_byte 7
 
 pub first_byte_of_4 : (word : ℕ) → is_ascii_digit (bit_and word 255) ≡ nat_lt 0 (run_len decimal_table (low_bytes 4 word))
-first_byte_of_4 word = lowest_byte 3 word
+first_byte_of_4 = lowest_byte 3
