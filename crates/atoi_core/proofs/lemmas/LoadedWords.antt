@@ -1,10 +1,10 @@
 -- Words that hold the bytes of a slice.
-use Rattle.std.proofs.Common.{◌≡◌, ℕ, zero, suc, ◌+◌, ◌-◌, ◌*◌, ◌/◌, ◌%◌, ◌^◌, ◌<◌, ◌≤◌, List, [], ◌∷◌, ◌++◌, length, take, drop, replicate, get_or, take-take, inl, inr, refl, sym, ap, ap₂, ◌∙◌, arith, min, Bool, true, false, cond, ◌==◌, if◌then◌else◌}
+use Rattle.std.proofs.Common.{◌≡◌, ℕ, zero, suc, ◌+◌, ◌-◌, ◌*◌, ◌/◌, ◌%◌, ◌^◌, ◌<◌, ◌≤◌, List, [], ◌∷◌, ◌++◌, length, take, drop, replicate, get_or, take-take, inl, inr, refl, sym, ap, ap₂, ◌∙◌, arith, min, Bool, true, false, ◌==◌, if◌then◌else◌}
 use Rattle.std.proofs.Math.Nat.{mod-lt, mod-le, div-one, zero-div, zero-mod, suc-mul, div-div-eq-div-mul}
-use Rattle.std.proofs.lemmas.List.{take_all, append-nil, drop_all, drop_more, length-drop, length-take, get_or-drop, drop-drop}
-use Rattle.std.proofs.lemmas.Nat.{pow_pos, pow-add, mod-pow-add, or_block, shr_split, div-mul-add}
+use Rattle.std.proofs.lemmas.List.{take_all, append-nil, drop_all, drop_more, length-drop, length-take, get_or-drop, get_or_past, drop-drop}
+use Rattle.std.proofs.lemmas.Nat.{pow_pos, pow-add, mod-pow-add, or_block, or_shifted, shr_split, div-mul-add, and_mask, and_assoc, and_comm}
 use Rattle.std.specs.Int.{from_le_bytes, w16, w32, w64}
-use Rattle.std.specs.Int.Bits.{bit_or, or_self, or_zero_r}
+use Rattle.std.specs.Int.Bits.{bit_and, bit_or, and_self, or_add_and, or_zero_r}
 use Rattle.std.specs.Simd.Lanes.{Each1, number_l, digits_l}
 use Rattle.atoi_core.specs.Words.{word_of, low_bytes, low_value}
 use Rattle.std.proofs.lemmas.Bool.{cases_lt}
@@ -17,33 +17,37 @@ use Rattle.std.specs.List.{prefix_len}
 use Rattle.atoi_core.specs.Digit.{decimal_table, is_digit, is_zero, digit_value}
 use Rattle.atoi_core.specs.Run.{run_len, zeros, value}
 use Rattle.atoi_core.proofs.lemmas.Runs.{prefix_len-take}
-use Rattle.atoi_core.proofs.lemmas.WordFields.{shift_cut}
+use Rattle.atoi_core.proofs.lemmas.WordFields.{byte_more, shift_cut}
 use Rattle.atoi_core.proofs.lemmas.WordRuns.{first_passes}
 
 -- ---- Loading a word from a slice
 
--- Eight bytes, little-endian, are their word; a missing byte is 0.
-word_from_bytes : (s : List ℕ) → from_le_bytes w64 s ≡ word_of (take 8 s)
+-- At most eight bytes, or four, or two, little-endian, are their word.
+word_from_eight : (s : List ℕ) → length s ≤ 8 → from_le_bytes w64 s ≡ word_of s
 unfolding word_of
-word_from_bytes [] = omega arith
-word_from_bytes (a ∷ []) = omega arith
-word_from_bytes (a ∷ b ∷ []) = omega arith
-word_from_bytes (a ∷ b ∷ c ∷ []) = omega arith
-word_from_bytes (a ∷ b ∷ c ∷ d ∷ []) = omega arith
-word_from_bytes (a ∷ b ∷ c ∷ d ∷ e ∷ []) = omega arith
-word_from_bytes (a ∷ b ∷ c ∷ d ∷ e ∷ f ∷ []) = omega arith
-word_from_bytes (a ∷ b ∷ c ∷ d ∷ e ∷ f ∷ g ∷ []) = omega arith
-word_from_bytes (a ∷ b ∷ c ∷ d ∷ e ∷ f ∷ g ∷ h ∷ rest) = omega arith
+word_from_eight [] few = omega arith
+word_from_eight (a ∷ []) few = omega arith
+word_from_eight (a ∷ b ∷ []) few = omega arith
+word_from_eight (a ∷ b ∷ c ∷ []) few = omega arith
+word_from_eight (a ∷ b ∷ c ∷ d ∷ []) few = omega arith
+word_from_eight (a ∷ b ∷ c ∷ d ∷ e ∷ []) few = omega arith
+word_from_eight (a ∷ b ∷ c ∷ d ∷ e ∷ f ∷ []) few = omega arith
+word_from_eight (a ∷ b ∷ c ∷ d ∷ e ∷ f ∷ g ∷ []) few = omega arith
+word_from_eight (a ∷ b ∷ c ∷ d ∷ e ∷ f ∷ g ∷ h ∷ []) few = omega arith
+word_from_eight (a ∷ b ∷ c ∷ d ∷ e ∷ f ∷ g ∷ h ∷ i ∷ rest) few = absurd (omega arith)
 
--- The same for eight bytes in an array.
+pub word_from_four : (s : List ℕ) → length s ≤ 4 → from_le_bytes w32 s ≡ word_of s
+word_from_four s few = omega (arith, word_from_eight s (omega arith), get_or_past {X = ℕ})
+
+pub word_from_two : (s : List ℕ) → length s ≤ 2 → from_le_bytes w16 s ≡ word_of s
+word_from_two s few = omega (arith, word_from_eight s (omega arith), get_or_past {X = ℕ})
+
+-- The first eight bytes, in an array, and the last eight.
 pub word_of_first : (s bytes : List ℕ) → bytes ≡ take 8 s → from_le_bytes w64 bytes ≡ word_of (take 8 s)
-word_of_first s bytes e = ap (from_le_bytes w64) e ∙ word_from_bytes (take 8 s) ∙ ap word_of (take-take 8 8 s (omega arith))
+word_of_first s bytes e = rw e (word_from_eight (take 8 s) (omega (arith, length-take 8 s)))
 
--- The last eight bytes, in an array.
 pub word_of_last : (s bytes : List ℕ) → bytes ≡ drop (length s - 8) s → from_le_bytes w64 bytes ≡ word_of (drop (length s - 8) s)
-word_of_last s bytes e =
-    ap (from_le_bytes w64) e ∙ word_from_bytes (drop (length s - 8) s)
-    ∙ ap word_of (take_all 8 (drop (length s - 8) s) (omega (arith, length-drop (length s - 8) s)))
+word_of_last s bytes e = rw e (word_from_eight (drop (length s - 8) s) (omega (arith, length-drop (length s - 8) s)))
 
 -- The word of no bytes is 0.
 pub word_of_none : (s : List ℕ) → length s ≡ 0 → 0 ≡ word_of s
@@ -51,43 +55,22 @@ unfolding word_of
 word_of_none [] none = refl
 word_of_none (a ∷ s) none = absurd (omega arith)
 
--- Four bytes, or two, little-endian, are their word.
-pub word_from_four : (s : List ℕ) → length s ≤ 4 → from_le_bytes w32 s ≡ word_of s
-unfolding word_of
-word_from_four [] few = omega arith
-word_from_four (a ∷ []) few = omega arith
-word_from_four (a ∷ b ∷ []) few = omega arith
-word_from_four (a ∷ b ∷ c ∷ []) few = omega arith
-word_from_four (a ∷ b ∷ c ∷ d ∷ []) few = omega arith
-word_from_four (a ∷ b ∷ c ∷ d ∷ e ∷ rest) few = absurd (omega arith)
-
-pub word_from_two : (s : List ℕ) → length s ≤ 2 → from_le_bytes w16 s ≡ word_of s
-unfolding word_of
-word_from_two [] few = omega arith
-word_from_two (a ∷ []) few = omega arith
-word_from_two (a ∷ b ∷ []) few = omega arith
-word_from_two (a ∷ b ∷ c ∷ rest) few = absurd (omega arith)
-
 -- Joining its own lowest `r` bits to a number changes nothing.
 with_low_bits : (a r : ℕ) → bit_or (a % 2 ^ r) a ≡ a
 with_low_bits a r =
-    let low = a % 2 ^ r in
-    let small : low < 2 ^ r = mod-lt a (pow_pos r) in
-    ap (bit_or low) (sym (shr_split a r))
-    ∙ ap (λ x. bit_or x (a / 2 ^ r * 2 ^ r + low)) (omega arith)
-    ∙ or_block r 0 (a / 2 ^ r) low low small small
-    ∙ ap (λ x. a / 2 ^ r * 2 ^ r + x) (or_self low)
-    ∙ shr_split a r
+    let low : bit_and (a % 2 ^ r) a ≡ a % 2 ^ r = cc (and_mask a r, and_assoc a a (2 ^ r - 1), and_comm (2 ^ r - 1) a, and_assoc (2 ^ r - 1) a a, and_self a) in
+    omega (arith, or_add_and (a % 2 ^ r) a)
 
--- Overlapping low and high bits join to the number.
-overlap : (whole low high r k : ℕ) → low ≡ whole % 2 ^ (r + k) → high ≡ whole / 2 ^ k * 2 ^ k → bit_or low high ≡ whole
-overlap whole low high r k low_is high_is =
+-- Low and high bits that overlap or meet join to the number.
+overlap : (whole low high n k : ℕ) → low ≡ whole % 2 ^ n → high ≡ whole / 2 ^ k * 2 ^ k → k ≤ n → bit_or low high ≡ whole
+overlap whole low high n k low_is high_is meet =
     let q = whole / 2 ^ k in
     let rest = whole % 2 ^ k in
-    ap₂ bit_or (low_is ∙ mod-pow-add whole r k) (high_is ∙ omega arith)
-    ∙ or_block k (q % 2 ^ r) q rest 0 (mod-lt whole (pow_pos k)) (pow_pos k)
-    ∙ ap₂ (λ x y. x * 2 ^ k + y) (with_low_bits q r) (or_zero_r rest)
-    ∙ shr_split whole k
+    let bits : n ≡ n - k + k = omega arith in
+    let cut : whole % 2 ^ n ≡ q % 2 ^ (n - k) * 2 ^ k + rest = ap (λ e. whole % 2 ^ e) bits ∙ mod-pow-add whole (n - k) k in
+    let none : q * 2 ^ k ≡ q * 2 ^ k + 0 = omega arith in
+    let block = or_block k (q % 2 ^ (n - k)) q rest 0 (mod-lt whole (pow_pos k)) (pow_pos k) in
+    cc (low_is, cut, high_is, none, block, with_low_bits q (n - k), or_zero_r rest, shr_split whole k)
 
 -- A shift right by `k` bytes drops the first `k` bytes of the slice.
 pub bytes_above : (k : ℕ) (s : List ℕ) → ((i : ℕ) → get_or s i 0 < 256) → word_of s / 2 ^ (k * 8) ≡ word_of (drop k s)
@@ -96,9 +79,8 @@ bytes_above zero s fits = div-one (number_l 256 s)
 bytes_above (suc k) [] fits = zero-div (2 ^ (suc k * 8))
 bytes_above (suc k) (b ∷ bs) fits =
     let word = number_l 256 bs in
-    let up : 2 ^ (suc k * 8) ≡ 256 * 2 ^ (k * 8) = ap (λ e. 2 ^ e) (suc-mul k 8) ∙ pow-add 2 (k * 8) 8 ∙ omega arith in
     let rest : (b + 256 * word) / 256 ≡ word = omega (arith, fits 0) in
-    ap (λ p. (b + 256 * word) / p) up ∙ sym (div-div-eq-div-mul (b + 256 * word) 256 (2 ^ (k * 8)))
+    ap (λ p. (b + 256 * word) / p) (byte_more k) ∙ sym (div-div-eq-div-mul (b + 256 * word) 256 (2 ^ (k * 8)))
     ∙ ap (λ w. w / 2 ^ (k * 8)) rest ∙ bytes_above k bs (λ i. fits (suc i))
 
 -- The bytes from `at` on, of which n or fewer are there, are the highest of the last n.
@@ -125,10 +107,6 @@ word_after_all s at all = word_of_none (take 8 (drop at s)) (ap (λ l. length (t
 pub bytes : (s : List ℕ) → ((i : ℕ) → get_or s i 0 < 256) → Each1 (λ x. x < 256) s
 bytes s fits = Each1-from_get_or (λ x. x < 256) s 0 (λ i _. fits i)
 
--- The lowest byte of a word, and the bytes above it.
-low_and_high : (b word : ℕ) → b < 256 → ((b + 256 * word) % 256 ≡ b) × ((b + 256 * word) / 256 ≡ word)
-low_and_high b word small = (omega arith, omega arith)
-
 -- The lowest n bytes of a word: its first n.
 pub word_start : (n : ℕ) (s : List ℕ) → ((i : ℕ) → get_or s i 0 < 256) → word_of s % 2 ^ (n * 8) ≡ word_of (take n s)
 unfolding word_of
@@ -136,9 +114,8 @@ word_start zero s fits = omega arith
 word_start (suc n) [] fits = zero-mod (2 ^ (suc n * 8))
 word_start (suc n) (b ∷ bs) fits =
     let word = b + 256 * number_l 256 bs in
-    let parts = low_and_high b (number_l 256 bs) (fits 0) in
-    ap (λ e. word % 2 ^ e) (suc-mul n 8) ∙ mod-pow-add word (n * 8) 8
-    ∙ ap₂ (λ x y. x % 2 ^ (n * 8) * 256 + y) parts.1 parts.0 ∙ omega (arith, word_start n bs (λ i. fits (suc i)))
+    let rest : word / 256 ≡ number_l 256 bs = omega (arith, fits 0) in
+    rw (suc-mul n 8) (omega (arith, rw rest at (mod-pow-add word (n * 8) 8), word_start n bs (λ i. fits (suc i)), fits 0))
 
 -- m bytes of 0 shift a word left.
 pub word_shifted : (m : ℕ) (s : List ℕ) → word_of (replicate m 0 ++ s) ≡ word_of s * 2 ^ (m * 8)
@@ -146,7 +123,7 @@ unfolding word_of
 word_shifted zero s = omega arith
 word_shifted (suc m) s =
     let rest = word_shifted m s in
-    omega (arith, ap (λ p. number_l 256 s * p) (ap (λ e. 2 ^ e) (suc-mul m 8) ∙ pow-add 2 (m * 8) 8))
+    rw byte_more (omega arith)
 
 -- The word of two lists in a row.
 word_appended : (xs ys : List ℕ) → word_of (xs ++ ys) ≡ word_of ys * 2 ^ (length xs * 8) + word_of xs
@@ -154,22 +131,15 @@ unfolding word_of
 word_appended [] ys = omega arith
 word_appended (x ∷ xs) ys =
     let rest = word_appended xs ys in
-    omega (arith, ap (λ p. number_l 256 ys * p) (ap (λ e. 2 ^ e) (suc-mul (length xs) 8) ∙ pow-add 2 (length xs * 8) 8))
+    rw byte_more (omega arith)
 
 -- Two words of eight bytes join to one of sixteen.
 pub words_joined : (s : List ℕ) (first next : ℕ) → 8 ≤ length s → first ≡ word_of (take 8 s) → next ≡ word_of (take 8 (drop 8 s))
     → first < 2 ^ 64 → next < 2 ^ 64 → bit_or (next * 2 ^ 64 % 2 ^ 128) first ≡ word_of (take 16 s)
 words_joined s first next enough first_is next_is small small_next =
-    let length_is : length (take 8 s) * 8 ≡ 64 = omega (arith, length-take 8 s) in
-    let high : next * 2 ^ 64 % 2 ^ 128 ≡ next * 2 ^ 64 + 0 = omega arith in
-    let low : first ≡ 0 * 2 ^ 64 + first = omega arith in
-    ap₂ bit_or high low
-    ∙ or_block 64 next 0 0 first (pow_pos 64) small
-    ∙ ap (λ x. x * 2 ^ 64 + first) (or_zero_r next)
-    ∙ ap₂ (λ x y. x * 2 ^ 64 + y) next_is first_is
-    ∙ ap (λ e. word_of (take 8 (drop 8 s)) * 2 ^ e + word_of (take 8 s)) (sym length_is)
-    ∙ sym (word_appended (take 8 s) (take 8 (drop 8 s)))
-    ∙ ap word_of (sym (take-add 8 8 s))
+    let length_is : length (take 8 s) ≡ 8 = omega (arith, length-take 8 s) in
+    let high : next * 2 ^ 64 % 2 ^ 128 ≡ next * 2 ^ 64 = omega arith in
+    rw (high, or_shifted next 64 first small, take-add 8 8 s, word_appended (take 8 s) (take 8 (drop 8 s)), length_is) (omega arith)
 
 -- A shift right gives the word of the slice back.
 pub shifted_back : (s : List ℕ) → length s ≤ 8 → word_of (replicate (8 - length s) 0 ++ s) / 2 ^ (64 - 8 * length s) ≡ word_of s
@@ -192,53 +162,19 @@ module _ (s : List ℕ) (few : length s ≤ 8) (fits : (i : ℕ) → get_or s i 
       ap (λ e. high_word s % 2 ^ e) all ∙ high_cut (length s)
       ∙ ap (λ l. word_of l * 2 ^ z) (take_all (length s) s (omega arith)) ∙ sym (word_shifted (8 - length s) s)
 
-  -- Its first k bytes, shifted, are its lowest bits ..
-  high_front : (k x : ℕ) → x ≡ word_of (take k s) → x * 2 ^ (64 - 8 * length s) % 2 ^ 64 ≡ high_word s % 2 ^ (k * 8 + (8 - length s) * 8)
-  high_front k x is = search (arith, mod-le, high_cut, high_fits)
-
-  -- .. and the bytes from j on its highest.
+  -- The bytes from j on are its highest.
   high_rest : (j k x : ℕ) → x ≡ word_of (drop j s) → 8 - length s + j ≡ k → x ≡ high_word s / 2 ^ (k * 8)
   high_rest j k x is place =
       let up : 2 ^ (64 - 8 * length s) * 2 ^ (j * 8) ≡ 2 ^ (k * 8) = sym (pow-add 2 (64 - 8 * length s) (j * 8)) ∙ ap (λ e. 2 ^ e) (omega arith) in
       is ∙ sym (bytes_above j s fits) ∙ ap (λ w. w / 2 ^ (j * 8)) (sym (shifted_back s few))
       ∙ div-div-eq-div-mul (high_word s) (2 ^ (64 - 8 * length s)) (2 ^ (j * 8)) ∙ ap (λ p. high_word s / p) up
 
-  first_byte_is : 0 < length s → get_or s 0 0 ≡ word_of (take 1 s)
-  unfolding word_of
-  first_byte_is some = search (arith, drop_more)
+  -- A front and a back that overlap or meet join to the word.
+  parts_joined : (j k front back : ℕ) → front ≡ word_of (take j s) → back * 2 ^ 32 % 2 ^ 64 ≡ high_word s / 2 ^ (k * 8) * 2 ^ (k * 8)
+      → k * 8 ≤ j * 8 + (8 - length s) * 8 → bit_or (front * 2 ^ (64 - 8 * length s) % 2 ^ 64) (back * 2 ^ 32 % 2 ^ 64) ≡ high_word s
+  parts_joined j k front back front_is back_is = overlap (high_word s) _ _ (j * 8 + (8 - length s) * 8) (k * 8) (search (arith, mod-le, high_cut, high_fits)) back_is
 
-  -- Four bytes or more: the first four overlap the last four, which have the last two.
-  from_four : (start two first last : ℕ) → 4 ≤ length s → start ≡ word_of (take 1 s) → two ≡ word_of (drop (length s - 2) s)
-      → first ≡ word_of (take 4 s) → last ≡ word_of (drop (length s - 4) s)
-      → bit_or (bit_or start first * 2 ^ (64 - 8 * length s) % 2 ^ 64) (bit_or last (two * 2 ^ 16 % 2 ^ 32) * 2 ^ 32 % 2 ^ 64) ≡ high_word s
-  from_four start two first last enough start_is two_is first_is last_is =
-      let z = (8 - length s) * 8 in
-      let low : start ≡ first % 2 ^ 8 = omega (arith, start_is, first_is, word_start 1 s fits, word_start 4 s fits) in
-      let front : bit_or start first ≡ first = overlap first start first 8 0 low (omega arith) in
-      let top : last ≡ high_word s / 2 ^ (4 * 8) = high_rest (length s - 4) 4 last last_is (omega arith) in
-      let end : two ≡ high_word s / 2 ^ (6 * 8) = high_rest (length s - 2) 6 two two_is (omega arith) in
-      let back : bit_or last (two * 2 ^ 16 % 2 ^ 32) ≡ last = overlap last last _ 16 16 (omega (arith, top, high_fits)) (omega (arith, top, end, high_fits)) in
-      let places : 4 * 8 + z ≡ z + 32 = omega arith in
-      overlap (high_word s) _ _ z 32
-      (ap (λ x. x * 2 ^ (64 - 8 * length s) % 2 ^ 64) front ∙ high_front 4 first first_is ∙ ap (λ e. high_word s % 2 ^ e) places)
-      (ap (λ x. x * 2 ^ 32 % 2 ^ 64) back ∙ omega (arith, top, high_fits))
-
-  -- Fewer: the first byte overlaps the last two, if there are two.
-  from_one : (start first : ℕ) → start ≡ word_of (take 1 s) → first ≡ 0
-      → bit_or start first * 2 ^ (64 - 8 * length s) % 2 ^ 64 ≡ high_word s % 2 ^ (1 * 8 + (8 - length s) * 8)
-  from_one start first start_is none =
-      ap (λ x. x * 2 ^ (64 - 8 * length s) % 2 ^ 64) (ap (bit_or start) none ∙ or_zero_r start) ∙ high_front 1 start start_is
-
-  from_two : (start two first last : ℕ) → 2 ≤ length s → length s < 4 → start ≡ word_of (take 1 s) → two ≡ word_of (drop (length s - 2) s)
-      → first ≡ 0 → last ≡ 0
-      → bit_or (bit_or start first * 2 ^ (64 - 8 * length s) % 2 ^ 64) (bit_or last (two * 2 ^ 16 % 2 ^ 32) * 2 ^ 32 % 2 ^ 64) ≡ high_word s
-  from_two start two first last enough few_bytes start_is two_is none none_last =
-      let back : bit_or last (two * 2 ^ 16 % 2 ^ 32) ≡ two * 2 ^ 16 % 2 ^ 32 = ap (λ x. bit_or x (two * 2 ^ 16 % 2 ^ 32)) none_last in
-      let places : 1 * 8 + (8 - length s) * 8 ≡ (8 - length s) * 8 - 40 + 48 = omega arith in
-      overlap (high_word s) _ _ ((8 - length s) * 8 - 40) 48
-      (from_one start first start_is none ∙ ap (λ e. high_word s % 2 ^ e) places)
-      (ap (λ x. x * 2 ^ 32 % 2 ^ 64) back ∙ omega (arith, high_rest (length s - 2) 6 two two_is (omega arith), high_fits))
-
+  -- The first byte overlaps the first four, and the last two the last four; fewer bytes have no fours.
   pub high_joined : (two first last : ℕ) → 0 < length s → (2 ≤ length s → two ≡ word_of (drop (length s - 2) s)) → (length s < 2 → two ≡ 0)
       → (4 ≤ length s → first ≡ word_of (take 4 s)) → (length s < 4 → first ≡ 0)
       → (4 ≤ length s → last ≡ word_of (drop (length s - 4) s)) → (length s < 4 → last ≡ 0)
@@ -246,17 +182,22 @@ module _ (s : List ℕ) (few : length s ≤ 8) (fits : (i : ℕ) → get_or s i 
       (bit_or last (two * 2 ^ 16 % 2 ^ 32) * 2 ^ 32 % 2 ^ 64) ≡ high_word s
   unfolding word_of
   high_joined two first last some two_is no_two first_is no_first last_is no_last =
-      let start = first_byte_is some in
+      let start : get_or s 0 0 ≡ word_of (take 1 s) = search (arith, drop_more) in
+      let end : 2 ≤ length s → two ≡ high_word s / 2 ^ (6 * 8) = λ h. high_rest (length s - 2) 6 two (two_is h) (omega arith) in
       elim (cases_lt (length s) 4) [
-        | inr four ↦ from_four _ two first last four start (two_is (omega arith)) (first_is four) (last_is four)
-        | inl short ↦ (elim (cases_lt (length s) 2) [
-          | inl one ↦
-              (let all : 1 * 8 + (8 - length s) * 8 ≡ 64 = omega arith in
-              let front = bit_or (get_or s 0 0) first * 2 ^ (64 - 8 * length s) % 2 ^ 64 in
-              ap₂ (λ x y. bit_or front (bit_or x (y * 2 ^ 16 % 2 ^ 32) * 2 ^ 32 % 2 ^ 64)) (no_last short) (no_two one)
-              ∙ or_zero_r front ∙ from_one _ first start (no_first short) ∙ ap (λ e. high_word s % 2 ^ e) all ∙ high_fits)
-          | inr more ↦ from_two _ two first last more short start (two_is more) (no_first short) (no_last short)
-        ])
+        | inr four ↦
+            (let top : last ≡ high_word s / 2 ^ (4 * 8) = high_rest (length s - 4) 4 last (last_is four) (omega arith) in
+            let low : get_or s 0 0 ≡ first % 2 ^ 8 = omega (arith, start, first_is four, word_start 1 s fits, word_start 4 s fits) in
+            let front : bit_or (get_or s 0 0) first ≡ first = ap (λ x. bit_or x first) low ∙ with_low_bits first 8 in
+            let back : bit_or last (two * 2 ^ 16 % 2 ^ 32) ≡ last =
+            overlap last last _ 32 16 (omega (arith, top, high_fits)) (omega (arith, top, end (omega arith), high_fits)) (omega arith) in
+            rw (front, back) (parts_joined 4 4 first last (first_is four) (omega (arith, top, high_fits)) (omega arith)))
+        | inl short ↦
+            (rw (no_first short, no_last short, or_zero_r)
+            (elim (cases_lt (length s) 2) [
+              | inl one ↦ rw (no_two one) (parts_joined 1 8 (get_or s 0 0) 0 start (omega (arith, high_fits)) (omega arith))
+              | inr more ↦ parts_joined 1 6 (get_or s 0 0) (two * 2 ^ 16 % 2 ^ 32) start (omega (arith, end more, high_fits)) (omega arith)
+            ]))
       ]
 
 -- ---- Digits and zeros of a loaded word
@@ -267,18 +208,16 @@ digits-of_bytes zero m xs h room = refl
 digits-of_bytes (suc n) zero [] h room = absurd (omega arith)
 digits-of_bytes (suc n) (suc m) [] h room = ap (λ ds. 0 ∷ ds) (digits-of_bytes n m [] tt (omega arith))
 digits-of_bytes (suc n) m (x ∷ xs) h room =
-    let parts = low_and_high x (number_l 256 xs) h.0 in
-    ap₂ (λ d ds. d ∷ ds) parts.0 (ap (digits_l 256 n) parts.1 ∙ digits-of_bytes n m xs h.1 (omega arith))
+    let low : (x + 256 * number_l 256 xs) % 256 ≡ x = omega (arith, h.0) in
+    let high : (x + 256 * number_l 256 xs) / 256 ≡ number_l 256 xs = omega (arith, h.0) in
+    cc (low, high, digits-of_bytes n m xs h.1 (omega arith))
 
--- If 0 fails a test, zeros after a list do not change how far it passes.
-pub prefix_len-before_zeros : (p : ℕ → Bool) → p 0 ≡ false → (n : ℕ) (s : List ℕ) → prefix_len p (s ++ replicate n 0) ≡ prefix_len p s
-prefix_len-before_zeros p none zero [] = refl
-prefix_len-before_zeros p none (suc n) [] = ap (λ b. cond b (1 + prefix_len p (replicate n 0)) 0) none
-prefix_len-before_zeros p none n (x ∷ xs) = ap (λ k. cond (p x) (1 + k) 0) (prefix_len-before_zeros p none n xs)
-
--- The same of the first n elements.
+-- If 0 fails a test, zeros after a list do not change how far its first n elements pass.
 pub prefix_len-padded : (p : ℕ → Bool) → p 0 ≡ false → (n m : ℕ) (s : List ℕ) → prefix_len p (take n (s ++ replicate m 0)) ≡ prefix_len p (take n s)
-prefix_len-padded p none n m s = prefix_len-take p n (s ++ replicate m 0) ∙ ap (min n) (prefix_len-before_zeros p none m s) ∙ sym (prefix_len-take p n s)
+prefix_len-padded p none zero m s = refl
+prefix_len-padded p none (suc n) zero [] = refl
+prefix_len-padded p none (suc n) (suc m) [] = rw none
+prefix_len-padded p none (suc n) m (x ∷ xs) = cc (prefix_len-padded p none n m xs)
 
 -- The lower half of a digit's byte is its digit value, so digits spell the weighted sum of these.
 half_is_value : (b : ℕ) → is_digit decimal_table b ≡ true → b % 16 ≡ digit_value decimal_table b
