@@ -7,26 +7,14 @@ ghost use Rattle.atoi_core.specs.Digit.{decimal_table};
 use crate::default_engine::DefaultEngine;
 use atoi_core::{AtoiSimdError, Number, Parsed, Steps, prefix_pos, whole_pos};
 
-/// An integer type that is parsed from digits without a sign.
-///
-/// ```
-/// assert_eq!(torkettle::parse_pos::<u8, false>(b"80"), Ok(80));
-/// ```
+/// An integer type that is parsed from digits without a sign. No other crate can name it.
 pub trait ParsePos: Number {
     /// The function [`parse_pos`](crate::parse_pos), with its flag as an argument.
-    ///
-    /// # Errors
-    ///
-    /// As for `parse_pos`.
     fn atoi_simd_parse_pos(s: &[u8], skip_zeroes: bool) -> Result<Self, AtoiSimdError<'_>>
         ensures answer { typed_answer Self.number result
             ≡ whole_answer decimal_table Self.int_type false skip_zeroes s.now };
 
     /// The function [`parse_prefix_pos`](crate::parse_prefix_pos), with its flag as an argument.
-    ///
-    /// # Errors
-    ///
-    /// As for `parse_prefix_pos`.
     fn atoi_simd_parse_prefix_pos(
         s: &[u8],
         skip_zeroes: bool,

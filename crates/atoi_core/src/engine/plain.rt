@@ -17,19 +17,13 @@ impl Alphabet for Plain {
 
     #[inline(always)]
     fn digit_value(byte: u8) -> Option<u64> {
-        decimal_digit(byte)
+        match byte {
+            b'0'..=b'9' => Some(u64::from(byte - b'0')),
+            _ => None,
+        }
     }
 
     ghost below_ten = { λ byte. Prim.grind (arith, nat_tests) };
-}
-
-fn decimal_digit(byte: u8) -> Option<u64>
-    ensures { result ≡ decimal_table byte }
-{
-    match byte {
-        b'0'..=b'9' => Some(u64::from(byte - b'0')),
-        _ => None,
-    }
 }
 
 /// Parses all of `s` as decimal digits, without a sign, up to `bound`, which is at most `u32::MAX`.
@@ -44,7 +38,7 @@ pub fn narrow_whole(bound: u64, s: &[u8]) -> Result<u64, AtoiSimdError<'_>>
 {
     let mut number = 0;
     for (at, byte) in s.iter().enumerate() {
-        let Some(digit_value) = decimal_digit(*byte) else {
+        let Some(digit_value) = Plain::digit_value(*byte) else {
             if at == 0 {
                 return Err(AtoiSimdError::Empty);
             }

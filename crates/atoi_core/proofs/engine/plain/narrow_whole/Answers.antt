@@ -14,7 +14,7 @@ returns-then-at-eq0 c =
     record {
       answer = ap (λ b. Err (if b then empty else invalid64 c.loop-at.number c.loop-at.at s)) (sym (eq-eqb c.loop-at.at 0 c.if-at-eq0.true))
           ∙ sym (narrow_whole_rest decimal_table c.args.bound 0 false s c.loop-at.at c.loop-at.number c.loop-at-test.true
-          (sym c.decimal_digit.ensures ∙ c.in_default.is) c.loop-at.invariant.digits c.loop-at.invariant.number c.loop-at.invariant.bound);
+          (sym c.digit_value.ensures ∙ c.in_default.is) c.loop-at.invariant.digits c.loop-at.invariant.number c.loop-at.invariant.bound);
     }
 
 pub returns-in_default : goal.returns-in_default
@@ -23,7 +23,7 @@ returns-in_default c =
     record {
       answer = ap (λ b. Err (if b then empty else invalid64 c.loop-at.number c.loop-at.at s)) (sym (ne_eqb c.loop-at.at 0 c.if-at-eq0.false))
           ∙ sym (narrow_whole_rest decimal_table c.args.bound 0 false s c.loop-at.at c.loop-at.number c.loop-at-test.true
-          (sym c.decimal_digit.ensures ∙ c.in_default.is) c.loop-at.invariant.digits c.loop-at.invariant.number c.loop-at.invariant.bound);
+          (sym c.digit_value.ensures ∙ c.in_default.is) c.loop-at.invariant.digits c.loop-at.invariant.number c.loop-at.invariant.bound);
     }
 
 pub returns-then-next-bound : goal.returns-then-next-bound
@@ -33,14 +33,14 @@ returns-then-next-bound c =
     let over : c.args.bound < value decimal_table (take c.loop-at.at s) * 10 + w = rw (← c.loop-at.invariant.number) c.if-next-bound.true in
     record {
       answer = sym (narrow_whole_over decimal_table c.args.bound 0 false s c.loop-at.at w c.loop-at-test.true
-          (sym c.decimal_digit.ensures ∙ c.in-Some.is) c.loop-at.invariant.digits over);
+          (sym c.digit_value.ensures ∙ c.in-Some.is) c.loop-at.invariant.digits over);
     }
 
 pub loop-at-preserved : goal.loop-at-preserved
 loop-at-preserved c =
     let s = c.args.s.now in
     let w = c.in-Some.digit_value in
-    let digit = sym c.decimal_digit.ensures ∙ c.in-Some.is in
+    let digit = sym c.digit_value.ensures ∙ c.in-Some.is in
     record {
       digits = run_more decimal_table s c.loop-at.at w c.loop-at-test.true digit c.loop-at.invariant.digits;
       number = rw c.loop-at.invariant.number (sym (value_more decimal_table s c.loop-at.at w c.loop-at-test.true digit));
