@@ -148,8 +148,8 @@ typedef struct torkettle_error {
  *
  * Reads several fields, which is faster. Writes at most `count` numbers to `values` and returns how many it has
  * written. It writes fewer than `count` only if it reaches a bad field or the end of the text. If `count` is 0, it
- * reads nothing, and `values` may be NULL. If `count` is 128 or more and the fields all have the same width, at most 8
- * bytes, it is 2 to 3 times as fast.
+ * reads nothing, and `values` may be NULL. If `count` is 128 or more and the fields all have the same width, at most 20
+ * bytes, it is about twice as fast, and up to 8 bytes 3 times.
  *
  * struct torkettle_column_i64 {
  *     torkettle_status status;  TORKETTLE_OK or, after a bad field, its error. TORKETTLE_INVALID means that a byte that

@@ -353,15 +353,19 @@ impl Rest {
     unsafe fn read_of_width<T: Parse>(&mut self, values: Values<T>, count: usize) -> usize {
         let text = unsafe { bytes(self.rest, self.rest_length) };
         let separator = self.separator as u8;
+        // A number in range has no more bytes, unless it begins with zeros.
+        let most = 3 * size_of::<T>() + 1;
         macro_rules! read_of_widths {
             ($($width:literal)*) => {
                 match self.width {
-                    $($width => unsafe { read_of::<T, $width>(text, separator, values, count) },)*
+                    $($width if $width <= most => unsafe {
+                        read_of::<T, $width>(text, separator, values, count)
+                    },)*
                     _ => 0,
                 }
             };
         }
-        let read = read_of_widths!(1 2 3 4 5 6 7 8);
+        let read = read_of_widths!(1 2 3 4 5 6 7 8 9 10 11 12 13 14 15 16 17 18 19 20);
         self.go_on(read, read * (usize::from(self.width) + 1));
         if read == 0 {
             self.width = 0;
@@ -375,7 +379,7 @@ impl Rest {
 const PART: usize = 128;
 
 /// Reads numbers of `WIDTH` bytes, each with a separator after it. No number waits for the end of the one
-/// before it, so this takes 0.3 to 0.5 of the time of `Fields`.
+/// before it, so this takes 0.3 to 0.6 of the time of `Fields`.
 ///
 /// # Safety
 ///

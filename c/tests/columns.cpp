@@ -431,7 +431,7 @@ void add_number(Random &random, std::string &text)
 template <class T>
 void add_fields_of_width(Random &random, Shape shape, bool spoils, std::string &text)
 {
-    const unsigned width = 1 + random.below(9), most = most_digits<T>();
+    const unsigned width = 1 + random.below(22), most = most_digits<T>();
     for (unsigned left = random.below(700); left > 0; left--) {
         for (unsigned place = width; place > 0; place--)
             text += static_cast<char>('0' + (place > most ? 0 : random.below(10)));
