@@ -39,7 +39,7 @@ pub mod word_loads {
 /// The digits of words.
 pub mod word_digits {
     pub use crate::words::digits::{
-        ZEROS, digits_of, digits_of_four, fill_of_zeros, starts_with_digit_of_four, value_at_end,
-        value_in_four,
+        ZEROS, digits_of, digits_of_four, fill_of_zeros, number_in_word, starts_with_digit_of_four,
+        value_at_end, value_in_four,
     };
 }

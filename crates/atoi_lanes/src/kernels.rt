@@ -7,7 +7,7 @@ ghost use Rattle.atoi_core.specs.Run.{run_len, zeros, value};
 ghost use Rattle.atoi_core.specs.Words.{word_of};
 ghost use Rattle.atoi_lanes.specs.Lanes.{IsShortRun, itself, padded, padded_start, paired};
 
-use atoi_core::word_digits::{ZEROS, digits_of, fill_of_zeros};
+use atoi_core::word_digits::{ZEROS, digits_of, fill_of_zeros, number_in_word};
 use atoi_core::word_loads::{load_8, load_full, load_high, load_last};
 use std::simd::prelude::*;
 
@@ -190,17 +190,14 @@ pub(crate) fn read_short(s: &[u8]) -> ShortRun
     if s.is_empty() {
         return ShortRun::Part(0, 0);
     }
-    let word = load_high(s);
-    let filled = word + fill_of_zeros(s.len());
+    let filled = load_high(s) + fill_of_zeros(s.len());
     let digits = digits_of(filled);
     if digits == 8 {
         // The number need not wait for its length, and `digits_of` subtracts the same.
         return ShortRun::Whole(number_in_half(half(filled.wrapping_sub(ZEROS))));
     }
     let len = digits - (8 - s.len() as u32);
-    // Drops the bytes after the digits.
-    let first = half(word << (8 * (s.len() - len as usize)));
-    ShortRun::Part(len, number_in_half(first & u8x16::splat(0x0F)))
+    ShortRun::Part(len, number_in_word(filled, digits))
 }
 
 // Returns the bytes of a word in the first eight lanes, the lowest first. The others are 0.

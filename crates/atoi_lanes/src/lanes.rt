@@ -4,17 +4,14 @@ ghost use Rattle.std.proofs.Common.{arith};
 ghost use Rattle.std.proofs.lemmas.Bool.Decides.{nat_tests};
 ghost use Rattle.atoi_core.specs.Digit.{decimal_table};
 ghost use Rattle.atoi_core.specs.Reading.{window_of};
-ghost use Rattle.atoi_core.specs.Run.{run_len};
-ghost use Rattle.atoi_core.specs.Words.{word_of};
 ghost use Rattle.atoi_lanes.specs.Lanes.{lane_window};
 
 use crate::after_16::begins_with_digit;
 use crate::kernels::{
-    ShortRun, half, load_lanes, number_in_half, others, read_medium, read_short, sum_lanes,
-    zeroes_lanes,
+    ShortRun, load_lanes, others, read_medium, read_short, sum_lanes, zeroes_lanes,
 };
 use crate::wide_lanes::{prefix_64_lanes, prefix_128_lanes};
-use atoi_core::word_digits::{ZEROS, digits_of};
+use atoi_core::word_digits::number_in_word;
 use atoi_core::word_loads::load_full;
 use atoi_core::{AtoiSimdError, Engine, Steps, Window};
 use std::simd::prelude::*;
@@ -78,6 +75,27 @@ pub(crate) fn read_lanes(s: &[u8]) -> Window
     lane_window(load_lanes(s), 16)
 }
 
+// `read_window` for 16 bytes or more, of which a word sums up to 8 digits.
+#[inline(always)]
+#[tactic(auto, using(crate::proofs::lemmas::LaneWindows::window_of_lanes, crate::proofs::lemmas::LaneWindows::few_counted))]
+fn narrow_lanes(s: &[u8]) -> Window
+    requires { 16 ≤ length s.now }
+    ensures { result ≡ window_of decimal_table 16 s.now }
+{
+    let lanes = load_lanes(s);
+    let others = others(lanes);
+    if others == 0 {
+        return lane_window(lanes, 16);
+    }
+    let len = others.trailing_zeros();
+    let number = if len <= 8 {
+        number_in_word(load_full(s), len)
+    } else {
+        sum_lanes(lanes, len)
+    };
+    Window::not_full(len, number)
+}
+
 // `read_window` if all of 8 to 15 bytes are digits, otherwise `None`.
 #[inline(always)]
 #[tactic(auto, using(crate::proofs::lemmas::LaneWindows::window_of_all))]
@@ -89,22 +107,6 @@ fn medium_window(s: &[u8]) -> Option<Window>
     }
     let number = read_medium(s)?;
     Some(Window::not_full(s.len() as u32, number))
-}
-
-// `read_window` if there are `len` digits, at most 8, at the start of `word`.
-#[inline(always)]
-fn few_window(word: u64, len: u32, s: &[u8]) -> Window
-    requires enough { 8 ≤ length s.now }
-    requires loaded { word ≡ word_of (take 8 s.now) }
-    requires few { len ≤ 8 }
-    requires run { len ≡ run_len decimal_table s.now }
-    ensures { result ≡ window_of decimal_table 16 s.now }
-{
-    if len == 0 {
-        return Window::not_full(0, 0);
-    }
-    let digit_values = half(word.wrapping_sub(ZEROS) << (64 - 8 * len));
-    Window::not_full(len, number_in_half(digit_values))
 }
 
 impl Engine for Lanes {
@@ -150,14 +152,10 @@ impl Engine for Lanes {
     fn narrow_window(s: &[u8], steps: &mut Steps) -> Window {
         steps.tick();
         if s.len() >= 16 {
-            // A word shows sooner than lanes how many digits there are.
-            let word = load_full(s);
-            let len = digits_of(word);
-            if len < 8 || !begins_with_digit(&s[8..]) {
-                return few_window(word, len, s);
-            }
+            narrow_lanes(s)
+        } else {
+            read_window(s)
         }
-        read_window(s)
     }
 
     /// Returns the window of 8 bytes.

@@ -69,9 +69,9 @@ pub(crate) fn zeroes_of_two(first: u64, next: u64) -> u32
     }
 }
 
-// The number that the leading digits of the word spell; there may be none.
+/// Returns the number that the leading digits of the word spell; there may be none.
 #[tactic(auto, using(crate::proofs::lemmas::LoadedWords::sum_of_none))]
-pub(crate) fn number_in_word(word: u64, len: u32) -> u64
+pub fn number_in_word(word: u64, len: u32) -> u64
     requires few { len ≤ 8 }
     requires digits { len ≡ run_len decimal_table (low_bytes 8 word) }
     ensures sum { result ≡ low_value (low_bytes len word) }

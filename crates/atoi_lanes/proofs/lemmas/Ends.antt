@@ -70,9 +70,9 @@ word-append (x ∷ xs) ys =
     let n = number_l 256 ys in
     omega (arith, word-append xs ys, ap (λ q. q * n) (pow-suc 256 (length xs) ∙ mul_comm p 256) ∙ mul_assoc 256 p n)
 
-each-append : (xs ys : List ℕ) → Each1 (λ x. x < 256) xs → Each1 (λ x. x < 256) ys → Each1 (λ x. x < 256) (xs ++ ys)
-each-append [] ys h k = k
-each-append (x ∷ xs) ys h k = (h.0, each-append xs ys h.1 k)
+pub each-append : (P : ℕ → Type 0) (xs ys : List ℕ) → Each1 P xs → Each1 P ys → Each1 P (xs ++ ys)
+each-append P [] ys h k = k
+each-append P (x ∷ xs) ys h k = (h.0, each-append P xs ys h.1 k)
 
 module _ (s : List ℕ) (enough : 8 ≤ length s) where
   front : length (take 8 s) ≡ 8
@@ -95,7 +95,7 @@ module _ (s : List ℕ) (enough : 8 ≤ length s) where
       omega (arith, word-append (take 8 s) (drop (length s - 8) s), ap (λ p. p * number_l 256 (drop (length s - 8) s)) size, is, last_is) in
       let each = bytes s fits in
       ap (digits_l 256 16) both
-      ∙ lanes-of_bytes 16 (ends s) (each-append _ _ (Each1-chunk _ 0 8 s each) (subst (Each1 (λ x. x < 256)) all (Each1-chunk _ (length s - 8) 8 s each))) (omega (arith, length-ends))
+      ∙ lanes-of_bytes 16 (ends s) (each-append _ _ _ (Each1-chunk _ 0 8 s each) (subst (Each1 (λ x. x < 256)) all (Each1-chunk _ (length s - 8) 8 s each))) (omega (arith, length-ends))
       ∙ take_at (ends s) (replicate 16 0) 16 length-ends
 
   -- All of them are digits if and only if all bytes are.

@@ -36,7 +36,7 @@ spelled xs long = subst Spelled (pick_l_whole 0 xs 16 long) (spelled_16 (λ i. g
 
 -- ---- Joining the two halves of each lane
 
-number-lt : (p : ℕ) (xs : List ℕ) → Each1 (λ x. x < p) xs → number_l p xs < p ^ length xs
+pub number-lt : (p : ℕ) (xs : List ℕ) → Each1 (λ x. x < p) xs → number_l p xs < p ^ length xs
 number-lt p [] h = omega (arith, pow-zero p)
 number-lt p (x ∷ xs) h = omega (arith, h.0, pow-suc p (length xs), mul-le-mul_right p (number-lt p xs h.1))
 
