@@ -38,7 +38,7 @@ fn a_vector_keeps_its_lanes() {
 #[test]
 #[should_panic]
 fn fifteen_bytes_are_no_vector() {
-    u8x16::from_slice(&[0; 15]);
+    let _ = u8x16::from_slice(&[0; 15]);
 }
 
 #[test]
