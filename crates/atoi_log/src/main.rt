@@ -32,7 +32,8 @@ fn status_and_size(line: &[u8]) -> Result<(u16, u64), &'static str> {
     Ok((status, size))
 }
 
-fn main(rt: HostRuntime) -> io::Result<()> {
+// Reads a log, and prints the skipped lines and the sums.
+fn print_sums(rt: HostRuntime) -> io::Result<()> {
     let (mut requests, mut failed, mut bytes, mut skipped) = (0u64, 0u64, 0u64, 0u64);
     let lines = BufReader::new(rt.alloc(), rt.reader())?.split(rt.alloc(), b'\n');
     for (number, line) in (1u64..).zip(lines) {
@@ -53,4 +54,12 @@ fn main(rt: HostRuntime) -> io::Result<()> {
     println!(rt; "failed   {failed:10}")?;
     println!(rt; "bytes    {bytes:10}")?;
     println!(rt; "skipped  {skipped:10}")
+}
+
+fn main(rt: HostRuntime) -> io::Result<()> {
+    match print_sums(rt) {
+        // Nothing reads the rest, as after `head`.
+        Err(error) if error.kind() == io::ErrorKind::BrokenPipe => Ok(()),
+        ended => ended,
+    }
 }
