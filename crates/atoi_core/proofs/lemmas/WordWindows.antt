@@ -1,10 +1,11 @@
 -- Windows that are read by words.
-use Rattle.std.proofs.Common.{◌≡◌, ℕ, zero, suc, ◌+◌, ◌-◌, ◌*◌, ◌/◌, ◌%◌, ◌^◌, ◌<◌, ◌≤◌, List, ◌∷◌, ◌++◌, length, take, drop, replicate, get_or, take-take, refl, sym, ap, ap₂, ◌∙◌, arith, ◌≢◌, min, ◌==◌, if◌then◌else◌, Bool, true, false, nat_lt, ltb-false}
+use Rattle.std.proofs.Common.{◌≡◌, ℕ, zero, suc, ◌+◌, ◌-◌, ◌*◌, ◌/◌, ◌%◌, ◌^◌, ◌<◌, ◌≤◌, List, ◌++◌, length, take, drop, replicate, get_or, take-take, refl, sym, ap, ap₂, ◌∙◌, arith, min, ◌==◌, if◌then◌else◌, Bool, true, false, nat_lt, ltb-false, bit_or}
 use Rattle.std.proofs.Math.Nat.{zero-add, suc-add}
-use Rattle.std.proofs.lemmas.List.{take_all, length-append, length-replicate, length-take, length-drop, get_or-drop}
+use Rattle.std.proofs.Math.Seq.{take-add}
+use Rattle.std.proofs.lemmas.List.{take_all, length-append, length-replicate, length-drop, get_or-drop}
 use Rattle.std.specs.Simd.Lanes.{number_l, digits_l}
 use Rattle.atoi_core.specs.Words.{word_of, low_bytes, low_value}
-use Rattle.std.proofs.lemmas.Bool.{eq-eqb, ne_eqb, eqb-true, agree_below_at}
+use Rattle.std.proofs.lemmas.Bool.{ne_eqb, eqb-true, agree_below_at}
 use Rattle.std.proofs.lemmas.Bool.Decides.{nat_tests}
 use Rattle.std.proofs.lemmas.List.Sums.{prefix_len-le-length}
 use Rattle.atoi_core.specs.Digit.{decimal_table, is_digit}
@@ -12,17 +13,9 @@ use Rattle.atoi_core.specs.Run.{run_len, zeros, value}
 use Rattle.atoi_core.specs.Reading.{window_of}
 use Rattle.atoi_core.specs.declared.engine.window.Window.{Window}
 use Rattle.atoi_core.proofs.lemmas.Runs.{prefix_len-take, prefix_len-drop, prefix_len-replicate_append, value-take-add}
-use Rattle.atoi_core.proofs.lemmas.LoadedWords.{word_start, loaded_run, loaded_part, loaded_sum, loaded_zeros}
+use Rattle.atoi_core.proofs.lemmas.LoadedWords.{word_start, words_joined, fits_after, loaded_bytes, loaded_run, loaded_part, loaded_sum, loaded_zeros}
 
 -- ---- Windows read by words
-
--- A window that is full of digits reports its zeros.
-pub reported_full : (n c z : ℕ) → n ≡ c → (if n == c then z else 0) ≡ z
-reported_full n c z e = rw (eq-eqb n c e)
-
--- Any other window reports no zeros.
-pub reported_none : (n c z : ℕ) → n ≢ c → (if n == c then z else 0) ≡ 0
-reported_none n c z ne = rw (ne_eqb n c ne)
 
 -- A window of `c` bytes, by its three numbers.
 window_from : (c : ℕ) (s : List ℕ) (len leading number : ℕ)
@@ -44,60 +37,73 @@ loaded_window s fits word w is len_is zeroes_are number_is =
     (rw (loaded_zeros 8 s fits word is) at zeroes_are)
     (number_is ∙ loaded_sum 8 s fits word is w.len len_is)
 
--- Without eight digits at the start, eight bytes determine the window of 16.
-pub window_short : (s : List ℕ) (len number : ℕ) → len ≡ run_len decimal_table (take 8 s) → len ≢ 8
-    → number ≡ value decimal_table (take len s)
-    → ◌≡◌ {A = Window} (record { len = len; zeroes = 0; number = number }) (window_of decimal_table 16 s)
-window_short s len number len_is short number_is =
-    let few : run_len decimal_table (take 8 s) ≡ min 8 (run_len decimal_table s) = prefix_len-take (is_digit decimal_table) 8 s in
-    let more : run_len decimal_table (take 16 s) ≡ min 16 (run_len decimal_table s) = prefix_len-take (is_digit decimal_table) 16 s in
-    window_from 16 s len 0 number (omega arith) (sym (reported_none len 16 (zeros decimal_table (take 16 s)) (omega arith))) number_is
-
 -- The window of 16 bytes in which the run ends.
 pub window_ended : (s : List ℕ) (len number : ℕ) → len ≡ run_len decimal_table s → len < 16 → number ≡ value decimal_table (take len s)
     → ◌≡◌ {A = Window} (record { len = len; zeroes = 0; number = number }) (window_of decimal_table 16 s)
 window_ended s len number len_is short number_is =
     let more : run_len decimal_table (take 16 s) ≡ min 16 (run_len decimal_table s) = prefix_len-take (is_digit decimal_table) 16 s in
-    window_from 16 s len 0 number (omega arith) (sym (reported_none len 16 (zeros decimal_table (take 16 s)) (omega arith))) number_is
+    window_from 16 s len 0 number (omega arith) (rw (ne_eqb len 16 (omega arith))) number_is
 
 -- Below eight bytes, both windows are the same.
 pub few_in_both : (s : List ℕ) → length s < 8 → window_of decimal_table 16 s ≡ window_of decimal_table 8 s
 few_in_both s few = search (arith, prefix_len-le-length, take_all, ne_eqb)
 
-pub enough_bytes : (s : List ℕ) → run_len decimal_table (take 8 s) ≡ 8 → 8 ≤ length s
-enough_bytes s full = omega (arith, prefix_len-le-length (is_digit decimal_table) (take 8 s), length-take 8 s)
+-- The windows of a slice whose first word is `first`.
+module _ (s : List ℕ) (fits : (i : ℕ) → get_or s i 0 < 256) (first : ℕ) (first_is : first ≡ word_of (take 8 s)) where
+  first_run : run_len decimal_table (low_bytes 8 first) ≡ min 8 (run_len decimal_table s)
+  first_run = loaded_run 8 s fits first first_is ∙ prefix_len-take (is_digit decimal_table) 8 s
 
--- Eight digits and `more` after them.
-module _ (s : List ℕ) (more leading : ℕ) (full : run_len decimal_table (take 8 s) ≡ 8) (more_is : more ≡ run_len decimal_table (take 8 (drop 8 s)))
-    (leading_is : leading ≡ (if more == 8 then zeros decimal_table (take 16 s) else 0)) where
-  run_after_eight : run_len decimal_table s ≡ 8 + run_len decimal_table (drop 8 s)
-  run_after_eight = prefix_len-drop (is_digit decimal_table) 8 s (omega (arith, full, prefix_len-take (is_digit decimal_table) 8 s))
+  pub window_short : (len number : ℕ) → len ≡ run_len decimal_table (low_bytes 8 first) → len < 8 → number ≡ low_value (low_bytes len first)
+      → ◌≡◌ {A = Window} (record { len = len; zeroes = 0; number = number }) (window_of decimal_table 16 s)
+  window_short len number len_is short number_is =
+      window_ended s len number (omega (arith, first_run)) (omega (arith, first_run)) (number_is ∙ loaded_sum 8 s fits first first_is len len_is)
 
-  pub joined_len : 8 + more ≡ run_len decimal_table (take 16 s)
-  joined_len =
-      omega (arith, more_is, run_after_eight, prefix_len-take (is_digit decimal_table) 8 (drop 8 s), prefix_len-take (is_digit decimal_table) 16 s)
+  pub enough_bytes : 8 ≤ run_len decimal_table (low_bytes 8 first) → 8 ≤ length s
+  enough_bytes full = omega (arith, first_run, prefix_len-le-length (is_digit decimal_table) s)
 
-  joined_leading : leading ≡ (if 8 + more == 16 then zeros decimal_table (take 16 s) else 0)
-  joined_leading =
-      let same_test : (more == 8) ≡ (8 + more == 16) = grind (arith, nat_tests) in
-      rw (← same_test) leading_is
+  -- Eight digits, and `more` in the next word.
+  module _ (next more : ℕ) (next_is : next ≡ word_of (take 8 (drop 8 s))) (full : 8 ≤ run_len decimal_table (low_bytes 8 first))
+      (more_is : more ≡ run_len decimal_table (low_bytes 8 next)) where
+    run_is : (run_len decimal_table s ≡ 8 + run_len decimal_table (drop 8 s)) × (more ≡ min 8 (run_len decimal_table (drop 8 s)))
+    run_is = (
+      prefix_len-drop (is_digit decimal_table) 8 s (omega (arith, first_run)),
+      more_is ∙ loaded_run 8 (drop 8 s) (fits_after s fits) next next_is ∙ prefix_len-take (is_digit decimal_table) 8 (drop 8 s),
+    )
 
-  -- The window of 16 follows from both halves,
-  pub window_joined : (first next : ℕ) → first ≡ value decimal_table (take 8 s) → next ≡ value decimal_table (take more (drop 8 s))
-      → ◌≡◌ {A = Window} (record { len = 8 + more; zeroes = leading; number = first * 10 ^ more + next }) (window_of decimal_table 16 s)
-  window_joined first next first_is next_is =
-      let following = prefix_len-take (is_digit decimal_table) 8 (drop 8 s) in
-      let within : run_len decimal_table s ≤ length s = prefix_len-le-length (is_digit decimal_table) s in
-      let same_number : first * 10 ^ more + next ≡ value decimal_table (take (8 + more) s) =
-      rw (first_is, next_is) (sym (value-take-add decimal_table 8 more s (omega (arith, run_after_eight)))) in
-      window_from 16 s (8 + more) leading (first * 10 ^ more + next) joined_len joined_leading same_number
+    two_words : (leading number : ℕ) → leading ≡ (if more == 8 then zeros decimal_table (take 16 s) else 0) → number ≡ value decimal_table (take (8 + more) s)
+        → ◌≡◌ {A = Window} (record { len = 8 + more; zeroes = leading; number = number }) (window_of decimal_table 16 s)
+    two_words leading number leading_is number_is =
+        let same_test : (more == 8) ≡ (8 + more == 16) = grind (arith, nat_tests) in
+        window_from 16 s (8 + more) leading number (omega (arith, run_is, prefix_len-take (is_digit decimal_table) 16 s)) (rw (← same_test) leading_is) number_is
 
-  -- or from the word of all sixteen bytes.
-  pub window_of_16 : (fits : (i : ℕ) → get_or s i 0 < 256) (word number : ℕ) → word ≡ word_of (take 16 s) → number ≡ low_value (low_bytes (8 + more) word)
-      → ◌≡◌ {A = Window} (record { len = 8 + more; zeroes = leading; number = number }) (window_of decimal_table 16 s)
-  window_of_16 fits word number is number_is =
-      window_from 16 s (8 + more) leading number joined_len joined_leading
-      (number_is ∙ loaded_sum 16 s fits word is (8 + more) (joined_len ∙ sym (loaded_run 16 s fits word is)))
+    -- The window of 16 follows from both words,
+    pub window_joined : (leading high low : ℕ) → leading ≡ (if more == 8 then zeros decimal_table (low_bytes 8 first ++ low_bytes 8 next) else 0)
+        → high ≡ low_value (low_bytes 8 first) → low ≡ low_value (low_bytes more next)
+        → ◌≡◌ {A = Window} (record { len = 8 + more; zeroes = leading; number = high * 10 ^ more + low }) (window_of decimal_table 16 s)
+    window_joined leading high low leading_is high_is low_is =
+        let within = prefix_len-le-length (is_digit decimal_table) s in
+        let following = prefix_len-le-length (is_digit decimal_table) (drop 8 s) in
+        let zeros_are : more ≡ 8 → zeros decimal_table (low_bytes 8 first ++ low_bytes 8 next) ≡ zeros decimal_table (take 16 s) =
+        λ e. rw (
+          loaded_bytes 8 s fits first first_is (omega (arith, run_is)),
+          loaded_bytes 8 (drop 8 s) (fits_after s fits) next next_is (omega (arith, run_is)),
+          ← take-add 8 8 s,
+        ) in
+        let leading_zeros : leading ≡ (if more == 8 then zeros decimal_table (take 16 s) else 0) = grind (arith, nat_tests, zeros_are) in
+        let parts = value-take-add decimal_table 8 more s (omega (arith, run_is)) in
+        two_words leading (high * 10 ^ more + low) leading_zeros
+        (rw (high_is, low_is, loaded_part 8 s fits first first_is 8 full, loaded_sum 8 (drop 8 s) (fits_after s fits) next next_is more more_is) (sym parts))
+
+    -- or from the word of all sixteen bytes.
+    pub window_of_16 : first < 2 ^ 64 → next < 2 ^ 64 → (leading number : ℕ) → let both = bit_or (next * 2 ^ 64 % 2 ^ 128) first in
+        leading ≡ (if more == 8 then zeros decimal_table (low_bytes 16 both) else 0) → number ≡ low_value (low_bytes (8 + more) both)
+        → ◌≡◌ {A = Window} (record { len = 8 + more; zeroes = leading; number = number }) (window_of decimal_table 16 s)
+    window_of_16 small small_next leading number leading_is number_is =
+        let both = bit_or (next * 2 ^ 64 % 2 ^ 128) first in
+        let is : both ≡ word_of (take 16 s) = words_joined s first next (enough_bytes full) first_is next_is small small_next in
+        let run : 8 + more ≤ run_len decimal_table (low_bytes 16 both) =
+        omega (arith, run_is, loaded_run 16 s fits both is, prefix_len-take (is_digit decimal_table) 16 s) in
+        two_words leading number (rw (loaded_zeros 16 s fits both is) at leading_is) (number_is ∙ loaded_part 16 s fits both is (8 + more) run)
 
 -- The first and the last eight of 9 to 15 digits give the window of 16.
 pub window_of_both : (s : List ℕ) → 8 < length s → length s < 16 → ((i : ℕ) → get_or s i 0 < 256) → (first last len high low : ℕ)
@@ -110,21 +116,14 @@ window_of_both s more few fits first last len high low first_is last_is full ful
     let back = drop front s in
     let fits_back : (i : ℕ) → get_or back i 0 < 256 = λ i. rw get_or-drop (fits (front + i)) in
     let word_is : last ≡ word_of (take 8 back) = last_is ∙ ap word_of (sym (take_all 8 back (omega (arith, length-drop front s)))) in
-    let last_run : run_len decimal_table (take 8 back) ≡ min 8 (run_len decimal_table back) = prefix_len-take (is_digit decimal_table) 8 back in
-    let eight : 8 ≤ run_len decimal_table s = omega (arith, full, prefix_len-take (is_digit decimal_table) 8 s, loaded_run 8 s fits first first_is) in
-    let eight_last : 8 ≤ run_len decimal_table back = omega (arith, full_last, last_run, loaded_run 8 back fits_back last word_is) in
-    let run_is : run_len decimal_table s ≡ front + run_len decimal_table back = prefix_len-drop (is_digit decimal_table) front s (omega arith) in
-    let within : run_len decimal_table s ≤ length s = prefix_len-le-length (is_digit decimal_table) s in
+    let eight : 8 ≤ run_len decimal_table s = omega (arith, full, first_run s fits first first_is) in
+    let eight_last : 8 ≤ run_len decimal_table back = omega (arith, full_last, first_run back fits_back last word_is) in
+    let run_is = prefix_len-drop (is_digit decimal_table) front s (omega arith) in
+    let within = prefix_len-le-length (is_digit decimal_table) s in
     let length_is : front + 8 ≡ len = omega arith in
-    let number : high * 10 ^ 8 + low ≡ value decimal_table (take len s) =
-    ap₂ (λ x y. x * 10 ^ 8 + y)
-    (high_is ∙ loaded_part 8 s fits first first_is front (omega arith))
-    (low_is ∙ loaded_part 8 back fits_back last word_is 8 (omega arith))
-    ∙ sym (value-take-add decimal_table front 8 s (omega arith)) ∙ ap (λ n. value decimal_table (take n s)) length_is in
-    window_from 16 s len 0 (high * 10 ^ 8 + low)
-    (rw (take_all 16 s (omega arith)) (omega arith))
-    (sym (reported_none len 16 (zeros decimal_table (take 16 s)) (omega arith)))
-    number
+    let parts = value-take-add decimal_table front 8 s (omega arith) in
+    window_ended s len (high * 10 ^ 8 + low) (omega arith) (omega arith)
+    (rw (high_is, low_is, loaded_part 8 s fits first first_is front (omega arith), loaded_part 8 back fits_back last word_is 8 (omega arith), ← length_is) (sym parts))
 
 -- ---- Short slices in the highest bytes of a word
 
@@ -185,32 +184,25 @@ low_value_filled (suc z) k s =
     let rest = number_l 256 (replicate z 48 ++ s) in
     let low : (48 + 256 * rest) % 256 ≡ 48 = omega arith in
     let high : (48 + 256 * rest) / 256 ≡ rest = omega arith in
-    ap (λ n. low_value (digits_l 256 n (48 + 256 * rest))) (suc-add z k)
-    ∙ ap₂ (λ x y. low_value (x ∷ digits_l 256 (z + k) y)) low high
-    ∙ omega arith
-    ∙ low_value_filled z k s
+    rw (suc-add z k, low, high) (omega (arith, low_value_filled z k s))
 
 -- The window of a short slice: the digits of the filled word, less its zeros.
-pub filled_window : (s : List ℕ) → length s ≤ 8 → ((i : ℕ) → get_or s i 0 < 256) → (filled digits found number : ℕ)
-    → filled ≡ word_of (replicate (8 - length s) 48 ++ s)
-    → digits ≡ 8 - length s + run_len decimal_table s
+pub filled_window : (s : List ℕ) → length s ≤ 8 → ((i : ℕ) → get_or s i 0 < 256) → (word filling digits found number : ℕ)
+    → word ≡ word_of (replicate (8 - length s) 0 ++ s) → filling ≡ word_of (replicate (8 - length s) 48)
+    → digits ≡ run_len decimal_table (low_bytes 8 (word + filling))
     → found ≡ digits - (8 - length s)
-    → number ≡ low_value (low_bytes digits filled)
+    → number ≡ low_value (low_bytes digits (word + filling))
     → ◌≡◌ {A = Window} (record { len = found; zeroes = 0; number = number }) (window_of decimal_table 16 s)
 unfolding low_bytes
-filled_window s few fits filled digits found number filled_is digits_is found_is number_is =
+filled_window s few fits word filling digits found number word_is filling_is digits_is found_is number_is =
     let m = 8 - length s in
-    let len = run_len decimal_table s in
-    let eight : take 8 s ≡ s = take_all 8 s few in
-    let all : take 16 s ≡ s = take_all 16 s (omega arith) in
-    let within : len ≤ length s = prefix_len-le-length (is_digit decimal_table) s in
-    let word_is : filled ≡ word_of (replicate m 48 ++ take 8 s) = filled_is ∙ ap (λ x. word_of (replicate m 48 ++ x)) (sym eight) in
-    let sum : number ≡ value decimal_table (take len s) =
-    number_is ∙ ap₂ (λ n w. low_value (digits_l 256 n w)) digits_is word_is ∙ low_value_filled m len (take 8 s)
-    ∙ loaded_sum 8 s fits (word_of (take 8 s)) refl len (ap (run_len decimal_table) (sym eight) ∙ sym (loaded_run 8 s fits (word_of (take 8 s)) refl)) in
-    let left : found ≡ len = omega arith in
-    ap (λ n. let w : Window = record { len = n; zeroes = 0; number = number } in w) left
-    ∙ window_from 16 s len 0 number (ap (run_len decimal_table) (sym all)) (sym (reported_none len 16 (zeros decimal_table (take 16 s)) (omega arith))) sum
+    let within = prefix_len-le-length (is_digit decimal_table) s in
+    let all = filled_digits s few fits word filling digits word_is filling_is digits_is in
+    let total : digits ≡ m + found = omega arith in
+    let filled : word + filling ≡ word_of (replicate m 48 ++ s) = omega (arith, word_filled m s) in
+    let padded : word_of s ≡ word_of (take 8 s) = ap word_of (sym (take_all 8 s few)) in
+    window_ended s found number (omega arith) (omega arith)
+    ((rw (total, filled) at number_is) ∙ low_value_filled m found s ∙ loaded_part 8 s fits (word_of s) padded found (omega (arith, first_run s fits (word_of s) padded)))
 
 -- Its length and number, from the word.
 pub loaded_digits : (s : List ℕ) → ((i : ℕ) → get_or s i 0 < 256) → (word len number : ℕ) → word ≡ word_of (take 8 s)
