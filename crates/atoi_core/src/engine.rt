@@ -68,11 +68,7 @@ pub trait Engine {
 
     /// Parses the integer of 64 bits at the start of `s`, which has no sign, up to `bound`, which
     /// has `limit` digits. With `skip`, leading zeros do not count towards `limit`. Returns the
-    /// value and how many digits there are.
-    ///
-    /// # Errors
-    ///
-    /// `Empty`, `Size` and `Overflow`.
+    /// value and how many digits there are. The errors are `Empty`, `Size` and `Overflow`.
     fn prefix_64<'a>(
         bound: u64,
         limit: u32,
@@ -105,12 +101,9 @@ pub trait Engine {
         answer_64(bound, limit, at, 16 + second.len, number, s)
     }
 
-    /// The same as `prefix_64`, for 128 bits, where the limit is 39 digits. May make two fewer loads
-    /// than a core call, which may load two windows before.
-    ///
-    /// # Errors
-    ///
-    /// `Empty`, `Size` and `Overflow`.
+    /// The same as `prefix_64`, for 128 bits, where the limit is 39 digits. May make two fewer
+    /// loads than a core call, which may load two windows before. The errors are `Empty`, `Size`
+    /// and `Overflow`.
     fn prefix_128<'a>(
         bound: u128,
         skip: bool,

@@ -12,13 +12,10 @@ use crate::engine::window::Window;
 use crate::error::AtoiSimdError;
 use crate::loops::window_after_zeros;
 
-/// Parses the digits at the start of `s`, and returns their value, at most `bound`, and their number.
-///
-/// # Errors
-///
-/// `Empty`, `Size(17, s)` for more than 16 digits without `skip`, or `Overflow` with `s`. With `skip`,
-/// the slice leaves out leading zeros in whole blocks of 16, or all of them if the block in which they
-/// end is full of digits.
+/// Parses the digits at the start of `s`, and returns their value, at most `bound`, and their
+/// number. The errors are `Empty`, `Size(17, s)` for more than 16 digits without `skip`, and
+/// `Overflow` with `s`. With `skip`, the slice leaves out leading zeros in whole blocks of 16, or
+/// all of them if the block in which they end is full of digits.
 #[inline(always)]
 #[tactic(auto, using(crate::proofs::lemmas::LoopAnswers::narrow_size))]
 pub fn narrow_prefix<'a, E: Engine>(
@@ -69,11 +66,8 @@ fn is_too_long<E: Engine>(skip: bool, s: &[u8], steps: &mut Steps) -> bool
     !skip && E::window_8(&s[16..], steps).len > 0
 }
 
-/// Parses all of `s` as digits, and returns their value, at most `bound`.
-///
-/// # Errors
-///
-/// `Empty`, `Overflow` and `Invalid64`.
+/// Parses all of `s` as digits, and returns their value, at most `bound`. The errors are `Empty`,
+/// `Overflow` and `Invalid64`.
 #[inline(always)]
 pub fn narrow_whole_windows<'a, E: Engine>(
     bound: u64,

@@ -12,11 +12,8 @@ use crate::error::AtoiSimdError;
 use crate::loops::powers::append_digits;
 use crate::loops::wide_answer::found_or_empty;
 
-/// Like `Engine::prefix_64`, but parses all of `s`.
-///
-/// # Errors
-///
-/// `Empty`, `Size`, `Overflow` and `Invalid64`.
+/// Like `Engine::prefix_64`, but parses all of `s`. The errors are `Empty`, `Size`, `Overflow` and
+/// `Invalid64`.
 #[inline(always)]
 #[tactic(auto, using(crate::proofs::lemmas::LoopAnswers::whole_is_64))]
 pub fn whole_64<'a, E: Engine>(
@@ -41,11 +38,8 @@ pub fn whole_64<'a, E: Engine>(
     }
 }
 
-/// Like `Engine::prefix_128`, but parses all of `s`.
-///
-/// # Errors
-///
-/// `Empty`, `Size`, `Overflow` and `Invalid128`.
+/// Like `Engine::prefix_128`, but parses all of `s`. The errors are `Empty`, `Size`, `Overflow` and
+/// `Invalid128`.
 #[inline(always)]
 #[tactic(auto, using(crate::proofs::lemmas::LoopAnswers::whole_is_128))]
 pub fn whole_128<'a, E: Engine>(

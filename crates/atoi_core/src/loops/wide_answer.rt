@@ -7,11 +7,7 @@ ghost use Rattle.atoi_core.specs.Refusal.{answer_of, empty};
 use crate::error::AtoiSimdError;
 use crate::loops::powers::power_of_ten;
 
-/// Returns `number`, which has `len` digits, with `len`.
-///
-/// # Errors
-///
-/// `Empty` if `len` is 0.
+/// Returns `number`, which has `len` digits, with `len`. The error is `Empty` if `len` is 0.
 #[inline(always)]
 pub fn found_or_empty<'a, N: Copy>(number: N, len: usize) -> Result<(N, usize), AtoiSimdError<'a>>
     ensures { answer_of result ≡ (if len == 0 then Err empty else Ok (number, len)) }
@@ -24,11 +20,7 @@ pub fn found_or_empty<'a, N: Copy>(number: N, len: usize) -> Result<(N, usize), 
 }
 
 /// Returns the answer of `prefix_64` for `s`, which starts with `skipped` zeros and then
-/// `significant` digits that spell `number`.
-///
-/// # Errors
-///
-/// `Empty`, `Size` and `Overflow`.
+/// `significant` digits that spell `number`. The errors are `Empty`, `Size` and `Overflow`.
 #[inline(always)]
 pub fn answer_64<'a>(
     bound: u64,
@@ -55,11 +47,8 @@ pub fn answer_64<'a>(
 }
 
 /// Returns the answer of `prefix_128` for `s`, which starts with `skipped` zeros, then 32 digits
-/// that spell `high`, and then `more` digits that spell `low`.
-///
-/// # Errors
-///
-/// `Size` and `Overflow`.
+/// that spell `high`, and then `more` digits that spell `low`. The errors are `Size` and
+/// `Overflow`.
 #[inline(always)]
 pub fn answer_128<'a>(
     bound: u128,

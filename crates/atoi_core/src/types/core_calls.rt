@@ -15,11 +15,7 @@ use crate::types::number::{Number, Signed, greatest_magnitude, limit_64, number_
 use crate::wide::{prefix_128_inline, whole_64, whole_128};
 
 /// Parses all of `s`, digits without a sign, as a `T` that is not negative. With `skip`, leading
-/// zeros do not count towards a limit of digits.
-///
-/// # Errors
-///
-/// Every kind of `AtoiSimdError`; `s` is the body.
+/// zeros do not count towards a limit of digits. The errors are of every kind, and `s` is the body.
 #[inline(always)]
 #[tactic(auto, using(crate::proofs::lemmas::Calls::whole_in_bounds))]
 pub fn whole_pos<'a, E: Engine, T: Number>(
@@ -69,10 +65,7 @@ pub(crate) fn whole_of<'a, E: Engine, T: Signed>(
 }
 
 /// Like `whole_pos`, but parses the digits at the start of `s`. Also returns how many there are.
-///
-/// # Errors
-///
-/// `Empty`, `Size` and `Overflow`.
+/// The errors are `Empty`, `Size` and `Overflow`.
 #[inline(always)]
 #[tactic(auto, using(crate::proofs::lemmas::Calls::prefix_within, crate::proofs::lemmas::Calls::prefix_in_bounds))]
 pub fn prefix_pos<'a, E: Engine, T: Number>(

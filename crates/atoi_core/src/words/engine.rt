@@ -246,17 +246,6 @@ fn full_window<const WHOLE: bool>(s: &[u8], first: u64) -> Window
             return window_of_ends(s, first, last);
         }
     }
-    join_words(s, first)
-}
-
-// `full_window` without `WHOLE`.
-#[inline(always)]
-fn join_words(s: &[u8], first: u64) -> Window
-    requires more { 8 < length s.now }
-    requires loaded { first ≡ word_of (take 8 s.now) }
-    requires full { run_len decimal_table (low_bytes 8 first) ≡ 8 }
-    ensures { result ≡ window_of decimal_table 16 s.now }
-{
     let next = load_from(s, 8);
     let more = digits_of(next);
     if more == 8 {
