@@ -193,39 +193,41 @@ digit_after_16 table skip s w full is counts =
 
 module _ (table : Table) (bound limit : ℕ) (skip : Bool) (s : List ℕ) where
   -- The run decides the answer, whatever the limit and the flag.
-  pub narrow_whole_is : (n number : ℕ) → run_len table s ≡ n → value table (take n s) ≡ number
-      → whole_magnitude table narrow bound limit skip s ≡ unless_refused (if n == 0 then Some empty
-      else (if nat_lt bound number then Some (overflow s)
-      else (if not (n == length s) then Some (invalid64 number n s) else None))) number
-  narrow_whole_is n number at_n is_number = rw (refusal-is table narrow bound limit whole skip s, at_n, is_number) refl
+  narrow_whole_is : (n number : ℕ) → run_len table s ≡ n → value table (take n s) ≡ number
+      → narrow_decision bound n number s ≡ whole_magnitude table narrow bound limit skip s
+  narrow_whole_is n number at_n is_number =
+      rw (refusal-is table narrow bound limit whole skip s, at_n, is_number) (grind (arith, nat_tests))
+
+  pub narrow_whole_none : run_len table s ≡ 0 → Err empty ≡ whole_magnitude table narrow bound limit skip s
+  narrow_whole_none none = narrow_whole_is 0 0 none refl
 
   -- Another byte follows i digits.
-  pub narrow_whole_rest : (i number : ℕ) → i < length s → table (get_or s i 0) ≡ None
+  pub narrow_whole_rest : (i number : ℕ) → 0 < i → i < length s → table (get_or s i 0) ≡ None
       → i + run_len table (drop i s) ≡ run_len table s → number ≡ value table (take i s) → number ≤ bound
-      → whole_magnitude table narrow bound limit skip s ≡ Err (if i == 0 then empty else invalid64 number i s)
-  narrow_whole_rest i number here none so_far is_number fits =
-      narrow_whole_is i number (run_ends table s i here none so_far) (sym is_number)
-      ∙ grind (arith, nat_tests)
+      → Err (invalid64 number i s) ≡ whole_magnitude table narrow bound limit skip s
+  narrow_whole_rest i number some here none so_far is_number fits =
+      let all = narrow_whole_is i number (run_ends table s i here none so_far) (sym is_number) in
+      grind (arith, nat_tests, all)
 
   -- One more digit passes the bound.
   pub narrow_whole_over : (i w : ℕ) → i < length s → table (get_or s i 0) ≡ Some w
       → i + run_len table (drop i s) ≡ run_len table s → bound < value table (take i s) * 10 + w
-      → whole_magnitude table narrow bound limit skip s ≡ Err (overflow s)
+      → Err (overflow s) ≡ whole_magnitude table narrow bound limit skip s
   narrow_whole_over i w here digit so_far over =
       let longer : i + 1 ≤ run_len table s = omega (arith, run_more table s i w here digit so_far) in
       let most = value-take-le table s (i + 1) (run_len table s) longer in
       let above : bound < value table (take (run_len table s) s) = omega (arith, value_more table s i w here digit, most) in
-      narrow_whole_is (run_len table s) (value table (take (run_len table s) s)) refl refl
-      ∙ grind (arith, nat_tests)
+      let all = narrow_whole_is (run_len table s) (value table (take (run_len table s) s)) refl refl in
+      grind (arith, nat_tests, all)
 
   -- All bytes are digits.
-  pub narrow_whole_end : (i number : ℕ) → i ≤ length s → length s ≤ i
+  pub narrow_whole_end : (i number : ℕ) → 0 < length s → i ≤ length s → length s ≤ i
       → i + run_len table (drop i s) ≡ run_len table s → number ≡ value table (take i s) → number ≤ bound
-      → whole_magnitude table narrow bound limit skip s ≡ (if length s == 0 then Err empty else Ok number)
-  narrow_whole_end i number within all so_far is_number fits =
+      → Ok number ≡ whole_magnitude table narrow bound limit skip s
+  narrow_whole_end i number some within all so_far is_number fits =
       let no_more : run_len table (drop i s) ≡ 0 = prefix_len-drop_all (is_digit table) s i all in
-      narrow_whole_is i number (omega arith) (sym is_number)
-      ∙ grind (arith, nat_tests)
+      let is = narrow_whole_is i number (omega arith) (sym is_number) in
+      grind (arith, nat_tests, is)
 
 -- The last window decides the answer to a narrow whole slice.
 pub narrow_decides : {table : Table} {s : List ℕ} {at before now : ℕ} {w : Window} {len : ℕ} → Skipped table true s at before now w →
@@ -236,12 +238,11 @@ narrow_decides {table} {s} {w = w} {len} after_skip len_is bound high =
       | inl more ↦
           let some : 0 < w.len = elim (eq-zero-or-pos w.len) [ inl e ↦ absurd (omega (arith, rw e at after_skip.window.below)) | inr h ↦ h ] in
           let above : bound < value table (run table s) = omega (arith, number_most after_skip few) in
-          rw (ne_eqb len 0 (omega arith), lt-ltb bound w.number more)
-          (sym (narrow_whole_is table bound 0 false s (run_len table s) (value table (run table s)) refl refl
-          ∙ rw (ne_eqb (run_len table s) 0 (omega arith), lt-ltb bound (value table (run table s)) above) refl))
+          let all = narrow_whole_is table bound 0 false s (run_len table s) (value table (run table s)) refl refl in
+          let digits : 0 < run_len table s = omega (arith, after_skip.run_is, after_skip.window.len_is) in
+          grind (arith, nat_tests, all)
       | inr fits ↦
           let rest = rest_is after_skip few (omega arith) in
           let all : run_len table s ≡ len = rest.0 ∙ sym len_is in
-          sym (narrow_whole_is table bound 0 false s len w.number all (rw all at rest.1)
-          ∙ grind (arith, nat_tests))
+          narrow_whole_is table bound 0 false s len w.number all (rw all at rest.1)
     ]

@@ -28,6 +28,7 @@ impl Alphabet for Plain {
 
 /// Parses all of `s` as decimal digits, without a sign, up to `bound`, which is at most `u32::MAX`.
 /// The errors are `Empty`, `Overflow` and `Invalid64`.
+#[tactic(auto, using(crate::proofs::lemmas::LoopAnswers::narrow_whole_none, crate::proofs::lemmas::LoopAnswers::narrow_whole_over))]
 pub fn narrow_whole(bound: u64, s: &[u8]) -> Result<u64, AtoiSimdError<'_>>
     requires low { 9 ≤ bound }
     requires high { bound ≤ 4294967295 }
