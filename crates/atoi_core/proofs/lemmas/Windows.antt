@@ -27,7 +27,7 @@ pub record Shows (table : Table) (c : ℕ) (s : List ℕ) (w : Window) : Type 0 
 
 -- Only a full window reports zeros.
 zeros_cases : (n c z k : ℕ) → z ≡ min c k → (cond (n == c) z 0 ≤ k) × (0 < cond (n == c) z 0 → n ≡ c) × (n ≡ c → cond (n == c) z 0 ≡ min c k)
-zeros_cases n c z k e = (grind (arith, nat_tests), λ some. grind (arith, nat_tests), λ full. grind (arith, nat_tests))
+zeros_cases n c z k e = grind (arith, nat_tests)
 
 -- The leading zeros of two readings in a row.
 abbrev pub zeros_both : (c leading others : ℕ) → ℕ
@@ -89,24 +89,16 @@ module _ {table : Table} (ten : IsBelowTen table) where
 
 -- ---- The loop that skips zeros
 
--- One load for 16 skipped zeros each, and one for fewer at the end.
-pub record LoadsZeros (table : Table) (s : List ℕ) (at before now : ℕ) : Type 0 where
+-- Before a load at offset `at`, after one load for each 16 zeros, and one for fewer.
+pub record Skipping (table : Table) (skip : Bool) (s : List ℕ) (at before now : ℕ) : Type 0 where
+  pub skipped : IsSkipped table skip s at
+  pub within : at ≤ length s
   pub most : 16 * now ≤ 16 * before + at + 15
   pub least : at + 16 * before ≤ 16 * now
   pub offset_is : (16 * now ≡ 16 * before + at) ⊎ ((at ≡ zeros table s) × (zeros table s / 16 < run_len table s / 16))
 
--- Before a load at offset `at`.
-pub record Skipping (table : Table) (skip : Bool) (s : List ℕ) (at before now : ℕ) : Type 0 where
-  pub skipped : IsSkipped table skip s at
-  pub within : at ≤ length s
-  pub loads : LoadsZeros table s at before now
-
 pub Skipping-none : (table : Table) (skip : Bool) (s : List ℕ) (n : ℕ) → Skipping table skip s 0 n n
-Skipping-none table skip s n = record {
-  skipped = record { zeros_only = omega arith; asked = λ _. refl };
-  within = omega arith;
-  loads = record { most = omega arith; least = omega arith; offset_is = inl (omega arith) };
-}
+Skipping-none table skip s n = search arith
 
 -- After the loop: the last window is at `at`, and if full begins with a significant digit.
 pub record Skipped (table : Table) (skip : Bool) (s : List ℕ) (at before now : ℕ) (w : Window) : Type 0 where
@@ -128,28 +120,13 @@ pub record Skipped (table : Table) (skip : Bool) (s : List ℕ) (at before now :
 pub Skipped-loads : {table : Table} {skip : Bool} {s : List ℕ} {at before now last most unskipped : ℕ} {w : Window} →
     Skipped table skip s at before now w → (more : ℕ) → last ≡ now + more → zeros table s / 16 + 2 + more ≤ most → 1 + more ≤ unskipped →
     LoadsWithin most unskipped table skip s before last
-Skipped-loads after_skip more counted bounded few = record {
-  at_most = omega (arith, after_skip.most);
-  at_most_unskipped = λ off. omega (arith, after_skip.unskipped off);
-  at_least = λ _. omega (arith, after_skip.more);
-  at_least_skipping = λ on. omega (arith, after_skip.least on);
-}
+Skipped-loads after_skip more counted bounded few = search (arith, after_skip.unskipped, after_skip.least)
 
 -- A narrow prefix: one window, and a second to count unskipped digits.
 pub Skipped-one : {table : Table} (skip : Bool) {s : List ℕ} {at before now last : ℕ} {w : Window} → Skipped table skip s at before now w →
     now ≡ before + 1 → last ≡ now + (if skip || nat_lt (run_len table s) 16 then 0 else 1) → LoadsWithin (most_loads table narrow s) 2 table skip s before last
-Skipped-one true after_skip one counted = record {
-  at_most = omega arith;
-  at_most_unskipped = λ off. absurd (cc off);
-  at_least = λ _. omega arith;
-  at_least_skipping = λ on. omega (arith, after_skip.least on);
-}
-Skipped-one false after_skip one counted = record {
-  at_most = grind (arith, nat_tests);
-  at_most_unskipped = λ _. grind (arith, nat_tests);
-  at_least = λ _. grind (arith, nat_tests);
-  at_least_skipping = λ on. absurd (cc on);
-}
+Skipped-one true after_skip one counted = search (arith, after_skip.least)
+Skipped-one false after_skip one counted = grind (arith, nat_tests)
 
 -- A window that reports zeros is full of digits, and the report ends at 16 or at the last zero.
 zeros_reported : (table : Table) → IsBelowTen table → (s : List ℕ) (at : ℕ) (w : Window) → at ≤ zeros table s
@@ -171,14 +148,12 @@ module _ {table : Table} (ten : IsBelowTen table) where
       record {
         skipped = record { zeros_only = omega (arith, reported.0); asked = λ h. absurd (false≢true (sym h ∙ on)) };
         within = omega (arith, reported.0, zeros-le table s, prefix_len-le-length (is_digit table) s);
-        loads = record {
-          most = omega (arith, reported.0);
-          least = omega (arith, reported.0);
-          offset_is = elim (cases_lt w.zeroes 16) [
-            | inl h ↦ inr (omega (arith, reported.0), omega (arith, reported))
-            | inr h ↦ inl (omega (arith, reported.0))
-          ];
-        };
+        most = omega (arith, reported.0);
+        least = omega (arith, reported.0);
+        offset_is = elim (cases_lt w.zeroes 16) [
+          | inl h ↦ inr (omega (arith, reported.0), omega (arith, reported))
+          | inr h ↦ inl (omega (arith, reported.0))
+        ];
       }
 
   pub Skipped-end : {skip : Bool} {s : List ℕ} {at before now next : ℕ} {w : Window} →
@@ -203,14 +178,14 @@ module _ {table : Table} (ten : IsBelowTen table) where
         value_is = value-drop_zeros table at s after_skip.skipped.zeros_only;
         full = full;
         last = last;
-        more = omega (arith, after_skip.loads.least);
-        most = omega (arith, after_skip.loads.most, after_skip.skipped.zeros_only);
-        unskipped = λ h. omega (arith, after_skip.skipped.asked h, after_skip.loads.most);
+        more = omega (arith, after_skip.least);
+        most = omega (arith, after_skip.most, after_skip.skipped.zeros_only);
+        unskipped = λ h. omega (arith, after_skip.skipped.asked h, after_skip.most);
         least = λ h. elim (cases_lt w.len 16) [
-          | inl k ↦ omega (arith, short k, after_skip.loads.least)
-          | inr k ↦ omega (arith, full h (omega (arith, seen.len_is)), after_skip.loads.least)
+          | inl k ↦ omega (arith, short k, after_skip.least)
+          | inr k ↦ omega (arith, full h (omega (arith, seen.len_is)), after_skip.least)
         ];
-        offset_is = λ h. elim after_skip.loads.offset_is [
+        offset_is = λ h. elim after_skip.offset_is [
           | inr k ↦ inr k
           | inl k ↦ (elim (cases_lt w.len 16) [
             | inl m ↦ inl (omega (arith, short m))
@@ -228,7 +203,9 @@ module _ {table : Table} (ten : IsBelowTen table) where
       record {
         skipped = record { zeros_only = grind (arith, nat_tests); asked = λ h. absurd (cc h) };
         within = grind (arith, nat_tests, zeros-le table s, prefix_len-le-length (is_digit table) s);
-        loads = record { most = omega arith; least = omega arith; offset_is = grind (arith, nat_tests) };
+        most = omega arith;
+        least = omega arith;
+        offset_is = grind (arith, nat_tests);
       } in
       Skipped-end skipping (e ∙ ap (window_of table 16) (sym (take_rest s at))) refl (inr (refl, none))
 
