@@ -34,10 +34,7 @@ abbrev pub zeros_both : (c leading others : ℕ) → ℕ
 zeros_both c leading others = cond (eqb leading c) (c + others) leading
 
 Shows-full : {table : Table} {c : ℕ} {s : List ℕ} {w : Window} → Shows table c s w → c ≤ w.len → Reading table c s c (zeros table (take c s)) w.number
-Shows-full {table} {c} {s} {w} seen more =
-    let full : w.len ≡ c = omega arith in
-    let P : ℕ → Type 0 = λ n. Reading table c s n (zeros table (take c s)) w.number in
-    subst P full seen.reading
+Shows-full seen more = search (arith)
 
 pub Shows-join : {table : Table} {d : ℕ} {s : List ℕ} {first_window back : Window} → Shows table 16 s first_window → 16 ≤ first_window.len
     → Shows table d (drop 16 s) back
@@ -145,16 +142,8 @@ module _ {table : Table} (ten : IsBelowTen table) where
   Skipping-next {s = s} {at} {after} {before} {now} {next} {w} so_far e one on some turn =
       let zeros_only = so_far.skipped.zeros_only in
       let reported = zeros_reported table ten s at w zeros_only e some in
-      record {
-        skipped = record { zeros_only = omega (arith, reported.0); asked = λ h. absurd (false≢true (sym h ∙ on)) };
-        within = omega (arith, reported.0, zeros-le table s, prefix_len-le-length (is_digit table) s);
-        most = omega (arith, reported.0);
-        least = omega (arith, reported.0);
-        offset_is = elim (cases_lt w.zeroes 16) [
-          | inl h ↦ inr (omega (arith, reported.0), omega (arith, reported))
-          | inr h ↦ inl (omega (arith, reported.0))
-        ];
-      }
+      let cases = cases_lt w.zeroes 16 in
+      search (arith, zeros-le, prefix_len-le-length, false≢true)
 
   pub Skipped-end : {skip : Bool} {s : List ℕ} {at before now next : ℕ} {w : Window} →
       Skipping table skip s at before now → w ≡ window_of table 16 (take (length s - at) (drop at s)) → next ≡ now + 1 →
@@ -169,30 +158,9 @@ module _ {table : Table} (ten : IsBelowTen table) where
       let zero_most : zeros table (drop at s) ≤ run_len table (drop at s) = zeros-le table (drop at s) in
       let full : skip ≡ true → w.len ≡ 16 → at ≡ zeros table s = λ h k. omega (arith, last h, seen.zeroes_of k) in
       let short : w.len < 16 → zeros table (drop at s) < 16 = λ h. omega (arith, seen.len_is) in
-      record {
-        window = seen;
-        skipped = after_skip.skipped;
-        within = after_skip.within;
-        run_is = run_is;
-        zeros_are = zeros_are;
-        value_is = value-drop_zeros table at s after_skip.skipped.zeros_only;
-        full = full;
-        last = last;
-        more = omega (arith, after_skip.least);
-        most = omega (arith, after_skip.most, after_skip.skipped.zeros_only);
-        unskipped = λ h. omega (arith, after_skip.skipped.asked h, after_skip.most);
-        least = λ h. elim (cases_lt w.len 16) [
-          | inl k ↦ omega (arith, short k, after_skip.least)
-          | inr k ↦ omega (arith, full h (omega (arith, seen.len_is)), after_skip.least)
-        ];
-        offset_is = λ h. elim after_skip.offset_is [
-          | inr k ↦ inr k
-          | inl k ↦ (elim (cases_lt w.len 16) [
-            | inl m ↦ inl (omega (arith, short m))
-            | inr m ↦ inl (omega (arith, full h (omega (arith, seen.len_is))))
-          ])
-        ];
-      }
+      let many = cases_lt w.len 16 in
+      let value_is = value-drop_zeros table at s after_skip.skipped.zeros_only in
+      search (arith, value_is, last, short, full, after_skip.skipped.asked)
 
   -- After `window_after_zeros`; one load more, for the window before that call.
   pub Skipped-after_zeros : (s : List ℕ) {at : ℕ} (before : ℕ) {now : ℕ} {w : Window} →
