@@ -30,21 +30,17 @@ pub ruleset of_decimal = (decimal_digit, decimal_step_wide, append_assoc, length
 
 -- ---- Hexadecimal texts
 
-pub hex_of_one : (byte : ℕ) → byte < 16 → hex_text byte ≡ digit_glyph true byte ∷ []
-hex_of_one byte small = hex_one_digit true byte small
-
 pub hex_of_two : (before : List ℕ) (byte : ℕ) → 16 ≤ byte → byte < 256
     → before ++ digit_glyph true (byte / 16) ∷ [] ++ digit_glyph true (byte % 16) ∷ [] ≡ before ++ hex_text byte
 hex_of_two before byte low small = rw (hex_two_digits true byte low small, append_assoc)
 
-pub ruleset of_hex = (hex_of_one, hex_of_two)
+pub ruleset of_hex = (hex_one_digit, hex_of_two)
 
 -- ---- Error texts are ASCII
 
-IsAscii-literal : (bytes : List ℕ) → list_all is_ascii bytes ≡ true → IsAscii bytes
+pub IsAscii-literal : (bytes : List ℕ) → list_all is_ascii bytes ≡ true → IsAscii bytes
 IsAscii-literal [] passes = IsAscii-nil
-IsAscii-literal (byte ∷ bytes) passes =
-    IsAscii-cons byte bytes (grind (arith, nat_tests)) (IsAscii-literal bytes (grind (arith, nat_tests)))
+IsAscii-literal (byte ∷ bytes) passes = grind (arith, nat_tests, IsAscii-cons, IsAscii-literal bytes)
 
 -- A hexadecimal digit is ASCII.
 IsAscii-glyph : (digit : ℕ) (bytes : List ℕ) → digit < 16 → IsAscii bytes → IsAscii (digit_glyph true digit ∷ bytes)
@@ -53,7 +49,7 @@ IsAscii-glyph digit bytes small rest = IsAscii-cons (digit_glyph true digit) byt
 IsAscii-hex_text : (byte : ℕ) → byte < 256 → IsAscii (hex_text byte)
 IsAscii-hex_text byte small =
     elim (cases_lt byte 16) [
-      | inl short ↦ rw (hex_of_one byte short) (IsAscii-glyph byte [] short IsAscii-nil)
+      | inl short ↦ rw (hex_one_digit true byte short) (IsAscii-glyph byte [] short IsAscii-nil)
       | inr long ↦
           rw (← hex_of_two [] byte long small)
           (IsAscii-glyph (byte / 16) (digit_glyph true (byte % 16) ∷ []) (omega arith) (IsAscii-glyph (byte % 16) [] (omega arith) IsAscii-nil))
@@ -66,9 +62,7 @@ hex_rest bytes = flat_map (λ b. codes ", " ++ hex_text b) bytes
 IsAscii-hex_rest : (bytes : List ℕ) → ((k : ℕ) → get_or bytes k 0 < 256) → IsAscii (hex_rest bytes)
 IsAscii-hex_rest [] small = IsAscii-nil
 IsAscii-hex_rest (byte ∷ bytes) small =
-    IsAscii-append (codes ", " ++ hex_text byte) (hex_rest bytes)
-    (IsAscii-append (codes ", ") (hex_text byte) (IsAscii-literal (codes ", ") refl) (IsAscii-hex_text byte (small 0)))
-    (IsAscii-hex_rest bytes (λ k. small (suc k)))
+    search (rules, IsAscii-append, IsAscii-literal, IsAscii-hex_text byte (small 0), IsAscii-hex_rest bytes (λ k. small (suc k)))
 
 pub hex_list_is_ascii : (bytes : List ℕ) (i : ℕ) → ((k : ℕ) → get_or bytes k 0 < 256) → slice_index (hex_list bytes) i < 128
 hex_list_is_ascii [] i small = IsAscii-nil i
@@ -77,17 +71,3 @@ hex_list_is_ascii (byte ∷ bytes) i small =
 
 pub input_text_is_ascii : (bytes : List ℕ) (i : ℕ) → IsAscii bytes → slice_index (91 ∷ (bytes ++ 93 ∷ [])) i < 128
 input_text_is_ascii bytes i ascii = search (rules, IsAscii-append)
-
-pub IsAscii-size_text : (length : ℕ) (input : List ℕ) → IsAscii (decimal length) → IsAscii (input_text input) → IsAscii (error_text (size length input))
-IsAscii-size_text length input number slice = search (rules, IsAscii-append, IsAscii-literal, number, slice)
-
-pub IsAscii-overflow_text : (input : List ℕ) → IsAscii (input_text input) → IsAscii (error_text (overflow input))
-IsAscii-overflow_text input slice = search (rules, IsAscii-append, IsAscii-literal, slice)
-
-pub IsAscii-invalid64_text : (number index : ℕ) (input : List ℕ) → IsAscii (decimal number) → IsAscii (decimal index) → IsAscii (input_text input)
-    → IsAscii (error_text (invalid64 number index input))
-IsAscii-invalid64_text number index input value place slice = search (rules, IsAscii-append, IsAscii-literal, value, place, slice) depth 8
-
-pub IsAscii-invalid128_text : (number index : ℕ) (input : List ℕ) → IsAscii (decimal number) → IsAscii (decimal index) → IsAscii (input_text input)
-    → IsAscii (error_text (invalid128 number index input))
-IsAscii-invalid128_text number index input value place slice = search (rules, IsAscii-append, IsAscii-literal, value, place, slice) depth 8
