@@ -19,11 +19,10 @@ short_enough class skip limit count h = le-ltb limit count h
 
 pub shorter : (limit : Option ℕ) (count less : ℕ) → less ≤ count → is_above limit count ≡ false → is_above limit less ≡ false
 shorter None count less h e = refl
-shorter (Some limit) count less h e = le-ltb limit less (omega (arith, ltb-false limit count e))
+shorter (Some limit) count less h e = grind (arith, nat_tests)
 
 pub limit_of_whole : (class : Class) (skip : Bool) (limit : ℕ) → limit_at class whole skip limit ≡ limit_at class whole false limit
-limit_of_whole narrow skip limit = refl
-limit_of_whole class skip limit = refl
+limit_of_whole class skip limit = grind (arith, nat_tests)
 
 pub long_as_whole : (class : Class) (skip : Bool) (limit count : ℕ) → is_above (limit_at class prefix skip limit) count ≡ false
     → is_above (limit_at class whole skip limit) count ≡ false
@@ -32,31 +31,15 @@ long_as_whole class skip limit count h = h
 
 pub limit_of_prefix : (int : IntType) (skip : Bool) (limit : ℕ) → HasLimitOfWhole int skip
     → limit_at (class_of int) prefix skip limit ≡ limit_at (class_of int) whole skip limit
-limit_of_prefix int skip limit h =
-    elim h [
-      | inl e ↦ rw e (skipping (class_of int))
-      | inr lt ↦ rw (lt-leb int.bits 32 lt) (wide (eqb int.bits 64))
-    ]
-  where
-    skipping : (class : Class) → limit_at class prefix true limit ≡ limit_at class whole true limit
-    skipping narrow = refl
-    skipping class = refl
-
-    wide : (b : Bool) → limit_at (cond b wide64 wide128) prefix skip limit ≡ limit_at (cond b wide64 wide128) whole skip limit
-    wide true = refl
-    wide false = refl
+limit_of_prefix int skip limit h = grind (arith, nat_tests)
 
 -- A bound has at most `limit` digits if the largest of either sign has.
 magnitude_below : (limit bits : ℕ) (signed minus : Bool) → greatest_of bits true + 1 < 10 ^ limit → greatest_of bits false + 1 < 10 ^ limit
     → cond minus (greatest_of bits signed + 1) (greatest_of bits signed) < 10 ^ limit
-magnitude_below limit bits true true p q = p
-magnitude_below limit bits false true p q = q
-magnitude_below limit bits signed minus p q = omega arith
+magnitude_below limit bits signed minus p q = grind (arith, nat_tests)
 
 bound-64 : (signed minus : Bool) → cond minus (greatest_of 64 signed + 1) (greatest_of 64 signed) < 10 ^ cond signed 19 20
-bound-64 true true = omega arith
-bound-64 false true = omega arith
-bound-64 signed minus = omega arith
+bound-64 signed minus = grind (arith, nat_tests)
 
 sizes : (bits : ℕ) → is_size bits ≡ true
     → (bits ≡ 8) ⊎ ((bits ≡ 16) ⊎ ((bits ≡ 32) ⊎ ((bits ≡ 64) ⊎ (bits ≡ 128))))
@@ -78,14 +61,9 @@ bound_below-64 int sized minus = search (arith, pow-le-pow_right, sizes, magnitu
 
 places-le : (table : Table) (s : List ℕ) (limit : ℕ) → value table (run table s) < 10 ^ limit → run_len table s - zeros table s ≤ limit
 places-le table s limit h =
-    elim (cases_lt limit (run_len table s - zeros table s)) [
-      | inl more ↦
-          let p : 10 ^ limit ≤ 10 ^ (run_len table s - zeros table s - 1) =
-          pow-le-pow_right {n = 10} (omega arith) {i = limit} {j = run_len table s - zeros table s - 1} (omega arith)
-          in
-          absurd (omega (arith, value-ge table s (omega arith)))
-      | inr le ↦ le
-    ]
+    let more : limit < run_len table s - zeros table s → 10 ^ limit ≤ 10 ^ (run_len table s - zeros table s - 1) =
+    λ lt. pow-le-pow_right {n = 10} (omega arith) (omega arith) in
+    grind (arith, value-ge table s, more)
 
 -- Without its leading zeros, a number in range has few enough digits.
 pub in_range_short : (table : Table) (int : IntType) → IsSized int → (minus : Bool) (s : List ℕ)

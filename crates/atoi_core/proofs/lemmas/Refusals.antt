@@ -1,6 +1,7 @@
 -- When a body is refused.
 use Rattle.std.proofs.Common.{◌≡◌, ℕ, ◌+◌, ◌-◌, ◌<◌, ◌≤◌, min, Bool, true, false, cond, eqb, ltb, List, [], length, drop, subst, Option, Some, None, option_map, refl, sym, ◌∙◌, arith, ltb-false, le-ltb, ne_eqb, eq-eqb}
 use Rattle.std.proofs.lemmas.Bool.{eqb-false, lt-ltb}
+use Rattle.std.proofs.lemmas.Bool.Decides.{nat_tests}
 use Rattle.std.proofs.Math.Seq.{drop-length}
 use Rattle.atoi_core.specs.Digit.{Table}
 use Rattle.atoi_core.specs.Run.{run_len, run, value}
@@ -14,24 +15,22 @@ first_of a b c d p q r s = cond a (Some p) (cond b (Some q) (cond c (Some r) (co
 
 first_none : (a b c d : Bool) (p q r s : Refusal) → first_of a b c d p q r s ≡ None
     → (a ≡ false) × (b ≡ false) × (c ≡ false) × (d ≡ false)
-first_none false false false false p q r s h = (refl, refl, refl, refl)
-first_none a b c d p q r s h = absurd (cc h)
+first_none a b c d p q r s h = grind (arith, nat_tests)
 
 -- What holds of each result after its test holds of the chosen one.
 first_cases : (P : Refusal → Type 0) (a b c d : Bool) (p q r s : Refusal)
     → (a ≡ true → P p) → (a ≡ false → b ≡ true → P q) → (a ≡ false → b ≡ false → c ≡ true → P r)
     → (a ≡ false → b ≡ false → c ≡ false → d ≡ true → P s)
     → (reason : Refusal) → first_of a b c d p q r s ≡ Some reason → P reason
-first_cases P true b c d p q r s hp hq hr hs reason h = let e : p ≡ reason = cc h in subst P e (hp refl)
-first_cases P false true c d p q r s hp hq hr hs reason h = let e : q ≡ reason = cc h in subst P e (hq refl refl)
-first_cases P false false true d p q r s hp hq hr hs reason h = let e : r ≡ reason = cc h in subst P e (hr refl refl refl)
-first_cases P false false false true p q r s hp hq hr hs reason h = let e : s ≡ reason = cc h in subst P e (hs refl refl refl refl)
+first_cases P true b c d p q r s hp hq hr hs reason h = search (arith, hp)
+first_cases P false true c d p q r s hp hq hr hs reason h = search (arith, hq)
+first_cases P false false true d p q r s hp hq hr hs reason h = search (arith, hr)
+first_cases P false false false true p q r s hp hq hr hs reason h = search (arith, hs)
 first_cases P false false false false p q r s hp hq hr hs reason h = absurd (cc h)
 
 first_map : (a b c d : Bool) (p q r s : Refusal)
     → option_map rank (first_of a b c d p q r s) ≡ first_of a b c d (rank p) (rank q) (rank r) (rank s)
-first_map false false false false p q r s = refl
-first_map a b c d p q r s = refl
+first_map a b c d p q r s = grind (arith, nat_tests)
 
 -- The limit on digits, which does not depend on the digits.
 abbrev pub limit_at : Class → Extent → Bool → ℕ → Option ℕ
@@ -54,12 +53,10 @@ pub record IsAccepted (table : Table) (class : Class) (bound limit : ℕ) (exten
   pub ends : leaves_rest extent (run_len table body) (length body) ≡ false
 
 rank-invalid : (class : Class) (number index : ℕ) (body : List ℕ) → rank (invalid class number index body) ≡ rank (invalid class 0 0 [])
-rank-invalid narrow number index body = refl
-rank-invalid class number index body = refl
+rank-invalid class number index body = grind (arith, nat_tests)
 
 input-invalid : (class : Class) (number index : ℕ) (body : List ℕ) → input_of (invalid class number index body) ≡ body
-input-invalid narrow number index body = refl
-input-invalid class number index body = refl
+input-invalid class number index body = grind (arith, nat_tests)
 
 module _ (table : Table) (class : Class) (bound limit : ℕ) (extent : Extent) (skip : Bool) (body : List ℕ) where
   -- The four tests, in their order, and their errors.
@@ -93,7 +90,7 @@ module _ (table : Table) (class : Class) (bound limit : ℕ) (extent : Extent) (
   refusal-is = search (arith, limit-is)
 
   pub refused_empty : run_len table body ≡ 0 → refusal table class bound limit extent skip body ≡ Some empty
-  refused_empty none = refusal-is ∙ rw (eq-eqb (run_len table body) 0 none) refl
+  refused_empty none = search (arith, refusal-is, eq-eqb)
 
   pub refused_size : 0 < run_len table body → is_long ≡ true → refusal table class bound limit extent skip body ≡ Some too_long
   refused_size some long = refusal-is ∙ rw (ne_eqb (run_len table body) 0 (omega arith), long) refl
@@ -137,10 +134,9 @@ refused table int minus extent skip body = refusal table (class_of int) (bound_o
 -- For narrow prefixes the limit does not matter.
 pub narrow_prefix_limit : (table : Table) (bound limit : ℕ) (skip : Bool) (s : List ℕ)
     → refusal table narrow bound limit prefix skip s ≡ refusal table narrow bound 0 prefix skip s
-narrow_prefix_limit table bound limit true s = rw (refusal-is table narrow bound limit prefix true s, refusal-is table narrow bound 0 prefix true s) refl
-narrow_prefix_limit table bound limit false s = rw (refusal-is table narrow bound limit prefix false s, refusal-is table narrow bound 0 prefix false s) refl
+narrow_prefix_limit table bound limit skip s = grind (arith, nat_tests, refusal-is)
 
 -- For narrow whole slices neither the limit nor the flag matters.
 pub narrow_whole_limit : (table : Table) (bound limit : ℕ) (skip : Bool) (s : List ℕ)
     → refusal table narrow bound limit whole skip s ≡ refusal table narrow bound 0 whole false s
-narrow_whole_limit table bound limit skip s = rw (refusal-is table narrow bound limit whole skip s, refusal-is table narrow bound 0 whole false s) refl
+narrow_whole_limit table bound limit skip s = search (arith, refusal-is)
