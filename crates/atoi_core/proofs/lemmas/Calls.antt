@@ -85,13 +85,11 @@ counted_number minus found = (with_sign minus found.0, found.1)
 
 map_unless_ok : {A B : Type 0} (f : A → B) (r : Option Refusal) (x : A) (y : B)
     → map_answer f (unless_refused r x) ≡ Ok y → (r ≡ None) × (y ≡ f x)
-map_unless_ok f None x y h = (refl, cc)
-map_unless_ok f (Some reason) x y h = absurd (cc h)
+map_unless_ok f r x y h = grind (arith)
 
 pub map_unless_err : {A B : Type 0} (f : A → B) (r : Option Refusal) (x : A) (reason : Refusal)
     → map_answer f (unless_refused r x) ≡ Err reason → r ≡ Some reason
-map_unless_err f None x reason h = absurd (cc h)
-map_unless_err f (Some other) x reason h = cc
+map_unless_err f r x reason h = grind (arith)
 
 map_unless_none : {A B : Type 0} (f : A → B) (r : Option Refusal) (x : A) → r ≡ None → map_answer f (unless_refused r x) ≡ Ok (f x)
 map_unless_none f r x h = rw h refl
@@ -143,14 +141,8 @@ ok_prefix int form skip s v count h = search (arith, prefix_call-is, map_unless_
 
 module _ (table : Table) (class : Class) (bound limit : ℕ) (skip : Bool) (s : List ℕ) where
   -- `Ok` of a prefix: in range, and within the slice.
-  prefix_found : (number len : ℕ) → Ok (number, len) ≡ prefix_magnitude table class bound limit skip s → (number ≤ bound) × (len ≤ length s)
-  prefix_found number len found = search (arith, map_unless_ok, accepted, prefix_len-le-length)
-
-  pub prefix_in_bounds : (number len : ℕ) → Ok (number, len) ≡ prefix_magnitude table class bound limit skip s → number ≤ bound
-  prefix_in_bounds number len found = (prefix_found number len found).0
-
-  pub prefix_within : (number len : ℕ) → Ok (number, len) ≡ prefix_magnitude table class bound limit skip s → len ≤ length s
-  prefix_within number len found = (prefix_found number len found).1
+  pub prefix_in_bounds : (number len : ℕ) → Ok (number, len) ≡ prefix_magnitude table class bound limit skip s → (number ≤ bound) × (len ≤ length s)
+  prefix_in_bounds number len found = search (arith, map_unless_ok, accepted, prefix_len-le-length)
 
   pub whole_in_bounds : (number : ℕ) → Ok number ≡ whole_magnitude table class bound limit skip s → number ≤ bound
   whole_in_bounds number found = search (arith, map_unless_ok, accepted)

@@ -22,8 +22,7 @@ pub prefix_len-drop : (p : ℕ → Bool) (n : ℕ) (s : List ℕ) → n ≤ pref
 prefix_len-drop p zero s = λ _. omega arith
 prefix_len-drop p (suc n) [] = λ h. absurd (omega arith)
 prefix_len-drop p (suc n) (b ∷ bs) =
-    elim (p b) as (λ v. suc n ≤ cond v (1 + prefix_len p bs) 0 → cond v (1 + prefix_len p bs) 0 ≡ suc n + prefix_len p (drop n bs))
-    [ true ↦ λ h. omega (arith, prefix_len-drop p n bs (omega arith)) | false ↦ λ h. absurd (omega arith) ]
+    grind (arith, nat_tests, prefix_len-drop p n bs)
 
 pub zeros-le : (table : Table) (s : List ℕ) → zeros table s ≤ run_len table s
 zeros-le table [] = omega arith
@@ -33,18 +32,11 @@ zeros-le table (b ∷ bs) = grind (arith, nat_tests, zeros-le table bs)
 
 value-append : (table : Table) (xs ys : List ℕ) → value table (xs ++ ys) ≡ value table xs * 10 ^ length ys + value table ys
 value-append table [] ys = omega arith
-value-append table (x ∷ xs) ys =
-    let power : digit_value table x * 10 ^ length (xs ++ ys) ≡ digit_value table x * (10 ^ length xs * 10 ^ length ys) =
-    ap (λ (e : ℕ). digit_value table x * 10 ^ e) (length-append xs ys)
-    ∙ ap (λ (e : ℕ). digit_value table x * e) (pow-add 10 (length xs) (length ys)) in
-    omega (arith, power, value-append table xs ys)
+value-append table (x ∷ xs) ys = search (arith, length-append, pow-add, value-append table xs ys)
 
 pub value-below : (table : Table) → IsBelowTen table → (xs : List ℕ) → value table xs < 10 ^ length xs
 value-below table below [] = omega arith
-value-below table below (x ∷ xs) =
-    let most : digit_value table x * 10 ^ length xs ≤ 9 * 10 ^ length xs =
-    mul-le-mul_right (10 ^ length xs) (omega (arith, below x)) in
-    rw pow-succ' (omega (arith, value-below table below xs))
+value-below table below (x ∷ xs) = search (arith, pow-succ', mul-le-mul_right, value-below table below xs, below x)
 
 pub value-take-add : (table : Table) (n k : ℕ) (s : List ℕ) → n + k ≤ length s →
     value table (take (n + k) s) ≡ value table (take n s) * 10 ^ k + value table (take k (drop n s))
@@ -57,12 +49,7 @@ value_of_zero table byte h = grind (arith, eqb_tells)
 value-zeros : (table : Table) (n : ℕ) (s : List ℕ) → n ≤ zeros table s → value table (take n s) ≡ 0
 value-zeros table zero s = λ _. refl
 value-zeros table (suc n) [] = λ h. absurd (omega arith)
-value-zeros table (suc n) (b ∷ bs) =
-    let number = digit_value table b * 10 ^ length (take n bs) + value table (take n bs) in
-    (elim (is_zero table b) as (λ v. is_zero table b ≡ v → suc n ≤ cond v (1 + zeros table bs) 0 → number ≡ 0) [
-      | true ↦ λ e h. rw (value_of_zero table b e, value-zeros table n bs (omega arith)) (omega arith)
-      | false ↦ λ e h. absurd (omega arith)
-    ]) refl
+value-zeros table (suc n) (b ∷ bs) = grind (arith, nat_tests, value_of_zero, value-zeros table n bs)
 
 pub value-drop_zeros : (table : Table) (n : ℕ) (s : List ℕ) → n ≤ zeros table s → value table (run table s) ≡ value table (run table (drop n s))
 value-drop_zeros table n s h = search (arith, prefix_len-drop, zeros-le, prefix_len-le-length, value-take-add, value-zeros)
@@ -109,10 +96,9 @@ module _ (table : Table) where
       let rest = drop z s in
       let parts : run_len table s ≡ z + run_len table rest = prefix_len-drop (is_digit table) z s (omega arith) in
       let no_zeros : z ≡ z + zeros table rest = prefix_len-drop (is_zero table) z s (omega arith) in
-      let places : suc (run_len table s - z - 1) ≡ run_len table rest = omega arith in
-      rw (value-drop_zeros table z s (omega arith))
-      (subst (λ (m : ℕ). 10 ^ (run_len table s - z - 1) ≤ value table (take m rest)) places
-      (value-least table (run_len table s - z - 1) rest (omega arith) (omega arith)))
+      let places : run_len table rest ≡ suc (run_len table s - z - 1) = omega arith in
+      rw (value-drop_zeros table z s (omega arith), places)
+      (value-least table (run_len table s - z - 1) rest (omega arith) (omega arith))
 
   pub value-replicate : (zero_digit : ℕ) → is_zero table zero_digit ≡ true → (n : ℕ) (s : List ℕ)
       → value table (replicate n zero_digit ++ s) ≡ value table s
@@ -131,8 +117,7 @@ value-append-le table xs ys = search (arith, value-append, mul-le-mul_left, one-
 
 pub value-take-le : (table : Table) (s : List ℕ) (i j : ℕ) → i ≤ j → value table (take i s) ≤ value table (take j s)
 value-take-le table s i j le =
-    rw (← take-append-drop i (take j s), take-take i j s le)
-    (value-append-le table (take i s) (drop i (take j s)))
+    rw (← take-append-drop i (take j s), take-take i j s le) (value-append-le table (take i s) (drop i (take j s)))
 
 -- A digit after i bytes of the run is in it.
 pub run_more : (table : Table) (s : List ℕ) (i w : ℕ) → i < length s → table (get_or s i 0) ≡ Some w

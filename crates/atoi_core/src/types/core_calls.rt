@@ -67,7 +67,7 @@ pub(crate) fn whole_of<'a, E: Engine, T: Signed>(
 /// Like `whole_pos`, but parses the digits at the start of `s`. Also returns how many there are.
 /// The errors are `Empty`, `Size` and `Overflow`.
 #[inline(always)]
-#[tactic(auto, using(crate::proofs::lemmas::Calls::prefix_within, crate::proofs::lemmas::Calls::prefix_in_bounds))]
+#[tactic(auto, using(crate::proofs::lemmas::Calls::prefix_in_bounds))]
 pub fn prefix_pos<'a, E: Engine, T: Number>(
     skip: bool,
     s: &'a [u8],
@@ -101,7 +101,7 @@ pub fn prefix_neg<'a, E: Engine, T: Signed>(
 
 // Like `prefix_neg` if `minus` is set, otherwise like `prefix_pos`.
 #[inline(always)]
-#[tactic(auto, using(crate::proofs::lemmas::Calls::prefix_within, crate::proofs::lemmas::Calls::prefix_in_bounds))]
+#[tactic(auto, using(crate::proofs::lemmas::Calls::prefix_in_bounds))]
 pub(crate) fn prefix_of<'a, E: Engine, T: Signed>(
     minus: bool,
     skip: bool,
