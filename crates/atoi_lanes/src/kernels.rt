@@ -73,6 +73,7 @@ pub fn load_lanes(s: &[u8]) -> u8x16
 }
 
 // Returns the first 8 and the last 8 bytes.
+#[tactic(auto, using(crate::proofs::lemmas::Ends::lanes_of_ends))]
 fn ends(s: &[u8]) -> u8x16
     requires { 8 ≤ length s.now }
     ensures { result ≡ take 8 s.now ++ drop (length s.now - 8) s.now }
@@ -81,6 +82,7 @@ fn ends(s: &[u8]) -> u8x16
 }
 
 // Of `len` bytes, whose first 8 and last 8 are in the lanes of `v`: moves the first to the first lane.
+#[tactic(auto, using(crate::proofs::lemmas::Ends::selected_start, crate::proofs::lemmas::Ends::start_ok))]
 fn to_start(v: u8x16, len: usize) -> u8x16
     requires enough { 8 ≤ len }
     requires few { len < 16 }
@@ -90,6 +92,7 @@ fn to_start(v: u8x16, len: usize) -> u8x16
 }
 
 // `to_start`, but moves the last to the last lane.
+#[tactic(auto, using(crate::proofs::lemmas::Ends::selected_end, crate::proofs::lemmas::Ends::end_ok))]
 fn to_end(v: u8x16, len: usize) -> u8x16
     requires enough { 8 ≤ len }
     requires few { len < 16 }

@@ -126,7 +126,7 @@ word_shifted (suc m) s =
     rw byte_more (omega arith)
 
 -- The word of two lists in a row.
-word_appended : (xs ys : List ℕ) → word_of (xs ++ ys) ≡ word_of ys * 2 ^ (length xs * 8) + word_of xs
+pub word_appended : (xs ys : List ℕ) → word_of (xs ++ ys) ≡ word_of ys * 2 ^ (length xs * 8) + word_of xs
 unfolding word_of
 word_appended [] ys = omega arith
 word_appended (x ∷ xs) ys =

@@ -1,10 +1,9 @@
 -- A mask counts the leading lanes that pass a test.
-use Rattle.std.proofs.Common.{◌≡◌, ℕ, zero, suc, ◌+◌, ◌-◌, ◌*◌, ◌/◌, ◌%◌, ◌^◌, ◌<◌, Bool, true, false, cond, List, [], ◌∷◌, map, length, drop, Fits, w8, w16, w64, not, bit_and, inl, inr, ◌≤◌, ◌≢◌, refl, sym, ap, ap₂, ◌∙◌, arith, pow_pos}
+use Rattle.std.proofs.Common.{◌≡◌, ℕ, zero, suc, ◌+◌, ◌-◌, ◌*◌, ◌/◌, ◌%◌, ◌^◌, ◌<◌, Bool, true, false, cond, List, [], ◌∷◌, map, length, Fits, w8, w16, w64, not, refl, sym, ap, ap₂, ◌∙◌, arith, pow_pos}
 use Rattle.std.specs.Int.{trailing_ones, trailing_zeros}
 use Rattle.std.specs.List.{prefix_len}
-use Rattle.std.proofs.Math.Nat.{mul_assoc, mul_comm, pow-suc, pow-zero, lt_of_lt_of_le}
-use Rattle.std.proofs.lemmas.Bool.{agree_below, agree_below_at, cases_lt}
-use Rattle.std.proofs.lemmas.Nat.{and_mask}
+use Rattle.std.proofs.Math.Nat.{pow-suc, lt_of_lt_of_le}
+use Rattle.std.proofs.lemmas.Bool.{agree_below, agree_below_at}
 use Rattle.std.proofs.lemmas.List.{length-map}
 use Rattle.std.proofs.lemmas.Simd.{leading_from_mask_l, map-map, mask_l-lt, mask_l-mod, trailing_mask_l}
 use lib.Count.{count_trailing_zeros}
@@ -71,27 +70,3 @@ run-of_others q v long mask is =
       λ none. sym same ∙ leading_from_mask_l other v (sym is ∙ none) ∙ long,
       λ some. ap (trailing_zeros w16) is ∙ trailing_mask_l other 16 v (omega arith) (omega (arith, is)) ∙ same,
     )
-
--- The bits of the lanes that pass at the start are 0.
-mask-after : (q : ℕ → Bool) (k : ℕ) (v : List ℕ) → k ≤ prefix_len q v
-    → mask_l (map (λ x. not (q x)) v) ≡ 2 ^ k * mask_l (map (λ x. not (q x)) (drop k v))
-mask-after q zero v le = omega (arith, pow-zero 2)
-mask-after q (suc k) [] le = absurd (omega arith)
-mask-after q (suc k) (x ∷ xs) le =
-    let rest = mask_l (map (λ y. not (q y)) (drop k xs)) in
-    let power : 2 ^ suc k * rest ≡ 2 * (2 ^ k * rest) = ap (λ p. p * rest) (pow-suc 2 k ∙ mul_comm (2 ^ k) 2) ∙ mul_assoc 2 (2 ^ k) rest in
-    (elim (q x) as (λ b. suc k ≤ cond b (1 + prefix_len q xs) 0 → cond (not b) 1 zero + 2 * mask_l (map (λ y. not (q y)) xs) ≡ 2 ^ suc k * rest) [
-      | true ↦ λ more. omega (arith, power, mask-after q k xs (omega arith))
-      | false ↦ λ none. absurd (omega arith)
-    ]) le
-
--- If one of the first nine lanes fails, at most eight pass before it.
-pub at_most_eight : (q : ℕ → Bool) (v : List ℕ) (mask : ℕ) → mask ≡ mask_l (map (λ x. not (q x)) v) → bit_and mask 511 ≢ 0
-    → (0 < mask) × (prefix_len q v ≤ 8)
-at_most_eight q v mask is some = (
-  elim (cases_lt 0 mask) [ inl more ↦ more | inr none ↦ absurd (some (and_mask mask 9 ∙ omega arith)) ],
-  elim (cases_lt 8 (prefix_len q v)) [
-    | inl more ↦ absurd (some (and_mask mask 9 ∙ omega (arith, is, mask-after q 9 v (omega arith))))
-    | inr few ↦ few
-  ],
-)

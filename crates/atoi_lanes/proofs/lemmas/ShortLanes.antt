@@ -1,5 +1,5 @@
 -- A slice of less than eight digits at the end of the first half of a vector.
-use Rattle.std.proofs.Common.{◌≡◌, ℕ, ◌+◌, ◌-◌, ◌%◌, ◌^◌, ◌<◌, ◌≤◌, List, [], ◌∷◌, ◌++◌, map, length, take, replicate, refl, subst, sym, ap, ap₂, ◌∙◌, arith, lit<}
+use Rattle.std.proofs.Common.{◌≡◌, ℕ, ◌+◌, ◌-◌, ◌%◌, ◌^◌, ◌<◌, ◌≤◌, List, [], ◌∷◌, ◌++◌, get_or, map, length, take, replicate, refl, subst, sym, ap, ap₂, ◌∙◌, arith, lit<}
 use Rattle.std.proofs.lemmas.List.{length-append, length-map, take_all, take_at}
 use Rattle.std.proofs.lemmas.Simd.{Each1-replicate, Each1-weaker}
 use Rattle.atoi_core.specs.Digit.{decimal_table, is_digit}
@@ -9,11 +9,9 @@ use Rattle.atoi_core.proofs.lemmas.Calls.{digit_in_range}
 use Rattle.atoi_core.proofs.lemmas.LoadedWords.{high_word}
 use Rattle.atoi_core.proofs.lemmas.Runs.{prefix_len-replicate_append, value-replicate}
 use Rattle.atoi_core.proofs.lemmas.WordRuns.{first_passes}
-use Rattle.atoi_core.proofs.lemmas.WordWindows.{filled_length, word_filled}
+use Rattle.atoi_core.proofs.lemmas.WordWindows.{filled_fits, filled_length, word_filled}
 use Rattle.atoi_lanes.specs.Lanes.{itself}
-use Rattle.atoi_lanes.proofs.lemmas.DigitLanes.{above_zero, above_zero-digit, digits_value}
-use Rattle.atoi_lanes.proofs.lemmas.Ends.{each-append}
-use Rattle.atoi_lanes.proofs.lemmas.JoinedDigits.{number-lt}
+use Rattle.atoi_lanes.proofs.lemmas.DigitLanes.{above_zero, digits_value, each-append}
 use Rattle.atoi_lanes.proofs.lemmas.LaneWindows.{lanes-of_bytes}
 use lib.Lanes.{Each1, digits_l, number_l}
 
@@ -25,18 +23,18 @@ lowered_word (x ∷ xs) all =
     omega (arith, digit_in_range x passes.0, lowered_word xs passes.1)
 
 -- The lanes of the filled word, less 48, spell the slice.
-pub all_digits : (s : List ℕ) → length s < 8 → run_len decimal_table s ≡ length s → (word filling ones : ℕ) (v : List ℕ)
+pub all_digits : (s : List ℕ) → ((i : ℕ) → get_or s i 0 < 256) → length s < 8 → run_len decimal_table s ≡ length s → (word filling ones : ℕ) (v : List ℕ)
     → word ≡ high_word s → filling ≡ word_of (replicate (8 - length s) 48) → ones ≡ (word + filling + 0xCFCF_CFCF_CFCF_CFD0) % 2 ^ 64
     → v ≡ digits_l 256 16 ones → (value itself (take 8 v) ≡ value decimal_table s) × Each1 (λ x. x < 10) v
 unfolding word_of
-all_digits s few digits word filling ones v word_is filling_is ones_is lanes =
+all_digits s fits few digits word filling ones v word_is filling_is ones_is lanes =
     let zeros = 8 - length s in
     let filled = replicate zeros 48 ++ s in
     let values = map above_zero filled in
     let eight : length filled ≡ 8 = omega (arith, filled_length zeros 48 s) in
     let count : length values ≡ 8 = length-map filled above_zero ∙ eight in
     let all : 8 ≤ run_len decimal_table filled = omega (arith, prefix_len-replicate_append (is_digit decimal_table) 48 refl zeros s) in
-    let known = rw (take_all 8 values (omega (arith, count)), take_all 8 filled (omega (arith, eight))) at (digits_value above_zero above_zero-digit 8 filled all) in
+    let known = rw (take_all 8 values (omega (arith, count)), take_all 8 filled (omega (arith, eight))) at (digits_value 8 filled all) in
     let fit = Each1-weaker (λ x. x < 10) (λ x. x < 256) (λ x lt. omega arith) values known.1 in
     let lowered : ones ≡ number_l 256 values =
     omega (
@@ -45,8 +43,7 @@ all_digits s few digits word filling ones v word_is filling_is ones_is lanes =
       ap₂ (λ x y. x + y) word_is filling_is ∙ word_filled zeros s,
       lowered_word filled (omega (arith, eight)),
       ap (λ n. number_l 256 (replicate n 48)) eight,
-      number-lt 256 values fit,
-      ap (λ n. 256 ^ n) count,
+      filled_fits s (omega arith) fits,
     ) in
     let in_lanes : v ≡ values ++ replicate 8 0 =
     lanes ∙ ap (digits_l 256 16) lowered ∙ lanes-of_bytes 8 values fit (omega (arith, count))

@@ -1,10 +1,10 @@
 -- 16 bytes are loaded at once, fewer than 8 in one word, and others in two.
-use Rattle.std.proofs.Common.{ap, sym, ◌∙◌, arith}
+use Rattle.std.proofs.Common.{ap, length, sym, ◌∙◌, arith}
 use Rattle.std.proofs.lemmas.List.{take-append-le, take_all}
 use Rattle.std.specs.Simd.Lanes.{digits_l}
 use Rattle.atoi_core.specs.Words.{word_of}
 use Rattle.atoi_core.proofs.lemmas.LoadedWords.{bytes}
-use Rattle.atoi_lanes.proofs.lemmas.Ends.{start_padded}
+use Rattle.atoi_lanes.proofs.lemmas.Ends.{moved, to_start}
 use Rattle.atoi_lanes.proofs.lemmas.LaneWindows.{lanes-of_bytes}
 use Rattle.atoi_lanes.proofs.kernels.load_lanes.Goals as goal
 use Rattle.atoi_lanes.proofs.kernels.load_lanes.Goals.{in-Some, in-None, in-None-2}
@@ -18,5 +18,5 @@ returns c =
           w.result-is ∙ w.half.ensures ∙ ap (digits_l 256 16) (w.load_8.ensures ∙ ap word_of (take_all 8 s (omega arith)))
           ∙ lanes-of_bytes 16 s (bytes s (λ i. (c.type_inv.s i).fits)) (omega arith)
       | in-None-2 w ↦
-          w.result-is ∙ w.to_start.ensures ∙ start_padded s (omega arith) (omega (arith, w.in-None-2.ensures.cases)) _ w.ends.ensures
+          w.result-is ∙ w.to_start.ensures ∙ ap (to_start (length s)) w.ends.ensures ∙ (moved s (omega arith) (omega (arith, w.in-None-2.ensures.cases))).0
     ]
