@@ -21,9 +21,9 @@
 //! | such numbers up to the first error | [`column::Column`] |
 //! | the integers of a version, a date, an address or JSON | the functions of [`formats`] |
 //!
-//! Without `SKIP_ZEROES`, leading zeros are accepted too, but they count as digits, of which some calls
-//! accept only a certain number ([`AtoiSimdError::Size`]). The [`guide`] has more: flags, errors, files,
-//! embedded systems, debug builds and platforms.
+//! Without `SKIP_ZEROES`, leading zeros are accepted too, but they count as digits, and some calls limit
+//! the number of digits ([`AtoiSimdError::Size`]). The [`guide`] has more: flags, errors, files, embedded
+//! systems, debug builds and platforms.
 //!
 //! # In place of `atoi_simd`
 //!
@@ -40,22 +40,22 @@
 //!
 //! The sources are written in Rattle, a dialect of Rust in which functions have contracts. A proof
 //! checker has verified that every parser returns exactly what its contract says, for every input, and
-//! that no input makes it panic or run forever. A build script leaves the contracts out, and this crate
-//! is what remains. No proof covers these three items. You trust them:
+//! that no input makes it panic or run forever. A build script removes the contracts, and this crate is
+//! what remains. No proof covers these three items. You trust them:
 //!
 //! 1. The proof checker of Rattle. It is not public, so you cannot repeat the proofs.
 //! 2. Our definitions of the correct results, which `docs/SPECIFICATION.md` explains.
-//! 3. The build script, which turns the Rattle sources into Rust, the Rust code in `rust/src`, rustc, and
-//!    Rust's `core`, which must do what Rattle's `std` specifies.
+//! 3. What makes a program of the Rattle sources: the build script, the Rust code in `rust/src`, rustc,
+//!    and Rust's `core`, which must do what Rattle's `std` specifies.
 //!
 //! Tests compare the results of this crate with the specification, with `str::parse`, with `atoi_simd`,
 //! and with the build of Rattle's own compiler.
 //!
 //! # Features
 //!
-//! - `std`, which is on by default, changes nothing. The crate never uses `std`.
-//! - `lanes` adds the module `lanes`, which has the ten functions on vectors of sixteen bytes. It works on
-//!   stable Rust and contains one `unsafe` expression. No version promises that it stays as it is.
+//! - `std` changes nothing, since the crate never uses `std`. It is there for programs that ask for it.
+//! - `lanes` adds the module `lanes`, which has the ten functions of the root on vectors of sixteen bytes.
+//!   It works on stable Rust and contains one `unsafe` expression. Any version may change it.
 #![no_std]
 #![cfg_attr(not(feature = "lanes"), forbid(unsafe_code))]
 #![cfg_attr(feature = "lanes", deny(unsafe_code))]
@@ -64,10 +64,10 @@
 #[cfg(not(target_pointer_width = "64"))]
 compile_error!("torkettle needs a target with 64-bit pointers: its proofs are for no others");
 
-// Public there is also what only the crates themselves call, with conditions that their proofs meet.
+// Some of its public functions are only for the crates themselves, whose proofs meet their conditions.
 #[cfg(target_pointer_width = "64")]
 #[allow(dead_code, unused_imports, unused_variables)]
-// Lines that the build script empties, and functions that return a `Result` in other registers.
+// The build script empties lines, and a `match` that changes nothing can save instructions.
 #[allow(clippy::empty_line_after_doc_comments, clippy::empty_line_after_outer_attr)]
 #[allow(clippy::needless_match, clippy::manual_unwrap_or)]
 mod proved {
@@ -119,7 +119,7 @@ pub mod guide {}
 /// assert_eq!(total(b"80,44x,8080"), Err(ColumnError::Trailing { index: 1, place: 5 }));
 /// ```
 ///
-/// A longer input can be read in pieces, each of which ends with a separator:
+/// A longer input can be read in pieces. Each but the last must end with a separator:
 ///
 /// ```
 /// use torkettle::column::Fields;
@@ -136,8 +136,8 @@ pub mod guide {}
 /// assert_eq!((index, place), (4, 13));
 /// ```
 ///
-/// The separator must not be a digit, `+` or `-`. The constructors panic otherwise. The
-/// [guide](crate::guide#read-files) reads a file that is larger than memory.
+/// The constructors panic if the separator is a digit, `+` or `-`. The [guide](crate::guide#read-files)
+/// reads a file that is larger than memory.
 #[cfg(target_pointer_width = "64")]
 pub mod column {
     pub use crate::proved::atoi_column::{Column, ColumnError, FieldError, Fields, is_separator};
@@ -195,7 +195,7 @@ pub mod column {
 /// assert_eq!(total(b"[12,7.5]"), None);
 /// ```
 ///
-/// The byte after the number of a `_then` function must not be a digit. The functions panic otherwise.
+/// A function whose name ends with `_then` panics if you pass a digit as the byte after the number.
 /// The [guide](crate::guide#read-other-formats) says which function reads which format.
 #[cfg(target_pointer_width = "64")]
 pub mod formats {
@@ -205,12 +205,11 @@ pub mod formats {
     };
 }
 
-/// The ten functions with the same results, computed with vectors of sixteen bytes.
+/// The ten functions of the root, with the same results, computed with vectors of sixteen bytes.
 ///
-/// They are faster for many calls on long numbers, if the target has the feature `ssse3`, as with
+/// Many calls on long numbers are faster, if the target has the feature `ssse3`, as with
 /// `-C target-cpu=x86-64-v2`. Without that feature, use the functions at the root. `docs/PERFORMANCE.md`
-/// has the figures. No version promises that this module stays as it is. The
-/// [guide](crate::guide#lanes) says how to use it.
+/// has the figures. Any version may change this module. The [guide](crate::guide#lanes) shows its use.
 ///
 /// ```
 /// use torkettle::lanes::parse;

@@ -21,9 +21,9 @@ use atoi_core::laws::{accepted_texts, prefix_results, whole_results};
 ///
 /// # Errors
 ///
-/// The first [error](AtoiSimdError) that applies: `Empty` if no digit follows the sign, `Size` if a type
-/// of 64 or 128 bits has too many digits, `Overflow` if the value does not fit in `T`, and `Invalid64`
-/// or `Invalid128` if another byte follows the digits (see the [guide](crate::guide#errors)).
+/// The first [error](AtoiSimdError) that applies: `Empty` if no digit follows the sign, `Size` if there
+/// are too many digits for a type of 64 or 128 bits, `Overflow` if the value does not fit in `T`, and
+/// `Invalid64` or `Invalid128` if another byte follows the digits (see the [guide](crate::guide#errors)).
 #[inline(always)]
 pub fn parse<T: Parse, const SKIP_ZEROES: bool, const SKIP_PLUS: bool>(
     s: &[u8],
@@ -64,7 +64,7 @@ pub fn parse_pos<T: Parse, const SKIP_ZEROES: bool>(s: &[u8]) -> Result<T, AtoiS
     T::atoi_simd_parse_pos(s, SKIP_ZEROES)
 }
 
-/// Like [`parse_pos`], but returns minus the value of the digits. `s` holds no `-`.
+/// Like [`parse_pos`], but returns the negative number. `s` begins after the `-`.
 ///
 /// ```
 /// use torkettle::{AtoiSimdError, parse_neg};
@@ -87,8 +87,8 @@ pub fn parse_neg<T: ParseNeg, const SKIP_ZEROES: bool>(s: &[u8]) -> Result<T, At
     T::atoi_simd_parse_neg(s, SKIP_ZEROES)
 }
 
-/// Like [`parse`], but parses the number at the start of `s`, up to the first other byte. Returns the
-/// number and how many bytes it has, a sign and leading zeros included.
+/// Like [`parse`], but parses the number at the start of `s`, whatever follows its digits. Returns the
+/// number and its length in bytes, a sign and leading zeros included.
 ///
 /// ```
 /// use torkettle::{AtoiSimdError, parse_prefix};
@@ -98,8 +98,8 @@ pub fn parse_neg<T: ParseNeg, const SKIP_ZEROES: bool>(s: &[u8]) -> Result<T, At
 ///
 /// # Errors
 ///
-/// `Empty`, `Size` and `Overflow`, as for [`parse`]. Without `SKIP_ZEROES`, `Size` also for more than 16
-/// digits of a type of at most 32 bits (see the [guide](crate::guide#errors)).
+/// `Empty`, `Size` and `Overflow`, as for [`parse`]. Without `SKIP_ZEROES`, also `Size` if there are more
+/// than 16 digits for a type of at most 32 bits (see the [guide](crate::guide#errors)).
 #[inline(always)]
 pub fn parse_prefix<T: Parse, const SKIP_ZEROES: bool, const SKIP_PLUS: bool>(
     s: &[u8],
@@ -143,7 +143,7 @@ pub fn parse_prefix_pos<T: Parse, const SKIP_ZEROES: bool>(
     T::atoi_simd_parse_prefix_pos(s, SKIP_ZEROES)
 }
 
-/// Like [`parse_prefix_pos`], but returns minus the value of the digits. `s` holds no `-`.
+/// Like [`parse_prefix_pos`], but returns the negative number. `s` begins after the `-`.
 ///
 /// ```
 /// use torkettle::{AtoiSimdError, parse_prefix_neg};
