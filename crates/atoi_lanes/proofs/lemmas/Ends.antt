@@ -4,9 +4,8 @@ use Rattle.std.specs.List.{range_with_len}
 use Rattle.std.proofs.lemmas.Bool.Decides.{nat_tests}
 use Rattle.std.proofs.lemmas.List.{length-append, length-drop, length-map, length-take-le, take_all, take_at}
 use Rattle.std.proofs.lemmas.List.Folds.{prefix_len-append}
-use Rattle.std.proofs.lemmas.List.FromFn.{get_or-range_with_len}
 use Rattle.std.proofs.lemmas.List.Sums.{prefix_len-le-length}
-use Rattle.std.proofs.lemmas.Simd.{Each1-chunk, Each1-get_or, SwzOk, pick_l_whole, swz_l}
+use Rattle.std.proofs.lemmas.Simd.{Each1-chunk, SwzOk, pick_l_whole, swz_l}
 use Rattle.atoi_core.specs.Digit.{decimal_table, is_digit}
 use Rattle.atoi_core.specs.Run.{run_len, value}
 use Rattle.atoi_core.specs.Words.{word_of}
@@ -14,14 +13,10 @@ use Rattle.atoi_core.proofs.lemmas.LoadedWords.{bytes, word_appended}
 use Rattle.atoi_core.proofs.lemmas.Runs.{prefix_len-drop, prefix_len-take}
 use Rattle.atoi_lanes.proofs.lemmas.DigitLanes.{above_zero, each-append, end_values, less}
 use Rattle.atoi_lanes.proofs.lemmas.LaneWindows.{lanes-of_bytes}
+use Rattle.atoi_lanes.proofs.lemmas.Shuffles.{each_from}
 use Rattle.atoi_lanes.specs.Lanes.{itself, padded_start}
 use Rattle.atoi_lanes.specs.declared.kernels.TheConstants.{TO_END, TO_START}
 use lib.Lanes.{Each1, digits_l, number_l, zip2}
-
--- What holds of each length from 8 to 15.
-each_length : (P : ℕ → Type 0) → Each1 P (range_with_len 8 8) → (n : ℕ) → 8 ≤ n → n < 16 → P n
-each_length P each n enough few =
-    subst P (get_or-range_with_len 8 8 (n - 8) 0 (omega arith) ∙ omega arith) (Each1-get_or P (range_with_len 8 8) (n - 8) 0 (omega arith) each)
 
 -- Lanes, the first or the last n of which are moved.
 abbrev pub to_start : ℕ → List ℕ → List ℕ
@@ -37,7 +32,7 @@ Selected v n =
 
 selected : (v : List ℕ) (n : ℕ) → length v ≡ 16 → 8 ≤ n → n < 16 → Selected v n
 selected v n long enough few =
-    subst (λ w. Selected w n) (pick_l_whole 0 v 16 long) (each_length (Selected (map (λ i. get_or v i 0) (range_with_len 0 16))) (search rules) n enough few)
+    subst (λ w. Selected w n) (pick_l_whole 0 v 16 long) (each_from (Selected (map (λ i. get_or v i 0) (range_with_len 0 16))) 8 8 (search rules) n enough few)
 
 pub selected_start : (v : List ℕ) (n : ℕ) → length v ≡ 16 → 8 ≤ n → n < 16 → swz_l w8 16 v 0 (take 16 (get_or TO_START (n - 8) [])) ≡ to_start n v
 selected_start v n long enough few = (selected v n long enough few).0
@@ -47,10 +42,10 @@ selected_end v n long enough few = (selected v n long enough few).1
 
 -- Each row selects lanes, or 0.
 pub start_ok : (len : ℕ) → 8 ≤ len → len < 16 → SwzOk w8 16 16 0 (take 16 (get_or TO_START (len - 8) []))
-start_ok len enough few = each_length (λ n. SwzOk w8 16 16 0 (take 16 (get_or TO_START (n - 8) []))) (search rules) len enough few
+start_ok len enough few = each_from (λ n. SwzOk w8 16 16 0 (take 16 (get_or TO_START (n - 8) []))) 8 8 (search rules) len enough few
 
 pub end_ok : (len : ℕ) → 8 ≤ len → len < 16 → SwzOk w8 16 16 0 (take 16 (get_or TO_END (len - 8) []))
-end_ok len enough few = each_length (λ n. SwzOk w8 16 16 0 (take 16 (get_or TO_END (n - 8) []))) (search rules) len enough few
+end_ok len enough few = each_from (λ n. SwzOk w8 16 16 0 (take 16 (get_or TO_END (n - 8) []))) 8 8 (search rules) len enough few
 
 -- The first eight and the last eight bytes.
 abbrev ends : List ℕ → List ℕ
@@ -99,7 +94,7 @@ module _ (s : List ℕ) (enough : 8 ≤ length s) where
   pub moved : length s < 16 → Moved s
   moved few =
       subst Moved (pick_l_whole 0 s (length s) refl)
-      (each_length (λ n. Moved (map (λ i. get_or s i 0) (range_with_len 0 n))) (search rules) (length s) enough few)
+      (each_from (λ n. Moved (map (λ i. get_or s i 0) (range_with_len 0 n))) 8 8 (search rules) (length s) enough few)
 
   -- Less 48 and moved so, digits spell their value.
   pub medium_values : length s < 16 → run_len decimal_table s ≡ length s → (v lanes : List ℕ) → v ≡ ends s

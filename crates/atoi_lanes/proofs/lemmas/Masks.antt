@@ -1,44 +1,14 @@
 -- A mask counts the leading lanes that pass a test.
-use Rattle.std.proofs.Common.{◌≡◌, ℕ, zero, suc, ◌+◌, ◌-◌, ◌*◌, ◌/◌, ◌%◌, ◌^◌, ◌<◌, Bool, true, false, cond, List, [], ◌∷◌, map, length, Fits, w8, w16, w64, not, refl, sym, ap, ap₂, ◌∙◌, arith, pow_pos}
-use Rattle.std.specs.Int.{trailing_ones, trailing_zeros}
+use Rattle.std.proofs.Common.{◌≡◌, ℕ, ◌+◌, ◌%◌, ◌^◌, ◌<◌, Bool, true, false, cond, List, [], ◌∷◌, map, length, get_or, Fits, w8, w16, w64, not, inl, inr, ◌≤◌, refl, sym, ap, ap₂, ◌∙◌, arith}
+use Rattle.std.specs.Int.{bit_at, trailing_ones, trailing_zeros}
 use Rattle.std.specs.List.{prefix_len}
-use Rattle.std.proofs.Math.Nat.{pow-suc, lt_of_lt_of_le}
-use Rattle.std.proofs.lemmas.Bool.{agree_below, agree_below_at}
-use Rattle.std.proofs.lemmas.List.{length-map}
-use Rattle.std.proofs.lemmas.Simd.{leading_from_mask_l, map-map, mask_l-lt, mask_l-mod, trailing_mask_l}
-use lib.Count.{count_trailing_zeros}
+use Rattle.std.proofs.lemmas.Bool.{agree_below, agree_below_at, cases_lt}
+use Rattle.std.proofs.lemmas.Bool.Decides.{nat_tests}
+use Rattle.std.proofs.lemmas.List.{get_or-map, get_or_past, length-map}
+use Rattle.std.proofs.lemmas.List.Sums.{prefix_len_is}
+use Rattle.std.proofs.lemmas.Nat.Bits.{bit_at-trailing_ones}
+use Rattle.std.proofs.lemmas.Simd.{bit_mask_l, leading_from_mask_l, map-map, mask_l-lt, mask_l-mod, trailing_mask_l}
 use lib.Lanes.{Each1, mask_l, top}
-use lib.Pow.{pow_mono}
-
-trailing-even : (k n : ℕ) → count_trailing_zeros (suc k) (2 * n) ≡ suc (count_trailing_zeros k n)
-unfolding count_trailing_zeros
-trailing-even k n =
-    let rest : 2 * n / 2 ≡ n = omega arith in
-    let lowest : 2 * n % 2 ≡ 0 = omega arith in
-    rw (lowest, rest)
-
-trailing-odd : (k n : ℕ) → count_trailing_zeros (suc k) (2 * n + 1) ≡ 0
-unfolding count_trailing_zeros
-trailing-odd k n = let lowest : (2 * n + 1) % 2 ≡ 1 = omega arith in rw lowest
-
--- Trailing zero bits of the complement, if fewer than k lanes pass.
-trailing-complement : (p : ℕ → Bool) (k : ℕ) (xs : List ℕ) → length xs < k → count_trailing_zeros k ((2 ^ k - 1) - mask_l (map p xs)) ≡ prefix_len p xs
-trailing-complement p zero xs h = absurd (omega arith)
-trailing-complement p (suc k) [] h =
-    let odd : (2 ^ suc k - 1) - 0 ≡ 2 * (2 ^ k - 1) + 1 = omega (arith, pow-suc 2 k, pow_pos k) in
-    ap (count_trailing_zeros (suc k)) odd ∙ trailing-odd k (2 ^ k - 1)
-trailing-complement p (suc k) (x ∷ xs) h =
-    let m = mask_l (map p xs) in
-    let rest = trailing-complement p k xs (omega arith) in
-    elim (p x) as (λ b. count_trailing_zeros (suc k) ((2 ^ suc k - 1) - (cond b 1 zero + 2 * m)) ≡ cond b (1 + prefix_len p xs) 0) [
-      | true ↦
-          let even : (2 ^ suc k - 1) - (1 + 2 * m) ≡ 2 * ((2 ^ k - 1) - m) = omega (arith, pow-suc 2 k, pow_pos k) in
-          ap (count_trailing_zeros (suc k)) even ∙ trailing-even k ((2 ^ k - 1) - m) ∙ omega (arith, rest)
-      | false ↦
-          let below : m < 2 ^ k = lt_of_lt_of_le (mask_l-lt (map p xs)) (pow_mono (omega (arith, length-map xs p))) in
-          let odd : (2 ^ suc k - 1) - (0 + 2 * m) ≡ 2 * ((2 ^ k - 1) - m) + 1 = omega (arith, pow-suc 2 k) in
-          ap (count_trailing_zeros (suc k)) odd ∙ trailing-odd k ((2 ^ k - 1) - m)
-    ]
 
 -- Tests that agree on each byte agree on lists of bytes.
 map-agree : (p q : ℕ → Bool) → agree_below p q 256 ≡ true → (xs : List ℕ) → Each1 (Fits w8) xs → map p xs ≡ map q xs
@@ -54,8 +24,20 @@ mask-of_lanes q v f z long fits lanes all =
     ∙ mask_l-mod (map set v) 64 (omega (arith, length-map v set))
     ∙ ap mask_l (map-agree set q all v fits)
 
-pub ones-of_mask : (q : ℕ → Bool) (v : List ℕ) → length v < 64 → (mask : ℕ) → mask ≡ mask_l (map q v) → trailing_ones w64 mask ≡ prefix_len q v
-ones-of_mask q v long mask is = ap (trailing_ones w64) is ∙ trailing-complement q 64 v (omega arith)
+-- A mask of the lanes that pass tells how many do at the start.
+pub ones-of_mask : (q : ℕ → Bool) (v : List ℕ) → length v ≡ 16 → (mask : ℕ) → mask ≡ mask_l (map q v) → trailing_ones w64 mask ≡ prefix_len q v
+ones-of_mask q v long mask is =
+    let small : mask + 1 < 2 ^ 64 = omega (arith, is, rw (length-map v q, long) at (mask_l-lt (map q v))) in
+    let found = bit_at-trailing_ones w64 mask small in
+    let bit : (i : ℕ) → bit_at mask i ≡ cond (get_or (map q v) i false) 1 0 = λ i. ap (λ m. bit_at m i) is ∙ bit_mask_l (map q v) i in
+    let most : trailing_ones w64 mask ≤ 16 =
+    elim (cases_lt 16 (trailing_ones w64 mask)) [
+      | inl more ↦ absurd (grind (arith, nat_tests, found.2 16 more, bit 16, get_or_past (map q v) 16 false (omega (arith, length-map v q))))
+      | inr few ↦ few
+    ] in
+    sym (prefix_len_is q v (trailing_ones w64 mask) 0 (omega (arith, most))
+    (λ k lt. sym (get_or-map q v k 0 false (omega (arith, most))) ∙ grind (arith, nat_tests, bit k, found.2 k lt))
+    (λ short. sym (get_or-map q v (trailing_ones w64 mask) 0 false short) ∙ grind (arith, nat_tests, bit (trailing_ones w64 mask), found.1)))
 
 not-not : (b : Bool) → not (not b) ≡ b
 not-not true = refl
