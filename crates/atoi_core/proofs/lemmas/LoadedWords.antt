@@ -1,8 +1,8 @@
 -- Words that hold the bytes of a slice.
-use Rattle.std.proofs.Common.{◌≡◌, ℕ, zero, suc, ◌+◌, ◌-◌, ◌*◌, ◌/◌, ◌%◌, ◌^◌, ◌<◌, ◌≤◌, List, [], ◌∷◌, ◌++◌, length, take, drop, replicate, get_or, take-take, inl, inr, refl, sym, ap, ap₂, ◌∙◌, arith, min, Bool, true, false, ◌==◌, if◌then◌else◌}
+use Rattle.std.proofs.Common.{◌≡◌, ℕ, zero, suc, ◌+◌, ◌-◌, ◌*◌, ◌/◌, ◌%◌, ◌^◌, ◌<◌, ◌≤◌, List, [], ◌∷◌, ◌++◌, length, take, drop, replicate, get_or, take-take, inl, inr, refl, sym, ap, ◌∙◌, arith, Bool, false, ◌==◌, if◌then◌else◌}
 use Rattle.std.proofs.Math.Nat.{mod-lt, mod-le, div-one, zero-div, zero-mod, suc-mul, div-div-eq-div-mul}
 use Rattle.std.proofs.lemmas.List.{take_all, append-nil, drop_all, drop_more, length-drop, length-take, get_or-drop, get_or_past, drop-drop}
-use Rattle.std.proofs.lemmas.Nat.{pow_pos, pow-add, mod-pow-add, or_block, or_shifted, shr_split, div-mul-add, and_mask, and_assoc, and_comm}
+use Rattle.std.proofs.lemmas.Nat.{pow_pos, pow-add, mod-pow-add, or_block, or_shifted, shl_whole, shr_split, div-mul-add, and_mask, and_assoc, and_comm}
 use Rattle.std.specs.Int.{from_le_bytes, w16, w32, w64}
 use Rattle.std.specs.Int.Bits.{bit_and, bit_or, and_self, or_add_and, or_zero_r}
 use Rattle.std.specs.Simd.Lanes.{Each1, number_l, digits_l}
@@ -14,11 +14,10 @@ use Rattle.std.proofs.lemmas.List.Sums.{prefix_len-le-length}
 use Rattle.std.proofs.Math.Seq.{take-add}
 use Rattle.std.proofs.lemmas.List.Folds.{prefix_len-append}
 use Rattle.std.specs.List.{prefix_len}
-use Rattle.atoi_core.specs.Digit.{decimal_table, is_digit, is_zero, digit_value}
+use Rattle.atoi_core.specs.Digit.{decimal_table, is_digit, is_zero}
 use Rattle.atoi_core.specs.Run.{run_len, zeros, value}
 use Rattle.atoi_core.proofs.lemmas.Runs.{prefix_len-take}
 use Rattle.atoi_core.proofs.lemmas.WordFields.{byte_more, shift_cut}
-use Rattle.atoi_core.proofs.lemmas.WordRuns.{first_passes}
 
 -- ---- Loading a word from a slice
 
@@ -157,10 +156,9 @@ module _ (s : List ℕ) (few : length s ≤ 8) (fits : (i : ℕ) → get_or s i 
 
   high_fits : high_word s % 2 ^ 64 ≡ high_word s
   high_fits =
-      let z = (8 - length s) * 8 in
-      let all : 64 ≡ length s * 8 + z = omega arith in
-      ap (λ e. high_word s % 2 ^ e) all ∙ high_cut (length s)
-      ∙ ap (λ l. word_of l * 2 ^ z) (take_all (length s) s (omega arith)) ∙ sym (word_shifted (8 - length s) s)
+      let all = word_start (length s) s fits ∙ ap word_of (take_all (length s) s (omega arith)) in
+      let below : word_of s < 2 ^ (length s * 8) = omega (arith, mod-lt (word_of s) (pow_pos (length s * 8))) in
+      rw word_shifted (shl_whole (word_of s) (length s * 8) ((8 - length s) * 8) 64 below (omega arith))
 
   -- The bytes from j on are its highest.
   high_rest : (j k x : ℕ) → x ≡ word_of (drop j s) → 8 - length s + j ≡ k → x ≡ high_word s / 2 ^ (k * 8)
@@ -207,10 +205,7 @@ pub digits-of_bytes : (n m : ℕ) (xs : List ℕ) → Each1 (λ x. x < 256) xs �
 digits-of_bytes zero m xs h room = refl
 digits-of_bytes (suc n) zero [] h room = absurd (omega arith)
 digits-of_bytes (suc n) (suc m) [] h room = ap (λ ds. 0 ∷ ds) (digits-of_bytes n m [] tt (omega arith))
-digits-of_bytes (suc n) m (x ∷ xs) h room =
-    let low : (x + 256 * number_l 256 xs) % 256 ≡ x = omega (arith, h.0) in
-    let high : (x + 256 * number_l 256 xs) / 256 ≡ number_l 256 xs = omega (arith, h.0) in
-    cc (low, high, digits-of_bytes n m xs h.1 (omega arith))
+digits-of_bytes (suc n) m (x ∷ xs) h room = search (arith, digits-of_bytes n m xs h.1, h.0)
 
 -- If 0 fails a test, zeros after a list do not change how far its first n elements pass.
 pub prefix_len-padded : (p : ℕ → Bool) → p 0 ≡ false → (n m : ℕ) (s : List ℕ) → prefix_len p (take n (s ++ replicate m 0)) ≡ prefix_len p (take n s)
@@ -219,16 +214,11 @@ prefix_len-padded p none (suc n) zero [] = refl
 prefix_len-padded p none (suc n) (suc m) [] = rw none
 prefix_len-padded p none (suc n) m (x ∷ xs) = cc (prefix_len-padded p none n m xs)
 
--- The lower half of a digit's byte is its digit value, so digits spell the weighted sum of these.
-half_is_value : (b : ℕ) → is_digit decimal_table b ≡ true → b % 16 ≡ digit_value decimal_table b
-half_is_value b digit = grind (arith, nat_tests)
-
+-- The lower halves of digits are their digit values.
 pub low_value_is : (n : ℕ) (s : List ℕ) → n ≤ run_len decimal_table s → low_value (take n s) ≡ value decimal_table (take n s)
 low_value_is zero s digits = refl
 low_value_is (suc n) [] digits = absurd (omega arith)
-low_value_is (suc n) (b ∷ bs) digits =
-    let passes = first_passes (is_digit decimal_table b) n (run_len decimal_table bs) digits in
-    ap₂ (λ x v. x * 10 ^ length (take n bs) + v) (half_is_value b passes.0) (low_value_is n bs passes.1)
+low_value_is (suc n) (b ∷ bs) digits = grind (arith, nat_tests, low_value_is n bs)
 
 -- The word of the first `width` bytes of a slice.
 module _ (width : ℕ) (s : List ℕ) (fits : (i : ℕ) → get_or s i 0 < 256) (word : ℕ) (is : word ≡ word_of (take width s)) where
@@ -257,12 +247,7 @@ module _ (width : ℕ) (s : List ℕ) (fits : (i : ℕ) → get_or s i 0 < 256) 
 
   -- The weighted sum of leading digits is their value.
   pub loaded_part : (len : ℕ) → len ≤ run_len decimal_table (low_bytes width word) → low_value (low_bytes len word) ≡ value decimal_table (take len s)
-  loaded_part len within =
-      let digits : run_len decimal_table (low_bytes width word) ≡ min width (run_len decimal_table s) = loaded_run ∙ prefix_len-take (is_digit decimal_table) width s in
-      ap low_value (loaded_first len (omega arith) (omega (arith, digits, prefix_len-le-length (is_digit decimal_table) s))) ∙ low_value_is len s (omega arith)
-
-  pub loaded_sum : (len : ℕ) → len ≡ run_len decimal_table (low_bytes width word) → low_value (low_bytes len word) ≡ value decimal_table (take len s)
-  loaded_sum len len_is = loaded_part len (omega arith)
+  loaded_part len within = search (arith, loaded_run, prefix_len-take, loaded_first, low_value_is, prefix_len-le-length)
 
 pub fits_after : (s : List ℕ) → ((i : ℕ) → get_or s i 0 < 256) → (i : ℕ) → get_or (drop 8 s) i 0 < 256
 fits_after s fits i = rw get_or-drop (fits (8 + i))

@@ -41,13 +41,8 @@ mask_step h k word =
 
 -- So the lowest field of a masked word is below 2^h.
 masked_low : (h k word : ℕ) → bit_and word (masks h k) % 2 ^ (h + h) < 2 ^ h
-masked_low h zero word =
-    let e : bit_and word 0 % 2 ^ (h + h) ≡ 0 = cc (and_zero_r word, zero-mod (2 ^ (h + h))) in
-    omega (arith, pow_pos h)
-masked_low h (suc k) word =
-    let low : word % 2 ^ h < 2 ^ h = mod-lt word (pow_pos h) in
-    let fits : word % 2 ^ h < 2 ^ (h + h) = omega (arith, half_below h) in
-    rw (mask_step h k word, mod-mul-add (bit_and (word / 2 ^ (h + h)) (masks h k)) (2 ^ (h + h)) (word % 2 ^ h) fits) low
+masked_low h zero word = search (arith, and_zero_r, zero-mod, pow_pos)
+masked_low h (suc k) word = search (arith, mask_step, mod-mul-add, half_below, pow_pos)
 
 -- The word after the multiplication and the shift, if nothing wraps.
 spread : ℕ → ℕ → ℕ → ℕ
@@ -72,8 +67,7 @@ spread_pair b t u f g below =
 -- A power of t * t.
 power_of_square : (t m : ℕ) → (t * t) ^ m ≡ t ^ twice m
 power_of_square t zero = pow-zero (t * t) ∙ sym (pow-zero t)
-power_of_square t (suc m) =
-    cc (pow-suc (t * t) m, power_of_square t m, mul_assoc (t ^ twice m) t t, pow-suc t (twice m), pow-suc t (suc (twice m)))
+power_of_square t (suc m) = search (arith, pow-suc, power_of_square t m, mul_assoc)
 
 -- A cut before a shift does not change what is spelled.
 shift_after_cut : (g t m word : ℕ) → spelled g t m (word % 2 ^ (m * (g + g)) / 2 ^ g) ≡ spelled g t m (word / 2 ^ g)
@@ -136,12 +130,7 @@ length-digits base (suc k) word = cc (length-digits base k (word / base))
 -- Bits above the lowest k fields do not change these fields.
 pub digits_cut : (g k word : ℕ) → digits_l (2 ^ g) k (word % 2 ^ (k * g)) ≡ digits_l (2 ^ g) k word
 digits_cut g zero word = refl
-digits_cut g (suc k) word =
-    let b = 2 ^ g in
-    let rest = word / b % 2 ^ (k * g) in
-    let cut : word % 2 ^ (suc k * g) ≡ rest * b + word % b = rw suc-mul (mod-pow-add word (k * g) g) in
-    let small : word % b < b = mod-lt word (pow_pos g) in
-    cc (cut, mod-mul-add rest b (word % b) small, div-mul-add rest b (word % b) small, digits_cut g k (word / b))
+digits_cut g (suc k) word = search (arith, digits_cut g k (word / 2 ^ g), suc-mul, mod-pow-add, mod-mul-add, div-mul-add, pow_pos)
 
 -- One more byte.
 pub byte_more : (z : ℕ) → 2 ^ (suc z * 8) ≡ 256 * 2 ^ (z * 8)
@@ -159,9 +148,7 @@ low_value_shifted (suc z) k word =
 -- The weighted sum is what the lower halves spell.
 spelled_by_bytes : (k word : ℕ) → spelled 4 10 k word ≡ low_value (digits_l 256 k word)
 spelled_by_bytes zero word = refl
-spelled_by_bytes (suc k) word =
-    let half : word % 16 ≡ word % 256 % 16 = omega arith in
-    cc (half, length-digits 256 k (word / 256), spelled_by_bytes k (word / 256))
+spelled_by_bytes (suc k) word = search (arith, length-digits, spelled_by_bytes k (word / 256))
 
 -- The lowest `len` bytes, shifted to the top, keep their sum.
 pub shifted_value : (k count len word : ℕ) → k ≡ (count - len) * 8 → len ≤ count
@@ -172,7 +159,7 @@ shifted_value k count len word e le = search (arith, digits_cut, low_value_shift
 shifted_sum : (k count len word : ℕ) → k ≡ (count - len) * 8 → len ≤ count
     → spelled 4 10 count (word * 2 ^ k % 2 ^ (count * 8)) ≡ low_value (low_bytes len word)
 unfolding low_bytes
-shifted_sum k count len word e le = spelled_by_bytes count (word * 2 ^ k % 2 ^ (count * 8)) ∙ shifted_value k count len word e le
+shifted_sum k count len word e le = search (arith, spelled_by_bytes, shifted_value)
 
 -- A mask to lower halves keeps the weighted sum.
 pub low_value_halves : (bytes : List ℕ) → low_value (map (λ b. bit_and b 15) bytes) ≡ low_value bytes
@@ -201,7 +188,7 @@ pub sum_8 : (val len : ℕ) → len ≤ 8
     let tens = bit_and ones 0x0F0F_0F0F_0F0F_0F0F * 0xA01 % 2 ^ 64 / 2 ^ 8 in
     let hundreds = bit_and tens 0x00FF_00FF_00FF_00FF * 0x64_0001 % 2 ^ 64 / 2 ^ 16 in
     bit_and hundreds 0x0000_FFFF_0000_FFFF * 0x2710_0000_0001 % 2 ^ 64 / 2 ^ 32 ≡ low_value (low_bytes len val)
-sum_8 val len most = one_field 100000000 32 _ (omega arith) ∙ round 16 10000 (lit< tt) 1 _ ∙ two_rounds val len most
+sum_8 val len most = search (arith, one_field, round 16 10000 (lit< tt) 1, two_rounds)
 
 -- Two rounds and a sum of the two fields, for digits in bytes below 16.
 pub sum_of_fields : (digits : ℕ) → digits < 2 ^ 64 → bit_and digits 0x0F0F_0F0F_0F0F_0F0F ≡ digits
@@ -240,10 +227,7 @@ sum_16 val len most =
 -- The sum of lower halves is at most 15 times 11..1.
 places_most : (bytes : List ℕ) → 9 * low_value bytes + 15 ≤ 15 * 10 ^ length bytes
 places_most [] = omega arith
-places_most (byte ∷ bytes) =
-    let half : (byte % 16) * 10 ^ length bytes ≤ 15 * 10 ^ length bytes = mul-le-mul_right (10 ^ length bytes) (omega arith) in
-    let power : 10 ^ suc (length bytes) ≡ 10 ^ length bytes * 10 = pow-suc 10 (length bytes) in
-    omega (arith, places_most bytes)
+places_most (byte ∷ bytes) = search (arith, mul-le-mul_right, pow-suc, places_most bytes)
 
 pub sum_most : (count len val : ℕ) → len ≤ count → 9 * low_value (low_bytes len val) + 15 ≤ 15 * 10 ^ count
 unfolding low_bytes

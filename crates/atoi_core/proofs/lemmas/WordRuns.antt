@@ -286,8 +286,7 @@ lowered_sum len word ones number sum few digits is = sum ∙ (lowered_value len 
 -- The bytes after the first z.
 bytes_after : (z k word : ℕ) → drop z (digits_l 256 (z + k) word) ≡ digits_l 256 k (word / 2 ^ (z * 8))
 bytes_after zero k word = cc (zero-add k, div-one word)
-bytes_after (suc z) k word =
-    rw (suc-add z k, byte_more z) (bytes_after z k (word / 256) ∙ ap (digits_l 256 k) (div-div-eq-div-mul word 256 (2 ^ (z * 8))))
+bytes_after (suc z) k word = search (arith, suc-add, byte_more, bytes_after z k (word / 256), div-div-eq-div-mul)
 
 -- A mask may come before the lowest j bits are cleared.
 cleared : (x mask j : ℕ) → bit_and x mask / 2 ^ j * 2 ^ j ≡ bit_and (x / 2 ^ j * 2 ^ j) mask

@@ -13,7 +13,7 @@ use Rattle.atoi_core.specs.Run.{run_len, zeros, value}
 use Rattle.atoi_core.specs.Reading.{window_of}
 use Rattle.atoi_core.specs.declared.engine.window.Window.{Window}
 use Rattle.atoi_core.proofs.lemmas.Runs.{prefix_len-take, prefix_len-drop, prefix_len-replicate_append, value-take-add}
-use Rattle.atoi_core.proofs.lemmas.LoadedWords.{word_start, words_joined, fits_after, loaded_bytes, loaded_run, loaded_part, loaded_sum, loaded_zeros}
+use Rattle.atoi_core.proofs.lemmas.LoadedWords.{word_start, words_joined, fits_after, loaded_bytes, loaded_run, loaded_part, loaded_zeros}
 
 -- ---- Windows read by words
 
@@ -35,7 +35,7 @@ loaded_window s fits word w is len_is zeroes_are number_is =
     window_from 8 s w.len w.zeroes w.number
     (len_is ∙ loaded_run 8 s fits word is)
     (rw (loaded_zeros 8 s fits word is) at zeroes_are)
-    (number_is ∙ loaded_sum 8 s fits word is w.len len_is)
+    (number_is ∙ loaded_part 8 s fits word is w.len (omega arith))
 
 -- The window of 16 bytes in which the run ends.
 pub window_ended : (s : List ℕ) (len number : ℕ) → len ≡ run_len decimal_table s → len < 16 → number ≡ value decimal_table (take len s)
@@ -56,7 +56,7 @@ module _ (s : List ℕ) (fits : (i : ℕ) → get_or s i 0 < 256) (first : ℕ) 
   pub window_short : (len number : ℕ) → len ≡ run_len decimal_table (low_bytes 8 first) → len < 8 → number ≡ low_value (low_bytes len first)
       → ◌≡◌ {A = Window} (record { len = len; zeroes = 0; number = number }) (window_of decimal_table 16 s)
   window_short len number len_is short number_is =
-      window_ended s len number (omega (arith, first_run)) (omega (arith, first_run)) (number_is ∙ loaded_sum 8 s fits first first_is len len_is)
+      window_ended s len number (omega (arith, first_run)) (omega (arith, first_run)) (number_is ∙ loaded_part 8 s fits first first_is len (omega arith))
 
   pub enough_bytes : 8 ≤ run_len decimal_table (low_bytes 8 first) → 8 ≤ length s
   enough_bytes full = omega (arith, first_run, prefix_len-le-length (is_digit decimal_table) s)
@@ -92,7 +92,7 @@ module _ (s : List ℕ) (fits : (i : ℕ) → get_or s i 0 < 256) (first : ℕ) 
         let leading_zeros : leading ≡ (if more == 8 then zeros decimal_table (take 16 s) else 0) = grind (arith, nat_tests, zeros_are) in
         let parts = value-take-add decimal_table 8 more s (omega (arith, run_is)) in
         two_words leading (high * 10 ^ more + low) leading_zeros
-        (rw (high_is, low_is, loaded_part 8 s fits first first_is 8 full, loaded_sum 8 (drop 8 s) (fits_after s fits) next next_is more more_is) (sym parts))
+        (rw (high_is, low_is, loaded_part 8 s fits first first_is 8 full, loaded_part 8 (drop 8 s) (fits_after s fits) next next_is more (omega arith)) (sym parts))
 
     -- or from the word of all sixteen bytes.
     pub window_of_16 : first < 2 ^ 64 → next < 2 ^ 64 → (leading number : ℕ) → let both = bit_or (next * 2 ^ 64 % 2 ^ 128) first in
