@@ -1,11 +1,9 @@
 -- The texts of errors: their numbers, and that they are ASCII.
 use Rattle.std.proofs.Common.{◌≡◌, refl, ℕ, ◌+◌, List, ◌++◌, ◌<◌, ◌≤◌, true, length, arith, ◌/◌, ◌%◌, ◌^◌, [], ◌∷◌, decimal, length-append, inl, inr, suc, codes, get_or, IsAscii, rules, append_assoc, ap, sym}
-use Rattle.atoi_core.specs.Refusal.{size, overflow, invalid64, invalid128}
 use Rattle.std.proofs.lemmas.Bool.{cases_lt}
-use Rattle.atoi_core.specs.Run.{value}
 use Rattle.std.specs.Fmt.{digit_glyph}
 use Rattle.std.proofs.lemmas.Fmt.{decimal_digit, decimal_step_wide, length-decimal-le_wide, IsAscii-decimal_wide, hex_one_digit, hex_two_digits}
-use Rattle.atoi_core.specs.ErrorText.{hex_text, hex_list, input_text, error_text}
+use Rattle.atoi_core.specs.ErrorText.{hex_text, hex_list}
 use Rattle.std.specs.List.{list_all, flat_map, slice_index}
 use Rattle.std.specs.Char.{is_ascii}
 use Rattle.std.proofs.lemmas.Bool.Decides.{nat_tests}

@@ -1,7 +1,5 @@
 -- Errors: their order, and their slices.
-use Rattle.std.proofs.Common.{arith, ◌≡◌, ◌↔◌, refl, ℕ, ◌+◌, Bool, List, ◌++◌, take, drop, Some, Result, Ok, Err, ℤ, sym, ap, ◌∙◌, take-append-drop, drop-drop, Option}
-use Rattle.std.specs.declared.cmp.Ordering.{Ordering}
-use Rattle.std.specs.declared.cmp.Ordering.TheVariants.{Equal}
+use Rattle.std.proofs.Common.{arith, ◌≡◌, ◌↔◌, refl, ℕ, ◌+◌, Bool, List, take, drop, Some, Result, Ok, Err, ℤ, sym, ap, ◌∙◌, take-append-drop, drop-drop, Ordering, Equal}
 use Rattle.std.specs.Ordering.{nat_cmp, ordering_then}
 use Rattle.std.specs.Cmp.Lexicographic.{slice_cmp}
 use Rattle.std.specs.Cmp.{IsTotalOrder}
@@ -11,10 +9,9 @@ use Rattle.atoi_core.specs.Refusal.{Refusal, empty, size, overflow, invalid64, i
 use Rattle.atoi_core.specs.Digit.{decimal_table}
 use Rattle.atoi_core.specs.Magnitude.{whole, prefix, Extent}
 use Rattle.atoi_core.specs.IntType.{IntType, class_of, bound_of, limit_of}
-use Rattle.atoi_core.specs.Sign.{with_sign}
-use Rattle.atoi_core.specs.Answer.{prefix_answer, with_more}
+use Rattle.atoi_core.specs.Answer.{with_more}
 use Rattle.atoi_core.specs.Laws.{SignForm, sign_in, whole_call, prefix_call, IsSuffix, OrderAndSuffix}
-use Rattle.atoi_core.proofs.lemmas.Calls.{drop-taken, counted_number, map_unless_err, whole_call-is, prefix_call-is}
+use Rattle.atoi_core.proofs.lemmas.Calls.{drop-taken, map_unless_err, whole_call-is, prefix_call-is}
 use Rattle.atoi_core.proofs.lemmas.Refusals.{refused, refusal-input}
 
 -- ---- The order of errors

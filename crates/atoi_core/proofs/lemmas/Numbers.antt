@@ -1,17 +1,15 @@
 -- What follows a number, and what an error says about digits.
-use Rattle.std.proofs.Common.{◌≡◌, ◌≢◌, ◌↔◌, ℕ, eqb, eqb-true, ltb-true, ◌<◌, Bool, true, false, IsFalse, List, [], ◌∷◌, ◌++◌, length, drop, get_or, get_or-drop, length-drop, Err, ℤ, refl, sym, ap, ◌∙◌, arith, inl, inr}
+use Rattle.std.proofs.Common.{◌≡◌, ◌≢◌, ◌↔◌, ℕ, eqb, eqb-true, ltb-true, ◌<◌, Bool, true, false, IsFalse, List, [], ◌∷◌, ◌++◌, length, drop, refl, sym, ap, ◌∙◌, arith, take-append-drop}
 use Rattle.std.proofs.lemmas.Bool.{cases_lt, cases_Bool, eqb-false}
-use Rattle.std.proofs.lemmas.List.{take-append-drop}
 use Rattle.std.proofs.lemmas.List.Prefix.{front_rest}
 use Rattle.std.proofs.lemmas.List.Sums.{prefix_len-le-length, prefix_len_stops}
-use Rattle.std.specs.Str.Parse.{AllDigits}
 use Rattle.atoi_core.specs.Digit.{decimal_table, is_digit}
 use Rattle.atoi_core.specs.Run.{run_len, run, value}
-use Rattle.atoi_core.specs.Refusal.{Refusal, empty}
+use Rattle.atoi_core.specs.Refusal.{empty}
 use Rattle.atoi_core.specs.Magnitude.{prefix, is_above}
 use Rattle.atoi_core.specs.IntType.{IntType, IsSized, class_of, bound_of, limit_of}
-use Rattle.atoi_core.specs.Laws.{SignForm, sign_in, prefix_call, Writes, NumberThenByte, OneNumber, PrefixBegins, NoneOrTooLarge}
-use Rattle.atoi_core.specs.Text.{BeginsWithDigit, PrefixWrites, IsNumberThen, IsTooLarge}
+use Rattle.atoi_core.specs.Laws.{sign_in, NumberThenByte, OneNumber, PrefixBegins, NoneOrTooLarge}
+use Rattle.atoi_core.specs.Text.{BeginsWithDigit}
 use Rattle.atoi_core.proofs.lemmas.Calls.{digit_in_range, found_prefix}
 use Rattle.atoi_core.proofs.lemmas.Refusals.{limit_at, significant_len, refusal-cases}
 use Rattle.atoi_core.proofs.lemmas.Bounds.{limit_of_prefix, in_range_short}

@@ -1,15 +1,14 @@
 -- Bytes after the run, and zeros before it, do not change the outcome.
-use Rattle.std.proofs.Common.{◌≡◌, ℕ, ◌+◌, ◌-◌, ◌<◌, Bool, true, not, if◌then◌else◌, eqb, List, ◌++◌, length, take, replicate, Option, Some, None, Result, ℤ, option_map, refl, sym, ap, ◌∙◌, subst₂, arith, take_at, drop_at, length-append, ne_eqb}
+use Rattle.std.proofs.Common.{◌≡◌, ℕ, ◌+◌, ◌-◌, ◌<◌, Bool, true, if◌then◌else◌, eqb, List, ◌++◌, length, take, replicate, Option, Some, None, option_map, refl, ap, arith, take_at, drop_at, length-append, ne_eqb, take-add}
 use Rattle.std.proofs.lemmas.List.{length-replicate}
 use Rattle.std.proofs.lemmas.Bool.Decides.{nat_tests}
-use Rattle.std.proofs.Math.Seq.{take-add}
-use Rattle.atoi_core.specs.Digit.{decimal_table, is_digit, is_zero}
+use Rattle.atoi_core.specs.Digit.{decimal_table, is_zero}
 use Rattle.atoi_core.specs.Run.{run_len, run, zeros, value}
 use Rattle.atoi_core.specs.Refusal.{Refusal, rank}
 use Rattle.atoi_core.specs.Magnitude.{Extent, whole, prefix, leaves_rest, refusal, unless_refused}
 use Rattle.atoi_core.specs.IntType.{IntType, class_of, bound_of, limit_of}
 use Rattle.atoi_core.specs.Sign.{Sign, with_sign}
-use Rattle.atoi_core.specs.Answer.{map_answer, whole_answer, prefix_answer, with_more}
+use Rattle.atoi_core.specs.Answer.{map_answer, prefix_answer, with_more}
 use Rattle.atoi_core.specs.Laws.{SignForm, sign_in, with_zeros, zero_byte, HaveSameOutcome, RestChangesNothing, ZerosChangeNothing}
 use Rattle.atoi_core.proofs.lemmas.Runs.{length-run, zeros-run, value-replicate, prefix_len-replicate_append}
 use Rattle.atoi_core.proofs.lemmas.Calls.{sign_again, whole_call-is, prefix_call-is, counted_number, with_more-zero}

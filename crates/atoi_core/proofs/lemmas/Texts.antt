@@ -1,23 +1,22 @@
 -- Texts of numbers: std's digits, the accepted texts, and `decimal`. Numbers are below 10^64.
-use Rattle.std.proofs.Common.{◌≡◌, ℕ, suc, ◌+◌, ◌-◌, ◌^◌, ◌<◌, ◌≤◌, Bool, true, false, cond, eqb, List, [], ◌∷◌, length, decimal, Ok, ℤ, pos, negsuc, neg_ℤ, ◌≤ℤ◌, refl, sym, ap, ◌∙◌, arith, inl, inr, add-one, leb→le, le-leb, lt_of_le_of_lt, Some, All, IsTrue, ◌++◌, eqb-true, ◌≢◌, zero, ◌*◌, ◌/◌, ◌%◌, get_or, append_assoc, append-nil, length-append}
+use Rattle.std.proofs.Common.{◌≡◌, ℕ, suc, ◌+◌, ◌-◌, ◌^◌, ◌<◌, ◌≤◌, Bool, true, false, cond, eqb, List, [], ◌∷◌, length, decimal, Ok, ℤ, pos, negsuc, neg_ℤ, ◌≤ℤ◌, refl, sym, ap, ◌∙◌, arith, add-one, leb→le, le-leb, lt_of_le_of_lt, Some, All, IsTrue, ◌++◌, eqb-true, ◌≢◌, zero, ◌*◌, ◌/◌, ◌%◌, get_or, append_assoc, append-nil, length-append, IsFalse}
 use Rattle.std.specs.Fmt.{signed_decimal}
 use Rattle.std.specs.Str.Parse.{AllDigits, IsNumeral, digits_value, digits_value_after}
 use Rattle.std.proofs.lemmas.Str.Parse.{IsNumeralModel, numerals_by_weight, tells_digits, digit_from_value}
 use Rattle.std.proofs.lemmas.Fmt.{decimal_is_IsNumeral_wide, length-decimal-le_wide, decimal_digit, decimal_step_wide, decimal_by_steps_wide}
 use Rattle.atoi_core.specs.Digit.{decimal_table, digit_value, is_digit}
-use Rattle.atoi_core.specs.Run.{run_len, run, value}
+use Rattle.atoi_core.specs.Run.{run_len, value}
 use Rattle.atoi_core.specs.Magnitude.{whole, is_above}
 use Rattle.atoi_core.specs.IntType.{IntType, IsSized, class_of, bound_of, limit_of}
-use Rattle.atoi_core.specs.Sign.{Sign, sign_of, with_sign, plus_sign, minus_sign}
+use Rattle.atoi_core.specs.Sign.{sign_of, with_sign, plus_sign, minus_sign}
 use Rattle.atoi_core.specs.Answer.{whole_answer, parse_answer}
 use Rattle.atoi_core.specs.Laws.{least_of, TextOfValue, SignForm, looked_for, given, whole_call, Writes, DecimalTexts}
 use Rattle.atoi_core.proofs.lemmas.Runs.{run_all, digits_all}
 use Rattle.atoi_core.proofs.lemmas.Calls.{sign_of_digits, digit_in_range, sign_cases, from_whole, to_whole}
-use Rattle.atoi_core.proofs.lemmas.Refusals.{limit_at, significant_len}
+use Rattle.atoi_core.proofs.lemmas.Refusals.{limit_at}
 use Rattle.atoi_core.proofs.lemmas.Bounds.{shorter, limit-least, short_enough, limit_of_whole, bound-limit, bound_below-64}
 use Rattle.std.proofs.lemmas.Bool.{and_parts, ne_eqb, eqb-false}
 use Rattle.atoi_core.specs.Text.{SignMark, no_sign, plus, minus, sign_bytes, is_minus, is_plus, DigitsWrite, TextWrites, BeginsWithDigit, has_needless_zero}
-use Rattle.std.specs.Prelude.{IsFalse}
 use Rattle.std.proofs.Math.ListN.{get_or-append}
 use Rattle.std.specs.Char.{digit_value as std_digit_value}
 use Rattle.std.proofs.lemmas.Str.{digit_value_digit}

@@ -1,6 +1,5 @@
 -- Each byte so far takes at most four, with comma and space.
-use Rattle.std.proofs.Common.{◌≡◌, ◌+◌, ◌*◌, ◌≤◌, ◌++◌, take, codes}
-use Rattle.std.specs.List.{flat_map}
+use Rattle.std.proofs.Common.{◌≡◌, ◌+◌, ◌*◌, ◌≤◌, ◌++◌, take, codes, flat_map}
 use Rattle.atoi_core.specs.ErrorText.{hex_text}
 use Rattle.atoi_core.proofs.text.put_hex_list.Given as goal
 
