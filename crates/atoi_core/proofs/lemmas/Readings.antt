@@ -40,21 +40,14 @@ join_readings {table} {count} {more} {s} {leading} {digits = digits} first_windo
     let b = uncut_of back in
     let rest : run_len table s ≡ count + run_len table (drop count s) = prefix_len-drop (is_digit table) count s (omega (arith, a.digits_are)) in
     let within : count + digits ≤ length s = omega (arith, a.digits_are, b.digits_are, prefix_len-le-length (is_digit table) s) in
-    reading_of (record {
-      digits_are = omega (arith, a.digits_are, b.digits_are);
-      leading_are = rw b.leading_are (leading_both count more leading _ _ a.leading_are (prefix_len-drop (is_zero table) count s));
-      number_is = rw (a.number_is, b.number_is) (sym (value-take-add table count digits s within));
-    })
+    let leading_is = prefix_len-drop (is_zero table) count s in
+    reading_of (search (arith, leading_both, value-take-add, leading_is))
 
 module _ {table : Table} {count : ℕ} {s : List ℕ} {digits leading number : ℕ} (reading : Reading table count s digits leading number) where
   pub widened : {more : ℕ} → digits < count → count ≤ more → Reading table more s digits leading number
   widened ends longer =
       let uncut = uncut_of reading in
-      reading_of (record {
-        digits_are = omega (arith, uncut.digits_are);
-        leading_are = omega (arith, uncut.digits_are, uncut.leading_are, zeros-le table s);
-        number_is = uncut.number_is;
-      })
+      reading_of (search (arith, zeros-le))
 
   pub within : (leading ≤ digits) × (digits ≤ min count (length s))
   within = search (arith, prefix_len-le-length, zeros-le, length-take)
@@ -64,8 +57,7 @@ module _ {table : Table} {count : ℕ} {s : List ℕ} {digits leading number : �
 
 first_refusal : {A : Type 0} (a b c : Bool) (p q r : Refusal) (v : A)
     → unless_refused (cond a (Some p) (cond b (Some q) (cond c (Some r) None))) v ≡ cond a (Err p) (cond b (Err q) (cond c (Err r) (Ok v)))
-first_refusal false false false p q r v = refl
-first_refusal a b c p q r v = refl
+first_refusal a b c p q r v = grind (arith, nat_tests)
 
 by_all_digits : (table : Table) (class : Class) (bound limit : ℕ) (skip : Bool) (s : List ℕ) (skipped significant : ℕ) → limit < cap class
     → skipped_zeros table skip s ≡ skipped → run_len table s ≡ skipped + significant
@@ -77,22 +69,11 @@ by_all_digits table class bound limit skip s skipped significant less zeros_are 
     rw (refusal-is table class bound limit prefix skip s, zeros_are, total, others)
     (first_refusal (eqb (skipped + significant) 0) (ltb limit significant) _ empty too_long (overflow (drop skipped s)) _)
 
-by_many_digits : (class : Class) (bound limit skipped significant number : ℕ) (s : List ℕ) → limit < cap class → cap class ≤ significant
-    → answer_by_digits class bound limit skipped significant number s ≡ Err (size (skipped + cap class) (drop skipped s))
-by_many_digits class bound limit skipped significant number s less many = search (arith, ne_eqb, lt-ltb)
-
-skipped_is : (skip : Bool) (z offset digits leading : ℕ) → leading ≤ digits → (skip ≡ false → offset ≡ 0) → (skip ≡ true → z ≡ offset + leading)
-    → cond skip z 0 ≡ offset + (digits - significant_digits skip digits leading)
-skipped_is skip z offset digits leading most asked zeros_are = grind (arith, nat_tests)
-
 counting_most : (skip : Bool) (digits leading : ℕ) → significant_digits skip digits leading ≤ digits
 counting_most skip digits leading = grind (arith, nat_tests)
 
 pub below_bound : (limit bound digits number : ℕ) → HasDigits limit bound → digits < limit → number < 10 ^ digits → number < bound
 below_bound limit bound digits number bounds few small = search (arith, pow-le-pow_right)
-
-all_count : (skip : Bool) (digits leading : ℕ) → (skip ≡ true → leading ≡ 0) → significant_digits skip digits leading ≡ digits
-all_count skip digits leading none = grind (arith, nat_tests)
 
 module _ {table : Table} (class : Class) (bound limit : ℕ) (less : limit < cap class) where
   pub decided : {skip : Bool} {s : List ℕ} {offset count digits leading number : ℕ} → IsSkipped table skip s offset
@@ -116,17 +97,15 @@ module _ {table : Table} (class : Class) (bound limit : ℕ) (less : limit < cap
       ] in
       let front : ℕ = offset + (digits - significant) in
       let few : leading ≤ digits = omega (arith, uncut.digits_are, uncut.leading_are) in
-      let skipped_are : skipped_zeros table skip s ≡ front = skipped_is skip (zeros table s) offset digits leading few skipped.asked all_zeros in
+      let skipped_are : skipped_zeros table skip s ≡ front = grind (arith, nat_tests, skipped.asked, all_zeros) in
       elim enough [
         | inl ends ↦
             let all : run_len table body ≡ digits = omega (arith, uncut.digits_are) in
             let number_is : value table (run table s) ≡ number = cc (value-drop_zeros table offset s skipped.zeros_only, all, uncut.number_is) in
             rw (← number_is) (by_all_digits table class bound limit skip s front significant less skipped_are (omega arith))
         | inr many ↦
-            let rest : ℕ = run_len table s - front in
-            by_all_digits table class bound limit skip s front rest less skipped_are (omega (arith, uncut.digits_are))
-            ∙ by_many_digits class bound limit front rest (value table (run table s)) s less (omega (arith, uncut.digits_are))
-            ∙ sym (by_many_digits class bound limit front significant number s less many)
+            by_all_digits table class bound limit skip s front (run_len table s - front) less skipped_are (omega (arith, uncut.digits_are))
+            ∙ search (arith, uncut.digits_are, ne_eqb, lt-ltb)
       ]
 
   -- Fewer digits than the limit spell a number within the bound.
@@ -147,7 +126,7 @@ module _ {table : Table} (class : Class) (bound limit : ℕ) (less : limit < cap
       → Reading table (cap class) (drop offset s) digits leading number → (skip ≡ true → leading ≡ 0)
       → prefix_magnitude table class bound limit skip s ≡ answer_by_digits class bound limit offset digits number s
   all_decide {skip} {s} {offset} {digits} {leading} {number} skipped reading none =
-      let significant : significant_digits skip digits leading ≡ digits = all_count skip digits leading none in
+      let significant : significant_digits skip digits leading ≡ digits = grind (arith, nat_tests) in
       let enough : (digits < cap class) ⊎ (cap class ≤ significant_digits skip digits leading) =
       elim (cases_lt digits (cap class)) [ inl h ↦ inl h | inr h ↦ inr (omega (arith, significant)) ] in
       let at : offset + (digits - significant_digits skip digits leading) ≡ offset = omega (arith, significant) in
