@@ -1,5 +1,6 @@
 -- Texts of numbers: std's digits, the accepted texts, and `decimal`. Numbers are below 10^64.
 use Rattle.std.proofs.Common.{◌≡◌, ℕ, suc, ◌+◌, ◌-◌, ◌^◌, ◌<◌, ◌≤◌, Bool, true, false, cond, eqb, List, [], ◌∷◌, length, decimal, Ok, ℤ, pos, negsuc, neg_ℤ, ◌≤ℤ◌, refl, sym, ap, ◌∙◌, arith, add-one, leb→le, le-leb, lt_of_le_of_lt, Some, All, IsTrue, ◌++◌, eqb-true, ◌≢◌, zero, ◌*◌, ◌/◌, ◌%◌, get_or, append_assoc, append-nil, length-append, IsFalse}
+use Rattle.std.proofs.lemmas.Bool.Decides.{nat_tests}
 use Rattle.std.specs.Fmt.{signed_decimal}
 use Rattle.std.specs.Str.Parse.{AllDigits, IsNumeral, digits_value, digits_value_after}
 use Rattle.std.proofs.lemmas.Str.Parse.{IsNumeralModel, numerals_by_weight, tells_digits, digit_from_value}
@@ -72,8 +73,7 @@ magnitude_text int sized is_negative skip n le =
 -- A signed type consumes a minus before digits.
 sign_of_minus : (signed takes_plus : Bool) (digits : List ℕ) → signed ≡ true
     → sign_of signed takes_plus (45 ∷ digits) ≡ record { minus = true; taken = 1; body = digits }
-sign_of_minus signed true digits h = rw h refl
-sign_of_minus signed false digits h = rw h refl
+sign_of_minus signed takes_plus digits h = grind (arith, nat_tests)
 
 -- A negative number in range has a signed type and a magnitude in range.
 negative_in_range : (signed : Bool) (greatest n : ℕ) → cond signed (neg_ℤ (pos (greatest + 1))) (pos 0) ≤ℤ negsuc n
@@ -122,8 +122,7 @@ pub sign_of_text : (signed takes_plus : Bool) (mark : SignMark) (digits : List �
     → sign_of signed takes_plus (sign_bytes mark ++ digits) ≡ record { minus = is_minus mark; taken = length (sign_bytes mark); body = digits }
 sign_of_text signed takes_plus no_sign digits h p some = sign_of_digits signed takes_plus digits some
 sign_of_text signed takes_plus plus digits h p some = rw (p refl) refl
-sign_of_text signed true minus digits h p some = rw (h refl) refl
-sign_of_text signed false minus digits h p some = rw (h refl) refl
+sign_of_text signed takes_plus minus digits h p some = sign_of_minus signed takes_plus digits (h refl)
 
 -- A body accepted as a whole is digits that write its number.
 digits_written : (int : IntType) (is_negative skip : Bool) (body : List ℕ) (number : ℤ)
@@ -133,7 +132,7 @@ digits_written int is_negative skip body number h =
     let is_run = run_all decimal_table body found.all in
     let digits = to_std body (digits_all decimal_table body found.all) in
     let same = own.same body digits in
-    record { numeral = (omega (arith, found.some, found.all), digits); in_range = rw (is_run, same) at found.in_range; value_is = rw (is_run, same) at found.number }
+    record { numeral = (omega arith, digits); in_range = rw (is_run, same) at found.in_range; value_is = rw (is_run, same) at found.number }
 
 -- What a whole call accepts writes its number.
 pub whole_written : (int : IntType) (form : SignForm) (skip : Bool) (s : List ℕ) (number : ℤ)
@@ -185,7 +184,7 @@ led n small = decimal_by_steps_wide IsLed (λ m low. (omega arith, λ above. ome
 no_needless : (digits : List ℕ) → 48 < get_or digits 0 0 → IsFalse (has_needless_zero digits)
 no_needless [] h = refl
 no_needless (digit ∷ []) h = refl
-no_needless (digit ∷ next ∷ more) h = ne_eqb digit 48 (λ same. omega arith)
+no_needless (digit ∷ next ∷ more) h = grind (arith, ne_eqb)
 
 -- `decimal n` has no needless zero.
 decimal_shortest : (n : ℕ) → n < 10 ^ 64 → IsFalse (has_needless_zero (decimal n))
@@ -224,11 +223,7 @@ decimal_of_digits (digit ∷ next ∷ more) numeral shortest small =
     ∙ ap (λ text. text ++ (next ∷ more)) (decimal_digit (0 * 10 + std_digit_value digit) (omega (arith, numeral.1.0)) ∙ ap (λ byte. byte ∷ []) same))
 
 with_sign-injective : (is_negative : Bool) (m n : ℕ) → with_sign is_negative m ≡ with_sign is_negative n → m ≡ n
-with_sign-injective true zero zero h = refl
-with_sign-injective true zero (suc n) h = absurd (cc)
-with_sign-injective true (suc m) zero h = absurd (cc)
-with_sign-injective true (suc m) (suc n) h = cc
-with_sign-injective false m n h = cc
+with_sign-injective is_negative m n h = grind arith
 
 -- So are those that write a number of magnitude n.
 decimal_only : (int : IntType) → IsSized int → (is_negative : Bool) (digits : List ℕ) (n : ℕ)
@@ -245,8 +240,7 @@ signed_writes int sized takes_plus (negsuc n) low high =
 
 -- The text of a negative number is a minus and its magnitude's text.
 minus_text : (x : ℤ) (n : ℕ) → x ≢ pos 0 → x ≡ neg_ℤ (pos n) → 45 ∷ decimal n ≡ signed_decimal x
-minus_text x zero some is = absurd (some is)
-minus_text x (suc n) some is = rw is refl
+minus_text x n some is = grind arith
 
 -- A text without plus, needless zero or minus zero is `signed_decimal`.
 signed_only : (int : IntType) → IsSized int → (s : List ℕ) (x : ℤ) (text : TextWrites int false s x)
