@@ -44,27 +44,14 @@ prefix_is_whole int = record {
   whole = λ form skip s v h.
       let found = found_prefix int form skip s v (length s) h in
       let g = sign_in int form s in
-      whole_call-is int form skip s ∙ to_whole int g.minus skip g.body v (record {
-        some = found.is_prefix.some;
-        short = long_as_whole (class_of int) skip (limit_of int) (significant_len decimal_table skip g.body) found.is_prefix.short;
-        in_range = found.is_prefix.in_range;
-        all = omega (arith, found.count_is, length-taken int form s);
-        number = found.number;
-      });
+      let parts = length-taken int form s in
+      whole_call-is int form skip s ∙ to_whole int g.minus skip g.body v (search (arith, long_as_whole));
   back = λ form skip s v limit h.
       let g = sign_in int form s in
       let found = from_whole int g.minus skip g.body v (sym (whole_call-is int form skip s) ∙ h) in
-      ok_prefix int form skip s v (length s) (record {
-        is_prefix = record { some = found.some; short = rw (limit_of_prefix int skip (limit_of int) limit) found.short; in_range = found.in_range; ends = refl };
-        number = found.number;
-        count_is = omega (arith, found.all, length-taken int form s);
-      });
+      let parts = length-taken int form s in
+      ok_prefix int form skip s v (length s) (search (arith, limit_of_prefix));
 }
-
--- A number at the start of a body is in its run too.
-found_again : (int : IntType) (g : Sign) (skip : Bool) (v : ℤ) (count : ℕ) → IsFound int g skip v count
-    → IsFound int (record g { body = run decimal_table g.body }) skip v count
-found_again int g skip v count h = search (arith, run_len-run, run_all, length-run, zeros-run)
 
 -- The law `PrefixOfCut`.
 pub prefix_of_cut : (int : IntType) → PrefixOfCut int
@@ -83,7 +70,7 @@ prefix_of_cut int = record {
       in (
         omega (arith, found.count_is, found.is_prefix.some),
         omega (arith, found.count_is),
-        ok_prefix int form skip (take count s) v count (rw again (found_again int g skip v count found)),
+        ok_prefix int form skip (take count s) v count (rw again (search (arith, run_len-run, run_all, length-run, zeros-run))),
       );
 }
 
@@ -117,34 +104,6 @@ prefix_found : (int : IntType) → IsSized int → (is_negative : Bool) (taken :
 prefix_found int sized is_negative taken digits rest number written ends =
     search (arith, own, run_len_before, run_before, limit_of_prefix, in_range_short)
 
--- Digits that write a number, and no digit after them: the number is found.
-found_digits : (int : IntType) → IsSized int → (is_negative : Bool) (s : List ℕ) (number : ℤ) (count : ℕ)
-    → PrefixWrites (DigitsWrite int is_negative) s number count → IsFound int (record { minus = is_negative; taken = 0; body = s }) true number count
-found_digits int sized is_negative s number count h =
-    let len : length (take count s) + 0 ≡ count = omega (arith, length-take-le count s h.within) in
-    rw (take-append-drop count s, len) at (prefix_found int sized is_negative 0 (take count s) (drop count s) number h.written h.ends)
-
--- The same with an optional sign.
-found_text : (int : IntType) → IsSized int → (takes_plus : Bool) (s : List ℕ) (number : ℤ) (count : ℕ)
-    → PrefixWrites (TextWrites int takes_plus) s number count → IsFound int (sign_of int.signed takes_plus s) true number count
-found_text int sized takes_plus s number count h =
-    let text = h.written in
-    let rest = drop count s in
-    let parts : s ≡ sign_bytes text.sign ++ (text.digits ++ rest) =
-    sym (take-append-drop count s) ∙ ap (λ prefix_bytes. prefix_bytes ++ rest) text.parts ∙ append_assoc (sign_bytes text.sign) text.digits rest
-    in
-    let some : 0 < run_len decimal_table (text.digits ++ rest) =
-    omega (arith, run_len_before text.digits rest text.written.numeral.1 h.ends, text.written.numeral.0)
-    in
-    let sign_is =
-    ap (sign_of int.signed takes_plus) parts
-    ∙ sign_of_text int.signed takes_plus text.sign (text.digits ++ rest) text.signed text.plus_taken some in
-    let len : length text.digits + length (sign_bytes text.sign) ≡ count =
-    omega (arith, length-take-le count s h.within, simp length-append at (ap length text.parts))
-    in
-    subst (λ (g : Sign). IsFound int g true number count) (sym sign_is)
-    (rw len at (prefix_found int sized (is_minus text.sign) (length (sign_bytes text.sign)) text.digits rest number text.written h.ends))
-
 prefix_written : (int : IntType) (form : SignForm) (skip : Bool) (s : List ℕ) (number : ℤ) (count : ℕ)
     → prefix_call int form skip s ≡ Ok (number, count) → PrefixWrites (Writes int form) s number count
 prefix_written int form skip s number count h =
@@ -159,9 +118,27 @@ prefix_written int form skip s number count h =
 
 prefix_accepted : (int : IntType) → IsSized int → (form : SignForm) (s : List ℕ) (number : ℤ) (count : ℕ)
     → PrefixWrites (Writes int form) s number count → prefix_call int form true s ≡ Ok (number, count)
-prefix_accepted int sized (looked_for plus) s number count h = ok_prefix int (looked_for plus) true s number count (found_text int sized plus s number count h)
 prefix_accepted int sized (given is_negative) s number count h =
-    ok_prefix int (given is_negative) true s number count (found_digits int sized is_negative s number count h)
+    let len : length (take count s) + 0 ≡ count = omega (arith, length-take-le count s h.within) in
+    ok_prefix int (given is_negative) true s number count
+    (rw (take-append-drop count s, len) at (prefix_found int sized is_negative 0 (take count s) (drop count s) number h.written h.ends))
+prefix_accepted int sized (looked_for takes_plus) s number count h =
+    let text = h.written in
+    let rest = drop count s in
+    let parts : s ≡ sign_bytes text.sign ++ (text.digits ++ rest) =
+    sym (take-append-drop count s) ∙ ap (λ prefix_bytes. prefix_bytes ++ rest) text.parts ∙ append_assoc (sign_bytes text.sign) text.digits rest
+    in
+    let some : 0 < run_len decimal_table (text.digits ++ rest) =
+    omega (arith, run_len_before text.digits rest text.written.numeral.1 h.ends, text.written.numeral.0)
+    in
+    let sign_is =
+    ap (sign_of int.signed takes_plus) parts
+    ∙ sign_of_text int.signed takes_plus text.sign (text.digits ++ rest) text.signed text.plus_taken some in
+    let len : length text.digits + length (sign_bytes text.sign) ≡ count =
+    omega (arith, length-take-le count s h.within, simp length-append at (ap length text.parts))
+    in
+    ok_prefix int (looked_for takes_plus) true s number count
+    (rw sign_is (rw len at (prefix_found int sized (is_minus text.sign) (length (sign_bytes text.sign)) text.digits rest number text.written h.ends)))
 
 -- Bytes that write a number are not empty.
 some : (int : IntType) (form : SignForm) (prefix_bytes : List ℕ) (number : ℤ) → Writes int form prefix_bytes number → 0 < length prefix_bytes
