@@ -1,10 +1,12 @@
 -- When windows of 32 bytes decide, and how many loads that takes.
-use Rattle.std.proofs.Common.{◌≡◌, ℕ, ◌+◌, ◌<◌, Bool, true, false, cond, Ok, Err, List, length, take, refl, sym, ap, ◌∙◌, arith, ◌-◌, ◌≤◌, drop, ◌⊎◌, ◌*◌, min, inl, inr, ◌^◌, eqb, subst, lit<}
-use Rattle.std.proofs.lemmas.List.{drop-drop, length-drop, take-take, take_all, take_rest}
+use Rattle.std.proofs.Common.{◌≡◌, ℕ, ◌+◌, ◌<◌, Bool, true, false, cond, Ok, Err, List, get_or, length, take, refl, sym, ap, ◌∙◌, arith, ◌-◌, ◌≤◌, drop, ◌⊎◌, ◌*◌, min, inl, inr, ◌^◌, eqb, subst, lit<}
+use Rattle.std.proofs.lemmas.List.{drop-drop, get_or-drop, length-drop, take-take, take_all, take_rest}
 use Rattle.atoi_core.specs.Digit.{decimal_table, is_digit}
 use Rattle.atoi_core.specs.Loads.{LoadsWithin}
 use Rattle.atoi_core.specs.Reading.{Reading, IsSkipped, answer_by_digits, window_of}
-use Rattle.atoi_core.proofs.lemmas.Runs.{decimal_below_ten, prefix_len-take}
+use Rattle.atoi_core.proofs.lemmas.LoadedWords.{loaded_run}
+use Rattle.atoi_core.proofs.lemmas.Runs.{decimal_below_ten, prefix_len-drop, prefix_len-take}
+use Rattle.atoi_core.specs.Words.{low_bytes, word_of}
 use Rattle.atoi_core.proofs.lemmas.Readings.{zeros_left, join_readings, within, below, below_bound, decided, all_decide, short}
 use Rattle.atoi_core.specs.Run.{run_len, run, value, zeros}
 use Rattle.atoi_core.specs.declared.engine.window.Window.{Window}
@@ -75,6 +77,14 @@ by_digits bound limit s len number few len_is number_is =
       below reading decimal_below_ten,
       sym (all_decide wide64 bound limit (omega arith) (start false s) reading (λ on. absurd (cc on))),
     )
+
+-- The word of bytes after digits has the digits that follow.
+pub counted_after : (width at : ℕ) (s : List ℕ) (word : ℕ) → ((i : ℕ) → get_or s i 0 < 256) → at ≤ run_len decimal_table s → word ≡ word_of (take width (drop at s))
+    → run_len decimal_table (low_bytes width word) ≡ min width (run_len decimal_table s - at)
+counted_after width at s word fits full loaded =
+    let rest : (i : ℕ) → get_or (drop at s) i 0 < 256 = λ i. rw get_or-drop (fits (at + i)) in
+    let digit = is_digit decimal_table in
+    omega (arith, loaded_run width (drop at s) rest word loaded, prefix_len-take digit width (drop at s), prefix_len-drop digit at s full)
 
 -- Sixteen digits are fewer than the limit.
 pub ended_at_16 : (bound limit : ℕ) (s : List ℕ) (high : ℕ) → 17 ≤ limit → limit ≤ 20 → HasDigits limit bound → run_len decimal_table s ≡ 16

@@ -1,77 +1,64 @@
 -- The word of the four bytes after 16 has their digits.
-use Rattle.std.proofs.Common.{◌≡◌, ℕ, ◌+◌, ◌*◌, ◌^◌, ◌≤◌, List, length, min, take, drop, get_or, ◌<◌, sym, ◌∙◌, arith}
+use Rattle.std.proofs.Common.{◌≡◌, ℕ, ◌+◌, ◌-◌, ◌*◌, ◌^◌, ◌≤◌, List, length, min, take, drop, ◌<◌, sym, ◌∙◌, arith}
 use Rattle.std.proofs.Math.Nat.{pow-le-pow_right}
 use Rattle.std.proofs.lemmas.List.{get_or-drop}
 use Rattle.std.proofs.lemmas.List.Sums.{prefix_len-le-length}
 use Rattle.atoi_core.specs.Digit.{decimal_table, is_digit}
 use Rattle.atoi_core.specs.Run.{run_len, value}
 use Rattle.atoi_core.specs.Words.{low_bytes, low_value}
-use Rattle.atoi_core.proofs.lemmas.LoadedWords.{loaded_run, loaded_part}
-use Rattle.atoi_core.proofs.lemmas.Runs.{prefix_len-drop, prefix_len-take, value-take-add}
-use Rattle.atoi_lanes.proofs.lemmas.WideAnswers.{by_digits}
+use Rattle.atoi_core.proofs.lemmas.LoadedWords.{loaded_part}
+use Rattle.atoi_core.proofs.lemmas.Runs.{value-take-add}
+use Rattle.atoi_lanes.proofs.lemmas.WideAnswers.{by_digits, counted_after}
 use Rattle.atoi_lanes.proofs.after_16.answer_from_17.Goals as goal
 use Rattle.atoi_lanes.proofs.after_16.answer_from_17.Goals.{After-digits_of_four-more}
 
 -- How many digits follow the first 16, up to 4, and the number of all.
-following : (c : After-digits_of_four-more) → let s : List ℕ = c.args.s.now in let word : ℕ = c.args.word in
-    (run_len decimal_table s ≡ 16 + run_len decimal_table (drop 16 s))
-    × (run_len decimal_table (low_bytes 4 word) ≡ min 4 (run_len decimal_table (drop 16 s)))
-    × ((len low : ℕ) → len ≤ run_len decimal_table (low_bytes 4 word) → low ≡ low_value (low_bytes len word)
-    → c.args.high * 10 ^ len + low ≡ value decimal_table (take (16 + len) s))
+following : (c : After-digits_of_four-more) → let s : List ℕ = c.args.s.now in let more : ℕ = c.digits_of_four-more.result in
+    (more ≡ min 4 (run_len decimal_table s - 16))
+    × ((len low : ℕ) → len ≤ more → low ≡ low_value (low_bytes len c.args.word) → c.args.high * 10 ^ len + low ≡ value decimal_table (take (16 + len) s))
 following c =
     let s : List ℕ = c.args.s.now in
-    let rest : List ℕ = drop 16 s in
-    let fits : (i : ℕ) → get_or rest i 0 < 256 = λ i. rw get_or-drop ((c.type_inv.s (16 + i)).fits) in
-    let word : ℕ = c.args.word in
-    let full : 16 ≤ run_len decimal_table s = omega (arith, c.requires.full) in
-    let digits : run_len decimal_table s ≡ 16 + run_len decimal_table rest = prefix_len-drop (is_digit decimal_table) 16 s full in
-    let more : run_len decimal_table (low_bytes 4 word) ≡ min 4 (run_len decimal_table rest) =
-    loaded_run 4 rest fits word c.requires.loaded ∙ prefix_len-take (is_digit decimal_table) 4 rest in (
-      digits,
+    let r = c.requires in
+    let more = c.digits_of_four-more.ensures.len ∙ counted_after 4 16 s c.args.word (λ i. (c.type_inv.s i).fits) (omega (arith, r.full)) r.loaded in (
       more,
       λ len low few low_is.
-          let room : 16 + len ≤ length s = omega (arith, digits, more, prefix_len-le-length (is_digit decimal_table) s) in
-          rw (c.requires.number, low_is ∙ loaded_part 4 rest fits word c.requires.loaded len few)
+          let room : 16 + len ≤ length s = omega (arith, more, r.full, prefix_len-le-length (is_digit decimal_table) s) in
+          rw (r.number, low_is ∙ loaded_part 4 (drop 16 s) (λ i. rw get_or-drop ((c.type_inv.s (16 + i)).fits)) _ r.loaded len (omega (arith, few, c.digits_of_four-more.ensures.len)))
           (sym (value-take-add decimal_table 16 len s room)),
     )
 
 pub answer_from_20-requires-clause-full : goal.answer_from_20-requires-clause-full
-answer_from_20-requires-clause-full c =
-    let known = following (goal.at.answer_from_20-requires-clause-full c).After-digits_of_four-more in
-    omega (arith, known.0, known.1, c.digits_of_four-more.ensures.len, c.if-more-eq4.true)
+answer_from_20-requires-clause-full c = omega (arith, (following (goal.at.answer_from_20-requires-clause-full c).After-digits_of_four-more).0, c.if-more-eq4.true)
 
 pub answer_from_20-requires-clause-number : goal.answer_from_20-requires-clause-number
 answer_from_20-requires-clause-number c =
     c.append_digits-number.ensures
-    ∙ (following (goal.at.answer_from_20-requires-clause-number c).After-digits_of_four-more).2 4 c.from.result
-    (omega (arith, c.digits_of_four-more.ensures.len, c.if-more-eq4.true)) (c.from.ensures ∙ c.value_in_four.ensures)
+    ∙ (following (goal.at.answer_from_20-requires-clause-number c).After-digits_of_four-more).1 4 c.from.result (omega (arith, c.if-more-eq4.true)) (c.from.ensures ∙ c.value_in_four.ensures)
 
 pub value_in_four-requires-2-clause-some : goal.value_in_four-requires-2-clause-some
-value_in_four-requires-2-clause-some c =
-    let known = following (goal.at.value_in_four-requires-2-clause-some c).After-digits_of_four-more in
-    omega (arith, c.digits_of_four-more.ensures.len, known.0, known.1, c.requires.full)
+value_in_four-requires-2-clause-some c = omega (arith, (following (goal.at.value_in_four-requires-2-clause-some c).After-digits_of_four-more).0, c.requires.full)
 
 pub append_few-number-requires-clause-fits : goal.append_few-number-requires-clause-fits
 append_few-number-requires-clause-fits c =
     let more : ℕ = c.digits_of_four-more.result in
     let known = following (goal.at.append_few-number-requires-clause-fits c).After-digits_of_four-more in
-    let spelled = known.2 more c.from-2.result (omega (arith, c.digits_of_four-more.ensures.len)) (c.from-2.ensures ∙ c.value_in_four-2.ensures) in
+    let spelled = known.1 more c.from-2.result (omega arith) (c.from-2.ensures ∙ c.value_in_four-2.ensures) in
     let few : more < 4 = omega (arith, c.digits_of_four-more.ensures.most, c.if-more-eq4.false) in
-    let below = (by_digits c.args.bound c.args.limit c.args.s.now (16 + more) _ c.requires.limit_high (omega (arith, known.0, known.1, c.digits_of_four-more.ensures.len)) spelled).1 in
+    let below = (by_digits c.args.bound c.args.limit c.args.s.now (16 + more) _ c.requires.limit_high (omega (arith, known.0, few)) spelled).1 in
     let most : 10 ^ (16 + more) ≤ 10 ^ 19 = pow-le-pow_right {n = 10} (omega arith) {i = 16 + more} {j = 19} (omega arith) in
     omega (arith, below, most)
 
 pub answer_64-requires : goal.answer_64-requires
 answer_64-requires c =
     let known = following (goal.at.answer_64-requires c).After-digits_of_four-more in
-    record { inside = omega (arith, known.0, known.1, c.digits_of_four-more.ensures.len, prefix_len-le-length (is_digit decimal_table) c.args.s.now) }
+    record { inside = omega (arith, known.0, c.requires.full, prefix_len-le-length (is_digit decimal_table) c.args.s.now) }
 
 pub returns : goal.returns
 returns c =
     let more : ℕ = c.digits_of_four-more.result in
     let known = following (goal.at.returns c).After-digits_of_four-more in
-    let spelled = known.2 more c.from-2.result (omega (arith, c.digits_of_four-more.ensures.len)) (c.from-2.ensures ∙ c.value_in_four-2.ensures) in
+    let spelled = known.1 more c.from-2.result (omega arith) (c.from-2.ensures ∙ c.value_in_four-2.ensures) in
     let few : more < 4 = omega (arith, c.digits_of_four-more.ensures.most, c.if-more-eq4.false) in
     c.answer_64.ensures
-    ∙ (by_digits c.args.bound c.args.limit c.args.s.now (16 + more) c.from-3.result c.requires.limit_high (omega (arith, known.0, known.1, c.digits_of_four-more.ensures.len))
+    ∙ (by_digits c.args.bound c.args.limit c.args.s.now (16 + more) c.from-3.result c.requires.limit_high (omega (arith, known.0, few))
     (c.from-3.ensures ∙ c.append_few-number.ensures ∙ spelled)).2
