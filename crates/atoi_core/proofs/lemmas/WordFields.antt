@@ -28,6 +28,10 @@ abbrev twice : ℕ → ℕ
 twice zero = zero
 twice (suc m) = suc (suc (twice m))
 
+-- A round, which leaves m fields of twice the size.
+abbrev rounded : ℕ → ℕ → ℕ → ℕ → ℕ
+rounded h t m word = bit_and word (masks h (twice m)) * (1 + t * 2 ^ (h + h)) % 2 ^ (m * ((h + h) + (h + h))) / 2 ^ (h + h)
+
 -- Half a field of set bits fits in a field.
 half_below : (h : ℕ) → 2 ^ h - 1 < 2 ^ (h + h)
 half_below h = let le : 2 ^ h ≤ 2 ^ (h + h) = pow_mono (omega arith) in omega (arith, ones_lt h)
@@ -115,9 +119,7 @@ module _ (h t : ℕ) (room : (2 ^ h - 1) * (1 + t) < 2 ^ (h + h)) where
       ) in
       rw (low, high, spread_masked m rest, power_of_square t m, pow-suc t (twice m)) (omega arith)
 
-  round : (m word : ℕ)
-      → let product = bit_and word (masks h (twice m)) * (1 + t * 2 ^ (h + h)) in
-      spelled (h + h) (t * t) m (product % 2 ^ (m * ((h + h) + (h + h))) / 2 ^ (h + h)) ≡ spelled h t (twice m) word
+  round : (m word : ℕ) → spelled (h + h) (t * t) m (rounded h t m word) ≡ spelled h t (twice m) word
   round m word = search (arith, shift_after_cut, product_shifted, pow_pos, spread_masked)
 
 -- ---- Fields of a word are its digits in a base 2^k
@@ -151,15 +153,10 @@ spelled_by_bytes zero word = refl
 spelled_by_bytes (suc k) word = search (arith, length-digits, spelled_by_bytes k (word / 256))
 
 -- The lowest `len` bytes, shifted to the top, keep their sum.
-pub shifted_value : (k count len word : ℕ) → k ≡ (count - len) * 8 → len ≤ count
-    → low_value (low_bytes count (word * 2 ^ k % 2 ^ (count * 8))) ≡ low_value (low_bytes len word)
-unfolding low_bytes
-shifted_value k count len word e le = search (arith, digits_cut, low_value_shifted)
-
 shifted_sum : (k count len word : ℕ) → k ≡ (count - len) * 8 → len ≤ count
     → spelled 4 10 count (word * 2 ^ k % 2 ^ (count * 8)) ≡ low_value (low_bytes len word)
 unfolding low_bytes
-shifted_sum k count len word e le = search (arith, spelled_by_bytes, shifted_value)
+shifted_sum k count len word e le = search (arith, spelled_by_bytes, digits_cut, low_value_shifted)
 
 -- A mask to lower halves keeps the weighted sum.
 pub low_value_halves : (bytes : List ℕ) → low_value (map (λ b. bit_and b 15) bytes) ≡ low_value bytes
@@ -176,19 +173,14 @@ one_field base half word below = rw pow-zero (omega (arith, mod-eq_of_lt below))
 
 -- After two rounds, two fields spell the sum in base 10000.
 two_rounds : (val len : ℕ) → len ≤ 8
-    → let ones = val * 2 ^ (64 - 8 * len) % 2 ^ 64 in
-    let tens = bit_and ones 0x0F0F_0F0F_0F0F_0F0F * 0xA01 % 2 ^ 64 / 2 ^ 8 in
-    spelled 16 10000 2 (bit_and tens 0x00FF_00FF_00FF_00FF * 0x64_0001 % 2 ^ 64 / 2 ^ 16) ≡ low_value (low_bytes len val)
+    → spelled 16 10000 2 (rounded 8 100 2 (rounded 4 10 4 (val * 2 ^ (64 - 8 * len) % 2 ^ 64))) ≡ low_value (low_bytes len val)
 two_rounds val len most =
     round 8 100 (lit< tt) 2 _ ∙ round 4 10 (lit< tt) 4 _ ∙ shifted_sum (64 - 8 * len) 8 len val (omega arith) most
 
 -- A third round joins the two fields.
 pub sum_8 : (val len : ℕ) → len ≤ 8
-    → let ones = val * 2 ^ (64 - 8 * len) % 2 ^ 64 in
-    let tens = bit_and ones 0x0F0F_0F0F_0F0F_0F0F * 0xA01 % 2 ^ 64 / 2 ^ 8 in
-    let hundreds = bit_and tens 0x00FF_00FF_00FF_00FF * 0x64_0001 % 2 ^ 64 / 2 ^ 16 in
-    bit_and hundreds 0x0000_FFFF_0000_FFFF * 0x2710_0000_0001 % 2 ^ 64 / 2 ^ 32 ≡ low_value (low_bytes len val)
-sum_8 val len most = search (arith, one_field, round 16 10000 (lit< tt) 1, two_rounds)
+    → rounded 16 10000 1 (rounded 8 100 2 (rounded 4 10 4 (val * 2 ^ (64 - 8 * len) % 2 ^ 64))) ≡ low_value (low_bytes len val)
+sum_8 val len most = one_field 100000000 32 _ (omega arith) ∙ round 16 10000 (lit< tt) 1 _ ∙ two_rounds val len most
 
 -- Two rounds and a sum of the two fields, for digits in bytes below 16.
 pub sum_of_fields : (digits : ℕ) → digits < 2 ^ 64 → bit_and digits 0x0F0F_0F0F_0F0F_0F0F ≡ digits
@@ -211,11 +203,7 @@ sum_of_four digits halves =
 
 -- Four rounds compute the weighted sum of at most 16 bytes.
 pub sum_16 : (val len : ℕ) → len ≤ 16
-    → let ones = val * 2 ^ (128 - 8 * len) % 2 ^ 128 in
-    let tens = bit_and ones 0x0F0F_0F0F_0F0F_0F0F_0F0F_0F0F_0F0F_0F0F * 0xA01 % 2 ^ 128 / 2 ^ 8 in
-    let hundreds = bit_and tens 0x00FF_00FF_00FF_00FF_00FF_00FF_00FF_00FF * 0x64_0001 % 2 ^ 128 / 2 ^ 16 in
-    let ten_thousands = bit_and hundreds 0x0000_FFFF_0000_FFFF_0000_FFFF_0000_FFFF * 0x2710_0000_0001 % 2 ^ 128 / 2 ^ 32 in
-    bit_and ten_thousands 0x0000_0000_FFFF_FFFF_0000_0000_FFFF_FFFF * 0x5F5_E100_0000_0000_0000_0001 % 2 ^ 128 / 2 ^ 64 ≡ low_value (low_bytes len val)
+    → rounded 32 100000000 1 (rounded 16 10000 2 (rounded 8 100 4 (rounded 4 10 8 (val * 2 ^ (128 - 8 * len) % 2 ^ 128)))) ≡ low_value (low_bytes len val)
 sum_16 val len most =
     one_field 10000000000000000 64 _ (omega arith)
     ∙ round 32 100000000 (lit< tt) 1 _

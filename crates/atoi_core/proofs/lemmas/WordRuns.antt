@@ -15,7 +15,7 @@ use Rattle.atoi_core.specs.Digit.{decimal_table, is_digit, is_zero}
 use Rattle.atoi_core.specs.Run.{run_len, zeros}
 use Rattle.atoi_core.specs.Words.{low_bytes, low_value}
 use Rattle.atoi_core.proofs.lemmas.Calls.{digit_in_range}
-use Rattle.atoi_core.proofs.lemmas.WordFields.{zero_field, stopping_field, repeated, and_repeated, digits_cut, shifted_value, low_value_halves, low_value_shifted, byte_more, shift_cut}
+use Rattle.atoi_core.proofs.lemmas.WordFields.{zero_field, stopping_field, repeated, and_repeated, digits_cut, low_value_halves, low_value_shifted, byte_more, shift_cut}
 
 -- ---- Counting digits and zeros
 
@@ -155,33 +155,28 @@ digits_of_8 val =
     rw (and_shr ((val + 0x0606_0606_0606_0606) % 2 ^ 64) 0xF0F0_F0F0_F0F0_F0F0 4) (counted marks (is_digit decimal_table) refl (λ b h e. e) 8 val)
 
 -- The marks of the word engine.
-abbrev marks : Change
-marks = both bit_and and_shr and_mod (both bit_or or_shr or_mod (cut (added 70 (lit< tt))) (cut lowered)) (constant 128 (lit< tt))
+abbrev marks_in : ℕ → ℕ → ℕ
+marks_in k word = bit_and (bit_or ((word + repeated 70 k) % 2 ^ (k * 8)) ((word + without_48 k) % 2 ^ (k * 8))) (repeated 128 k)
 
-marks_counted : (k word : ℕ) → count_trailing_zeros (k * 8) (marks.of_word k word) / 8 ≡ run_len decimal_table (low_bytes k word)
-marks_counted = counted marks (is_digit decimal_table) refl (λ b h e. e)
+marks_counted : (k word : ℕ) → count_trailing_zeros (k * 8) (marks_in k word) / 8 ≡ run_len decimal_table (low_bytes k word)
+marks_counted =
+    let marks = both bit_and and_shr and_mod (both bit_or or_shr or_mod (cut (added 70 (lit< tt))) (cut lowered)) (constant 128 (lit< tt)) in
+    counted marks (is_digit decimal_table) refl (λ b h e. e)
 
 -- Without a mark, all bytes are digits.
-none_counted : (k word : ℕ) → marks.of_word k word ≡ 0 → run_len decimal_table (low_bytes k word) ≡ k
+none_counted : (k word : ℕ) → marks_in k word ≡ 0 → run_len decimal_table (low_bytes k word) ≡ k
 none_counted k word none = omega (arith, rw (none, trailing_of_zero) at (marks_counted k word))
 
-abbrev marks_in : ℕ → ℕ
-marks_in word = bit_and (bit_or ((word + 0x4646_4646_4646_4646) % 2 ^ 64) ((word + 0xCFCF_CFCF_CFCF_CFD0) % 2 ^ 64)) 0x8080_8080_8080_8080
-
-pub marks_of_8 : (word : ℕ) → count_trailing_zeros 64 (marks_in word) / 8 ≡ run_len decimal_table (low_bytes 8 word)
+pub marks_of_8 : (word : ℕ) → count_trailing_zeros 64 (marks_in 8 word) / 8 ≡ run_len decimal_table (low_bytes 8 word)
 marks_of_8 = marks_counted 8
 
-pub none_marked : (word : ℕ) → marks_in word ≡ 0 → run_len decimal_table (low_bytes 8 word) ≡ 8
+pub none_marked : (word : ℕ) → marks_in 8 word ≡ 0 → run_len decimal_table (low_bytes 8 word) ≡ 8
 none_marked = none_counted 8
 
--- The same for four bytes.
-abbrev marks_in_four : ℕ → ℕ
-marks_in_four word = bit_and (bit_or ((word + 0x4646_4646) % 2 ^ 32) ((word + 0xCFCF_CFD0) % 2 ^ 32)) 0x8080_8080
-
-pub marks_of_4 : (word : ℕ) → count_trailing_zeros 32 (marks_in_four word) / 8 ≡ run_len decimal_table (low_bytes 4 word)
+pub marks_of_4 : (word : ℕ) → count_trailing_zeros 32 (marks_in 4 word) / 8 ≡ run_len decimal_table (low_bytes 4 word)
 marks_of_4 = marks_counted 4
 
-pub none_marked_of_4 : (word : ℕ) → marks_in_four word ≡ 0 → run_len decimal_table (low_bytes 4 word) ≡ 4
+pub none_marked_of_4 : (word : ℕ) → marks_in 4 word ≡ 0 → run_len decimal_table (low_bytes 4 word) ≡ 4
 none_marked_of_4 = none_counted 4
 
 -- ---- The word with 48 subtracted from each byte
@@ -223,27 +218,6 @@ shifted_halves (suc z) k word =
     let next : word * (256 * 2 ^ (z * 8)) ≡ word * 2 ^ (z * 8) * 256 + 0 = omega arith in
     rw (suc-add z k, byte_more, next) (omega (arith, shifted_halves z k word, and_block 8 (word * 2 ^ (z * 8)) (repeated 15 (z + k)) 0 15 (lit< tt) (lit< tt)))
 
--- For digits at the top of `size` bytes of a word of `width`, subtracting 48 is the mask.
-pub lowered_at_top : (width size len word : ℕ) → size ≤ width → len ≤ size → len ≤ run_len decimal_table (low_bytes width word)
-    → (word + without_48 width) % 2 ^ (width * 8) * 2 ^ (size * 8 - 8 * len) % 2 ^ (size * 8)
-    ≡ bit_and (word * 2 ^ (size * 8 - 8 * len) % 2 ^ (size * 8)) (repeated 15 size)
-unfolding low_bytes
-lowered_at_top width size len word small few digits =
-    let z = size - len in
-    let others = width - len in
-    let places : size * 8 - 8 * len ≡ z * 8 = omega arith in
-    let bits : size * 8 ≡ len * 8 + z * 8 = omega arith in
-    let word_bits : width * 8 ≡ others * 8 + len * 8 = omega arith in
-    let top : z + len ≡ size = omega arith in
-    let lower = word + without_48 width in
-    let cut : (x : ℕ) → x * 2 ^ (size * 8 - 8 * len) % 2 ^ (size * 8) ≡ x % 2 ^ (len * 8) * 2 ^ (z * 8) =
-    λ x. ap₂ (λ e f. x * 2 ^ e % 2 ^ f) places bits ∙ shift_cut x (len * 8) (z * 8) in
-    cut (lower % 2 ^ (width * 8))
-    ∙ ap (λ e. lower % 2 ^ e % 2 ^ (len * 8) * 2 ^ (z * 8)) word_bits
-    ∙ ap (λ x. x * 2 ^ (z * 8)) (mod-mod-pow lower (others * 8) (len * 8) ∙ lowered_digits width len word digits)
-    ∙ shifted_halves z len (word % 2 ^ (len * 8))
-    ∙ ap₂ (λ x n. bit_and x (repeated 15 n)) (sym (cut word)) top
-
 -- Masked bytes are below 16, and keep the sum.
 masked : (size x ones : ℕ) → ones ≡ bit_and x (repeated 15 size) → (bit_and ones (repeated 15 size) ≡ ones) × (low_value (low_bytes size ones) ≡ low_value (low_bytes size x))
 unfolding low_bytes
@@ -252,18 +226,30 @@ masked size x ones is = (
   ap (λ y. low_value (digits_l 256 size y)) is ∙ ap low_value (and_repeated 15 (lit< tt) size x) ∙ low_value_halves (digits_l 256 size x),
 )
 
--- So are the shifted bytes.
-lowered_bytes : (width size len word ones : ℕ) → size ≤ width → len ≤ size → len ≤ run_len decimal_table (low_bytes width word)
-    → ones ≡ (word + without_48 width) % 2 ^ (width * 8) * 2 ^ (size * 8 - 8 * len) % 2 ^ (size * 8)
+-- So are digits minus 48 that are shifted to the top of `size` bytes.
+lowered_bytes : (width size len word k ones : ℕ) → size ≤ width → len ≤ size → k ≡ (size - len) * 8 → len ≤ run_len decimal_table (low_bytes width word)
+    → ones ≡ (word + without_48 width) % 2 ^ (width * 8) * 2 ^ k % 2 ^ (size * 8)
     → (bit_and ones (repeated 15 size) ≡ ones) × (low_value (low_bytes size ones) ≡ low_value (low_bytes len word))
-lowered_bytes width size len word ones small few digits is =
-    let same = masked size _ ones (is ∙ lowered_at_top width size len word small few digits) in
-    (same.0, same.1 ∙ shifted_value (size * 8 - 8 * len) size len word (omega arith) few)
+unfolding low_bytes
+lowered_bytes width size len word k ones small few k_is digits is =
+    let z = size - len in
+    let low = word % 2 ^ (len * 8) in
+    let lower = word + without_48 width in
+    let top : z + len ≡ size = omega arith in
+    let bits : size * 8 ≡ len * 8 + k = omega arith in
+    let word_bits : width * 8 ≡ (width - len) * 8 + len * 8 = omega arith in
+    let e : ones ≡ bit_and (low * 2 ^ (z * 8)) (repeated 15 size) =
+    is ∙ ap (λ e. lower % 2 ^ (width * 8) * 2 ^ k % 2 ^ e) bits ∙ shift_cut (lower % 2 ^ (width * 8)) (len * 8) k
+    ∙ ap₂ (λ d e. lower % 2 ^ d % 2 ^ (len * 8) * 2 ^ e) word_bits k_is
+    ∙ ap (λ x. x * 2 ^ (z * 8)) (mod-mod-pow lower ((width - len) * 8) (len * 8) ∙ lowered_digits width len word digits)
+    ∙ shifted_halves z len low ∙ ap (λ n. bit_and (low * 2 ^ (z * 8)) (repeated 15 n)) top in
+    let same = masked size (low * 2 ^ (z * 8)) ones e in
+    (same.0, same.1 ∙ (rw top at (low_value_shifted z len low)) ∙ ap low_value (digits_cut 8 len word))
 
 pub lowered_value : (len word ones : ℕ) → len ≤ 8 → len ≤ run_len decimal_table (low_bytes 8 word)
     → ones ≡ (word + without_48 8) % 2 ^ 64 * 2 ^ (64 - 8 * len) % 2 ^ 64
     → (bit_and ones (repeated 15 8) ≡ ones) × (low_value (low_bytes 8 ones) ≡ low_value (low_bytes len word))
-lowered_value len word ones few digits is = lowered_bytes 8 8 len word ones (omega arith) few digits is
+lowered_value len word ones few digits is = lowered_bytes 8 8 len word (64 - 8 * len) ones (omega arith) few (omega arith) digits is
 
 -- Four bytes suffice for at most four digits.
 pub lowered_four : (len word ones : ℕ) → len ≤ 4 → len ≤ run_len decimal_table (low_bytes 8 word)
@@ -271,13 +257,13 @@ pub lowered_four : (len word ones : ℕ) → len ≤ 4 → len ≤ run_len decim
     → (bit_and ones (repeated 15 4) ≡ ones) × (low_value (low_bytes 4 ones) ≡ low_value (low_bytes len word))
 lowered_four len word ones few digits is =
     let lower = (word + 0xCFCF_CFCF_CFCF_CFD0) % 2 ^ 64 in
-    lowered_bytes 8 4 len word ones (omega arith) few digits
+    lowered_bytes 8 4 len word (32 - 8 * len) ones (omega arith) few (omega arith) digits
     (is ∙ ap (λ x. x * 2 ^ (32 - 8 * len) % 2 ^ 32) (and_mask lower 32) ∙ mul-mod_first lower (2 ^ (32 - 8 * len)) (2 ^ 32))
 
 pub lowered_in_four : (len word ones : ℕ) → len ≤ 4 → len ≤ run_len decimal_table (low_bytes 4 word)
     → ones ≡ (word + 0xCFCF_CFD0) % 2 ^ 32 * 2 ^ (32 - 8 * len) % 2 ^ 32
     → (bit_and ones (repeated 15 4) ≡ ones) × (low_value (low_bytes 4 ones) ≡ low_value (low_bytes len word))
-lowered_in_four len word ones few digits is = lowered_bytes 4 4 len word ones (omega arith) few digits is
+lowered_in_four len word ones few digits is = lowered_bytes 4 4 len word (32 - 8 * len) ones (omega arith) few (omega arith) digits is
 
 pub lowered_sum : (len word ones number : ℕ) → number ≡ low_value (low_bytes 8 ones) → len ≤ 8 → len ≤ run_len decimal_table (low_bytes 8 word)
     → ones ≡ (word + without_48 8) % 2 ^ 64 * 2 ^ (64 - 8 * len) % 2 ^ 64 → number ≡ low_value (low_bytes len word)
