@@ -13,21 +13,21 @@ abbrev pub hex_list : List ℕ → List ℕ
 hex_list [] = []
 hex_list (byte ∷ bytes) = hex_text byte ++ flat_map (λ b. codes ", " ++ hex_text b) bytes
 
--- At most the first 48 bytes of the slice, in brackets.
+-- At most the first 48 bytes, in brackets.
 abbrev pub input_text : List ℕ → List ℕ
 input_text input = codes "[" ++ hex_list (take 48 input) ++ codes "]"
 
--- `invalid64` has two spaces before `input:`, `invalid128` has one.
+-- The start of both `invalid` texts.
+abbrev pub invalid_text : (number index : ℕ) → List ℕ
+invalid_text number index =
+    codes "atoi_simd invalid at index: " ++ decimal index
+    ++ codes " it must contain only digits, starting with: " ++ decimal number
+
+-- `invalid64` has two spaces before `input:`.
 abbrev pub error_text : Refusal → List ℕ
 error_text empty = codes "atoi_simd string is empty"
 error_text (size length input) =
     codes "atoi_simd wrong size: " ++ decimal length ++ codes " input: " ++ input_text input
 error_text (overflow input) = codes "atoi_simd overflow, input: " ++ input_text input
-error_text (invalid64 number index input) =
-    codes "atoi_simd invalid at index: " ++ decimal index
-    ++ codes " it must contain only digits, starting with: " ++ decimal number
-    ++ codes "  input: " ++ input_text input
-error_text (invalid128 number index input) =
-    codes "atoi_simd invalid at index: " ++ decimal index
-    ++ codes " it must contain only digits, starting with: " ++ decimal number
-    ++ codes " input: " ++ input_text input
+error_text (invalid64 number index input) = invalid_text number index ++ codes "  input: " ++ input_text input
+error_text (invalid128 number index input) = invalid_text number index ++ codes " input: " ++ input_text input

@@ -1,7 +1,7 @@
 //! The text of an error, and the decimal and hexadecimal numbers in it, written into a slice.
 ghost use Rattle.std.specs.Prelude.{◌≡◌, ◌+◌, ◌-◌, ◌*◌, ◌/◌, ◌%◌, ◌^◌, ◌<◌, ◌≤◌, ◌∷◌, [], ◌++◌, true, Some, length, take, codes, decimal, IsAscii};
 ghost use Rattle.std.specs.Fmt.{digit_glyph};
-ghost use Rattle.atoi_core.specs.ErrorText.{hex_text, hex_list, input_text, error_text};
+ghost use Rattle.atoi_core.specs.ErrorText.{hex_text, hex_list, input_text, invalid_text, error_text};
 ghost use Rattle.atoi_core.specs.Refusal.{refusal_of};
 
 use crate::error::AtoiSimdError;
@@ -88,9 +88,7 @@ fn put_input(input: &[u8], out: &mut [u8], at: usize) -> usize
 
 // Writes what the texts of `Invalid64` and `Invalid128` start with.
 fn put_invalid(number: u128, index: usize, out: &mut [u8; 400]) -> usize
-    ensures written { take result out.new
-        ≡ codes "atoi_simd invalid at index: " ++ decimal index
-        ++ codes " it must contain only digits, starting with: " ++ decimal number }
+    ensures written { take result out.new ≡ invalid_text number index }
     ensures fits { result ≤ 132 }
     ensures fits_of_64_bits { number < 2 ^ 64 → result ≤ 113 }
 {
