@@ -151,7 +151,6 @@ fn narrow_prefix_cold<'a, E: Engine>(
     s: &'a [u8],
     steps: &mut Steps,
 ) -> Result<(u64, usize), AtoiSimdError<'a>>
-    requires low { 9 ≤ bound }
     requires high { bound ≤ 4294967295 }
     requires some { 0 < zeroes }
     requires first_window { zeroes ≡ (window_of E.table 16 s.now).zeroes }
@@ -173,7 +172,6 @@ fn narrow_prefix_after_zeros<'a, E: Engine>(
     s: &'a [u8],
     steps: &mut Steps,
 ) -> Result<(u64, usize), AtoiSimdError<'a>>
-    requires low { 9 ≤ bound }
     requires high { bound ≤ 4294967295 }
     requires some { 0 < zeroes }
     requires first_window { zeroes ≡ (window_of E.table 16 s.now).zeroes }
