@@ -160,6 +160,7 @@ impl Engine for Lanes {
 
     /// Returns the window of 8 bytes.
     #[inline(always)]
+    #[tactic(auto, using(crate::proofs::lemmas::LaneWindows::window_of_half))]
     fn window_8(s: &[u8], steps: &mut Steps) -> Window {
         steps.tick();
         // An empty slice needs no lanes.

@@ -1,7 +1,8 @@
 -- The lanes of a slice, and the windows and readings that they show.
-use Rattle.std.proofs.Common.{◌≡◌, ℕ, ◌+◌, ◌<◌, List, ◌++◌, get_or, length, take, replicate, min, refl, sym, ap, ap₂, ◌∙◌, arith, ◌≤◌, ◌≢◌}
+use Rattle.std.proofs.Common.{◌≡◌, ℕ, ◌+◌, ◌<◌, List, ◌++◌, get_or, length, take, replicate, min, refl, sym, ap, ap₂, ◌∙◌, arith, ◌≤◌}
+use Rattle.std.proofs.Math.Nat.{min_comm}
 use Rattle.std.proofs.lemmas.Bool.{ne_eqb}
-use Rattle.std.proofs.lemmas.List.{take_all, length-take, take-append-le, take-take}
+use Rattle.std.proofs.lemmas.List.{take_all, take_min, length-take, take-append-le, take-take}
 use Rattle.atoi_core.specs.Digit.{decimal_table, is_digit, is_zero}
 use Rattle.atoi_core.specs.Reading.{Reading, window_of}
 use Rattle.atoi_core.specs.Run.{run_len, run, zeros, value}
@@ -20,7 +21,7 @@ lanes-of_bytes m xs h room = digits-of_bytes 16 m xs h room
 
 -- The first lanes of a slice are its first bytes.
 pub first_lanes : (n : ℕ) (s : List ℕ) → n ≤ 16 → n ≤ length s → take n (padded_start 16 s) ≡ take n s
-first_lanes n s few enough = take-take n 16 (s ++ replicate 16 0) few ∙ take-append-le n s (replicate 16 0) enough
+first_lanes n s few enough = search (arith, take-take, take-append-le)
 
 -- Lanes of 0 after them change nothing.
 module _ (s : List ℕ) where
@@ -52,17 +53,18 @@ module _ (s : List ℕ) (fits : (i : ℕ) → get_or s i 0 < 256) (word : ℕ) (
 -- Fewer than 16 bytes that are all digits.
 pub window_of_all : (s : List ℕ) → length s < 16 → run_len decimal_table s ≡ length s → (number : ℕ) → number ≡ value decimal_table s
     → ◌≡◌ {A = Window} (record { len = length s; zeroes = 0; number = number }) (window_of decimal_table 16 s)
-window_of_all s few all number is =
-    let short : length s ≢ 16 = λ e. absurd (omega arith) in
-    rw (take_all 16 s (omega arith), all, ne_eqb (length s) 16 short, take_all (length s) s (omega arith), is) refl
+window_of_all s few all number is = search (arith, take_all, ne_eqb)
 
-pub window-of_half_the_lanes : (s : List ℕ) → lane_window 8 (padded_start 16 (take 8 s)) ≡ window_of decimal_table 8 s
-window-of_half_the_lanes s = lanes_show (take 8 s) 8 ∙ ap (lane_window 8) (take_all 16 (take 8 s) (omega (arith, length-take 8 s)))
+-- At most eight bytes.
+pub window_of_half : (n : ℕ) (s : List ℕ) → n ≡ min (length s) 8 → lane_window 8 (padded_start 16 (take n s)) ≡ window_of decimal_table 8 s
+window_of_half n s is =
+    ap (λ l. lane_window 8 (padded_start 16 l)) (ap (λ k. take k s) (is ∙ min_comm (length s) 8) ∙ take_min 8 s)
+    ∙ lanes_show (take 8 s) 8 ∙ ap (lane_window 8) (take_all 16 (take 8 s) (omega (arith, length-take 8 s)))
 
 -- The lanes of 16 bytes give a reading of these.
-pub reading-of_lanes : (s lanes : List ℕ) (len number : ℕ) → lanes ≡ padded_start 16 s → len ≡ run_len decimal_table lanes
+pub reading_of_lanes : (s lanes : List ℕ) (len number : ℕ) → lanes ≡ padded_start 16 s → len ≡ run_len decimal_table lanes
     → number ≡ value decimal_table (take len lanes) → Reading decimal_table 16 s len (zeros decimal_table lanes) number
-reading-of_lanes s lanes len number loaded digits writes =
+reading_of_lanes s lanes len number loaded digits writes =
     let same = digits ∙ ap (run_len decimal_table) loaded in
     record {
       digits_are = same ∙ digits_shown s;

@@ -1,5 +1,5 @@
 -- When windows of 32 bytes decide, and how many loads that takes.
-use Rattle.std.proofs.Common.{◌≡◌, ℕ, ◌+◌, ◌<◌, Bool, true, false, cond, Ok, Err, List, get_or, length, take, refl, sym, ap, ◌∙◌, arith, ◌-◌, ◌≤◌, drop, ◌⊎◌, ◌*◌, min, inl, inr, ◌^◌, eqb, subst, lit<}
+use Rattle.std.proofs.Common.{◌≡◌, ℕ, ◌+◌, ◌<◌, Bool, true, false, cond, Ok, Err, List, get_or, length, take, refl, sym, ap, ◌∙◌, arith, ◌-◌, ◌≤◌, drop, ◌⊎◌, ◌*◌, min, inl, inr, ◌^◌, eqb, lit<}
 use Rattle.std.proofs.lemmas.List.{drop-drop, get_or-drop, length-drop, take-take, take_all, take_rest}
 use Rattle.atoi_core.specs.Digit.{decimal_table, is_digit}
 use Rattle.atoi_core.specs.Loads.{LoadsWithin}
@@ -11,7 +11,7 @@ use Rattle.atoi_core.proofs.lemmas.Readings.{zeros_left, join_readings, within, 
 use Rattle.atoi_core.specs.Run.{run_len, run, value, zeros}
 use Rattle.atoi_core.specs.declared.engine.window.Window.{Window}
 use Rattle.atoi_lanes.specs.Lanes.{ReadsAfterZeros}
-use Rattle.std.proofs.lemmas.Bool.{cases_lt, false≢true, le-ltb}
+use Rattle.std.proofs.lemmas.Bool.{cases_lt, le-ltb}
 use Rattle.atoi_core.specs.Magnitude.{HasDigits, wide64, wide128, prefix_magnitude}
 use Rattle.atoi_core.specs.Refusal.{empty}
 use Rattle.std.proofs.Math.Nat.{zero-add}
@@ -21,42 +21,28 @@ module _ {skip : Bool} {s : List ℕ} {w : Window32} (reading : Reading decimal_
   -- A first window that is the last: fewer than 32 zeros are skipped.
   pub only_window : (skip ≡ true → 32 ≤ w.len → w.zeroes ≡ 0) → ReadsAfterZeros skip s 0 w × (skip ≡ true → zeros decimal_table s < 32)
   only_window ends =
-      let reported : w.zeroes ≡ min 32 (zeros decimal_table s - 0) = reading.leading_are ∙ zeros_left decimal_table 32 s 0 (omega arith) in
-      let most = within reading in (
-        record { skipped = record { zeros_only = omega arith; asked = λ _. refl }; reading = reading; within = omega (arith, most.1); ends = ends },
-        λ on. elim (cases_lt w.len 32) [ inl less ↦ omega (arith, most.0, reported) | inr more ↦ omega (arith, ends on more, reported) ],
-      )
+      let reported = reading.leading_are ∙ zeros_left decimal_table 32 s 0 (omega arith) in
+      let most = within reading in
+      (search (arith, within), λ on. elim (cases_lt w.len 32) [ inl less ↦ omega (arith, most.0, reported) | inr more ↦ omega (arith, ends on more, reported) ])
 
   -- A full first window without a loop begins with no zero to skip.
   pub first_is_last : ((skip ≡ true) × (0 < w.zeroes) × (w.len ≡ 32 → ⊥)) ⊎ (((skip ≡ true) × (w.zeroes ≤ 0)) ⊎ (skip ≡ false))
       → ReadsAfterZeros skip s 0 w × (skip ≡ true → zeros decimal_table s < 32)
-  first_is_last stops =
-      let most = within reading in
-      only_window (λ on full. elim stops [
-        | inl short ↦ absurd (short.2 (omega (arith, most.1)))
-        | inr rest ↦ (elim rest [ inl none ↦ omega (arith, none.1) | inr off ↦ absurd (false≢true (sym off ∙ on)) ])
-      ])
+  first_is_last stops = grind (arith, within reading, only_window)
 
 -- Below 32 skipped zeros, one to `unskipped` loads are within all bounds.
 pub few_loads : (most unskipped : ℕ) (skip : Bool) (s : List ℕ) (before after : ℕ) → before < after → after ≤ before + unskipped → unskipped ≤ most
     → (skip ≡ true → zeros decimal_table s < 32) → LoadsWithin most unskipped decimal_table skip s before after
-few_loads most unskipped skip s before after one few room zeros_few =
-    record { at_most = omega arith; at_most_unskipped = λ _. few; at_least = λ _. one; at_least_skipping = λ on. omega (arith, zeros_few on) }
+few_loads most unskipped skip s before after one few room zeros_few = search arith
 
 -- ---- Windows of 32 bytes decide the answers
 
 pub start : (skip : Bool) (s : List ℕ) → IsSkipped decimal_table skip s 0
-start skip s = record { zeros_only = omega arith; asked = λ _. refl }
+start skip s = search arith
 
 -- A reading of all bytes.
 pub reading_of_all : (s : List ℕ) → length s ≤ 32 → Reading decimal_table 32 s (run_len decimal_table s) (zeros decimal_table s) (value decimal_table (run decimal_table s))
-reading_of_all s few =
-    let all = sym (take_all 32 s few) in
-    record {
-      digits_are = ap (run_len decimal_table) all;
-      leading_are = ap (zeros decimal_table) all;
-      number_is = ap (λ bytes. value decimal_table (run decimal_table bytes)) all;
-    }
+reading_of_all s few = search (arith, take_all)
 
 -- Fewer digits than the limit spell the answer.
 pub few_digits : (skip : Bool) {s : List ℕ} {len leading number : ℕ} (bound limit : ℕ) → limit ≤ 20 → HasDigits limit bound
@@ -110,22 +96,15 @@ pub decided_full : (bound : ℕ) (skip : Bool) (s : List ℕ) (at : ℕ) (w : Wi
     → (back.len ≤ 8) × (w.number * 10 ^ back.len + back.number < 10 ^ (32 + back.len)) × (at + (32 + back.len) ≤ length s)
     × (answer_by_digits wide128 bound 39 at (32 + back.len) (w.number * 10 ^ back.len + back.number) s ≡ prefix_magnitude decimal_table wide128 bound 39 skip s)
 decided_full bound skip s at w back after_skip full reported =
-    let t = decimal_table in
-    let e : back ≡ window_of t 8 (drop 32 (drop at s)) = reported ∙ ap (window_of t 8) (take_rest s (at + 32) ∙ sym (drop-drop 32 at s)) in
-    let body : List ℕ = drop at s in
-    let others : ℕ = zeros t (take 8 (drop 32 body)) in
-    let number : ℕ = w.number * 10 ^ back.len + back.number in
+    let e : back ≡ window_of decimal_table 8 (drop 32 (drop at s)) = reported ∙ ap (window_of decimal_table 8) (take_rest s (at + 32) ∙ sym (drop-drop 32 at s)) in
     let most = within after_skip.reading in
     let len : w.len ≡ 32 = omega (arith, most.1) in
-    let front : Reading t 32 body 32 w.zeroes w.number = let P : ℕ → Type 0 = λ n. Reading t 32 body n w.zeroes w.number in subst P len after_skip.reading in
-    let following : Reading t 8 (drop 32 body) back.len others back.number =
+    let front = rw len at after_skip.reading in
+    let following : Reading decimal_table 8 (drop 32 (drop at s)) back.len (zeros decimal_table (take 8 (drop 32 (drop at s)))) back.number =
     record { digits_are = ap (λ v. v.len) e; leading_are = refl; number_is = ap (λ v. v.number) e } in
-    let few : back.len ≤ 8 = omega (arith, (within following).1) in
-    let leading : ℕ = cond (eqb w.zeroes 32) (32 + others) w.zeroes in
-    let both : Reading t 40 body (32 + back.len) leading number = join_readings front following in
-    let none : skip ≡ true → leading ≡ 0 = λ on. let first : w.zeroes ≡ 0 = after_skip.ends on full in rw first refl in (
-      few,
+    let both = join_readings front following in (
+      omega (arith, (within following).1),
       below both decimal_below_ten,
       omega (arith, after_skip.within, within both, length-drop at s),
-      sym (all_decide wide128 bound 39 (lit< tt) after_skip.skipped both none),
+      sym (all_decide wide128 bound 39 (lit< tt) after_skip.skipped both (λ on. let first : w.zeroes ≡ 0 = after_skip.ends on full in rw first refl)),
     )

@@ -8,7 +8,7 @@ use Rattle.atoi_core.specs.Digit.{decimal_table, is_digit}
 use Rattle.atoi_core.specs.Run.{run_len, value}
 use Rattle.atoi_core.proofs.lemmas.Readings.{widened}
 use Rattle.atoi_core.proofs.lemmas.Runs.{prefix_len-take, value-take-add}
-use Rattle.atoi_lanes.proofs.lemmas.LaneWindows.{reading-of_lanes}
+use Rattle.atoi_lanes.proofs.lemmas.LaneWindows.{reading_of_lanes}
 use Rattle.atoi_lanes.proofs.lemmas.WideAnswers.{by_digits, ended_at_16, few_digits}
 use Rattle.atoi_lanes.proofs.wide_lanes.prefix_64_unskipped.Goals as goal
 use Rattle.atoi_lanes.proofs.wide_lanes.prefix_64_unskipped.Goals.{Else-others-ne0}
@@ -31,7 +31,7 @@ returns-then-others-ne0-clause-answer c =
     let some : 0 < c.others-others.result = omega (arith, c.if-others-ne0.true) in
     let len = c.others-others.ensures.some some in
     let few : trailing_zeros w16 c.others-others.result < 16 = omega (arith, len, c.others-others.ensures.fewer some) in
-    let reading = reading-of_lanes c.args.s.now c.load_lanes-first.result _ _ c.load_lanes-first.ensures len c.sum_lanes.ensures in
+    let reading = reading_of_lanes c.args.s.now c.load_lanes-first.result _ _ c.load_lanes-first.ensures len c.sum_lanes.ensures in
     c.found_or_empty.ensures
     ∙ sym (few_digits false c.args.bound c.args.limit c.requires.limit_high c.requires.digits (widened reading few (omega arith)) (omega arith)).1
 
