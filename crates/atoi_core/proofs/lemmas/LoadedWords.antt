@@ -249,8 +249,8 @@ module _ (width : ℕ) (s : List ℕ) (fits : (i : ℕ) → get_or s i 0 < 256) 
   pub loaded_part : (len : ℕ) → len ≤ run_len decimal_table (low_bytes width word) → low_value (low_bytes len word) ≡ value decimal_table (take len s)
   loaded_part len within = search (arith, loaded_run, prefix_len-take, loaded_first, low_value_is, prefix_len-le-length)
 
-pub fits_after : (s : List ℕ) → ((i : ℕ) → get_or s i 0 < 256) → (i : ℕ) → get_or (drop 8 s) i 0 < 256
-fits_after s fits i = rw get_or-drop (fits (8 + i))
+pub fits_after : (n : ℕ) (s : List ℕ) → ((i : ℕ) → get_or s i 0 < 256) → (i : ℕ) → get_or (drop n s) i 0 < 256
+fits_after n s fits i = rw get_or-drop (fits (n + i))
 
 -- The weighted sum of no bytes is 0.
 pub sum_of_none : (word len : ℕ) → len ≡ 0 → 0 ≡ low_value (low_bytes len word)

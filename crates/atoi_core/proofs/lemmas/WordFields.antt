@@ -1,9 +1,8 @@
 -- Words as lists of fields: how products sum them, what bitwise operators do to each.
-use Rattle.std.proofs.Common.{◌≡◌, ℕ, zero, suc, ◌+◌, ◌-◌, ◌*◌, ◌/◌, ◌%◌, ◌^◌, ◌<◌, ◌≤◌, List, [], ◌∷◌, length, refl, sym, ap, ap₂, ◌∙◌, arith, lit<, map, inl, inr, mod-lt}
-use Rattle.std.proofs.lemmas.List.{length-map}
-use Rattle.std.proofs.Math.Nat.{add-mul-div_right, div-div-eq-div-mul, mul_comm, zero-mod, suc-mul, mul-le-mul_right, mul_assoc, pow-zero, pow-suc, suc-add, zero-add, mul-one, mod-eq_of_lt, pow-le-pow_right, div-one, eq-zero-or-pos}
+use Rattle.std.proofs.Common.{◌≡◌, ℕ, zero, suc, ◌+◌, ◌-◌, ◌*◌, ◌/◌, ◌%◌, ◌^◌, ◌<◌, ◌≤◌, List, [], ◌∷◌, length, refl, sym, ◌∙◌, arith, lit<, inl, inr, mod-lt, zero-lt-suc}
+use Rattle.std.proofs.Math.Nat.{mul-mod_left, mul-div_cancel, add-mul-div_right, div-div-eq-div-mul, mul_comm, zero-mod, suc-mul, mul-le-mul_right, mul_assoc, pow-zero, pow-suc, suc-add, zero-add, mul-one, mod-eq_of_lt, pow-le-pow_right, div-one, eq-zero-or-pos}
 use Rattle.std.proofs.Math.Pow.{mod-mod-pow, ones_lt, pow_mono}
-use Rattle.std.proofs.lemmas.Nat.{pow_pos, pow-add, mod-pow-add, field_of, and_mask, and_block, shr_split, div-mul-add, mod-mul-add, and_shr, and_mod}
+use Rattle.std.proofs.lemmas.Nat.{pow_pos, pow-add, mod-pow-add, field_of, and_mask, and_block, shr_split, div-mul-add, mod-mul-add}
 use Rattle.std.specs.Int.Bits.{bit_and, and_zero_r}
 use Rattle.std.specs.Simd.Lanes.{digits_l}
 use Rattle.atoi_core.specs.Words.{low_bytes, low_value}
@@ -158,13 +157,6 @@ shifted_sum : (k count len word : ℕ) → k ≡ (count - len) * 8 → len ≤ c
 unfolding low_bytes
 shifted_sum k count len word e le = search (arith, spelled_by_bytes, digits_cut, low_value_shifted)
 
--- A mask to lower halves keeps the weighted sum.
-pub low_value_halves : (bytes : List ℕ) → low_value (map (λ b. bit_and b 15) bytes) ≡ low_value bytes
-low_value_halves [] = refl
-low_value_halves (byte ∷ bytes) =
-    let half : bit_and byte 15 % 16 ≡ byte % 16 = omega (arith, and_mask byte 4) in
-    cc (half, length-map bytes (λ b. bit_and b 15), low_value_halves bytes)
-
 -- ---- Weighted sums of eight and of sixteen bytes
 
 -- A word below half a field is its only digit.
@@ -221,19 +213,19 @@ pub sum_most : (count len val : ℕ) → len ≤ count → 9 * low_value (low_by
 unfolding low_bytes
 sum_most count len val most = search (arith, length-digits, pow-le-pow_right, places_most)
 
--- ---- Bitwise operators on fields
-
 -- The word whose lowest k bytes are b.
 abbrev pub repeated : ℕ → ℕ → ℕ
 repeated b zero = 0
 repeated b (suc k) = repeated b k * 256 + b
 
--- A mask by a repeated b acts on each byte as b does.
-pub and_repeated : (b : ℕ) → b < 256 → (k a : ℕ) → digits_l 256 k (bit_and a (repeated b k)) ≡ map (λ x. bit_and x b) (digits_l 256 k a)
-and_repeated b fits zero a = refl
-and_repeated b fits (suc k) a =
-    let word = repeated b (suc k) in
-    cc (and_mod a word 8, mod-mul-add (repeated b k) 256 b fits, and_shr a word 8, div-mul-add (repeated b k) 256 b fits, and_repeated b fits k (a / 256))
+-- A mask to lower halves keeps the weighted sum.
+pub low_value_masked : (k word : ℕ) → low_value (digits_l 256 k (bit_and word (repeated 15 k))) ≡ low_value (digits_l 256 k word)
+low_value_masked zero word = refl
+low_value_masked (suc k) word =
+    let block = rw (shr_split word 8) at (and_block 8 (word / 256) (repeated 15 k) (word % 256) 15 (mod-lt word (zero-lt-suc 255)) (lit< tt)) in
+    let low : bit_and word (repeated 15 (suc k)) % 256 % 16 ≡ word % 256 % 16 = omega (arith, block, and_mask (word % 256) 4) in
+    let rest : bit_and word (repeated 15 (suc k)) / 256 ≡ bit_and (word / 256) (repeated 15 k) = omega (arith, block, and_mask (word % 256) 4) in
+    cc (low, rest, length-digits 256 k (word / 256), length-digits 256 k (bit_and (word / 256) (repeated 15 k)), low_value_masked k (word / 256))
 
 -- ---- Trailing zero bits
 
@@ -269,8 +261,4 @@ stopping_field (suc a) b n some =
 
 -- A cut after a shift by z bits is one before it.
 pub shift_cut : (a j z : ℕ) → a * 2 ^ z % 2 ^ (j + z) ≡ a % 2 ^ j * 2 ^ z
-shift_cut a j z =
-    let p = 2 ^ z in
-    let none : a * p ≡ a * p + 0 = omega arith in
-    let low : a * p % p ≡ 0 = ap (λ x. x % p) none ∙ mod-mul-add a p 0 (pow_pos z) in
-    mod-pow-add (a * p) j z ∙ ap₂ (λ x y. x % 2 ^ j * p + y) (ap (λ x. x / p) none ∙ div-mul-add a p 0 (pow_pos z)) low ∙ omega arith
+shift_cut a j z = rw (mod-pow-add, mul-mod_left, mul-div_cancel a (pow_pos z)) (omega arith)

@@ -15,7 +15,7 @@ use Rattle.atoi_core.specs.Digit.{decimal_table, is_digit, is_zero}
 use Rattle.atoi_core.specs.Run.{run_len, zeros}
 use Rattle.atoi_core.specs.Words.{low_bytes, low_value}
 use Rattle.atoi_core.proofs.lemmas.Calls.{digit_in_range}
-use Rattle.atoi_core.proofs.lemmas.WordFields.{zero_field, stopping_field, repeated, and_repeated, digits_cut, low_value_halves, low_value_shifted, byte_more, shift_cut}
+use Rattle.atoi_core.proofs.lemmas.WordFields.{zero_field, stopping_field, repeated, digits_cut, low_value_masked, low_value_shifted, byte_more, shift_cut}
 
 -- ---- Counting digits and zeros
 
@@ -223,7 +223,7 @@ masked : (size x ones : ℕ) → ones ≡ bit_and x (repeated 15 size) → (bit_
 unfolding low_bytes
 masked size x ones is = (
   cc (is, and_assoc (repeated 15 size) x (repeated 15 size), and_self (repeated 15 size)),
-  ap (λ y. low_value (digits_l 256 size y)) is ∙ ap low_value (and_repeated 15 (lit< tt) size x) ∙ low_value_halves (digits_l 256 size x),
+  ap (λ y. low_value (digits_l 256 size y)) is ∙ low_value_masked size x,
 )
 
 -- So are digits minus 48 that are shifted to the top of `size` bytes.

@@ -2,7 +2,7 @@
 use Rattle.std.proofs.Common.{◌≡◌, ℕ, zero, suc, ◌+◌, ◌-◌, ◌*◌, ◌/◌, ◌%◌, ◌^◌, ◌<◌, ◌≤◌, List, ◌++◌, length, take, drop, replicate, get_or, take-take, refl, sym, ap, ap₂, ◌∙◌, arith, min, ◌==◌, if◌then◌else◌, Bool, true, false, nat_lt, ltb-false, bit_or}
 use Rattle.std.proofs.Math.Nat.{zero-add, suc-add}
 use Rattle.std.proofs.Math.Seq.{take-add}
-use Rattle.std.proofs.lemmas.List.{take_all, length-append, length-replicate, length-drop, get_or-drop}
+use Rattle.std.proofs.lemmas.List.{take_all, length-append, length-replicate, length-drop}
 use Rattle.std.specs.Simd.Lanes.{number_l, digits_l}
 use Rattle.atoi_core.specs.Words.{word_of, low_bytes, low_value}
 use Rattle.std.proofs.lemmas.Bool.{ne_eqb, eqb-true, agree_below_at}
@@ -67,7 +67,7 @@ module _ (s : List ℕ) (fits : (i : ℕ) → get_or s i 0 < 256) (first : ℕ) 
     run_is : (run_len decimal_table s ≡ 8 + run_len decimal_table (drop 8 s)) × (more ≡ min 8 (run_len decimal_table (drop 8 s)))
     run_is = (
       prefix_len-drop (is_digit decimal_table) 8 s (omega (arith, first_run)),
-      more_is ∙ loaded_run 8 (drop 8 s) (fits_after s fits) next next_is ∙ prefix_len-take (is_digit decimal_table) 8 (drop 8 s),
+      more_is ∙ loaded_run 8 (drop 8 s) (fits_after 8 s fits) next next_is ∙ prefix_len-take (is_digit decimal_table) 8 (drop 8 s),
     )
 
     two_words : (leading number : ℕ) → leading ≡ (if more == 8 then zeros decimal_table (take 16 s) else 0) → number ≡ value decimal_table (take (8 + more) s)
@@ -86,13 +86,13 @@ module _ (s : List ℕ) (fits : (i : ℕ) → get_or s i 0 < 256) (first : ℕ) 
         let zeros_are : more ≡ 8 → zeros decimal_table (low_bytes 8 first ++ low_bytes 8 next) ≡ zeros decimal_table (take 16 s) =
         λ e. rw (
           loaded_bytes 8 s fits first first_is (omega (arith, run_is)),
-          loaded_bytes 8 (drop 8 s) (fits_after s fits) next next_is (omega (arith, run_is)),
+          loaded_bytes 8 (drop 8 s) (fits_after 8 s fits) next next_is (omega (arith, run_is)),
           ← take-add 8 8 s,
         ) in
         let leading_zeros : leading ≡ (if more == 8 then zeros decimal_table (take 16 s) else 0) = grind (arith, nat_tests, zeros_are) in
         let parts = value-take-add decimal_table 8 more s (omega (arith, run_is)) in
         two_words leading (high * 10 ^ more + low) leading_zeros
-        (rw (high_is, low_is, loaded_part 8 s fits first first_is 8 full, loaded_part 8 (drop 8 s) (fits_after s fits) next next_is more (omega arith)) (sym parts))
+        (rw (high_is, low_is, loaded_part 8 s fits first first_is 8 full, loaded_part 8 (drop 8 s) (fits_after 8 s fits) next next_is more (omega arith)) (sym parts))
 
     -- or from the word of all sixteen bytes.
     pub window_of_16 : first < 2 ^ 64 → next < 2 ^ 64 → (leading number : ℕ) → let both = bit_or (next * 2 ^ 64 % 2 ^ 128) first in
@@ -114,7 +114,7 @@ pub window_of_both : (s : List ℕ) → 8 < length s → length s < 16 → ((i :
 window_of_both s more few fits first last len high low first_is last_is full full_last len_is high_is low_is =
     let front = length s - 8 in
     let back = drop front s in
-    let fits_back : (i : ℕ) → get_or back i 0 < 256 = λ i. rw get_or-drop (fits (front + i)) in
+    let fits_back = fits_after front s fits in
     let word_is : last ≡ word_of (take 8 back) = last_is ∙ ap word_of (sym (take_all 8 back (omega (arith, length-drop front s)))) in
     let eight : 8 ≤ run_len decimal_table s = omega (arith, full, first_run s fits first first_is) in
     let eight_last : 8 ≤ run_len decimal_table back = omega (arith, full_last, first_run back fits_back last word_is) in
@@ -204,11 +204,9 @@ filled_window s few fits word filling digits found number word_is filling_is dig
     window_ended s found number (omega arith) (omega arith)
     ((rw (total, filled) at number_is) ∙ low_value_filled m found s ∙ loaded_part 8 s fits (word_of s) padded found (omega (arith, first_run s fits (word_of s) padded)))
 
--- Its length and number, from the word.
-pub loaded_digits : (s : List ℕ) → ((i : ℕ) → get_or s i 0 < 256) → (word len number : ℕ) → word ≡ word_of (take 8 s)
-    → len ≡ run_len decimal_table (low_bytes 8 word) → number ≡ low_value (low_bytes len word)
-    → (len ≡ (window_of decimal_table 8 s).len) × (number ≡ (window_of decimal_table 8 s).number)
-loaded_digits s fits word len number is len_is number_is =
+-- The number in a window of eight bytes, from their word.
+pub loaded_number : (s : List ℕ) → ((i : ℕ) → get_or s i 0 < 256) → (word len number : ℕ) → word ≡ word_of (take 8 s)
+    → len ≡ run_len decimal_table (low_bytes 8 word) → number ≡ low_value (low_bytes len word) → number ≡ (window_of decimal_table 8 s).number
+loaded_number s fits word len number is len_is number_is =
     let zeroes = if len == 8 then zeros decimal_table (low_bytes 8 word) else 0 in
-    let same = loaded_window s fits word (record { len = len; zeroes = zeroes; number = number }) is len_is refl number_is in
-    (ap (λ (w : Window). w.len) same, ap (λ (w : Window). w.number) same)
+    ap (λ (w : Window). w.number) (loaded_window s fits word (record { len = len; zeroes = zeroes; number = number }) is len_is refl number_is)
