@@ -17,43 +17,27 @@ use Rattle.atoi_core.proofs.lemmas.Refusals.{refused, refusal-input}
 -- ---- The order of errors
 
 then_both : (first rest : Ordering) → ordering_then first rest ≡ Equal → (first ≡ Equal) × (rest ≡ Equal)
-then_both Equal rest equal = (refl, equal)
-then_both first rest equal = absurd (cc equal)
+then_both first rest equal = grind arith
 
 refusal_cmp-total : IsTotalOrder refusal_cmp
 refusal_cmp-total =
     then_total (on_total rank nat_cmp_total)
     (then_total (on_total numbers nat_list_cmp_total) (on_total input_of nat_list_cmp_total))
 
--- Equal in order: the same numbers and slice.
-same_fields : (a b : Refusal) → refusal_cmp a b ≡ Equal → (numbers a ≡ numbers b) × (input_of a ≡ input_of b)
-same_fields a b equal =
-    let e = then_both (slice_cmp nat_cmp (numbers a) (numbers b)) _ (then_both (nat_cmp (rank a) (rank b)) _ equal).1 in
-    (exact_bytes _ _ e.0, exact_bytes _ _ e.1)
-
+-- Equal in order: the same rank, numbers and slice.
 same-refusal_cmp : (a b : Refusal) → refusal_cmp a b ≡ Equal → a ≡ b
-same-refusal_cmp empty empty equal = refl
-same-refusal_cmp (size m s) (size n t) equal = let e = same_fields (size m s) (size n t) equal in cc
-same-refusal_cmp (overflow s) (overflow t) equal = let e = same_fields (overflow s) (overflow t) equal in cc
-same-refusal_cmp (invalid64 m i s) (invalid64 n j t) equal = let e = same_fields (invalid64 m i s) (invalid64 n j t) equal in cc
-same-refusal_cmp (invalid128 m i s) (invalid128 n j t) equal = let e = same_fields (invalid128 m i s) (invalid128 n j t) equal in cc
-same-refusal_cmp a b equal = cc
-
-refusal_cmp-Equal : (a b : Refusal) → (refusal_cmp a b ≡ Equal) ↔ (a ≡ b)
-refusal_cmp-Equal a b = (same-refusal_cmp a b, λ same. rw (← same) (tied_itself refusal_cmp-total a))
+same-refusal_cmp a b equal =
+    let e = then_both (slice_cmp nat_cmp (numbers a) (numbers b)) _ (then_both (nat_cmp (rank a) (rank b)) _ equal).1 in
+    grind (arith, exact_bytes (numbers a) (numbers b) e.0, exact_bytes (input_of a) (input_of b) e.1)
 
 -- ---- Slices in errors
 
 with_more_err : (more : ℕ) (r : Result (ℤ × ℕ) Refusal) (reason : Refusal) → with_more more r ≡ Err reason → r ≡ Err reason
-with_more_err more (Ok found) reason h = absurd (cc h)
-with_more_err more (Err other) reason h = cc
+with_more_err more r reason h = grind arith
 
 module _ (int : IntType) (form : SignForm) (skip : Bool) (s : List ℕ) (reason : Refusal) where
   abbrev Refuses : Extent → Type 0
   Refuses extent = refused decimal_table int (sign_in int form s).minus extent skip (sign_in int form s).body ≡ Some reason
-
-  whole_refused : whole_call int form skip s ≡ Err reason → Refuses whole
-  whole_refused h = search (arith, whole_call-is, map_unless_err)
 
   pub prefix_refused : prefix_call int form skip s ≡ Err reason → Refuses prefix
   prefix_refused h = search (arith, prefix_call-is, map_unless_err, with_more_err)
@@ -68,7 +52,7 @@ module _ (int : IntType) (form : SignForm) (skip : Bool) (s : List ℕ) (reason 
 
 pub order_and_suffix : (int : IntType) → OrderAndSuffix int
 order_and_suffix int = record {
-  order = refusal_cmp-Equal;
-  whole = λ form skip s reason h. suffix_in int form skip s reason whole (whole_refused int form skip s reason h);
+  order = λ a b. (same-refusal_cmp a b, λ same. rw (← same) (tied_itself refusal_cmp-total a));
+  whole = λ form skip s reason h. suffix_in int form skip s reason whole (search (arith, whole_call-is, map_unless_err));
   prefix = λ form skip s reason h. suffix_in int form skip s reason prefix (prefix_refused int form skip s reason h);
 }

@@ -33,7 +33,8 @@ pub answers_short : {table : Table} (class : Class) (bound limit : ℕ) {skip : 
     (if len == 0 then Err empty else Ok (number, len)) ≡ prefix_magnitude table class bound limit skip s
 answers_short class bound limit less after_skip few long digits number_is len_is =
     let seen = after_skip.window in
-    rw (number_is, len_is) (sym (short_below class bound limit less digits after_skip.skipped seen.reading few (omega arith) seen.below).1)
+    let decides = short_below class bound limit less digits after_skip.skipped seen.reading few (omega arith) seen.below in
+    grind (arith, decides)
 
 -- So do a full window and one that is not: `Ok` for 128 bits.
 pub answers_two : {table : Table} → IsBelowTen table → (bound : ℕ) {skip : Bool} {s : List ℕ} {at before now : ℕ} {first second : Window} {number len : ℕ} →
@@ -103,8 +104,7 @@ last_reason : (invalid : ℕ → ℕ → List ℕ → Refusal) (s : List ℕ) (a
     unless_refused (if a then Some none else (if b then Some long else (if c then Some above
     else (if not (n == length s) then Some (invalid v n s) else None)))) v
     ≡ whole_from_prefix invalid s (unless_refused (if a then Some none else (if b then Some long else (if c then Some above else None))) (v, n))
-last_reason invalid s false false false none long above v n = elim (n == length s) as (λ d. unless_refused (if not d then Some (invalid v n s) else None) v ≡ (if d then Ok v else Err (invalid v n s))) [ true ↦ refl | false ↦ refl ]
-last_reason invalid s a b c none long above v n = refl
+last_reason invalid s a b c none long above v n = grind (arith, nat_tests)
 
 pub whole_is_64 : (table : Table) (bound limit : ℕ) (skip : Bool) (s : List ℕ)
     → whole_magnitude table wide64 bound limit skip s ≡ whole_from_prefix invalid64 s (prefix_magnitude table wide64 bound limit skip s)
@@ -174,19 +174,15 @@ pub narrow_size : (table : Table) (bound limit : ℕ) (skip : Bool) (s : List �
     Err (size 17 s) ≡ prefix_magnitude table narrow bound limit skip s
 narrow_size table bound limit true s long = absurd (cc long)
 narrow_size table bound limit false s long =
-    let many : 16 < run_len table s = ltb-true 16 (run_len table s) (sym long) in
-    let many_count = lt-ltb 16 (significant_len table false s) (omega arith) in
-    let reported : 0 + min (significant_len table false s) 17 ≡ 17 = omega arith in
-    rw (refused_size table narrow bound limit prefix false s (omega arith) many_count) (rw reported refl)
+    let all = refused_size table narrow bound limit prefix false s in
+    grind (arith, nat_tests, all)
 
 -- After 16 digits, a digit follows if the run is longer.
 pub digit_after_16 : (table : Table) (skip : Bool) (s : List ℕ) (w : Window) → run_len table (take 16 s) ≡ 16 →
     w ≡ window_of table 8 (take (length s - 16) (drop 16 s)) → not skip ≡ true → nat_lt 0 w.len ≡ (not skip && nat_lt 16 (run_len table s))
 digit_after_16 table skip s w full is counts =
     let first : 16 ≡ min 16 (run_len table s) = sym full ∙ prefix_len-take (is_digit table) 16 s in
-    let next : w.len ≡ min 8 (run_len table (drop 16 s)) =
-    rw (is, take_rest s 16) (prefix_len-take (is_digit table) 8 (drop 16 s)) in
-    rw counts (grind (arith, nat_tests))
+    rw (is, take_rest s 16, prefix_len-take (is_digit table) 8 (drop 16 s), counts) (grind (arith, nat_tests))
 
 -- ---- Narrow whole slices
 

@@ -20,9 +20,6 @@ use Rattle.atoi_core.proofs.lemmas.Runs.{length-run, run_len-run, digits_all}
 
 -- ---- A number and what follows it
 
-not_digit : (byte : ℕ) (rest : List ℕ) → IsFalse (is_digit decimal_table byte) → ¬ BeginsWithDigit (byte ∷ rest)
-not_digit byte rest not = no_digit (byte ∷ rest) 0 (λ some. not)
-
 -- The law `NumberThenByte`.
 pub number_then_byte : (int : IntType) → IsSized int → NumberThenByte int
 number_then_byte int sized =
@@ -32,18 +29,18 @@ number_then_byte int sized =
         λ h. (
           length h.bytes,
           (
-            laws.of_parts form s h.bytes (byte ∷ rest) number h.parts h.written (not_digit byte rest not),
+            laws.of_parts form s h.bytes (byte ∷ rest) number h.parts h.written (no_digit (byte ∷ rest) 0 (λ more. not)),
             front_rest s h.bytes (byte ∷ rest) h.parts,
           ),
         ),
         λ h. search (arith, take-append-drop),
       );
       cut = λ form s number other byte rest count not h found.
-          let parts = laws.cut form s h.bytes (byte ∷ rest) number other count h.parts h.written (not_digit byte rest not) found in
+          let parts = laws.cut form s h.bytes (byte ∷ rest) number other count h.parts h.written (no_digit (byte ∷ rest) 0 (λ more. not)) found in
           (parts.0, parts.1.1);
       only = λ form s number other byte rest more not h k.
-          let found = laws.of_parts form s k.bytes (byte ∷ more) other k.parts k.written (not_digit byte more not) in
-          let same = laws.cut form s h.bytes (byte ∷ rest) number other (length k.bytes) h.parts h.written (not_digit byte rest not) found in
+          let found = laws.of_parts form s k.bytes (byte ∷ more) other k.parts k.written (no_digit (byte ∷ more) 0 (λ all. not)) in
+          let same = laws.cut form s h.bytes (byte ∷ rest) number other (length k.bytes) h.parts h.written (no_digit (byte ∷ rest) 0 (λ more. not)) found in
           let both : byte ∷ rest ≡ byte ∷ more = sym same.1.1 ∙ front_rest s k.bytes (byte ∷ more) k.parts in (same.0, cc);
     }
 

@@ -2,7 +2,7 @@
 use Rattle.std.proofs.Common.{◌≡◌, ℕ, ◌+◌, ◌-◌, ◌<◌, Bool, true, if◌then◌else◌, eqb, List, ◌++◌, length, take, replicate, Option, Some, None, option_map, refl, ap, arith, take_at, drop_at, length-append, ne_eqb, take-add}
 use Rattle.std.proofs.lemmas.List.{length-replicate}
 use Rattle.std.proofs.lemmas.Bool.Decides.{nat_tests}
-use Rattle.atoi_core.specs.Digit.{decimal_table, is_zero}
+use Rattle.atoi_core.specs.Digit.{decimal_table, is_zero, is_digit}
 use Rattle.atoi_core.specs.Run.{run_len, run, zeros, value}
 use Rattle.atoi_core.specs.Refusal.{Refusal, rank}
 use Rattle.atoi_core.specs.Magnitude.{Extent, whole, prefix, leaves_rest, refusal, unless_refused}
@@ -82,14 +82,6 @@ rest_changes_nothing int form skip s t same =
 abbrev padded : ℕ → List ℕ → List ℕ
 padded count body = replicate count zero_byte ++ body
 
--- The run of the padded body is longer by `count`.
-run_len-padded : (count : ℕ) (body : List ℕ) → run_len decimal_table (padded count body) ≡ count + run_len decimal_table body
-run_len-padded count body = search (arith, prefix_len-replicate_append)
-
--- The padded body has `count` more leading zeros.
-zeros-padded : (count : ℕ) (body : List ℕ) → zeros decimal_table (padded count body) ≡ count + zeros decimal_table body
-zeros-padded count body = prefix_len-replicate_append (is_zero decimal_table) zero_byte refl count body
-
 -- The padded body is longer by `count`.
 length-padded : (count : ℕ) (body : List ℕ) → length (padded count body) ≡ count + length body
 length-padded count body = simp (length-append, length-replicate)
@@ -100,25 +92,25 @@ take-padded count n body = search (arith, length-replicate, take-add, take_at, d
 
 -- The padded run has the same value.
 value-padded : (count : ℕ) (body : List ℕ) → value decimal_table (run decimal_table body) ≡ value decimal_table (run decimal_table (padded count body))
-value-padded count body = search (arith, value-replicate, take-padded, run_len-padded)
+value-padded count body = search (arith, value-replicate, take-padded, prefix_len-replicate_append)
 
 -- Another byte follows the digits in both bodies or in neither.
 followed-padded : (extent : Extent) (count : ℕ) (body : List ℕ)
     → leaves_rest extent (run_len decimal_table body) (length body)
     ≡ leaves_rest extent (run_len decimal_table (padded count body)) (length (padded count body))
 followed-padded prefix count body = refl
-followed-padded whole count body = rw (run_len-padded count body, length-padded count body) (grind (arith, nat_tests))
+followed-padded whole count body = rw (prefix_len-replicate_append (is_digit decimal_table) zero_byte refl count body, length-padded count body) (grind (arith, nat_tests))
 
 -- With zeros skipped, the four tests agree after zeros are added.
 padded_alike : (int : IntType) (extent : Extent) (count : ℕ) (g : Sign) → 0 < run_len decimal_table g.body
     → IsAlike int true extent g (record g { body = padded count g.body })
-padded_alike int extent count g some = search (arith, run_len-padded, zeros-padded, value-padded, followed-padded, ne_eqb)
+padded_alike int extent count g some = search (arith, prefix_len-replicate_append, value-padded, followed-padded, ne_eqb)
 
 -- Zeros after the sign do not change the sign that is consumed.
 sign_of_padded : (int : IntType) (form : SignForm) (s : List ℕ) (count : ℕ) → 0 < run_len decimal_table (sign_in int form s).body
     → sign_in int form (with_zeros int form count s)
     ≡ record { minus = (sign_in int form s).minus; taken = (sign_in int form s).taken; body = padded count (sign_in int form s).body }
-sign_of_padded int form s count some = search (arith, run_len-padded, sign_again)
+sign_of_padded int form s count some = search (arith, prefix_len-replicate_append, sign_again)
 
 -- The law `ZerosChangeNothing`.
 pub zeros_change_nothing : (int : IntType) → ZerosChangeNothing int
@@ -132,7 +124,7 @@ zeros_change_nothing int = record {
   prefix = λ form s count some.
       let g = sign_in int form s in
       let h : Sign = record g { body = padded count g.body } in
-      let more = run_len-padded count g.body in
+      let more = prefix_len-replicate_append (is_digit decimal_table) zero_byte refl count g.body in
       rw (prefix_call-is int form true s, prefix_call-is int form true (with_zeros int form count s), sign_of_padded int form s count some)
       (same_prefix_outcome count g.taken g.taken g.minus g.minus (reason_at int true prefix g) (reason_at int true prefix h)
       (number_at g, len_at g) (number_at h, len_at h) (same_reason int true prefix g h (padded_alike int prefix count g some))
