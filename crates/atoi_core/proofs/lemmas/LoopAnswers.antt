@@ -44,7 +44,7 @@ pub answers_two : {table : Table} → IsBelowTen table → (bound : ℕ) {skip :
 answers_two ten bound {at = at} {second = second} after_skip full following few digits number_is len_is =
     let both = Shows-join after_skip.window full following in
     let decides = short ten wide128 bound 39 (lit< tt) digits after_skip.skipped both (omega arith) (omega arith) in
-    rw (number_is, len_is) (sym (decides.1 ∙ rw (ne_eqb (at + (16 + second.len)) 0 (omega arith)) refl))
+    grind (arith, nat_tests, decides)
 
 -- For 64 bits, a full window and 8 bytes decide.
 pub answers_64 : {table : Table} (bound limit : ℕ) {skip : Bool} {s : List ℕ} {at before now : ℕ} {first_window back : Window} →

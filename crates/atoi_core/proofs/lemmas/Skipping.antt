@@ -1,5 +1,6 @@
 -- Skipping zeros keeps what is found, and the answer to fewer than 16 digits.
 use Rattle.std.proofs.Common.{◌≡◌, ℕ, ◌<◌, ◌≤◌, Bool, true, false, List, Ok, ℤ, refl, arith, le-ltb}
+use Rattle.std.proofs.lemmas.Bool.Decides.{nat_tests}
 use Rattle.std.proofs.Math.Nat.{pow-le-pow_right}
 use Rattle.atoi_core.specs.Digit.{decimal_table}
 use Rattle.atoi_core.specs.Run.{run_len, run, value}
@@ -16,8 +17,7 @@ use Rattle.atoi_core.proofs.lemmas.Texts.{whole_skipping}
 shorter_prefix : (class : Class) (limit : ℕ) (body : List ℕ)
     → is_above (limit_at class prefix false limit) (significant_len decimal_table false body) ≡ false
     → is_above (limit_at class prefix true limit) (significant_len decimal_table true body) ≡ false
-shorter_prefix narrow limit body short = refl
-shorter_prefix class limit body short = shorter (limit_at class prefix false limit) _ _ (omega arith) short
+shorter_prefix class limit body short = grind (arith, nat_tests, shorter)
 
 prefix_skipping : (int : IntType) (form : SignForm) (s : List ℕ) (v : ℤ) (count : ℕ)
     → prefix_call int form false s ≡ Ok (v, count) → prefix_call int form true s ≡ Ok (v, count)
@@ -27,16 +27,12 @@ prefix_skipping int form s v count h = search (arith, found_prefix, ok_prefix, s
 
 few_enough : (class : Class) (extent : Extent) (skip : Bool) (limit count : ℕ) → 16 ≤ limit → count < 16
     → is_above (limit_at class extent skip limit) count ≡ false
-few_enough narrow whole skip limit count least few = refl
-few_enough narrow prefix true limit count least few = refl
-few_enough narrow prefix false limit count least few = le-ltb 16 count (omega arith)
-few_enough class extent skip limit count least few = le-ltb limit count (omega arith)
+few_enough class extent skip limit count least few = grind (arith, nat_tests)
 
 -- A narrow type drops none of the zeros.
 same_dropped : (class : Class) (extent : Extent) (limit digits skipped : ℕ) → class ≡ narrow → skipped ≤ digits → digits < 16
     → (rule_of class extent true limit digits skipped).dropped ≡ (rule_of class extent false limit digits 0).dropped
-same_dropped class whole limit digits skipped is le few = search arith
-same_dropped class prefix limit digits skipped is le few = search arith
+same_dropped class extent limit digits skipped is le few = grind (arith, nat_tests)
 
 module _ (int : IntType) (sized : IsSized int) (minus : Bool) (extent : Extent) (body : List ℕ) (few : run_len decimal_table body < 16) where
   -- Only a narrow type can be too small for so few digits.

@@ -125,15 +125,6 @@ pub Skipped-one : {table : Table} (skip : Bool) {s : List ℕ} {at before now la
 Skipped-one true after_skip one counted = search (arith, after_skip.least)
 Skipped-one false after_skip one counted = grind (arith, nat_tests)
 
--- A window that reports zeros is full of digits, and the report ends at 16 or at the last zero.
-zeros_reported : (table : Table) → IsBelowTen table → (s : List ℕ) (at : ℕ) (w : Window) → at ≤ zeros table s
-    → w ≡ window_of table 16 (take (length s - at) (drop at s)) → 0 < w.zeroes → (w.zeroes ≡ min 16 (zeros table s - at)) × (at + 16 ≤ run_len table s)
-zeros_reported table ten s at w bounded e some =
-    let seen : Shows table 16 (drop at s) w = shows_rest ten 16 s at e in
-    let zeros_are : zeros table s ≡ at + zeros table (drop at s) = prefix_len-drop (is_zero table) at s bounded in
-    let run_is : run_len table s ≡ at + run_len table (drop at s) = prefix_len-drop (is_digit table) at s (omega (arith, bounded, zeros-le table s)) in
-    (omega arith, omega (arith, seen.full some, seen.len_is))
-
 module _ {table : Table} (ten : IsBelowTen table) where
   -- The zeros that a window reports are skipped by one load.
   pub Skipping-next : {skip : Bool} {s : List ℕ} {at after before now next : ℕ} {w : Window} → Skipping table skip s at before now →
@@ -141,7 +132,11 @@ module _ {table : Table} (ten : IsBelowTen table) where
       Skipping table skip s after before next
   Skipping-next {s = s} {at} {after} {before} {now} {next} {w} so_far e one on some turn =
       let zeros_only = so_far.skipped.zeros_only in
-      let reported = zeros_reported table ten s at w zeros_only e some in
+      let seen : Shows table 16 (drop at s) w = shows_rest ten 16 s at e in
+      let zeros_are : zeros table s ≡ at + zeros table (drop at s) = prefix_len-drop (is_zero table) at s zeros_only in
+      let run_is : run_len table s ≡ at + run_len table (drop at s) = prefix_len-drop (is_digit table) at s (omega (arith, zeros_only, zeros-le table s)) in
+      let reported : w.zeroes ≡ min 16 (zeros table s - at) = omega (arith, seen.full some) in
+      let full : at + 16 ≤ run_len table s = omega (arith, seen.full some) in
       let cases = cases_lt w.zeroes 16 in
       search (arith, zeros-le, prefix_len-le-length, false≢true)
 
