@@ -52,11 +52,9 @@ pub answers_64 : {table : Table} (bound limit : ℕ) {skip : Bool} {s : List ℕ
     let number = first_window.number * 10 ^ back.len + back.number in
     (at + (16 + back.len) ≤ length s) × (answer_by_digits wide64 bound limit at (16 + back.len) number s ≡ prefix_magnitude table wide64 bound limit skip s)
 answers_64 {table} bound limit {skip} {s} {at} less after_skip full following =
-    let both = Shows-join after_skip.window full following in
-    let none : skip ≡ true → zeros_both 16 (zeros table (take 16 (drop at s))) (zeros table (take 8 (drop 16 (drop at s)))) ≡ 0 =
-    λ on. rw (none_left after_skip full on) refl in (
+    let both = Shows-join after_skip.window full following in (
       omega (arith, after_skip.within, within both, length-drop at s),
-      sym (all_decide wide64 bound limit less after_skip.skipped both none),
+      sym (all_decide wide64 bound limit less after_skip.skipped both (λ on. rw (none_left after_skip full on) refl)),
     )
 
 -- With more than 4 digits after 16, there are more than the limit, and the number does not matter.
@@ -67,13 +65,7 @@ pub answers_64_few : (bound limit : ℕ) {skip : Bool} {s : List ℕ} {at before
     (at + (16 + more) ≤ length s) × (answer_by_digits wide64 bound limit at (16 + more) number s ≡ prefix_magnitude decimal_table wide64 bound limit skip s)
 answers_64_few bound limit {s = s} {at} {more = more} high after_skip full more_is number_is =
     let exact = answers_64 bound limit (omega arith) after_skip full (shows decimal_below_ten 8 (drop 16 (drop at s)) refl) in
-    let long : 4 < more → nat_lt limit (16 + (window_of decimal_table 8 (drop 16 (drop at s))).len) ≡ true = λ many. lt-ltb limit _ (omega (arith, many)) in (
-      omega (arith, exact.0),
-      elim (cases_lt 4 more) [
-        | inr few ↦ rw (number_is few, more_is) exact.1
-        | inl many ↦ rw (more_is, long many) (rw (long many) at exact.1)
-      ],
-    )
+    (omega (arith, exact.0), grind (arith, nat_tests, exact.1, number_is))
 
 -- For 128 bits, two full windows and 8 bytes decide.
 pub answers_128 : {table : Table} → IsBelowTen table → (bound : ℕ) {skip : Bool} {s : List ℕ} {at before now : ℕ} {first_window middle back : Window} →
@@ -83,13 +75,10 @@ pub answers_128 : {table : Table} → IsBelowTen table → (bound : ℕ) {skip :
     (number < 10 ^ (32 + back.len)) × (at + (32 + back.len) ≤ length s)
     × (answer_by_digits wide128 bound 39 at (32 + back.len) number s ≡ prefix_magnitude table wide128 bound 39 skip s)
 answers_128 {table} ten bound {skip} {s} {at} after_skip full next more following =
-    let all = Shows-join_two after_skip.window full next more following in
-    let others : ℕ = zeros table (take 16 (drop 16 (drop at s))) in
-    let none : skip ≡ true → zeros_both 32 (zeros_both 16 (zeros table (take 16 (drop at s))) others) (zeros table (take 8 (drop 32 (drop at s)))) ≡ 0 =
-    λ on. rw (none_left after_skip full on) refl in (
+    let all = Shows-join_two after_skip.window full next more following in (
       below all ten,
       omega (arith, after_skip.within, within all, length-drop at s),
-      sym (all_decide wide128 bound 39 (lit< tt) after_skip.skipped all none),
+      sym (all_decide wide128 bound 39 (lit< tt) after_skip.skipped all (λ on. rw (none_left after_skip full on) refl)),
     )
 
 -- ---- From prefix to whole slice
