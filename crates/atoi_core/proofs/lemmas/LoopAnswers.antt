@@ -151,11 +151,11 @@ module _ {table : Table} {skip : Bool} {s : List ℕ} {at before now : ℕ} {w :
       (if nat_lt bound w.number then Err (overflow (drop at s)) else Ok (w.number, at + w.len)) ≡ prefix_magnitude table narrow bound limit skip s
   narrow_after_skip bound limit high some =
       let digits : 0 < run_len table s = omega (arith, after_skip.run_is, after_skip.window.len_is) in
+      let short = not_too_long table skip limit s few in
+      let over = refused_overflow table narrow bound limit prefix skip s digits short in
       elim (cases_lt bound w.number) [
-        | inl above ↦
-            rw (lt-ltb bound w.number above, refused_overflow table narrow bound limit prefix skip s digits (not_too_long table skip limit s few) (omega (arith, number_most)))
-            (rw (dropped_is skip limit after_skip) refl)
-        | inr fits ↦ rw (le-ltb bound w.number fits) (search (arith, rest_is, not_too_long, refusal-none))
+        | inl above ↦ rw (lt-ltb bound w.number above, over (omega (arith, number_most)), dropped_is skip limit after_skip) refl
+        | inr fits ↦ rw (le-ltb bound w.number fits) (search (arith, rest_is, short, refusal-none))
       ]
 
 -- More than 16 digits without skipping are the error `Size` of 17.
@@ -220,7 +220,7 @@ narrow_decides {table} {s} {w = w} {len} after_skip len_is bound high =
     let few : true ≡ false → run_len table s ≤ 16 = λ no. absurd (cc no) in
     elim (cases_lt bound w.number) [
       | inl more ↦
-          let some : 0 < w.len = elim (eq-zero-or-pos w.len) [ inl e ↦ absurd (omega (arith, rw e at after_skip.window.below)) | inr h ↦ h ] in
+          let some : 0 < w.len = grind (arith, after_skip.window.below) in
           let above : bound < value table (run table s) = omega (arith, number_most after_skip few) in
           let all = narrow_whole_is table bound 0 false s (run_len table s) (value table (run table s)) refl refl in
           let digits : 0 < run_len table s = omega (arith, after_skip.run_is, after_skip.window.len_is) in

@@ -22,9 +22,4 @@ pub overflow_add-number : goal.overflow_add-number
 overflow_add-number g c = omega (arith, fits_of g c)
 
 pub loop-len-preserved : goal.loop-len-preserved
-loop-len-preserved g c = record {
-  digits = run_more g.A.Alphabet.table c.args.s.now c.loop-len.len c.in-Some.digit_value c.loop-len-test.true (digit_of g c) c.loop-len.invariant.digits;
-  number = ap (λ n. n * 10 + c.in-Some.digit_value) c.loop-len.invariant.number
-      ∙ sym (value_more g.A.Alphabet.table c.args.s.now c.loop-len.len c.in-Some.digit_value c.loop-len-test.true (digit_of g c));
-  small = small_of g c;
-}
+loop-len-preserved g c = search (arith, run_more, value_more, digit_of g c, small_of g c)

@@ -14,12 +14,7 @@ returns-in_default c = record {
 
 pub loop-at-preserved : goal.loop-at-preserved
 loop-at-preserved c =
-    let digit = sym c.digit_value.ensures ∙ c.in-Some.is in
-    record {
-      digits = run_more decimal_table c.args.s.now c.loop-at.at c.in-Some.digit_value c.loop-at-test.true digit c.loop-at.invariant.digits;
-      number = rw c.loop-at.invariant.number (sym (value_more decimal_table c.args.s.now c.loop-at.at c.in-Some.digit_value c.loop-at-test.true digit));
-      bound = c.if-next-bound.false;
-    }
+    let digit = sym c.digit_value.ensures ∙ c.in-Some.is in search (arith, run_more, value_more, digit)
 
 pub returns-else-is_empty : goal.returns-else-is_empty
 returns-else-is_empty c =
