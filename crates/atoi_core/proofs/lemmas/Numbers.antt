@@ -1,5 +1,6 @@
 -- What follows a number, and what an error says about digits.
 use Rattle.std.proofs.Common.{◌≡◌, ◌≢◌, ◌↔◌, ℕ, eqb, eqb-true, ltb-true, ◌<◌, Bool, true, false, IsFalse, List, [], ◌∷◌, ◌++◌, length, drop, refl, sym, ap, ◌∙◌, arith, take-append-drop}
+use Rattle.std.proofs.lemmas.Bool.Decides.{nat_tests}
 use Rattle.std.proofs.lemmas.Bool.{cases_lt, cases_Bool, eqb-false}
 use Rattle.std.proofs.lemmas.List.Prefix.{front_rest}
 use Rattle.std.proofs.lemmas.List.Sums.{prefix_len-le-length, prefix_len_stops}
@@ -11,7 +12,7 @@ use Rattle.atoi_core.specs.IntType.{IntType, IsSized, class_of, bound_of, limit_
 use Rattle.atoi_core.specs.Laws.{sign_in, NumberThenByte, OneNumber, PrefixBegins, NoneOrTooLarge}
 use Rattle.atoi_core.specs.Text.{BeginsWithDigit}
 use Rattle.atoi_core.proofs.lemmas.Calls.{digit_in_range, found_prefix}
-use Rattle.atoi_core.proofs.lemmas.Refusals.{limit_at, significant_len, refusal-cases}
+use Rattle.atoi_core.proofs.lemmas.Refusals.{limit_at, significant_len, refusal-is}
 use Rattle.atoi_core.proofs.lemmas.Bounds.{limit_of_prefix, in_range_short}
 use Rattle.atoi_core.proofs.lemmas.Texts.{digit_is, own, to_std}
 use Rattle.atoi_core.proofs.lemmas.Prefixes.{prefixes_and_rests, accepted_numbers, run_before, no_digit}
@@ -74,28 +75,16 @@ pub none_or_too_large : (int : IntType) → IsSized int → NoneOrTooLarge int
 none_or_too_large int sized = record {
   none = λ form skip s reason h.
       let g = sign_in int form s in
-      let digits = run_len decimal_table g.body in
-      let some : eqb digits 0 ≡ false → digits ≢ 0 = eqb-false digits 0 in
-      refusal-cases decimal_table (class_of int) (bound_of int g.minus) (limit_of int) prefix skip g.body
-      (λ r. (r ≡ empty) ↔ (digits ≡ 0))
-      (λ e. (λ same. eqb-true digits 0 e, λ none. refl))
-      (λ e l. (λ same. absurd (cc same), λ none. absurd (some e none)))
-      (λ e l o. (λ same. absurd (cc same), λ none. absurd (some e none)))
-      (λ e l o f. absurd (cc f))
-      reason (prefix_refused int form skip s reason h);
+      let refused = sym (refusal-is decimal_table (class_of int) (bound_of int g.minus) (limit_of int) prefix skip g.body) ∙ prefix_refused int form skip s reason h in
+      grind (arith, nat_tests, refused);
   too_large = λ form s reason h some.
       let g = sign_in int form s in
       let count = run_len decimal_table g.body in
       let digits = run decimal_table g.body in
       let all = to_std digits (digits_all decimal_table digits (run_len-run decimal_table g.body ∙ sym (length-run decimal_table g.body))) in
+      let refused = sym (refusal-is decimal_table (class_of int) (bound_of int g.minus) (limit_of int) prefix true g.body) ∙ prefix_refused int form true s reason h in
       let above : bound_of int g.minus < value decimal_table digits =
-      refusal-cases decimal_table (class_of int) (bound_of int g.minus) (limit_of int) prefix true g.body
-      (λ r. bound_of int g.minus < value decimal_table digits)
-      (λ e. absurd (omega (arith, some, eqb-true count 0 e)))
-      (λ e l. long_is_above int sized g.minus g.body l)
-      (λ e l o. ltb-true (bound_of int g.minus) (value decimal_table digits) o)
-      (λ e l o f. absurd (cc f))
-      reason (prefix_refused int form true s reason h)
+      grind (arith, nat_tests, refused, long_is_above int sized g.minus g.body)
       in
       record {
         numeral = (omega (arith, length-run decimal_table g.body), all);
