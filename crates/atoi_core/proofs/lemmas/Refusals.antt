@@ -17,16 +17,14 @@ first_none : (a b c d : Bool) (p q r s : Refusal) → first_of a b c d p q r s �
     → (a ≡ false) × (b ≡ false) × (c ≡ false) × (d ≡ false)
 first_none a b c d p q r s h = grind (arith, nat_tests)
 
--- What holds of each result after its test holds of the chosen one.
-first_cases : (P : Refusal → Type 0) (a b c d : Bool) (p q r s : Refusal)
-    → (a ≡ true → P p) → (a ≡ false → b ≡ true → P q) → (a ≡ false → b ≡ false → c ≡ true → P r)
-    → (a ≡ false → b ≡ false → c ≡ false → d ≡ true → P s)
-    → (reason : Refusal) → first_of a b c d p q r s ≡ Some reason → P reason
-first_cases P true b c d p q r s hp hq hr hs reason h = search (arith, hp)
-first_cases P false true c d p q r s hp hq hr hs reason h = search (arith, hq)
-first_cases P false false true d p q r s hp hq hr hs reason h = search (arith, hr)
-first_cases P false false false true p q r s hp hq hr hs reason h = search (arith, hs)
-first_cases P false false false false p q r s hp hq hr hs reason h = absurd (cc h)
+-- What holds of each result holds of the chosen one.
+first_cases : (P : Refusal → Type 0) (a b c d : Bool) (p q r s reason : Refusal) → P p → P q → P r → P s
+    → first_of a b c d p q r s ≡ Some reason → P reason
+first_cases P true b c d p q r s reason hp hq hr hs h = search (arith, hp)
+first_cases P false true c d p q r s reason hp hq hr hs h = search (arith, hq)
+first_cases P false false true d p q r s reason hp hq hr hs h = search (arith, hr)
+first_cases P false false false true p q r s reason hp hq hr hs h = search (arith, hs)
+first_cases P false false false false p q r s reason hp hq hr hs h = absurd (cc h)
 
 first_map : (a b c d : Bool) (p q r s : Refusal)
     → option_map rank (first_of a b c d p q r s) ≡ first_of a b c d (rank p) (rank q) (rank r) (rank s)
@@ -107,21 +105,12 @@ module _ (table : Table) (class : Class) (bound limit : ℕ) (extent : Extent) (
       let tests = first_none is_empty is_long is_over is_followed empty too_long over followed (sym refusal-is ∙ h) in
       record { some = omega (arith, eqb-false (run_len table body) 0 tests.0); short = tests.1; in_range = ltb-false _ _ tests.2; ends = tests.3 }
 
-  -- What holds of each error after its test holds of the reason.
-  pub refusal-cases : (P : Refusal → Type 0)
-      → (is_empty ≡ true → P empty)
-      → (is_empty ≡ false → is_long ≡ true → P too_long)
-      → (is_empty ≡ false → is_long ≡ false → is_over ≡ true → P over)
-      → (is_empty ≡ false → is_long ≡ false → is_over ≡ false → is_followed ≡ true → P followed)
-      → (reason : Refusal) → refusal table class bound limit extent skip body ≡ Some reason → P reason
-  refusal-cases P p q r s reason h = search (arith, first_cases, refusal-is)
-
   pub refusal-input : (reason : Refusal) → refusal table class bound limit extent skip body ≡ Some reason
       → (n : ℕ) × (input_of reason ≡ drop n body)
   refusal-input reason h =
-      refusal-cases (λ r. (n : ℕ) × (input_of r ≡ drop n body))
-      (λ e. (length body, sym (drop-length body))) (λ e l. (skipped_zeros table skip body, refl)) (λ e l o. (rule.dropped, refl))
-      (λ e l o f. (0, input-invalid class _ _ body)) reason h
+      first_cases (λ r. (n : ℕ) × (input_of r ≡ drop n body)) is_empty is_long is_over is_followed empty too_long over followed reason
+      (length body, sym (drop-length body)) (skipped_zeros table skip body, refl) (rule.dropped, refl) (0, input-invalid class _ _ body)
+      (sym refusal-is ∙ h)
 
   pub refusal-rank : option_map rank (refusal table class bound limit extent skip body)
       ≡ first_of is_empty is_long is_over is_followed 0 1 2 (rank (invalid class 0 0 []))
