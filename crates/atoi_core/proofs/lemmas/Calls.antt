@@ -30,14 +30,12 @@ sign_cases signed plus byte bytes P p q r = search (arith, one_of_three)
 
 pub drop-taken : (int : IntType) (form : SignForm) (s : List ℕ) → drop (sign_in int form s).taken s ≡ (sign_in int form s).body
 drop-taken int (looked_for plus) [] = refl
-drop-taken int (looked_for plus) (byte ∷ bytes) =
-    sign_cases int.signed plus byte bytes (λ g. drop g.taken (byte ∷ bytes) ≡ g.body) (λ e. refl) (λ p e. refl) refl
+drop-taken int (looked_for plus) (byte ∷ bytes) = grind (arith, nat_tests)
 drop-taken int (given is_negative) s = refl
 
 pub length-taken : (int : IntType) (form : SignForm) (s : List ℕ) → (sign_in int form s).taken + length (sign_in int form s).body ≡ length s
 length-taken int (looked_for plus) [] = omega arith
-length-taken int (looked_for plus) (byte ∷ bytes) =
-    sign_cases int.signed plus byte bytes (λ g. g.taken + length g.body ≡ length (byte ∷ bytes)) (λ e. omega arith) (λ p e. omega arith) (omega arith)
+length-taken int (looked_for plus) (byte ∷ bytes) = grind (arith, nat_tests)
 length-taken int (given is_negative) s = omega arith
 
 pub digit_in_range : (byte : ℕ) → is_digit decimal_table byte ≡ true → (48 ≤ byte) × (byte ≤ 57)
@@ -56,10 +54,7 @@ pub sign_again : (int : IntType) (form : SignForm) (s t : List ℕ) → 0 < run_
     → sign_in int form (take (sign_in int form s).taken s ++ t)
     ≡ record { minus = (sign_in int form s).minus; taken = (sign_in int form s).taken; body = t }
 sign_again int (looked_for plus) [] t h = sign_of_digits int.signed plus t h
-sign_again int (looked_for plus) (byte ∷ bytes) t h =
-    sign_cases int.signed plus byte bytes
-    (λ g. sign_of int.signed plus (take g.taken (byte ∷ bytes) ++ t) ≡ record { minus = g.minus; taken = g.taken; body = t })
-    (λ e. rw e refl) (λ p e. rw (p, e) refl) (sign_of_digits int.signed plus t h)
+sign_again int (looked_for plus) (byte ∷ bytes) t h = grind (arith, nat_tests, sign_of_digits int.signed plus t h)
 sign_again int (given is_negative) s t h = refl
 
 -- ---- Calls and their results

@@ -20,11 +20,7 @@ first_none a b c d p q r s h = grind (arith, nat_tests)
 -- What holds of each result holds of the chosen one.
 first_cases : (P : Refusal → Type 0) (a b c d : Bool) (p q r s reason : Refusal) → P p → P q → P r → P s
     → first_of a b c d p q r s ≡ Some reason → P reason
-first_cases P true b c d p q r s reason hp hq hr hs h = search (arith, hp)
-first_cases P false true c d p q r s reason hp hq hr hs h = search (arith, hq)
-first_cases P false false true d p q r s reason hp hq hr hs h = search (arith, hr)
-first_cases P false false false true p q r s reason hp hq hr hs h = search (arith, hs)
-first_cases P false false false false p q r s reason hp hq hr hs h = absurd (cc h)
+first_cases P a b c d p q r s reason hp hq hr hs h = grind arith
 
 first_map : (a b c d : Bool) (p q r s : Refusal)
     → option_map rank (first_of a b c d p q r s) ≡ first_of a b c d (rank p) (rank q) (rank r) (rank s)
