@@ -15,19 +15,6 @@ use Rattle.atoi_core.proofs.lemmas.Refusals.{limit_at, significant_len, IsAccept
 
 -- ---- The sign at the start of a slice
 
-one_of_three : (a b : Bool) (x y z : Sign) (P : Sign → Type 0) → (a ≡ true → P x) → (a ≡ false → b ≡ true → P y) → P z → P (cond a x (cond b y z))
-one_of_three true b x y z P p q r = p refl
-one_of_three false true x y z P p q r = q refl refl
-one_of_three false false x y z P p q r = r
-
--- A first byte is a consumed plus, a consumed minus, or neither.
-pub sign_cases : (signed plus : Bool) (byte : ℕ) (bytes : List ℕ) (P : Sign → Type 0)
-    → ((plus && eqb byte plus_sign) ≡ true → P (record { minus = false; taken = 1; body = bytes }))
-    → ((plus && eqb byte plus_sign) ≡ false → (signed && eqb byte minus_sign) ≡ true → P (record { minus = true; taken = 1; body = bytes }))
-    → P (record { minus = false; taken = 0; body = byte ∷ bytes })
-    → P (sign_of signed plus (byte ∷ bytes))
-sign_cases signed plus byte bytes P p q r = search (arith, one_of_three)
-
 pub drop-taken : (int : IntType) (form : SignForm) (s : List ℕ) → drop (sign_in int form s).taken s ≡ (sign_in int form s).body
 drop-taken int (looked_for plus) [] = refl
 drop-taken int (looked_for plus) (byte ∷ bytes) = grind (arith, nat_tests)

@@ -1,5 +1,5 @@
 -- Texts of numbers: std's digits, the accepted texts, and `decimal`. Numbers are below 10^64.
-use Rattle.std.proofs.Common.{◌≡◌, ℕ, suc, ◌+◌, ◌-◌, ◌^◌, ◌<◌, ◌≤◌, Bool, true, false, cond, eqb, List, [], ◌∷◌, length, decimal, Ok, ℤ, pos, negsuc, neg_ℤ, ◌≤ℤ◌, refl, sym, ap, ◌∙◌, arith, add-one, leb→le, le-leb, lt_of_le_of_lt, Some, All, IsTrue, ◌++◌, eqb-true, ◌≢◌, zero, ◌*◌, ◌/◌, ◌%◌, get_or, append_assoc, append-nil, length-append, IsFalse}
+use Rattle.std.proofs.Common.{◌&&◌, inl, inr, ◌≡◌, ℕ, suc, ◌+◌, ◌-◌, ◌^◌, ◌<◌, ◌≤◌, Bool, true, false, cond, eqb, List, [], ◌∷◌, length, decimal, Ok, ℤ, pos, negsuc, neg_ℤ, ◌≤ℤ◌, refl, sym, ap, ◌∙◌, arith, add-one, leb→le, le-leb, lt_of_le_of_lt, Some, All, IsTrue, ◌++◌, eqb-true, ◌≢◌, zero, ◌*◌, ◌/◌, ◌%◌, get_or, append_assoc, append-nil, length-append, IsFalse}
 use Rattle.std.proofs.lemmas.Bool.Decides.{nat_tests}
 use Rattle.std.specs.Fmt.{signed_decimal}
 use Rattle.std.specs.Str.Parse.{AllDigits, IsNumeral, digits_value, digits_value_after}
@@ -13,10 +13,10 @@ use Rattle.atoi_core.specs.Sign.{sign_of, with_sign, plus_sign, minus_sign}
 use Rattle.atoi_core.specs.Answer.{whole_answer, parse_answer}
 use Rattle.atoi_core.specs.Laws.{least_of, TextOfValue, SignForm, looked_for, given, whole_call, Writes, DecimalTexts}
 use Rattle.atoi_core.proofs.lemmas.Runs.{run_all, digits_all}
-use Rattle.atoi_core.proofs.lemmas.Calls.{sign_of_digits, digit_in_range, sign_cases, from_whole, to_whole}
+use Rattle.atoi_core.proofs.lemmas.Calls.{sign_of_digits, digit_in_range, from_whole, to_whole}
 use Rattle.atoi_core.proofs.lemmas.Refusals.{limit_at}
 use Rattle.atoi_core.proofs.lemmas.Bounds.{shorter, limit-least, short_enough, limit_of_whole, bound-limit, bound_below-64}
-use Rattle.std.proofs.lemmas.Bool.{and_parts, ne_eqb, eqb-false}
+use Rattle.std.proofs.lemmas.Bool.{cases_Bool, and_parts, ne_eqb, eqb-false}
 use Rattle.atoi_core.specs.Text.{SignMark, no_sign, plus, minus, sign_bytes, is_minus, is_plus, DigitsWrite, TextWrites, BeginsWithDigit, has_needless_zero}
 use Rattle.std.proofs.Math.ListN.{get_or-append}
 use Rattle.std.specs.Char.{digit_value as std_digit_value}
@@ -139,22 +139,25 @@ pub whole_written : (int : IntType) (form : SignForm) (skip : Bool) (s : List �
     → whole_call int form skip s ≡ Ok number → Writes int form s number
 whole_written int (looked_for takes_plus) skip [] number h = no_mark int takes_plus [] number (digits_written int false skip [] number h)
 whole_written int (looked_for takes_plus) skip (byte ∷ bytes) number h =
-    (sign_cases int.signed takes_plus byte bytes
-    (λ g. whole_answer decimal_table int g.minus skip g.body ≡ Ok number → TextWrites int takes_plus (byte ∷ bytes) number)
-    (λ e is.
-    let both = and_parts takes_plus (eqb byte plus_sign) e in
-    record {
-      sign = plus;
-      digits = bytes;
-      parts = rw (eqb-true byte plus_sign both.1) refl;
-      signed = λ q. absurd (cc q);
-      plus_taken = λ q. both.0;
-      written = digits_written int false skip bytes number is;
-    })
-    (λ p e is.
-    let both = and_parts int.signed (eqb byte minus_sign) e in
-    rw (eqb-true byte minus_sign both.1) (minus_mark int takes_plus bytes number both.0 (digits_written int true skip bytes number is)))
-    (λ is. no_mark int takes_plus (byte ∷ bytes) number (digits_written int false skip (byte ∷ bytes) number is))) h
+    elim (cases_Bool (takes_plus && eqb byte plus_sign)) [
+      | inl e ↦
+          let both = and_parts takes_plus (eqb byte plus_sign) e in
+          record {
+            sign = plus;
+            digits = bytes;
+            parts = rw (eqb-true byte plus_sign both.1) refl;
+            signed = λ q. absurd (cc q);
+            plus_taken = λ q. both.0;
+            written = digits_written int false skip bytes number (rw e at h);
+          }
+      | inr no_plus ↦
+          (elim (cases_Bool (int.signed && eqb byte minus_sign)) [
+            | inl e ↦
+                let both = and_parts int.signed (eqb byte minus_sign) e in
+                rw (eqb-true byte minus_sign both.1) (minus_mark int takes_plus bytes number both.0 (digits_written int true skip bytes number (rw (no_plus, e) at h)))
+            | inr no_minus ↦ no_mark int takes_plus (byte ∷ bytes) number (digits_written int false skip (byte ∷ bytes) number (rw (no_plus, no_minus) at h))
+          ])
+    ]
 whole_written int (given is_negative) skip s number h = digits_written int is_negative skip s number h
 
 -- ---- Texts without needless zeros
