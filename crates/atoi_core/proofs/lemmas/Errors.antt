@@ -1,16 +1,16 @@
 -- Errors: their order, and their slices.
-use Rattle.std.proofs.Common.{arith, ◌≡◌, ◌↔◌, refl, ℕ, ◌+◌, Bool, List, take, drop, Some, Result, Ok, Err, ℤ, sym, ap, ◌∙◌, take-append-drop, drop-drop, Ordering, Equal}
+use Rattle.std.proofs.Common.{arith, ◌≡◌, refl, ℕ, ◌+◌, Bool, List, take, drop, Some, Result, Err, ℤ, sym, ap, ◌∙◌, take-append-drop, drop-drop, Ordering, Equal}
 use Rattle.std.specs.Ordering.{nat_cmp, ordering_then}
 use Rattle.std.specs.Cmp.Lexicographic.{slice_cmp}
 use Rattle.std.specs.Cmp.{IsTotalOrder}
 use Rattle.std.proofs.lemmas.Cmp.{nat_cmp_total, nat_list_cmp_total, on_total, then_total, tied_itself}
 use Rattle.std.proofs.lemmas.Map.Lookups.{exact_bytes}
-use Rattle.atoi_core.specs.Refusal.{Refusal, empty, size, overflow, invalid64, invalid128, rank, numbers, input_of, refusal_cmp}
+use Rattle.atoi_core.specs.Refusal.{Refusal, rank, numbers, input_of, refusal_cmp}
 use Rattle.atoi_core.specs.Digit.{decimal_table}
 use Rattle.atoi_core.specs.Magnitude.{whole, prefix, Extent}
 use Rattle.atoi_core.specs.IntType.{IntType, class_of, bound_of, limit_of}
 use Rattle.atoi_core.specs.Answer.{with_more}
-use Rattle.atoi_core.specs.Laws.{SignForm, sign_in, whole_call, prefix_call, IsSuffix, OrderAndSuffix}
+use Rattle.atoi_core.specs.Laws.{SignForm, sign_in, prefix_call, IsSuffix, OrderAndSuffix}
 use Rattle.atoi_core.proofs.lemmas.Calls.{drop-taken, map_unless_err, whole_call-is, prefix_call-is}
 use Rattle.atoi_core.proofs.lemmas.Refusals.{refused, refusal-input}
 

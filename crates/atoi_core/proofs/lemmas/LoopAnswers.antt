@@ -1,5 +1,5 @@
 -- The answers that follow from the last window of a loop over zeros.
-use Rattle.std.proofs.Common.{◌≡◌, ℕ, ◌+◌, ◌*◌, ◌^◌, ◌<◌, ◌≤◌, Bool, true, List, length, take, drop, Some, Ok, Err, refl, sym, ◌∙◌, lit<, arith, ◌==◌, false, not, None, Result, if◌then◌else◌, ◌-◌, min, get_or, nat_lt, ltb-true, ◌&&◌, inl, inr, le-ltb, ne_eqb, eq-zero-or-pos}
+use Rattle.std.proofs.Common.{◌≡◌, ℕ, ◌+◌, ◌*◌, ◌^◌, ◌<◌, ◌≤◌, Bool, true, List, length, take, drop, Some, Ok, Err, refl, sym, ◌∙◌, lit<, arith, ◌==◌, false, not, None, Result, if◌then◌else◌, ◌-◌, min, get_or, nat_lt, ◌&&◌, inl, inr, le-ltb}
 use Rattle.std.proofs.lemmas.Bool.{cases_lt, lt-ltb}
 use Rattle.std.proofs.lemmas.List.{length-drop, take_rest}
 use Rattle.std.proofs.lemmas.List.Sums.{prefix_len-drop_all}
@@ -12,7 +12,7 @@ use Rattle.atoi_core.specs.declared.engine.window.Window.{Window}
 use Rattle.atoi_core.proofs.lemmas.Refusals.{refusal-is, refused_empty, over, limit_at, significant_len, refusal-none, refused_size, refused_overflow}
 use Rattle.atoi_core.proofs.lemmas.Runs.{decimal_below_ten, prefix_len-take, value-take-le, value-least, run_ends, run_more, value_more}
 use Rattle.atoi_core.proofs.lemmas.Readings.{within, below, short, short_below, all_decide}
-use Rattle.atoi_core.proofs.lemmas.Windows.{Shows, shows, zeros_both, Shows-join, Shows-join_two, Skipped}
+use Rattle.atoi_core.proofs.lemmas.Windows.{Shows, shows, Shows-join, Shows-join_two, Skipped}
 use Rattle.std.proofs.lemmas.Bool.Decides.{nat_tests}
 
 -- ---- Wide types

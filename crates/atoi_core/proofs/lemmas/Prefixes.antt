@@ -1,22 +1,21 @@
 -- Prefix parses: where they stop, how they agree with whole parses, and what they find.
-use Rattle.std.proofs.Common.{zero, suc, is_some, ◌≡◌, ℕ, Bool, List, ◌++◌, length, take, get_or, Ok, ℤ, refl, sym, ap, ◌∙◌, subst, arith, inl, inr, get_or-drop, take-add, add_comm, ◌+◌, ◌<◌, true, IsFalse, [], ◌∷◌, drop, IsOk, Result, Err, eq-eqb, append_assoc, append-nil, length-append, IfOk, IsTrue, OnErr, length-take-le, take-append-drop}
+use Rattle.std.proofs.Common.{zero, suc, is_some, ◌≡◌, ℕ, Bool, List, ◌++◌, length, take, get_or, Ok, ℤ, refl, sym, ap, ◌∙◌, arith, inl, inr, get_or-drop, take-add, add_comm, ◌+◌, ◌<◌, true, IsFalse, [], ◌∷◌, drop, IsOk, Result, Err, eq-eqb, append_assoc, append-nil, length-append, IfOk, IsTrue, OnErr, length-take-le, take-append-drop}
 use Rattle.std.proofs.lemmas.Bool.{cases_lt, cases_Bool}
 use Rattle.std.proofs.lemmas.List.Sums.{prefix_len-le-length, prefix_len_stops}
 use Rattle.atoi_core.specs.Digit.{decimal_table, is_digit}
 use Rattle.atoi_core.specs.Run.{run_len, run, value}
-use Rattle.atoi_core.specs.IntType.{IntType, class_of, limit_of, IsSized}
-use Rattle.atoi_core.specs.Sign.{Sign, sign_of}
+use Rattle.atoi_core.specs.IntType.{IntType, IsSized}
+use Rattle.atoi_core.specs.Sign.{sign_of}
 use Rattle.atoi_core.specs.Laws.{SignForm, sign_in, whole_call, prefix_call, PrefixIsWhole, PrefixOfCut, PrefixStopsAtRest, looked_for, given, Writes, PrefixesAndRests, AcceptedNumbers, AcceptedTexts, WholeResults, PrefixResults}
 use Rattle.atoi_core.proofs.lemmas.Runs.{length-run, run_len-run, zeros-run, run_all}
 use Rattle.atoi_core.proofs.lemmas.Calls.{drop-taken, length-taken, sign_again, digit_in_range, whole_call-is, from_whole, to_whole, IsFound, found_prefix, ok_prefix}
-use Rattle.atoi_core.proofs.lemmas.Refusals.{significant_len}
 use Rattle.atoi_core.proofs.lemmas.Bounds.{long_as_whole, limit_of_prefix, in_range_short}
 use Rattle.std.proofs.Math.Seq.{take-append_seam}
 use Rattle.std.proofs.lemmas.List.Folds.{prefix_len-append}
 use Rattle.std.proofs.lemmas.List.Prefix.{front_rest}
 use Rattle.std.specs.Str.Parse.{AllDigits}
 use Rattle.atoi_core.specs.Answer.{parse_answer, typed_answer, typed_prefix_answer}
-use Rattle.atoi_core.specs.Text.{is_minus, sign_bytes, DigitsWrite, TextWrites, BeginsWithDigit, PrefixWrites}
+use Rattle.atoi_core.specs.Text.{is_minus, sign_bytes, DigitsWrite, BeginsWithDigit, PrefixWrites}
 use Rattle.atoi_core.proofs.lemmas.Texts.{digit_is, own, run_of_digits, sign_of_text, whole_written}
 use Rattle.atoi_core.specs.declared.error.AtoiSimdError.{AtoiSimdError}
 

@@ -1,5 +1,5 @@
 -- A reading of the start of a slice decides the answer of a wide type.
-use Rattle.std.proofs.Common.{◌≡◌, ◌⊎◌, ℕ, ◌+◌, ◌-◌, ◌*◌, ◌^◌, ◌<◌, ◌≤◌, min, Bool, true, false, cond, eqb, ltb, List, length, take, drop, Some, None, Ok, Err, refl, sym, ◌∙◌, inl, inr, arith, ne_eqb, le-ltb, take-take, length-take, length-take-le}
+use Rattle.std.proofs.Common.{◌≡◌, ◌⊎◌, ℕ, ◌+◌, ◌-◌, ◌*◌, ◌^◌, ◌<◌, ◌≤◌, min, Bool, true, cond, eqb, ltb, List, length, take, drop, Some, None, Ok, Err, refl, ◌∙◌, inl, inr, arith, ne_eqb, le-ltb, take-take, length-take, length-take-le}
 use Rattle.std.proofs.Math.Nat.{pow-le-pow_right}
 use Rattle.std.proofs.lemmas.Bool.{cases_lt, lt-ltb}
 use Rattle.std.proofs.lemmas.List.Sums.{prefix_len-le-length}

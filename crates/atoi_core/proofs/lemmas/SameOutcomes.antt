@@ -2,7 +2,7 @@
 use Rattle.std.proofs.Common.{◌≡◌, ℕ, ◌+◌, ◌-◌, ◌<◌, Bool, true, if◌then◌else◌, eqb, List, ◌++◌, length, take, replicate, Option, Some, None, option_map, refl, ap, arith, take_at, drop_at, length-append, ne_eqb, take-add}
 use Rattle.std.proofs.lemmas.List.{length-replicate}
 use Rattle.std.proofs.lemmas.Bool.Decides.{nat_tests}
-use Rattle.atoi_core.specs.Digit.{decimal_table, is_zero, is_digit}
+use Rattle.atoi_core.specs.Digit.{decimal_table, is_digit}
 use Rattle.atoi_core.specs.Run.{run_len, run, zeros, value}
 use Rattle.atoi_core.specs.Refusal.{Refusal, rank}
 use Rattle.atoi_core.specs.Magnitude.{Extent, whole, prefix, leaves_rest, refusal, unless_refused}

@@ -1,10 +1,10 @@
 -- Skipping zeros keeps what is found, and the answer to fewer than 16 digits.
-use Rattle.std.proofs.Common.{◌≡◌, ℕ, ◌<◌, ◌≤◌, Bool, true, false, List, Ok, ℤ, refl, arith, le-ltb}
+use Rattle.std.proofs.Common.{◌≡◌, ℕ, ◌<◌, ◌≤◌, Bool, true, false, List, Ok, ℤ, arith}
 use Rattle.std.proofs.lemmas.Bool.Decides.{nat_tests}
 use Rattle.std.proofs.Math.Nat.{pow-le-pow_right}
 use Rattle.atoi_core.specs.Digit.{decimal_table}
 use Rattle.atoi_core.specs.Run.{run_len, run, value}
-use Rattle.atoi_core.specs.Magnitude.{Class, narrow, Extent, whole, prefix, is_above, rule_of}
+use Rattle.atoi_core.specs.Magnitude.{Class, narrow, Extent, prefix, is_above, rule_of}
 use Rattle.atoi_core.specs.IntType.{IntType, IsSized, class_of, bound_of}
 use Rattle.atoi_core.specs.Laws.{SignForm, prefix_call, SkippingAgrees}
 use Rattle.atoi_core.proofs.lemmas.Runs.{value-below, length-run, zeros-le, decimal_below_ten}

@@ -1,5 +1,5 @@
 -- One more digit keeps the invariant, and the number still fits in 64 bits.
-use Rattle.std.proofs.Common.{◌≡◌, ◌<◌, ◌+◌, ◌*◌, ◌^◌, ap, ◌∙◌, sym, Some, get_or, arith}
+use Rattle.std.proofs.Common.{◌≡◌, ◌<◌, ◌+◌, ◌*◌, ◌^◌, ◌∙◌, sym, Some, get_or, arith}
 use Rattle.atoi_core.proofs.lemmas.Runs.{value_more, run_more, digit_is_below_ten, digit_joins, sixteen_digits}
 use Rattle.atoi_core.proofs.engine.alphabet.read_run.Goals as goal
 use Rattle.atoi_core.proofs.engine.alphabet.read_run.Goals.{In-Some}
