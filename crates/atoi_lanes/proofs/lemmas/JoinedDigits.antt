@@ -9,8 +9,6 @@ use Rattle.atoi_core.specs.Run.{value}
 use Rattle.atoi_lanes.specs.Lanes.{itself, paired}
 use lib.Lanes.{Each1, number_l, digits_l, dots, fold_l, zip2}
 
--- ---- Fours
-
 -- How many lanes, and which weights, m groups of four digits have.
 abbrev four_each : ℕ → ℕ
 four_each zero = zero
@@ -74,27 +72,12 @@ fours_16 f below =
       all = omega arith;
     }
 
-fours_of : (xs : List ℕ) → length xs ≡ 16 → HasFours xs
-fours_of xs long = subst HasFours (pick_l_whole 0 xs 16 long) (fours_16 (λ i. get_or xs i 0))
-
 -- A number, split into n lanes of base p.
 number-digits : (p n x : ℕ) → 0 < p → x < p ^ n → number_l p (digits_l p n x) ≡ x
 number-digits p zero x some lt = omega (arith, pow-zero p)
 number-digits p (suc n) x some lt =
     let above : x / p < p ^ n = (div-lt_iff_lt-mul {k = p} some).1 (omega (arith, pow-suc p n)) in
     ap (λ m. x % p + p * m) (number-digits p n (x / p) some above) ∙ omega (arith, div-add-mod x p)
-
-pub fours_joined : (digits : List ℕ) → length digits ≡ 16 → Each1 (λ x. x < 10) digits
-    → digits_l (2 ^ 64) 2 (number_l 256 (digits_l 256 16 (number_l (2 ^ 32)
-    (dots (digits_l 256 16 (number_l 65536 (map joined (digits_l 65536 8 (number_l 256 digits))))) (hundreds 4)))))
-    ≡ digits_l (2 ^ 64) 2 (number_l (2 ^ 32) (paired 100 (paired 10 digits)))
-fours_joined digits long below =
-    let known = fours_of digits long below in
-    let fits : number_l (2 ^ 32) (paired 100 (paired 10 digits)) < 256 ^ 16 = rw known.are (omega (arith, known.below)) in
-    ap (λ l. digits_l (2 ^ 64) 2 (number_l 256 (digits_l 256 16 (number_l (2 ^ 32) l)))) known.made
-    ∙ ap (digits_l (2 ^ 64) 2) (number-digits 256 16 _ (omega arith) fits)
-
--- ---- Eights
 
 abbrev plus : ℕ → ℕ → ℕ
 plus a b = (a + b) % 2 ^ 64
@@ -116,7 +99,15 @@ two-joined x y a b = rw (and_mask x 32, and_mask y 32) (omega arith)
 
 module _ (digits : List ℕ) (long : length digits ≡ 16) (below : Each1 (λ x. x < 10) digits) where
   known : Fours digits (four digits 0) (four digits 1) (four digits 2) (four digits 3)
-  known = fours_of digits long below
+  known = subst HasFours (pick_l_whole 0 digits 16 long) (fours_16 (λ i. get_or digits i 0)) below
+
+  pub fours_joined : digits_l (2 ^ 64) 2 (number_l 256 (digits_l 256 16 (number_l (2 ^ 32)
+      (dots (digits_l 256 16 (number_l 65536 (map joined (digits_l 65536 8 (number_l 256 digits))))) (hundreds 4)))))
+      ≡ digits_l (2 ^ 64) 2 (number_l (2 ^ 32) (paired 100 (paired 10 digits)))
+  fours_joined =
+      let fits : number_l (2 ^ 32) (paired 100 (paired 10 digits)) < 256 ^ 16 = rw known.are (omega (arith, known.below)) in
+      ap (λ l. digits_l (2 ^ 64) 2 (number_l 256 (digits_l 256 16 (number_l (2 ^ 32) l)))) known.made
+      ∙ ap (digits_l (2 ^ 64) 2) (number-digits 256 16 _ (omega arith) fits)
 
   module _ (fields : List ℕ) (are : fields ≡ digits_l (2 ^ 64) 2 (number_l (2 ^ 32) (paired 100 (paired 10 digits)))) where
     lanes : fields ≡ (four digits 1 * 2 ^ 32 + four digits 0) ∷ (four digits 3 * 2 ^ 32 + four digits 2) ∷ []

@@ -2,29 +2,28 @@
 use Rattle.std.proofs.Common.{◌≡◌, ℕ, ◌+◌, ◌-◌, ◌<◌, ◌≤◌, false, List, length, take, drop, Ok, sym, ◌∙◌, ap, arith, ne_eqb, le-ltb}
 use Rattle.std.specs.Int.{trailing_zeros, w16}
 use Rattle.std.proofs.Math.Nat.{zero-add}
-use Rattle.std.proofs.lemmas.List.{length-drop, take-append-le, take-take, take_all}
+use Rattle.std.proofs.lemmas.List.{length-drop, take_all}
 use Rattle.std.proofs.lemmas.List.Sums.{prefix_len-le-length}
 use Rattle.atoi_core.specs.Digit.{decimal_table, is_digit}
 use Rattle.atoi_core.specs.Run.{run_len, value}
 use Rattle.atoi_core.proofs.lemmas.Readings.{widened}
 use Rattle.atoi_core.proofs.lemmas.Runs.{prefix_len-take, value-take-add}
-use Rattle.atoi_lanes.proofs.lemmas.LaneWindows.{reading_of_lanes}
+use Rattle.atoi_lanes.proofs.lemmas.LaneWindows.{digits_shown, first_lanes, reading_of_lanes}
 use Rattle.atoi_lanes.proofs.lemmas.WideAnswers.{by_digits, ended_at_16, few_digits}
 use Rattle.atoi_lanes.proofs.wide_lanes.prefix_64_unskipped.Goals as goal
 use Rattle.atoi_lanes.proofs.wide_lanes.prefix_64_unskipped.Goals.{Else-others-ne0}
 
 -- The full vector has the first 16 bytes, which are digits.
-full : (c : Else-others-ne0) → let s : List ℕ = c.args.s.now in
-    (c.load_lanes-first.result ≡ take 16 s) × (16 ≤ run_len decimal_table s)
+full : (c : Else-others-ne0) → 16 ≤ run_len decimal_table c.args.s.now
 full c =
-    let s : List ℕ = c.args.s.now in
-    let lanes : c.load_lanes-first.result ≡ take 16 s = c.load_lanes-first.ensures ∙ take-append-le 16 s _ c.requires.enough in
-    let digits = sym (c.others-others.ensures.none c.if-others-ne0.false) ∙ ap (run_len decimal_table) lanes ∙ prefix_len-take (is_digit decimal_table) 16 s in
-    (lanes, omega (arith, digits))
+    let s = c.args.s.now in
+    let lanes = sym (c.others-others.ensures.none c.if-others-ne0.false) ∙ ap (run_len decimal_table) c.load_lanes-first.ensures in
+    omega (arith, lanes, digits_shown s, prefix_len-take (is_digit decimal_table) 16 s)
 
 high_is : (c : Else-others-ne0) (high : ℕ) → high ≡ value decimal_table (take 16 c.load_lanes-first.result) → high ≡ value decimal_table (take 16 c.args.s.now)
 high_is c high summed =
-    summed ∙ ap (λ lanes. value decimal_table (take 16 lanes)) (full c).0 ∙ ap (value decimal_table) (take-take 16 16 c.args.s.now (omega arith))
+    summed ∙ ap (λ lanes. value decimal_table (take 16 lanes)) c.load_lanes-first.ensures
+    ∙ ap (value decimal_table) (first_lanes 16 c.args.s.now (omega arith) c.requires.enough)
 
 pub returns-then-others-ne0-clause-answer : goal.returns-then-others-ne0-clause-answer
 returns-then-others-ne0-clause-answer c =
@@ -40,12 +39,12 @@ returns-then-s-eq16-clause-answer c =
     let s : List ℕ = c.args.s.now in
     let r = c.requires in
     let at = (goal.at.returns-then-s-eq16-clause-answer c).Else-others-ne0 in
-    let all : run_len decimal_table s ≡ 16 = omega (arith, (full at).1, c.if-s-eq16.true, prefix_len-le-length (is_digit decimal_table) s) in
+    let all : run_len decimal_table s ≡ 16 = omega (arith, full at, c.if-s-eq16.true, prefix_len-le-length (is_digit decimal_table) s) in
     ap (λ len. Ok (c.sum_lanes-then-s-eq16.result, len)) c.if-s-eq16.true
     ∙ ended_at_16 c.args.bound c.args.limit s _ r.limit_low r.limit_high r.digits all (high_is at _ c.sum_lanes-then-s-eq16.ensures)
 
 pub last_four-requires-clause-full : goal.last_four-requires-clause-full
-last_four-requires-clause-full c = (full (goal.at.last_four-requires-clause-full c).Else-others-ne0).1
+last_four-requires-clause-full c = full (goal.at.last_four-requires-clause-full c).Else-others-ne0
 
 pub returns-in-Some-clause-answer : goal.returns-in-Some-clause-answer
 returns-in-Some-clause-answer c =
@@ -63,7 +62,7 @@ returns-in-Some-clause-answer c =
     ∙ (rw (zero-add (length s), ne_eqb (length s) 0 (omega arith), le-ltb c.args.limit (length s) c.if-s-limit.true) at known.2)
 
 pub prefix_64_after_16-requires-clause-full : goal.prefix_64_after_16-requires-clause-full
-prefix_64_after_16-requires-clause-full c = (full (goal.at.prefix_64_after_16-requires-clause-full c).Else-others-ne0).1
+prefix_64_after_16-requires-clause-full c = full (goal.at.prefix_64_after_16-requires-clause-full c).Else-others-ne0
 
 pub prefix_64_after_16-requires-clause-number : goal.prefix_64_after_16-requires-clause-number
 prefix_64_after_16-requires-clause-number c =
