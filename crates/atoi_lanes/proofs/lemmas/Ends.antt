@@ -6,7 +6,7 @@ use Rattle.std.proofs.lemmas.List.{length-append, length-drop, length-map, lengt
 use Rattle.std.proofs.lemmas.List.Folds.{prefix_len-append}
 use Rattle.std.proofs.lemmas.List.Sums.{prefix_len-le-length}
 use Rattle.std.proofs.lemmas.Simd.{Each1-chunk, SwzOk, pick_l_whole, swz_l}
-use Rattle.atoi_core.specs.Digit.{decimal_table, is_digit}
+use Rattle.atoi_core.specs.Digit.{decimal_table}
 use Rattle.atoi_core.specs.Run.{run_len, value}
 use Rattle.atoi_core.specs.Words.{word_of}
 use Rattle.atoi_core.proofs.lemmas.LoadedWords.{bytes, word_appended}
@@ -80,16 +80,7 @@ module _ (s : List ℕ) (enough : 8 ≤ length s) where
   -- All of them are digits if and only if all bytes are.
   pub ends_run : length s < 16 → (run_len decimal_table (ends s) ≡ 16 → run_len decimal_table s ≡ length s)
       × (run_len decimal_table s ≡ length s → run_len decimal_table (ends s) ≡ 16)
-  ends_run few =
-      let digit = is_digit decimal_table in
-      let rest = drop (length s - 8) s in
-      let first = prefix_len-take digit 8 s in
-      let both = prefix_len-append digit (take 8 s) rest in
-      let some = prefix_len-le-length digit s in
-      let others = prefix_len-le-length digit rest in (
-        λ all. grind (arith, nat_tests, first, both, front, back, others, some, all, prefix_len-drop digit (length s - 8) s),
-        λ all. grind (arith, nat_tests, first, both, front, back, all, prefix_len-drop digit (length s - 8) s (omega arith)),
-      )
+  ends_run few = search (arith, nat_tests, prefix_len-take, prefix_len-append, prefix_len-le-length, prefix_len-drop, front, back)
 
   pub moved : length s < 16 → Moved s
   moved few =

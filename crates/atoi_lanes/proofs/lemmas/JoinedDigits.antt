@@ -88,7 +88,7 @@ times a b = a * b % 2 ^ 64
 -- Two fours in one lane.
 in_lanes : (a b c d : ℕ) → Each1 (λ x. x < 10000) (a ∷ b ∷ c ∷ d ∷ [])
     → digits_l (2 ^ 64) 2 (number_l (2 ^ 32) (a ∷ b ∷ c ∷ d ∷ [])) ≡ (b * 2 ^ 32 + a) ∷ (d * 2 ^ 32 + c) ∷ []
-in_lanes a b c d below = ap₂ (λ x y. x ∷ y ∷ []) (omega (arith, below)) (omega (arith, below))
+in_lanes a b c d below = search arith
 
 eight-joins : (x y : ℕ) → x < 10000 → y < 10000 → plus (times (bit_and (y * 2 ^ 32 + x) 4294967295) 10000) ((y * 2 ^ 32 + x) / 2 ^ 32) ≡ x * 10000 + y
 eight-joins x y a b = rw (and_mask (y * 2 ^ 32 + x) 32) (omega arith)

@@ -1,5 +1,5 @@
 -- The lanes of a slice, and the windows and readings that they show.
-use Rattle.std.proofs.Common.{◌≡◌, ℕ, ◌+◌, ◌<◌, List, ◌++◌, get_or, length, take, replicate, min, refl, sym, ap, ap₂, ◌∙◌, arith, ◌≤◌}
+use Rattle.std.proofs.Common.{◌≡◌, ℕ, ◌+◌, ◌<◌, List, ◌++◌, get_or, length, take, replicate, min, refl, sym, ap, ◌∙◌, arith, ◌≤◌}
 use Rattle.std.proofs.Math.Nat.{min_comm}
 use Rattle.std.proofs.lemmas.Bool.{ne_eqb}
 use Rattle.std.proofs.lemmas.List.{take_all, take_min, length-take, take-append-le, take-take}
@@ -64,10 +64,4 @@ window_of_half n s is =
 -- The lanes of 16 bytes give a reading of these.
 pub reading_of_lanes : (s lanes : List ℕ) (len number : ℕ) → lanes ≡ padded_start 16 s → len ≡ run_len decimal_table lanes
     → number ≡ value decimal_table (take len lanes) → Reading decimal_table 16 s len (zeros decimal_table lanes) number
-reading_of_lanes s lanes len number loaded digits writes =
-    let same = digits ∙ ap (run_len decimal_table) loaded in
-    record {
-      digits_are = same ∙ digits_shown s;
-      leading_are = ap (zeros decimal_table) loaded ∙ zeros_shown s;
-      number_is = writes ∙ ap₂ (λ n l. value decimal_table (take n l)) same loaded ∙ ap (value decimal_table) (run_shown s);
-    }
+reading_of_lanes s lanes len number loaded digits writes = search (arith, digits_shown, zeros_shown, run_shown)
