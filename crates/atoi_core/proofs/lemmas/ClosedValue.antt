@@ -24,12 +24,10 @@ sum_below-suc (suc n) f = omega (arith, sum_below-suc n f)
 pub value_is_closed : (table : Table) (s : List ℕ) → value table s ≡ closed_value table s
 value_is_closed table [] = refl
 value_is_closed table (digit ∷ digits) =
-    let n : ℕ = length digits in
-    let term : ℕ → ℕ = λ i. digit_value table (slice_index (digit ∷ digits) i) * 10 ^ (suc n - 1 - i) in
-    let rest : ℕ → ℕ = λ i. digit_value table (slice_index digits i) * 10 ^ (n - 1 - i) in
-    let first : n ≡ suc n - 1 - 0 = omega arith in
-    let next : (i : ℕ) → n - 1 - i ≡ suc n - 1 - suc i = λ i. omega arith in
+    let term : ℕ → ℕ = λ i. digit_value table (slice_index (digit ∷ digits) i) * 10 ^ (suc (length digits) - 1 - i) in
+    let rest : ℕ → ℕ = λ i. digit_value table (slice_index digits i) * 10 ^ (length digits - 1 - i) in
+    let next : (i : ℕ) → rest i ≡ term (suc i) = λ i. ap (λ (k : ℕ). digit_value table (slice_index digits i) * 10 ^ k) (omega arith) in
+    let first : length digits ≡ suc (length digits) - 1 - 0 = omega arith in
     ap (λ (k : ℕ). digit_value table digit * 10 ^ k + value table digits) first
-    ∙ ap (λ (k : ℕ). term 0 + k) (value_is_closed table digits
-    ∙ sum_below-equal n rest (λ i. term (suc i)) (λ i. ap (λ (k : ℕ). digit_value table (slice_index digits i) * 10 ^ k) (next i)))
-    ∙ sym (sum_below-suc n term)
+    ∙ ap (λ (k : ℕ). term 0 + k) (value_is_closed table digits ∙ sum_below-equal (length digits) rest (λ i. term (suc i)) next)
+    ∙ sym (sum_below-suc (length digits) term)

@@ -39,37 +39,31 @@ pub slice_bounds-next_window-count : goal.slice_bounds-next_window-count
 slice_bounds-next_window-count g c = slice_bounds-next_window-start g c
 
 -- Without a digit after them, the first 16 are all.
-pub returns-in-None : goal.returns-in-None
-returns-in-None g c =
+pub returns-in-None-clause-answer : goal.returns-in-None-clause-answer
+returns-in-None-clause-answer g c bound digits =
     let s = c.args.s.now in
-    let after_skip = last g (goal.at.returns-in-None g c).After-window-first c.else-skip.either in
+    let after_skip = last g (goal.at.returns-in-None-clause-answer g c).After-window-first c.else-skip.either in
     let none : run_len g.E.Engine.table (drop 16 s) ≡ 0 = rw take_rest at c.in-None.ensures.window in
-    let window = window_of g.E.Engine.table 16 (drop 16 s) in
-    let back : Shows g.E.Engine.table 16 (drop 16 s) window = shows g.met.E.Engine.below_ten 16 (drop 16 s) refl in
-    let len : window.len ≡ 0 = omega (arith, back.len_is, none) in
+    let back = shows {table = g.E.Engine.table} g.met.E.Engine.below_ten 16 (drop 16 s) refl in
+    let len : (window_of g.E.Engine.table 16 (drop 16 s)).len ≡ 0 = omega (arith, back.len_is, none) in
     let number = rw len at back.below in
-    record {
-      answer = λ bound digits.
-          answers_two g.met.E.Engine.below_ten bound after_skip c.if-first-lt16.false back (omega (arith, len)) digits (rw len (omega (arith, number))) (omega (arith, len));
-      loads = Skipped-loads after_skip 1 (omega (arith, c.in-None.ensures.one_step)) (omega arith) (omega arith);
-      none_only_from_32 = search rules;
-      fewest = omega arith;
-      most = omega arith;
-    }
+    answers_two g.met.E.Engine.below_ten bound after_skip c.if-first-lt16.false back (omega (arith, len)) digits (rw len (omega (arith, number))) (omega (arith, len))
 
-pub returns-then-second-lt16 : goal.returns-then-second-lt16
-returns-then-second-lt16 g c =
-    let s = c.args.s.now in
-    let after_skip = last g (goal.at.returns-then-second-lt16 g c).After-window-first c.else-skip.either in
-    let second = shows_rest g.met.E.Engine.below_ten 16 s 16 c.in-Some.ensures.window in
-    record {
-      answer = λ bound digits.
-          answers_two g.met.E.Engine.below_ten bound after_skip c.if-first-lt16.false second c.if-second-lt16.true digits (cc) (omega arith);
-      loads = Skipped-loads after_skip 1 (omega (arith, c.in-Some.ensures.one_step)) (omega arith) (omega arith);
-      none_only_from_32 = search rules;
-      fewest = omega arith;
-      most = omega arith;
-    }
+pub returns-in-None-clause-loads : goal.returns-in-None-clause-loads
+returns-in-None-clause-loads g c =
+    let after_skip = last g (goal.at.returns-in-None-clause-loads g c).After-window-first c.else-skip.either in
+    Skipped-loads after_skip 1 (omega (arith, c.in-None.ensures.one_step)) (omega arith) (omega arith)
+
+pub returns-then-second-lt16-clause-answer : goal.returns-then-second-lt16-clause-answer
+returns-then-second-lt16-clause-answer g c bound digits =
+    let after_skip = last g (goal.at.returns-then-second-lt16-clause-answer g c).After-window-first c.else-skip.either in
+    let second = shows_rest g.met.E.Engine.below_ten 16 c.args.s.now 16 c.in-Some.ensures.window in
+    answers_two g.met.E.Engine.below_ten bound after_skip c.if-first-lt16.false second c.if-second-lt16.true digits (cc) (omega arith)
+
+pub returns-then-second-lt16-clause-loads : goal.returns-then-second-lt16-clause-loads
+returns-then-second-lt16-clause-loads g c =
+    let after_skip = last g (goal.at.returns-then-second-lt16-clause-loads g c).After-window-first c.else-skip.either in
+    Skipped-loads after_skip 1 (omega (arith, c.in-Some.ensures.one_step)) (omega arith) (omega arith)
 
 pub returns-clause-none_only_from_32 : goal.returns-clause-none_only_from_32
 returns-clause-none_only_from_32 g c none off =
