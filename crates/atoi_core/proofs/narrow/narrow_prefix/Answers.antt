@@ -1,5 +1,5 @@
 -- A first window without zeros to skip decides.
-use Rattle.std.proofs.Common.{◌≡◌, ◌+◌, ◌≤◌, ℕ, Bool, false, not, ◌&&◌, ◌||◌, nat_lt, min, ap, if◌then◌else◌, inl, inr, sym, ◌∙◌, ltb-false, arith}
+use Rattle.std.proofs.Common.{◌≡◌, ◌+◌, ◌≤◌, false, ◌||◌, nat_lt, min, ap, if◌then◌else◌, inl, inr, ◌∙◌, arith}
 use Rattle.std.proofs.lemmas.Bool.Decides.{nat_tests}
 use Rattle.atoi_core.specs.declared.engine.window.Window.{Window}
 use Rattle.atoi_core.specs.Digit.{is_digit}
@@ -16,10 +16,6 @@ returns-then-window-eq0-clause-answer g c =
     c.first_window-window.ensures.window c.first_window-window.ensures.one_step (omega arith) in
     answers_empty _ _ _ after_skip (omega arith)
 
--- Not skipped and not too long: at most 16 digits.
-few : (skip : Bool) (digits : ℕ) → false ≡ (not skip && nat_lt 16 digits) → skip ≡ false → digits ≤ 16
-few skip digits short counts = ltb-false 16 digits (rw counts at (sym short))
-
 -- The first window has all digits, or a second one is loaded and has none.
 second : (g : _) (c : After-answer_at g) →
     (c.else-window-eq16.steps ≡ c.first_window-window.new.steps + (if c.args.skip || nat_lt (run_len g.E.Engine.table c.args.s.now) 16 then 0 else 1))
@@ -29,7 +25,7 @@ second g c =
     ap (λ (w : Window). w.len) c.first_window-window.ensures.window ∙ prefix_len-take (is_digit g.E.Engine.table) 16 c.args.s.now in
     elim c.else-window-eq16.branch [
       | else-window-eq16-via-then-window-eq16+else-is_too_long w ↦
-          (grind (arith, nat_tests, w.steps-is, w.is_too_long.ensures.loads, w.if-window-eq16.true), few _ _ w.if-is_too_long.ensures.answer)
+          (grind (arith, nat_tests, w.steps-is, w.is_too_long.ensures.loads, w.if-window-eq16.true), λ off. grind (arith, nat_tests, w.if-is_too_long.ensures.answer, off))
       | else-window-eq16-via-else-window-eq16 w ↦
           (grind (arith, nat_tests, w.steps-is, w.if-window-eq16.false), λ _. grind (arith, nat_tests, w.if-window-eq16.false))
     ]

@@ -3,7 +3,7 @@ use Rattle.std.proofs.Common.{◌≡◌, ◌⊎◌, ◌<◌, ◌≤◌, true, fa
 use Rattle.std.proofs.lemmas.List.{take_rest}
 use Rattle.std.proofs.lemmas.List.Sums.{prefix_len-le-length}
 use Rattle.atoi_core.proofs.lemmas.LoopAnswers.{answers_short, answers_two}
-use Rattle.atoi_core.proofs.lemmas.Windows.{Shows, Skipped, Skipped-at_once, Skipped-first, Skipped-loads, shows, shows_rest, two_full}
+use Rattle.atoi_core.proofs.lemmas.Windows.{Skipped, Skipped-at_once, Skipped-first, Skipped-loads, shows, shows_rest, two_full}
 use Rattle.atoi_core.specs.Reading.{window_of}
 use Rattle.atoi_core.specs.Run.{run_len}
 use Rattle.atoi_core.proofs.wide.first_two_windows.Goals as goal
