@@ -4,10 +4,10 @@ ghost use Rattle.std.specs.Int.{trailing_zeros, w16};
 ghost use Rattle.std.specs.Simd.Lanes.{Each1, mask_l, digits_l, number_l};
 ghost use Rattle.atoi_core.specs.Digit.{decimal_table, is_digit};
 ghost use Rattle.atoi_core.specs.Run.{run_len, zeros, value};
-ghost use Rattle.atoi_core.specs.Words.{word_of};
+ghost use Rattle.atoi_core.specs.Words.{low_bytes, low_value, word_of};
 ghost use Rattle.atoi_lanes.specs.Lanes.{IsShortRun, itself, padded, padded_start, paired};
 
-use atoi_core::word_digits::{ZEROS, digits_of, fill_of_zeros, number_in_word};
+use atoi_core::word_digits::{ZEROS, digits_of, fill_of_zeros};
 use atoi_core::word_loads::{load_8, load_full, load_high, load_last};
 use std::simd::prelude::*;
 
@@ -186,11 +186,21 @@ pub(crate) fn read_short(s: &[u8]) -> ShortRun
     let filled = load_high(s) + fill_of_zeros(s.len());
     let digits = digits_of(filled);
     if digits == 8 {
-        // The number need not wait for its length, and `digits_of` subtracts the same.
-        return ShortRun::Whole(number_in_half(half(filled.wrapping_sub(ZEROS))));
+        // The number need not wait for its length.
+        return ShortRun::Whole(value_in_half(filled, 8));
     }
     let len = digits - (8 - s.len() as u32);
-    ShortRun::Part(len, number_in_word(filled, digits))
+    ShortRun::Part(len, value_in_half(filled, digits))
+}
+
+// `value_of` of the words, by half a vector: in a loop, fewer constants need registers.
+fn value_in_half(word: u64, len: u32) -> u64
+    requires some { 1 ≤ len }
+    requires few { len ≤ 8 }
+    requires digits { len ≤ run_len decimal_table (low_bytes 8 word) }
+    ensures { result ≡ low_value (low_bytes len word) }
+{
+    number_in_half(half(word.wrapping_sub(ZEROS) << (64 - 8 * len)))
 }
 
 // Returns the bytes of a word in the first eight lanes, the lowest first. The others are 0.
@@ -202,7 +212,7 @@ pub(crate) fn half(word: u64) -> u8x16
 
 #[tactic(auto, using(crate::proofs::lemmas::JoinedDigits::half_joined))]
 pub(crate) fn number_in_half(digits: u8x16) -> u64
-    requires { Each1 (λ digit. digit < 10) digits }
+    requires { Each1 (λ digit. digit < 16) digits }
     ensures { result ≡ value itself (take 8 digits) }
 {
     let [fours, _] = fours(digits).to_array();
@@ -212,7 +222,7 @@ pub(crate) fn number_in_half(digits: u8x16) -> u64
 
 #[tactic(auto, using(crate::proofs::lemmas::JoinedDigits::lanes_joined))]
 pub(crate) fn number_in_lanes(digits: u8x16) -> u64
-    requires { Each1 (λ digit. digit < 10) digits }
+    requires { Each1 (λ digit. digit < 16) digits }
     ensures { result ≡ value itself digits }
 {
     // With the mask, LLVM knows that 32 bits are enough for the product.
@@ -222,7 +232,7 @@ pub(crate) fn number_in_lanes(digits: u8x16) -> u64
 
 // Joins sixteen digit values to two numbers of eight digits.
 fn eights(digits: u8x16) -> u64x2
-    requires { Each1 (λ digit. digit < 10) digits }
+    requires { Each1 (λ digit. digit < 16) digits }
     ensures { result ≡ paired 10000 (paired 100 (paired 10 digits)) }
 {
     let fields = fours(digits);
@@ -232,7 +242,7 @@ fn eights(digits: u8x16) -> u64x2
 // Joins sixteen digit values to pairs, and these to fours, in 32 bits each.
 #[tactic(auto, using(crate::proofs::lemmas::JoinedDigits::fours_joined))]
 fn fours(digits: u8x16) -> u64x2
-    requires { Each1 (λ digit. digit < 10) digits }
+    requires { Each1 (λ digit. digit < 16) digits }
     ensures { result ≡ digits_l (2 ^ 64) 2 (number_l (2 ^ 32) (paired 100 (paired 10 digits))) }
 {
     // Adds ten times the lower byte, the first digit, to the upper byte.

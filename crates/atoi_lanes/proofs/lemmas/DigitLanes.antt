@@ -18,12 +18,12 @@ less x y = (x + (2 ^ 8 - y)) % 2 ^ 8
 abbrev pub above_zero : ℕ → ℕ
 above_zero x = less x 48
 
-above_zero-digit : (x : ℕ) → is_digit decimal_table x ≡ true → (above_zero x ≡ digit_value decimal_table x) × (above_zero x < 10)
+above_zero-digit : (x : ℕ) → is_digit decimal_table x ≡ true → (above_zero x ≡ digit_value decimal_table x) × (above_zero x < 16)
 above_zero-digit x h = (grind (arith, nat_tests), grind (arith, nat_tests))
 
 -- n digits, less 48, are below ten and spell their value.
 pub digits_value : (n : ℕ) (v : List ℕ) → n ≤ run_len decimal_table v
-    → (value itself (take n (map above_zero v)) ≡ value decimal_table (take n v)) × Each1 (λ x. x < 10) (take n (map above_zero v))
+    → (value itself (take n (map above_zero v)) ≡ value decimal_table (take n v)) × Each1 (λ x. x < 16) (take n (map above_zero v))
 digits_value zero v h = (refl, tt)
 digits_value (suc n) [] h = (refl, tt)
 digits_value (suc n) (x ∷ xs) h =
@@ -39,17 +39,17 @@ each-append P (x ∷ xs) ys h k = (h.0, each-append P xs ys h.1 k)
 
 -- At the end of the lanes, the first n digits, less 48, spell their value.
 pub end_values : (m n : ℕ) (s lanes : List ℕ) → n ≤ run_len decimal_table s → lanes ≡ replicate m 0 ++ take n (map above_zero s)
-    → (value itself lanes ≡ value decimal_table (take n s)) × Each1 (λ x. x < 10) lanes
+    → (value itself lanes ≡ value decimal_table (take n s)) × Each1 (λ x. x < 16) lanes
 end_values m n s lanes digits is =
     let known = digits_value n s digits in (
       ap (value itself) is ∙ value-replicate itself 0 refl m (take n (map above_zero s)) ∙ known.0,
-      subst (Each1 (λ x. x < 10)) (sym is) (each-append _ (replicate m 0) _ (Each1-replicate (λ x. x < 10) m 0 (lit< tt)) known.1),
+      subst (Each1 (λ x. x < 16)) (sym is) (each-append _ (replicate m 0) _ (Each1-replicate (λ x. x < 16) m 0 (lit< tt)) known.1),
     )
 
 -- So do the first n lanes, moved to the end.
 pub moved_values : (n : ℕ) (v lanes : List ℕ) → n ≤ 16 → length v ≡ 16 → n ≤ run_len decimal_table v
     → lanes ≡ take 16 (drop n (padded (zip2 less v (replicate 16 48))))
-    → (value itself lanes ≡ value decimal_table (take n v)) × Each1 (λ x. x < 10) lanes
+    → (value itself lanes ≡ value decimal_table (take n v)) × Each1 (λ x. x < 16) lanes
 moved_values n v lanes le long digits moved =
     end_values (16 - n) n v lanes digits
     (moved ∙ ap (λ l. take 16 (drop n (padded l))) (zip2_splat less v 16 48 long) ∙ first_at_end n (map above_zero v) le (length-map v above_zero ∙ long))

@@ -89,7 +89,7 @@ module _ (s : List ℕ) (enough : 8 ≤ length s) where
 
   -- Less 48 and moved so, digits spell their value.
   pub medium_values : length s < 16 → run_len decimal_table s ≡ length s → (v lanes : List ℕ) → v ≡ ends s
-      → lanes ≡ to_end (length s) (zip2 less v (replicate 16 48)) → (value itself lanes ≡ value decimal_table s) × Each1 (λ x. x < 10) lanes
+      → lanes ≡ to_end (length s) (zip2 less v (replicate 16 48)) → (value itself lanes ≡ value decimal_table s) × Each1 (λ x. x < 16) lanes
   medium_values few all v lanes is lanes_are =
       let n = length s in
       let whole = take_all n (map above_zero s) (omega (arith, length-map s above_zero)) in

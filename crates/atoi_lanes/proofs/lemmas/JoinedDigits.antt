@@ -27,7 +27,7 @@ abbrev joined : ℕ → ℕ
 joined field = field * 2561 % 65536
 
 -- Two products join each group.
-grouped : (f : ℕ → ℕ) (m a : ℕ) → let xs = map f (range_with_len a (four_each m)) in Each1 (λ x. x < 10) xs
+grouped : (f : ℕ → ℕ) (m a : ℕ) → let xs = map f (range_with_len a (four_each m)) in Each1 (λ x. x < 16) xs
     → dots (digits_l 256 (four_each m) (number_l 65536 (map joined (digits_l 65536 (two_each m) (number_l 256 xs))))) (hundreds m) ≡ paired 100 (paired 10 xs)
 grouped f zero a below = refl
 grouped f (suc m) a below =
@@ -51,7 +51,7 @@ grouped f (suc m) a below =
 record Fours (xs : List ℕ) (a b c d : ℕ) : Type 0 where
   made : dots (digits_l 256 16 (number_l 65536 (map joined (digits_l 65536 8 (number_l 256 xs))))) (hundreds 4) ≡ paired 100 (paired 10 xs)
   are : paired 100 (paired 10 xs) ≡ a ∷ b ∷ c ∷ d ∷ []
-  below : Each1 (λ x. x < 10000) (a ∷ b ∷ c ∷ d ∷ [])
+  below : Each1 (λ x. x < 16666) (a ∷ b ∷ c ∷ d ∷ [])
   half : a * 10000 + b ≡ value itself (take 8 xs)
   all : (a * 10000 + b) * 100000000 + (c * 10000 + d) ≡ value itself xs
 
@@ -60,7 +60,7 @@ abbrev four : List ℕ → ℕ → ℕ
 four xs i = get_or (paired 100 (paired 10 xs)) i 0
 
 abbrev HasFours : List ℕ → Type 0
-HasFours xs = Each1 (λ x. x < 10) xs → Fours xs (four xs 0) (four xs 1) (four xs 2) (four xs 3)
+HasFours xs = Each1 (λ x. x < 16) xs → Fours xs (four xs 0) (four xs 1) (four xs 2) (four xs 3)
 
 fours_16 : (f : ℕ → ℕ) → HasFours (map f (range_with_len 0 16))
 fours_16 f below =
@@ -73,7 +73,7 @@ fours_16 f below =
     }
 
 -- A number, split into n lanes of base p.
-number-digits : (p n x : ℕ) → 0 < p → x < p ^ n → number_l p (digits_l p n x) ≡ x
+pub number-digits : (p n x : ℕ) → 0 < p → x < p ^ n → number_l p (digits_l p n x) ≡ x
 number-digits p zero x some lt = omega (arith, pow-zero p)
 number-digits p (suc n) x some lt =
     let above : x / p < p ^ n = (div-lt_iff_lt-mul {k = p} some).1 (omega (arith, pow-suc p n)) in
@@ -86,18 +86,18 @@ abbrev times : ℕ → ℕ → ℕ
 times a b = a * b % 2 ^ 64
 
 -- Two fours in one lane.
-in_lanes : (a b c d : ℕ) → Each1 (λ x. x < 10000) (a ∷ b ∷ c ∷ d ∷ [])
+in_lanes : (a b c d : ℕ) → Each1 (λ x. x < 16666) (a ∷ b ∷ c ∷ d ∷ [])
     → digits_l (2 ^ 64) 2 (number_l (2 ^ 32) (a ∷ b ∷ c ∷ d ∷ [])) ≡ (b * 2 ^ 32 + a) ∷ (d * 2 ^ 32 + c) ∷ []
 in_lanes a b c d below = search arith
 
-eight-joins : (x y : ℕ) → x < 10000 → y < 10000 → plus (times (bit_and (y * 2 ^ 32 + x) 4294967295) 10000) ((y * 2 ^ 32 + x) / 2 ^ 32) ≡ x * 10000 + y
+eight-joins : (x y : ℕ) → x < 16666 → y < 16666 → plus (times (bit_and (y * 2 ^ 32 + x) 4294967295) 10000) ((y * 2 ^ 32 + x) / 2 ^ 32) ≡ x * 10000 + y
 eight-joins x y a b = rw (and_mask (y * 2 ^ 32 + x) 32) (omega arith)
 
-two-joined : (x y : ℕ) → x < 100000000 → y < 100000000
+two-joined : (x y : ℕ) → x < 166666666 → y < 166666666
     → plus (plus 0 (times (bit_and x 4294967295) 100000000)) (times (bit_and y 4294967295) 1) ≡ x * 100000000 + y
 two-joined x y a b = rw (and_mask x 32, and_mask y 32) (omega arith)
 
-module _ (digits : List ℕ) (long : length digits ≡ 16) (below : Each1 (λ x. x < 10) digits) where
+module _ (digits : List ℕ) (long : length digits ≡ 16) (below : Each1 (λ x. x < 16) digits) where
   known : Fours digits (four digits 0) (four digits 1) (four digits 2) (four digits 3)
   known = subst HasFours (pick_l_whole 0 digits 16 long) (fours_16 (λ i. get_or digits i 0)) below
 
