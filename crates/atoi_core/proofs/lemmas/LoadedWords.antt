@@ -77,10 +77,7 @@ unfolding word_of
 bytes_above zero s fits = div-one (number_l 256 s)
 bytes_above (suc k) [] fits = zero-div (2 ^ (suc k * 8))
 bytes_above (suc k) (b ∷ bs) fits =
-    let word = number_l 256 bs in
-    let rest : (b + 256 * word) / 256 ≡ word = omega (arith, fits 0) in
-    ap (λ p. (b + 256 * word) / p) (byte_more k) ∙ sym (div-div-eq-div-mul (b + 256 * word) 256 (2 ^ (k * 8)))
-    ∙ ap (λ w. w / 2 ^ (k * 8)) rest ∙ bytes_above k bs (λ i. fits (suc i))
+    rw (byte_more, ← div-div-eq-div-mul) (grind (arith, bytes_above k bs (λ i. fits (suc i)), fits 0))
 
 -- The bytes from `at` on, of which n or fewer are there, are the highest of the last n.
 pub word_of_rest : (n : ℕ) (s : List ℕ) (at : ℕ) → n ≤ length s → at ≤ length s → length s ≤ at + n → ((i : ℕ) → get_or s i 0 < 256)
@@ -151,9 +148,6 @@ abbrev pub high_word : List ℕ → ℕ
 high_word s = word_of (replicate (8 - length s) 0 ++ s)
 
 module _ (s : List ℕ) (few : length s ≤ 8) (fits : (i : ℕ) → get_or s i 0 < 256) where
-  high_cut : (k : ℕ) → high_word s % 2 ^ (k * 8 + (8 - length s) * 8) ≡ word_of (take k s) * 2 ^ ((8 - length s) * 8)
-  high_cut k = search (arith, word_shifted, shift_cut, word_start)
-
   high_fits : high_word s % 2 ^ 64 ≡ high_word s
   high_fits =
       let all = word_start (length s) s fits ∙ ap word_of (take_all (length s) s (omega arith)) in
@@ -170,7 +164,8 @@ module _ (s : List ℕ) (few : length s ≤ 8) (fits : (i : ℕ) → get_or s i 
   -- A front and a back that overlap or meet join to the word.
   parts_joined : (j k front back : ℕ) → front ≡ word_of (take j s) → back * 2 ^ 32 % 2 ^ 64 ≡ high_word s / 2 ^ (k * 8) * 2 ^ (k * 8)
       → k * 8 ≤ j * 8 + (8 - length s) * 8 → bit_or (front * 2 ^ (64 - 8 * length s) % 2 ^ 64) (back * 2 ^ 32 % 2 ^ 64) ≡ high_word s
-  parts_joined j k front back front_is back_is = overlap (high_word s) _ _ (j * 8 + (8 - length s) * 8) (k * 8) (search (arith, mod-le, high_cut, high_fits)) back_is
+  parts_joined j k front back front_is back_is =
+      overlap (high_word s) _ _ (j * 8 + (8 - length s) * 8) (k * 8) (search (arith, mod-le, word_shifted, shift_cut, word_start, high_fits)) back_is
 
   -- The first byte overlaps the first four, and the last two the last four; fewer bytes have no fours.
   pub high_joined : (two first last : ℕ) → 0 < length s → (2 ≤ length s → two ≡ word_of (drop (length s - 2) s)) → (length s < 2 → two ≡ 0)

@@ -1,5 +1,5 @@
 -- Windows that are read by words.
-use Rattle.std.proofs.Common.{◌≡◌, ℕ, zero, suc, ◌+◌, ◌-◌, ◌*◌, ◌/◌, ◌%◌, ◌^◌, ◌<◌, ◌≤◌, List, ◌++◌, length, take, drop, replicate, get_or, take-take, refl, sym, ap, ap₂, ◌∙◌, arith, min, ◌==◌, if◌then◌else◌, Bool, true, false, nat_lt, ltb-false, bit_or}
+use Rattle.std.proofs.Common.{◌≡◌, ℕ, zero, suc, ◌+◌, ◌-◌, ◌*◌, ◌%◌, ◌^◌, ◌<◌, ◌≤◌, List, ◌++◌, length, take, drop, replicate, get_or, take-take, refl, sym, ap, ap₂, ◌∙◌, arith, min, ◌==◌, if◌then◌else◌, Bool, true, false, nat_lt, ltb-false, bit_or}
 use Rattle.std.proofs.Math.Nat.{zero-add, suc-add}
 use Rattle.std.proofs.Math.Seq.{take-add}
 use Rattle.std.proofs.lemmas.List.{take_all, length-append, length-replicate, length-drop}
@@ -181,10 +181,7 @@ low_value_filled : (z k : ℕ) (s : List ℕ) → low_value (digits_l 256 (z + k
 unfolding word_of
 low_value_filled zero k s = ap (λ n. low_value (digits_l 256 n (number_l 256 s))) (zero-add k)
 low_value_filled (suc z) k s =
-    let rest = number_l 256 (replicate z 48 ++ s) in
-    let low : (48 + 256 * rest) % 256 ≡ 48 = omega arith in
-    let high : (48 + 256 * rest) / 256 ≡ rest = omega arith in
-    rw (suc-add z k, low, high) (omega (arith, low_value_filled z k s))
+    rw (suc-add z k) (grind (arith, low_value_filled z k s))
 
 -- The window of a short slice: the digits of the filled word, less its zeros.
 pub filled_window : (s : List ℕ) → length s ≤ 8 → ((i : ℕ) → get_or s i 0 < 256) → (word filling digits found number : ℕ)
