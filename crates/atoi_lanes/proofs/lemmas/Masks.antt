@@ -16,7 +16,7 @@ map-agree p q all [] fits = refl
 map-agree p q all (x ∷ xs) fits = ap₂ (λ b bs. b ∷ bs) (agree_below_at p q 256 x all fits.0.fits) (map-agree p q all xs fits.1)
 
 -- A top bit set exactly where x passes makes this mask.
-pub mask-of_lanes : (q : ℕ → Bool) (v : List ℕ) (f : ℕ → ℕ) (z : List ℕ) → length v < 64 → Each1 (Fits w8) v → z ≡ map f v
+pub mask-of_lanes : (q : ℕ → Bool) (v : List ℕ) (f : ℕ → ℕ) (z : List ℕ) → length v ≡ 16 → Each1 (Fits w8) v → z ≡ map f v
     → agree_below (λ x. top 7 (f x)) q 256 ≡ true → mask_l (map (top 7) z) % 2 ^ 64 ≡ mask_l (map q v)
 mask-of_lanes q v f z long fits lanes all =
     let set = λ (x : ℕ). top 7 (f x) in

@@ -1,7 +1,7 @@
 -- The digits of a word in half a vector.
-use Rattle.std.proofs.Common.{◌≡◌, ℕ, zero, suc, ◌+◌, ◌-◌, ◌*◌, ◌/◌, ◌%◌, ◌^◌, ◌<◌, ◌≤◌, List, [], ◌∷◌, ◌++◌, map, length, take, replicate, refl, subst, sym, ap, ap₂, ◌∙◌, arith, lit<, mod-lt, zero-lt-suc}
+use Rattle.std.proofs.Common.{◌≡◌, ℕ, zero, suc, ◌+◌, ◌-◌, ◌*◌, ◌/◌, ◌%◌, ◌^◌, ◌<◌, ◌≤◌, List, [], ◌∷◌, ◌++◌, length, take, replicate, refl, subst, sym, ap, ap₂, ◌∙◌, arith, lit<, mod-lt, zero-lt-suc}
 use Rattle.std.specs.Int.Bits.{bit_and}
-use Rattle.std.proofs.lemmas.List.{length-append, take_all, take_at}
+use Rattle.std.proofs.lemmas.List.{take_all, take_at}
 use Rattle.std.proofs.lemmas.Nat.{and_block, and_mask, shr_split}
 use Rattle.std.proofs.lemmas.Simd.{Each1-replicate, Each1-weaker}
 use Rattle.atoi_core.specs.Digit.{decimal_table}
@@ -13,7 +13,7 @@ use Rattle.atoi_lanes.specs.Lanes.{itself}
 use Rattle.atoi_lanes.proofs.lemmas.DigitLanes.{each-append}
 use Rattle.atoi_lanes.proofs.lemmas.JoinedDigits.{number-digits}
 use Rattle.atoi_lanes.proofs.lemmas.LaneWindows.{lanes-of_bytes}
-use lib.Lanes.{Each1, digits_l, number_l}
+use lib.Lanes.{Each1, digits_l}
 
 -- Masked bytes are below 16.
 halves_below : (k word : ℕ) → Each1 (λ x. x < 16) (digits_l 256 k (bit_and word (repeated 15 k)))

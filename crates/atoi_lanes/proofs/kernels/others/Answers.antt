@@ -1,4 +1,4 @@
-use Rattle.std.proofs.Common.{◌≡◌, ℕ, leb, cond, not, bit_or, w16, length, map, ◌+◌, ◌-◌, ◌%◌, ◌^◌, ◌∙◌, refl, arith}
+use Rattle.std.proofs.Common.{ℕ, leb, cond, not, bit_or, w16, map, ◌+◌, ◌-◌, ◌%◌, ◌^◌, refl, arith}
 use Rattle.std.proofs.lemmas.List.{length-map}
 use Rattle.std.proofs.lemmas.Simd.{mask_l-lt, splat_is_map, zip2_of_maps, zip2_splat}
 use Rattle.std.proofs.lemmas.Nat.Bits.{bit_at-trailing_zeros}
@@ -20,14 +20,13 @@ returns-clause-mask c =
     let values = zip2_splat (λ x y. (x + (2 ^ 8 - y)) % 2 ^ 8) v 16 48 sixteen in
     let sums = zip2_of_maps plus _ _ v values (splat_is_map v 16 118 sixteen) in
     let marks = zip2_of_maps bit_or _ _ v sums values in
-    mask-of_lanes (λ byte. not (is_digit decimal_table byte)) v _ _ (omega (arith, sixteen)) c.fits-v.1
+    mask-of_lanes (λ byte. not (is_digit decimal_table byte)) v _ _ sixteen c.fits-v.1
     (zip2_of_maps mask _ _ v (splat_is_map v 16 128 sixteen) marks) refl
 
 pub overflow_cast-result : goal.overflow_cast-result
 overflow_cast-result c =
-    let other = map (λ byte. not (is_digit decimal_table byte)) c.args.v in
-    let bits : length other ≡ 16 = length-map c.args.v _ ∙ c.fits-v.0 in
-    record { fits = omega (arith, returns-clause-mask c, rw bits at (mask_l-lt other)) }
+    let bits = rw (length-map c.args.v, c.fits-v.0) at (mask_l-lt (map (λ byte. not (is_digit decimal_table byte)) c.args.v)) in
+    record { fits = omega (arith, returns-clause-mask c, bits) }
 
 pub returns-clause-none : goal.returns-clause-none
 returns-clause-none c = (run-of_others (is_digit decimal_table) c.args.v c.fits-v.0 _ (returns-clause-mask c)).0
