@@ -2,6 +2,7 @@
 use Rattle.std.proofs.Common.{◌≡◌, ℕ, ◌<◌, Bool, true, List, [], ◌∷◌, ◌++◌, length, drop, refl, sym, ap, ◌∙◌, arith, take-append-drop}
 use Rattle.std.proofs.lemmas.Bool.Decides.{nat_tests}
 use Rattle.std.proofs.lemmas.Bool.{cases_lt, cases_Bool}
+use Rattle.std.proofs.lemmas.List.{append_cancel_left}
 use Rattle.std.proofs.lemmas.List.Prefix.{front_rest}
 use Rattle.std.proofs.lemmas.List.Sums.{prefix_len-le-length, prefix_len_stops}
 use Rattle.atoi_core.specs.Digit.{decimal_table, is_digit}
@@ -93,8 +94,6 @@ none_or_too_large int sized = record {
       };
   begins = λ s. (run_of_begins s, begins_of_run s);
   one_split = λ digits other rest more same all all_other ends ends_other.
-      let front : digits ≡ other = sym (run_before digits rest all ends) ∙ ap (run decimal_table) same ∙ run_before other more all_other ends_other in (
-        front,
-        sym (front_rest (digits ++ rest) digits rest refl) ∙ (λ i. drop (length (front i)) (same i)) ∙ front_rest (other ++ more) other more refl,
-      );
+      let front : digits ≡ other = sym (run_before digits rest all ends) ∙ ap (run decimal_table) same ∙ run_before other more all_other ends_other in
+      (front, append_cancel_left other rest more (rw front at same));
 }

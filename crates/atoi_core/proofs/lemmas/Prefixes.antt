@@ -173,17 +173,13 @@ ok_value : {A E : Type 0} (r : Result A E) → IsOk r → (x : A) × (r ≡ Ok x
 ok_value (Ok x) h = (x, refl)
 ok_value (Err e) h = absurd (cc h)
 
--- An answer with a value is `Ok`.
-ok_is_ok : {A E : Type 0} (r : Result A E) (x : A) → r ≡ Ok x → IsOk r
-ok_is_ok r x h = rw h refl
-
 -- The law `AcceptedTexts`.
 pub accepted_texts : (int : IntType) → IsSized int → AcceptedTexts int
 accepted_texts int sized = record {
   accepted = λ s. (
     λ h. let found = ok_value (parse_answer int true true s) h in
         record { number = found.0; written = whole_written int (looked_for true) true s found.0 found.1 },
-    λ text. ok_is_ok _ _ ((accepted_numbers int sized).accepted (looked_for true) s text.number text.written),
+    λ text. rw ((accepted_numbers int sized).accepted (looked_for true) s text.number text.written) refl,
   );
   number = (accepted_numbers int sized).accepted (looked_for true);
 }
