@@ -199,31 +199,28 @@ value_after-least n [] = omega arith
 value_after-least n (digit ∷ digits) = omega (arith, value_after-least (n * 10 + std_digit_value digit) digits)
 
 -- Appended digits continue the decimal text of a number above 0.
-decimal_after : (n : ℕ) (digits : List ℕ) → 0 < n → AllDigits 10 digits → digits_value_after 10 n digits < 10 ^ 64
+decimal_after : (n : ℕ) (digits : List ℕ) → (0 < length digits → 0 < n) → AllDigits 10 digits → digits_value_after 10 n digits < 10 ^ 64
     → decimal (digits_value_after 10 n digits) ≡ decimal n ++ digits
 decimal_after n [] some all small = sym (append-nil (decimal n))
 decimal_after n (digit ∷ digits) some all small =
     let m : ℕ = n * 10 + std_digit_value digit in
+    let above : 0 < n = some (omega arith) in
     let is = digit_value_digit digit (digit_from_value digit all.0) in
     let front : m / 10 ≡ n = omega (arith, all.0) in
     let end : 48 + m % 10 ≡ digit = omega (arith, all.0) in
-    decimal_after m digits (omega arith) all.1 small
-    ∙ ap (λ text. text ++ digits) (decimal_step_wide m (omega arith) (omega (arith, value_after-least m digits)) ∙ (λ i. decimal (front i) ++ (end i ∷ [])))
-    ∙ append_assoc (decimal n) (digit ∷ []) digits
+    let step = decimal_step_wide m (omega arith) (omega (arith, value_after-least m digits)) in
+    decimal_after m digits (λ more. omega arith) all.1 small ∙ rw (step, front, end, append_assoc (decimal n) (digit ∷ []) digits) refl
 
 -- Digits without a needless zero are `decimal` of their value.
 decimal_of_digits : (digits : List ℕ) → IsNumeral 10 digits → IsFalse (has_needless_zero digits) → digits_value 10 digits < 10 ^ 64
     → digits ≡ decimal (digits_value 10 digits)
 decimal_of_digits [] numeral shortest small = absurd (omega (arith, numeral.0))
-decimal_of_digits (digit ∷ []) numeral shortest small =
+decimal_of_digits (digit ∷ digits) numeral shortest small =
+    let first : ℕ = 0 * 10 + std_digit_value digit in
     let is = digit_value_digit digit (digit_from_value digit numeral.1.0) in
-    sym (decimal_digit (0 * 10 + std_digit_value digit) (omega (arith, numeral.1.0)) ∙ ap (λ byte. byte ∷ []) (omega arith))
-decimal_of_digits (digit ∷ next ∷ more) numeral shortest small =
-    let is = digit_value_digit digit (digit_from_value digit numeral.1.0) in
-    let no_zero : digit ≢ 48 = eqb-false digit 48 shortest in
-    let same : 48 + (0 * 10 + std_digit_value digit) ≡ digit = omega arith in
-    sym (decimal_after (0 * 10 + std_digit_value digit) (next ∷ more) (omega arith) numeral.1.1 small
-    ∙ ap (λ text. text ++ (next ∷ more)) (decimal_digit (0 * 10 + std_digit_value digit) (omega (arith, numeral.1.0)) ∙ ap (λ byte. byte ∷ []) same))
+    let some : 0 < length digits → 0 < first = λ more. grind (arith, nat_tests, is, shortest) in
+    let same : 48 + first ≡ digit = omega (arith, numeral.1.0) in
+    sym (decimal_after first digits some numeral.1.1 small ∙ rw (decimal_digit first (omega (arith, numeral.1.0)), same) refl)
 
 with_sign-injective : (is_negative : Bool) (m n : ℕ) → with_sign is_negative m ≡ with_sign is_negative n → m ≡ n
 with_sign-injective is_negative m n h = grind arith
