@@ -53,12 +53,10 @@ one_number int sized form s number other h k =
 -- ---- What a prefix parse says about the start of the body
 
 begins_of_run : (s : List ℕ) → 0 < run_len decimal_table s → BeginsWithDigit s
-begins_of_run [] some = absurd (omega arith)
-begins_of_run (byte ∷ bytes) some = grind (arith, cases_Bool, digit_in_range)
+begins_of_run s some = grind (arith, cases_Bool, digit_in_range)
 
 run_of_begins : (s : List ℕ) → BeginsWithDigit s → 0 < run_len decimal_table s
-run_of_begins [] digit = absurd digit
-run_of_begins (byte ∷ bytes) digit = rw (digit_is byte digit.0 digit.1) (omega arith)
+run_of_begins s digit = grind (arith, digit_is)
 
 -- The law `PrefixBegins`.
 pub prefix_begins : (int : IntType) → PrefixBegins int

@@ -78,8 +78,7 @@ prefix_of_cut int = record {
 
 -- A rest without a digit at its start has an empty run.
 stops : (rest : List ℕ) → ¬ BeginsWithDigit rest → run_len decimal_table rest ≡ 0
-stops [] ends = refl
-stops (byte ∷ bytes) ends = grind (arith, cases_Bool, digit_in_range)
+stops rest ends = grind (arith, cases_Bool, digit_in_range)
 
 -- Where no digit stands, the rest begins with none.
 pub no_digit : (s : List ℕ) (count : ℕ) → (count < length s → IsFalse (is_digit decimal_table (get_or s count 0))) → ¬ BeginsWithDigit (drop count s)

@@ -18,18 +18,14 @@ use Rattle.atoi_core.proofs.lemmas.Refusals.{refusal-rank, significant_len}
 same_outcome : (minus other_minus : Bool) (r q : Option Refusal) (x y : ℕ) → option_map rank r ≡ option_map rank q
     → with_sign minus x ≡ with_sign other_minus y
     → HaveSameOutcome (map_answer (with_sign minus) (unless_refused r x)) (map_answer (with_sign other_minus) (unless_refused q y))
-same_outcome minus other_minus None None x y h e = e
-same_outcome minus other_minus (Some reason) (Some other) x y h e = cc h
-same_outcome minus other_minus r q x y h e = absurd (cc h)
+same_outcome minus other_minus r q x y h e = grind arith
 
 -- The same of prefix answers whose counts differ by `more`.
 same_prefix_outcome : (more taken other_taken : ℕ) (minus other_minus : Bool) (r q : Option Refusal) (x y : ℕ × ℕ) → option_map rank r ≡ option_map rank q
     → with_sign minus x.0 ≡ with_sign other_minus y.0 → x.1 + taken + more ≡ y.1 + other_taken
     → HaveSameOutcome (with_more more (with_more taken (map_answer (counted_number minus) (unless_refused r x))))
     (with_more other_taken (map_answer (counted_number other_minus) (unless_refused q y)))
-same_prefix_outcome more taken other_taken minus other_minus None None x y h e c = λ i. (e i, c i)
-same_prefix_outcome more taken other_taken minus other_minus (Some reason) (Some other) x y h e c = cc h
-same_prefix_outcome more taken other_taken minus other_minus r q x y h e c = absurd (cc h)
+same_prefix_outcome more taken other_taken minus other_minus r q x y h e c = grind arith
 
 -- Why the body after the sign `g` is refused, if it is.
 abbrev reason_at : IntType → Bool → Extent → Sign → Option Refusal
@@ -98,8 +94,8 @@ value-padded count body = search (arith, value-replicate, take-padded, prefix_le
 followed-padded : (extent : Extent) (count : ℕ) (body : List ℕ)
     → leaves_rest extent (run_len decimal_table body) (length body)
     ≡ leaves_rest extent (run_len decimal_table (padded count body)) (length (padded count body))
-followed-padded prefix count body = refl
-followed-padded whole count body = rw (prefix_len-replicate_append (is_digit decimal_table) zero_byte refl count body, length-padded count body) (grind (arith, nat_tests))
+followed-padded extent count body =
+    rw (prefix_len-replicate_append (is_digit decimal_table) zero_byte refl count body, length-padded count body) (grind (arith, nat_tests))
 
 -- With zeros skipped, the four tests agree after zeros are added.
 padded_alike : (int : IntType) (extent : Extent) (count : ℕ) (g : Sign) → 0 < run_len decimal_table g.body

@@ -120,9 +120,7 @@ minus_mark int takes_plus digits number signed h =
 pub sign_of_text : (signed takes_plus : Bool) (mark : SignMark) (digits : List ℕ) → (is_minus mark ≡ true → signed ≡ true)
     → (is_plus mark ≡ true → takes_plus ≡ true) → 0 < run_len decimal_table digits
     → sign_of signed takes_plus (sign_bytes mark ++ digits) ≡ record { minus = is_minus mark; taken = length (sign_bytes mark); body = digits }
-sign_of_text signed takes_plus no_sign digits h p some = sign_of_digits signed takes_plus digits some
-sign_of_text signed takes_plus plus digits h p some = rw (p refl) refl
-sign_of_text signed takes_plus minus digits h p some = sign_of_minus signed takes_plus digits (h refl)
+sign_of_text signed takes_plus mark digits h p some = grind (arith, nat_tests, sign_of_digits signed takes_plus digits some)
 
 -- A body accepted as a whole is digits that write its number.
 digits_written : (int : IntType) (is_negative skip : Bool) (body : List ℕ) (number : ℤ)
@@ -185,9 +183,7 @@ led n small = decimal_by_steps_wide IsLed (λ m low. (omega arith, λ above. ome
     (omega (arith, length-append digits last), λ above. omega (arith, get_or-append digits last 0 0 h.0, h.1 (omega arith)))) n small
 
 no_needless : (digits : List ℕ) → 48 < get_or digits 0 0 → IsFalse (has_needless_zero digits)
-no_needless [] h = refl
-no_needless (digit ∷ []) h = refl
-no_needless (digit ∷ next ∷ more) h = grind (arith, ne_eqb)
+no_needless digits h = grind (arith, nat_tests)
 
 -- `decimal n` has no needless zero.
 decimal_shortest : (n : ℕ) → n < 10 ^ 64 → IsFalse (has_needless_zero (decimal n))
