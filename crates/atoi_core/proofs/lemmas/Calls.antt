@@ -33,8 +33,7 @@ pub sign_of_digits : (signed plus : Bool) (s : List ℕ) → 0 < run_len decimal
     → sign_of signed plus s ≡ record { minus = false; taken = 0; body = s }
 sign_of_digits signed plus [] h = absurd (omega arith)
 sign_of_digits signed plus (byte ∷ bytes) h =
-    let r : (48 ≤ byte) × (byte ≤ 57) = grind (arith, cases_Bool, digit_in_range) in
-    rw (and_right plus (eqb byte 43) (ne_eqb byte 43 (omega arith)), and_right signed (eqb byte 45) (ne_eqb byte 45 (omega arith))) refl
+    grind (arith, nat_tests, cases_Bool, digit_in_range)
 
 -- Another body that begins with a digit has the same sign.
 pub sign_again : (int : IntType) (form : SignForm) (s t : List ℕ) → 0 < run_len decimal_table t

@@ -122,8 +122,7 @@ least {table} {s} {w} seen full none =
 -- At most 16 digits, or skipped zeros, are never too many.
 not_too_long : (table : Table) (skip : Bool) (limit : ℕ) (s : List ℕ) → (skip ≡ false → run_len table s ≤ 16)
     → is_above (limit_at narrow prefix skip limit) (significant_len table skip s) ≡ false
-not_too_long table true limit s few = refl
-not_too_long table false limit s few = le-ltb 16 (significant_len table false s) (omega (arith, few refl))
+not_too_long table skip limit s few = grind (arith, nat_tests)
 
 -- If its number fits in 32 bits, the last window ends with the run.
 ends : {table : Table} (skip : Bool) {s : List ℕ} {at before now : ℕ} {w : Window} →
@@ -161,9 +160,8 @@ module _ {table : Table} {skip : Bool} {s : List ℕ} {at before now : ℕ} {w :
 -- More than 16 digits without skipping are the error `Size` of 17.
 pub narrow_size : (table : Table) (bound limit : ℕ) (skip : Bool) (s : List ℕ) → true ≡ (not skip && nat_lt 16 (run_len table s)) →
     Err (size 17 s) ≡ prefix_magnitude table narrow bound limit skip s
-narrow_size table bound limit true s long = absurd (cc long)
-narrow_size table bound limit false s long =
-    let all = refused_size table narrow bound limit prefix false s in
+narrow_size table bound limit skip s long =
+    let all = refused_size table narrow bound limit prefix skip s in
     grind (arith, nat_tests, all)
 
 -- After 16 digits, a digit follows if the run is longer.

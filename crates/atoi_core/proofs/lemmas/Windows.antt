@@ -163,13 +163,7 @@ module _ {table : Table} (ten : IsBelowTen table) where
       w ≡ window_of table 16 (drop at s) → w.zeroes ≡ 0 → now ≡ before + (at + 15) / 16 → Skipped table true s at before (now + 1) w
   Skipped-after_zeros s {at} before {now} {w} offset e none loads =
       let skipping : Skipping table true s at before now =
-      record {
-        skipped = record { zeros_only = grind (arith, nat_tests); asked = λ h. absurd (cc h) };
-        within = grind (arith, nat_tests, zeros-le table s, prefix_len-le-length (is_digit table) s);
-        most = omega arith;
-        least = omega arith;
-        offset_is = grind (arith, nat_tests);
-      } in
+      search (arith, nat_tests, zeros-le table s, prefix_len-le-length (is_digit table) s) in
       Skipped-end skipping (e ∙ ap (window_of table 16) (sym (take_rest s at))) refl (inr (refl, none))
 
   pub Skipping-first_window : (s : List ℕ) (n reported : ℕ) → reported ≡ (window_of table 16 s).zeroes → 0 < reported →
@@ -186,6 +180,6 @@ module _ {table : Table} (ten : IsBelowTen table) where
   pub Skipped-first : (skip : Bool) (s : List ℕ) {before next : ℕ} {w : Window} →
       w ≡ window_of table 16 s → next ≡ before + 1 → w.len < 16 → Skipped table skip s 0 before next w
   Skipped-first skip s {w = w} e one short =
-      let none : w.zeroes ≡ 0 = elim (cases_lt 0 w.zeroes) [ inl h ↦ absurd (omega (arith, (shows ten 16 s e).full h)) | inr h ↦ omega arith ] in
-      let stops = elim skip as (λ b. (b ≡ false) ⊎ ((b ≡ true) × (w.zeroes ≡ 0))) [ true ↦ inr (refl, none) | false ↦ inl refl ] in
+      let full = (shows ten 16 s e).full in
+      let stops : (skip ≡ false) ⊎ ((skip ≡ true) × (w.zeroes ≡ 0)) = grind (arith, nat_tests, full) in
       Skipped-at_once skip s e one stops
