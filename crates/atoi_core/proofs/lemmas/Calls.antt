@@ -16,17 +16,13 @@ use Rattle.atoi_core.proofs.lemmas.Refusals.{limit_at, significant_len, IsAccept
 -- ---- The sign at the start of a slice
 
 pub drop-taken : (int : IntType) (form : SignForm) (s : List ℕ) → drop (sign_in int form s).taken s ≡ (sign_in int form s).body
-drop-taken int (looked_for plus) [] = refl
-drop-taken int (looked_for plus) (byte ∷ bytes) = grind (arith, nat_tests)
-drop-taken int (given is_negative) s = refl
+drop-taken int form s = grind (arith, nat_tests)
 
 pub length-taken : (int : IntType) (form : SignForm) (s : List ℕ) → (sign_in int form s).taken + length (sign_in int form s).body ≡ length s
-length-taken int (looked_for plus) [] = omega arith
-length-taken int (looked_for plus) (byte ∷ bytes) = grind (arith, nat_tests)
-length-taken int (given is_negative) s = omega arith
+length-taken int form s = grind (arith, nat_tests)
 
 pub digit_in_range : (byte : ℕ) → is_digit decimal_table byte ≡ true → (48 ≤ byte) × (byte ≤ 57)
-digit_in_range byte h = (grind (arith, nat_tests), grind (arith, nat_tests))
+digit_in_range byte h = grind (arith, nat_tests)
 
 -- No sign is consumed before a digit.
 pub sign_of_digits : (signed plus : Bool) (s : List ℕ) → 0 < run_len decimal_table s
@@ -46,19 +42,16 @@ sign_again int (given is_negative) s t h = refl
 -- ---- Calls and their results
 
 pub with_more-zero : (r : Result (ℤ × ℕ) Refusal) → with_more 0 r ≡ r
-with_more-zero (Ok found) = rw add-zero refl
-with_more-zero (Err reason) = refl
+with_more-zero r = grind arith
 
 pub whole_call-is : (int : IntType) (form : SignForm) (skip : Bool) (s : List ℕ)
     → whole_call int form skip s ≡ whole_answer decimal_table int (sign_in int form s).minus skip (sign_in int form s).body
-whole_call-is int (looked_for plus) skip s = refl
-whole_call-is int (given is_negative) skip s = refl
+whole_call-is int form skip s = grind arith
 
 pub prefix_call-is : (int : IntType) (form : SignForm) (skip : Bool) (s : List ℕ)
     → prefix_call int form skip s
     ≡ with_more (sign_in int form s).taken (prefix_answer decimal_table int (sign_in int form s).minus skip (sign_in int form s).body)
-prefix_call-is int (looked_for plus) skip s = refl
-prefix_call-is int (given is_negative) skip s = sym (with_more-zero (prefix_answer decimal_table int is_negative skip s))
+prefix_call-is int form skip s = grind (arith, with_more-zero)
 
 -- The magnitude with its sign, and the number of bytes read.
 abbrev pub counted_number : Bool → ℕ × ℕ → ℤ × ℕ

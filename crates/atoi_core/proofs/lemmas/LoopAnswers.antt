@@ -108,9 +108,8 @@ whole_is_128 table bound limit skip s = search (arith, refusal-is, last_reason)
 -- The slice of an overflow leaves out the zeros before the last window.
 pub dropped_is : {table : Table} (skip : Bool) (limit : ℕ) {s : List ℕ} {at before now : ℕ} {w : Window} →
     Skipped table skip s at before now w → (rule_of narrow prefix skip limit (run_len table s) (skipped_zeros table skip s)).dropped ≡ at
-dropped_is false limit after_skip = sym (after_skip.skipped.asked refl)
-dropped_is {table} true limit {s} after_skip =
-    grind (arith, nat_tests, after_skip.offset_is refl, after_skip.full refl, after_skip.run_is, after_skip.window.len_is)
+dropped_is skip limit after_skip =
+    grind (arith, nat_tests, after_skip.offset_is, after_skip.full, after_skip.skipped.asked)
 
 -- A full window without a leading zero is at least 10^15.
 least : {table : Table} {s : List ℕ} {w : Window} → Shows table 16 s w → 16 ≤ w.len → w.zeroes ≡ 0 → 10 ^ 15 ≤ w.number
