@@ -13,20 +13,17 @@ use Rattle.atoi_core.proofs.lemmas.Refusals.{limit_at, significant_len}
 -- ---- Limits on digits
 
 pub short_enough : (class : Class) (skip : Bool) (limit count : ℕ) → count ≤ limit → is_above (limit_at class whole skip limit) count ≡ false
-short_enough narrow skip limit count h = refl
-short_enough class skip limit count h = le-ltb limit count h
+short_enough class skip limit count h = grind (arith, nat_tests)
 
 pub shorter : (limit : Option ℕ) (count less : ℕ) → less ≤ count → is_above limit count ≡ false → is_above limit less ≡ false
-shorter None count less h e = refl
-shorter (Some limit) count less h e = grind (arith, nat_tests)
+shorter limit count less h e = grind (arith, nat_tests)
 
 pub limit_of_whole : (class : Class) (skip : Bool) (limit : ℕ) → limit_at class whole skip limit ≡ limit_at class whole false limit
 limit_of_whole class skip limit = grind (arith, nat_tests)
 
 pub long_as_whole : (class : Class) (skip : Bool) (limit count : ℕ) → is_above (limit_at class prefix skip limit) count ≡ false
     → is_above (limit_at class whole skip limit) count ≡ false
-long_as_whole narrow skip limit count h = refl
-long_as_whole class skip limit count h = h
+long_as_whole class skip limit count h = grind (arith, nat_tests)
 
 pub limit_of_prefix : (int : IntType) (skip : Bool) (limit : ℕ) → HasLimitOfWhole int skip
     → limit_at (class_of int) prefix skip limit ≡ limit_at (class_of int) whole skip limit

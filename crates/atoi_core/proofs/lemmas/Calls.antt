@@ -27,17 +27,13 @@ digit_in_range byte h = grind (arith, nat_tests)
 -- No sign is consumed before a digit.
 pub sign_of_digits : (signed plus : Bool) (s : List ℕ) → 0 < run_len decimal_table s
     → sign_of signed plus s ≡ record { minus = false; taken = 0; body = s }
-sign_of_digits signed plus [] h = absurd (omega arith)
-sign_of_digits signed plus (byte ∷ bytes) h =
-    grind (arith, nat_tests, cases_Bool, digit_in_range)
+sign_of_digits signed plus s h = grind (arith, nat_tests, cases_Bool, digit_in_range)
 
 -- Another body that begins with a digit has the same sign.
 pub sign_again : (int : IntType) (form : SignForm) (s t : List ℕ) → 0 < run_len decimal_table t
     → sign_in int form (take (sign_in int form s).taken s ++ t)
     ≡ record { minus = (sign_in int form s).minus; taken = (sign_in int form s).taken; body = t }
-sign_again int (looked_for plus) [] t h = sign_of_digits int.signed plus t h
-sign_again int (looked_for plus) (byte ∷ bytes) t h = grind (arith, nat_tests, sign_of_digits int.signed plus t h)
-sign_again int (given is_negative) s t h = refl
+sign_again int form s t h = grind (arith, nat_tests, sign_of_digits)
 
 -- ---- Calls and their results
 

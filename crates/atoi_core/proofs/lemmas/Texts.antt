@@ -162,8 +162,7 @@ whole_written int (given is_negative) skip s number h = digits_written int is_ne
 
 -- Unsigned bytes that write a number begin with a digit.
 begins : (int : IntType) (is_negative : Bool) (digits : List ℕ) (number : ℤ) → DigitsWrite int is_negative digits number → BeginsWithDigit digits
-begins int is_negative [] number h = absurd (omega (arith, h.numeral.0))
-begins int is_negative (digit ∷ digits) number h = digit_from_value digit h.numeral.1.0
+begins int is_negative digits number h = grind (arith, digit_from_value)
 
 -- `decimal n` writes a magnitude in range.
 decimal_writes : (int : IntType) → IsSized int → (is_negative : Bool) (n : ℕ) → n ≤ bound_of int is_negative
