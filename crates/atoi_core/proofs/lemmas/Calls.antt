@@ -1,6 +1,6 @@
 -- Which sign precedes a body, and what an `Ok` means.
-use Rattle.std.proofs.Common.{◌≡◌, ℕ, ◌+◌, ◌<◌, ◌≤◌, Bool, true, false, eqb, List, [], length, drop, Option, Some, None, refl, sym, ap, arith, ne_eqb, ◌∷◌, ◌++◌, take, Result, Ok, Err, ℤ, add-zero, eqb-true, eq-eqb}
-use Rattle.std.proofs.lemmas.Bool.{and_right, cases_Bool, not-false}
+use Rattle.std.proofs.Common.{◌≡◌, ℕ, ◌+◌, ◌<◌, ◌≤◌, Bool, true, false, List, length, drop, Option, Some, None, refl, sym, ap, arith, ◌++◌, take, Result, Ok, Err, ℤ, eqb-true, eq-eqb}
+use Rattle.std.proofs.lemmas.Bool.{cases_Bool, not-false}
 use Rattle.atoi_core.specs.Digit.{Table, decimal_table, is_digit}
 use Rattle.atoi_core.specs.Run.{run_len, run, value}
 use Rattle.atoi_core.specs.Refusal.{Refusal}
@@ -8,7 +8,7 @@ use Rattle.atoi_core.specs.Magnitude.{Class, Extent, whole, prefix, is_above, un
 use Rattle.std.proofs.lemmas.Bool.Decides.{nat_tests}
 use Rattle.atoi_core.specs.IntType.{IntType, class_of, bound_of, limit_of}
 use Rattle.atoi_core.specs.Sign.{Sign, sign_of, with_sign}
-use Rattle.atoi_core.specs.Laws.{SignForm, looked_for, given, sign_in, whole_call, prefix_call}
+use Rattle.atoi_core.specs.Laws.{SignForm, sign_in, whole_call, prefix_call}
 use Rattle.atoi_core.specs.Answer.{map_answer, whole_answer, prefix_answer, with_more}
 use Rattle.std.proofs.lemmas.List.Sums.{prefix_len-le-length}
 use Rattle.atoi_core.proofs.lemmas.Refusals.{limit_at, significant_len, IsAccepted, accepted, refusal-none}

@@ -1,5 +1,5 @@
 -- Bytes after the run, and zeros before it, do not change the outcome.
-use Rattle.std.proofs.Common.{◌≡◌, ℕ, ◌+◌, ◌-◌, ◌<◌, Bool, true, if◌then◌else◌, eqb, List, ◌++◌, length, take, replicate, Option, Some, None, option_map, refl, ap, arith, take_at, drop_at, length-append, ne_eqb, take-add}
+use Rattle.std.proofs.Common.{◌≡◌, ℕ, ◌+◌, ◌-◌, ◌<◌, Bool, true, if◌then◌else◌, eqb, List, ◌++◌, length, take, replicate, Option, option_map, refl, ap, arith, take_at, drop_at, length-append, ne_eqb, take-add}
 use Rattle.std.proofs.lemmas.List.{length-replicate}
 use Rattle.std.proofs.lemmas.Bool.Decides.{nat_tests}
 use Rattle.atoi_core.specs.Digit.{decimal_table, is_digit}

@@ -16,7 +16,7 @@ use Rattle.atoi_core.proofs.lemmas.Runs.{run_all, digits_all}
 use Rattle.atoi_core.proofs.lemmas.Calls.{sign_of_digits, digit_in_range, from_whole, to_whole}
 use Rattle.atoi_core.proofs.lemmas.Refusals.{limit_at}
 use Rattle.atoi_core.proofs.lemmas.Bounds.{shorter, limit-least, short_enough, limit_of_whole, bound-limit, bound_below-64}
-use Rattle.std.proofs.lemmas.Bool.{cases_Bool, and_parts, ne_eqb, eqb-false}
+use Rattle.std.proofs.lemmas.Bool.{cases_Bool, and_parts}
 use Rattle.atoi_core.specs.Text.{SignMark, no_sign, plus, minus, sign_bytes, is_minus, is_plus, DigitsWrite, TextWrites, BeginsWithDigit, has_needless_zero}
 use Rattle.std.proofs.Math.ListN.{get_or-append}
 use Rattle.std.specs.Char.{digit_value as std_digit_value}
