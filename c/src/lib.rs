@@ -379,7 +379,7 @@ impl Rest {
 const PART: usize = 128;
 
 /// Reads numbers of `WIDTH` bytes, each with a separator after it. No number waits for the end of the one
-/// before it, so this takes 0.3 to 0.6 of the time of `Fields`.
+/// before it, so this takes 0.2 to 0.6 of the time of `Fields`.
 ///
 /// # Safety
 ///
