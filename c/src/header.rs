@@ -182,7 +182,7 @@ fn layouts_of<T: Integer>() -> Vec<String> {
         field!(&fields, CheckedFields<T>, rest.rest_length, "size_t"),
         field!(&fields, CheckedFields<T>, rest.separator, "char"),
         field!(&fields, CheckedFields<T>, rest.is_lines, "char"),
-        field!(&fields, CheckedFields<T>, rest.width, "uint8_t"),
+        field!(&fields, CheckedFields<T>, rest.digits, "uint8_t"),
     ]
 }
 

@@ -64,8 +64,8 @@ pub struct Rest {
     rest_length: usize,
     separator: c_char,
     is_lines: c_char,
-    // How many bytes each of the next fields may have, or 0: a guess.
-    width: u8,
+    // How many digits each of the next fields may have, or 0: a guess.
+    digits: u8,
 }
 
 /// `torkettle_column_i64`, and so on.
@@ -240,7 +240,7 @@ impl Error {
 
 impl Rest {
     fn new(text: *const c_char, length: usize, separator: c_char) -> Rest {
-        let (next_index, next_offset, is_lines, width) = (0, 0, 0, 0);
+        let (next_index, next_offset, is_lines, digits) = (0, 0, 0, 0);
         Rest {
             next_index,
             next_offset,
@@ -248,7 +248,7 @@ impl Rest {
             rest_length: length,
             separator,
             is_lines,
-            width,
+            digits,
         }
     }
 
@@ -289,7 +289,7 @@ impl Rest {
     ///
     /// As for `fields`, and `values` has room for as many numbers as are written.
     #[inline(always)]
-    unsafe fn read<T: Parse, const LINES: bool>(
+    unsafe fn read<T: Parse + Default + PartialOrd, const LINES: bool>(
         &mut self,
         values: Values<T>,
         count: usize,
@@ -297,11 +297,11 @@ impl Rest {
         let mut read = 0;
         while read < count {
             let (next, left) = (Values(values.0.wrapping_add(read)), count - read);
-            if self.width != 0 {
-                read += unsafe { self.read_of_width(next, left) };
+            if self.digits != 0 {
+                read += unsafe { self.read_as_guessed(next, left) };
                 continue;
             }
-            let part = unsafe { self.read_of_any_width::<T, LINES>(next, left.min(PART)) };
+            let part = unsafe { self.read_and_guess::<T, LINES>(next, left.min(PART)) };
             read += part;
             if part < PART {
                 break;
@@ -310,14 +310,14 @@ impl Rest {
         read
     }
 
-    /// As `read`, and guesses the width of the next fields. The fields stay in registers, because no
-    /// number is written into them.
+    /// As `read`, and guesses how many digits the next fields have. The fields stay in registers, because
+    /// no number is written into them.
     ///
     /// # Safety
     ///
     /// As for `read`.
     #[inline(always)]
-    unsafe fn read_of_any_width<T: Parse, const LINES: bool>(
+    unsafe fn read_and_guess<T: Parse + Default + PartialOrd, const LINES: bool>(
         &mut self,
         values: Values<T>,
         count: usize,
@@ -337,69 +337,103 @@ impl Rest {
         }
         let length = bad_place.unwrap_or(fields.position().1);
         self.go_on(read, length);
-        if read == PART && length % PART == 0 {
-            self.width = u8::try_from(length / PART - 1).unwrap_or(0);
+        if read == PART {
+            let numbers = unsafe { from_raw_parts(values.0, PART) };
+            let minuses = numbers.iter().filter(|number| **number < T::default()).count();
+            let digits = length - PART - minuses;
+            if digits % PART == 0 {
+                self.digits = u8::try_from(digits / PART).unwrap_or(0);
+            }
         }
         read
     }
 
-    /// As `read`, but also stops before a number of another width than `width`. If it stops at once, the
-    /// guess was wrong.
+    /// As `read`, but also stops before a number without `digits` digits. If it stops at once, the guess was
+    /// wrong.
     ///
     /// # Safety
     ///
     /// As for `read`.
     #[inline(never)]
-    unsafe fn read_of_width<T: Parse>(&mut self, values: Values<T>, count: usize) -> usize {
+    unsafe fn read_as_guessed<T: Parse>(&mut self, values: Values<T>, count: usize) -> usize {
         let text = unsafe { bytes(self.rest, self.rest_length) };
         let separator = self.separator as u8;
-        // A number in range has no more bytes, unless it begins with zeros.
+        // A number in range has no more digits, unless it begins with zeros.
         let most = 3 * size_of::<T>() + 1;
-        macro_rules! read_of_widths {
-            ($($width:literal)*) => {
-                match self.width {
-                    $($width if $width <= most => unsafe {
-                        read_of::<T, $width>(text, separator, values, count)
+        macro_rules! read_of_digits {
+            ($($digits:literal)*) => {
+                match self.digits {
+                    $($digits if $digits <= most => unsafe {
+                        if T::SIGNED {
+                            read_signed::<T, $digits>(text, separator, values, count)
+                        } else {
+                            read_unsigned::<T, $digits>(text, separator, values, count)
+                        }
                     },)*
-                    _ => 0,
+                    _ => (0, 0),
                 }
             };
         }
-        let read = read_of_widths!(1 2 3 4 5 6 7 8 9 10 11 12 13 14 15 16 17 18 19 20);
-        self.go_on(read, read * (usize::from(self.width) + 1));
+        let (read, length) = read_of_digits!(1 2 3 4 5 6 7 8 9 10 11 12 13 14 15 16 17 18 19 20);
+        self.go_on(read, length);
         if read == 0 {
-            self.width = 0;
+            self.digits = 0;
         }
         read
     }
 }
 
-// How many fields are read before their width is guessed. In a text of many widths, the guess is then
-// rarely wrong, and costs nothing.
+// How many fields are read before a guess. In a text of many widths, the guess is then rarely wrong, and
+// costs nothing.
 const PART: usize = 128;
 
-/// Reads numbers of `WIDTH` bytes, each with a separator after it. No number waits for the end of the one
-/// before it, so this takes 0.2 to 0.6 of the time of `Fields`.
+/// Reads numbers of `DIGITS` bytes, each with a separator after it. Returns how many, and their length. No
+/// number waits for the end of the one before it, so this takes 0.2 to 0.6 of the time of `Fields`.
 ///
 /// # Safety
 ///
 /// `values` has room for as many numbers as are written.
 #[inline(always)]
-unsafe fn read_of<T: Parse, const WIDTH: usize>(
+unsafe fn read_unsigned<T: Parse, const DIGITS: usize>(
     text: &[u8],
     separator: u8,
     values: Values<T>,
     count: usize,
-) -> usize {
+) -> (usize, usize) {
     let mut read = 0;
-    for field in text.chunks_exact(WIDTH + 1).take(count) {
-        match parse::<T, false, false>(&field[..WIDTH]) {
-            Ok(value) if field[WIDTH] == separator => unsafe { values.0.add(read).write(value) },
+    for field in text.chunks_exact(DIGITS + 1).take(count) {
+        match parse::<T, false, false>(&field[..DIGITS]) {
+            Ok(value) if field[DIGITS] == separator => unsafe { values.0.add(read).write(value) },
             _ => break,
         }
         read += 1;
     }
-    read
+    (read, read * (DIGITS + 1))
+}
+
+/// As `read_unsigned`, but each number may have a minus. A number waits only for the sign of the one before.
+///
+/// # Safety
+///
+/// As for `read_unsigned`.
+#[inline(always)]
+unsafe fn read_signed<T: Parse, const DIGITS: usize>(
+    text: &[u8],
+    separator: u8,
+    values: Values<T>,
+    count: usize,
+) -> (usize, usize) {
+    let (mut read, mut at) = (0, 0);
+    while read < count && text.len() - at > DIGITS + 1 {
+        let end = at + DIGITS + usize::from(text[at] == b'-');
+        match parse::<T, false, false>(&text[at..end]) {
+            Ok(value) if text[end] == separator => unsafe { values.0.add(read).write(value) },
+            _ => break,
+        }
+        read += 1;
+        at = end + 1;
+    }
+    (read, at)
 }
 
 impl<T: Parse> CheckedColumn<T> {

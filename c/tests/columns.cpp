@@ -427,18 +427,24 @@ void add_number(Random &random, std::string &text)
         text += static_cast<char>('0' + random.below(10));
 }
 
-// Appends fields of one width, which _read reads faster. One byte in a hundred is changed if `spoils`.
+// Appends fields with equally many digits, which _read reads faster, or of one width. One field in a hundred is changed
+// if `spoils`.
 template <class T>
-void add_fields_of_width(Random &random, Shape shape, bool spoils, std::string &text)
+void add_equal_fields(Random &random, Shape shape, bool spoils, std::string &text)
 {
-    const unsigned width = 1 + random.below(22), most = most_digits<T>();
+    const unsigned digits = 1 + random.below(22), most = most_digits<T>();
+    const bool is_signed = T(-1) < T(0), has_one_width = digits > 1 && random.below(2) == 0;
     for (unsigned left = random.below(700); left > 0; left--) {
-        for (unsigned place = width; place > 0; place--)
+        const std::size_t start = text.size();
+        const bool has_minus = is_signed && random.below(2) == 0;
+        if (has_minus)
+            text += '-';
+        for (unsigned place = digits - (has_minus && has_one_width); place > 0; place--)
             text += static_cast<char>('0' + (place > most ? 0 : random.below(10)));
-        if (T(-1) < T(0) && width > 1 && random.below(2) == 0)
-            text[text.size() - width] = '-';
         if (spoils && random.below(100) == 0)
-            text[text.size() - 1 - random.below(width)] = static_cast<char>(random.below(256));
+            text[start + random.below(static_cast<unsigned>(text.size() - start))] = static_cast<char>(random.below(256));
+        if (spoils && shape.is_lines && random.below(100) == 0)
+            text += '\r';
         text += shape.separator;
     }
 }
@@ -449,9 +455,10 @@ void fill(Random &random, Shape shape, std::size_t bytes, unsigned rate, std::st
 {
     std::string field;
     text.clear();
-    while (text.size() < bytes) {
+    const bool is_equal = random.below(4) == 0;
+    while (!is_equal && text.size() < bytes) {
         if (random.below(200) == 0) {
-            add_fields_of_width<T>(random, shape, rate > 0, text);
+            add_equal_fields<T>(random, shape, rate > 0 && random.below(2) == 0, text);
             continue;
         }
         if (rate > 0 && random.below(rate) == 0) {
@@ -464,6 +471,8 @@ void fill(Random &random, Shape shape, std::size_t bytes, unsigned rate, std::st
             text += '\r';
         text += shape.separator;
     }
+    if (is_equal)
+        add_equal_fields<T>(random, shape, rate > 0 && random.below(2) == 0, text);
     if (!text.empty() && random.below(2) == 0)
         text.pop_back();
 }
