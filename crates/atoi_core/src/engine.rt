@@ -1,12 +1,12 @@
 //! The reads that parsers make, and the parses of wide integers that they are enough for. Below: what a
 //! read reports, how reads are counted, and engines that read byte by byte.
-ghost use Rattle.std.specs.Prelude.{◌≡◌, ◌+◌, ◌-◌, ◌≤◌, MatchOption};
+ghost use Rattle.std.specs.Prelude.{◌≡◌, ◌+◌, ◌-◌, ◌<◌, ◌≤◌, MatchOption, length, drop};
 ghost use Rattle.atoi_core.specs.Digit.{Table, IsBelowTen};
 ghost use Rattle.atoi_core.specs.Loads.{LoadsWithin, most_loads};
 ghost use Rattle.atoi_core.specs.Magnitude.{HasDigits, wide64, wide128, prefix_magnitude};
 ghost use Rattle.atoi_core.specs.Refusal.{answer_of};
 ghost use Rattle.atoi_core.specs.Reading.{window_of};
-ghost use Rattle.atoi_core.specs.Run.{run_len};
+ghost use Rattle.atoi_core.specs.Run.{run_len, value};
 
 pub mod alphabet;
 pub mod plain;
@@ -50,6 +50,22 @@ pub trait Engine {
         ensures one_step { steps.new ≡ steps.old + 1 }
     {
         Some(Self::window(s, steps))
+    }
+
+    /// After 16 digits, returns the number that the rest of `s` spells, if it consists of digits.
+    fn number_after_16(s: &[u8], steps: &mut Steps) -> Option<u64>
+        requires full { 16 ≤ run_len table s.now }
+        requires few { length s.now < 32 }
+        ensures number { MatchOption result (run_len table s.now < length s.now)
+            (λ number. (run_len table s.now ≡ length s.now) × (number ≡ value table (drop 16 s.now))) }
+        ensures one_step { steps.new ≡ steps.old + 1 }
+    {
+        let window = Self::window(&s[16..], steps);
+        if window.len as usize == s.len() - 16 {
+            Some(window.number)
+        } else {
+            None
+        }
     }
 
     /// Like `window`, but may be faster if there are at most 8 digits.

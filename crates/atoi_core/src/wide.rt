@@ -53,7 +53,10 @@ pub fn whole_128<'a, E: Engine>(
     ensures loads { LoadsWithin (most_loads E.table wide128 s.now) 5 E.table skip s.now
         steps.old steps.new }
 {
-    let (number, len) = prefix_128_inline::<E, true>(bound, skip, s, steps)?;
+    let (number, len) = match whole_from_two_windows::<E>(skip, s, steps) {
+        Some(answer) => answer?,
+        None => prefix_128_cold::<E>(bound, skip, s, steps)?,
+    };
     if len == s.len() {
         Ok(number)
     } else {
@@ -61,10 +64,9 @@ pub fn whole_128<'a, E: Engine>(
     }
 }
 
-// Like `Engine::prefix_128`, which starts over if two windows do not decide. With `WHOLE`, 32 bytes or
-// more whose first window is full go there at once.
+// Like `Engine::prefix_128`, which starts over if two windows do not decide.
 #[inline(always)]
-pub(crate) fn prefix_128_inline<'a, E: Engine, const WHOLE: bool>(
+pub(crate) fn prefix_128_inline<'a, E: Engine>(
     bound: u128,
     skip: bool,
     s: &'a [u8],
@@ -75,7 +77,7 @@ pub(crate) fn prefix_128_inline<'a, E: Engine, const WHOLE: bool>(
     ensures loads { LoadsWithin (most_loads E.table wide128 s.now) 5 E.table skip s.now
         steps.old steps.new }
 {
-    match first_two_windows::<E, WHOLE>(skip, s, steps) {
+    match first_two_windows::<E>(skip, s, steps) {
         Some(answer) => answer,
         None => prefix_128_cold::<E>(bound, skip, s, steps),
     }
@@ -102,7 +104,7 @@ fn prefix_128_cold<'a, E: Engine>(
 
 // Returns `None` if the engine is to be called.
 #[inline(always)]
-fn first_two_windows<'a, E: Engine, const WHOLE: bool>(
+fn first_two_windows<'a, E: Engine>(
     skip: bool,
     s: &'a [u8],
     steps: &mut Steps,
@@ -111,14 +113,11 @@ fn first_two_windows<'a, E: Engine, const WHOLE: bool>(
         → answer_of answer ≡ prefix_magnitude E.table wide128 bound 39 skip s.now) }
     ensures loads { IfSome result (λ answer.
         LoadsWithin (most_loads E.table wide128 s.now) 2 E.table skip s.now steps.old steps.new) }
-    ensures none_only_from_32 { result ≡ None → skip ≡ false → WHOLE ≡ false → 32 ≤ run_len E.table s.now }
+    ensures none_only_from_32 { result ≡ None → skip ≡ false → 32 ≤ run_len E.table s.now }
     ensures fewest { steps.old < steps.new }
     ensures most { steps.new ≤ steps.old + 2 }
 {
     let first = E::window(s, steps);
-    if WHOLE && first.len == 16 && s.len() >= 32 {
-        return None;
-    }
     if first.len < 16 {
         return Some(found_or_empty(u128::from(first.number), first.len as usize));
     }
@@ -134,4 +133,33 @@ fn first_two_windows<'a, E: Engine, const WHOLE: bool>(
         return Some(Ok((number, 16 + second.len as usize)));
     }
     None
+}
+
+// `first_two_windows` for a whole slice. If other bytes follow 16 digits, the engine is to be called.
+#[inline(always)]
+fn whole_from_two_windows<'a, E: Engine>(
+    skip: bool,
+    s: &'a [u8],
+    steps: &mut Steps,
+) -> Option<Result<(u128, usize), AtoiSimdError<'a>>>
+    ensures answer { IfSome result (λ answer. (bound : ℕ) → HasDigits 39 bound
+        → answer_of answer ≡ prefix_magnitude E.table wide128 bound 39 skip s.now) }
+    ensures loads { IfSome result (λ answer.
+        LoadsWithin (most_loads E.table wide128 s.now) 2 E.table skip s.now steps.old steps.new) }
+    ensures fewest { steps.old < steps.new }
+    ensures most { steps.new ≤ steps.old + 2 }
+{
+    let first = E::window(s, steps);
+    if first.len < 16 {
+        return Some(found_or_empty(u128::from(first.number), first.len as usize));
+    }
+    if s.len() >= 32 || (skip && first.zeroes > 0) {
+        return None;
+    }
+    if s.len() == 16 {
+        return Some(Ok((u128::from(first.number), 16)));
+    }
+    let low = E::number_after_16(s, steps)?;
+    let number = append_digits(first.number, s.len() as u32 - 16, low);
+    Some(Ok((number, s.len())))
 }

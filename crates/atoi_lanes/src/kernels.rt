@@ -47,6 +47,12 @@ const TO_START: [[u8; 16]; 8] = [
     [0, 1, 2, 3, 4, 5, 6, 7, 9, 10, 11, 12, 13, 14, 15, NO],
 ];
 
+// From index `n` on: ones in the last `n` of sixteen lanes, otherwise 0.
+const LAST_LANES: [u8; 32] = [
+    0, 0, 0, 0, 0, 0, 0, 0, 0, 0, 0, 0, 0, 0, 0, 0, 255, 255, 255, 255, 255, 255, 255, 255, 255,
+    255, 255, 255, 255, 255, 255, 255,
+];
+
 // The weights that join two pairs of digits, each in the upper byte of its 16 bits.
 const HUNDREDS: [u8; 16] = [0, 100, 0, 1, 0, 100, 0, 1, 0, 100, 0, 1, 0, 100, 0, 1];
 
@@ -154,6 +160,17 @@ pub fn sum_lanes(v: u8x16, len: u32) -> u64
     let digit_values = v - u8x16::splat(b'0');
     // No branch on the length: if lengths vary, it is mispredicted.
     number_in_lanes(shuffle(digit_values, len as usize))
+}
+
+/// Returns the number that the last `len` of sixteen digits spell.
+#[inline(always)]
+pub(crate) fn sum_last_lanes(v: u8x16, len: usize) -> u64
+    requires within { len ≤ 16 }
+    requires digits { run_len decimal_table v ≡ 16 }
+    ensures { result ≡ value decimal_table (drop (16 - len) v) }
+{
+    let digit_values = v - u8x16::splat(b'0');
+    number_in_lanes(digit_values & u8x16::from_slice(&LAST_LANES[len..]))
 }
 
 // Returns 16 of 48 lanes, from lane `p` on: 16 lanes of 0, the lanes of `v`, and 16 lanes of 0.

@@ -8,7 +8,7 @@ ghost use Rattle.atoi_lanes.specs.Lanes.{lane_window};
 
 use crate::after_16::begins_with_digit;
 use crate::kernels::{
-    ShortRun, load_lanes, others, read_medium, read_short, sum_lanes, zeroes_lanes,
+    ShortRun, load_lanes, others, read_medium, read_short, sum_lanes, sum_last_lanes, zeroes_lanes,
 };
 use crate::wide_lanes::{prefix_64_lanes, prefix_128_lanes};
 use atoi_core::word_digits::number_in_word;
@@ -146,6 +146,18 @@ impl Engine for Lanes {
             return None;
         }
         Some(read_window(s))
+    }
+
+    #[inline(always)]
+    fn number_after_16(s: &[u8], steps: &mut Steps) -> Option<u64> {
+        steps.tick();
+        let more = s.len() - 16;
+        let last = load_lanes(&s[more..]);
+        if others(last) != 0 {
+            return None;
+        }
+        // The first of these lanes are in the first window, too.
+        Some(sum_last_lanes(last, more))
     }
 
     #[inline(always)]

@@ -1,7 +1,7 @@
 -- The answers that follow from the last window of a loop over zeros.
-use Rattle.std.proofs.Common.{◌≡◌, ℕ, ◌+◌, ◌*◌, ◌^◌, ◌<◌, ◌≤◌, Bool, true, List, length, take, drop, Some, Ok, Err, refl, sym, ◌∙◌, lit<, arith, ◌==◌, false, not, None, Result, if◌then◌else◌, ◌-◌, min, get_or, nat_lt, ◌&&◌, inl, inr, le-ltb}
+use Rattle.std.proofs.Common.{◌≡◌, ℕ, ◌+◌, ◌*◌, ◌^◌, ◌<◌, ◌≤◌, Bool, true, List, length, take, drop, Some, Ok, Err, refl, sym, ap, ap₂, ◌∙◌, lit<, arith, ◌==◌, false, not, None, Result, if◌then◌else◌, ◌-◌, min, get_or, nat_lt, ◌&&◌, inl, inr, le-ltb}
 use Rattle.std.proofs.lemmas.Bool.{cases_lt, lt-ltb}
-use Rattle.std.proofs.lemmas.List.{length-drop, take_rest}
+use Rattle.std.proofs.lemmas.List.{length-drop, take_all, take_rest}
 use Rattle.std.proofs.lemmas.List.Sums.{prefix_len-drop_all}
 use Rattle.atoi_core.specs.Digit.{Table, IsBelowTen, decimal_table, is_digit}
 use Rattle.atoi_core.specs.Run.{zeros, run_len, run, value}
@@ -10,7 +10,7 @@ use Rattle.atoi_core.specs.Refusal.{empty, Refusal, invalid64, invalid128, size,
 use Rattle.atoi_core.specs.Reading.{cap, answer_by_digits, window_of, narrow_decision}
 use Rattle.atoi_core.specs.declared.engine.window.Window.{Window}
 use Rattle.atoi_core.proofs.lemmas.Refusals.{refusal-is, refused_empty, over, limit_at, significant_len, refusal-none, refused_size, refused_overflow}
-use Rattle.atoi_core.proofs.lemmas.Runs.{decimal_below_ten, prefix_len-take, value-take-le, value-least, run_ends, run_more, value_more}
+use Rattle.atoi_core.proofs.lemmas.Runs.{decimal_below_ten, prefix_len-drop, prefix_len-take, value-take-le, value-least, run_ends, run_more, value_more}
 use Rattle.atoi_core.proofs.lemmas.Readings.{within, below, short, short_below, all_decide}
 use Rattle.atoi_core.proofs.lemmas.Windows.{Shows, shows, Shows-join, Shows-join_two, Skipped}
 use Rattle.std.proofs.lemmas.Bool.Decides.{nat_tests}
@@ -45,6 +45,19 @@ answers_two ten bound {at = at} {second = second} after_skip full following few 
     let both = Shows-join after_skip.window full following in
     let decides = short ten wide128 bound 39 (lit< tt) digits after_skip.skipped both (omega arith) (omega arith) in
     grind (arith, nat_tests, decides)
+
+-- So do fewer than 32 digits that are the whole slice.
+pub answers_whole : {table : Table} → IsBelowTen table → (bound : ℕ) {skip : Bool} {s : List ℕ} {before now : ℕ} {first : Window} {low number : ℕ} →
+    Skipped table skip s 0 before now first → 16 ≤ first.len → run_len table s ≡ length s → length s < 32 → low ≡ value table (drop 16 s) →
+    HasDigits 39 bound → number ≡ first.number * 10 ^ (length s - 16) + low → Ok (number, length s) ≡ prefix_magnitude table wide128 bound 39 skip s
+answers_whole {table} ten bound {s = s} {first = first} {low = low} after_skip full all few low_is digits number_is =
+    let rest = drop 16 s in
+    let second = shows ten 16 rest refl in
+    let count : run_len table rest ≡ length s - 16 =
+    omega (arith, all, prefix_len-drop (is_digit table) 16 s (omega (arith, full, after_skip.window.len_is))) in
+    let len : (window_of table 16 rest).len ≡ length s - 16 = omega (arith, second.len_is, count) in
+    let same : low ≡ (window_of table 16 rest).number = low_is ∙ sym (second.number_is ∙ ap (value table) (take_all _ rest (omega (arith, len, length-drop 16 s)))) in
+    answers_two ten bound after_skip full second (omega (arith, len)) digits (number_is ∙ ap₂ (λ k n. first.number * 10 ^ k + n) (sym len) same) (omega (arith, len, all, full, after_skip.window.len_is, count))
 
 -- For 64 bits, a full window and 8 bytes decide.
 pub answers_64 : {table : Table} (bound limit : ℕ) {skip : Bool} {s : List ℕ} {at before now : ℕ} {first_window back : Window} →

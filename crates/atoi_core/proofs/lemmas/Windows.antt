@@ -1,7 +1,7 @@
 -- The windows of a slice, and the loop that skips zeros window by window.
 use Rattle.std.proofs.Common.{◌≡◌, ◌⊎◌, ℕ, ◌+◌, ◌-◌, ◌*◌, ◌^◌, ◌<◌, ◌≤◌, min, Bool, true, false, cond, eqb, List, length, take, drop, refl, sym, ap, ◌∙◌, subst, inl, inr, arith, ◌==◌, ◌/◌, ◌||◌, nat_lt, if◌then◌else◌}
 use Rattle.std.proofs.lemmas.Bool.{cases_lt, false≢true}
-use Rattle.std.proofs.lemmas.List.{take-take, take_rest}
+use Rattle.std.proofs.lemmas.List.{length-drop, take-take, take_all, take_rest}
 use Rattle.std.proofs.lemmas.List.Sums.{prefix_len-le-length}
 use Rattle.atoi_core.specs.Digit.{Table, IsBelowTen, is_digit, is_zero}
 use Rattle.atoi_core.specs.Run.{run_len, run, zeros, value}
@@ -48,6 +48,19 @@ pub Shows-join_two : {table : Table} {s : List ℕ} {first_window middle back : 
     Reading table 40 s (32 + back.len) (zeros_both 32 others (zeros table (take 8 (drop 32 s))))
     ((first_window.number * 10 ^ 16 + middle.number) * 10 ^ back.len + back.number)
 Shows-join_two first full second more third = join_readings (join_readings (Shows-full first full) (Shows-full second more)) third.reading
+
+-- A window of the rest, of fewer than 16 bytes.
+pub rest_shown : (table : Table) (s : List ℕ) (w : Window) → 16 ≤ run_len table s → length s < 32
+    → w ≡ window_of table 16 (take (length s - 16) (drop 16 s))
+    → (run_len table s ≡ 16 + w.len) × (w.len ≡ length s - 16 → w.number ≡ value table (drop 16 s))
+rest_shown table s w full few is =
+    let rest = drop 16 s in
+    let all : take 16 (take (length s - 16) rest) ≡ rest = ap (take 16) (take_rest s 16) ∙ take_all 16 rest (omega (arith, length-drop 16 s)) in
+    let len : w.len ≡ run_len table rest = ap (λ (v : Window). v.len) is ∙ ap (run_len table) all in (
+      omega (arith, len, prefix_len-drop (is_digit table) 16 s full),
+      λ whole. ap (λ (v : Window). v.number) is ∙ ap (λ l. value table (run table l)) all
+          ∙ ap (value table) (take_all (run_len table rest) rest (omega (arith, len, whole, length-drop 16 s))),
+    )
 
 -- Two full windows are 32 digits.
 pub two_full : {table : Table} (s : List ℕ) {first second : Window} → Shows table 16 s first → 16 ≤ first.len → Shows table 16 (drop 16 s) second

@@ -172,6 +172,6 @@ fn prefix_by_size<'a, E: Engine, T: Number>(
             Err(error) => Err(error),
         }
     } else {
-        prefix_128_inline::<E, false>(bound, skip, s, steps)
+        prefix_128_inline::<E>(bound, skip, s, steps)
     }
 }

@@ -48,6 +48,16 @@ impl Engine for Words {
     }
 
     #[inline(always)]
+    fn number_after_16(s: &[u8], steps: &mut Steps) -> Option<u64> {
+        let window = Words::whole_window(&s[16..], steps);
+        if window.len as usize == s.len() - 16 {
+            Some(window.number)
+        } else {
+            None
+        }
+    }
+
+    #[inline(always)]
     fn narrow_window(s: &[u8], steps: &mut Steps) -> Window {
         Words::window(s, steps)
     }

@@ -1,15 +1,15 @@
 -- The lanes of a slice, and the windows and readings that they show.
-use Rattle.std.proofs.Common.{◌≡◌, ℕ, ◌+◌, ◌<◌, List, ◌++◌, get_or, length, take, replicate, min, refl, sym, ap, ◌∙◌, arith, ◌≤◌}
+use Rattle.std.proofs.Common.{◌≡◌, ℕ, ◌+◌, ◌<◌, List, ◌++◌, get_or, length, take, drop, replicate, min, ◌-◌, refl, sym, ap, ◌∙◌, arith, ◌≤◌}
 use Rattle.std.proofs.Math.Nat.{min_comm}
 use Rattle.std.proofs.lemmas.Bool.{ne_eqb}
-use Rattle.std.proofs.lemmas.List.{take_all, take_min, length-take, take-append-le, take-take}
+use Rattle.std.proofs.lemmas.List.{take_all, take_at, take_min, take_rest, length-drop, length-take, drop-drop, take-append-le, take-take}
 use Rattle.atoi_core.specs.Digit.{decimal_table, is_digit, is_zero}
 use Rattle.atoi_core.specs.Reading.{Reading, window_of}
 use Rattle.atoi_core.specs.Run.{run_len, run, zeros, value}
 use Rattle.atoi_core.specs.Words.{low_bytes, word_of}
 use Rattle.atoi_core.specs.declared.engine.window.Window.{Window}
 use Rattle.atoi_core.proofs.lemmas.LoadedWords.{digits-of_bytes, loaded_run, prefix_len-padded}
-use Rattle.atoi_core.proofs.lemmas.Runs.{prefix_len-take}
+use Rattle.atoi_core.proofs.lemmas.Runs.{prefix_len-drop, prefix_len-take}
 use Rattle.atoi_lanes.specs.Lanes.{lane_window, padded_start}
 use lib.Lanes.{Each1, digits_l}
 use Rattle.std.proofs.lemmas.List.Sums.{prefix_len-le-length}
@@ -54,6 +54,19 @@ module _ (s : List ℕ) (fits : (i : ℕ) → get_or s i 0 < 256) (word : ℕ) (
 pub window_of_all : (s : List ℕ) → length s < 16 → run_len decimal_table s ≡ length s → (number : ℕ) → number ≡ value decimal_table s
     → ◌≡◌ {A = Window} (record { len = length s; zeroes = 0; number = number }) (window_of decimal_table 16 s)
 window_of_all s few all number is = search (arith, take_all, ne_eqb)
+
+-- The last 16 of 16 to 31 bytes, the first 16 of which are digits: what they count, and those after the first 16.
+pub last_shown : (s lanes : List ℕ) → 16 ≤ run_len decimal_table s → length s < 32 → lanes ≡ padded_start 16 (take (length s - (length s - 16)) (drop (length s - 16) s))
+    → (run_len decimal_table s ≡ length s - 16 + run_len decimal_table lanes) × (drop (16 - (length s - 16)) lanes ≡ drop 16 s)
+last_shown s lanes full few are =
+    let last = drop (length s - 16) s in
+    let enough : 16 ≤ length s = omega (arith, full, prefix_len-le-length (is_digit decimal_table) s) in
+    let long : length last ≡ 16 = length-drop (length s - 16) s ∙ omega (arith, enough) in
+    let same : lanes ≡ last = are ∙ ap (padded_start 16) (take_rest s (length s - 16)) ∙ take_at last (replicate 16 0) 16 long in
+    let place : length s - 16 + (16 - (length s - 16)) ≡ 16 = omega (arith, enough) in (
+      prefix_len-drop (is_digit decimal_table) (length s - 16) s (omega arith) ∙ ap (λ l. length s - 16 + run_len decimal_table l) (sym same),
+      ap (drop (16 - (length s - 16))) same ∙ drop-drop (16 - (length s - 16)) (length s - 16) s ∙ ap (λ n. drop n s) place,
+    )
 
 -- At most eight bytes.
 pub window_of_half : (n : ℕ) (s : List ℕ) → n ≡ min (length s) 8 → lane_window 8 (padded_start 16 (take n s)) ≡ window_of decimal_table 8 s

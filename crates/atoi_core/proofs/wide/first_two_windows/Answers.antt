@@ -69,4 +69,4 @@ pub returns-clause-none_only_from_32 : goal.returns-clause-none_only_from_32
 returns-clause-none_only_from_32 g c none off =
     let s = c.args.s.now in
     let second = shows_rest g.met.E.Engine.below_ten 16 s 16 c.in-Some.ensures.window in
-    λ _. two_full s (shows g.met.E.Engine.below_ten 16 s c.window-first.ensures.window) c.if-first-lt16.false second c.if-second-lt16.false
+    two_full s (shows g.met.E.Engine.below_ten 16 s c.window-first.ensures.window) c.if-first-lt16.false second c.if-second-lt16.false
