@@ -75,10 +75,48 @@ pub(crate) fn prefix_64_after_16<'a>(
     if !starts_with_digit_of_four(word) {
         return Ok((high, 16));
     }
+    match found_from_17(bound, limit, high, word, s) {
+        (_, 0) => refused_from_17(bound, limit, high, word, s),
+        found => Ok(found),
+    }
+}
+
+// `answer_from_17`, or a length of 0 for an error. A pair is returned in registers.
+fn found_from_17(bound: u64, limit: u32, high: u64, word: u32, s: &[u8]) -> (u64, usize)
+    requires limit_high { limit ≤ 20 }
+    requires digits { HasDigits limit bound }
+    requires full { 17 ≤ run_len decimal_table s.now }
+    requires number { high ≡ value decimal_table (take 16 s.now) }
+    requires loaded { word ≡ word_of (take 4 (drop 16 s.now)) }
+    ensures found { 0 < result.1 → Ok result
+        ≡ prefix_magnitude decimal_table wide64 bound limit false s.now }
+{
+    if let Ok(found) = answer_from_17(bound, limit, high, word, s) {
+        return found;
+    }
+    (0, 0)
+}
+
+// `answer_from_17` for an error.
+fn refused_from_17<'a>(
+    bound: u64,
+    limit: u32,
+    high: u64,
+    word: u32,
+    s: &'a [u8],
+) -> Result<(u64, usize), AtoiSimdError<'a>>
+    requires limit_high { limit ≤ 20 }
+    requires digits { HasDigits limit bound }
+    requires full { 17 ≤ run_len decimal_table s.now }
+    requires number { high ≡ value decimal_table (take 16 s.now) }
+    requires loaded { word ≡ word_of (take 4 (drop 16 s.now)) }
+    ensures { answer_of result ≡ prefix_magnitude decimal_table wide64 bound limit false s.now }
+{
     answer_from_17(bound, limit, high, word, s)
 }
 
 // `prefix_64_after_16` if a digit follows. `word` has the four bytes after 16.
+#[inline(always)]
 fn answer_from_17<'a>(
     bound: u64,
     limit: u32,
