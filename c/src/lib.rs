@@ -338,12 +338,7 @@ impl Rest {
         let length = bad_place.unwrap_or(fields.position().1);
         self.go_on(read, length);
         if read == PART {
-            let numbers = unsafe { from_raw_parts(values.0, PART) };
-            let minuses = numbers.iter().filter(|number| **number < T::default()).count();
-            let digits = length - PART - minuses;
-            if digits % PART == 0 {
-                self.digits = u8::try_from(digits / PART).unwrap_or(0);
-            }
+            self.digits = digits_of_each(unsafe { from_raw_parts(values.0, PART) }, length);
         }
         read
     }
@@ -381,6 +376,16 @@ impl Rest {
         }
         read
     }
+}
+
+// How many digits each of these numbers has, if `length` bytes are those of equally many with their minus
+// signs and separators, otherwise 0. Inlined, it would make the loop before it slower.
+#[inline(never)]
+fn digits_of_each<T: Default + PartialOrd>(numbers: &[T], length: usize) -> u8 {
+    let minuses = numbers.iter().filter(|number| **number < T::default()).count();
+    let digits = length - numbers.len() - minuses;
+    let each = u8::try_from(digits / numbers.len()).unwrap_or(0);
+    if digits % numbers.len() == 0 { each } else { 0 }
 }
 
 // How many fields are read before a guess. In a text of many widths, the guess is then rarely wrong, and
