@@ -1,5 +1,5 @@
 //! The answer of a prefix of 64 bits after its first sixteen digits, from words of four bytes.
-ghost use Rattle.std.specs.Prelude.{◌≡◌, ◌-◌, ◌<◌, ◌≤◌, nat_lt, if◌then◌else◌, length, take, drop, false, Ok, Err, MatchOption};
+ghost use Rattle.std.specs.Prelude.{◌≡◌, ◌-◌, ◌<◌, ◌≤◌, nat_lt, if◌then◌else◌, length, take, drop, false, Ok, Err, MatchOption, MatchResult};
 ghost use Rattle.atoi_core.specs.Digit.{decimal_table};
 ghost use Rattle.atoi_core.specs.Magnitude.{HasDigits, wide64, prefix_magnitude};
 ghost use Rattle.atoi_core.specs.Refusal.{answer_of, overflow};
@@ -88,8 +88,8 @@ fn found_from_17(bound: u64, limit: u32, high: u64, word: u32, s: &[u8]) -> (u64
     requires full { 17 ≤ run_len decimal_table s.now }
     requires number { high ≡ value decimal_table (take 16 s.now) }
     requires loaded { word ≡ word_of (take 4 (drop 16 s.now)) }
-    ensures found { 0 < result.1 → Ok result
-        ≡ prefix_magnitude decimal_table wide64 bound limit false s.now }
+    ensures { MatchResult (prefix_magnitude decimal_table wide64 bound limit false s.now)
+        (λ found. result ≡ found) (λ _. result ≡ (0, 0)) }
 {
     if let Ok(found) = answer_from_17(bound, limit, high, word, s) {
         return found;

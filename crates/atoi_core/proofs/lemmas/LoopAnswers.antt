@@ -52,12 +52,14 @@ pub answers_whole : {table : Table} → IsBelowTen table → (bound : ℕ) {skip
     HasDigits 39 bound → number ≡ first.number * 10 ^ (length s - 16) + low → Ok (number, length s) ≡ prefix_magnitude table wide128 bound 39 skip s
 answers_whole {table} ten bound {s = s} {first = first} {low = low} after_skip full all few low_is digits number_is =
     let rest = drop 16 s in
-    let second = shows ten 16 rest refl in
-    let count : run_len table rest ≡ length s - 16 =
-    omega (arith, all, prefix_len-drop (is_digit table) 16 s (omega (arith, full, after_skip.window.len_is))) in
-    let len : (window_of table 16 rest).len ≡ length s - 16 = omega (arith, second.len_is, count) in
-    let same : low ≡ (window_of table 16 rest).number = low_is ∙ sym (second.number_is ∙ ap (value table) (take_all _ rest (omega (arith, len, length-drop 16 s)))) in
-    answers_two ten bound after_skip full second (omega (arith, len)) digits (number_is ∙ ap₂ (λ k n. first.number * 10 ^ k + n) (sym len) same) (omega (arith, len, all, full, after_skip.window.len_is, count))
+    let second : Shows table 16 rest (window_of table 16 rest) = shows ten 16 rest refl in
+    let long : 16 ≤ run_len table s = omega (arith, full, after_skip.window.len_is) in
+    let count : run_len table s ≡ 16 + run_len table rest = prefix_len-drop (is_digit table) 16 s long in
+    let len : (window_of table 16 rest).len ≡ length s - 16 = omega (arith, all, few, second.len_is, count) in
+    let same : low ≡ (window_of table 16 rest).number =
+    low_is ∙ sym (second.number_is ∙ ap (value table) (take_all _ rest (omega (arith, len, length-drop 16 s)))) in
+    answers_two ten bound after_skip full second (omega (arith, few, len)) digits
+    (number_is ∙ ap₂ (λ k n. first.number * 10 ^ k + n) (sym len) same) (omega (arith, all, long, len))
 
 -- For 64 bits, a full window and 8 bytes decide.
 pub answers_64 : {table : Table} (bound limit : ℕ) {skip : Bool} {s : List ℕ} {at before now : ℕ} {first_window back : Window} →
