@@ -378,8 +378,8 @@ impl Rest {
     }
 }
 
-// How many digits each of these numbers has, if `length` bytes are those of equally many with their minus
-// signs and separators, otherwise 0. Inlined, it would make the loop before it slower.
+// How many digits each of these numbers has, if all have equally many, otherwise 0. `length` also counts minus
+// signs and separators. Inlined, this function would make the loop before it slower.
 #[inline(never)]
 fn digits_of_each<T: Default + PartialOrd>(numbers: &[T], length: usize) -> u8 {
     let minuses = numbers.iter().filter(|number| **number < T::default()).count();
