@@ -29,7 +29,7 @@ pub trait Engine {
         ensures window { result ≡ window_of table 16 s.now }
         ensures one_step { steps.new ≡ steps.old + 1 };
 
-    /// Up to how many bytes a whole slice of a narrow type is read inlined. Above 15 it counts as 15.
+    /// Whole slices of at most this many bytes (and 15) are read inlined, except for 64 bits.
     const INLINED: usize = 8;
 
     /// Like `window`, but may be faster if `s` is all digits.

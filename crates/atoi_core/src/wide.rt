@@ -3,11 +3,13 @@
 ghost use Rattle.std.specs.Prelude.{◌≡◌, ◌+◌, ◌-◌, ◌<◌, ◌≤◌, ℕ, false, IsTrue, None, IfSome};
 ghost use Rattle.atoi_core.specs.Loads.{LoadsWithin, most_loads};
 ghost use Rattle.atoi_core.specs.Magnitude.{HasDigits, wide64, wide128, whole_magnitude, prefix_magnitude};
+ghost use Rattle.atoi_core.specs.Reading.{window_of};
 ghost use Rattle.atoi_core.specs.Refusal.{answer_of};
 ghost use Rattle.atoi_core.specs.Run.{run_len};
 
 use crate::engine::Engine;
 use crate::engine::steps::Steps;
+use crate::engine::window::Window;
 use crate::error::AtoiSimdError;
 use crate::loops::powers::append_digits;
 use crate::loops::wide_answer::found_or_empty;
@@ -149,7 +151,7 @@ fn whole_from_two_windows<'a, E: Engine>(
     ensures fewest { steps.old < steps.new }
     ensures most { steps.new ≤ steps.old + 2 }
 {
-    let first = E::window(s, steps);
+    let first = first_of_whole::<E>(s, steps);
     if first.len < 16 {
         return Some(found_or_empty(u128::from(first.number), first.len as usize));
     }
@@ -162,4 +164,17 @@ fn whole_from_two_windows<'a, E: Engine>(
     let low = E::number_after_16(s, steps)?;
     let number = append_digits(first.number, s.len() as u32 - 16, low);
     Some(Ok((number, s.len())))
+}
+
+// Returns the first window.
+#[inline(always)]
+fn first_of_whole<E: Engine>(s: &[u8], steps: &mut Steps) -> Window
+    ensures window { result ≡ window_of E.table 16 s.now }
+    ensures one_step { steps.new ≡ steps.old + 1 }
+{
+    if s.len() <= E::INLINED.min(15) {
+        E::whole_window(s, steps)
+    } else {
+        E::window(s, steps)
+    }
 }
