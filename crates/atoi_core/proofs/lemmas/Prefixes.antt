@@ -80,7 +80,7 @@ prefix_of_cut int = record {
 stops : (rest : List ℕ) → ¬ BeginsWithDigit rest → run_len decimal_table rest ≡ 0
 stops rest ends = grind (arith, cases_Bool, digit_in_range)
 
--- Where no digit stands, the rest begins with none.
+-- If the byte at `count` is no digit, the bytes from there begin with none.
 pub no_digit : (s : List ℕ) (count : ℕ) → (count < length s → IsFalse (is_digit decimal_table (get_or s count 0))) → ¬ BeginsWithDigit (drop count s)
 no_digit [] zero h = λ digit. digit
 no_digit [] (suc count) h = λ digit. digit

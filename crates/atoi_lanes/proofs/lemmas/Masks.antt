@@ -24,7 +24,7 @@ mask-of_lanes q v f z long fits lanes all =
     ∙ mask_l-mod (map set v) 64 (omega (arith, length-map v set))
     ∙ ap mask_l (map-agree set q all v fits)
 
--- A mask of the lanes that pass tells how many do at the start.
+-- How many lanes pass at the start, counted in a mask of the lanes that pass.
 pub ones-of_mask : (q : ℕ → Bool) (v : List ℕ) → length v ≡ 16 → (mask : ℕ) → mask ≡ mask_l (map q v) → trailing_ones w64 mask ≡ prefix_len q v
 ones-of_mask q v long mask is =
     let small : mask + 1 < 2 ^ 64 = omega (arith, is, rw (length-map v q, long) at (mask_l-lt (map q v))) in
@@ -43,7 +43,7 @@ not-not : (b : Bool) → not (not b) ≡ b
 not-not true = refl
 not-not false = refl
 
--- A mask of the lanes that fail tells how many pass before the first of them.
+-- How many lanes pass at the start, counted in a mask of the lanes that fail.
 pub run-of_others : (q : ℕ → Bool) (v : List ℕ) → length v ≡ 16 → (mask : ℕ) → mask ≡ mask_l (map (λ x. not (q x)) v)
     → (mask ≡ 0 → prefix_len q v ≡ 16) × (0 < mask → trailing_zeros w16 mask ≡ prefix_len q v)
 run-of_others q v long mask is =

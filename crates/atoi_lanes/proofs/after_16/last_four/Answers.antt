@@ -1,4 +1,4 @@
--- If the last four bytes are digits, all are, and the number is that of those after the first 16.
+-- If the last four bytes are digits, all are, and the number is the value of the bytes after the first 16.
 use Rattle.std.proofs.Common.{◌≡◌, ℕ, ◌+◌, ◌-◌, List, length, take, drop, ap, sym, ◌∙◌, arith}
 use Rattle.std.proofs.lemmas.List.{drop-drop, get_or-drop, length-drop, take_all}
 use Rattle.atoi_core.specs.Digit.{decimal_table, is_digit}
