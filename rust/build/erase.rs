@@ -37,8 +37,8 @@ const CONDITIONS: [(&str, &str); 3] = [
     ),
 ];
 
-// The methods whose conditions nothing tests. A page tells users about the first two. No item that
-// users can name mentions `Engine`.
+// The methods whose conditions nothing tests. DIFFERENCES describes the first two. No item that users
+// can name mentions `Engine`.
 const UNTESTED: &str = "atoi_core::Number::from_pos atoi_core::Signed::from_neg \
     atoi_core::Engine::prefix_64 atoi_core::Engine::prefix_128 atoi_core::Engine::number_after_16";
 
