@@ -8,6 +8,9 @@ use torkettle_common::Form;
 // The means of the passes of an idle machine differ by less, in percent.
 const BUSY: f64 = 3.0;
 
+// If others use the core for a longer part of the time, in percent, every round may be slow.
+const SHARED: f64 = 50.0;
+
 // A ratio above this one is named. One nearer to 1 may be chance.
 const SLOWER: f64 = 1.02;
 
@@ -76,6 +79,19 @@ impl Table {
         if spread > BUSY {
             println!("the machine is busy: figures differ by {spread:.0} % between passes");
         }
+        let shared = self.shared();
+        if shared > SHARED {
+            println!(
+                "the machine is busy: others seem to use the core for {shared:.0} % of the time"
+            );
+        }
+    }
+
+    // In how many percent of the rounds another program seemed to use the core.
+    fn shared(&self) -> f64 {
+        let rounds: usize = self.times.iter().map(|times| times.rounds).sum();
+        let shared: usize = self.times.iter().map(|times| times.shared).sum();
+        100.0 * shared as f64 / rounds as f64
     }
 
     // Each side of ours with the sides of each other build. Words are compared with words, and

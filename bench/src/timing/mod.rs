@@ -58,6 +58,10 @@ pub struct Times {
     passes: Vec<Vec<Vec<f64>>>,
     // For each side, whether one of its sums was not the expected one.
     is_wrong: Vec<bool>,
+    /// How many rounds there were.
+    pub rounds: usize,
+    /// In how many rounds another program seemed to use the core.
+    pub shared: usize,
 }
 
 impl Times {
@@ -105,7 +109,8 @@ impl Task {
     }
 
     fn new(name: String, width: Option<usize>, exports: Vec<(Form, String)>, input: Input) -> Task {
-        let times = Times { name, width, passes: Vec::new(), is_wrong: Vec::new() };
+        let (passes, is_wrong) = (Vec::new(), Vec::new());
+        let times = Times { name, width, passes, is_wrong, rounds: 0, shared: 0 };
         Task { times, exports, input, sides: Vec::new() }
     }
 
@@ -132,6 +137,8 @@ impl Task {
 
     // Runs each side once at one placement. A side with fewer placements repeats them.
     fn round(&mut self, place: usize, best: &mut [Vec<f64>]) {
+        self.times.rounds += 1;
+        self.times.shared += usize::from(processor::shares_core());
         let sides = self.sides.iter().zip(best).zip(&mut self.times.is_wrong);
         for ((side, best), is_wrong) in sides.filter(|((side, _), _)| !side.calls.is_empty()) {
             let call = side.calls[place % side.calls.len()];

@@ -1,5 +1,7 @@
 //! The processor that the program runs on.
 
+#[cfg(target_arch = "x86_64")]
+use std::arch::asm;
 use std::fs;
 use std::hint::black_box;
 use std::process::{self, Command};
@@ -34,11 +36,58 @@ const UNPREDICTED: f64 = 5.0;
 pub fn predicts_jumps() -> bool {
     const CALLS: u32 = 4096;
     let count: fn(u32) -> u32 = u32::count_ones;
+    let sum = || black_box((0..CALLS).map(|number| black_box(count)(number)).sum::<u32>());
+    fastest(60, sum) / f64::from(CALLS) < UNPREDICTED
+}
+
+// Fewer additions per cycle are taken as a sign that another program uses the core. On a Xeon of
+// 2.5 GHz, we measured 3.2, and mostly 2.0 to 2.6 in phases in which everything was slower.
+#[cfg(target_arch = "x86_64")]
+const ALONE: f64 = 2.8;
+
+/// Whether another program seems to use the core, even if this system does not show it, because it
+/// belongs to another virtual machine.
+#[cfg(target_arch = "x86_64")]
+pub fn shares_core() -> bool {
+    const STEPS: u64 = 250;
+    // Each step takes 48 cycles, because every product needs the one before it.
+    let cycles = || {
+        // SAFETY: the code writes nothing except its registers.
+        unsafe {
+            asm!(
+                "2:", ".rept 16", "imul {0}, {0}", ".endr", "dec {1}", "jnz 2b",
+                inout(reg) 1_u64 => _, inout(reg) STEPS => _, options(nomem, nostack),
+            );
+        }
+    };
+    // Each step has 48 additions, of which four can be executed at once.
+    let additions = || {
+        // SAFETY: the code writes nothing except its registers.
+        unsafe {
+            asm!(
+                "2:", ".rept 12",
+                "add {0}, {0}", "add {1}, {1}", "add {2}, {2}", "add {3}, {3}",
+                ".endr", "dec {4}", "jnz 2b",
+                inout(reg) 1_u64 => _, inout(reg) 1_u64 => _, inout(reg) 1_u64 => _,
+                inout(reg) 1_u64 => _, inout(reg) STEPS => _, options(nomem, nostack),
+            );
+        }
+    };
+    fastest(2, cycles) / fastest(2, additions) < ALONE
+}
+
+/// On other processors, this is not found.
+#[cfg(not(target_arch = "x86_64"))]
+pub fn shares_core() -> bool {
+    false
+}
+
+// The shortest of so many times that something takes, in nanoseconds.
+fn fastest<T>(rounds: usize, mut act: impl FnMut() -> T) -> f64 {
     let time = |_| {
         let from = Instant::now();
-        let sum: u32 = (0..CALLS).map(|number| black_box(count)(number)).sum();
-        black_box(sum);
-        from.elapsed().as_nanos() as f64 / f64::from(CALLS)
+        act();
+        from.elapsed().as_nanos() as f64
     };
-    (0..60).map(time).fold(f64::INFINITY, f64::min) < UNPREDICTED
+    (0..rounds).map(time).fold(f64::INFINITY, f64::min)
 }
