@@ -102,15 +102,15 @@ unsafe fn bytes<'a>(text: *const c_char, length: usize) -> &'a [u8] {
     if length == 0 { &[] } else { unsafe { from_raw_parts(text.cast(), length) } }
 }
 
-// The most bytes that `read_window` of atoi_core reads as one word.
-const ONE_WORD: usize = 8;
+// The most bytes that one window of words decides.
+const ONE_WINDOW: usize = 15;
 
 // A short text is parsed in few registers, and the others by a jump. It has fewer than 16 digits, so
 // its result is the same without skipping zeros: `short_whole` and `short_prefix` of `SkippingAgrees`
 // in `Laws.antt` of atoi_core.
 #[inline(always)]
 fn is_short<T: Parse>(text: &[u8]) -> bool {
-    text.len() <= ONE_WORD + usize::from(T::SIGNED)
+    text.len() <= ONE_WINDOW + usize::from(T::SIGNED)
 }
 
 #[inline(always)]

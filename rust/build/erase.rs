@@ -11,8 +11,8 @@ use super::names;
 use super::tokens::{Kind, Scanner, Token};
 
 /// The crates whose sources refer to one another by these names.
-pub const CRATES: [&str; 5] =
-    ["atoi_core", "atoi_lanes", "atoi_simd", "atoi_column", "atoi_formats"];
+pub const CRATES: [&str; 6] =
+    ["atoi_core", "atoi_fast", "atoi_lanes", "atoi_simd", "atoi_column", "atoi_formats"];
 
 // The conditions that callers must meet, with the path of each definition that they name, and what
 // tests them in Rust.
@@ -37,10 +37,10 @@ const CONDITIONS: [(&str, &str); 3] = [
     ),
 ];
 
-// The methods whose conditions nothing tests. DIFFERENCES describes the first two. No item that users
+// The methods whose conditions nothing tests. DIFFERENCES describes the first three. No item that users
 // can name mentions `Engine`.
-const UNTESTED: &str = "atoi_core::Number::from_pos atoi_core::Signed::from_neg \
-    atoi_core::Engine::prefix_64 atoi_core::Engine::prefix_128 atoi_core::Engine::number_after_16";
+const UNTESTED: &str = "atoi_core::Number::from_pos atoi_core::Number::from_parts \
+    atoi_core::Signed::from_neg atoi_core::Engine::prefix_64 atoi_core::Engine::prefix_128";
 
 /// The line of what is refused, and why it is.
 pub type Refusal = (usize, String);
@@ -256,7 +256,7 @@ impl<'a> Eraser<'a> {
     // Says whether a test of this function's conditions is put in: users may call it.
     fn is_tested(&self, function: &Signature) -> Result<bool, String> {
         // All public functions of the other crates are to be exported.
-        let is_exported = !matches!(self.name, "atoi_core" | "atoi_lanes")
+        let is_exported = !matches!(self.name, "atoi_core" | "atoi_fast" | "atoi_lanes")
             || self.exported.contains(&function.name);
         let Some((owner, _)) = self.owner else {
             return Ok(function.item.is_public && is_exported);

@@ -1,6 +1,7 @@
 //! Writes the proved sources as Rust, without their contracts, into the folder that cargo names, for
 //! `rust/src/lib.rs` to include. Each module keeps its lines.
 
+pub mod engines;
 pub mod erase;
 pub mod names;
 mod tokens;
@@ -29,10 +30,13 @@ pub fn write_all(top: &Path, out: &Path) -> Result<(), String> {
     let (mut modules, mut crates) = (Vec::new(), String::new());
     for name in erase::CRATES {
         println!("cargo::rerun-if-changed=crates/{name}/src");
-        let mut sources = BTreeMap::new();
-        find(&top.join("crates").join(name).join("src"), &out.join(name), &mut sources)?;
+        let (mut sources, from) = (BTreeMap::new(), top.join("crates").join(name).join("src"));
+        find(&from, &out.join(name), &mut sources)?;
         for (file, source) in sources {
-            let rust = erase::erase(name, &read(&source)?, &exported);
+            let module = source.strip_prefix(&from).unwrap_or(&source);
+            let text = engines::in_package(name, module, &read(&source)?);
+            let Some(text) = text.map_err(|refusal| fault(&source, refusal))? else { continue };
+            let rust = erase::erase(name, &text, &exported);
             let rust = rust.map_err(|refusal| fault(&source, refusal))?;
             modules.push((source, file, rust));
         }
@@ -74,7 +78,10 @@ fn write_known(modules: &[(PathBuf, PathBuf, String)]) -> Result<(), String> {
     }
     for (source, file, rust) in modules {
         names::check(rust, &declared).map_err(|refusal| fault(source, refusal))?;
-        write(file, rust)?;
+        match source.ends_with("atoi_fast/src/lib.rt") {
+            true => write(file, &engines::with_feature(rust))?,
+            false => write(file, rust)?,
+        }
     }
     Ok(())
 }

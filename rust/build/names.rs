@@ -16,7 +16,7 @@ const NAMES: &str = "cfg_attr cold derive doc inline not \
     Clone Copy Debug Eq Ord PartialEq PartialOrd Iterator Option Some None Result Ok Err \
     Display Formatter Error Ordering FusedIterator PhantomData fmt from_utf8 \
     MIN MAX from from_le_bytes u8x16 u16x8 u64x2 from_array from_slice splat \
-    proved atoi_core atoi_lanes atoi_simd atoi_column atoi_formats";
+    proved atoi_core atoi_fast atoi_lanes atoi_simd atoi_column atoi_formats";
 
 // Rust's `core` stands for Rattle's `std`, and `rust/src/simd` for its vectors. Tests of conditions
 // name the last.

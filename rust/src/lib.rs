@@ -67,9 +67,9 @@ compile_error!("torkettle needs a target with 64-bit pointers: its proofs are fo
 // Some of its public functions are only for the crates themselves, whose proofs meet their conditions.
 #[cfg(target_pointer_width = "64")]
 #[allow(dead_code, unused_imports, unused_variables)]
-// The build script empties lines, and a `match` that changes nothing can save instructions.
+// The build script empties lines, and the kit's `unwrap_or` has no proof here.
 #[allow(clippy::empty_line_after_doc_comments, clippy::empty_line_after_outer_attr)]
-#[allow(clippy::needless_match, clippy::manual_unwrap_or)]
+#[allow(clippy::manual_unwrap_or)]
 mod proved {
     include!(concat!(env!("OUT_DIR"), "/proved.rs"));
 }

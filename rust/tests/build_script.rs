@@ -119,3 +119,23 @@ fn a_source_is_utf_8() {
     let fault = package.fault(file);
     assert!(fault.contains("UTF-8"), "{fault}");
 }
+
+#[test]
+fn the_package_names_its_own_engines() {
+    let package = Package::new("engines");
+    let alias = "crates/atoi_simd/src/default_engine.rt";
+    package.put(alias, b"//! A.\n\npub(crate) type DefaultEngine = atoi_core::Words;\n");
+    package.put("crates/atoi_fast/src/lib.rt", b"mod vectors;\npub struct Swar;\n");
+    let lib = b"pub mod kernels;\nmod lanes;\nmod other;\npub use crate::lanes::Lanes;\n";
+    package.put("crates/atoi_lanes/src/lib.rt", lib);
+    package.put("crates/atoi_lanes/src/lanes.rt", b"a form that the build refuses: \xC3\xA9");
+    package.build().unwrap();
+    let engine = "pub(crate) type DefaultEngine = crate::proved::atoi_fast::Swar;";
+    assert_eq!(package.rust("atoi_simd/default_engine.rs"), format!("//! A.\n\n{engine}\n"));
+    assert_eq!(package.rust("atoi_lanes/lib.rs"), "\n\nmod other;\n\n");
+    assert!(!package.0.join("out/atoi_lanes/lanes.rs").exists());
+    let fast = package.rust("atoi_fast/lib.rs");
+    assert_eq!(fast, "#[cfg(feature = \"lanes\")] mod vectors;\npub struct Swar;\n");
+    package.put(alias, b"pub(crate) type Engine = atoi_core::Words;\n");
+    assert!(package.fault(alias).starts_with(":1: no line"));
+}

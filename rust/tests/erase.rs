@@ -6,6 +6,7 @@ mod remaining;
 #[allow(dead_code)]
 mod script;
 
+use script::engines;
 use script::erase::{CRATES, Refusal, erase};
 use script::names;
 use std::collections::BTreeSet;
@@ -375,8 +376,13 @@ fn what_must_remain_remains() {
     assert!(exported.windows(2).all(|pair| pair != ["::", "*"]), "an export without a name");
     let mut files = 0;
     for name in CRATES {
-        for file in sources(&top.join("crates").join(name).join("src")) {
+        let folder = top.join("crates").join(name).join("src");
+        for file in sources(&folder) {
+            let module = file.strip_prefix(&folder).unwrap();
             let source = fs::read_to_string(&file).unwrap();
+            let Some(source) = engines::in_package(name, module, &source).unwrap() else {
+                continue;
+            };
             let rust = erase(name, &source, &exported);
             let rust = rust.unwrap_or_else(|refusal| panic!("{}: {refusal:?}", file.display()));
             assert_eq!(source.lines().count(), rust.lines().count(), "lines of {file:?}");

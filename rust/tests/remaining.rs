@@ -21,7 +21,8 @@ const TESTS: [(&str, &str); 3] = [
     ),
 ];
 
-const CRATES: [&str; 5] = ["atoi_core", "atoi_lanes", "atoi_simd", "atoi_column", "atoi_formats"];
+const CRATES: [&str; 6] =
+    ["atoi_core", "atoi_fast", "atoi_lanes", "atoi_simd", "atoi_column", "atoi_formats"];
 
 /// Returns the tokens of a source: comments, texts, words, and single characters.
 pub fn tokens(source: &str) -> Vec<Token> {

@@ -18,28 +18,11 @@ pub use crate::engine::plain::{Plain, narrow_whole};
 pub use crate::engine::steps::Steps;
 pub use crate::engine::window::Window;
 pub use crate::error::{AtoiSimdError, Parsed, clones_are_the_same};
-pub use crate::loops::{count_digits, powers, wide_answer};
+pub use crate::loops::{count_digits, powers, wide_answer, window_after_zeros};
 pub use crate::narrow::{narrow_prefix, narrow_whole_windows};
 pub use crate::text::decimal;
 pub use crate::types::core_calls::{prefix_neg, prefix_pos, whole_neg, whole_pos};
 pub use crate::types::number::{Number, Signed};
-pub use crate::types::sign::{
-    parse_prefix_signed, parse_prefix_unsigned, parse_signed, parse_unsigned, take_sign,
-};
+pub use crate::types::sign::{parse_prefix_text, parse_text, take_sign};
 pub use crate::wide::{whole_64, whole_128};
-pub use crate::words::engine::Words;
-
-/// Words that are loaded from a slice.
-pub mod word_loads {
-    pub use crate::words::loads::{
-        load_8, load_four_from, load_from, load_full, load_high, load_last, load_last_four,
-    };
-}
-
-/// The digits of words.
-pub mod word_digits {
-    pub use crate::words::digits::{
-        ZEROS, digits_of, digits_of_four, fill_of_zeros, number_in_word, starts_with_digit_of_four,
-        value_at_end, value_in_four,
-    };
-}
+pub use crate::words::Words;

@@ -14,11 +14,7 @@ use crate::engine::window::Window;
 /// window that reports none, and its offset.
 #[inline(always)]
 #[tactic(auto, using(std::proofs::lemmas::List::take_rest))]
-pub(crate) fn window_after_zeros<E: Engine>(
-    zeroes: u32,
-    s: &[u8],
-    steps: &mut Steps,
-) -> (usize, Window)
+pub fn window_after_zeros<E: Engine>(zeroes: u32, s: &[u8], steps: &mut Steps) -> (usize, Window)
     requires some { 0 < zeroes }
     requires first_window { zeroes ≡ (window_of E.table 16 s.now).zeroes }
     ensures some { 0 < result.0 }

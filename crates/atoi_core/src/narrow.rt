@@ -1,5 +1,5 @@
 //! Parsers of integers of at most 32 bits, whose last window decides the answer.
-ghost use Rattle.std.specs.Prelude.{◌≡◌, ℕ, ◌+◌, ◌-◌, ◌<◌, ◌≤◌, ◌==◌, true, false, not, ◌&&◌, ◌||◌, nat_lt, if◌then◌else◌, Ok, Err, length, take, drop};
+ghost use Rattle.std.specs.Prelude.{◌≡◌, ◌+◌, ◌-◌, ◌<◌, ◌≤◌, ◌==◌, true, false, not, ◌&&◌, ◌||◌, nat_lt, if◌then◌else◌, Ok, Err, length, take, drop};
 ghost use Rattle.atoi_core.specs.Loads.{LoadsWithin, most_loads};
 ghost use Rattle.atoi_core.specs.Magnitude.{narrow, whole_magnitude, prefix_magnitude};
 ghost use Rattle.atoi_core.specs.Refusal.{answer_of, empty, overflow};
@@ -27,16 +27,16 @@ pub fn narrow_prefix<'a, E: Engine>(
     requires low { 9 ≤ bound }
     requires high { bound ≤ 4294967295 }
     ensures answer { answer_of result ≡ prefix_magnitude E.table narrow bound 0 skip s.now }
-    ensures loads { LoadsWithin (most_loads E.table narrow s.now) 2 E.table skip s.now
+    ensures loads { LoadsWithin (most_loads E.table narrow s.now) E.table skip s.now
         steps.old steps.new }
     ensures unskipped { skip ≡ false → steps.new ≡ steps.old
         + (if nat_lt (run_len E.table s.now) 16 then 1 else 2) }
 {
-    let window = first_window::<E>(bound, skip, s, steps);
+    let window = E::window(s, steps);
     if window.len == 0 {
         Err(AtoiSimdError::Empty)
     } else if skip && window.zeroes > 0 {
-        narrow_prefix_cold::<E>(bound, window.zeroes, s, steps)
+        narrow_prefix_after_zeros::<E>(bound, window.zeroes, s, steps)
     } else if window.len == 16 && is_too_long::<E>(skip, s, steps) {
         Err(AtoiSimdError::Size(17, s))
     } else {
@@ -44,19 +44,7 @@ pub fn narrow_prefix<'a, E: Engine>(
     }
 }
 
-// With zeros to skip, numbers of a type of 32 bits more often have more than 8 digits.
-#[inline(always)]
-fn first_window<E: Engine>(bound: u64, skip: bool, s: &[u8], steps: &mut Steps) -> Window
-    ensures window { result ≡ window_of E.table 16 s.now }
-    ensures one_step { steps.new ≡ steps.old + 1 }
-{
-    if skip && bound > 65535 {
-        E::window(s, steps)
-    } else {
-        E::narrow_window(s, steps)
-    }
-}
-
+// Whether a digit follows the first 16, unless zeros are skipped.
 #[tactic(auto, using(crate::proofs::lemmas::LoopAnswers::digit_after_16))]
 fn is_too_long<E: Engine>(skip: bool, s: &[u8], steps: &mut Steps) -> bool
     requires full { run_len E.table (take 16 s.now) ≡ 16 }
@@ -77,37 +65,53 @@ pub fn narrow_whole_windows<'a, E: Engine>(
     requires low { 9 ≤ bound }
     requires high { bound ≤ 4294967295 }
     ensures answer { answer_of result ≡ whole_magnitude E.table narrow bound 0 false s.now }
-    ensures loads { LoadsWithin (most_loads E.table narrow s.now) 2 E.table true s.now
+    ensures loads { LoadsWithin (most_loads E.table narrow s.now) E.table true s.now
         steps.old steps.new }
 {
-    if s.len() <= E::INLINED.min(15) {
-        // LLVM joins this cast with the engine's.
-        let size = s.len() as u32;
-        let window = E::whole_window(s, steps);
-        let is_whole = window.len == size;
-        narrow_answer(bound, window.len as usize, is_whole, window.number, s)
-    } else {
-        let (len, number) = digits_of_long::<E>(s, steps);
-        narrow_answer(bound, len, len == s.len(), number, s)
+    if s.len() < 16 {
+        let (window, is_whole) = only_window::<E>(s, steps);
+        return narrow_answer(bound, window.len as usize, is_whole, window.number, s);
     }
+    let window = E::window(s, steps);
+    if window.zeroes > 0 {
+        return narrow_whole_after_zeros::<E>(bound, window.zeroes, s, steps);
+    }
+    let len = window.len as usize;
+    narrow_answer(bound, len, len == s.len(), window.number, s)
 }
 
-// The length and the value of the run, or too large a value if the run does not fit in 32 bits.
-// Never inlined: short slices need none of it.
+// The window of fewer than 16 bytes, and whether it holds all of them.
+#[inline(always)]
+pub(crate) fn only_window<E: Engine>(s: &[u8], steps: &mut Steps) -> (Window, bool)
+    requires { length s.now < 16 }
+    ensures window { result.0 ≡ window_of E.table 16 s.now }
+    ensures whole { result.1 ≡ (result.0.len == length s.now) }
+    ensures one_step { steps.new ≡ steps.old + 1 }
+{
+    // LLVM joins this cast with the engine's.
+    let size = s.len() as u32;
+    let window = E::window(s, steps);
+    (window, window.len == size)
+}
+
+// `narrow_whole_windows`, after a first window that reported `zeroes` > 0.
 #[inline(never)]
-fn digits_of_long<E: Engine>(s: &[u8], steps: &mut Steps) -> (usize, u64)
-    ensures decides { (bound : ℕ) → bound ≤ 4294967295 →
-        narrow_decision bound result.0 result.1 s.now
-        ≡ whole_magnitude E.table narrow bound 0 false s.now }
-    ensures loads { LoadsWithin (most_loads E.table narrow s.now) 2 E.table true s.now
+fn narrow_whole_after_zeros<'a, E: Engine>(
+    bound: u64,
+    zeroes: u32,
+    s: &'a [u8],
+    steps: &mut Steps,
+) -> Result<u64, AtoiSimdError<'a>>
+    requires high { bound ≤ 4294967295 }
+    requires some { 0 < zeroes }
+    requires first_window { zeroes ≡ (window_of E.table 16 s.now).zeroes }
+    ensures answer { answer_of result ≡ whole_magnitude E.table narrow bound 0 false s.now }
+    ensures loads { LoadsWithin (most_loads E.table narrow s.now - 1) E.table true s.now
         steps.old steps.new }
 {
-    let window = E::whole_window(s, steps);
-    if window.zeroes == 0 {
-        return (window.len as usize, window.number);
-    }
-    let (at, last) = window_after_zeros::<E>(window.zeroes, s, steps);
-    (at + last.len as usize, last.number)
+    let (at, last) = window_after_zeros::<E>(zeroes, s, steps);
+    let len = at + last.len as usize;
+    narrow_answer(bound, len, len == s.len(), last.number, s)
 }
 
 // The answer for all of `s`, of which `len` digits spell `number`. LLVM joins the first test with the
@@ -119,7 +123,7 @@ fn narrow_answer(
     number: u64,
     s: &[u8],
 ) -> Result<u64, AtoiSimdError<'_>>
-    requires whole { is_whole ≡ (len == length s.now) }
+    requires { is_whole ≡ (len == length s.now) }
     ensures { answer_of result ≡ narrow_decision bound len number s.now }
 {
     if !is_whole {
@@ -143,27 +147,6 @@ fn bounded(bound: u64, len: usize, number: u64, s: &[u8]) -> Result<u64, AtoiSim
     }
 }
 
-// Only this path zeroes the stack slot of the result.
-#[inline(always)]
-fn narrow_prefix_cold<'a, E: Engine>(
-    bound: u64,
-    zeroes: u32,
-    s: &'a [u8],
-    steps: &mut Steps,
-) -> Result<(u64, usize), AtoiSimdError<'a>>
-    requires high { bound ≤ 4294967295 }
-    requires some { 0 < zeroes }
-    requires first_window { zeroes ≡ (window_of E.table 16 s.now).zeroes }
-    ensures answer { answer_of result ≡ prefix_magnitude E.table narrow bound 0 true s.now }
-    ensures loads { LoadsWithin (most_loads E.table narrow s.now - 1) 2 E.table true s.now
-        steps.old steps.new }
-{
-    match narrow_prefix_after_zeros::<E>(bound, zeroes, s, steps) {
-        Ok(found) => Ok(found),
-        Err(error) => Err(error),
-    }
-}
-
 // `narrow_prefix` with `skip`, after a first window that reported `zeroes` > 0.
 #[inline(never)]
 fn narrow_prefix_after_zeros<'a, E: Engine>(
@@ -176,7 +159,7 @@ fn narrow_prefix_after_zeros<'a, E: Engine>(
     requires some { 0 < zeroes }
     requires first_window { zeroes ≡ (window_of E.table 16 s.now).zeroes }
     ensures answer { answer_of result ≡ prefix_magnitude E.table narrow bound 0 true s.now }
-    ensures loads { LoadsWithin (most_loads E.table narrow s.now - 1) 2 E.table true s.now
+    ensures loads { LoadsWithin (most_loads E.table narrow s.now - 1) E.table true s.now
         steps.old steps.new }
 {
     let (at, window) = window_after_zeros::<E>(zeroes, s, steps);

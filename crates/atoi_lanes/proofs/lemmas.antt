@@ -1,8 +1,5 @@
-pub mod Shuffles
-pub mod Ends
 pub mod Masks
-pub mod JoinedDigits
-pub mod DigitLanes
-pub mod ShortLanes
+pub mod LaneSums
 pub mod LaneWindows
+pub mod Skipping
 pub mod WideAnswers

@@ -1,19 +1,14 @@
--- Lanes, windows read from them, and digits joined in them.
-use Rattle.std.specs.Prelude.{◌≡◌, ℕ, ◌+◌, ◌*◌, ◌<◌, ◌≤◌, ◌==◌, if◌then◌else◌, Bool, true, List, [], ◌∷◌, ◌++◌, length, take, drop, replicate, Some}
-use Rattle.atoi_core.specs.Digit.{Table, decimal_table}
+-- Lanes, and windows read from them.
+use Rattle.std.specs.Prelude.{◌≡◌, ℕ, ◌+◌, ◌≤◌, ◌==◌, if◌then◌else◌, Bool, true, List, ◌++◌, length, take, drop, replicate}
+use Rattle.atoi_core.specs.Digit.{decimal_table}
 use Rattle.atoi_core.specs.Reading.{Reading, IsSkipped}
 use Rattle.atoi_core.specs.Run.{run_len, run, zeros, value}
 use Rattle.atoi_core.specs.declared.engine.window.Window.{Window}
-use Rattle.atoi_lanes.specs.declared.kernels.ShortRun.{ShortRun}
 use Rattle.atoi_lanes.specs.declared.window_32.Window32.{Window32}
 
 -- The first `size` bytes; missing ones are 0.
 abbrev pub padded_start : ℕ → List ℕ → List ℕ
 padded_start size s = take size (s ++ replicate size 0)
-
--- A vector between lanes of 0.
-abbrev pub padded : List ℕ → List ℕ
-padded v = replicate 16 0 ++ (v ++ replicate 16 0)
 
 -- The lanes' run; its zeros, if it has `size` digits.
 abbrev pub lane_window : ℕ → List ℕ → Window
@@ -24,24 +19,9 @@ lane_window size lanes =
       number = value decimal_table (run decimal_table lanes);
     }
 
--- The table of elements that are digit values already.
-abbrev pub itself : Table
-itself byte = Some byte
-
--- Digits joined in pairs; an odd last one is dropped.
-abbrev pub paired : ℕ → List ℕ → List ℕ
-paired base [] = []
-paired base (last ∷ []) = []
-paired base (high ∷ low ∷ rest) = (high * base + low) ∷ paired base rest
-
 -- 32 bytes after skipped zeros; if all are digits, the first is no zero to skip.
 pub record ReadsAfterZeros (skip : Bool) (s : List ℕ) (at : ℕ) (w : Window32) : Type 0 where
   pub skipped : IsSkipped decimal_table skip s at
   pub reading : Reading decimal_table 32 (drop at s) w.len w.zeroes w.number
   pub within : at + w.len ≤ length s
   pub ends : skip ≡ true → 32 ≤ w.len → w.zeroes ≡ 0
-
--- The run of a slice and its value. A whole run has at least one digit.
-abbrev pub IsShortRun : List ℕ → ShortRun → Type 0
-IsShortRun s (ShortRun.Whole number) = (0 < length s) × (run_len decimal_table s ≡ length s) × (number ≡ value decimal_table s)
-IsShortRun s (ShortRun.Part len number) = (len ≡ run_len decimal_table s) × (number ≡ value decimal_table (run decimal_table s))

@@ -2,7 +2,6 @@
 //! Callers find them in the module `lanes` of `atoi_simd`.
 #![tactic(auto)]
 
-mod after_16;
 mod default_engine;
 mod functions;
 pub mod kernels;

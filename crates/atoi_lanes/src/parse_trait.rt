@@ -5,10 +5,7 @@ ghost use Rattle.atoi_core.specs.Answer.{typed_answer, typed_prefix_answer, pars
 
 use crate::default_engine::DefaultEngine;
 use crate::parse_pos_trait::ParsePos;
-use atoi_core::{
-    AtoiSimdError, Parsed, Steps, parse_prefix_signed, parse_prefix_unsigned, parse_signed,
-    parse_unsigned,
-};
+use atoi_core::{AtoiSimdError, Parsed, Steps, parse_prefix_text, parse_text};
 
 /// An integer type that is parsed with a sign. No other crate can implement it, since none can name
 /// `ParsePos`. Its methods take [flags](crate::guide#choose-the-flags) that are known only at run time.
@@ -55,143 +52,143 @@ pub trait Parse: ParsePos {
 impl Parse for u8 {
     #[inline(always)]
     fn atoi_simd_parse(s: &[u8], skip: bool, skip_plus: bool) -> Parsed<'_, Self> {
-        parse_unsigned::<DefaultEngine, u8>(skip, skip_plus, s, &mut Steps::new())
+        parse_text::<DefaultEngine, u8>(skip, skip_plus, s, &mut Steps::new())
     }
 
     #[inline(always)]
     fn atoi_simd_parse_prefix(s: &[u8], skip: bool, skip_plus: bool) -> Parsed<'_, (Self, usize)> {
-        parse_prefix_unsigned::<DefaultEngine, u8>(skip, skip_plus, s, &mut Steps::new())
+        parse_prefix_text::<DefaultEngine, u8>(skip, skip_plus, s, &mut Steps::new())
     }
 }
 
 impl Parse for i8 {
     #[inline(always)]
     fn atoi_simd_parse(s: &[u8], skip: bool, skip_plus: bool) -> Parsed<'_, Self> {
-        parse_signed::<DefaultEngine, i8>(skip, skip_plus, s, &mut Steps::new())
+        parse_text::<DefaultEngine, i8>(skip, skip_plus, s, &mut Steps::new())
     }
 
     #[inline(always)]
     fn atoi_simd_parse_prefix(s: &[u8], skip: bool, skip_plus: bool) -> Parsed<'_, (Self, usize)> {
-        parse_prefix_signed::<DefaultEngine, i8>(skip, skip_plus, s, &mut Steps::new())
+        parse_prefix_text::<DefaultEngine, i8>(skip, skip_plus, s, &mut Steps::new())
     }
 }
 
 impl Parse for u16 {
     #[inline(always)]
     fn atoi_simd_parse(s: &[u8], skip: bool, skip_plus: bool) -> Parsed<'_, Self> {
-        parse_unsigned::<DefaultEngine, u16>(skip, skip_plus, s, &mut Steps::new())
+        parse_text::<DefaultEngine, u16>(skip, skip_plus, s, &mut Steps::new())
     }
 
     #[inline(always)]
     fn atoi_simd_parse_prefix(s: &[u8], skip: bool, skip_plus: bool) -> Parsed<'_, (Self, usize)> {
-        parse_prefix_unsigned::<DefaultEngine, u16>(skip, skip_plus, s, &mut Steps::new())
+        parse_prefix_text::<DefaultEngine, u16>(skip, skip_plus, s, &mut Steps::new())
     }
 }
 
 impl Parse for i16 {
     #[inline(always)]
     fn atoi_simd_parse(s: &[u8], skip: bool, skip_plus: bool) -> Parsed<'_, Self> {
-        parse_signed::<DefaultEngine, i16>(skip, skip_plus, s, &mut Steps::new())
+        parse_text::<DefaultEngine, i16>(skip, skip_plus, s, &mut Steps::new())
     }
 
     #[inline(always)]
     fn atoi_simd_parse_prefix(s: &[u8], skip: bool, skip_plus: bool) -> Parsed<'_, (Self, usize)> {
-        parse_prefix_signed::<DefaultEngine, i16>(skip, skip_plus, s, &mut Steps::new())
+        parse_prefix_text::<DefaultEngine, i16>(skip, skip_plus, s, &mut Steps::new())
     }
 }
 
 impl Parse for u32 {
     #[inline(always)]
     fn atoi_simd_parse(s: &[u8], skip: bool, skip_plus: bool) -> Parsed<'_, Self> {
-        parse_unsigned::<DefaultEngine, u32>(skip, skip_plus, s, &mut Steps::new())
+        parse_text::<DefaultEngine, u32>(skip, skip_plus, s, &mut Steps::new())
     }
 
     #[inline(always)]
     fn atoi_simd_parse_prefix(s: &[u8], skip: bool, skip_plus: bool) -> Parsed<'_, (Self, usize)> {
-        parse_prefix_unsigned::<DefaultEngine, u32>(skip, skip_plus, s, &mut Steps::new())
+        parse_prefix_text::<DefaultEngine, u32>(skip, skip_plus, s, &mut Steps::new())
     }
 }
 
 impl Parse for i32 {
     #[inline(always)]
     fn atoi_simd_parse(s: &[u8], skip: bool, skip_plus: bool) -> Parsed<'_, Self> {
-        parse_signed::<DefaultEngine, i32>(skip, skip_plus, s, &mut Steps::new())
+        parse_text::<DefaultEngine, i32>(skip, skip_plus, s, &mut Steps::new())
     }
 
     #[inline(always)]
     fn atoi_simd_parse_prefix(s: &[u8], skip: bool, skip_plus: bool) -> Parsed<'_, (Self, usize)> {
-        parse_prefix_signed::<DefaultEngine, i32>(skip, skip_plus, s, &mut Steps::new())
+        parse_prefix_text::<DefaultEngine, i32>(skip, skip_plus, s, &mut Steps::new())
     }
 }
 
 impl Parse for usize {
     #[inline(always)]
     fn atoi_simd_parse(s: &[u8], skip: bool, skip_plus: bool) -> Parsed<'_, Self> {
-        parse_unsigned::<DefaultEngine, usize>(skip, skip_plus, s, &mut Steps::new())
+        parse_text::<DefaultEngine, usize>(skip, skip_plus, s, &mut Steps::new())
     }
 
     #[inline(always)]
     fn atoi_simd_parse_prefix(s: &[u8], skip: bool, skip_plus: bool) -> Parsed<'_, (Self, usize)> {
-        parse_prefix_unsigned::<DefaultEngine, usize>(skip, skip_plus, s, &mut Steps::new())
+        parse_prefix_text::<DefaultEngine, usize>(skip, skip_plus, s, &mut Steps::new())
     }
 }
 
 impl Parse for isize {
     #[inline(always)]
     fn atoi_simd_parse(s: &[u8], skip: bool, skip_plus: bool) -> Parsed<'_, Self> {
-        parse_signed::<DefaultEngine, isize>(skip, skip_plus, s, &mut Steps::new())
+        parse_text::<DefaultEngine, isize>(skip, skip_plus, s, &mut Steps::new())
     }
 
     #[inline(always)]
     fn atoi_simd_parse_prefix(s: &[u8], skip: bool, skip_plus: bool) -> Parsed<'_, (Self, usize)> {
-        parse_prefix_signed::<DefaultEngine, isize>(skip, skip_plus, s, &mut Steps::new())
+        parse_prefix_text::<DefaultEngine, isize>(skip, skip_plus, s, &mut Steps::new())
     }
 }
 
 impl Parse for u64 {
     #[inline(always)]
     fn atoi_simd_parse(s: &[u8], skip: bool, skip_plus: bool) -> Parsed<'_, Self> {
-        parse_unsigned::<DefaultEngine, u64>(skip, skip_plus, s, &mut Steps::new())
+        parse_text::<DefaultEngine, u64>(skip, skip_plus, s, &mut Steps::new())
     }
 
     #[inline(always)]
     fn atoi_simd_parse_prefix(s: &[u8], skip: bool, skip_plus: bool) -> Parsed<'_, (Self, usize)> {
-        parse_prefix_unsigned::<DefaultEngine, u64>(skip, skip_plus, s, &mut Steps::new())
+        parse_prefix_text::<DefaultEngine, u64>(skip, skip_plus, s, &mut Steps::new())
     }
 }
 
 impl Parse for i64 {
     #[inline(always)]
     fn atoi_simd_parse(s: &[u8], skip: bool, skip_plus: bool) -> Parsed<'_, Self> {
-        parse_signed::<DefaultEngine, i64>(skip, skip_plus, s, &mut Steps::new())
+        parse_text::<DefaultEngine, i64>(skip, skip_plus, s, &mut Steps::new())
     }
 
     #[inline(always)]
     fn atoi_simd_parse_prefix(s: &[u8], skip: bool, skip_plus: bool) -> Parsed<'_, (Self, usize)> {
-        parse_prefix_signed::<DefaultEngine, i64>(skip, skip_plus, s, &mut Steps::new())
+        parse_prefix_text::<DefaultEngine, i64>(skip, skip_plus, s, &mut Steps::new())
     }
 }
 
 impl Parse for u128 {
     #[inline(always)]
     fn atoi_simd_parse(s: &[u8], skip: bool, skip_plus: bool) -> Parsed<'_, Self> {
-        parse_unsigned::<DefaultEngine, u128>(skip, skip_plus, s, &mut Steps::new())
+        parse_text::<DefaultEngine, u128>(skip, skip_plus, s, &mut Steps::new())
     }
 
     #[inline(always)]
     fn atoi_simd_parse_prefix(s: &[u8], skip: bool, skip_plus: bool) -> Parsed<'_, (Self, usize)> {
-        parse_prefix_unsigned::<DefaultEngine, u128>(skip, skip_plus, s, &mut Steps::new())
+        parse_prefix_text::<DefaultEngine, u128>(skip, skip_plus, s, &mut Steps::new())
     }
 }
 
 impl Parse for i128 {
     #[inline(always)]
     fn atoi_simd_parse(s: &[u8], skip: bool, skip_plus: bool) -> Parsed<'_, Self> {
-        parse_signed::<DefaultEngine, i128>(skip, skip_plus, s, &mut Steps::new())
+        parse_text::<DefaultEngine, i128>(skip, skip_plus, s, &mut Steps::new())
     }
 
     #[inline(always)]
     fn atoi_simd_parse_prefix(s: &[u8], skip: bool, skip_plus: bool) -> Parsed<'_, (Self, usize)> {
-        parse_prefix_signed::<DefaultEngine, i128>(skip, skip_plus, s, &mut Steps::new())
+        parse_prefix_text::<DefaultEngine, i128>(skip, skip_plus, s, &mut Steps::new())
     }
 }

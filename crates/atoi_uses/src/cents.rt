@@ -34,6 +34,10 @@ impl Number for Cents {
         self.0.parts()
     }
 
+    fn from_parts(minus: bool, magnitude: u128) -> Cents {
+        Cents(i64::from_parts(minus, magnitude))
+    }
+
     ghost type_is = { record { bits_are = refl; sign_is = refl; greatest_is = refl } };
 
     ghost sized = { record { bits = refl; greatest = refl } };

@@ -19,18 +19,20 @@ macro_rules! give {
 
 pub(crate) use give;
 
-/// Checks that a call over each of the three engines returned `expected`.
-pub(crate) fn each_gives<A: Copy + Debug + PartialEq>(
-    rt: &impl Abort,
-    plain: A,
-    words: A,
-    lanes: A,
-    expected: A,
-) {
-    assert_eq!(rt; plain, expected, "of Plain");
-    assert_eq!(rt; words, expected, "of Words");
-    assert_eq!(rt; lanes, expected, "of Lanes");
+/// Calls each function over each engine for decimal digits.
+macro_rules! on_each_engine {
+    ($($check:ident $arguments:tt),*) => {
+        $(
+            $check::<atoi_core::Plain> $arguments;
+            $check::<atoi_core::Words> $arguments;
+            $check::<atoi_simd::lanes::Lanes> $arguments;
+            $check::<atoi_fast::Swar> $arguments;
+            $check::<atoi_fast::Vectors> $arguments;
+        )*
+    };
 }
+
+pub(crate) use on_each_engine;
 
 /// Returns the text that `error` prints.
 pub(crate) fn printed<E: Error>(alloc: Global, error: &E) -> Result<String, AllocError> {

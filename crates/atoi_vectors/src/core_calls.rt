@@ -1,59 +1,49 @@
 //! Compares each call over an engine with the plain rules.
-ghost use Rattle.std.specs.Prelude.{◌<◌};
 
-use crate::checks::{give, gives};
+use crate::checks::{give, gives, on_each_engine};
 use crate::plain_rules::{self, Body, Class};
-use atoi_core::words::Kernels;
 use atoi_core::{
-    AtoiSimdError, Engine, Number, Plain, Signed, Steps, Window, Words, narrow_prefix,
-    narrow_whole, narrow_whole_windows, prefix_neg, prefix_pos, whole_64, whole_128, whole_neg,
-    whole_pos,
+    AtoiSimdError, Engine, Number, Signed, Steps, Window, narrow_prefix, narrow_whole,
+    narrow_whole_windows, prefix_neg, prefix_pos, whole_64, whole_128, whole_neg, whole_pos,
 };
-use atoi_simd::lanes::Lanes;
 use std::process::Abort;
 
-/// Checks, on one slice, the windows of each of the four engines, the parses over each engine, and
-/// `narrow_whole`, which reads digit by digit. A window is what an engine reads from the first 8 or
-/// 16 bytes.
+/// Checks, on one slice, the windows of each engine, the parses over it, and `narrow_whole`, which reads
+/// digit by digit. A window is what an engine reads from the first 8 or 16 bytes.
 pub(crate) fn check(rt: &impl Abort, text: &[u8]) {
-    check_digit_loop(rt, text);
-    check_decimal::<Plain>(rt, text);
-    check_decimal::<Kernels>(rt, text);
-    check_decimal::<Words>(rt, text);
-    check_decimal::<Lanes>(rt, text);
+    let body = Body::of(text);
+    check_digit_loop(rt, body);
+    let windows = (plain_rules::window(16, text), plain_rules::window(8, text));
+    on_each_engine!(check_windows(rt, text, windows), check_engine(rt, body));
 }
 
 /// Checks all that `check` checks, and the core calls of each type.
 pub(crate) fn check_all(rt: &impl Abort, text: &[u8]) {
     check(rt, text);
-    check_types::<Plain>(rt, Body::of(text));
-    check_types::<Kernels>(rt, Body::of(text));
-    check_types::<Words>(rt, Body::of(text));
-    check_types::<Lanes>(rt, Body::of(text));
+    let body = Body::of(text);
+    on_each_engine!(check_types(rt, body));
 }
 
-fn check_digit_loop(rt: &impl Abort, text: &[u8]) {
-    let body = Body::of(text);
+fn check_digit_loop(rt: &impl Abort, body: Body<'_>) {
     for bound in [255, 4294967295] {
         give!(rt;
-            narrow_whole(bound, text).map(u128::from)
+            narrow_whole(bound, body.bytes).map(u128::from)
                 => body.whole(Class::Narrow, u128::from(bound), true);
         );
     }
 }
 
-// Checks the windows of an engine for decimal digits, and the parses over it.
-fn check_decimal<E: Engine>(rt: &impl Abort, text: &[u8]) {
+// How many digits a window holds, how many zeros, and the value of the digits.
+type Parts = (usize, usize, Option<u128>);
+
+// Checks the windows of 16 and of 8 bytes.
+fn check_windows<E: Engine>(rt: &impl Abort, text: &[u8], expected: (Parts, Parts)) {
     let mut steps = Steps::new();
-    let window = parts_of(E::window(text, &mut steps));
-    gives(rt, window, plain_rules::window(16, text));
-    let window = parts_of(E::window_8(text, &mut steps));
-    gives(rt, window, plain_rules::window(8, text));
-    check_engine::<E>(rt, Body::of(text));
+    gives(rt, parts_of(E::window(text, &mut steps)), expected.0);
+    gives(rt, parts_of(E::window_8(text, &mut steps)), expected.1);
 }
 
-// Returns what a window holds: how many digits, how many zeros, and the value of the digits.
-fn parts_of(window: Window) -> (usize, usize, Option<u128>) {
+fn parts_of(window: Window) -> Parts {
     (
         window.len as usize,
         window.zeroes as usize,
@@ -187,11 +177,9 @@ fn check_both<E: Engine, T: Signed>(
     magnitude: u128,
     skip: bool,
     body: Body<'_>,
-)
-    requires { 0 < magnitude }
-{
+) {
     let mut steps = Steps::new();
-    check_pos::<E, T>(rt, class, magnitude - 1, skip, body);
+    check_pos::<E, T>(rt, class, magnitude.saturating_sub(1), skip, body);
     give!(rt;
         parts(whole_neg::<E, T>(skip, body.bytes, &mut steps))
             => body.whole(class, magnitude, skip).map(|number| (number > 0, number));

@@ -1,28 +1,15 @@
 //! Worked examples of the loops that the ten functions call, over each engine, and of `narrow_whole`.
 
-use crate::checks::{each_gives, give, gives};
+use crate::checks::{give, gives, on_each_engine};
 use atoi_core::AtoiSimdError::{self, Empty, Invalid64, Invalid128, Overflow, Size};
 use atoi_core::{
-    Engine, Plain, Steps, Words, narrow_prefix, narrow_whole, narrow_whole_windows, whole_64,
-    whole_128,
+    Engine, Steps, narrow_prefix, narrow_whole, narrow_whole_windows, whole_64, whole_128,
 };
-use atoi_simd::lanes::Lanes;
 use std::process::Abort;
 use std::test::Fail;
 
 // `u8::MAX` as a bound.
 const GREATEST_U8: u64 = 255;
-
-// Calls each function with each engine, and with the text if there is one.
-macro_rules! on_each_engine {
-    ($rt:expr; $($rows:ident $(($text:expr))?),*) => {
-        $(
-            $rows::<Plain>(&$rt $(, $text)?);
-            $rows::<Words>(&$rt $(, $text)?);
-            $rows::<Lanes>(&$rt $(, $text)?);
-        )*
-    };
-}
 
 fn narrow_prefixes<E: Engine>(rt: &impl Abort) {
     let mut steps = Steps::new();
@@ -50,13 +37,16 @@ fn narrow_overflows<E: Engine>(rt: &impl Abort) {
     );
 }
 
+type Whole<'a> = Result<u64, AtoiSimdError<'a>>;
+
+fn whole_by_windows<E: Engine>(rt: &impl Abort, text: &[u8], expected: Whole<'_>) {
+    let whole = narrow_whole_windows::<E>(GREATEST_U8, text, &mut Steps::new());
+    gives(rt, whole, expected);
+}
+
 // A whole parse over each engine, and `narrow_whole`.
-fn check_narrow_whole(rt: &impl Abort, text: &[u8], expected: Result<u64, AtoiSimdError<'_>>) {
-    let mut steps = Steps::new();
-    let plain = narrow_whole_windows::<Plain>(GREATEST_U8, text, &mut steps);
-    let words = narrow_whole_windows::<Words>(GREATEST_U8, text, &mut steps);
-    let lanes = narrow_whole_windows::<Lanes>(GREATEST_U8, text, &mut steps);
-    each_gives(rt, plain, words, lanes, expected);
+fn check_narrow_whole(rt: &impl Abort, text: &[u8], expected: Whole<'_>) {
+    on_each_engine!(whole_by_windows(rt, text, expected));
     gives(rt, narrow_whole(GREATEST_U8, text), expected);
 }
 
@@ -90,7 +80,7 @@ fn a_hundred_zeros_before_a_narrow_number(rt: HostRuntime) -> Result<(), Fail> {
 
 #[test]
 fn narrow(rt: HostRuntime) {
-    on_each_engine!(rt; narrow_prefixes, narrow_overflows);
+    on_each_engine!(narrow_prefixes(&rt), narrow_overflows(&rt));
 }
 
 fn long_narrow_prefix<E: Engine>(rt: &impl Abort, text: &[u8]) {
@@ -103,7 +93,7 @@ fn long_narrow_prefix<E: Engine>(rt: &impl Abort, text: &[u8]) {
 fn a_million_zeros_and_seven(rt: HostRuntime) -> Result<(), Fail> {
     let mut text = vec![in rt.alloc(); b'0'; 1_000_000]?;
     text.push(b'7')?;
-    on_each_engine!(rt; long_narrow_prefix(&text));
+    on_each_engine!(long_narrow_prefix(&rt, &text));
     Ok(())
 }
 
@@ -169,7 +159,12 @@ fn rests_of_64_bits<E: Engine>(rt: &impl Abort) {
 
 #[test]
 fn of_64_bits(rt: HostRuntime) {
-    on_each_engine!(rt; sizes_of_64_bits, limits_of_17_digits, zeros_of_64_bits, ends_of_64_bits, rests_of_64_bits);
+    on_each_engine!(
+        sizes_of_64_bits(&rt),
+        limits_of_17_digits(&rt),
+        zeros_of_64_bits(&rt)
+    );
+    on_each_engine!(ends_of_64_bits(&rt), rests_of_64_bits(&rt));
 }
 
 fn long_prefix_64<E: Engine>(rt: &impl Abort, text: &[u8]) {
@@ -182,7 +177,7 @@ fn long_prefix_64<E: Engine>(rt: &impl Abort, text: &[u8]) {
 fn a_hundred_zeros_and_seven(rt: HostRuntime) -> Result<(), Fail> {
     let mut text = vec![in rt.alloc(); b'0'; 100]?;
     text.push(b'7')?;
-    on_each_engine!(rt; long_prefix_64(&text));
+    on_each_engine!(long_prefix_64(&rt, &text));
     Ok(())
 }
 
@@ -224,5 +219,9 @@ fn runs_of_up_to_33_digits<E: Engine>(rt: &impl Abort) {
 
 #[test]
 fn of_128_bits(rt: HostRuntime) {
-    on_each_engine!(rt; sizes_of_128_bits, ends_of_128_bits, runs_of_up_to_33_digits);
+    on_each_engine!(
+        sizes_of_128_bits(&rt),
+        ends_of_128_bits(&rt),
+        runs_of_up_to_33_digits(&rt)
+    );
 }

@@ -1,28 +1,23 @@
 //! The rules of `docs/SPECIFICATION.md` once more, as code that counts digit by digit.
-ghost use Rattle.std.specs.Prelude.{◌≤◌, length};
 
 use atoi_simd::AtoiSimdError::{self, Empty, Invalid64, Invalid128, Overflow, Size};
 
 // Returns how many digits `s` begins with.
-fn count_digits(s: &[u8]) -> usize
-    ensures { result ≤ length s.now }
-{
+fn count_digits(s: &[u8]) -> usize {
     s.iter()
         .position(|byte| *byte < b'0' || *byte > b'9')
         .unwrap_or(s.len())
 }
 
 /// Returns how many zeros `s` begins with.
-pub(crate) fn count_zeros(s: &[u8]) -> usize
-    ensures { result ≤ length s.now }
-{
+pub(crate) fn count_zeros(s: &[u8]) -> usize {
     s.iter().position(|byte| *byte != b'0').unwrap_or(s.len())
 }
 
-// Returns the value of the digits, or `None` if it is above `u128::MAX`.
-fn value_of(digits: &[u8]) -> Option<u128> {
+// Returns the value of the first `len` bytes, which are digits, or `None` if it is above `u128::MAX`.
+fn value_of(s: &[u8], len: usize) -> Option<u128> {
     let mut number = 0u128;
-    for digit in digits {
+    for digit in s.iter().take(len) {
         number = number
             .checked_mul(10)?
             .checked_add(u128::from(digit.wrapping_sub(b'0')))?;
@@ -36,7 +31,7 @@ pub(crate) fn window(size: usize, s: &[u8]) -> (usize, usize, Option<u128>) {
     let prefix = &s[..size.min(s.len())];
     let len = count_digits(prefix);
     let zeros = if len == size { count_zeros(prefix) } else { 0 };
-    (len, zeros, value_of(&prefix[..len]))
+    (len, zeros, value_of(prefix, len))
 }
 
 /// The width of a type, on which its rules depend: up to 32 bits, 64 bits or 128 bits. `Wide64`
@@ -68,7 +63,7 @@ impl<'a> Body<'a> {
             bytes,
             zeros: count_zeros(bytes),
             digits,
-            number: value_of(&bytes[..digits]),
+            number: value_of(bytes, digits),
         }
     }
 

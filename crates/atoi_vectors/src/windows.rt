@@ -1,8 +1,7 @@
 //! Worked examples of windows, over each engine: the digits that the first 8 or 16 bytes begin with.
 
-use atoi_core::words::Kernels;
-use atoi_core::{Engine, Plain, Steps, Window, Words};
-use atoi_simd::lanes::Lanes;
+use crate::checks::on_each_engine;
+use atoi_core::{Engine, Steps, Window};
 use std::process::Abort;
 
 // A slice, and what its window holds: how many digits, how many zeros, and the value of the digits.
@@ -40,10 +39,7 @@ fn windows_of_sixteen_bytes(rt: HostRuntime) {
         (b"12345678/1234567", (8, 0, 12345678)),
         (b"12345678901", (11, 0, 12345678901)),
     ];
-    check_windows::<Plain>(&rt, 16, &rows);
-    check_windows::<Kernels>(&rt, 16, &rows);
-    check_windows::<Words>(&rt, 16, &rows);
-    check_windows::<Lanes>(&rt, 16, &rows);
+    on_each_engine!(check_windows(&rt, 16, &rows));
 }
 
 #[test]
@@ -60,10 +56,7 @@ fn windows_of_eight_bytes(rt: HostRuntime) {
         (b"0001", (4, 0, 1)),
         (b":1234567", (0, 0, 0)),
     ];
-    check_windows::<Plain>(&rt, 8, &rows);
-    check_windows::<Kernels>(&rt, 8, &rows);
-    check_windows::<Words>(&rt, 8, &rows);
-    check_windows::<Lanes>(&rt, 8, &rows);
+    on_each_engine!(check_windows(&rt, 8, &rows));
 }
 
 #[test]

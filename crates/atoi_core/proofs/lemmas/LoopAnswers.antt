@@ -1,18 +1,18 @@
 -- The answers that follow from the last window of a loop over zeros.
-use Rattle.std.proofs.Common.{◌≡◌, ℕ, ◌+◌, ◌*◌, ◌^◌, ◌<◌, ◌≤◌, Bool, true, List, length, take, drop, Some, Ok, Err, refl, sym, ap, ap₂, ◌∙◌, lit<, arith, ◌==◌, false, not, None, Result, if◌then◌else◌, ◌-◌, min, get_or, nat_lt, ◌&&◌, inl, inr, le-ltb}
+use Rattle.std.proofs.Common.{◌≡◌, ℕ, ◌+◌, ◌*◌, ◌^◌, ◌<◌, ◌≤◌, Bool, true, List, length, take, drop, Some, Ok, Err, refl, sym, ◌∙◌, lit<, arith, ◌==◌, false, not, None, Result, if◌then◌else◌, ◌-◌, min, get_or, nat_lt, ◌&&◌, inl, inr, le-ltb}
 use Rattle.std.proofs.lemmas.Bool.{cases_lt, lt-ltb}
-use Rattle.std.proofs.lemmas.List.{length-drop, take_all, take_rest}
-use Rattle.std.proofs.lemmas.List.Sums.{prefix_len-drop_all}
-use Rattle.atoi_core.specs.Digit.{Table, IsBelowTen, decimal_table, is_digit}
+use Rattle.std.proofs.lemmas.List.{length-drop, take_rest}
+use Rattle.std.proofs.lemmas.List.Sums.{prefix_len-drop_all, prefix_len-le-length}
+use Rattle.atoi_core.specs.Digit.{Table, IsBelowTen, is_digit}
 use Rattle.atoi_core.specs.Run.{zeros, run_len, run, value}
 use Rattle.atoi_core.specs.Magnitude.{Class, wide64, wide128, prefix, rule_of, HasDigits, prefix_magnitude, narrow, whole, invalid, unless_refused, whole_magnitude, skipped_zeros, is_above}
 use Rattle.atoi_core.specs.Refusal.{empty, Refusal, invalid64, invalid128, size, overflow}
 use Rattle.atoi_core.specs.Reading.{cap, answer_by_digits, window_of, narrow_decision}
 use Rattle.atoi_core.specs.declared.engine.window.Window.{Window}
 use Rattle.atoi_core.proofs.lemmas.Refusals.{refusal-is, refused_empty, over, limit_at, significant_len, refusal-none, refused_size, refused_overflow}
-use Rattle.atoi_core.proofs.lemmas.Runs.{decimal_below_ten, prefix_len-drop, prefix_len-take, value-take-le, value-least, run_ends, run_more, value_more}
+use Rattle.atoi_core.proofs.lemmas.Runs.{prefix_len-take, value-take-le, value-least, run_ends, run_more, value_more}
 use Rattle.atoi_core.proofs.lemmas.Readings.{within, below, short, short_below, all_decide}
-use Rattle.atoi_core.proofs.lemmas.Windows.{Shows, shows, Shows-join, Shows-join_two, Skipped}
+use Rattle.atoi_core.proofs.lemmas.Windows.{Shows, Shows-join, Shows-join_two, Skipped, Skipped-short}
 use Rattle.std.proofs.lemmas.Bool.Decides.{nat_tests}
 
 -- ---- Wide types
@@ -46,21 +46,6 @@ answers_two ten bound {at = at} {second = second} after_skip full following few 
     let decides = short ten wide128 bound 39 (lit< tt) digits after_skip.skipped both (omega arith) (omega arith) in
     grind (arith, nat_tests, decides)
 
--- So do fewer than 32 digits that are the whole slice.
-pub answers_whole : {table : Table} → IsBelowTen table → (bound : ℕ) {skip : Bool} {s : List ℕ} {before now : ℕ} {first : Window} {low number : ℕ} →
-    Skipped table skip s 0 before now first → 16 ≤ first.len → run_len table s ≡ length s → length s < 32 → low ≡ value table (drop 16 s) →
-    HasDigits 39 bound → number ≡ first.number * 10 ^ (length s - 16) + low → Ok (number, length s) ≡ prefix_magnitude table wide128 bound 39 skip s
-answers_whole {table} ten bound {s = s} {first = first} {low = low} after_skip full all few low_is digits number_is =
-    let rest = drop 16 s in
-    let second : Shows table 16 rest (window_of table 16 rest) = shows ten 16 rest refl in
-    let long : 16 ≤ run_len table s = omega (arith, full, after_skip.window.len_is) in
-    let count : run_len table s ≡ 16 + run_len table rest = prefix_len-drop (is_digit table) 16 s long in
-    let len : (window_of table 16 rest).len ≡ length s - 16 = omega (arith, all, few, second.len_is, count) in
-    let same : low ≡ (window_of table 16 rest).number =
-    low_is ∙ sym (second.number_is ∙ ap (value table) (take_all _ rest (omega (arith, len, length-drop 16 s)))) in
-    answers_two ten bound after_skip full second (omega (arith, few, len)) digits
-    (number_is ∙ ap₂ (λ k n. first.number * 10 ^ k + n) (sym len) same) (omega (arith, all, long, len))
-
 -- For 64 bits, a full window and 8 bytes decide.
 pub answers_64 : {table : Table} (bound limit : ℕ) {skip : Bool} {s : List ℕ} {at before now : ℕ} {first_window back : Window} →
     limit < 24 → Skipped table skip s at before now first_window → 16 ≤ first_window.len → Shows table 8 (drop 16 (drop at s)) back →
@@ -72,25 +57,17 @@ answers_64 {table} bound limit {skip} {s} {at} less after_skip full following =
       sym (all_decide wide64 bound limit less after_skip.skipped both (λ on. rw (none_left after_skip full on) refl)),
     )
 
--- With more than 4 digits after 16, there are more than the limit, and the number does not matter.
-pub answers_64_few : (bound limit : ℕ) {skip : Bool} {s : List ℕ} {at before now : ℕ} {first_window : Window} {more number : ℕ} →
-    limit ≤ 20 → Skipped decimal_table skip s at before now first_window → 16 ≤ first_window.len →
-    let back = window_of decimal_table 8 (drop 16 (drop at s)) in
-    more ≡ back.len → (more ≤ 4 → number ≡ first_window.number * 10 ^ more + back.number) →
-    (at + (16 + more) ≤ length s) × (answer_by_digits wide64 bound limit at (16 + more) number s ≡ prefix_magnitude decimal_table wide64 bound limit skip s)
-answers_64_few bound limit {s = s} {at} {more = more} high after_skip full more_is number_is =
-    let exact = answers_64 bound limit (omega arith) after_skip full (shows decimal_below_ten 8 (drop 16 (drop at s)) refl) in
-    (omega (arith, exact.0), grind (arith, nat_tests, exact.1, number_is))
-
 -- For 128 bits, two full windows and 8 bytes decide.
-pub answers_128 : {table : Table} → IsBelowTen table → (bound : ℕ) {skip : Bool} {s : List ℕ} {at before now : ℕ} {first_window middle back : Window} →
+pub answers_128 : {table : Table} → IsBelowTen table → (bound : ℕ) {skip : Bool} {s : List ℕ} {at before now high : ℕ} {first_window middle back : Window} →
     Skipped table skip s at before now first_window → 16 ≤ first_window.len → Shows table 16 (drop 16 (drop at s)) middle → 16 ≤ middle.len →
-    Shows table 8 (drop 32 (drop at s)) back →
-    let number = (first_window.number * 10 ^ 16 + middle.number) * 10 ^ back.len + back.number in
+    Shows table 8 (drop 32 (drop at s)) back → high ≡ first_window.number * 10 ^ middle.len + middle.number →
+    let number = high * 10 ^ back.len + back.number in
     (number < 10 ^ (32 + back.len)) × (at + (32 + back.len) ≤ length s)
     × (answer_by_digits wide128 bound 39 at (32 + back.len) number s ≡ prefix_magnitude table wide128 bound 39 skip s)
-answers_128 {table} ten bound {skip} {s} {at} after_skip full next more following =
-    let all = Shows-join_two after_skip.window full next more following in (
+answers_128 {table} ten bound {skip} {s} {at} {middle = middle} after_skip full next more following high_is =
+    let all = Shows-join_two after_skip.window full next more following in
+    let len : middle.len ≡ 16 = omega (arith, more, next.len_is) in
+    rw (high_is, len) (
       below all ten,
       omega (arith, after_skip.within, within all, length-drop at s),
       sym (all_decide wide128 bound 39 (lit< tt) after_skip.skipped all (λ on. rw (none_left after_skip full on) refl)),
@@ -117,6 +94,17 @@ whole_is_64 table bound limit skip s = search (arith, refusal-is, last_reason)
 pub whole_is_128 : (table : Table) (bound limit : ℕ) (skip : Bool) (s : List ℕ)
     → whole_magnitude table wide128 bound limit skip s ≡ whole_from_prefix invalid128 s (prefix_magnitude table wide128 bound limit skip s)
 whole_is_128 table bound limit skip s = search (arith, refusal-is, last_reason)
+
+-- A window of fewer than 16 bytes decides a whole slice of 64 bits.
+pub whole_by_window : (table : Table) → IsBelowTen table → (bound limit : ℕ) (skip : Bool) (s : List ℕ) {w : Window} → w ≡ window_of table 16 s →
+    length s < 16 → 17 ≤ limit → limit ≤ 20 → HasDigits limit bound →
+    (if w.len == 0 then Err empty else (if w.len == length s then Ok w.number else Err (invalid64 w.number w.len s)))
+    ≡ whole_magnitude table wide64 bound limit skip s
+whole_by_window table ten bound limit skip s {w} e short low high digits =
+    let after_skip : Skipped table skip s 0 0 1 w = Skipped-short ten skip s e refl short in
+    let few : w.len < 16 = omega (arith, short, after_skip.window.len_is, prefix_len-le-length (is_digit table) s) in
+    let prefix_is = answers_short wide64 bound limit (omega arith) after_skip few (omega arith) digits refl refl in
+    rw (whole_is_64 table bound limit skip s, sym prefix_is) (grind (arith, nat_tests))
 
 -- ---- Narrow types
 

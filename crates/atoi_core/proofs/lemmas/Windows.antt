@@ -1,7 +1,7 @@
 -- The windows of a slice, and the loop that skips zeros window by window.
 use Rattle.std.proofs.Common.{◌≡◌, ◌⊎◌, ℕ, ◌+◌, ◌-◌, ◌*◌, ◌^◌, ◌<◌, ◌≤◌, min, Bool, true, false, cond, eqb, List, length, take, drop, refl, sym, ap, ◌∙◌, subst, inl, inr, arith, ◌==◌, ◌/◌, ◌||◌, nat_lt, if◌then◌else◌}
 use Rattle.std.proofs.lemmas.Bool.{cases_lt, false≢true}
-use Rattle.std.proofs.lemmas.List.{length-drop, take-take, take_all, take_rest}
+use Rattle.std.proofs.lemmas.List.{drop-drop, take-take, take_rest}
 use Rattle.std.proofs.lemmas.List.Sums.{prefix_len-le-length}
 use Rattle.atoi_core.specs.Digit.{Table, IsBelowTen, is_digit, is_zero}
 use Rattle.atoi_core.specs.Run.{run_len, run, zeros, value}
@@ -49,19 +49,6 @@ pub Shows-join_two : {table : Table} {s : List ℕ} {first_window middle back : 
     ((first_window.number * 10 ^ 16 + middle.number) * 10 ^ back.len + back.number)
 Shows-join_two first full second more third = join_readings (join_readings (Shows-full first full) (Shows-full second more)) third.reading
 
--- A window of the rest, of fewer than 16 bytes.
-pub rest_shown : (table : Table) (s : List ℕ) (w : Window) → 16 ≤ run_len table s → length s < 32
-    → w ≡ window_of table 16 (take (length s - 16) (drop 16 s))
-    → (run_len table s ≡ 16 + w.len) × (w.len ≡ length s - 16 → w.number ≡ value table (drop 16 s))
-rest_shown table s w full few is =
-    let rest = drop 16 s in
-    let all : take 16 (take (length s - 16) rest) ≡ rest = ap (take 16) (take_rest s 16) ∙ take_all 16 rest (omega (arith, length-drop 16 s)) in
-    let len : w.len ≡ run_len table rest = ap (λ (v : Window). v.len) is ∙ ap (run_len table) all in (
-      omega (arith, len, prefix_len-drop (is_digit table) 16 s full),
-      λ whole. ap (λ (v : Window). v.number) is ∙ ap (λ l. value table (run table l)) all
-          ∙ ap (value table) (take_all (run_len table rest) rest (omega (arith, len, whole, length-drop 16 s))),
-    )
-
 -- Two full windows are 32 digits.
 pub two_full : {table : Table} (s : List ℕ) {first second : Window} → Shows table 16 s first → 16 ≤ first.len → Shows table 16 (drop 16 s) second
     → 16 ≤ second.len → 32 ≤ run_len table s
@@ -93,9 +80,9 @@ module _ {table : Table} (ten : IsBelowTen table) where
   shows_rest c s at e = shows c (drop at s) (e ∙ ap (window_of table c) (take_rest s at))
 
   pub shows_following : (c k : ℕ) (s : List ℕ) (at : ℕ) {w : Window} →
-      w ≡ window_of table c (take (length (take (length s - at) (drop at s)) - k) (drop k (take (length s - at) (drop at s)))) →
-      Shows table c (drop k (drop at s)) w
-  shows_following c k s at e = search (arith, shows_rest, take_rest)
+      w ≡ window_of table c (take (length s - (at + k)) (drop (at + k) s)) → Shows table c (drop k (drop at s)) w
+  shows_following c k s at e =
+      shows c (drop k (drop at s)) (e ∙ ap (window_of table c) (take_rest s (at + k) ∙ sym (drop-drop k at s)))
 
 -- ---- The loop that skips zeros
 
@@ -122,19 +109,22 @@ pub record Skipped (table : Table) (skip : Bool) (s : List ℕ) (at before now :
   pub last : skip ≡ true → w.zeroes ≡ 0
   pub more : before < now
   pub most : 16 * now ≤ 16 * before + zeros table s + 31
-  pub unskipped : skip ≡ false → now ≤ before + 1
   pub least : skip ≡ true → zeros table s + 16 * before ≤ 16 * now
   pub offset_is : skip ≡ true → (at ≡ 16 * (zeros table s / 16)) ⊎ ((at ≡ zeros table s) × (zeros table s / 16 < run_len table s / 16))
 
+-- A full last window has 16 bytes.
+pub Skipped-full : {table : Table} {skip : Bool} {s : List ℕ} {at before now : ℕ} {w : Window} → Skipped table skip s at before now w → 16 ≤ w.len
+    → at + 16 ≤ length s
+Skipped-full {table} {s = s} after_skip full = omega (arith, after_skip.window.len_is, after_skip.run_is, prefix_len-le-length (is_digit table) s)
+
 -- After the loop, `more` windows are loaded.
-pub Skipped-loads : {table : Table} {skip : Bool} {s : List ℕ} {at before now last most unskipped : ℕ} {w : Window} →
-    Skipped table skip s at before now w → (more : ℕ) → last ≡ now + more → zeros table s / 16 + 2 + more ≤ most → 1 + more ≤ unskipped →
-    LoadsWithin most unskipped table skip s before last
-Skipped-loads after_skip more counted bounded few = search (arith, after_skip.unskipped, after_skip.least)
+pub Skipped-loads : {table : Table} {skip : Bool} {s : List ℕ} {at before now last most : ℕ} {w : Window} →
+    Skipped table skip s at before now w → (more : ℕ) → last ≡ now + more → zeros table s / 16 + 2 + more ≤ most → LoadsWithin most table skip s before last
+Skipped-loads after_skip more counted bounded = search (arith, after_skip.least)
 
 -- A narrow prefix: one window, and a second to count unskipped digits.
 pub Skipped-one : {table : Table} (skip : Bool) {s : List ℕ} {at before now last : ℕ} {w : Window} → Skipped table skip s at before now w →
-    now ≡ before + 1 → last ≡ now + (if skip || nat_lt (run_len table s) 16 then 0 else 1) → LoadsWithin (most_loads table narrow s) 2 table skip s before last
+    now ≡ before + 1 → last ≡ now + (if skip || nat_lt (run_len table s) 16 then 0 else 1) → LoadsWithin (most_loads table narrow s) table skip s before last
 Skipped-one true after_skip one counted = search (arith, after_skip.least)
 Skipped-one false after_skip one counted = grind (arith, nat_tests)
 
@@ -153,10 +143,10 @@ module _ {table : Table} (ten : IsBelowTen table) where
       let cases = cases_lt w.zeroes 16 in
       search (arith, zeros-le, prefix_len-le-length, false≢true)
 
-  pub Skipped-end : {skip : Bool} {s : List ℕ} {at before now next : ℕ} {w : Window} →
-      Skipping table skip s at before now → w ≡ window_of table 16 (take (length s - at) (drop at s)) → next ≡ now + 1 →
+  pub Skipped-end : {skip : Bool} {s : List ℕ} {at start now before next : ℕ} {w : Window} →
+      Skipping table skip s at start now → w ≡ window_of table 16 (take (length s - at) (drop at s)) → next + start ≡ now + before + 1 →
       (skip ≡ false) ⊎ ((skip ≡ true) × (w.zeroes ≡ 0)) → Skipped table skip s at before next w
-  Skipped-end {skip} {s} {at} {before} {now} {next} {w} after_skip e one stops =
+  Skipped-end {skip} {s} {at} {start} {now} {before} {next} {w} after_skip e one stops =
       let last : skip ≡ true → w.zeroes ≡ 0 =
       λ h. elim stops [ inl k ↦ absurd (false≢true (sym k ∙ h)) | inr k ↦ k.1 ] in
       let seen : Shows table 16 (drop at s) w = shows_rest ten 16 s at e in
@@ -177,7 +167,7 @@ module _ {table : Table} (ten : IsBelowTen table) where
   Skipped-after_zeros s {at} before {now} {w} offset e none loads =
       let skipping : Skipping table true s at before now =
       search (arith, nat_tests, zeros-le table s, prefix_len-le-length (is_digit table) s) in
-      Skipped-end skipping (e ∙ ap (window_of table 16) (sym (take_rest s at))) refl (inr (refl, none))
+      Skipped-end skipping (e ∙ ap (window_of table 16) (sym (take_rest s at))) (omega arith) (inr (refl, none))
 
   pub Skipping-first_window : (s : List ℕ) (n reported : ℕ) → reported ≡ (window_of table 16 s).zeroes → 0 < reported →
       Skipping table true s reported n (n + 1)
@@ -187,7 +177,7 @@ module _ {table : Table} (ten : IsBelowTen table) where
   pub Skipped-at_once : (skip : Bool) (s : List ℕ) {before next : ℕ} {w : Window} →
       w ≡ window_of table 16 s → next ≡ before + 1 → (skip ≡ false) ⊎ ((skip ≡ true) × (w.zeroes ≡ 0)) → Skipped table skip s 0 before next w
   Skipped-at_once skip s {before} e one stops =
-      Skipped-end (Skipping-none table skip s before) (e ∙ ap (window_of table 16) (sym (take_rest s 0))) one stops
+      Skipped-end (Skipping-none table skip s before) (e ∙ ap (window_of table 16) (sym (take_rest s 0))) (omega (arith, one)) stops
 
   -- A first window that is not full reports no zeros.
   pub Skipped-first : (skip : Bool) (s : List ℕ) {before next : ℕ} {w : Window} →
@@ -196,3 +186,9 @@ module _ {table : Table} (ten : IsBelowTen table) where
       let full = (shows ten 16 s e).full in
       let stops : (skip ≡ false) ⊎ ((skip ≡ true) × (w.zeroes ≡ 0)) = grind (arith, nat_tests, full) in
       Skipped-at_once skip s e one stops
+
+  -- A short slice fills no window.
+  pub Skipped-short : (skip : Bool) (s : List ℕ) {before next : ℕ} {w : Window} →
+      w ≡ window_of table 16 s → next ≡ before + 1 → length s < 16 → Skipped table skip s 0 before next w
+  Skipped-short skip s e one short =
+      Skipped-first skip s e one (omega (arith, short, (shows ten 16 s e).len_is, prefix_len-le-length (is_digit table) s))

@@ -1,6 +1,6 @@
 -- Words as lists of fields: how products sum them, what bitwise operators do to each.
-use Rattle.std.proofs.Common.{◌≡◌, ℕ, zero, suc, ◌+◌, ◌-◌, ◌*◌, ◌/◌, ◌%◌, ◌^◌, ◌<◌, ◌≤◌, List, [], ◌∷◌, length, refl, sym, ◌∙◌, arith, lit<, inl, inr, mod-lt, zero-lt-suc}
-use Rattle.std.proofs.Math.Nat.{mul-mod_left, mul-div_cancel, add-mul-div_right, div-div-eq-div-mul, mul_comm, zero-mod, suc-mul, mul-le-mul_right, mul_assoc, pow-zero, pow-suc, suc-add, zero-add, mul-one, mod-eq_of_lt, pow-le-pow_right, div-one, eq-zero-or-pos}
+use Rattle.std.proofs.Common.{◌≡◌, ℕ, zero, suc, ◌+◌, ◌-◌, ◌*◌, ◌/◌, ◌%◌, ◌^◌, ◌<◌, ◌≤◌, List, [], ◌∷◌, length, refl, sym, ◌∙◌, arith, lit<, inl, inr, mod-lt}
+use Rattle.std.proofs.Math.Nat.{add-mul-div_right, div-div-eq-div-mul, mul_comm, zero-mod, suc-mul, mul-le-mul_right, mul_assoc, pow-zero, pow-suc, suc-add, zero-add, mul-one, mod-eq_of_lt, pow-le-pow_right, div-one, eq-zero-or-pos}
 use Rattle.std.proofs.Math.Pow.{mod-mod-pow, ones_lt, pow_mono}
 use Rattle.std.proofs.lemmas.Nat.{pow_pos, pow-add, mod-pow-add, field_of, and_mask, and_block, shr_split, div-mul-add, mod-mul-add}
 use Rattle.std.specs.Int.Bits.{bit_and, and_zero_r}
@@ -13,22 +13,22 @@ use Rattle.std.specs.Int.Count.{count_trailing_zeros}
 -- A round joins neighbouring digits of base t: a mask, a product by 1 + t * 2^(h + h), a shift.
 
 -- What the lower halves of k fields spell in base t, the lowest field first.
-abbrev spelled : ℕ → ℕ → ℕ → ℕ → ℕ
+abbrev pub spelled : ℕ → ℕ → ℕ → ℕ → ℕ
 spelled h t zero word = 0
 spelled h t (suc k) word = (word % 2 ^ h) * t ^ k + spelled h t k (word / 2 ^ (h + h))
 
 -- The mask that keeps these lower halves.
-abbrev masks : ℕ → ℕ → ℕ
+abbrev pub masks : ℕ → ℕ → ℕ
 masks h zero = 0
 masks h (suc k) = masks h k * 2 ^ (h + h) + (2 ^ h - 1)
 
 -- Twice m, by two steps for each step of m.
-abbrev twice : ℕ → ℕ
+abbrev pub twice : ℕ → ℕ
 twice zero = zero
 twice (suc m) = suc (suc (twice m))
 
 -- A round, which leaves m fields of twice the size.
-abbrev rounded : ℕ → ℕ → ℕ → ℕ → ℕ
+abbrev pub rounded : ℕ → ℕ → ℕ → ℕ → ℕ
 rounded h t m word = bit_and word (masks h (twice m)) * (1 + t * 2 ^ (h + h)) % 2 ^ (m * ((h + h) + (h + h))) / 2 ^ (h + h)
 
 -- Half a field of set bits fits in a field.
@@ -118,7 +118,7 @@ module _ (h t : ℕ) (room : (2 ^ h - 1) * (1 + t) < 2 ^ (h + h)) where
       ) in
       rw (low, high, spread_masked m rest, power_of_square t m, pow-suc t (twice m)) (omega arith)
 
-  round : (m word : ℕ) → spelled (h + h) (t * t) m (rounded h t m word) ≡ spelled h t (twice m) word
+  pub round : (m word : ℕ) → spelled (h + h) (t * t) m (rounded h t m word) ≡ spelled h t (twice m) word
   round m word = search (arith, shift_after_cut, product_shifted, pow_pos, spread_masked)
 
 -- ---- Fields of a word are its digits in a base 2^k
@@ -147,7 +147,7 @@ low_value_shifted (suc z) k word =
     rw (suc-add, low, high) (omega (arith, low_value_shifted z k word))
 
 -- The weighted sum is what the lower halves spell.
-spelled_by_bytes : (k word : ℕ) → spelled 4 10 k word ≡ low_value (digits_l 256 k word)
+pub spelled_by_bytes : (k word : ℕ) → spelled 4 10 k word ≡ low_value (digits_l 256 k word)
 spelled_by_bytes zero word = refl
 spelled_by_bytes (suc k) word = search (arith, length-digits, spelled_by_bytes k (word / 256))
 
@@ -160,11 +160,11 @@ shifted_sum k count len word e le = search (arith, spelled_by_bytes, digits_cut,
 -- ---- Weighted sums of eight and of sixteen bytes
 
 -- A word below half a field is its only digit.
-one_field : (base half word : ℕ) → word < 2 ^ half → word ≡ spelled half base 1 word
+pub one_field : (base half word : ℕ) → word < 2 ^ half → word ≡ spelled half base 1 word
 one_field base half word below = rw pow-zero (omega (arith, mod-eq_of_lt below))
 
 -- After two rounds, two fields spell the sum in base 10000.
-two_rounds : (val len : ℕ) → len ≤ 8
+pub two_rounds : (val len : ℕ) → len ≤ 8
     → spelled 16 10000 2 (rounded 8 100 2 (rounded 4 10 4 (val * 2 ^ (64 - 8 * len) % 2 ^ 64))) ≡ low_value (low_bytes len val)
 two_rounds val len most =
     round 8 100 (lit< tt) 2 _ ∙ round 4 10 (lit< tt) 4 _ ∙ shifted_sum (64 - 8 * len) 8 len val (omega arith) most
@@ -173,25 +173,6 @@ two_rounds val len most =
 pub sum_8 : (val len : ℕ) → len ≤ 8
     → rounded 16 10000 1 (rounded 8 100 2 (rounded 4 10 4 (val * 2 ^ (64 - 8 * len) % 2 ^ 64))) ≡ low_value (low_bytes len val)
 sum_8 val len most = one_field 100000000 32 _ (omega arith) ∙ round 16 10000 (lit< tt) 1 _ ∙ two_rounds val len most
-
--- Two rounds and a sum of the two fields, for digits in bytes below 16.
-pub sum_of_fields : (digits : ℕ) → digits < 2 ^ 64 → bit_and digits 0x0F0F_0F0F_0F0F_0F0F ≡ digits
-    → let tens = digits * 0xA01 % 2 ^ 64 / 2 ^ 8 in
-    let hundreds = bit_and tens 0x00FF_00FF_00FF_00FF * 0x64_0001 % 2 ^ 64 in
-    bit_and (hundreds / 2 ^ 16) 0xFFFF * 10000 + hundreds / 2 ^ 48 ≡ low_value (low_bytes 8 digits)
-sum_of_fields digits fits halves =
-    let hundreds = bit_and (digits * 0xA01 % 2 ^ 64 / 2 ^ 8) 0x00FF_00FF_00FF_00FF * 0x64_0001 % 2 ^ 64 in
-    let whole : digits * 2 ^ (64 - 8 * 8) % 2 ^ 64 ≡ digits = omega arith in
-    let spells = rw (whole, halves) at (two_rounds digits 8 (omega arith)) in
-    omega (arith, and_mask (hundreds / 2 ^ 16) 16)
-
--- Two rounds join four digits in bytes below 16.
-pub sum_of_four : (digits : ℕ) → bit_and digits 0x0F0F_0F0F ≡ digits
-    → bit_and (digits * 0xA01 % 2 ^ 32 / 2 ^ 8) 0x00FF_00FF * 0x64_0001 % 2 ^ 32 / 2 ^ 16 ≡ low_value (low_bytes 4 digits)
-unfolding low_bytes
-sum_of_four digits halves =
-    one_field 10000 16 _ (omega arith) ∙ round 8 100 (lit< tt) 1 _
-    ∙ (rw halves at (round 4 10 (lit< tt) 2 digits)) ∙ spelled_by_bytes 4 digits
 
 -- Four rounds compute the weighted sum of at most 16 bytes.
 pub sum_16 : (val len : ℕ) → len ≤ 16
@@ -217,15 +198,6 @@ sum_most count len val most = search (arith, length-digits, pow-le-pow_right, pl
 abbrev pub repeated : ℕ → ℕ → ℕ
 repeated b zero = 0
 repeated b (suc k) = repeated b k * 256 + b
-
--- A mask to lower halves keeps the weighted sum.
-pub low_value_masked : (k word : ℕ) → low_value (digits_l 256 k (bit_and word (repeated 15 k))) ≡ low_value (digits_l 256 k word)
-low_value_masked zero word = refl
-low_value_masked (suc k) word =
-    let block = rw (shr_split word 8) at (and_block 8 (word / 256) (repeated 15 k) (word % 256) 15 (mod-lt word (zero-lt-suc 255)) (lit< tt)) in
-    let low : bit_and word (repeated 15 (suc k)) % 256 % 16 ≡ word % 256 % 16 = omega (arith, block, and_mask (word % 256) 4) in
-    let rest : bit_and word (repeated 15 (suc k)) / 256 ≡ bit_and (word / 256) (repeated 15 k) = omega (arith, block, and_mask (word % 256) 4) in
-    cc (low, rest, length-digits 256 k (word / 256), length-digits 256 k (bit_and (word / 256) (repeated 15 k)), low_value_masked k (word / 256))
 
 -- ---- Trailing zero bits
 
@@ -258,7 +230,3 @@ stopping_field (suc a) b n some =
       | inl even ↦ rw even (omega (arith, stopping_field a b (n / 2) (omega arith)))
       | inr odd ↦ (let one : n % 2 ≡ 1 = omega arith in rw one (omega arith))
     ])
-
--- A cut after a shift by z bits is one before it.
-pub shift_cut : (a j z : ℕ) → a * 2 ^ z % 2 ^ (j + z) ≡ a % 2 ^ j * 2 ^ z
-shift_cut a j z = rw (mod-pow-add, mul-mod_left, mul-div_cancel a (pow_pos z)) (omega arith)

@@ -1,39 +1,36 @@
 -- How many digits and zeros a word begins with.
-use Rattle.std.proofs.Common.{◌≡◌, ℕ, zero, suc, ◌+◌, ◌*◌, ◌/◌, ◌%◌, ◌^◌, ◌<◌, ◌≤◌, ◌-◌, Bool, true, false, cond, ◌==◌, nat_lt, drop, refl, sym, ap, ap₂, ◌∙◌, arith, mod-lt, zero-lt-suc, inl, inr}
+use Rattle.std.proofs.Common.{◌≡◌, ℕ, zero, suc, ◌+◌, ◌*◌, ◌/◌, ◌%◌, ◌^◌, ◌<◌, Bool, true, false, ◌==◌, refl, sym, ap, ap₂, ◌∙◌, arith, mod-lt, zero-lt-suc, inl, inr}
 use Rattle.std.proofs.Math.Dec.{lit<}
 use Rattle.std.proofs.lemmas.Bool.{agree_below, agree_below_at, eq-eqb, ne_eqb}
-use Rattle.std.proofs.lemmas.Nat.{pow_pos, shr_split, and_shr, and_mod, or_shr, or_mod, xor_shr, xor_mod, pow-add, mod-pow-add, and_mask, and_block, and_assoc, mul-mod_first}
-use Rattle.std.proofs.Math.Nat.{eq-zero-or-pos, zero-add, suc-mul, suc-add, div-one, div-div-eq-div-mul, div-mul-le_self, mod-eq_of_lt, mul-one}
-use Rattle.std.proofs.Math.Pow.{mod-mod-pow}
+use Rattle.std.proofs.lemmas.Nat.{and_shr, and_mod, or_shr, or_mod, xor_shr, xor_mod, mod-pow-add, and_mask}
+use Rattle.std.proofs.Math.Nat.{eq-zero-or-pos, suc-mul}
 use Rattle.std.proofs.lemmas.Bool.Decides.{nat_tests}
-use Rattle.std.specs.Char.{is_ascii_digit}
 use Rattle.std.specs.List.{prefix_len}
-use Rattle.std.specs.Int.Bits.{bit_and, bit_or, bit_xor, and_zero_l, and_zero_r, and_self}
-use Rattle.std.specs.Int.Count.{count_trailing_zeros, trailing_of_zero}
-use Rattle.std.specs.Simd.Lanes.{digits_l}
+use Rattle.std.specs.Int.Bits.{bit_and, bit_or, bit_xor}
+use Rattle.std.specs.Int.Count.{count_trailing_zeros}
 use Rattle.atoi_core.specs.Digit.{decimal_table, is_digit, is_zero}
 use Rattle.atoi_core.specs.Run.{run_len, zeros}
-use Rattle.atoi_core.specs.Words.{low_bytes, low_value}
+use Rattle.atoi_core.specs.Words.{low_bytes}
 use Rattle.atoi_core.proofs.lemmas.Calls.{digit_in_range}
-use Rattle.atoi_core.proofs.lemmas.WordFields.{zero_field, stopping_field, repeated, digits_cut, low_value_masked, low_value_shifted, byte_more, shift_cut}
+use Rattle.atoi_core.proofs.lemmas.WordFields.{zero_field, stopping_field, repeated}
 
 -- ---- Counting digits and zeros
 
 -- A function of words that is exact in the lowest byte (`low`), where no digit carries (`rest`).
-record Change : Type 0 where
-  of_word : ℕ → ℕ → ℕ
-  of_byte : ℕ → ℕ
-  low : (k word : ℕ) → of_word (suc k) word % 256 ≡ of_byte (word % 256)
-  rest : (k word : ℕ) → is_digit decimal_table (word % 256) ≡ true → of_word (suc k) word / 256 ≡ of_word k (word / 256)
+pub record Change : Type 0 where
+  pub of_word : ℕ → ℕ → ℕ
+  pub of_byte : ℕ → ℕ
+  pub low : (k word : ℕ) → of_word (suc k) word % 256 ≡ of_byte (word % 256)
+  pub rest : (k word : ℕ) → is_digit decimal_table (word % 256) ≡ true → of_word (suc k) word / 256 ≡ of_word k (word / 256)
 
-abbrev unchanged : Change
+abbrev pub unchanged : Change
 unchanged = record { of_word = λ k word. word; of_byte = λ b. b; low = λ k word. refl; rest = λ k word e. refl }
 
-abbrev constant : (c : ℕ) → c < 256 → Change
+abbrev pub constant : (c : ℕ) → c < 256 → Change
 constant c h = record { of_word = λ k word. repeated c k; of_byte = λ b. c; low = λ k word. omega arith; rest = λ k word e. omega arith }
 
 -- Adds c to each byte; below 199, no digit carries.
-abbrev added : (c : ℕ) → c < 199 → Change
+abbrev pub added : (c : ℕ) → c < 199 → Change
 added c h =
     record {
       of_word = λ k word. word + repeated c k;
@@ -42,29 +39,8 @@ added c h =
       rest = λ k word e. let digit = digit_in_range (word % 256) e in omega arith;
     }
 
--- This constant subtracts 48 from each of k bytes.
-abbrev without_48 : ℕ → ℕ
-without_48 zero = 1
-without_48 (suc k) = 256 * without_48 k - 48
-
-without_48-some : (k : ℕ) → 1 ≤ without_48 k
-without_48-some zero = omega arith
-without_48-some (suc k) = let some = without_48-some k in omega arith
-
--- Subtracts 48 from each byte. No digit borrows.
-abbrev lowered : Change
-lowered =
-    record {
-      of_word = λ k word. word + without_48 k;
-      of_byte = λ b. (b + 208) % 256;
-      low = λ k word. let some = without_48-some k in omega arith;
-      rest = λ k word e.
-          let digit = digit_in_range (word % 256) e in
-          omega arith;
-    }
-
 -- Cuts a change to k bytes.
-abbrev cut : Change → Change
+abbrev pub cut : Change → Change
 cut c =
     record {
       of_word = λ k word. c.of_word k word % 2 ^ (k * 8);
@@ -74,7 +50,7 @@ cut c =
     }
 
 -- The upper half of each byte.
-abbrev upper : Change → Change
+abbrev pub upper : Change → Change
 upper c =
     record {
       of_word = λ k word. bit_and (c.of_word k word / 16) (repeated 15 k);
@@ -94,7 +70,7 @@ upper c =
 module _ (op : ℕ → ℕ → ℕ)
     (high : (a b g : ℕ) → op a b / 2 ^ g ≡ op (a / 2 ^ g) (b / 2 ^ g))
     (low : (a b g : ℕ) → op a b % 2 ^ g ≡ op (a % 2 ^ g) (b % 2 ^ g)) where
-  abbrev both : Change → Change → Change
+  abbrev pub both : Change → Change → Change
   both c d =
       record {
         of_word = λ k word. op (c.of_word k word) (d.of_word k word);
@@ -106,7 +82,7 @@ module _ (op : ℕ → ℕ → ℕ)
 -- If a change is 0 exactly at the digits that pass p, trailing zero bits count these.
 module _ (c : Change) (p : ℕ → Bool) (agree : agree_below (λ b. c.of_byte b == 0) p 256 ≡ true)
     (digit : (b : ℕ) → b < 256 → p b ≡ true → is_digit decimal_table b ≡ true) where
-  counted : (k word : ℕ) → count_trailing_zeros (k * 8) (c.of_word k word) / 8 ≡ prefix_len p (low_bytes k word)
+  pub counted : (k word : ℕ) → count_trailing_zeros (k * 8) (c.of_word k word) / 8 ≡ prefix_len p (low_bytes k word)
   unfolding low_bytes count_trailing_zeros
   counted zero word = refl
   counted (suc k) word =
@@ -126,7 +102,7 @@ module _ (c : Change) (p : ℕ → Bool) (agree : agree_below (λ b. c.of_byte b
       ])
 
 -- A zero is a digit.
-zero_is_digit : (b : ℕ) → b < 256 → is_zero decimal_table b ≡ true → is_digit decimal_table b ≡ true
+pub zero_is_digit : (b : ℕ) → b < 256 → is_zero decimal_table b ≡ true → is_digit decimal_table b ≡ true
 zero_is_digit b h e = grind (arith, nat_tests)
 
 -- A zero xor 48 is 0.
@@ -139,11 +115,6 @@ zeros_of_8 = zeros_counted 8
 pub zeros_of_16 : (word : ℕ) → count_trailing_zeros 128 (bit_xor word 0x3030_3030_3030_3030_3030_3030_3030_3030) / 8 ≡ zeros decimal_table (low_bytes 16 word)
 zeros_of_16 = zeros_counted 16
 
--- So is a zero minus 48.
-pub lowered_zeros_of_8 : (word : ℕ)
-    → count_trailing_zeros 64 ((word + 0xCFCF_CFCF_CFCF_CFD0) % 0x1_0000_0000_0000_0000) / 8 ≡ zeros decimal_table (low_bytes 8 word)
-lowered_zeros_of_8 = counted (cut lowered) (is_zero decimal_table) refl zero_is_digit 8
-
 -- In `check_len_8`, the mask comes before the shift.
 pub digits_of_8 : (val : ℕ)
     → let high = bit_and ((val + 0x0606_0606_0606_0606) % 0x1_0000_0000_0000_0000) 0xF0F0_F0F0_F0F0_F0F0 / 16 in
@@ -153,174 +124,3 @@ digits_of_8 val =
     let halves = both bit_and and_shr and_mod unchanged (constant 240 (lit< tt)) in
     let marks = both bit_xor xor_shr xor_mod (both bit_or or_shr or_mod (upper (cut (added 6 (lit< tt)))) halves) (constant 51 (lit< tt)) in
     rw (and_shr ((val + 0x0606_0606_0606_0606) % 2 ^ 64) 0xF0F0_F0F0_F0F0_F0F0 4) (counted marks (is_digit decimal_table) refl (λ b h e. e) 8 val)
-
--- The marks of the word engine.
-abbrev marks_in : ℕ → ℕ → ℕ
-marks_in k word = bit_and (bit_or ((word + repeated 70 k) % 2 ^ (k * 8)) ((word + without_48 k) % 2 ^ (k * 8))) (repeated 128 k)
-
-marks_counted : (k word : ℕ) → count_trailing_zeros (k * 8) (marks_in k word) / 8 ≡ run_len decimal_table (low_bytes k word)
-marks_counted =
-    let marks = both bit_and and_shr and_mod (both bit_or or_shr or_mod (cut (added 70 (lit< tt))) (cut lowered)) (constant 128 (lit< tt)) in
-    counted marks (is_digit decimal_table) refl (λ b h e. e)
-
--- Without a mark, all bytes are digits.
-none_counted : (k word : ℕ) → marks_in k word ≡ 0 → run_len decimal_table (low_bytes k word) ≡ k
-none_counted k word none = omega (arith, rw (none, trailing_of_zero) at (marks_counted k word))
-
-pub marks_of_8 : (word : ℕ) → count_trailing_zeros 64 (marks_in 8 word) / 8 ≡ run_len decimal_table (low_bytes 8 word)
-marks_of_8 = marks_counted 8
-
-pub none_marked : (word : ℕ) → marks_in 8 word ≡ 0 → run_len decimal_table (low_bytes 8 word) ≡ 8
-none_marked = none_counted 8
-
-pub marks_of_4 : (word : ℕ) → count_trailing_zeros 32 (marks_in 4 word) / 8 ≡ run_len decimal_table (low_bytes 4 word)
-marks_of_4 = marks_counted 4
-
-pub none_marked_of_4 : (word : ℕ) → marks_in 4 word ≡ 0 → run_len decimal_table (low_bytes 4 word) ≡ 4
-none_marked_of_4 = none_counted 4
-
--- ---- The word with 48 subtracted from each byte
-
--- If n + 1 elements pass, so does the first, then n.
-pub first_passes : (t : Bool) (n m : ℕ) → suc n ≤ cond t (1 + m) 0 → (t ≡ true) × (n ≤ m)
-first_passes true n m h = (refl, omega arith)
-first_passes false n m h = absurd (omega arith)
-
--- A digit's lower half is the byte minus 48.
-lower_half : (b : ℕ) → is_digit decimal_table b ≡ true → bit_and b 15 ≡ (b + 208) % 256
-lower_half b digit = and_mask b 4 ∙ (let range = digit_in_range b digit in omega arith)
-
--- Subtracting 48 from k digits leaves their lower halves.
-lowered_digits : (n k word : ℕ) → k ≤ prefix_len (is_digit decimal_table) (digits_l 256 n word)
-    → (word + without_48 n) % 2 ^ (k * 8) ≡ bit_and (word % 2 ^ (k * 8)) (repeated 15 k)
-lowered_digits n zero word digits = omega (arith, and_zero_r (word % 2 ^ (zero * 8)))
-lowered_digits zero (suc k) word digits = absurd (omega arith)
-lowered_digits (suc n) (suc k) word digits =
-    let byte = word % 256 in
-    let run = prefix_len (is_digit decimal_table) (digits_l 256 n (word / 256)) in
-    let passes = first_passes (is_digit decimal_table byte) k run digits in
-    let block = and_block 8 (word / 256 % 2 ^ (k * 8)) (repeated 15 k) byte 15 (mod-lt word (zero-lt-suc 255)) (lit< tt) in
-    cc (
-      suc-mul k 8,
-      mod-pow-add (word + without_48 (suc n)) (k * 8) 8,
-      lowered.rest n word passes.0,
-      lowered.low n word,
-      lower_half byte passes.0,
-      lowered_digits n k (word / 256) passes.1,
-      block,
-      mod-pow-add word (k * 8) 8,
-    )
-
--- A mask and a shift by whole bytes commute.
-shifted_halves : (z k word : ℕ) → bit_and word (repeated 15 k) * 2 ^ (z * 8) ≡ bit_and (word * 2 ^ (z * 8)) (repeated 15 (z + k))
-shifted_halves zero k word = cc (zero-add k, mul-one word, mul-one (bit_and word (repeated 15 k)))
-shifted_halves (suc z) k word =
-    let next : word * (256 * 2 ^ (z * 8)) ≡ word * 2 ^ (z * 8) * 256 + 0 = omega arith in
-    rw (suc-add z k, byte_more, next) (omega (arith, shifted_halves z k word, and_block 8 (word * 2 ^ (z * 8)) (repeated 15 (z + k)) 0 15 (lit< tt) (lit< tt)))
-
--- Masked bytes are below 16, and keep the sum.
-masked : (size x ones : ℕ) → ones ≡ bit_and x (repeated 15 size) → (bit_and ones (repeated 15 size) ≡ ones) × (low_value (low_bytes size ones) ≡ low_value (low_bytes size x))
-unfolding low_bytes
-masked size x ones is = (
-  cc (is, and_assoc (repeated 15 size) x (repeated 15 size), and_self (repeated 15 size)),
-  ap (λ y. low_value (digits_l 256 size y)) is ∙ low_value_masked size x,
-)
-
--- So are digits minus 48 that are shifted to the top of `size` bytes.
-lowered_bytes : (width size len word k ones : ℕ) → size ≤ width → len ≤ size → k ≡ (size - len) * 8 → len ≤ run_len decimal_table (low_bytes width word)
-    → ones ≡ (word + without_48 width) % 2 ^ (width * 8) * 2 ^ k % 2 ^ (size * 8)
-    → (bit_and ones (repeated 15 size) ≡ ones) × (low_value (low_bytes size ones) ≡ low_value (low_bytes len word))
-unfolding low_bytes
-lowered_bytes width size len word k ones small few k_is digits is =
-    let z = size - len in
-    let low = word % 2 ^ (len * 8) in
-    let lower = word + without_48 width in
-    let top : z + len ≡ size = omega arith in
-    let bits : size * 8 ≡ len * 8 + k = omega arith in
-    let word_bits : width * 8 ≡ (width - len) * 8 + len * 8 = omega arith in
-    let e : ones ≡ bit_and (low * 2 ^ (z * 8)) (repeated 15 size) =
-    is ∙ ap (λ e. lower % 2 ^ (width * 8) * 2 ^ k % 2 ^ e) bits ∙ shift_cut (lower % 2 ^ (width * 8)) (len * 8) k
-    ∙ ap₂ (λ d e. lower % 2 ^ d % 2 ^ (len * 8) * 2 ^ e) word_bits k_is
-    ∙ ap (λ x. x * 2 ^ (z * 8)) (mod-mod-pow lower ((width - len) * 8) (len * 8) ∙ lowered_digits width len word digits)
-    ∙ shifted_halves z len low ∙ ap (λ n. bit_and (low * 2 ^ (z * 8)) (repeated 15 n)) top in
-    let same = masked size (low * 2 ^ (z * 8)) ones e in
-    (same.0, same.1 ∙ (rw top at (low_value_shifted z len low)) ∙ ap low_value (digits_cut 8 len word))
-
-pub lowered_value : (len word ones : ℕ) → len ≤ 8 → len ≤ run_len decimal_table (low_bytes 8 word)
-    → ones ≡ (word + without_48 8) % 2 ^ 64 * 2 ^ (64 - 8 * len) % 2 ^ 64
-    → (bit_and ones (repeated 15 8) ≡ ones) × (low_value (low_bytes 8 ones) ≡ low_value (low_bytes len word))
-lowered_value len word ones few digits is = lowered_bytes 8 8 len word (64 - 8 * len) ones (omega arith) few (omega arith) digits is
-
--- Four bytes suffice for at most four digits.
-pub lowered_four : (len word ones : ℕ) → len ≤ 4 → len ≤ run_len decimal_table (low_bytes 8 word)
-    → ones ≡ bit_and ((word + 0xCFCF_CFCF_CFCF_CFD0) % 2 ^ 64) 0xFFFF_FFFF * 2 ^ (32 - 8 * len) % 2 ^ 32
-    → (bit_and ones (repeated 15 4) ≡ ones) × (low_value (low_bytes 4 ones) ≡ low_value (low_bytes len word))
-lowered_four len word ones few digits is =
-    let lower = (word + 0xCFCF_CFCF_CFCF_CFD0) % 2 ^ 64 in
-    lowered_bytes 8 4 len word (32 - 8 * len) ones (omega arith) few (omega arith) digits
-    (is ∙ ap (λ x. x * 2 ^ (32 - 8 * len) % 2 ^ 32) (and_mask lower 32) ∙ mul-mod_first lower (2 ^ (32 - 8 * len)) (2 ^ 32))
-
-pub lowered_in_four : (len word ones : ℕ) → len ≤ 4 → len ≤ run_len decimal_table (low_bytes 4 word)
-    → ones ≡ (word + 0xCFCF_CFD0) % 2 ^ 32 * 2 ^ (32 - 8 * len) % 2 ^ 32
-    → (bit_and ones (repeated 15 4) ≡ ones) × (low_value (low_bytes 4 ones) ≡ low_value (low_bytes len word))
-lowered_in_four len word ones few digits is = lowered_bytes 4 4 len word (32 - 8 * len) ones (omega arith) few (omega arith) digits is
-
-pub lowered_sum : (len word ones number : ℕ) → number ≡ low_value (low_bytes 8 ones) → len ≤ 8 → len ≤ run_len decimal_table (low_bytes 8 word)
-    → ones ≡ (word + without_48 8) % 2 ^ 64 * 2 ^ (64 - 8 * len) % 2 ^ 64 → number ≡ low_value (low_bytes len word)
-lowered_sum len word ones number sum few digits is = sum ∙ (lowered_value len word ones few digits is).1
-
--- The bytes after the first z.
-bytes_after : (z k word : ℕ) → drop z (digits_l 256 (z + k) word) ≡ digits_l 256 k (word / 2 ^ (z * 8))
-bytes_after zero k word = cc (zero-add k, div-one word)
-bytes_after (suc z) k word = search (arith, suc-add, byte_more, bytes_after z k (word / 256), div-div-eq-div-mul)
-
--- A mask may come before the lowest j bits are cleared.
-cleared : (x mask j : ℕ) → bit_and x mask / 2 ^ j * 2 ^ j ≡ bit_and (x / 2 ^ j * 2 ^ j) mask
-cleared x mask j =
-    let none : x / 2 ^ j * 2 ^ j ≡ x / 2 ^ j * 2 ^ j + 0 = omega arith in
-    let block = and_block j (x / 2 ^ j) (mask / 2 ^ j) 0 (mask % 2 ^ j) (pow_pos j) (mod-lt mask (pow_pos j)) in
-    rw (and_shr, none) (omega (arith, rw shr_split at block, and_zero_l (mask % 2 ^ j)))
-
--- Of four digits, those after the first z: shifted down and up, they are the last bytes.
-pub lowered_end : (z word ones : ℕ) → z < 4 → run_len decimal_table (low_bytes 4 word) ≡ 4
-    → ones ≡ (word + 0xCFCF_CFD0) % 2 ^ 32 / 2 ^ (8 * z) * 2 ^ (8 * z) % 2 ^ 32
-    → (bit_and ones (repeated 15 4) ≡ ones) × (low_value (low_bytes 4 ones) ≡ low_value (drop z (low_bytes 4 word)))
-unfolding low_bytes
-lowered_end z word ones few full is =
-    let k = 4 - z in
-    let all : z + k ≡ 4 = omega arith in
-    let bits : 8 * z ≡ z * 8 = omega arith in
-    let low = word % 2 ^ 32 in
-    let lower = (word + 0xCFCF_CFD0) % 2 ^ 32 in
-    let lower_is : lower ≡ bit_and low (repeated 15 4) = lowered_digits 4 4 word (omega arith) in
-    let small : lower / 2 ^ (z * 8) * 2 ^ (z * 8) < 2 ^ 32 = omega (arith, div-mul-le_self lower (2 ^ (z * 8))) in
-    let same = masked 4 (low / 2 ^ (z * 8) * 2 ^ (z * 8)) ones
-    (is ∙ ap (λ b. lower / 2 ^ b * 2 ^ b % 2 ^ 32) bits ∙ mod-eq_of_lt small
-    ∙ ap (λ x. x / 2 ^ (z * 8) * 2 ^ (z * 8)) lower_is ∙ cleared low (repeated 15 4) (z * 8)) in
-    let sum = low_value_shifted z k (low / 2 ^ (z * 8)) ∙ ap low_value (sym (bytes_after z k low)) in
-    (same.0, same.1 ∙ (rw all at sum) ∙ ap (λ l. low_value (drop z l)) (digits_cut 8 4 word))
-
--- Eight digits need no shift.
-pub lowered_eight : (word ones : ℕ) → run_len decimal_table (low_bytes 8 word) ≡ 8 → ones ≡ (word + without_48 8) % 2 ^ 64
-    → (bit_and ones (repeated 15 8) ≡ ones) × (low_value (low_bytes 8 ones) ≡ low_value (low_bytes 8 word))
-lowered_eight word ones full is = lowered_value 8 word ones (omega arith) (omega arith) (is ∙ omega arith)
-
--- A shift in two steps is one shift.
-pub shifted_twice : (a len : ℕ) → len < 8 → a * 2 ^ (56 - 8 * len) % 2 ^ 64 * 2 ^ 8 % 2 ^ 64 ≡ a * 2 ^ (64 - 8 * len) % 2 ^ 64
-shifted_twice a len few =
-    let p = 2 ^ (56 - 8 * len) in
-    let same : 56 - 8 * len + 8 ≡ 64 - 8 * len = omega arith in
-    let whole : p * 2 ^ 8 ≡ 2 ^ (64 - 8 * len) = cc (pow-add 2 (56 - 8 * len) 8, same) in
-    let regroup : a * p * 2 ^ 8 ≡ a * (p * 2 ^ 8) = omega arith in
-    cc (mul-mod_first (a * p) (2 ^ 8) (2 ^ 64), regroup, whole)
-
--- The lowest byte decides whether a word of k bytes more begins with a digit.
-lowest_byte : (k word : ℕ) → is_ascii_digit (bit_and word 255) ≡ nat_lt 0 (run_len decimal_table (low_bytes (suc k) word))
-unfolding low_bytes
-lowest_byte k word = grind (arith, nat_tests, and_mask word 8)
-
-pub first_byte : (word : ℕ) → is_ascii_digit (bit_and word 255) ≡ nat_lt 0 (run_len decimal_table (low_bytes 8 word))
-first_byte = lowest_byte 7
-
-pub first_byte_of_4 : (word : ℕ) → is_ascii_digit (bit_and word 255) ≡ nat_lt 0 (run_len decimal_table (low_bytes 4 word))
-first_byte_of_4 = lowest_byte 3

@@ -22,8 +22,8 @@ const POWERS: [u64; 17] = [
     10_000_000_000_000_000,
 ];
 
-// Returns ten to the power of `digits`, which is at most 16.
-pub(crate) fn power_of_ten(digits: u32) -> u64
+/// Returns ten to the power of `digits`, which is at most 16.
+pub fn power_of_ten(digits: u32) -> u64
     requires { digits ≤ 16 }
     ensures power { result ≡ 10 ^ digits }
     ensures most { result ≤ 10000000000000000 }
@@ -39,13 +39,4 @@ pub fn append_digits(high: u64, digits: u32, low: u64) -> u128
     ensures { result ≡ high * 10 ^ digits + low }
 {
     u128::from(high) * u128::from(power_of_ten(digits)) + u128::from(low)
-}
-
-/// `append_digits` for a number that fits in 64 bits.
-pub fn append_few(high: u64, digits: u32, low: u64) -> u64
-    requires few { digits ≤ 16 }
-    requires fits { high * 10 ^ digits + low ≤ 18446744073709551615 }
-    ensures { result ≡ high * 10 ^ digits + low }
-{
-    high * power_of_ten(digits) + low
 }

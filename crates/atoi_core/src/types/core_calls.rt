@@ -1,5 +1,5 @@
 //! The four *core calls*: each parses digits without a sign as an integer of any type, with the
-//! parser for its size.
+//! parser for its size. They call `whole` and `prefix`, which take the sign as an argument.
 ghost use Rattle.std.specs.Prelude.{◌≡◌, ◌≤◌, true, false, IfOk, length};
 ghost use Rattle.atoi_core.specs.Answer.{typed_answer, typed_prefix_answer, whole_answer, prefix_answer};
 ghost use Rattle.atoi_core.specs.IntType.{class_of, bound_of, limit_of};
@@ -11,13 +11,12 @@ use crate::engine::Engine;
 use crate::engine::steps::Steps;
 use crate::error::AtoiSimdError;
 use crate::narrow::{narrow_prefix, narrow_whole_windows};
-use crate::types::number::{Number, Signed, greatest_magnitude, limit_64, number_of};
-use crate::wide::{prefix_128_inline, whole_64, whole_128};
+use crate::types::number::{Number, Signed, greatest_magnitude, limit_64};
+use crate::wide::{whole_64, whole_128};
 
 /// Parses all of `s`, digits without a sign, as a `T` that is not negative. With `skip`, leading
 /// zeros do not count towards a limit of digits. The errors are of every kind, and `s` is the body.
 #[inline(always)]
-#[tactic(auto, using(crate::proofs::lemmas::Calls::whole_in_bounds))]
 pub fn whole_pos<'a, E: Engine, T: Number>(
     skip: bool,
     s: &'a [u8],
@@ -26,11 +25,7 @@ pub fn whole_pos<'a, E: Engine, T: Number>(
     ensures answer { typed_answer T.number result ≡ whole_answer E.table T.int_type false skip s.now }
     ensures loads { TypedLoads E.table T.int_type whole skip s.now steps.old steps.new }
 {
-    // Each `match` in place of `?` takes fewer instructions.
-    match whole_by_size::<E, T>(false, skip, s, steps) {
-        Ok(magnitude) => Ok(T::from_pos(magnitude)),
-        Err(error) => Err(error),
-    }
+    whole::<E, T>(false, skip, s, steps)
 }
 
 /// Like `whole_pos`, but returns minus the value of the digits. The errors are the same.
@@ -43,31 +38,12 @@ pub fn whole_neg<'a, E: Engine, T: Signed>(
     ensures answer { typed_answer T.number result ≡ whole_answer E.table T.int_type true skip s.now }
     ensures loads { TypedLoads E.table T.int_type whole skip s.now steps.old steps.new }
 {
-    whole_of::<E, T>(true, skip, s, steps)
-}
-
-// Like `whole_neg` if `minus` is set, otherwise like `whole_pos`.
-#[inline(always)]
-#[tactic(auto, using(crate::proofs::lemmas::Calls::whole_in_bounds))]
-pub(crate) fn whole_of<'a, E: Engine, T: Signed>(
-    minus: bool,
-    skip: bool,
-    s: &'a [u8],
-    steps: &mut Steps,
-) -> Result<T, AtoiSimdError<'a>>
-    ensures answer { typed_answer T.number result ≡ whole_answer E.table T.int_type minus skip s.now }
-    ensures loads { TypedLoads E.table T.int_type whole skip s.now steps.old steps.new }
-{
-    match whole_by_size::<E, T>(minus, skip, s, steps) {
-        Ok(magnitude) => Ok(number_of(minus, magnitude)),
-        Err(error) => Err(error),
-    }
+    whole::<E, T>(true, skip, s, steps)
 }
 
 /// Like `whole_pos`, but parses the digits at the start of `s`. Also returns how many there are.
 /// The errors are `Empty`, `Size` and `Overflow`.
 #[inline(always)]
-#[tactic(auto, using(crate::proofs::lemmas::Calls::prefix_in_bounds))]
 pub fn prefix_pos<'a, E: Engine, T: Number>(
     skip: bool,
     s: &'a [u8],
@@ -78,10 +54,7 @@ pub fn prefix_pos<'a, E: Engine, T: Number>(
     ensures within { IfOk result (λ found. found.1 ≤ length s.now) }
     ensures loads { TypedLoads E.table T.int_type prefix skip s.now steps.old steps.new }
 {
-    match prefix_by_size::<E, T>(false, skip, s, steps) {
-        Ok((magnitude, len)) => Ok((T::from_pos(magnitude), len)),
-        Err(error) => Err(error),
-    }
+    prefix::<E, T>(false, skip, s, steps)
 }
 
 /// Like `prefix_pos`, but returns minus the value of the digits. The errors are the same.
@@ -96,27 +69,43 @@ pub fn prefix_neg<'a, E: Engine, T: Signed>(
     ensures within { IfOk result (λ found. found.1 ≤ length s.now) }
     ensures loads { TypedLoads E.table T.int_type prefix skip s.now steps.old steps.new }
 {
-    prefix_of::<E, T>(true, skip, s, steps)
+    prefix::<E, T>(true, skip, s, steps)
+}
+
+// Like `whole_neg` if `minus` is set, otherwise like `whole_pos`.
+#[inline(always)]
+#[tactic(auto, using(crate::proofs::lemmas::Calls::whole_in_bounds))]
+pub(crate) fn whole<'a, E: Engine, T: Number>(
+    minus: bool,
+    skip: bool,
+    s: &'a [u8],
+    steps: &mut Steps,
+) -> Result<T, AtoiSimdError<'a>>
+    requires signed { minus ≡ true → T.SIGNED ≡ true }
+    ensures answer { typed_answer T.number result ≡ whole_answer E.table T.int_type minus skip s.now }
+    ensures loads { TypedLoads E.table T.int_type whole skip s.now steps.old steps.new }
+{
+    let magnitude = whole_by_size::<E, T>(minus, skip, s, steps)?;
+    Ok(T::from_parts(minus, magnitude))
 }
 
 // Like `prefix_neg` if `minus` is set, otherwise like `prefix_pos`.
 #[inline(always)]
 #[tactic(auto, using(crate::proofs::lemmas::Calls::prefix_in_bounds))]
-pub(crate) fn prefix_of<'a, E: Engine, T: Signed>(
+pub(crate) fn prefix<'a, E: Engine, T: Number>(
     minus: bool,
     skip: bool,
     s: &'a [u8],
     steps: &mut Steps,
 ) -> Result<(T, usize), AtoiSimdError<'a>>
+    requires signed { minus ≡ true → T.SIGNED ≡ true }
     ensures answer { typed_prefix_answer T.number result
         ≡ prefix_answer E.table T.int_type minus skip s.now }
     ensures within { IfOk result (λ found. found.1 ≤ length s.now) }
     ensures loads { TypedLoads E.table T.int_type prefix skip s.now steps.old steps.new }
 {
-    match prefix_by_size::<E, T>(minus, skip, s, steps) {
-        Ok((magnitude, len)) => Ok((number_of(minus, magnitude), len)),
-        Err(error) => Err(error),
-    }
+    let (magnitude, len) = prefix_by_size::<E, T>(minus, skip, s, steps)?;
+    Ok((T::from_parts(minus, magnitude), len))
 }
 
 // Returns the magnitude, at most `greatest_magnitude::<T>(minus)`.
@@ -135,10 +124,8 @@ fn whole_by_size<'a, E: Engine, T: Number>(
 {
     let bound = greatest_magnitude::<T>(minus);
     if T::BITS <= 32 {
-        match narrow_whole_windows::<E>(bound as u64, s, steps) {
-            Ok(number) => Ok(u128::from(number)),
-            Err(error) => Err(error),
-        }
+        let number = narrow_whole_windows::<E>(bound as u64, s, steps)?;
+        Ok(u128::from(number))
     } else if T::BITS == 64 {
         let number = whole_64::<E>(bound as u64, limit_64::<T>(), skip, s, steps)?;
         Ok(u128::from(number))
@@ -147,6 +134,7 @@ fn whole_by_size<'a, E: Engine, T: Number>(
     }
 }
 
+// `whole_by_size` for the digits at the start of `s`, and how many there are.
 #[inline(always)]
 #[tactic(auto, using(crate::proofs::lemmas::Refusals::narrow_prefix_limit))]
 fn prefix_by_size<'a, E: Engine, T: Number>(
@@ -162,16 +150,12 @@ fn prefix_by_size<'a, E: Engine, T: Number>(
 {
     let bound = greatest_magnitude::<T>(minus);
     if T::BITS <= 32 {
-        match narrow_prefix::<E>(bound as u64, skip, s, steps) {
-            Ok((number, len)) => Ok((u128::from(number), len)),
-            Err(error) => Err(error),
-        }
+        let (number, len) = narrow_prefix::<E>(bound as u64, skip, s, steps)?;
+        Ok((u128::from(number), len))
     } else if T::BITS == 64 {
-        match E::prefix_64(bound as u64, limit_64::<T>(), skip, s, steps) {
-            Ok((number, len)) => Ok((u128::from(number), len)),
-            Err(error) => Err(error),
-        }
+        let (number, len) = E::prefix_64(bound as u64, limit_64::<T>(), skip, s, steps)?;
+        Ok((u128::from(number), len))
     } else {
-        prefix_128_inline::<E>(bound, skip, s, steps)
+        E::prefix_128(bound, skip, s, steps)
     }
 }

@@ -37,6 +37,12 @@ pub trait Number: Copy {
         ensures negative { IsTrue result.0 ↔ (number self <ℤ pos 0) }
         ensures in_range { result.1 ≤ bound_of int_type result.0 };
 
+    /// Returns the number with this sign and magnitude.
+    fn from_parts(minus: bool, magnitude: u128) -> Self
+        requires signed { minus ≡ true → SIGNED ≡ true }
+        requires in_range { magnitude ≤ bound_of int_type minus }
+        ensures { number result ≡ with_sign minus magnitude };
+
     ghost type_is: { IsTypeOf int_type BITS SIGNED GREATEST };
 
     ghost sized: { IsSized int_type };
@@ -79,22 +85,6 @@ pub(crate) fn limit_64<T: Number>() -> u32
     if T::SIGNED { 19 } else { 20 }
 }
 
-// Returns the number with this sign, without a branch on it.
-pub(crate) fn number_of<T: Signed>(minus: bool, magnitude: u128) -> T
-    requires { magnitude ≤ bound_of T.int_type minus }
-    ensures { T.number result ≡ with_sign minus magnitude }
-{
-    let negative = T::from_neg(magnitude);
-    if minus {
-        negative
-    } else if T::BITS <= 64 {
-        // The compiler would branch if the magnitude itself were used.
-        T::from_pos(negative.parts().1)
-    } else {
-        T::from_pos(magnitude)
-    }
-}
-
 impl Number for u8 {
     const BITS: u32 = 8;
 
@@ -118,6 +108,10 @@ impl Number for u8 {
 
     fn parts(self) -> (bool, u128) {
         (false, u128::from(self))
+    }
+
+    fn from_parts(_minus: bool, magnitude: u128) -> u8 {
+        magnitude as u8
     }
 
     ghost type_is = { record { bits_are = refl; sign_is = refl; greatest_is = refl } };
@@ -148,6 +142,16 @@ impl Number for i8 {
 
     fn parts(self) -> (bool, u128) {
         (self < 0, u128::from(self.unsigned_abs()))
+    }
+
+    fn from_parts(minus: bool, magnitude: u128) -> i8 {
+        // If a positive number came from the magnitude itself, the compiler would branch on the sign.
+        let negative = Self::from_neg(magnitude);
+        if minus {
+            negative
+        } else {
+            negative.unsigned_abs() as i8
+        }
     }
 
     ghost type_is = { record { bits_are = refl; sign_is = refl; greatest_is = refl } };
@@ -194,6 +198,10 @@ impl Number for u16 {
         (false, u128::from(self))
     }
 
+    fn from_parts(_minus: bool, magnitude: u128) -> u16 {
+        magnitude as u16
+    }
+
     ghost type_is = { record { bits_are = refl; sign_is = refl; greatest_is = refl } };
 
     ghost sized = { record { bits = refl; greatest = refl } };
@@ -222,6 +230,15 @@ impl Number for i16 {
 
     fn parts(self) -> (bool, u128) {
         (self < 0, u128::from(self.unsigned_abs()))
+    }
+
+    fn from_parts(minus: bool, magnitude: u128) -> i16 {
+        let negative = Self::from_neg(magnitude);
+        if minus {
+            negative
+        } else {
+            negative.unsigned_abs() as i16
+        }
     }
 
     ghost type_is = { record { bits_are = refl; sign_is = refl; greatest_is = refl } };
@@ -268,6 +285,10 @@ impl Number for u32 {
         (false, u128::from(self))
     }
 
+    fn from_parts(_minus: bool, magnitude: u128) -> u32 {
+        magnitude as u32
+    }
+
     ghost type_is = { record { bits_are = refl; sign_is = refl; greatest_is = refl } };
 
     ghost sized = { record { bits = refl; greatest = refl } };
@@ -296,6 +317,15 @@ impl Number for i32 {
 
     fn parts(self) -> (bool, u128) {
         (self < 0, u128::from(self.unsigned_abs()))
+    }
+
+    fn from_parts(minus: bool, magnitude: u128) -> i32 {
+        let negative = Self::from_neg(magnitude);
+        if minus {
+            negative
+        } else {
+            negative.unsigned_abs() as i32
+        }
     }
 
     ghost type_is = { record { bits_are = refl; sign_is = refl; greatest_is = refl } };
@@ -342,6 +372,10 @@ impl Number for u64 {
         (false, u128::from(self))
     }
 
+    fn from_parts(_minus: bool, magnitude: u128) -> u64 {
+        magnitude as u64
+    }
+
     ghost type_is = { record { bits_are = refl; sign_is = refl; greatest_is = refl } };
 
     ghost sized = { record { bits = refl; greatest = refl } };
@@ -370,6 +404,15 @@ impl Number for i64 {
 
     fn parts(self) -> (bool, u128) {
         (self < 0, u128::from(self.unsigned_abs()))
+    }
+
+    fn from_parts(minus: bool, magnitude: u128) -> i64 {
+        let negative = Self::from_neg(magnitude);
+        if minus {
+            negative
+        } else {
+            negative.unsigned_abs() as i64
+        }
     }
 
     ghost type_is = { record { bits_are = refl; sign_is = refl; greatest_is = refl } };
@@ -416,6 +459,10 @@ impl Number for u128 {
         (false, self)
     }
 
+    fn from_parts(_minus: bool, magnitude: u128) -> u128 {
+        magnitude
+    }
+
     ghost type_is = { record { bits_are = refl; sign_is = refl; greatest_is = refl } };
 
     ghost sized = { record { bits = refl; greatest = refl } };
@@ -444,6 +491,14 @@ impl Number for i128 {
 
     fn parts(self) -> (bool, u128) {
         (self < 0, self.unsigned_abs())
+    }
+
+    fn from_parts(minus: bool, magnitude: u128) -> i128 {
+        if minus {
+            Self::from_neg(magnitude)
+        } else {
+            magnitude as i128
+        }
     }
 
     ghost type_is = { record { bits_are = refl; sign_is = refl; greatest_is = refl } };
@@ -495,6 +550,10 @@ impl Number for usize {
         (false, self as u128)
     }
 
+    fn from_parts(_minus: bool, magnitude: u128) -> usize {
+        magnitude as usize
+    }
+
     ghost type_is = { record { bits_are = refl; sign_is = refl; greatest_is = refl } };
 
     ghost sized = { record { bits = refl; greatest = refl } };
@@ -523,6 +582,15 @@ impl Number for isize {
 
     fn parts(self) -> (bool, u128) {
         (self < 0, self.unsigned_abs() as u128)
+    }
+
+    fn from_parts(minus: bool, magnitude: u128) -> isize {
+        let negative = Self::from_neg(magnitude);
+        if minus {
+            negative
+        } else {
+            negative.unsigned_abs() as isize
+        }
     }
 
     ghost type_is = { record { bits_are = refl; sign_is = refl; greatest_is = refl } };

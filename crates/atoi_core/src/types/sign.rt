@@ -1,5 +1,5 @@
-//! Takes the sign and makes one core call for the body after it.
-ghost use Rattle.std.specs.Prelude.{◌≡◌, ◌+◌, ◌-◌, ◌≤◌, false, IfOk, length, drop};
+//! Takes the sign and makes one call of `whole` or `prefix` for the body after it.
+ghost use Rattle.std.specs.Prelude.{◌≡◌, ◌+◌, ◌-◌, ◌≤◌, true, IfOk, length, drop};
 ghost use Rattle.atoi_core.specs.Answer.{typed_answer, typed_prefix_answer, text_answer, text_prefix_answer};
 ghost use Rattle.atoi_core.specs.Loads.{TypedLoads};
 ghost use Rattle.atoi_core.specs.Magnitude.{whole, prefix};
@@ -8,8 +8,8 @@ ghost use Rattle.atoi_core.specs.Sign.{sign_of};
 use crate::engine::Engine;
 use crate::engine::steps::Steps;
 use crate::error::AtoiSimdError;
-use crate::types::core_calls::{prefix_of, prefix_pos, whole_of, whole_pos};
-use crate::types::number::{Number, Signed};
+use crate::types::core_calls::{prefix, whole};
+use crate::types::number::Number;
 
 /// Consumes a `+` if `skip_plus` is on, or a `-` if `signed` is on. Returns whether it was a `-`, and
 /// the body after it.
@@ -18,6 +18,7 @@ pub fn take_sign(signed: bool, skip_plus: bool, s: &[u8]) -> (bool, &[u8])
     ensures minus { result.0 ≡ (sign_of signed skip_plus s.now).minus }
     ensures body { result.1.now ≡ (sign_of signed skip_plus s.now).body }
     ensures taken { length result.1.now + (sign_of signed skip_plus s.now).taken ≡ length s.now }
+    ensures minus_if_signed { result.0 ≡ true → signed ≡ true }
 {
     if !signed && !skip_plus {
         return (false, s);
@@ -47,7 +48,7 @@ fn without_first(s: &[u8]) -> &[u8]
 /// Parses all of `s` as at most one sign and digits. Returns the errors of `whole_pos` for the
 /// body, or of `whole_neg` after a `-`.
 #[inline(always)]
-pub fn parse_signed<'a, E: Engine, T: Signed>(
+pub fn parse_text<'a, E: Engine, T: Number>(
     skip: bool,
     skip_plus: bool,
     s: &'a [u8],
@@ -57,32 +58,14 @@ pub fn parse_signed<'a, E: Engine, T: Signed>(
     ensures loads { TypedLoads E.table T.int_type whole skip (sign_of T.SIGNED skip_plus s.now).body
         steps.old steps.new }
 {
-    let (minus, body) = take_sign(true, skip_plus, s);
-    whole_of::<E, T>(minus, skip, body, steps)
-}
-
-/// Parses all of `s` as an optional `+`, if `skip_plus` is on, and digits. Returns the errors of
-/// `whole_pos` for the body.
-#[inline(always)]
-pub fn parse_unsigned<'a, E: Engine, T: Number>(
-    skip: bool,
-    skip_plus: bool,
-    s: &'a [u8],
-    steps: &mut Steps,
-) -> Result<T, AtoiSimdError<'a>>
-    requires unsigned { T.SIGNED ≡ false }
-    ensures answer { typed_answer T.number result ≡ text_answer E.table T.int_type skip skip_plus s.now }
-    ensures loads { TypedLoads E.table T.int_type whole skip (sign_of T.SIGNED skip_plus s.now).body
-        steps.old steps.new }
-{
-    let (_, body) = take_sign(false, skip_plus, s);
-    whole_pos::<E, T>(skip, body, steps)
+    let (minus, body) = take_sign(T::SIGNED, skip_plus, s);
+    whole::<E, T>(minus, skip, body, steps)
 }
 
 /// Parses the number at the start of `s`, and returns it with its length, the sign included. Returns the
 /// errors of `prefix_pos` for the body, or of `prefix_neg` after a `-`.
 #[inline(always)]
-pub fn parse_prefix_signed<'a, E: Engine, T: Signed>(
+pub fn parse_prefix_text<'a, E: Engine, T: Number>(
     skip: bool,
     skip_plus: bool,
     s: &'a [u8],
@@ -94,36 +77,7 @@ pub fn parse_prefix_signed<'a, E: Engine, T: Signed>(
     ensures loads { TypedLoads E.table T.int_type prefix skip (sign_of T.SIGNED skip_plus s.now).body
         steps.old steps.new }
 {
-    let (minus, body) = take_sign(true, skip_plus, s);
-    let found = prefix_of::<E, T>(minus, skip, body, steps)?;
-    Ok(count_sign(found, body, s))
-}
-
-/// `parse_prefix_signed` for an unsigned type, which accepts no `-`. Returns the errors of `prefix_pos` for the body.
-#[inline(always)]
-pub fn parse_prefix_unsigned<'a, E: Engine, T: Number>(
-    skip: bool,
-    skip_plus: bool,
-    s: &'a [u8],
-    steps: &mut Steps,
-) -> Result<(T, usize), AtoiSimdError<'a>>
-    requires unsigned { T.SIGNED ≡ false }
-    ensures answer { typed_prefix_answer T.number result
-        ≡ text_prefix_answer E.table T.int_type skip skip_plus s.now }
-    ensures within { IfOk result (λ found. found.1 ≤ length s.now) }
-    ensures loads { TypedLoads E.table T.int_type prefix skip (sign_of T.SIGNED skip_plus s.now).body
-        steps.old steps.new }
-{
-    let (_, body) = take_sign(false, skip_plus, s);
-    let found = prefix_pos::<E, T>(skip, body, steps)?;
-    Ok(count_sign(found, body, s))
-}
-
-// Adds the bytes of `s` before `body` to the length.
-fn count_sign<T>(found: (T, usize), body: &[u8], s: &[u8]) -> (T, usize)
-    requires inside { found.1 ≤ length body.now }
-    requires shorter { length body.now ≤ length s.now }
-    ensures { result ≡ (found.0, found.1 + (length s.now - length body.now)) }
-{
-    (found.0, found.1 + (s.len() - body.len()))
+    let (minus, body) = take_sign(T::SIGNED, skip_plus, s);
+    let (number, len) = prefix::<E, T>(minus, skip, body, steps)?;
+    Ok((number, len + (s.len() - body.len())))
 }

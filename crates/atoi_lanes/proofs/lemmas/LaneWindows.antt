@@ -1,80 +1,86 @@
 -- The lanes of a slice, and the windows and readings that they show.
-use Rattle.std.proofs.Common.{◌≡◌, ℕ, ◌+◌, ◌<◌, List, ◌++◌, get_or, length, take, drop, replicate, min, ◌-◌, refl, sym, ap, ◌∙◌, arith, ◌≤◌}
+use Rattle.std.proofs.Common.{◌≡◌, ℕ, ◌+◌, ◌-◌, ◌*◌, ◌^◌, ◌≤◌, List, [], ◌∷◌, ◌++◌, length, take, drop, replicate, get_or, min, Fits, w8, lit<, inl, inr, sym, ap, refl, ◌∙◌, arith}
+use Rattle.std.specs.List.{range_with_len}
 use Rattle.std.proofs.Math.Nat.{min_comm}
-use Rattle.std.proofs.lemmas.Bool.{ne_eqb}
-use Rattle.std.proofs.lemmas.List.{take_all, take_at, take_min, take_rest, length-drop, length-take, drop-drop, take-append-le, take-take}
+use Rattle.std.proofs.lemmas.Bool.{cases_lt}
+use Rattle.std.proofs.lemmas.List.{take_all, take_min, length-append, length-drop, length-replicate, length-take, length-take-le, take-append-le, take-take}
+use Rattle.std.proofs.lemmas.List.Sums.{prefix_len-le-length}
+use Rattle.std.proofs.lemmas.Simd.{Each1-chunk, Each1-from_get_or, Each1-replicate, pick_l_left, pick_l-range_with_len}
 use Rattle.atoi_core.specs.Digit.{decimal_table, is_digit, is_zero}
 use Rattle.atoi_core.specs.Reading.{Reading, window_of}
 use Rattle.atoi_core.specs.Run.{run_len, run, zeros, value}
-use Rattle.atoi_core.specs.Words.{low_bytes, word_of}
-use Rattle.atoi_core.specs.declared.engine.window.Window.{Window}
-use Rattle.atoi_core.proofs.lemmas.LoadedWords.{digits-of_bytes, loaded_run, prefix_len-padded}
-use Rattle.atoi_core.proofs.lemmas.Runs.{prefix_len-drop, prefix_len-take}
+use Rattle.atoi_core.proofs.lemmas.LoadedWords.{prefix_len-padded}
+use Rattle.atoi_core.proofs.lemmas.Runs.{prefix_len-drop, prefix_len-take, value-take-add}
 use Rattle.atoi_lanes.specs.Lanes.{lane_window, padded_start}
-use lib.Lanes.{Each1, digits_l}
-use Rattle.std.proofs.lemmas.List.Sums.{prefix_len-le-length}
+use lib.Lanes.{Each1, pick_l}
 
--- The lanes of a word: its bytes, padded with zeros.
-pub lanes-of_bytes : (m : ℕ) (xs : List ℕ) → Each1 (λ x. x < 256) xs → 16 ≤ length xs + m → digits_l 256 16 (word_of xs) ≡ take 16 (xs ++ replicate m 0)
-unfolding word_of
-lanes-of_bytes m xs h room = digits-of_bytes 16 m xs h room
+each-append : (xs ys : List ℕ) → Each1 (Fits w8) xs → Each1 (Fits w8) ys → Each1 (Fits w8) (xs ++ ys)
+each-append [] ys h k = k
+each-append (x ∷ xs) ys h k = (h.0, each-append xs ys h.1 k)
 
--- The first lanes of a slice are its first bytes.
-pub first_lanes : (n : ℕ) (s : List ℕ) → n ≤ 16 → n ≤ length s → take n (padded_start 16 s) ≡ take n s
-first_lanes n s few enough = search (arith, take-take, take-append-le)
+-- Lanes of 0 after a slice change nothing.
+module _ (n : ℕ) (s : List ℕ) where
+  pub length_padded : length (padded_start n s) ≡ n
+  length_padded = length-take-le n (s ++ replicate n 0) (omega (arith, length-append s (replicate n 0), length-replicate {A = ℕ} n 0))
 
--- Lanes of 0 after them change nothing.
-module _ (s : List ℕ) where
-  pub digits_shown : run_len decimal_table (padded_start 16 s) ≡ run_len decimal_table (take 16 s)
-  digits_shown = prefix_len-padded (is_digit decimal_table) refl 16 16 s
+  pub padded_fits : ((i : ℕ) → Fits w8 (get_or s i 0)) → Each1 (Fits w8) (padded_start n s)
+  padded_fits fits =
+      Each1-chunk (Fits w8) 0 n _ (each-append s (replicate n 0) (Each1-from_get_or (Fits w8) s 0 (λ i _. fits i)) (Each1-replicate (Fits w8) n 0 (record { fits = lit< tt })))
 
-  zeros_shown : zeros decimal_table (padded_start 16 s) ≡ zeros decimal_table (take 16 s)
-  zeros_shown = prefix_len-padded (is_zero decimal_table) refl 16 16 s
+  digits_shown : run_len decimal_table (padded_start n s) ≡ run_len decimal_table (take n s)
+  digits_shown = prefix_len-padded (is_digit decimal_table) refl n n s
 
-  run_shown : run decimal_table (padded_start 16 s) ≡ run decimal_table (take 16 s)
+  zeros_shown : zeros decimal_table (padded_start n s) ≡ zeros decimal_table (take n s)
+  zeros_shown = prefix_len-padded (is_zero decimal_table) refl n n s
+
+  run_shown : run decimal_table (padded_start n s) ≡ run decimal_table (take n s)
   run_shown =
-      let len = run_len decimal_table (take 16 s) in
-      let most : len ≤ min 16 (length s) = omega (arith, prefix_len-le-length (is_digit decimal_table) (take 16 s), length-take 16 s) in
-      ap (λ n. take n (padded_start 16 s)) digits_shown ∙ first_lanes len s (omega arith) (omega arith) ∙ sym (take-take len 16 s (omega arith))
+      let len = run_len decimal_table (take n s) in
+      let most : len ≤ min n (length s) = omega (arith, prefix_len-le-length (is_digit decimal_table) (take n s), length-take n s) in
+      ap (λ k. take k (padded_start n s)) digits_shown ∙ search (arith, take-take, take-append-le, most)
 
-  lanes_show : (size : ℕ) → lane_window size (padded_start 16 s) ≡ lane_window size (take 16 s)
+  lanes_show : (size : ℕ) → lane_window size (padded_start n s) ≡ lane_window size (take n s)
   lanes_show size = cc (digits_shown, zeros_shown, run_shown)
 
-  pub window_of_lanes : lane_window 16 (padded_start 16 s) ≡ window_of decimal_table 16 s
-  window_of_lanes = lanes_show 16
+  pub reading_of_lanes : Reading decimal_table n s (run_len decimal_table (padded_start n s)) (zeros decimal_table (padded_start n s)) (value decimal_table (run decimal_table (padded_start n s)))
+  reading_of_lanes = record { digits_are = digits_shown; leading_are = zeros_shown; number_is = ap (value decimal_table) run_shown }
 
--- The word of eight bytes has a run that ends in them.
-module _ (s : List ℕ) (fits : (i : ℕ) → get_or s i 0 < 256) (word : ℕ) (loaded : word ≡ word_of (take 8 s)) where
-  pub few_counted : run_len decimal_table (padded_start 16 s) ≤ 8 → run_len decimal_table (padded_start 16 s) ≡ run_len decimal_table (low_bytes 8 word)
-  few_counted few =
-      let digit = is_digit decimal_table in
-      omega (arith, digits_shown s, prefix_len-take digit 16 s, prefix_len-take digit 8 s, loaded_run 8 s fits word loaded)
-
--- Fewer than 16 bytes that are all digits.
-pub window_of_all : (s : List ℕ) → length s < 16 → run_len decimal_table s ≡ length s → (number : ℕ) → number ≡ value decimal_table s
-    → ◌≡◌ {A = Window} (record { len = length s; zeroes = 0; number = number }) (window_of decimal_table 16 s)
-window_of_all s few all number is = search (arith, take_all, ne_eqb)
-
--- The last 16 of 16 to 31 bytes, the first 16 of which are digits: what they count, and those after the first 16.
-pub last_shown : (s lanes : List ℕ) → 16 ≤ run_len decimal_table s → length s < 32 → lanes ≡ padded_start 16 (take (length s - (length s - 16)) (drop (length s - 16) s))
-    → (run_len decimal_table s ≡ length s - 16 + run_len decimal_table lanes) × (drop (16 - (length s - 16)) lanes ≡ drop 16 s)
-last_shown s lanes full few are =
-    let last = drop (length s - 16) s in
-    let enough : 16 ≤ length s = omega (arith, full, prefix_len-le-length (is_digit decimal_table) s) in
-    let long : length last ≡ 16 = length-drop (length s - 16) s ∙ omega (arith, enough) in
-    let same : lanes ≡ last = are ∙ ap (padded_start 16) (take_rest s (length s - 16)) ∙ take_at last (replicate 16 0) 16 long in
-    let place : length s - 16 + (16 - (length s - 16)) ≡ 16 = omega (arith, enough) in (
-      prefix_len-drop (is_digit decimal_table) (length s - 16) s (omega arith) ∙ ap (λ l. length s - 16 + run_len decimal_table l) (sym same),
-      ap (drop (16 - (length s - 16))) same ∙ drop-drop (16 - (length s - 16)) (length s - 16) s ∙ ap (λ n. drop n s) place,
-    )
+pub window_of_lanes : (s : List ℕ) → lane_window 16 (padded_start 16 s) ≡ window_of decimal_table 16 s
+window_of_lanes s = lanes_show 16 s 16
 
 -- At most eight bytes.
 pub window_of_half : (n : ℕ) (s : List ℕ) → n ≡ min (length s) 8 → lane_window 8 (padded_start 16 (take n s)) ≡ window_of decimal_table 8 s
 window_of_half n s is =
     ap (λ l. lane_window 8 (padded_start 16 l)) (ap (λ k. take k s) (is ∙ min_comm (length s) 8) ∙ take_min 8 s)
-    ∙ lanes_show (take 8 s) 8 ∙ ap (lane_window 8) (take_all 16 (take 8 s) (omega (arith, length-take 8 s)))
+    ∙ lanes_show 16 (take 8 s) 8 ∙ ap (lane_window 8) (take_all 16 (take 8 s) (omega (arith, length-take 8 s)))
 
--- The lanes of 16 bytes give a reading of these.
-pub reading_of_lanes : (s lanes : List ℕ) (len number : ℕ) → lanes ≡ padded_start 16 s → len ≡ run_len decimal_table lanes
-    → number ≡ value decimal_table (take len lanes) → Reading decimal_table 16 s len (zeros decimal_table lanes) number
-reading_of_lanes s lanes len number loaded digits writes = search (arith, digits_shown, zeros_shown, run_shown)
+-- The lanes that `extract` takes of 32.
+module _ (v : List ℕ) (long : length v ≡ 32) where
+  pub first_half : pick_l 0 (v ++ v) (range_with_len 0 16) ≡ take 16 v
+  first_half = pick_l_left 0 v v 32 (range_with_len 0 16) long tt ∙ pick_l-range_with_len 0 v 0 16 (omega (arith, long))
+
+  pub second_half : pick_l 0 (v ++ v) (range_with_len 16 16) ≡ drop 16 v
+  second_half =
+      pick_l_left 0 v v 32 (range_with_len 16 16) long tt ∙ pick_l-range_with_len 0 v 16 16 (omega (arith, long))
+      ∙ take_all 16 (drop 16 v) (omega (arith, long, length-drop 16 v))
+
+-- A run of n digits, of which the first 16 are in one half and the others in the next.
+module _ (n : ℕ) (v : List ℕ) (digits : n ≤ run_len decimal_table v) where
+  pub halves_run : (n - (n - 16) ≤ run_len decimal_table (take 16 v)) × (n - 16 ≤ run_len decimal_table (drop 16 v))
+  halves_run =
+      let first : n - (n - 16) ≤ run_len decimal_table (take 16 v) = omega (arith, prefix_len-take (is_digit decimal_table) 16 v) in
+      (first, elim (cases_lt n 16) [ inl few ↦ omega arith | inr many ↦ omega (arith, prefix_len-drop (is_digit decimal_table) 16 v (omega arith)) ])
+
+  pub halves_value : value decimal_table (take (n - (n - 16)) (take 16 v)) * 10 ^ (n - 16) + value decimal_table (take (n - 16) (drop 16 v)) ≡ value decimal_table (take n v)
+  halves_value =
+      let room : n ≤ length v = omega (arith, prefix_len-le-length (is_digit decimal_table) v) in
+      elim (cases_lt n 16) [
+        | inl few ↦
+            let none : n - 16 ≡ 0 = omega arith in
+            let all : n - 0 ≡ n = omega arith in
+            rw (none, all, take-take n 16 v (omega arith)) (omega arith)
+        | inr many ↦
+            let first : n - (n - 16) ≡ 16 = omega arith in
+            let both : 16 + (n - 16) ≡ n = omega arith in
+            rw (first, take-take 16 16 v (omega arith)) (sym (value-take-add decimal_table 16 (n - 16) v (omega arith)) ∙ ap (λ k. value decimal_table (take k v)) both)
+      ]

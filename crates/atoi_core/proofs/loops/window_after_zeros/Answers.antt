@@ -16,6 +16,6 @@ loop-window-preserved g c = (
 
 pub returns-then-window-eq0-clause-offset : goal.returns-then-window-eq0-clause-offset
 returns-then-window-eq0-clause-offset g c =
-    let after_skip = Skipped-end g.met.E.Engine.below_ten {next = c.window-window.new.steps + 1}
+    let after_skip = Skipped-end g.met.E.Engine.below_ten {before = c.args.steps.now} {next = c.window-window.new.steps + 1}
     c.loop-window.invariant.0 c.window-window.ensures.window (omega arith) (inr (refl, c.if-window-eq0.true)) in
     sym (dropped_is true 0 after_skip)

@@ -13,16 +13,16 @@ use Rattle.atoi_core.proofs.narrow.narrow_prefix.Goals.{After-answer_at, else-wi
 pub returns-then-window-eq0-clause-answer : goal.returns-then-window-eq0-clause-answer
 returns-then-window-eq0-clause-answer g c =
     let after_skip = Skipped-first g.met.E.Engine.below_ten c.args.skip c.args.s.now
-    c.first_window-window.ensures.window c.first_window-window.ensures.one_step (omega arith) in
+    c.window-window.ensures.window c.window-window.ensures.one_step (omega arith) in
     answers_empty _ _ _ after_skip (omega arith)
 
 -- The first window has all digits, or a second one is loaded and has none.
 second : (g : _) (c : After-answer_at g) →
-    (c.else-window-eq16.steps ≡ c.first_window-window.new.steps + (if c.args.skip || nat_lt (run_len g.E.Engine.table c.args.s.now) 16 then 0 else 1))
+    (c.else-window-eq16.steps ≡ c.window-window.new.steps + (if c.args.skip || nat_lt (run_len g.E.Engine.table c.args.s.now) 16 then 0 else 1))
     × (c.args.skip ≡ false → run_len g.E.Engine.table c.args.s.now ≤ 16)
 second g c =
-    let seen : c.first_window-window.result.len ≡ min 16 (run_len g.E.Engine.table c.args.s.now) =
-    ap (λ (w : Window). w.len) c.first_window-window.ensures.window ∙ prefix_len-take (is_digit g.E.Engine.table) 16 c.args.s.now in
+    let seen : c.window-window.result.len ≡ min 16 (run_len g.E.Engine.table c.args.s.now) =
+    ap (λ (w : Window). w.len) c.window-window.ensures.window ∙ prefix_len-take (is_digit g.E.Engine.table) 16 c.args.s.now in
     elim c.else-window-eq16.branch [
       | else-window-eq16-via-then-window-eq16+else-is_too_long w ↦
           (grind (arith, nat_tests, w.steps-is, w.is_too_long.ensures.loads, w.if-window-eq16.true), λ off. grind (arith, nat_tests, w.if-is_too_long.ensures.answer, off))
@@ -32,10 +32,10 @@ second g c =
 
 -- What holds after the window.
 last : (g : _) (c : After-answer_at g)
-    → Skipped g.E.Engine.table c.args.skip c.args.s.now 0 c.args.steps.now c.first_window-window.new.steps c.first_window-window.result
+    → Skipped g.E.Engine.table c.args.skip c.args.s.now 0 c.args.steps.now c.window-window.new.steps c.window-window.result
 last g c =
     Skipped-at_once g.met.E.Engine.below_ten c.args.skip c.args.s.now
-    c.first_window-window.ensures.window c.first_window-window.ensures.one_step
+    c.window-window.ensures.window c.window-window.ensures.one_step
     (elim c.else-skip.either [ inl h ↦ inr (h.0, omega (arith, h.1)) | inr h ↦ inl h ])
 
 pub returns-else-window-eq16-clause-answer : goal.returns-else-window-eq16-clause-answer
@@ -43,7 +43,7 @@ returns-else-window-eq16-clause-answer g c =
     c.answer_at.ensures ∙ narrow_after_skip (last g c) (second g c).1 _ _ c.requires.high (omega arith)
 
 pub returns-else-window-eq16-clause-loads : goal.returns-else-window-eq16-clause-loads
-returns-else-window-eq16-clause-loads g c = Skipped-one c.args.skip (last g c) c.first_window-window.ensures.one_step (second g c).0
+returns-else-window-eq16-clause-loads g c = Skipped-one c.args.skip (last g c) c.window-window.ensures.one_step (second g c).0
 
 pub returns-else-window-eq16-clause-unskipped : goal.returns-else-window-eq16-clause-unskipped
-returns-else-window-eq16-clause-unskipped g c = λ off. grind (arith, nat_tests, (second g c).0, c.first_window-window.ensures.one_step, off)
+returns-else-window-eq16-clause-unskipped g c = λ off. grind (arith, nat_tests, (second g c).0, c.window-window.ensures.one_step, off)

@@ -1,5 +1,5 @@
-use Rattle.atoi_lanes.proofs.lemmas.DigitLanes.{moved_values}
+use Rattle.atoi_lanes.proofs.lemmas.LaneSums.{lanes_sum}
 use Rattle.atoi_lanes.proofs.kernels.sum_lanes.Goals as goal
 
-pub number_in_lanes-requires : goal.number_in_lanes-requires
-number_in_lanes-requires c = (moved_values c.args.len c.args.v _ c.requires.within c.fits-v.0 c.requires.digits c.shuffle.ensures).1
+pub returns : goal.returns
+returns c = lanes_sum c.args.v c.args.len c.fits-v.0 c.requires.within c.requires.digits

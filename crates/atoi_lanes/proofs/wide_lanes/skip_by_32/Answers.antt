@@ -1,52 +1,36 @@
--- Only the last window can begin with fewer than 32 zeros.
-use Rattle.std.proofs.Common.{◌<◌, ◌≤◌, ◌∙◌, arith, inl, inr}
-use Rattle.std.proofs.lemmas.List.{length-drop, take_rest}
-use Rattle.std.proofs.lemmas.List.Sums.{prefix_len-le-length}
-use Rattle.atoi_core.proofs.lemmas.Readings.{zeros_left, within}
-use Rattle.atoi_core.specs.Digit.{decimal_table, is_zero}
-use Rattle.atoi_core.specs.Run.{zeros}
+-- `Skipping` holds throughout, and each way out of the loop leaves no zeros to skip in a full window.
+use Rattle.std.proofs.Common.{◌∙◌, sym, arith}
+use Rattle.std.proofs.lemmas.Bool.{false≢true}
+use Rattle.atoi_lanes.proofs.lemmas.Skipping.{Skipping-none, Skipping-inside, Skipping-next, Skipping-reached, Skipping-loads}
 use Rattle.atoi_lanes.proofs.wide_lanes.skip_by_32.Goals as goal
 
 pub loop-window-init : goal.loop-window-init
-loop-window-init c =
-    let first = c.requires.first_window ∙ zeros_left decimal_table 32 c.args.s.now 0 (omega arith) in
-    record {
-      within = omega (arith, first, prefix_len-le-length (is_zero decimal_table) c.args.s.now);
-      loads = omega (arith, first);
-      zeros_left = omega (arith, first);
-    }
+loop-window-init c = Skipping-none _ _ _ _ c.window_32-window.ensures.reading
+
+pub slice_bounds-window_32-count : goal.slice_bounds-window_32-count
+slice_bounds-window_32-count c = Skipping-inside c.loop-window.invariant
+
+pub slice_bounds-window_32-start : goal.slice_bounds-window_32-start
+slice_bounds-window_32-start c = Skipping-inside c.loop-window.invariant
 
 pub loop-window-preserved : goal.loop-window-preserved
 loop-window-preserved c =
-    let w = c.window_32-window in
-    let skipped : c.loop-window.at ≤ zeros decimal_table c.args.s.now = omega (arith, c.loop-window.invariant.loads) in
-    let left = (rw take_rest at w.ensures.reading).leading_are ∙ zeros_left decimal_table 32 c.args.s.now c.loop-window.at skipped in
-    record {
-      within = omega (arith, left, c.loop-window.invariant.loads, prefix_len-le-length (is_zero decimal_table) c.args.s.now);
-      loads = omega (arith, left, c.loop-window.invariant.loads, w.ensures.one_step);
-      zeros_left = omega (arith, left, c.loop-window.invariant.loads, w.ensures.one_step);
-    }
+    let next = c.window_32-window-in-loop-window in
+    Skipping-next c.loop-window.invariant next.result next.new.steps c.loop-window-test.true c.if-window-gt0.true next.ensures.one_step next.ensures.reading
 
-pub returns-then-window-eq0-clause-reached : goal.returns-then-window-eq0-clause-reached
-returns-then-window-eq0-clause-reached c =
-    let s = c.args.s.now in
-    let w = c.window_32-window.result in
-    let reading = rw take_rest at c.window_32-window.ensures.reading in
-    let most = within reading in
-    let skipped : c.loop-window.at ≤ zeros decimal_table s = omega (arith, c.loop-window.invariant.loads) in
-    record {
-      skipped = record { zeros_only = skipped; asked = λ off. absurd (cc) };
-      reading = reading;
-      within = omega (arith, skipped, prefix_len-le-length (is_zero decimal_table) s, most, length-drop c.loop-window.at s);
-      ends = λ _ full. elim c.then-window-eq0.either [ inl none ↦ none | inr short ↦ absurd (omega arith) ];
-    }
+pub returns-else-window-gt0-clause-reached : goal.returns-else-window-gt0-clause-reached
+returns-else-window-gt0-clause-reached c = Skipping-reached c.loop-window.invariant (λ _ _. omega (arith, c.if-window-gt0.false))
 
-pub returns-then-window-eq0-clause-least : goal.returns-then-window-eq0-clause-least
-returns-then-window-eq0-clause-least c =
-    let w = c.window_32-window.result in
-    let skipped : c.loop-window.at ≤ zeros decimal_table c.args.s.now = omega (arith, c.loop-window.invariant.loads) in
-    let reading = rw take_rest at c.window_32-window.ensures.reading in
-    let left = reading.leading_are ∙ zeros_left decimal_table 32 c.args.s.now c.loop-window.at skipped in
-    let most = within reading in
-    let few : w.zeroes < 32 = elim c.then-window-eq0.either [ inl none ↦ omega (arith, none) | inr short ↦ omega (arith, most.0, short) ] in
-    omega (arith, left, few, c.loop-window.invariant.loads, c.window_32-window.ensures.one_step)
+pub returns-else-window-gt0-clause-loads : goal.returns-else-window-gt0-clause-loads
+returns-else-window-gt0-clause-loads c =
+    Skipping-loads c.loop-window.invariant (λ _ _. omega (arith, c.if-window-gt0.false)) c.args.steps.now c.window_32-window.ensures.one_step
+
+pub returns-else-window-eq32-clause-reached : goal.returns-else-window-eq32-clause-reached
+returns-else-window-eq32-clause-reached c = Skipping-reached c.loop-window.invariant (λ _ full. absurd (c.if-window-eq32.false full))
+
+pub returns-else-window-eq32-clause-loads : goal.returns-else-window-eq32-clause-loads
+returns-else-window-eq32-clause-loads c =
+    Skipping-loads c.loop-window.invariant (λ _ full. absurd (c.if-window-eq32.false full)) c.args.steps.now c.window_32-window.ensures.one_step
+
+pub returns-after-loop-window-clause-reached : goal.returns-after-loop-window-clause-reached
+returns-after-loop-window-clause-reached c = Skipping-reached c.loop-window.invariant (λ on. absurd (false≢true (sym c.loop-window-test.false ∙ on)))

@@ -1,15 +1,10 @@
--- One load for 32 zeros each before `at`, and one for fewer; the first window's load counts.
-use Rattle.std.proofs.Common.{◌≡◌, ◌+◌, ◌-◌, ◌*◌, ◌<◌, ◌≤◌, min, length}
-use Rattle.atoi_core.specs.Digit.{decimal_table}
-use Rattle.atoi_core.specs.Run.{zeros}
+-- The loads before the loop are those of the caller and one.
+use Rattle.std.proofs.Common.{◌-◌, length}
+use Rattle.atoi_lanes.proofs.lemmas.Skipping.{Skipping}
 use Rattle.atoi_lanes.proofs.wide_lanes.skip_by_32.Given as goal
 
 abbrev pub invariant-loop-window : goal.invariant-loop-window
-invariant-loop-window l = record {
-  within : l.at ≤ length l.s;
-  loads : l.at + 32 * l.initial.steps ≡ min (zeros decimal_table l.s + 32 * l.initial.steps) (32 * (l.steps + 1));
-  zeros_left : 32 * l.steps < zeros decimal_table l.s + 32 * l.initial.steps;
-}
+invariant-loop-window l = Skipping l.skip l.s l.at l.window l.initial.steps l.steps
 
 abbrev pub decreases-loop-window : goal.decreases-loop-window
 decreases-loop-window l = length l.s - l.at

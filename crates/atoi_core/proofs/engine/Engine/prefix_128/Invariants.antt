@@ -1,9 +1,13 @@
-use Rattle.std.proofs.Common.{length, ◌-◌}
+-- The window at `at` is loaded.
+use Rattle.std.proofs.Common.{◌≡◌, length, take, drop, ◌-◌}
+use Rattle.atoi_core.specs.Reading.{window_of}
 use Rattle.atoi_core.proofs.lemmas.Windows.{Skipping}
 use Rattle.atoi_core.proofs.engine.Engine.prefix_128.Given as goal
 
-abbrev pub invariant-loop-window : goal.invariant-loop-window
-invariant-loop-window g l = Skipping g.Self.Engine.table l.skip l.s l.skipped l.initial.steps l.steps
+abbrev pub invariant-loop-first : goal.invariant-loop-first
+invariant-loop-first g l =
+    Skipping g.Self.Engine.table l.skip l.s l.skipped l.initial.steps l.steps
+    × (l.first ≡ window_of g.Self.Engine.table 16 (take (length l.s - l.skipped) (drop l.skipped l.s)))
 
-abbrev pub decreases-loop-window : goal.decreases-loop-window
-decreases-loop-window g l = length l.s - l.skipped
+abbrev pub decreases-loop-first : goal.decreases-loop-first
+decreases-loop-first g l = length l.s - l.skipped

@@ -1,0 +1,14 @@
+pub mod WordRuns
+pub mod LoadedWords
+pub mod WordWindows
+pub mod Unskipped
+pub mod After16
+pub mod FullWindows
+pub mod Shuffles
+pub mod Ends
+pub mod Masks
+pub mod JoinedDigits
+pub mod DigitLanes
+pub mod ShortLanes
+pub mod LaneWindows
+pub mod VectorAnswers
