@@ -8,9 +8,9 @@ use torkettle_common::arguments::Given;
 pub struct Arguments {
     pub work: Work,
     pub seed: u64,
-    /// Which processor our library is built for, if one is named.
+    /// Which processor the package is built for, if one is named.
     pub cpu: Option<String>,
-    /// Whether lanes of the Cargo package are timed too.
+    /// Whether lanes of the package are timed too.
     pub has_lanes: bool,
     /// Whether the times on input lists are printed in Markdown too.
     pub is_markdown: bool,
@@ -20,8 +20,17 @@ pub struct Arguments {
     pub passes: usize,
     /// What the names of the timed input lists, columns and formats have in them.
     pub only: Option<String>,
-    /// The commit whose library is timed or counted too.
-    pub against: Option<String>,
+    /// The package that is timed or counted beside that of this checkout, in place of other libraries.
+    pub against: Option<Against>,
+}
+
+/// Another package than that of this checkout.
+#[derive(Clone, PartialEq, Eq, Debug)]
+pub enum Against {
+    /// The package of a commit.
+    Commit(String),
+    /// The package of this checkout, with the engine `Words` in place of the tuned one.
+    Words,
 }
 
 /// What is done.
@@ -29,8 +38,6 @@ pub struct Arguments {
 pub enum Work {
     /// Everything is timed.
     Everything,
-    /// The exports of the kit's build are timed.
-    Exports,
     /// The calls inlined in Rust are timed.
     Inlined,
     /// The calls from C and C++ are timed.
@@ -41,12 +48,8 @@ pub enum Work {
 
 impl Work {
     // Arguments that ask for a part of it.
-    const PARTS: [(&str, Work); 4] = [
-        ("--exports-only", Work::Exports),
-        ("--inlined-only", Work::Inlined),
-        ("--c-only", Work::C),
-        ("--count", Work::Count),
-    ];
+    const PARTS: [(&str, Work); 3] =
+        [("--inlined-only", Work::Inlined), ("--c-only", Work::C), ("--count", Work::Count)];
 
     /// Whether this is a part of it.
     pub fn includes(self, part: Work) -> bool {
@@ -58,31 +61,40 @@ impl Work {
 pub const USAGE: &str = "\
 cargo run --release -- [ARGUMENT..]
   (no argument)       time everything
-  --exports-only      only time the kit's build and other libraries, called through exports
   --inlined-only      only time the Cargo package and other libraries, inlined in Rust
   --c-only            only time the C library and std::from_chars, called from C and C++
-  --count             only count instructions, of the kit's build and of other libraries or --against
-  --against COMMIT    only time the kit's build, or with --inlined-only the package, and the same of a commit, in loops
+  --count             only count instructions, of the package and of other libraries, --against or --words
+  --against COMMIT    only time the package and that of a commit, inlined in Rust
+  --words             only time the package and the same with the engine Words, inlined in Rust
   --lanes             time lanes of the package too
   --only TEXT         time only what has TEXT in its line, as 'parse u64 -- 16' or 'column u64'
   --markdown          print the times of input lists once more, as a table in Markdown
-  --cpu CPU           build our library for a processor (x86-64-v2; inlined in Rust x86-64 and x86-64-v3)
+  --cpu CPU           build the package for a processor (x86-64 and x86-64-v3)
   --passes N          how often everything is timed (5, at least 3)
   --seed N            which random numbers are taken (1)
   --original FOLDER   take the original from FOLDER or FOLDER/atoi_simd, and not from crates.io
-                      (the value of TORKETTLE_ORIGINAL)
-Without the kit, the Cargo package and the C library are timed alone.";
+                      (the value of TORKETTLE_ORIGINAL)";
+
+// The processors that the package is built for if none is named. The original uses AVX2 at the second.
+const PROCESSORS: [&str; 2] = ["x86-64", "x86-64-v3"];
 
 impl Arguments {
     /// Reads the arguments. An error says what is wrong with them.
     pub fn read(words: &[String]) -> Result<Arguments, String> {
         let given = Given::read(USAGE, words)?;
-        let against: Option<String> = given.value("--against")?;
+        let against = match (given.value("--against")?, given.has("--words")) {
+            (Some(_), true) => return Err("--against excludes --words".into()),
+            (Some(commit), false) => Some(Against::Commit(commit)),
+            (None, true) => Some(Against::Words),
+            (None, false) => None,
+        };
         let parts = Work::PARTS.into_iter().filter(|(name, _)| given.has(name));
         let work = match (&parts.collect::<Vec<_>>()[..], &against) {
             ([], None) => Work::Everything,
-            ([], Some(_)) => Work::Exports,
-            ([(_, Work::C)], Some(_)) => return Err("--against does not time calls from C".into()),
+            ([], Some(_)) => Work::Inlined,
+            ([(name, Work::C)], Some(_)) => {
+                return Err(format!("{name} excludes --against and --words"));
+            }
             ([(_, work)], _) => *work,
             ([(one, _), (other, _), ..], _) => return Err(format!("{one} excludes {other}")),
         };
@@ -103,9 +115,9 @@ impl Arguments {
         })
     }
 
-    /// The processor for which our library is built. By default, it is that of `rt`.
-    pub fn cpu(&self) -> &str {
-        self.cpu.as_deref().unwrap_or("x86-64-v2")
+    /// The processors that the package is built for, one after the other.
+    pub fn processors(&self) -> Vec<&str> {
+        self.cpu.as_deref().map_or(PROCESSORS.to_vec(), |cpu| vec![cpu])
     }
 
     /// Whether the input list, column or format with this line is timed.
@@ -117,7 +129,7 @@ impl Arguments {
 
 #[cfg(test)]
 mod tests {
-    use super::{Arguments, Work};
+    use super::{Against, Arguments, Work};
 
     fn read(words: &str) -> Result<Arguments, String> {
         Arguments::read(&words.split_whitespace().map(String::from).collect::<Vec<_>>())
@@ -127,7 +139,7 @@ mod tests {
     fn values() {
         let words = "--cpu v3 --lanes --markdown --original .. --passes 3 --only u64 --seed 2";
         let all = read(words).unwrap();
-        assert_eq!((all.cpu(), all.passes, all.seed), ("v3", 3, 2));
+        assert_eq!((all.processors(), all.passes, all.seed), (vec!["v3"], 3, 2));
         assert!(all.has_lanes && all.is_markdown && all.original.is_some() && !all.has("u32"));
     }
 
@@ -135,12 +147,29 @@ mod tests {
     fn tasks() {
         let task = |words| read(words).map(|arguments| arguments.work);
         assert_eq!(task(""), Ok(Work::Everything));
-        assert_eq!(task("--against HEAD"), Ok(Work::Exports));
+        assert_eq!(task("--against HEAD"), Ok(Work::Inlined));
         assert_eq!(task("--inlined-only --against HEAD"), Ok(Work::Inlined));
         assert_eq!(task("--count --against HEAD"), Ok(Work::Count));
-        for refused in ["--c-only --against HEAD", "--c-only --count", "--passes 2"] {
-            assert!(read(refused).is_err());
+        assert_eq!(task("--words"), Ok(Work::Inlined));
+        assert_eq!(task("--count --words"), Ok(Work::Count));
+        let refused = [
+            "--c-only --against HEAD",
+            "--c-only --words",
+            "--words --against HEAD",
+            "--c-only --count",
+            "--passes 2",
+        ];
+        for words in refused {
+            assert!(read(words).is_err());
         }
+    }
+
+    #[test]
+    fn packages() {
+        let against = |words| read(words).map(|arguments| arguments.against);
+        assert_eq!(against("--count"), Ok(None));
+        assert_eq!(against("--words"), Ok(Some(Against::Words)));
+        assert_eq!(against("--against HEAD"), Ok(Some(Against::Commit(String::from("HEAD")))));
     }
 
     #[test]

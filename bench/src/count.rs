@@ -78,7 +78,7 @@ pub fn make_calls(file: &Path, form: &str) -> Result<bool, String> {
             continue;
         };
         let input = Input::list(cell, TEXTS, &mut Random::new(number as u64));
-        let is_right = input.sum(call, false) == input.expected;
+        let is_right = input.sum_of_calls(call) == input.expected;
         cell_ends();
         println!("{}", if is_right { "right" } else { "wrong" });
     }
@@ -92,9 +92,10 @@ extern "C" fn cell_ends() {
     std::hint::black_box(());
 }
 
-/// Prints the counts, of which the first are ours, and returns how many cells had wrong answers.
-pub fn print(counts: &[Counts]) -> Result<usize, String> {
-    println!("\ninstructions per call, by callgrind:");
+/// Prints the counts of what was built for a processor, of which the first are ours, and returns how many cells
+/// had wrong answers.
+pub fn print(counts: &[Counts], cpu: &str) -> Result<usize, String> {
+    println!("\ninstructions per call, built for {cpu}, by callgrind:");
     for (counts, letter) in counts.iter().zip('A'..) {
         println!("    {letter}  {}, {}", counts.form.name(), counts.name);
     }

@@ -1,6 +1,5 @@
-//! Times the calls of `atoi_simd` and its module `lanes`, and those of other libraries or of an earlier
-//! state: exported from the kit's build, inlined from the Cargo package, and from C and C++. Counts
-//! their instructions.
+//! Times the calls of the Cargo package and those of other libraries or of another state of the package,
+//! inlined in Rust, and the calls of the C library from C and C++. Counts the instructions of calls in Rust.
 //!
 //! `arguments::USAGE` lists the arguments. The status is 1 if a build gives a wrong answer, 2 if
 //! something that was asked for cannot be done, and 0 otherwise.

@@ -161,10 +161,14 @@ pub fn cells() -> Result<Vec<InputList>, String> {
     Ok(numbers.iter().flat_map(cells).collect())
 }
 
-/// Each call that is timed or counted, once.
+/// Each call that is timed in Rust, once.
 pub fn calls() -> Result<Vec<TimedCall>, String> {
-    let lists = input_lists()?.into_iter().chain(cells()?);
-    Ok(each_once(lists.map(|list| list.call)))
+    Ok(each_once(input_lists()?.into_iter().map(|list| list.call)))
+}
+
+/// Each call whose instructions are counted, once.
+pub fn counted_calls() -> Result<Vec<TimedCall>, String> {
+    Ok(each_once(cells()?.into_iter().map(|cell| cell.call)))
 }
 
 /// Each call that is timed from C and C++, once.
@@ -223,7 +227,7 @@ fn rows<T>(
 
 #[cfg(test)]
 mod tests {
-    use super::{c_lists, calls, cells, input_lists, shapes};
+    use super::{c_lists, calls, cells, counted_calls, input_lists, shapes};
     use std::collections::BTreeSet;
     use torkettle_common::Form;
 
@@ -237,8 +241,9 @@ mod tests {
 
     #[test]
     fn exports_have_names_of_their_own() {
-        let calls = calls().unwrap();
-        let names = calls.iter().flat_map(|call| Form::BOTH.map(|form| call.export(form)));
-        assert_eq!(names.collect::<BTreeSet<_>>().len(), 2 * calls.len());
+        for calls in [calls().unwrap(), counted_calls().unwrap()] {
+            let names = calls.iter().flat_map(|call| Form::BOTH.map(|form| call.export(form)));
+            assert_eq!(names.collect::<BTreeSet<_>>().len(), 2 * calls.len());
+        }
     }
 }

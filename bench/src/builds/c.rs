@@ -2,7 +2,7 @@
 //! calls of `_read` and by calls of `_next`.
 
 use super::Build;
-use super::place::{ASSEMBLED_WITHIN_32_BYTES, WITHIN_32_BYTES, WITHIN_LINES, placed};
+use super::place::{ASSEMBLED_WITHIN_32_BYTES, WITHIN_32_BYTES, placed};
 use crate::tables::{self, Shape, TimedCall};
 use std::path::{Path, PathBuf};
 use std::process::Command;
@@ -25,7 +25,7 @@ pub fn builds(cache: &Cache, package: &Package) -> Result<Vec<Build>, String> {
     let folder = cache.repository().join("c");
     let stamp = package.stamp().with_folder(&folder)?.with(&sources.cpp).with(&sources.c);
     let stamp = compilers.iter().fold(stamp, |stamp: Stamp, version| stamp.with(version));
-    let placed = placed(cache, &format!("c-{stamp}"), &sources.names, &WITHIN_LINES, |room| {
+    let placed = placed(cache, &format!("c-{stamp}"), &sources.names, |room| {
         let include = format!("-I{}", folder.join("include").display());
         let (loops, columns) = (room.join("loops.o"), room.join("columns.o"));
         let cpp = ["-std=gnu++17", ASSEMBLED_WITHIN_32_BYTES, &include];
@@ -34,10 +34,7 @@ pub fn builds(cache: &Cache, package: &Package) -> Result<Vec<Build>, String> {
         compile("cc", &c, &room.join("columns.c"), &sources.c, &columns)?;
         Ok(vec![loops, columns, library(cache, &folder)?])
     })?;
-    let build = |name: String, prefix| {
-        let build = Build::new(name, placed.clone());
-        Build { prefix, has_loops: true, ..build }
-    };
+    let build = |name, prefix| Build { name, prefix, files: placed.clone() };
     Ok(vec![
         build(String::from("torkettle::from_chars, and the column in C, by _read"), OURS),
         build(format!("std::from_chars, g++ {}", compilers[0]), STANDARD),

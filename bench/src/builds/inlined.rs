@@ -2,18 +2,16 @@
 //! program that uses them. It is built without jumps that cross 32 bytes, in two layouts and at several
 //! addresses: the layout and the address of a loop alone would move its time by up to 30 %.
 
-use super::Build;
-use super::place::{WITHIN_32_BYTES, WITHIN_LINES, placed};
-use super::rust::{ORIGINAL, STANDARD, STANDARD_PREFIX};
+use super::place::{WITHIN_32_BYTES, placed};
+use super::rust::names_of_standard;
 use super::source::{Calls, Column, HEAD, Parse};
+use super::{Build, Others};
 use crate::formats::{self, Bodies, Format};
 use crate::tables::{self, Shape, TimedCall};
 use std::path::PathBuf;
-use std::process::Command;
 use torkettle_common::Form;
 use torkettle_common::cache::Cache;
 use torkettle_common::cargo::{Dependency, Generated, Kind};
-use torkettle_common::command::run;
 use torkettle_common::original;
 use torkettle_common::package::Package;
 
@@ -24,7 +22,7 @@ const LAYOUTS: [&str; 2] = ["", " -C llvm-args=-align-all-nofallthru-blocks=5"];
 pub struct Inlined {
     /// Both forms of ours, and then the libraries that it is compared with.
     pub builds: Vec<Build>,
-    /// The iterator that goes on after an error, and then what it is compared with. Not for a commit.
+    /// The iterator that goes on after an error, and then what it is compared with. Not for another package.
     pub going_on: Vec<Build>,
     /// What reads formats.
     pub formats: Vec<Build>,
@@ -49,14 +47,6 @@ enum Use {
     CallsAndColumns,
     ColumnsThatGoOn,
     FormatsAlone,
-}
-
-/// What the package is compared with.
-pub enum Others {
-    /// std and, if it is there, the original.
-    Libraries { original: Option<Dependency> },
-    /// The package of a commit, which has a name.
-    Commit { package: Package, name: String },
 }
 
 const OURS: &str = "use ours::{self as calls, formats};";
@@ -88,7 +78,7 @@ pub fn inlined(
             parts.extend(libraries(original.is_some(), cpu)?);
             parts.extend(going_on());
         }
-        Others::Commit { package: theirs, name } => {
+        Others::Package { package: theirs, name } => {
             dependencies.push(dependency(theirs, "theirs"));
             parts.push(package(name, "theirs_", THEIRS));
         }
@@ -99,14 +89,10 @@ pub fn inlined(
 // The original, if it is there, and std.
 fn libraries(has_original: bool, cpu: &str) -> Result<Vec<Part>, String> {
     let original = has_original.then(|| part(&original::name(cpu), "original_", ORIGINAL));
-    let version = run(Command::new("rustc").arg("--version"))?;
-    let version = version.split_whitespace().nth(1).unwrap_or_default().to_string();
+    let [whole, prefix] = names_of_standard()?;
     let standard = [
-        Part {
-            formats: Some(formats::standard),
-            ..part(&format!("str::parse, rustc {version}"), "std_", STANDARD)
-        },
-        part(&format!("str::parse on the leading digits, {version}"), "digits_", STANDARD_PREFIX),
+        Part { formats: Some(formats::standard), ..part(&whole, "std_", STANDARD) },
+        part(&prefix, "digits_", STANDARD_PREFIX),
         Part {
             formats: Some(formats::by_hand),
             use_of: Use::FormatsAlone,
@@ -135,6 +121,9 @@ fn part(name: &str, prefix: &'static str, calls: Calls) -> Part {
 
 const PACKAGE: Calls =
     Calls { parse: Parse::By("calls"), column: Column::Iterator("calls::column::Column") };
+const ORIGINAL: Calls = Calls { parse: Parse::By("atoi_simd"), column: Column::Prefixes };
+const STANDARD: Calls = Calls { parse: Parse::Standard, column: Column::Split };
+const STANDARD_PREFIX: Calls = Calls { parse: Parse::StandardPrefix, column: Column::Prefixes };
 
 // Builds the program in each layout.
 fn program(
@@ -153,8 +142,7 @@ fn program(
             flags: format!("-C target-cpu={cpu}{WITHIN_32_BYTES}{layout}"),
         };
         let name = format!("inlined-{}", generated.stamp()?);
-        let placed =
-            placed(cache, &name, &names, &WITHIN_LINES, |room| Ok(vec![generated.build(room)?]))?;
+        let placed = placed(cache, &name, &names, |room| Ok(vec![generated.build(room)?]))?;
         files.extend(placed.into_iter().skip(number).step_by(LAYOUTS.len()));
     }
     let builds = |is_in: fn(&Part) -> bool| -> Vec<Build> {
@@ -184,8 +172,7 @@ fn source(parts: &[Part]) -> Result<(String, Vec<String>), String> {
 
 impl Part {
     fn build(&self, files: &[PathBuf]) -> Build {
-        let build = Build::new(self.name.clone(), files.to_vec());
-        Build { prefix: self.prefix, has_loops: true, ..build }
+        Build { name: self.name.clone(), prefix: self.prefix, files: files.to_vec() }
     }
 
     // The name and the source of each loop.

@@ -2,36 +2,21 @@
 //! time of a function moves by up to 20 % with its address, and by up to 6 % with the address of a table, so
 //! each function is timed at several.
 
-use std::fs;
 use std::path::{Path, PathBuf};
 use std::process::Command;
-use torkettle_common::cache::{Cache, failed, write};
+use torkettle_common::cache::{Cache, write};
 use torkettle_common::command::run;
 
-/// A placement: how many bytes after a multiple of 64, the size of a cache line, each exported
-/// function and the constants begin.
-#[derive(Clone, Copy)]
-pub struct Place {
+// A placement: how many bytes after a multiple of 64, the size of a cache line, each exported function and
+// the constants begin.
+struct Place {
     code: usize,
     constants: usize,
 }
 
-/// The placements of code that a compiler made without `WITHIN_32_BYTES`. Some processors are slower if
-/// a jump crosses a multiple of 32, so placements that differ by 32 would count as one.
-pub const ANYWHERE: [Place; 8] = [
-    Place { code: 0, constants: 0 },
-    Place { code: 4, constants: 8 },
-    Place { code: 8, constants: 16 },
-    Place { code: 12, constants: 24 },
-    Place { code: 16, constants: 32 },
-    Place { code: 20, constants: 40 },
-    Place { code: 24, constants: 48 },
-    Place { code: 28, constants: 56 },
-];
-
-/// The placements of code that was made with `WITHIN_32_BYTES`, which holds only if each section begins
-/// at a multiple of 32.
-pub const WITHIN_LINES: [Place; 3] = [
+// The placements. The code was made with `WITHIN_32_BYTES`, which holds only if each section begins at a
+// multiple of 32.
+const PLACES: [Place; 3] = [
     Place { code: 0, constants: 0 },
     Place { code: 32, constants: 16 },
     Place { code: 0, constants: 32 },
@@ -44,12 +29,7 @@ pub const WITHIN_32_BYTES: &str = " -C llvm-args=-x86-branches-within-32B-bounda
 /// The same for the assembler that gcc calls.
 pub const ASSEMBLED_WITHIN_32_BYTES: &str = "-Wa,-mbranches-within-32B-boundaries";
 
-// The line of the linker's own script that begins the section of code, and a line that also allows
-// functions at other addresses than multiples of 16.
-const CODE: &str = "  .text           :\n";
-const CODE_ANYWHERE: &str = "  .text           : SUBALIGN(1)\n";
-
-// The linker's own line for constants.
+// The line of the linker's own script for constants.
 const CONSTANTS: &str = "  .rodata         : { *(.rodata .rodata.* .gnu.linkonce.r.*) }\n";
 
 // The line before which the exported functions are put.
@@ -61,43 +41,26 @@ pub fn placed(
     cache: &Cache,
     name: &str,
     exports: &[String],
-    places: &[Place],
     compile: impl FnOnce(&Path) -> Result<Vec<PathBuf>, String>,
 ) -> Result<Vec<PathBuf>, String> {
-    let name = format!("{name}-placed-{}", places.len());
-    let folder = cache.built(&name, |room, kept| place(&compile(room)?, exports, places, kept))?;
-    Ok((0..places.len()).map(|number| file(&folder, number)).collect())
-}
-
-/// Copies of files.
-pub fn copied(files: &[PathBuf], to: &Path) -> Result<Vec<PathBuf>, String> {
-    let copy = |file: &PathBuf| {
-        let copy = to.join(file.to_string_lossy().replace('/', "-"));
-        fs::copy(file, &copy).map_err(|error| failed(&copy, error)).map(|_| copy)
-    };
-    files.iter().map(copy).collect()
+    let name = format!("{name}-placed-{}", PLACES.len());
+    let folder = cache.built(&name, |room, kept| place(&compile(room)?, exports, kept))?;
+    Ok((0..PLACES.len()).map(|number| file(&folder, number)).collect())
 }
 
 // Links object files and archives into a shared object for each placement. Each export is in a
 // section of its own, whose name is `.text.` and then the name of the export.
-fn place(
-    objects: &[PathBuf],
-    exports: &[String],
-    places: &[Place],
-    folder: &Path,
-) -> Result<(), String> {
+fn place(objects: &[PathBuf], exports: &[String], folder: &Path) -> Result<(), String> {
     let script = run(Command::new("ld").args(["-shared", "--verbose"]))?;
     let script = script.split("=".repeat(50).as_str()).nth(1).unwrap_or_default();
-    let is_known = script.contains(CODE) && script.contains(CONSTANTS);
+    let is_known = script.contains(CONSTANTS);
     let Some((before, after)) = script.split_once(ANCHOR).filter(|_| is_known) else {
         return Err(String::from("ld has a script of another form, so nothing can be placed"));
     };
-    let is_anywhere = places.iter().any(|place| place.code % 32 != 0);
-    let before = if is_anywhere { before.replace(CODE, CODE_ANYWHERE) } else { before.to_string() };
     let visible: String = exports.iter().map(|name| format!("{name}; ")).collect();
     let versions = folder.join("versions");
     write(&versions, format!("{{ global: {visible}local: *; }};\n"))?;
-    for (number, Place { code, constants }) in places.iter().enumerate() {
+    for (number, Place { code, constants }) in PLACES.iter().enumerate() {
         let at = |name: &String| format!("    . = ALIGN(64) + {code}; *(.text.{name})\n");
         let placed: String = exports.iter().map(at).collect();
         let room = format!("  .rodata : ALIGN(64) {{ . += {constants};");

@@ -1,71 +1,79 @@
-//! The other libraries, whose calls are timed through exports: std and the original.
+//! The libraries whose instructions are counted. Each is a shared object with an export for each call.
 
-use super::Build;
-use super::place::{ANYWHERE, placed};
-use super::source::{self, Calls, Column, Parse};
-use crate::tables::{self, Shape};
+use super::source::{HEAD, Parse};
+use super::{Build, Others};
+use crate::tables;
 use std::process::Command;
 use torkettle_common::Form;
 use torkettle_common::cache::Cache;
 use torkettle_common::cargo::{Dependency, Generated, Kind};
 use torkettle_common::command::run;
 use torkettle_common::original;
+use torkettle_common::package::Package;
 
-/// `str::parse` on whole texts.
-pub const STANDARD: Calls = Calls { parse: Parse::Standard, column: Column::Split };
+// The forms that a library has, and how each parses a text.
+type Forms = &'static [(Form, Parse)];
 
-/// `str::parse` on the digits at the start of a text.
-pub const STANDARD_PREFIX: Calls = Calls { parse: Parse::StandardPrefix, column: Column::Prefixes };
+const PACKAGE: Forms =
+    &[(Form::Words, Parse::By("calls")), (Form::Lanes, Parse::By("calls::lanes"))];
+const ORIGINAL: Forms = &[(Form::Words, Parse::By("atoi_simd"))];
+const STANDARD: Forms = &[(Form::Words, Parse::Standard)];
+const STANDARD_PREFIX: Forms = &[(Form::Words, Parse::StandardPrefix)];
 
-/// The original.
-pub const ORIGINAL: Calls = Calls { parse: Parse::By("atoi_simd"), column: Column::Prefixes };
-
-/// Compiles std's calls, and those of the original if it is there.
-pub fn others(cache: &Cache, original: Option<&Dependency>) -> Result<Vec<Build>, String> {
-    let version = run(Command::new("rustc").arg("--version"))?;
-    let version = version.split_whitespace().nth(1).unwrap_or_default();
-    let name = format!("str::parse, rustc {version}");
-    let on_digits = format!("str::parse on the leading digits, {version}");
-    let mut builds = vec![
-        build(cache, name, STANDARD, None, "x86-64")?,
-        build(cache, on_digits, STANDARD_PREFIX, None, "x86-64")?,
-    ];
-    if original.is_some() {
-        for cpu in ["x86-64", "x86-64-v3"] {
-            builds.push(build(cache, original::name(cpu), ORIGINAL, original, cpu)?);
+/// Both forms of the package and what it is compared with, built for a processor.
+pub fn counted(
+    cache: &Cache,
+    ours: &Package,
+    others: &Others,
+    cpu: &str,
+) -> Result<Vec<Build>, String> {
+    let build = |name: &str, forms, dependency| build(cache, name, forms, dependency, cpu);
+    let package = |name: &str, package: &Package| {
+        build(name, PACKAGE, Some(package.dependency("calls").with_feature("lanes")))
+    };
+    let mut builds = vec![package("the package", ours)?];
+    match others {
+        Others::Package { package: theirs, name } => builds.push(package(name, theirs)?),
+        Others::Libraries { original } => {
+            if original.is_some() {
+                builds.push(build(&original::name(cpu), ORIGINAL, original.clone())?);
+            }
+            let [whole, prefix] = names_of_standard()?;
+            builds.push(build(&whole, STANDARD, None)?);
+            builds.push(build(&prefix, STANDARD_PREFIX, None)?);
         }
     }
     Ok(builds)
 }
 
+/// What tables call `str::parse` on whole texts, and on the digits at the start of a text.
+pub fn names_of_standard() -> Result<[String; 2], String> {
+    let version = run(Command::new("rustc").arg("--version"))?;
+    let version = version.split_whitespace().nth(1).unwrap_or_default();
+    Ok([
+        format!("str::parse, rustc {version}"),
+        format!("str::parse on the leading digits, {version}"),
+    ])
+}
+
 // Compiles a library, which uses a crate if it is not std.
 fn build(
     cache: &Cache,
-    name: String,
-    calls: Calls,
-    dependency: Option<&Dependency>,
+    name: &str,
+    forms: Forms,
+    dependency: Option<Dependency>,
     cpu: &str,
 ) -> Result<Build, String> {
-    let timed = tables::calls()?.into_iter().map(|call| {
-        let export = calls.call(&call);
-        (call.export(Form::Words), export)
+    let calls = tables::counted_calls()?;
+    let exports = forms.iter().flat_map(|(form, parse)| {
+        calls.iter().filter_map(move |call| parse.call(&call.export(*form), call))
     });
-    let columns = tables::column_types()?.into_iter().map(|integer| {
-        let name = Shape::export(integer);
-        let export = calls.column(&name, integer);
-        (name, export)
-    });
-    let exports = timed.chain(columns).filter_map(|(name, export)| Some((name, export?)));
-    let (names, texts): (Vec<String>, Vec<String>) = exports.unzip();
     let generated = Generated {
-        kind: Kind::Archive,
-        dependencies: dependency.into_iter().cloned().collect(),
-        files: vec![("lib.rs", format!("{}{}", source::HEAD, texts.concat()))],
+        kind: Kind::InlinedSharedObject,
+        dependencies: dependency.into_iter().collect(),
+        files: vec![("lib.rs", format!("{HEAD}{}", exports.collect::<String>()))],
         flags: format!("-C target-cpu={cpu}"),
     };
-    let placed =
-        placed(cache, &format!("rust-{}", generated.stamp()?), &names, &ANYWHERE, |room| {
-            Ok(vec![generated.build(room)?])
-        })?;
-    Ok(Build::new(name, placed))
+    let file = generated.shared_object(cache, "counted")?;
+    Ok(Build { name: name.to_string(), prefix: "", files: vec![file] })
 }

@@ -2,7 +2,6 @@
 //! a column.
 
 use crate::tables::{Function, TimedCall};
-use torkettle_common::Form;
 use torkettle_common::integer::Integer;
 
 /// How the exports of a library are written.
@@ -33,6 +32,16 @@ impl Parse {
             (Parse::StandardPrefix, false) => Some(String::from("from_prefix::<T>(text)")),
             (Parse::Standard | Parse::StandardPrefix, _) => None,
         }
+    }
+
+    /// An export that makes one call. None if the library has no such call.
+    pub fn call(self, name: &str, call: &TimedCall) -> Option<String> {
+        let found = found(call);
+        let body = format!(
+            "\n    match {} {{\n        {found}\n        None => ERROR,\n    }}",
+            self.expression(call)?
+        );
+        Some(export(name, call.integer, &body))
     }
 }
 
@@ -79,17 +88,7 @@ fn from_prefix<T: std::str::FromStr>(text: &[u8]) -> Option<(T, usize)> {
 ";
 
 impl Calls {
-    /// An export that makes one call. None if the library has no such call.
-    pub fn call(&self, call: &TimedCall) -> Option<String> {
-        let found = found(call);
-        let body = format!(
-            "\n    match {} {{\n        {found}\n        None => ERROR,\n    }}",
-            self.parse.expression(call)?
-        );
-        Some(export(&call.export(Form::Words), call.integer, &body))
-    }
-
-    /// An export that makes the same call with each row of an input list.
+    /// An export that makes a call with each row of an input list. None if the library has no such call.
     pub fn rows(&self, name: &str, call: &TimedCall) -> Option<String> {
         let parse = self.parse.expression(call)?;
         let body = ROWS.replace("PARSE", &parse).replace("FOUND", found(call));

@@ -1,35 +1,22 @@
 //! Times the calls that are inlined in Rust.
 
-use super::{columns, formats, lists};
+use super::{columns, formats, lists, others};
 use crate::arguments::Arguments;
-use crate::builds::{self, Build, Inlined, Others};
+use crate::builds::{self, Build, Inlined};
 use crate::report::Table;
 use crate::tables;
 use crate::timing::Task;
 use torkettle_common::cache::Cache;
-use torkettle_common::original;
 use torkettle_common::package::Package;
 use torkettle_common::random::Random;
 
-// The processors that the calls are built for if none is named. The original uses AVX2 at the second.
-const PROCESSORS: [&str; 2] = ["x86-64", "x86-64-v3"];
-
 /// Times them for each processor, and returns how many answers differed. They are compared
-/// with the calls of other libraries, or of a commit.
+/// with the calls of other libraries, or of another package.
 pub fn run(arguments: &Arguments, cache: &Cache) -> Result<usize, String> {
     let ours = Package::of_folder(cache.repository())?;
-    let others = match &arguments.against {
-        Some(commit) => {
-            let (package, name) = builds::package_of_commit(cache, commit)?;
-            Others::Commit { package, name }
-        }
-        None => {
-            Others::Libraries { original: original::find(cache, arguments.original.as_deref())? }
-        }
-    };
+    let others = others(arguments, cache)?;
     let mut wrong = 0;
-    let processors = arguments.cpu.as_deref().map_or(PROCESSORS.to_vec(), |cpu| vec![cpu]);
-    for cpu in processors {
+    for cpu in arguments.processors() {
         let built = builds::inlined(cache, &ours, &others, cpu, arguments.has_lanes)?;
         wrong += time(arguments, &built, cpu)?;
     }

@@ -1,14 +1,16 @@
 //! Does what the arguments say. Each task is a module.
 
 mod c;
-mod exports;
+mod count;
 mod inlined;
 
 use crate::arguments::{Arguments, Work};
+use crate::builds::{self, Others};
 use crate::formats::Format;
 use crate::tables::{self, InputList};
 use crate::timing::{Task, processor};
 use torkettle_common::cache::Cache;
+use torkettle_common::original;
 use torkettle_common::random::Random;
 
 /// Does everything, and returns how many builds gave wrong answers to a line.
@@ -21,8 +23,8 @@ pub fn run(arguments: &Arguments) -> Result<usize, String> {
         println!("the processor does not predict indirect jumps: libraries with them take longer");
     }
     let mut wrong = 0;
-    if work.includes(Work::Exports) || work == Work::Count {
-        wrong += exports::run(arguments, &cache)?;
+    if work == Work::Count {
+        wrong += count::run(arguments, &cache)?;
     }
     if work.includes(Work::Inlined) {
         wrong += inlined::run(arguments, &cache)?;
@@ -31,6 +33,20 @@ pub fn run(arguments: &Arguments) -> Result<usize, String> {
         wrong += c::run(arguments, &cache)?;
     }
     Ok(wrong)
+}
+
+// What the package is compared with.
+fn others(arguments: &Arguments, cache: &Cache) -> Result<Others, String> {
+    match &arguments.against {
+        Some(against) => {
+            let (package, name) = builds::package(cache, against)?;
+            Ok(Others::Package { package, name })
+        }
+        None => {
+            let original = original::find(cache, arguments.original.as_deref())?;
+            Ok(Others::Libraries { original })
+        }
+    }
 }
 
 // Refuses an argument `--only` that leaves nothing.

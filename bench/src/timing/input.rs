@@ -93,24 +93,23 @@ impl Input {
         Input { texts: Texts::Rows(rows), items, expected }
     }
 
-    /// Calls an export, and returns the sum of the answers. An export that `has_loop` takes all
-    /// rows of an input list, and makes the calls itself.
-    pub fn sum(&self, call: Call, has_loop: bool) -> u64 {
+    /// Calls an export that reads all rows or a column, and returns the sum of the answers.
+    pub fn sum(&self, export: Call) -> u64 {
         match &self.texts {
             // SAFETY: an export reads as many bytes of the text as the length says.
-            Texts::Column(text) => unsafe { call(text.as_ptr(), text.len()) },
+            Texts::Column(text) => unsafe { export(text.as_ptr(), text.len()) },
             // SAFETY: a loop reads as many rows as the length says, of the form that they have.
-            Texts::Rows(rows) if has_loop => unsafe { call(rows.as_ptr().cast(), rows.len()) },
-            Texts::Rows(rows) => sum_of_calls(rows, call),
+            Texts::Rows(rows) => unsafe { export(rows.as_ptr().cast(), rows.len()) },
         }
     }
-}
 
-#[inline(never)]
-fn sum_of_calls(rows: &[Row], call: Call) -> u64 {
-    // SAFETY: an export reads as many bytes of the text as the length says.
-    let answer = |row: &Row| unsafe { call(row.bytes.as_ptr(), row.length) };
-    rows.iter().map(answer).fold(0, u64::wrapping_add)
+    /// Calls an export with each row, and returns the sum of the answers. A column has no rows.
+    pub fn sum_of_calls(&self, call: Call) -> u64 {
+        let Texts::Rows(rows) = &self.texts else { return 0 };
+        // SAFETY: an export reads as many bytes of the text as the length says.
+        let answer = |row: &Row| unsafe { call(row.bytes.as_ptr(), row.length) };
+        rows.iter().map(answer).fold(0, u64::wrapping_add)
+    }
 }
 
 // The low 64 bits of the value of a number at a type.

@@ -40,13 +40,8 @@ pub struct Task {
     // The names of the exports that read it. Only input lists are read in both forms.
     exports: Vec<(Form, String)>,
     input: Input,
-    sides: Vec<Calls>,
-}
-
-// The calls of a side, one for each placement. There are none if it has no such call.
-struct Calls {
-    calls: Vec<Call>,
-    has_loops: bool,
+    // For each side, the export at each placement. There are none if it has no such export.
+    sides: Vec<Vec<Call>>,
 }
 
 /// The times of all sides on one input list, column or format.
@@ -123,27 +118,23 @@ impl Task {
     }
 
     fn pass(&mut self) {
-        let places = self.sides.iter().map(|side| side.calls.len()).max().unwrap_or_default();
-        let times = |side: &Calls| match side.calls.is_empty() {
-            true => Vec::new(),
-            false => vec![f64::INFINITY; places],
-        };
-        let mut best: Vec<Vec<f64>> = self.sides.iter().map(times).collect();
+        let places = self.sides.iter().map(Vec::len).max().unwrap_or_default();
+        let mut best: Vec<Vec<f64>> =
+            self.sides.iter().map(|side| vec![f64::INFINITY; side.len()]).collect();
         for round in 0..ROUNDS * places {
             self.round(round % places, &mut best);
         }
         self.times.passes.push(best);
     }
 
-    // Runs each side once at one placement. A side with fewer placements repeats them.
+    // Runs each side once at one placement, which all sides have that have an export.
     fn round(&mut self, place: usize, best: &mut [Vec<f64>]) {
         self.times.rounds += 1;
         self.times.shared += usize::from(processor::shares_core());
         let sides = self.sides.iter().zip(best).zip(&mut self.times.is_wrong);
-        for ((side, best), is_wrong) in sides.filter(|((side, _), _)| !side.calls.is_empty()) {
-            let call = side.calls[place % side.calls.len()];
+        for ((side, best), is_wrong) in sides.filter(|((side, _), _)| !side.is_empty()) {
             let from = Instant::now();
-            let sum = self.input.sum(call, side.has_loops);
+            let sum = self.input.sum(side[place]);
             let time = from.elapsed().as_nanos() as f64 / self.input.items as f64;
             best[place] = best[place].min(time);
             *is_wrong |= sum != self.input.expected;
@@ -163,7 +154,7 @@ pub fn sides(builds: &[Build], tasks: &mut [Task]) -> Result<Vec<Side>, String> 
             }
             sides.push(Side { build: number, form, name: build.name.clone() });
             for (task, calls) in tasks.iter_mut().zip(calls) {
-                task.sides.push(Calls { calls, has_loops: build.has_loops });
+                task.sides.push(calls);
                 task.times.is_wrong.push(false);
             }
         }

@@ -45,10 +45,10 @@ impl Dependency {
 /// What cargo makes of a generated crate.
 #[derive(Clone, Copy)]
 pub enum Kind {
-    /// An archive, in which the crates are inlined into each other.
-    Archive,
     /// An archive of many units of code, built as cargo builds a program in release mode.
     ArchiveOfUnits,
+    /// A shared object, in which the crates are inlined into each other.
+    InlinedSharedObject,
     /// A shared object, built as cargo builds a program in release mode.
     SharedObject,
     /// The same without optimisation, and with checks for overflow.
@@ -85,8 +85,8 @@ impl Generated {
         let mut cargo = Command::new("cargo");
         cargo.args(["build", "--quiet"]).current_dir(folder);
         let (profile, file) = match self.kind {
-            Kind::Archive | Kind::ArchiveOfUnits => ("release", "libtimed.a"),
-            Kind::SharedObject => ("release", OBJECT),
+            Kind::ArchiveOfUnits => ("release", "libtimed.a"),
+            Kind::InlinedSharedObject | Kind::SharedObject => ("release", OBJECT),
             Kind::DebugSharedObject => ("debug", OBJECT),
         };
         if profile == "release" {
@@ -110,8 +110,10 @@ impl Generated {
 
     fn manifest(&self) -> String {
         let (kind, profile) = match self.kind {
-            Kind::Archive => ("staticlib", "panic = \"abort\"\nlto = true\ncodegen-units = 1\n"),
             Kind::ArchiveOfUnits => ("staticlib", "codegen-units = 256\n"),
+            Kind::InlinedSharedObject => {
+                ("cdylib", "panic = \"abort\"\nlto = true\ncodegen-units = 1\n")
+            }
             Kind::SharedObject | Kind::DebugSharedObject => ("cdylib", "codegen-units = 256\n"),
         };
         let lines = self.dependencies.iter().map(|it| it.line.as_str());

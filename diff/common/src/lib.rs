@@ -1,12 +1,11 @@
 //! What `diff/compare` and `bench` share: how they read arguments, a cache outside the repository, and what
-//! builds the library, the Cargo package and the original there.
+//! builds the Cargo package and the original there.
 
 pub mod arguments;
 pub mod cache;
 pub mod cargo;
 pub mod command;
 pub mod integer;
-pub mod kit;
 pub mod object;
 pub mod original;
 pub mod package;

@@ -10,6 +10,7 @@ mod answer;
 mod answers;
 mod arguments;
 mod compare;
+mod kit;
 mod original;
 mod question;
 mod rules;

@@ -4,6 +4,7 @@
 use crate::answers::Answers;
 use crate::arguments::Arguments;
 use crate::compare::{Ours, Sides};
+use crate::kit::{self, Library};
 use crate::original::IS_PORTABLE;
 use std::path::{Path, PathBuf};
 use std::process::Command;
@@ -11,7 +12,6 @@ use torkettle_common::Form;
 use torkettle_common::cache::Cache;
 use torkettle_common::cargo::{Dependency, Generated, Kind};
 use torkettle_common::command::{print_left_out, run};
-use torkettle_common::kit::{self, Library};
 use torkettle_common::original;
 use torkettle_common::package::{PACKAGE, Package};
 

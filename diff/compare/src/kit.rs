@@ -1,13 +1,13 @@
 //! Static libraries that the kit proves and builds, in a folder outside the repository: the merge gate
 //! refuses a Rattle file that belongs to no crate of the repository.
 
-use crate::cache::{entries, failed, write};
-use crate::command::run;
-use crate::stamp::Stamp;
 use std::collections::BTreeMap;
 use std::fs;
 use std::path::{Path, PathBuf};
 use std::process::Command;
+use torkettle_common::cache::{entries, failed, write};
+use torkettle_common::command::run;
+use torkettle_common::stamp::Stamp;
 
 // The folders of a crate that are copied. What `rt` keeps for a crate is in another one.
 const PARTS: [&str; 3] = ["src", "specs", "proofs"];

@@ -1,0 +1,101 @@
+//! The packages that the one of this checkout is compared with.
+
+use crate::arguments::Against;
+use std::fs;
+use std::path::Path;
+use std::process::Command;
+use torkettle_common::cache::{Cache, failed, write};
+use torkettle_common::command::run;
+use torkettle_common::package::Package;
+
+// The file that names the engines of the package, and what is written into it for `Against::Words`.
+const ENGINES: &str = "rust/build/engines.rs";
+const TUNED: &str = "atoi_fast::Swar";
+const PLAIN: &str = "atoi_core::Words";
+
+/// A package, and what it is called in tables. A commit is called by its short name.
+pub fn package(cache: &Cache, against: &Against) -> Result<(Package, String), String> {
+    let room = cache.empty_folder("archive")?;
+    let archive = room.join("archive.tar");
+    let name = match against {
+        Against::Commit(commit) => pack_commit(cache, commit, &archive)?,
+        Against::Words => pack_checkout(cache, &archive)?,
+    };
+    run(Command::new("tar").arg("-xf").arg(&archive).arg("-C").arg(&room))?;
+    if *against == Against::Words {
+        edit(&room.join(ENGINES), with_words)?;
+    }
+    edit(&room.join("Cargo.toml"), |manifest| Ok(with_other_version(manifest)))?;
+    Ok((Package::of_folder(&room)?, name))
+}
+
+// Packs the files of a commit, from git.
+fn pack_commit(cache: &Cache, commit: &str, archive: &Path) -> Result<String, String> {
+    let git = || {
+        let mut git = Command::new("git");
+        git.arg("-C").arg(cache.repository());
+        git
+    };
+    let commit = format!("{commit}^{{commit}}");
+    let name = run(git().args(["rev-parse", "--verify", "--short", "--end-of-options", &commit]))?;
+    let name = name.trim().to_string();
+    run(git().args(["archive", "-o"]).arg(archive).arg(&name))?;
+    Ok(name)
+}
+
+// Packs the package of this checkout, with edits that are not committed, but without what cargo and `rt` make.
+fn pack_checkout(cache: &Cache, archive: &Path) -> Result<String, String> {
+    let mut tar = Command::new("tar");
+    tar.args(["--exclude=target", "--exclude=out", "-cf"]).arg(archive);
+    run(tar.arg("-C").arg(cache.repository()).args(["Cargo.toml", "crates", "rust"]))?;
+    Ok(String::from("with Words"))
+}
+
+fn edit(file: &Path, edited: fn(&str) -> Result<String, String>) -> Result<(), String> {
+    let text = fs::read_to_string(file).map_err(|error| failed(file, error))?;
+    write(file, edited(&text)?)
+}
+
+// Returns the text of `ENGINES` with the plain engine.
+fn with_words(engines: &str) -> Result<String, String> {
+    match engines.matches(TUNED).count() {
+        1 => Ok(engines.replace(TUNED, PLAIN)),
+        times => Err(format!("{ENGINES} has {TUNED} {times} times, and not once")),
+    }
+}
+
+// Cargo takes two packages of one name only if their versions differ.
+fn with_other_version(manifest: &str) -> String {
+    let line = |line: &str| match line.strip_prefix("version = \"") {
+        Some(version) => format!("version = \"{}+other\"\n", version.trim_end_matches('"')),
+        None => format!("{line}\n"),
+    };
+    manifest.lines().map(line).collect()
+}
+
+#[cfg(test)]
+mod tests {
+    use super::{with_other_version, with_words};
+
+    #[test]
+    fn words_replace_the_tuned_engine() {
+        let engines = |engine: &str| {
+            format!(
+                "pub const ENGINES: [(&str, &str); 2] = [\n    (\"atoi_simd\", \"{engine}\"),\n    \
+                 (\"atoi_lanes\", \"atoi_fast::Vectors\"),\n];\n"
+            )
+        };
+        let tuned = engines("atoi_fast::Swar");
+        assert_eq!(with_words(&tuned), Ok(engines("atoi_core::Words")));
+        assert!(with_words(include_str!("../../../rust/build/engines.rs")).is_ok());
+        for refused in [engines("atoi_core::Words"), tuned.repeat(2)] {
+            assert!(with_words(&refused).is_err_and(|it| it.contains("rust/build/engines.rs")));
+        }
+    }
+
+    #[test]
+    fn versions_differ() {
+        let manifest = |version| format!("name = \"torkettle\"\nversion = \"{version}\"\n");
+        assert_eq!(with_other_version(&manifest("0.1.0")), manifest("0.1.0+other"));
+    }
+}
