@@ -1,5 +1,5 @@
-// Exports that call a `from_chars` with each row of an input list, or with each field of a column. All is inlined into an
-// export, since only exports are placed at chosen addresses.
+// Exports that call a `from_chars` with each row of an input list, or with each field of a column, and exports that
+// add up a column by a range. All is inlined into an export, since only exports are placed at chosen addresses.
 #include <charconv>
 #include <cstddef>
 #include <cstdint>
@@ -63,4 +63,13 @@ template <typename By, typename T> INLINED uint64_t column(const uint8_t *text, 
         if (*stop != ',') return ERROR;
         start = stop + 1;
     }
+}
+
+template <typename T> INLINED uint64_t fields(const uint8_t *text, size_t size) {
+    uint64_t sum = 0;
+    for (const auto &item : torkettle::fields<T>({reinterpret_cast<const char *>(text), size}, ',')) {
+        if (!item.value) return ERROR;
+        sum += low_bits(*item.value);
+    }
+    return sum;
 }

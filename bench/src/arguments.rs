@@ -12,13 +12,13 @@ pub struct Arguments {
     pub cpu: Option<String>,
     /// Whether lanes of the package are timed too.
     pub has_lanes: bool,
-    /// Whether the times on input lists are printed in Markdown too.
+    /// Whether the ratios on real lists and the times on input lists are printed in Markdown too.
     pub is_markdown: bool,
     /// The folder with the original.
     pub original: Option<PathBuf>,
     /// How often everything is timed.
     pub passes: usize,
-    /// What the names of the timed input lists, columns and formats have in them.
+    /// What the names of the timed lists, columns and formats have in them.
     pub only: Option<String>,
     /// The package that is timed or counted beside that of this checkout, in place of other libraries.
     pub against: Option<Against>,
@@ -67,8 +67,9 @@ cargo run --release -- [ARGUMENT..]
   --against COMMIT    only time the package and that of a commit, inlined in Rust
   --words             only time the package and the same with the engine Words, inlined in Rust
   --lanes             time lanes of the package too
-  --only TEXT         time only what has TEXT in its line, as 'parse u64 -- 16' or 'column u64'
-  --markdown          print the times of input lists once more, as a table in Markdown
+  --only TEXT         time only what has TEXT in its line, as 'parse u64 -- 16' or 'column u64'. The line of a real
+                      list is as 'real csv-cells u32', so 'real' times all of these
+  --markdown          print the ratios of real lists and the times of input lists once more, as tables in Markdown
   --cpu CPU           build the package for a processor (x86-64 and x86-64-v3)
   --passes N          how often everything is timed (5, at least 3)
   --seed N            which random numbers are taken (1)
@@ -120,7 +121,7 @@ impl Arguments {
         self.cpu.as_deref().map_or(PROCESSORS.to_vec(), |cpu| vec![cpu])
     }
 
-    /// Whether the input list, column or format with this line is timed.
+    /// Whether the list, column or format with this line is timed.
     pub fn has(&self, line: &str) -> bool {
         let words: Vec<&str> = line.split_whitespace().collect();
         self.only.as_ref().is_none_or(|only| words.join(" ").contains(only.as_str()))

@@ -9,6 +9,7 @@ mod builds;
 mod count;
 mod formats;
 mod numbers;
+mod real;
 mod report;
 mod tables;
 mod tasks;

@@ -2,6 +2,7 @@
 
 use std::fmt;
 use std::iter::repeat_n;
+use std::ops::RangeInclusive;
 use std::str::FromStr;
 use torkettle_common::random::Random;
 
@@ -16,10 +17,42 @@ pub struct Digits {
 impl Digits {
     /// The number of digits, if all numbers have the same.
     pub fn width(&self) -> Option<usize> {
-        match self.counts[..] {
-            [width] => Some(width),
-            _ => None,
+        let first = self.counts[0];
+        self.counts.iter().all(|count| *count == first).then_some(first)
+    }
+
+    // Reads how many digits are equally likely.
+    fn range(text: &str) -> Result<RangeInclusive<usize>, String> {
+        let number = |text: &str| match text.parse() {
+            Ok(number @ 1..=64) => Ok(number),
+            _ => Err(format!("{text} is no number of digits")),
+        };
+        let (least, most) = text.split_once('-').unwrap_or((text, text));
+        let range = number(least)?..=number(most)?;
+        match range.is_empty() {
+            true => Err(format!("{text} ends before it begins")),
+            false => Ok(range),
         }
+    }
+
+    // Reads ranges with weights, as `1*80,4-9*20`.
+    fn weighted(text: &str) -> Result<Vec<usize>, String> {
+        let part = |part: &str| {
+            let (range, weight) = part.split_once('*').ok_or(format!("{part} has no weight"))?;
+            match weight.parse() {
+                Ok(weight @ 1..=1000_usize) => Ok((Digits::range(range)?, weight)),
+                _ => Err(format!("{weight} is no weight")),
+            }
+        };
+        let parts: Vec<_> = text.split(',').map(part).collect::<Result<_, String>>()?;
+        let size = |range: &RangeInclusive<usize>| range.end() - range.start() + 1;
+        // The weight of a range is divided among its numbers, and so every weight is multiplied by their sizes.
+        let sizes: usize = parts.iter().map(|(range, _)| size(range)).fold(1, common_multiple);
+        let counts = |(range, weight): (RangeInclusive<usize>, usize)| {
+            let times = weight * sizes / size(&range);
+            range.flat_map(move |count| repeat_n(count, times))
+        };
+        Ok(parts.into_iter().flat_map(counts).collect())
     }
 }
 
@@ -27,23 +60,22 @@ impl FromStr for Digits {
     type Err = String;
 
     fn from_str(text: &str) -> Result<Digits, String> {
-        let number = |text: &str| match text.parse() {
-            Ok(number @ 1..=64) => Ok(number),
-            _ => Err(format!("{text} is no number of digits")),
-        };
-        let counts: Vec<usize> = match text.split_once('-') {
+        let counts = match text {
             // Half of the numbers have one digit, a quarter have two, and so on.
-            None if text == "log" => {
-                (1..=10).flat_map(|count| repeat_n(count, (512 >> count).max(1))).collect()
+            "log" => (1..=10).flat_map(|count| repeat_n(count, (512 >> count).max(1))).collect(),
+            _ if text.contains('*') => Digits::weighted(text)?,
+            _ => {
+                let ranges = text.split('|').map(Digits::range).collect::<Result<Vec<_>, _>>()?;
+                ranges.into_iter().flatten().collect()
             }
-            None => text.split('|').map(number).collect::<Result<_, _>>()?,
-            Some((least, most)) => (number(least)?..=number(most)?).collect(),
         };
-        match counts.is_empty() {
-            true => Err(format!("{text} ends before it begins")),
-            false => Ok(Digits { text: text.to_string(), counts }),
-        }
+        Ok(Digits { text: text.to_string(), counts })
     }
+}
+
+// The least common multiple.
+fn common_multiple(one: usize, other: usize) -> usize {
+    (one..=one * other).step_by(one).find(|multiple| multiple % other == 0).unwrap_or(one * other)
 }
 
 impl fmt::Display for Digits {
@@ -78,4 +110,48 @@ pub fn push_number(
         magnitude = magnitude.wrapping_mul(10).wrapping_add(u128::from(digit - b'0'));
     }
     Written { is_negative: sign.is_some(), magnitude }
+}
+
+#[cfg(test)]
+mod tests {
+    use super::Digits;
+
+    // How often each number of digits is among so many that are equally likely.
+    fn shares(text: &str) -> Result<(Vec<usize>, usize), String> {
+        let digits: Digits = text.parse()?;
+        let count = |number| digits.counts.iter().filter(|count| **count == number).count();
+        Ok(((1..=9).map(count).collect(), digits.counts.len()))
+    }
+
+    #[test]
+    fn weights() {
+        // Each of the last six has a sixth of the weight 2.
+        let shares = |text| shares(text).unwrap();
+        assert_eq!(shares("1*80,2*14,3*4,4-9*2"), (vec![480, 84, 24, 2, 2, 2, 2, 2, 2], 600));
+        assert_eq!(shares("1*50,2-9*50"), (vec![400, 50, 50, 50, 50, 50, 50, 50, 50], 800));
+        assert_eq!(shares("1-2*1,1-3*1"), (vec![5, 5, 2, 0, 0, 0, 0, 0, 0], 12));
+    }
+
+    #[test]
+    fn equally_likely() {
+        let shares = |text| shares(text).unwrap().0;
+        assert_eq!(shares("2-4"), [0, 1, 1, 1, 0, 0, 0, 0, 0]);
+        assert_eq!(shares("3|9"), [0, 0, 1, 0, 0, 0, 0, 0, 1]);
+        assert_eq!(shares("log"), [256, 128, 64, 32, 16, 8, 4, 2, 1]);
+    }
+
+    #[test]
+    fn widths() {
+        let width = |text: &str| text.parse::<Digits>().unwrap().width();
+        assert_eq!((width("8"), width("8*3"), width("8*3,9*1")), (Some(8), Some(8), None));
+    }
+
+    #[test]
+    fn refused() {
+        for text in
+            ["", "0", "65", "3-2", "1*0", "1*", "*2", "1*2,", "1*2,3", "1*2|3", "3-2*5", "1*-2"]
+        {
+            assert!(shares(text).is_err(), "{text}");
+        }
+    }
 }

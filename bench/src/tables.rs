@@ -1,6 +1,7 @@
 //! What is timed and counted: the lines of `bench/*.txt`.
 
 use crate::numbers::Digits;
+use crate::real;
 use std::fmt;
 use torkettle_common::Form;
 use torkettle_common::integer::Integer;
@@ -174,6 +175,11 @@ pub fn counted_calls() -> Result<Vec<TimedCall>, String> {
 /// Each call that is timed from C and C++, once.
 pub fn c_calls() -> Result<Vec<TimedCall>, String> {
     Ok(each_once(c_lists()?.into_iter().map(|list| list.call)))
+}
+
+/// Each type of a column or of a real list, once.
+pub fn all_column_types() -> Result<Vec<Integer>, String> {
+    Ok(each_once(column_types()?.into_iter().chain(real::types()?)))
 }
 
 /// Each type of a column, once.

@@ -1,8 +1,8 @@
 //! The C library and `std::from_chars`, called from one C++ program, and its columns from C, read by
-//! calls of `_read` and by calls of `_next`.
+//! calls of `_read` and by calls of `_next`. The same program reads texts of real numbers.
 
-use super::Build;
 use super::place::{ASSEMBLED_WITHIN_32_BYTES, WITHIN_32_BYTES, placed};
+use super::{Build, Compared};
 use crate::tables::{self, Shape, TimedCall};
 use std::path::{Path, PathBuf};
 use std::process::Command;
@@ -17,11 +17,21 @@ use torkettle_common::stamp::Stamp;
 const OURS: &str = "ours_";
 const STANDARD: &str = "std_";
 const NEXT: &str = "next_";
+const CHARS: &str = "chars_";
+const RANGE: &str = "range_";
 
-/// The C library, and then what it is compared with.
-pub fn builds(cache: &Cache, package: &Package) -> Result<Vec<Build>, String> {
+/// What is called from C and C++.
+pub struct OfC {
+    /// The C library, and then what it is compared with.
+    pub builds: Vec<Build>,
+    /// What reads a text of real numbers: three ways of ours, and then what they are compared with.
+    pub texts: Compared,
+}
+
+/// The C library and what it is compared with.
+pub fn builds(cache: &Cache, package: &Package) -> Result<OfC, String> {
     let compilers = [version("g++")?, version("cc")?];
-    let sources = Sources::new(&tables::c_calls()?, &tables::column_types()?);
+    let sources = Sources::new(&tables::c_calls()?, &tables::all_column_types()?);
     let folder = cache.repository().join("c");
     let stamp = package.stamp().with_folder(&folder)?.with(&sources.cpp).with(&sources.c);
     let stamp = compilers.iter().fold(stamp, |stamp: Stamp, version| stamp.with(version));
@@ -34,12 +44,21 @@ pub fn builds(cache: &Cache, package: &Package) -> Result<Vec<Build>, String> {
         compile("cc", &c, &room.join("columns.c"), &sources.c, &columns)?;
         Ok(vec![loops, columns, library(cache, &folder)?])
     })?;
-    let build = |name, prefix| Build { name, prefix, files: placed.clone() };
-    Ok(vec![
-        build(String::from("torkettle::from_chars, and the column in C, by _read"), OURS),
-        build(format!("std::from_chars, g++ {}", compilers[0]), STANDARD),
-        build(String::from("the column in C, by _next"), NEXT),
-    ])
+    let build =
+        |name: &str, prefix| Build { name: name.to_string(), prefix, files: placed.clone() };
+    let standard = build(&format!("std::from_chars, g++ {}", compilers[0]), STANDARD);
+    let texts = vec![
+        build("torkettle::from_chars", CHARS),
+        build("the column in C, by _read", OURS),
+        build("the range torkettle::fields", RANGE),
+        standard.clone(),
+    ];
+    let builds = vec![
+        build("torkettle::from_chars, and the column in C, by _read", OURS),
+        standard,
+        build("the column in C, by _next", NEXT),
+    ];
+    Ok(OfC { builds, texts: Compared { builds: texts, pairs: vec![(0, 3), (1, 3), (2, 3)] } })
 }
 
 fn version(compiler: &str) -> Result<String, String> {
@@ -93,7 +112,10 @@ impl Sources {
             let (name, c_type) = (Shape::export(*integer), c_type(*integer));
             c += &format!("COLUMN({}, {c_type})\n", integer.name());
             cpp += &format!("EXPORT({STANDARD}{name}, column<Standard, {c_type}>)\n");
-            names.extend([OURS, STANDARD, NEXT].map(|prefix| format!("{prefix}{name}")));
+            cpp += &format!("EXPORT({CHARS}{name}, column<Ours, {c_type}>)\n");
+            cpp += &format!("EXPORT({RANGE}{name}, fields<{c_type}>)\n");
+            let prefixes = [OURS, STANDARD, NEXT, CHARS, RANGE];
+            names.extend(prefixes.map(|prefix| format!("{prefix}{name}")));
         }
         Sources { cpp, c, names }
     }

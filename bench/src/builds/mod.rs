@@ -27,6 +27,12 @@ pub enum Others {
     Package { package: Package, name: String },
 }
 
+/// Builds, and which of them are compared: for each pair, the numbers of ours and of theirs.
+pub struct Compared {
+    pub builds: Vec<Build>,
+    pub pairs: Vec<(usize, usize)>,
+}
+
 /// Code that is timed or counted, under the name that the tables have.
 #[derive(Clone)]
 pub struct Build {

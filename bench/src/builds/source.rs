@@ -1,5 +1,5 @@
-//! The text of the exports of libraries in Rust: a call, a loop over an input list, and a loop over
-//! a column.
+//! The text of the exports of libraries in Rust: a call, a loop over an input list, a loop over slices
+//! of a text, and a loop over a column.
 
 use crate::tables::{Function, TimedCall};
 use torkettle_common::integer::Integer;
@@ -46,7 +46,7 @@ impl Parse {
 }
 
 /// How a column is added up.
-#[derive(Clone, Copy)]
+#[derive(Clone, Copy, PartialEq, Eq)]
 pub enum Column {
     /// Its fields are split at commas, and then parsed as whole texts.
     Split,
@@ -72,6 +72,19 @@ struct Row {
     length: usize,
 }
 
+#[repr(C)]
+struct Place {
+    start: u32,
+    length: u32,
+}
+
+#[repr(C)]
+struct Slices {
+    text: *const u8,
+    places: *const Place,
+    count: usize,
+}
+
 #[inline(always)]
 fn from_text<T: std::str::FromStr>(text: &[u8]) -> Option<T> {
     // SAFETY: the texts are ASCII. They are not checked, since that would be timed too.
@@ -92,6 +105,13 @@ impl Calls {
     pub fn rows(&self, name: &str, call: &TimedCall) -> Option<String> {
         let parse = self.parse.expression(call)?;
         let body = ROWS.replace("PARSE", &parse).replace("FOUND", found(call));
+        Some(export(name, call.integer, &body))
+    }
+
+    /// An export that makes a call with each slice of a text. None if the library has no such call.
+    pub fn slices(&self, name: &str, call: &TimedCall) -> Option<String> {
+        let parse = self.parse.expression(call)?;
+        let body = SLICES.replace("PARSE", &parse).replace("FOUND", found(call));
         Some(export(name, call.integer, &body))
     }
 
@@ -151,6 +171,21 @@ const ROWS: &str = "
     let mut sum = 0_u64;
     for row in rows {
         let text = unsafe { row.bytes.get_unchecked(..row.length) };
+        sum = sum.wrapping_add(match PARSE {
+            FOUND
+            None => ERROR,
+        });
+    }
+    sum";
+
+// Here `text` is first the bytes of `Slices`.
+const SLICES: &str = "
+    let slices = unsafe { &*text.as_ptr().cast::<Slices>() };
+    let places = unsafe { std::slice::from_raw_parts(slices.places, slices.count) };
+    let mut sum = 0_u64;
+    for place in places {
+        let start = unsafe { slices.text.add(place.start as usize) };
+        let text = unsafe { std::slice::from_raw_parts(start, place.length as usize) };
         sum = sum.wrapping_add(match PARSE {
             FOUND
             None => ERROR,

@@ -1,6 +1,6 @@
 //! Times the calls from C and C++.
 
-use super::{columns, lists};
+use super::{columns, lists, real_columns};
 use crate::arguments::{Arguments, Work};
 use crate::builds;
 use crate::report::Table;
@@ -13,8 +13,8 @@ use torkettle_common::random::Random;
 
 /// Times them, and returns how many answers differed.
 pub fn run(arguments: &Arguments, cache: &Cache) -> Result<usize, String> {
-    let builds = match builds::of_c(cache, &Package::of_folder(cache.repository())?) {
-        Ok(builds) => builds,
+    let built = match builds::of_c(cache, &Package::of_folder(cache.repository())?) {
+        Ok(built) => built,
         Err(fault) if arguments.work == Work::C => return Err(fault),
         Err(fault) => {
             print_left_out("the C library", &fault);
@@ -22,9 +22,14 @@ pub fn run(arguments: &Arguments, cache: &Cache) -> Result<usize, String> {
         }
     };
     let time = |tasks: Vec<Task>, unit: &str| {
-        Ok::<usize, String>(Table::new(&builds, tasks, unit, arguments.passes)?.print())
+        Ok::<usize, String>(Table::new(&built.builds, tasks, unit, arguments.passes)?.print())
     };
+    let texts = real_columns(arguments)?;
+    let unit = "number of a real list in one text, from C and C++";
+    let texts = Table::new(&built.texts.builds, texts, unit, arguments.passes)?;
+    let wrong = texts.print_lists(&built.texts.pairs, arguments.is_markdown);
     let random = &mut Random::new(arguments.seed);
-    Ok(time(lists(arguments, tables::c_lists()?, random), "call, from C++")?
+    Ok(wrong
+        + time(lists(arguments, tables::c_lists()?, random), "call, from C++")?
         + time(columns(arguments, false, random)?, "field, from C and C++")?)
 }

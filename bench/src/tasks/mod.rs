@@ -7,6 +7,7 @@ mod inlined;
 use crate::arguments::{Arguments, Work};
 use crate::builds::{self, Others};
 use crate::formats::Format;
+use crate::real::{self, RealList};
 use crate::tables::{self, InputList};
 use crate::timing::{Task, processor};
 use torkettle_common::cache::Cache;
@@ -52,12 +53,13 @@ fn others(arguments: &Arguments, cache: &Cache) -> Result<Others, String> {
 // Refuses an argument `--only` that leaves nothing.
 fn check_only(arguments: &Arguments) -> Result<(), String> {
     let random = &mut Random::new(arguments.seed);
-    let has_none = lists(arguments, tables::input_lists()?, random).is_empty()
+    let has_none = real_lists(arguments)?.is_empty()
+        && lists(arguments, tables::input_lists()?, random).is_empty()
         && lists(arguments, tables::c_lists()?, random).is_empty()
         && columns(arguments, false, random)?.is_empty()
         && formats(arguments, random).is_empty();
     match has_none {
-        true => Err(String::from("no input list, no column and no format has what --only says")),
+        true => Err(String::from("no list, no column and no format has what --only says")),
         false => Ok(()),
     }
 }
@@ -77,6 +79,25 @@ fn columns(
     let mut shapes = tables::shapes()?;
     shapes.retain(|shape| arguments.has(&format!("column {shape}")));
     Ok(shapes.iter().map(|shape| Task::column(shape, has_errors, random)).collect())
+}
+
+// The real lists that are timed.
+fn real_lists(arguments: &Arguments) -> Result<Vec<RealList>, String> {
+    let mut lists = real::lists()?;
+    lists.retain(|list| arguments.has(&format!("real {list}")));
+    Ok(lists)
+}
+
+// What is done with the slices of real lists. Each list has the same order in every table.
+fn slices(arguments: &Arguments) -> Result<Vec<Task>, String> {
+    let task = |list: &RealList| Task::slices(list, &mut Random::new(arguments.seed));
+    Ok(real_lists(arguments)?.iter().map(task).collect())
+}
+
+// What is done with real lists as columns.
+fn real_columns(arguments: &Arguments) -> Result<Vec<Task>, String> {
+    let task = |list: &RealList| Task::real_column(list, &mut Random::new(arguments.seed));
+    Ok(real_lists(arguments)?.iter().map(task).collect())
 }
 
 // What is done with the formats that are timed.

@@ -3,6 +3,7 @@
 use super::ERROR;
 use crate::formats::Format;
 use crate::numbers::{Written, push_number};
+use crate::real::RealList;
 use crate::tables::{InputList, Shape};
 use torkettle_common::integer::Integer;
 use torkettle_common::object::Call;
@@ -25,6 +26,23 @@ pub struct Input {
 enum Texts {
     Rows(Vec<Row>),
     Column(Vec<u8>),
+    // One text, and the places of the slices that are read.
+    Slices(Vec<u8>, Vec<Place>),
+}
+
+// Where a slice begins in a text, and how long it is. A row would take 13 times as much of the caches.
+#[repr(C)]
+struct Place {
+    start: u32,
+    length: u32,
+}
+
+// Slices, in the form in which a loop of `builds` reads them.
+#[repr(C)]
+struct Slices {
+    text: *const u8,
+    places: *const Place,
+    count: usize,
 }
 
 // A text, in the form in which a loop of `builds` reads it.
@@ -81,6 +99,27 @@ impl Input {
         Input { texts: Texts::Column(text), items, expected }
     }
 
+    /// The numbers of a real list, as slices of a text in which they are separated by commas.
+    pub fn slices(list: &RealList, random: &mut Random) -> Input {
+        let numbers = list.repeated(random);
+        let mut start = 0;
+        let place = |number: &&str| {
+            let place = Place { start, length: number.len() as u32 };
+            start += place.length + 1;
+            place
+        };
+        let places: Vec<Place> = numbers.iter().map(place).collect();
+        let texts = Texts::Slices(numbers.join(",").into_bytes(), places);
+        Input { texts, items: numbers.len(), expected: sum_of(&numbers, list.integer) }
+    }
+
+    /// The numbers of a real list, as a column.
+    pub fn real_column(list: &RealList, random: &mut Random) -> Input {
+        let numbers = list.repeated(random);
+        let texts = Texts::Column(numbers.join(",").into_bytes());
+        Input { texts, items: numbers.len(), expected: sum_of(&numbers, list.integer) }
+    }
+
     fn rows(items: usize, mut next: impl FnMut() -> (Vec<u8>, u64)) -> Input {
         let (mut rows, mut expected) = (Vec::with_capacity(items), 0_u64);
         for _ in 0..items {
@@ -93,23 +132,38 @@ impl Input {
         Input { texts: Texts::Rows(rows), items, expected }
     }
 
-    /// Calls an export that reads all rows or a column, and returns the sum of the answers.
+    /// Calls an export that reads all rows, all slices or a column, and returns the sum of the answers.
     pub fn sum(&self, export: Call) -> u64 {
         match &self.texts {
             // SAFETY: an export reads as many bytes of the text as the length says.
             Texts::Column(text) => unsafe { export(text.as_ptr(), text.len()) },
             // SAFETY: a loop reads as many rows as the length says, of the form that they have.
             Texts::Rows(rows) => unsafe { export(rows.as_ptr().cast(), rows.len()) },
+            Texts::Slices(text, places) => {
+                let (text, count) = (text.as_ptr(), places.len());
+                let slices = Slices { text, places: places.as_ptr(), count };
+                // SAFETY: a loop reads the bytes of `Slices`, and those of the text that the places name.
+                unsafe { export((&raw const slices).cast(), size_of::<Slices>()) }
+            }
         }
     }
 
-    /// Calls an export with each row, and returns the sum of the answers. A column has no rows.
+    /// Calls an export with each row, and returns the sum of the answers. Other texts have no rows.
     pub fn sum_of_calls(&self, call: Call) -> u64 {
         let Texts::Rows(rows) = &self.texts else { return 0 };
         // SAFETY: an export reads as many bytes of the text as the length says.
         let answer = |row: &Row| unsafe { call(row.bytes.as_ptr(), row.length) };
         rows.iter().map(answer).fold(0, u64::wrapping_add)
     }
+}
+
+// The sum of the values of these texts at a type.
+fn sum_of(numbers: &[&str], integer: Integer) -> u64 {
+    let value = |number: &&str| {
+        let (is_negative, magnitude) = integer.parse(number.as_bytes())?;
+        Some(low_bits(integer, &Written { is_negative, magnitude }))
+    };
+    numbers.iter().filter_map(value).fold(0, u64::wrapping_add)
 }
 
 // The low 64 bits of the value of a number at a type.
@@ -119,4 +173,36 @@ fn low_bits(integer: Integer, written: &Written) -> u64 {
     let low = value as u64 & (u64::MAX >> 64_u32.saturating_sub(integer.bits()));
     debug_assert!(low != ERROR);
     low
+}
+
+#[cfg(test)]
+mod tests {
+    use super::{Input, Texts};
+    use crate::real;
+    use torkettle_common::random::Random;
+
+    #[test]
+    fn slices_are_the_fields_of_a_column() {
+        for list in real::lists().unwrap() {
+            let slices = Input::slices(&list, &mut Random::new(1));
+            let column = Input::real_column(&list, &mut Random::new(1));
+            let (Texts::Slices(text, places), Texts::Column(same)) = (&slices.texts, &column.texts)
+            else {
+                panic!("they have another form");
+            };
+            assert!(text == same && slices.expected == column.expected);
+            let slice = |place: &super::Place| {
+                let (start, length) = (place.start as usize, place.length as usize);
+                &text[start..start + length]
+            };
+            assert!(text.split(|byte| *byte == b',').eq(places.iter().map(slice)));
+        }
+    }
+
+    #[test]
+    fn sums_wrap_at_the_size_of_the_type() {
+        let sum = |integer| super::sum_of(&["-1", "3"], integer);
+        assert_eq!(sum(torkettle_common::integer::Integer::I32), 0xFFFF_FFFF + 3);
+        assert_eq!(sum(torkettle_common::integer::Integer::I64), 2);
+    }
 }

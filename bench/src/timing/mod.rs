@@ -10,6 +10,7 @@ pub use ratios::{Comparison, Ratios};
 
 use crate::builds::Build;
 use crate::formats::Format;
+use crate::real::{self, RealList};
 use crate::tables::{InputList, Shape};
 use std::time::Instant;
 use torkettle_common::Form;
@@ -21,6 +22,9 @@ pub const ERROR: u64 = 0x8000_0000_0000_0001;
 
 // How many rounds each pass has.
 const ROUNDS: usize = 60;
+
+// The same for real lists, which are about 28 times as long as other lists.
+const REAL_ROUNDS: usize = 20;
 
 // How many texts an input list or a format has.
 const ROWS: usize = 4096;
@@ -34,12 +38,14 @@ pub struct Side {
     pub name: String,
 }
 
-/// What the sides do with one line of a table: an input list, a column or a format.
+/// What the sides do with one line of a table: an input list, a column, a format or a real list.
 pub struct Task {
     times: Times,
-    // The names of the exports that read it. Only input lists are read in both forms.
+    // The names of the exports that read it. Only input lists and slices are read in both forms.
     exports: Vec<(Form, String)>,
     input: Input,
+    // How many rounds each pass has at each placement.
+    rounds: usize,
     // For each side, the export at each placement. There are none if it has no such export.
     sides: Vec<Vec<Call>>,
 }
@@ -49,6 +55,8 @@ pub struct Times {
     pub name: String,
     /// The number of digits, if all numbers have the same.
     pub width: Option<usize>,
+    /// The groups of lines to which a real list belongs.
+    pub groups: Vec<&'static str>,
     // For each pass and side, the best round at each placement.
     passes: Vec<Vec<Vec<f64>>>,
     // For each side, whether one of its sums was not the expected one.
@@ -60,6 +68,17 @@ pub struct Times {
 }
 
 impl Times {
+    /// A line that is not timed yet.
+    pub fn new(name: String, width: Option<usize>, groups: Vec<&'static str>) -> Times {
+        let (passes, is_wrong) = (Vec::new(), Vec::new());
+        Times { name, width, groups, passes, is_wrong, rounds: 0, shared: 0 }
+    }
+
+    /// Adds a pass: for each side, the best round at each placement.
+    pub fn push_pass(&mut self, best: Vec<Vec<f64>>) {
+        self.passes.push(best);
+    }
+
     /// The time of a side in nanoseconds, over all passes.
     pub fn of(&self, side: usize) -> Option<f64> {
         let mut passes = self.passes.iter();
@@ -103,10 +122,26 @@ impl Task {
         Task::new(format!("{:10}", format.name()), None, exports, input)
     }
 
+    /// What is done with the slices of a real list.
+    pub fn slices(list: &RealList, random: &mut Random) -> Task {
+        let exports = Form::BOTH.map(|form| (form, real::export(list.integer, form))).to_vec();
+        Task::real(list, exports, Input::slices(list, random))
+    }
+
+    /// What is done with a real list as a column.
+    pub fn real_column(list: &RealList, random: &mut Random) -> Task {
+        let exports = vec![(Form::Words, Shape::export(list.integer))];
+        Task::real(list, exports, Input::real_column(list, random))
+    }
+
+    fn real(list: &RealList, exports: Vec<(Form, String)>, input: Input) -> Task {
+        let times = Times::new(list.to_string(), None, list.groups());
+        Task { times, exports, input, rounds: REAL_ROUNDS, sides: Vec::new() }
+    }
+
     fn new(name: String, width: Option<usize>, exports: Vec<(Form, String)>, input: Input) -> Task {
-        let (passes, is_wrong) = (Vec::new(), Vec::new());
-        let times = Times { name, width, passes, is_wrong, rounds: 0, shared: 0 };
-        Task { times, exports, input, sides: Vec::new() }
+        let times = Times::new(name, width, Vec::new());
+        Task { times, exports, input, rounds: ROUNDS, sides: Vec::new() }
     }
 
     // The calls that a build has for it in a form.
@@ -121,10 +156,10 @@ impl Task {
         let places = self.sides.iter().map(Vec::len).max().unwrap_or_default();
         let mut best: Vec<Vec<f64>> =
             self.sides.iter().map(|side| vec![f64::INFINITY; side.len()]).collect();
-        for round in 0..ROUNDS * places {
+        for round in 0..self.rounds * places {
             self.round(round % places, &mut best);
         }
-        self.times.passes.push(best);
+        self.times.push_pass(best);
     }
 
     // Runs each side once at one placement, which all sides have that have an export.

@@ -1,5 +1,7 @@
 //! Prints times and counts.
 
+mod lists;
+
 use crate::builds::Build;
 use crate::timing::{self, Comparison, Ratios, Side, Task, Times};
 use std::ops::RangeInclusive;
@@ -76,6 +78,11 @@ impl Table {
         if comparisons.len() > FEW {
             comparisons.iter().for_each(|comparison| self.print_slower(comparison));
         }
+        self.print_busy(spread);
+    }
+
+    // Says that the machine is busy if the passes differ by so many percent, or if others seem to use the core.
+    fn print_busy(&self, spread: f64) {
         if spread > BUSY {
             println!("the machine is busy: figures differ by {spread:.0} % between passes");
         }
@@ -94,20 +101,26 @@ impl Table {
         100.0 * shared as f64 / rounds as f64
     }
 
-    // Each side of ours with the sides of each other build. Words are compared with words, and
-    // lanes with lanes if the build has them.
+    // Each side of ours with the sides of each other build.
     fn comparisons(&self) -> Vec<Comparison> {
+        let mut builds: Vec<usize> = self.sides.iter().map(|side| side.build).collect();
+        builds.dedup();
+        let pairs: Vec<(usize, usize)> = builds.into_iter().skip(1).map(|it| (0, it)).collect();
+        self.compared(&pairs)
+    }
+
+    // The sides of pairs of builds, ours and theirs. Words are compared with words, and lanes with
+    // lanes if the build has them.
+    fn compared(&self, pairs: &[(usize, usize)]) -> Vec<Comparison> {
         let side = |build, form| {
             self.sides.iter().position(|side| side.build == build && side.form == form)
         };
-        let mut builds: Vec<usize> = self.sides.iter().map(|side| side.build).collect();
-        builds.dedup();
         let mut comparisons = Vec::new();
-        for build in builds.into_iter().skip(1) {
-            let words = side(build, Form::Words);
+        for (ours, theirs) in pairs.iter().copied() {
+            let words = side(theirs, Form::Words);
             let pairs = [
-                (side(0, Form::Words), words),
-                (side(0, Form::Lanes), side(build, Form::Lanes).or(words)),
+                (side(ours, Form::Words), words),
+                (side(ours, Form::Lanes), side(theirs, Form::Lanes).or(words)),
             ];
             let compared = |(ours, theirs)| Some(Comparison { ours: ours?, theirs: theirs? });
             comparisons.extend(pairs.into_iter().filter_map(compared));
@@ -122,18 +135,15 @@ impl Table {
     // Prints the times of every side on every line. If few sides are compared, prints their ratios.
     fn print_times(&self, comparisons: &[Comparison]) {
         println!("\nnanoseconds per {}:", self.unit);
-        for (side, letter) in self.sides.iter().zip('A'..) {
-            println!("    {letter}  {}", self.name_of(side));
-        }
+        self.print_sides();
         let shown = if has_ratios(comparisons) { comparisons } else { &[] };
-        let width = self.times.first().map_or(0, |times| times.name.len());
+        let width = self.times.iter().map(|times| times.name.len()).max().unwrap_or_default();
         print!("{:width$}", "");
         self.sides.iter().zip('A'..).for_each(|(_, letter)| print!("{letter:>7}"));
-        let letter = |side: usize| ('A'..).nth(side).unwrap_or('?');
         shown.iter().for_each(|it| print!("    {}/{}", letter(it.ours), letter(it.theirs)));
         println!();
         for times in &self.times {
-            print!("{}", times.name);
+            print!("{:width$}", times.name);
             for side in 0..self.sides.len() {
                 let time = times.of(side).map(|time| format!("{time:.1}"));
                 print!("{:>7}", time.unwrap_or_default());
@@ -144,6 +154,13 @@ impl Table {
             }
             let wrong: String = times.wrong().map(letter).collect();
             println!("{}{wrong}", if wrong.is_empty() { "" } else { "  WRONG ANSWERS: " });
+        }
+    }
+
+    // Prints what each letter stands for.
+    fn print_sides(&self) {
+        for (number, side) in self.sides.iter().enumerate() {
+            println!("    {}  {}", letter(number), self.name_of(side));
         }
     }
 
@@ -174,6 +191,9 @@ impl Table {
 
     /// Prints our times and those of the original and of std, if there are any, as a table in Markdown.
     pub fn print_markdown(&self) {
+        if self.times.is_empty() {
+            return;
+        }
         let sides = |is_shown: fn(&Side) -> bool| -> Vec<usize> {
             let sides = self.sides.iter().enumerate().filter(|(_, side)| is_shown(side));
             sides.map(|(number, _)| number).collect()
@@ -213,6 +233,11 @@ fn print_group(pair: &[Comparison], name: &str, times: &[&Times]) -> f64 {
     let shown: Vec<String> = ratios.iter().map(shown).collect();
     println!("| {name} | {} | {spread:.1} % |", shown.join(" | "));
     spread
+}
+
+// The letter of a side.
+fn letter(side: usize) -> char {
+    ('A'..).nth(side).unwrap_or('?')
 }
 
 // What the line of a table says, with one space between its words.
