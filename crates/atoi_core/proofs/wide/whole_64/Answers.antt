@@ -30,3 +30,8 @@ pub returns-else-is_whole-clause-loads : goal.returns-else-is_whole-clause-loads
 returns-else-is_whole-clause-loads g c =
     let e = c.only_window-is_whole.ensures in
     Skipped-loads (Skipped-short g.met.E.Engine.below_ten c.args.skip c.args.s.now e.window e.one_step c.if-s-lt16.true) 0 (omega arith) (omega arith)
+
+pub returns-then-is_whole-clause-loads : goal.returns-then-is_whole-clause-loads
+returns-then-is_whole-clause-loads g c =
+    let e = c.only_window-is_whole.ensures in
+    Skipped-loads (Skipped-short g.met.E.Engine.below_ten c.args.skip c.args.s.now e.window e.one_step c.if-s-lt16.true) 0 (omega arith) (omega arith)
