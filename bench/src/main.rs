@@ -8,6 +8,7 @@ mod arguments;
 mod builds;
 mod count;
 mod formats;
+mod layout;
 mod numbers;
 mod real;
 mod report;

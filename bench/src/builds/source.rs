@@ -61,30 +61,15 @@ pub enum Column {
 }
 
 /// The first lines of a source.
-pub const HEAD: &str = "//! What is timed: `bench` wrote this file.
+pub const HEAD: &str = concat!(
+    "//! What is timed: `bench` wrote this file.
 #![allow(dead_code, unused_imports)]
 
 const ERROR: u64 = 0x8000_0000_0000_0001;
 
-#[repr(C)]
-struct Row {
-    bytes: [u8; 96],
-    length: usize,
-}
-
-#[repr(C)]
-struct Place {
-    start: u32,
-    length: u32,
-}
-
-#[repr(C)]
-struct Slices {
-    text: *const u8,
-    places: *const Place,
-    count: usize,
-}
-
+",
+    include_str!("../layout.rs"),
+    "
 #[inline(always)]
 fn from_text<T: std::str::FromStr>(text: &[u8]) -> Option<T> {
     // SAFETY: the texts are ASCII. They are not checked, since that would be timed too.
@@ -98,7 +83,8 @@ fn from_prefix<T: std::str::FromStr>(text: &[u8]) -> Option<(T, usize)> {
     let length = digits.map_or(text.len(), |digits| sign + digits);
     Some((from_text(&text[..length])?, length))
 }
-";
+"
+);
 
 impl Calls {
     /// An export that makes a call with each row of an input list. None if the library has no such call.

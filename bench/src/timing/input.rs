@@ -2,15 +2,13 @@
 
 use super::ERROR;
 use crate::formats::Format;
+use crate::layout::{Place, ROOM, Row, Slices};
 use crate::numbers::{Written, push_number};
 use crate::real::RealList;
 use crate::tables::{InputList, Shape};
 use torkettle_common::integer::Integer;
 use torkettle_common::object::Call;
 use torkettle_common::random::Random;
-
-// How many bytes each text has room for. An export may read its length only.
-const ROOM: usize = 96;
 
 // The smallest number of bytes that a column has.
 const COLUMN: usize = 65_536;
@@ -28,28 +26,6 @@ enum Texts {
     Column(Vec<u8>),
     // One text, and the places of the slices that are read.
     Slices(Vec<u8>, Vec<Place>),
-}
-
-// Where a slice begins in a text, and how long it is. A row would take 13 times as much of the caches.
-#[repr(C)]
-struct Place {
-    start: u32,
-    length: u32,
-}
-
-// Slices, in the form in which a loop of `builds` reads them.
-#[repr(C)]
-struct Slices {
-    text: *const u8,
-    places: *const Place,
-    count: usize,
-}
-
-// A text, in the form in which a loop of `builds` reads it.
-#[repr(C)]
-struct Row {
-    bytes: [u8; ROOM],
-    length: usize,
 }
 
 impl Input {
