@@ -479,9 +479,9 @@ impl<T: Parse> CheckedColumn<T> {
     // Ends the column.
     #[cold]
     fn refuse(&mut self, bad: &FieldError<'_>) {
-        let told = error::<T>(Err(bad.cause), bad.text);
-        let digits = if told.status == INVALID { told.offset + told.count } else { 0 };
-        self.status = told.status;
+        let refused = error::<T>(Err(bad.cause), bad.text);
+        let digits = if refused.status == INVALID { refused.offset + refused.count } else { 0 };
+        self.status = refused.status;
         self.index = self.rest.next_index + bad.index;
         self.offset = self.rest.next_offset + bad.place + digits;
         self.rest.rest_length = 0;

@@ -2,12 +2,12 @@
 ghost use Rattle.std.specs.Prelude.{◌≡◌, ◌≤◌, take};
 ghost use Rattle.atoi_core.specs.Digit.{decimal_table};
 ghost use Rattle.atoi_core.specs.Run.{run_len, zeros, value};
-ghost use Rattle.atoi_lanes.specs.Lanes.{padded_start};
+ghost use Rattle.atoi_core.specs.Lanes.{padded_start};
 
 use std::simd::prelude::*;
 
-// The worths of sixteen decimal places, the highest first, and then zeros for lanes after a run.
-const WORTHS: [u64; 32] = [
+// The values of sixteen decimal places, the highest first, and then zeros for lanes after a run.
+const PLACE_VALUES: [u64; 32] = [
     1_000_000_000_000_000,
     100_000_000_000_000,
     10_000_000_000_000,
@@ -73,8 +73,8 @@ pub fn sum_lanes(v: u8x16, len: u32) -> u64
     ensures { result ≡ value decimal_table (take len v) }
 {
     let digit_values = (v - u8x16::splat(b'0')).cast::<u64>();
-    let worths = u64x16::from_slice(&WORTHS[16 - len as usize..]);
-    (digit_values * worths).reduce_sum()
+    let place_values = u64x16::from_slice(&PLACE_VALUES[16 - len as usize..]);
+    (digit_values * place_values).reduce_sum()
 }
 
 // Returns the first `N` bytes of `s`. A missing byte is 0.
