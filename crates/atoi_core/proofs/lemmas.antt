@@ -17,3 +17,5 @@ pub mod Numbers
 pub mod SameOutcomes
 pub mod LoadedWords
 pub mod WordWindows
+pub mod LaneWindows
+pub mod LaneMasks

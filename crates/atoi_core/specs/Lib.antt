@@ -11,4 +11,5 @@ pub mod Laws
 pub mod Loads
 pub mod Reading
 pub mod Words
+pub mod Lanes
 pub mod Examples

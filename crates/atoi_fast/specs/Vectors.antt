@@ -1,27 +1,12 @@
 -- Lanes, windows read from them, and digits joined in them.
-use Rattle.std.specs.Prelude.{◌≡◌, ℕ, ◌+◌, ◌*◌, ◌≤◌, ◌==◌, if◌then◌else◌, true, List, [], ◌∷◌, ◌++◌, length, take, drop, replicate, Some}
+use Rattle.std.specs.Prelude.{◌≡◌, ℕ, ◌+◌, ◌*◌, ◌≤◌, true, List, [], ◌∷◌, ◌++◌, length, drop, replicate, Some}
 use Rattle.atoi_core.specs.Digit.{Table, decimal_table}
 use Rattle.atoi_core.specs.Reading.{Reading, IsSkipped}
-use Rattle.atoi_core.specs.Run.{run_len, run, zeros, value}
-use Rattle.atoi_core.specs.declared.engine.window.Window.{Window}
 use Rattle.atoi_fast.specs.declared.vectors.window_32.Window32.{Window32}
-
--- The first `size` bytes; missing ones are 0.
-abbrev pub padded_start : ℕ → List ℕ → List ℕ
-padded_start size s = take size (s ++ replicate size 0)
 
 -- A vector between lanes of 0.
 abbrev pub padded : List ℕ → List ℕ
 padded v = replicate 16 0 ++ (v ++ replicate 16 0)
-
--- The lanes' run; its zeros, if it has `size` digits.
-abbrev pub lane_window : ℕ → List ℕ → Window
-lane_window size lanes =
-    record {
-      len = run_len decimal_table lanes;
-      zeroes = if run_len decimal_table lanes == size then zeros decimal_table lanes else 0;
-      number = value decimal_table (run decimal_table lanes);
-    }
 
 -- The table of elements that are digit values already.
 abbrev pub itself : Table

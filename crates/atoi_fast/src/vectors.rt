@@ -4,7 +4,7 @@ ghost use Rattle.std.proofs.Common.{arith};
 ghost use Rattle.std.proofs.lemmas.Bool.Decides.{nat_tests};
 ghost use Rattle.atoi_core.specs.Digit.{decimal_table};
 ghost use Rattle.atoi_core.specs.Reading.{window_of};
-ghost use Rattle.atoi_fast.specs.Vectors.{lane_window};
+ghost use Rattle.atoi_core.specs.Lanes.{lane_window};
 
 pub(crate) mod bytes;
 pub(crate) mod wide;
@@ -36,7 +36,7 @@ impl Engine for Vectors {
     }
 
     #[inline(always)]
-    #[tactic(auto, using(crate::proofs::lemmas::LaneWindows::window_of_half))]
+    #[tactic(auto, using(atoi_core::proofs::lemmas::LaneWindows::window_of_half))]
     fn window_8(s: &[u8], steps: &mut Steps) -> Window {
         steps.tick();
         // An empty slice needs no lanes.
@@ -72,7 +72,7 @@ impl Engine for Vectors {
 
 // The window of 16 bytes of at least as many. A word sums up to 8 digits.
 #[inline(always)]
-#[tactic(auto, using(crate::proofs::lemmas::LaneWindows::window_of_lanes, crate::proofs::lemmas::LaneWindows::few_counted))]
+#[tactic(auto, using(atoi_core::proofs::lemmas::LaneWindows::window_of_lanes, crate::proofs::lemmas::LaneWindows::few_counted))]
 fn long_window(s: &[u8]) -> Window
     requires { 16 ≤ length s.now }
     ensures { result ≡ window_of decimal_table 16 s.now }
@@ -120,7 +120,7 @@ pub(crate) fn read_window(s: &[u8]) -> Window
 
 // `read_window` by lanes for any number of bytes.
 #[inline(always)]
-#[tactic(auto, using(crate::proofs::lemmas::LaneWindows::window_of_lanes))]
+#[tactic(auto, using(atoi_core::proofs::lemmas::LaneWindows::window_of_lanes))]
 fn read_lanes(s: &[u8]) -> Window
     ensures { result ≡ window_of decimal_table 16 s.now }
 {

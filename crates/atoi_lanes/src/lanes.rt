@@ -3,7 +3,7 @@ ghost use Rattle.std.specs.Prelude.{◌≡◌};
 ghost use Rattle.std.proofs.Common.{arith};
 ghost use Rattle.std.proofs.lemmas.Bool.Decides.{nat_tests};
 ghost use Rattle.atoi_core.specs.Digit.{decimal_table};
-ghost use Rattle.atoi_lanes.specs.Lanes.{lane_window};
+ghost use Rattle.atoi_core.specs.Lanes.{lane_window};
 
 use crate::kernels::{len_lanes, load_lanes, sum_lanes, zeroes_lanes};
 use crate::wide_lanes::{prefix_64_lanes, prefix_128_lanes};
@@ -29,14 +29,14 @@ impl Engine for Lanes {
     ghost table = { decimal_table };
 
     /// Returns the window of 16 bytes. Makes one load.
-    #[tactic(auto, using(crate::proofs::lemmas::LaneWindows::window_of_lanes))]
+    #[tactic(auto, using(atoi_core::proofs::lemmas::LaneWindows::window_of_lanes))]
     fn window(s: &[u8], steps: &mut Steps) -> Window {
         steps.tick();
         lane_window(load_lanes(s), 16)
     }
 
     /// Returns the window of 8 bytes. Makes one load.
-    #[tactic(auto, using(crate::proofs::lemmas::LaneWindows::window_of_half))]
+    #[tactic(auto, using(atoi_core::proofs::lemmas::LaneWindows::window_of_half))]
     fn window_8(s: &[u8], steps: &mut Steps) -> Window {
         steps.tick();
         lane_window(load_lanes(&s[..s.len().min(8)]), 8)

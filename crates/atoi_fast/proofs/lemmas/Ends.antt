@@ -14,7 +14,8 @@ use Rattle.atoi_core.proofs.lemmas.Runs.{prefix_len-drop, prefix_len-take}
 use Rattle.atoi_fast.proofs.lemmas.DigitLanes.{above_zero, each-append, end_values, less}
 use Rattle.atoi_fast.proofs.lemmas.LaneWindows.{lanes-of_bytes}
 use Rattle.atoi_fast.proofs.lemmas.Shuffles.{each_from}
-use Rattle.atoi_fast.specs.Vectors.{itself, padded_start}
+use Rattle.atoi_core.specs.Lanes.{padded_start}
+use Rattle.atoi_fast.specs.Vectors.{itself}
 use Rattle.atoi_fast.specs.declared.vectors.bytes.TheConstants.{TO_END, TO_START}
 use lib.Lanes.{Each1, digits_l, number_l, zip2}
 

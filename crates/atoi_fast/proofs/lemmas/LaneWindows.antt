@@ -1,14 +1,14 @@
 -- The lanes of a slice, and the windows and readings that they show.
-use Rattle.std.proofs.Common.{◌≡◌, ℕ, ◌+◌, ◌<◌, List, ◌++◌, get_or, length, take, drop, replicate, min, ◌-◌, refl, sym, ap, ◌∙◌, arith, ◌≤◌}
-use Rattle.std.proofs.Math.Nat.{min_comm}
-use Rattle.std.proofs.lemmas.List.{take_all, take_at, take_min, take_rest, length-drop, length-take, drop-drop, take-append-le, take-take}
-use Rattle.atoi_core.specs.Digit.{decimal_table, is_digit, is_zero}
-use Rattle.atoi_core.specs.Reading.{Reading, window_of}
+use Rattle.std.proofs.Common.{◌≡◌, ℕ, ◌+◌, ◌<◌, List, ◌++◌, get_or, length, take, drop, replicate, ◌-◌, sym, ap, ◌∙◌, arith, ◌≤◌}
+use Rattle.std.proofs.lemmas.List.{take_at, take_rest, length-drop, drop-drop, take-append-le, take-take}
+use Rattle.atoi_core.specs.Digit.{decimal_table, is_digit}
+use Rattle.atoi_core.specs.Reading.{Reading}
 use Rattle.atoi_core.specs.Run.{run_len, run, zeros, value}
 use Rattle.atoi_core.specs.Words.{low_bytes, word_of}
-use Rattle.atoi_core.proofs.lemmas.LoadedWords.{digits-of_bytes, loaded_run, prefix_len-padded}
+use Rattle.atoi_core.proofs.lemmas.LaneWindows.{digits_shown, reading_shown}
+use Rattle.atoi_core.proofs.lemmas.LoadedWords.{digits-of_bytes, loaded_run}
 use Rattle.atoi_core.proofs.lemmas.Runs.{prefix_len-drop, prefix_len-take}
-use Rattle.atoi_fast.specs.Vectors.{lane_window, padded_start}
+use Rattle.atoi_core.specs.Lanes.{padded_start}
 use lib.Lanes.{Each1, digits_l}
 use Rattle.std.proofs.lemmas.List.Sums.{prefix_len-le-length}
 
@@ -21,32 +21,12 @@ lanes-of_bytes m xs h room = digits-of_bytes 16 m xs h room
 pub first_lanes : (n : ℕ) (s : List ℕ) → n ≤ 16 → n ≤ length s → take n (padded_start 16 s) ≡ take n s
 first_lanes n s few enough = search (arith, take-take, take-append-le)
 
--- Lanes of 0 after them change nothing.
-module _ (s : List ℕ) where
-  pub digits_shown : run_len decimal_table (padded_start 16 s) ≡ run_len decimal_table (take 16 s)
-  digits_shown = prefix_len-padded (is_digit decimal_table) refl 16 16 s
-
-  zeros_shown : zeros decimal_table (padded_start 16 s) ≡ zeros decimal_table (take 16 s)
-  zeros_shown = prefix_len-padded (is_zero decimal_table) refl 16 16 s
-
-  run_shown : run decimal_table (padded_start 16 s) ≡ run decimal_table (take 16 s)
-  run_shown =
-      let len = run_len decimal_table (take 16 s) in
-      let most : len ≤ min 16 (length s) = omega (arith, prefix_len-le-length (is_digit decimal_table) (take 16 s), length-take 16 s) in
-      ap (λ n. take n (padded_start 16 s)) digits_shown ∙ first_lanes len s (omega arith) (omega arith) ∙ sym (take-take len 16 s (omega arith))
-
-  lanes_show : (size : ℕ) → lane_window size (padded_start 16 s) ≡ lane_window size (take 16 s)
-  lanes_show size = cc (digits_shown, zeros_shown, run_shown)
-
-  pub window_of_lanes : lane_window 16 (padded_start 16 s) ≡ window_of decimal_table 16 s
-  window_of_lanes = lanes_show 16
-
 -- The word of eight bytes has a run that ends in them.
 module _ (s : List ℕ) (fits : (i : ℕ) → get_or s i 0 < 256) (word : ℕ) (loaded : word ≡ word_of (take 8 s)) where
   pub few_counted : run_len decimal_table (padded_start 16 s) ≤ 8 → run_len decimal_table (padded_start 16 s) ≡ run_len decimal_table (low_bytes 8 word)
   few_counted few =
       let digit = is_digit decimal_table in
-      omega (arith, digits_shown s, prefix_len-take digit 16 s, prefix_len-take digit 8 s, loaded_run 8 s fits word loaded)
+      omega (arith, digits_shown 16 s, prefix_len-take digit 16 s, prefix_len-take digit 8 s, loaded_run 8 s fits word loaded)
 
 -- The last 16 of 16 to 31 bytes, the first 16 of which are digits: what they count, and those after the first 16.
 pub last_shown : (s lanes : List ℕ) → 16 ≤ run_len decimal_table s → length s < 32 → lanes ≡ padded_start 16 (take (length s - (length s - 16)) (drop (length s - 16) s))
@@ -61,21 +41,21 @@ last_shown s lanes full few are =
       ap (drop (16 - (length s - 16))) same ∙ drop-drop (16 - (length s - 16)) (length s - 16) s ∙ ap (λ n. drop n s) place,
     )
 
--- At most eight bytes.
-pub window_of_half : (n : ℕ) (s : List ℕ) → n ≡ min (length s) 8 → lane_window 8 (padded_start 16 (take n s)) ≡ window_of decimal_table 8 s
-window_of_half n s is =
-    ap (λ l. lane_window 8 (padded_start 16 l)) (ap (λ k. take k s) (is ∙ min_comm (length s) 8) ∙ take_min 8 s)
-    ∙ lanes_show (take 8 s) 8 ∙ ap (lane_window 8) (take_all 16 (take 8 s) (omega (arith, length-take 8 s)))
-
 -- The lanes of 16 bytes give a reading of these.
 pub reading_of_lanes : (s lanes : List ℕ) (len number : ℕ) → lanes ≡ padded_start 16 s → len ≡ run_len decimal_table lanes
     → number ≡ value decimal_table (take len lanes) → Reading decimal_table 16 s len (zeros decimal_table lanes) number
-reading_of_lanes s lanes len number loaded digits writes = search (arith, digits_shown, zeros_shown, run_shown)
+reading_of_lanes s lanes len number loaded digits writes =
+    let shown = reading_shown 16 s in
+    record {
+      digits_are = digits ∙ ap (run_len decimal_table) loaded ∙ shown.digits_are;
+      leading_are = ap (zeros decimal_table) loaded ∙ shown.leading_are;
+      number_is = writes ∙ ap (λ n. value decimal_table (take n lanes)) digits ∙ ap (λ l. value decimal_table (run decimal_table l)) loaded ∙ shown.number_is;
+    }
 
 -- Sixteen digits in the lanes are the first sixteen bytes.
 pub full_lanes : (s lanes : List ℕ) {number : ℕ} → lanes ≡ padded_start 16 s → run_len decimal_table lanes ≡ 16 → number ≡ value decimal_table (take 16 lanes)
     → (16 ≤ run_len decimal_table s) × (number ≡ value decimal_table (take 16 s))
 full_lanes s lanes loaded all writes =
-    let full : 16 ≤ run_len decimal_table s = omega (arith, sym (ap (run_len decimal_table) loaded) ∙ all, digits_shown s, prefix_len-take (is_digit decimal_table) 16 s) in
+    let full : 16 ≤ run_len decimal_table s = omega (arith, sym (ap (run_len decimal_table) loaded) ∙ all, digits_shown 16 s, prefix_len-take (is_digit decimal_table) 16 s) in
     let enough : 16 ≤ length s = omega (arith, full, prefix_len-le-length (is_digit decimal_table) s) in
     (full, writes ∙ ap (λ l. value decimal_table (take 16 l)) loaded ∙ ap (value decimal_table) (first_lanes 16 s (omega arith) enough))

@@ -1,43 +1,9 @@
--- A mask counts the leading lanes that pass a test.
-use Rattle.std.proofs.Common.{◌≡◌, ℕ, ◌+◌, ◌%◌, ◌^◌, ◌<◌, Bool, true, false, cond, List, [], ◌∷◌, map, length, get_or, Fits, w8, w16, w64, not, inl, inr, ◌≤◌, refl, sym, ap, ap₂, ◌∙◌, arith}
-use Rattle.std.specs.Int.{bit_at, trailing_ones, trailing_zeros}
+-- A mask of the lanes that fail a test counts the leading ones that pass.
+use Rattle.std.proofs.Common.{◌≡◌, ℕ, ◌<◌, Bool, true, false, List, map, length, w16, not, refl, sym, ap, ◌∙◌, arith}
+use Rattle.std.specs.Int.{trailing_zeros}
 use Rattle.std.specs.List.{prefix_len}
-use Rattle.std.proofs.lemmas.Bool.{agree_below, agree_below_at, cases_lt}
-use Rattle.std.proofs.lemmas.Bool.Decides.{nat_tests}
-use Rattle.std.proofs.lemmas.List.{get_or-map, get_or_past, length-map}
-use Rattle.std.proofs.lemmas.List.Sums.{prefix_len_is}
-use Rattle.std.proofs.lemmas.Nat.Bits.{bit_at-trailing_ones}
-use Rattle.std.proofs.lemmas.Simd.{bit_mask_l, leading_from_mask_l, map-map, mask_l-lt, mask_l-mod, trailing_mask_l}
-use lib.Lanes.{Each1, mask_l, top}
-
--- Tests that agree on each byte agree on lists of bytes.
-map-agree : (p q : ℕ → Bool) → agree_below p q 256 ≡ true → (xs : List ℕ) → Each1 (Fits w8) xs → map p xs ≡ map q xs
-map-agree p q all [] fits = refl
-map-agree p q all (x ∷ xs) fits = ap₂ (λ b bs. b ∷ bs) (agree_below_at p q 256 x all fits.0.fits) (map-agree p q all xs fits.1)
-
--- A top bit set exactly where x passes makes this mask.
-pub mask-of_lanes : (q : ℕ → Bool) (v : List ℕ) (f : ℕ → ℕ) (z : List ℕ) → length v ≡ 16 → Each1 (Fits w8) v → z ≡ map f v
-    → agree_below (λ x. top 7 (f x)) q 256 ≡ true → mask_l (map (top 7) z) % 2 ^ 64 ≡ mask_l (map q v)
-mask-of_lanes q v f z long fits lanes all =
-    let set = λ (x : ℕ). top 7 (f x) in
-    ap (λ l. mask_l l % 2 ^ 64) (ap (map (top 7)) lanes ∙ map-map (top 7) f v)
-    ∙ mask_l-mod (map set v) 64 (omega (arith, length-map v set))
-    ∙ ap mask_l (map-agree set q all v fits)
-
--- How many lanes pass at the start, counted in a mask of the lanes that pass.
-pub ones-of_mask : (q : ℕ → Bool) (v : List ℕ) → length v ≡ 16 → (mask : ℕ) → mask ≡ mask_l (map q v) → trailing_ones w64 mask ≡ prefix_len q v
-ones-of_mask q v long mask is =
-    let small : mask + 1 < 2 ^ 64 = omega (arith, is, rw (length-map v q, long) at (mask_l-lt (map q v))) in
-    let found = bit_at-trailing_ones w64 mask small in
-    let bit : (i : ℕ) → bit_at mask i ≡ cond (get_or (map q v) i false) 1 0 = λ i. ap (λ m. bit_at m i) is ∙ bit_mask_l (map q v) i in
-    let most : trailing_ones w64 mask ≤ 16 =
-    elim (cases_lt 16 (trailing_ones w64 mask)) [
-      | inl more ↦ absurd (grind (arith, nat_tests, found.2 16 more, bit 16, get_or_past (map q v) 16 false (omega (arith, length-map v q))))
-      | inr few ↦ few
-    ] in
-    sym (prefix_len_is q v (trailing_ones w64 mask) 0 (omega (arith, most))
-    (λ k lt. sym (get_or-map q v k 0 false (omega (arith, most))) ∙ grind (arith, nat_tests, bit k, found.2 k lt))
-    (λ short. sym (get_or-map q v (trailing_ones w64 mask) 0 false short) ∙ grind (arith, nat_tests, bit (trailing_ones w64 mask), found.1)))
+use Rattle.std.proofs.lemmas.Simd.{leading_from_mask_l, trailing_mask_l}
+use lib.Lanes.{mask_l}
 
 not-not : (b : Bool) → not (not b) ≡ b
 not-not true = refl

@@ -3,7 +3,8 @@ use Rattle.std.proofs.Common.{◌≡◌, ℕ, ◌+◌, ◌-◌, ◌<◌, ◌≤�
 use Rattle.std.specs.List.{range_with_len}
 use Rattle.std.proofs.lemmas.List.FromFn.{get_or-range_with_len, length-range_with_len}
 use Rattle.std.proofs.lemmas.Simd.{Each1-get_or, SwzOk, pick_l_whole, swz_l}
-use Rattle.atoi_fast.specs.Vectors.{padded, padded_start}
+use Rattle.atoi_core.specs.Lanes.{padded_start}
+use Rattle.atoi_fast.specs.Vectors.{padded}
 use lib.Lanes.{Each1}
 
 -- The table `SHIFTS`.

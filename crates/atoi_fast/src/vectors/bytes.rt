@@ -6,7 +6,8 @@ ghost use Rattle.atoi_core.specs.Digit.{decimal_table, is_digit};
 ghost use Rattle.atoi_core.specs.Run.{run_len, zeros, value};
 ghost use Rattle.atoi_core.specs.Words.{low_bytes, low_value, word_of};
 ghost use Rattle.atoi_core.specs.Reading.{window_of};
-ghost use Rattle.atoi_fast.specs.Vectors.{itself, padded, padded_start, paired};
+ghost use Rattle.atoi_core.specs.Lanes.{padded_start};
+ghost use Rattle.atoi_fast.specs.Vectors.{itself, padded, paired};
 
 use crate::digits::{ZEROS, digits_of, fill_of_zeros};
 use crate::loads::{load_full, load_high, load_last};

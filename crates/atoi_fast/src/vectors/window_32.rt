@@ -3,7 +3,7 @@ ghost use Rattle.std.specs.Prelude.{◌≡◌, ◌+◌, ◌*◌, ◌^◌, ◌≤
 ghost use Rattle.atoi_core.specs.Digit.{decimal_table};
 ghost use Rattle.atoi_core.specs.Reading.{Reading};
 ghost use Rattle.atoi_core.specs.Run.{run_len, zeros, value};
-ghost use Rattle.atoi_fast.specs.Vectors.{padded_start};
+ghost use Rattle.atoi_core.specs.Lanes.{padded_start};
 
 use crate::vectors::bytes::{len_lanes, load_lanes, shuffle, sum_lanes, zeroes_lanes};
 use atoi_core::Steps;

@@ -1,17 +1,14 @@
 -- The lanes of a slice, and the windows and readings that they show.
-use Rattle.std.proofs.Common.{◌≡◌, ℕ, ◌+◌, ◌-◌, ◌*◌, ◌^◌, ◌≤◌, List, [], ◌∷◌, ◌++◌, length, take, drop, replicate, get_or, min, Fits, w8, lit<, inl, inr, sym, ap, refl, ◌∙◌, arith}
+use Rattle.std.proofs.Common.{◌≡◌, ℕ, ◌+◌, ◌-◌, ◌*◌, ◌^◌, ◌≤◌, List, [], ◌∷◌, ◌++◌, length, take, drop, replicate, get_or, Fits, w8, lit<, inl, inr, sym, ap, ◌∙◌, arith}
 use Rattle.std.specs.List.{range_with_len}
-use Rattle.std.proofs.Math.Nat.{min_comm}
 use Rattle.std.proofs.lemmas.Bool.{cases_lt}
-use Rattle.std.proofs.lemmas.List.{take_all, take_min, length-append, length-drop, length-replicate, length-take, length-take-le, take-append-le, take-take}
+use Rattle.std.proofs.lemmas.List.{take_all, length-append, length-drop, length-replicate, length-take-le, take-take}
 use Rattle.std.proofs.lemmas.List.Sums.{prefix_len-le-length}
 use Rattle.std.proofs.lemmas.Simd.{Each1-chunk, Each1-from_get_or, Each1-replicate, pick_l_left, pick_l-range_with_len}
-use Rattle.atoi_core.specs.Digit.{decimal_table, is_digit, is_zero}
-use Rattle.atoi_core.specs.Reading.{Reading, window_of}
-use Rattle.atoi_core.specs.Run.{run_len, run, zeros, value}
-use Rattle.atoi_core.proofs.lemmas.LoadedWords.{prefix_len-padded}
+use Rattle.atoi_core.specs.Digit.{decimal_table, is_digit}
+use Rattle.atoi_core.specs.Run.{run_len, value}
 use Rattle.atoi_core.proofs.lemmas.Runs.{prefix_len-drop, prefix_len-take, value-take-add}
-use Rattle.atoi_lanes.specs.Lanes.{lane_window, padded_start}
+use Rattle.atoi_core.specs.Lanes.{padded_start}
 use lib.Lanes.{Each1, pick_l}
 
 each-append : (xs ys : List ℕ) → Each1 (Fits w8) xs → Each1 (Fits w8) ys → Each1 (Fits w8) (xs ++ ys)
@@ -26,33 +23,6 @@ module _ (n : ℕ) (s : List ℕ) where
   pub padded_fits : ((i : ℕ) → Fits w8 (get_or s i 0)) → Each1 (Fits w8) (padded_start n s)
   padded_fits fits =
       Each1-chunk (Fits w8) 0 n _ (each-append s (replicate n 0) (Each1-from_get_or (Fits w8) s 0 (λ i _. fits i)) (Each1-replicate (Fits w8) n 0 (record { fits = lit< tt })))
-
-  digits_shown : run_len decimal_table (padded_start n s) ≡ run_len decimal_table (take n s)
-  digits_shown = prefix_len-padded (is_digit decimal_table) refl n n s
-
-  zeros_shown : zeros decimal_table (padded_start n s) ≡ zeros decimal_table (take n s)
-  zeros_shown = prefix_len-padded (is_zero decimal_table) refl n n s
-
-  run_shown : run decimal_table (padded_start n s) ≡ run decimal_table (take n s)
-  run_shown =
-      let len = run_len decimal_table (take n s) in
-      let most : len ≤ min n (length s) = omega (arith, prefix_len-le-length (is_digit decimal_table) (take n s), length-take n s) in
-      ap (λ k. take k (padded_start n s)) digits_shown ∙ search (arith, take-take, take-append-le, most)
-
-  lanes_show : (size : ℕ) → lane_window size (padded_start n s) ≡ lane_window size (take n s)
-  lanes_show size = cc (digits_shown, zeros_shown, run_shown)
-
-  pub reading_of_lanes : Reading decimal_table n s (run_len decimal_table (padded_start n s)) (zeros decimal_table (padded_start n s)) (value decimal_table (run decimal_table (padded_start n s)))
-  reading_of_lanes = record { digits_are = digits_shown; leading_are = zeros_shown; number_is = ap (value decimal_table) run_shown }
-
-pub window_of_lanes : (s : List ℕ) → lane_window 16 (padded_start 16 s) ≡ window_of decimal_table 16 s
-window_of_lanes s = lanes_show 16 s 16
-
--- At most eight bytes.
-pub window_of_half : (n : ℕ) (s : List ℕ) → n ≡ min (length s) 8 → lane_window 8 (padded_start 16 (take n s)) ≡ window_of decimal_table 8 s
-window_of_half n s is =
-    ap (λ l. lane_window 8 (padded_start 16 l)) (ap (λ k. take k s) (is ∙ min_comm (length s) 8) ∙ take_min 8 s)
-    ∙ lanes_show 16 (take 8 s) 8 ∙ ap (lane_window 8) (take_all 16 (take 8 s) (omega (arith, length-take 8 s)))
 
 -- The lanes that `extract` takes of 32.
 module _ (v : List ℕ) (long : length v ≡ 32) where

@@ -7,7 +7,8 @@ use Rattle.atoi_core.specs.Run.{run_len, value}
 use Rattle.atoi_core.proofs.lemmas.LoadedWords.{loaded_part}
 use Rattle.atoi_core.proofs.lemmas.Runs.{prefix_len-take}
 use Rattle.atoi_core.proofs.lemmas.WordWindows.{window_ended}
-use Rattle.atoi_fast.proofs.lemmas.LaneWindows.{digits_shown, few_counted, first_lanes}
+use Rattle.atoi_fast.proofs.lemmas.LaneWindows.{few_counted, first_lanes}
+use Rattle.atoi_core.proofs.lemmas.LaneWindows.{digits_shown}
 use Rattle.atoi_fast.proofs.vectors.long_window.Goals as goal
 use Rattle.atoi_fast.proofs.vectors.long_window.Goals.{then-len-le8, else-len-le8}
 
@@ -18,7 +19,7 @@ returns c =
     let len = trailing_zeros w16 c.others-others.result in
     let shown = c.others-others.ensures.some (omega arith) ∙ ap (run_len decimal_table) lanes in
     let few : len < 16 = omega (arith, c.others-others.ensures.some (omega arith), c.others-others.ensures.fewer (omega arith)) in
-    let run : len ≡ run_len decimal_table s = omega (arith, shown, few, digits_shown s, prefix_len-take (is_digit decimal_table) 16 s) in
+    let run : len ≡ run_len decimal_table s = omega (arith, shown, few, digits_shown 16 s, prefix_len-take (is_digit decimal_table) 16 s) in
     let number : c.if-len-le8.number ≡ value decimal_table (take len s) =
     elim c.if-len-le8.branch [
       | then-len-le8 w ↦

@@ -3,7 +3,8 @@ use Rattle.std.proofs.Common.{◌≡◌, ℕ, ◌+◌, ◌-◌, ◌*◌, ◌^◌
 use Rattle.std.proofs.lemmas.List.Sums.{prefix_len-le-length}
 use Rattle.atoi_core.specs.Digit.{decimal_table, is_digit}
 use Rattle.atoi_core.specs.Run.{run_len, zeros, value}
-use Rattle.atoi_lanes.proofs.lemmas.LaneWindows.{length_padded, padded_fits, first_half, second_half, halves_run, halves_value, reading_of_lanes}
+use Rattle.atoi_lanes.proofs.lemmas.LaneWindows.{length_padded, padded_fits, first_half, second_half, halves_run, halves_value}
+use Rattle.atoi_core.proofs.lemmas.LaneWindows.{reading_shown}
 use Rattle.atoi_lanes.proofs.lemmas.Masks.{digits_counted, zeros_counted}
 use Rattle.atoi_lanes.proofs.window_32.window_32.Goals as goal
 use Rattle.atoi_lanes.proofs.window_32.window_32.Goals.{After-saturating_sub-more}
@@ -61,7 +62,7 @@ returns-clause-reading c =
     let len : ℕ = c.trailing_ones-len.result in
     let more : ℕ = c.saturating_sub-more.result in
     let padded = c.first_bytes-lanes.ensures in
-    let shown = reading_of_lanes 32 c.args.s.now in
+    let shown = reading_shown 32 c.args.s.now in
     let high = c.sum_lanes-high.ensures ∙ ap (λ half. value decimal_table (take (len - more) half)) (first_half v known.long) in
     let low = c.sum_lanes-low.ensures ∙ ap (λ half. value decimal_table (take more half)) (second_half v known.long) in
     record {

@@ -3,7 +3,8 @@ use Rattle.std.proofs.lemmas.List.{length-map}
 use Rattle.std.proofs.lemmas.Simd.{mask_l-lt, splat_is_map, zip2_of_maps, zip2_splat}
 use Rattle.std.proofs.lemmas.Nat.Bits.{bit_at-trailing_zeros}
 use Rattle.atoi_core.specs.Digit.{decimal_table, is_digit}
-use Rattle.atoi_fast.proofs.lemmas.Masks.{mask-of_lanes, run-of_others}
+use Rattle.atoi_core.proofs.lemmas.LaneMasks.{mask-of_lanes}
+use Rattle.atoi_fast.proofs.lemmas.Masks.{run-of_others}
 use Rattle.atoi_fast.proofs.vectors.bytes.others.Goals as goal
 
 -- A lane of a comparison: all bits set if `a` is at most `b`, otherwise 0.
@@ -20,7 +21,7 @@ returns-clause-mask c =
     let values = zip2_splat (λ x y. (x + (2 ^ 8 - y)) % 2 ^ 8) v 16 48 sixteen in
     let sums = zip2_of_maps plus _ _ v values (splat_is_map v 16 118 sixteen) in
     let marks = zip2_of_maps bit_or _ _ v sums values in
-    mask-of_lanes (λ byte. not (is_digit decimal_table byte)) v _ _ sixteen c.fits-v.1
+    mask-of_lanes (λ byte. not (is_digit decimal_table byte)) v (omega arith) _ _ c.fits-v.1
     (zip2_of_maps mask _ _ v (splat_is_map v 16 128 sixteen) marks) refl
 
 pub overflow_cast-result : goal.overflow_cast-result
