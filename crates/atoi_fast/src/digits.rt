@@ -1,4 +1,5 @@
-//! How many digits and zeros a word begins with, and the number that they spell.
+//! How many digits and zeros a word begins with, and the number that they spell: the kernels of
+//! `atoi_core::words` with fewer instructions.
 ghost use Rattle.std.specs.Prelude.{◌≡◌, ◌-◌, ◌<◌, ◌≤◌, ◌++◌, nat_lt, drop, replicate};
 ghost use Rattle.atoi_core.specs.Digit.{decimal_table};
 ghost use Rattle.atoi_core.specs.Run.{run_len, zeros};

@@ -19,8 +19,7 @@ use crate::vectors::wide::{prefix_64_vectors, prefix_128_vectors};
 use atoi_core::{AtoiSimdError, Engine, Steps, Window};
 use std::simd::prelude::*;
 
-/// The engine that reads sixteen bytes at once into the lanes of a vector, and 32 after zeros that are
-/// skipped. Its digits are `b'0'` to `b'9'`.
+/// The engine that reads sixteen bytes at once into the lanes of a vector, and 32 while it skips zeros. Its digits are `b'0'` to `b'9'`.
 pub struct Vectors;
 
 impl Engine for Vectors {

@@ -10,7 +10,8 @@ use crate::wide_lanes::{prefix_64_lanes, prefix_128_lanes};
 use atoi_core::{AtoiSimdError, Engine, Steps, Window};
 use std::simd::prelude::*;
 
-/// The engine for the digits `b'0'` to `b'9'` that reads 16 bytes, or 32 for 64 and 128 bits.
+/// The engine for the digits `b'0'` to `b'9'` that reads windows of 16 bytes, and of 32 in `prefix_64` and
+/// `prefix_128`.
 pub struct Lanes;
 
 // Returns the window of `size` bytes from lanes that hold at most these, and 0 after them.

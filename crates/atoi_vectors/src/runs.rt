@@ -1,4 +1,4 @@
-//! Runs of up to 48 digits, and runs with each of the 256 bytes at each offset: every engine answers as
+//! Runs of up to 49 digits, and runs with each of the 256 bytes at each offset: every engine answers as
 //! the plain rules.
 
 use crate::core_calls::check;

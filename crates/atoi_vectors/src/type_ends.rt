@@ -3,6 +3,7 @@
 
 use crate::both::{self, Integer};
 use crate::checks::gives;
+use crate::core_calls;
 use crate::plain_rules::{Body, Class};
 use std::alloc::{AllocError, Global};
 use std::process::Abort;
@@ -36,8 +37,8 @@ fn text_of(
     Ok(text)
 }
 
-// Checks that `parse` and `parse_prefix` return what `plain_rules` says. That is `value` (for a prefix
-// with its length) or an error.
+// Checks that `parse`, `parse_prefix` and the parsers of each engine return what `plain_rules` says. For the
+// first two, that is `value` (for a prefix with its length) or an error.
 fn check_text<T: Integer>(rt: &impl Abort, end: End, value: T, sign: &[u8], text: &[u8]) {
     let body = Body::of(text.get(sign.len()..).unwrap_or(text));
     let bound = Body::of(end.digits).number.unwrap_or(0);
@@ -46,6 +47,7 @@ fn check_text<T: Integer>(rt: &impl Abort, end: End, value: T, sign: &[u8], text
         Ok((_, len)) => Ok((value, len.saturating_add(sign.len()))),
         Err(error) => Err(error),
     };
+    core_calls::check(rt, body.bytes);
     gives(rt, both::parse::<T, false, true>(rt, text), whole(false));
     gives(rt, both::parse::<T, true, true>(rt, text), whole(true));
     gives(

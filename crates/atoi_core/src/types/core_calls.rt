@@ -1,6 +1,7 @@
 //! The four *core calls*: each parses digits without a sign as an integer of any type, with the
-//! parser for its size. They call `whole` and `prefix`, which take the sign as an argument.
-ghost use Rattle.std.specs.Prelude.{◌≡◌, ◌≤◌, true, false, IfOk, length};
+//! parser for its size. They call `whole_with_sign` and
+//! `prefix_with_sign`, which take the sign as an argument.
+ghost use Rattle.std.specs.Prelude.{◌≡◌, ◌+◌, ◌≤◌, true, false, IfOk, length};
 ghost use Rattle.atoi_core.specs.Answer.{typed_answer, typed_prefix_answer, whole_answer, prefix_answer};
 ghost use Rattle.atoi_core.specs.IntType.{class_of, bound_of, limit_of};
 ghost use Rattle.atoi_core.specs.Loads.{TypedLoads};
@@ -25,7 +26,7 @@ pub fn whole_pos<'a, E: Engine, T: Number>(
     ensures answer { typed_answer T.number result ≡ whole_answer E.table T.int_type false skip s.now }
     ensures loads { TypedLoads E.table T.int_type whole skip s.now steps.old steps.new }
 {
-    whole::<E, T>(false, skip, s, steps)
+    whole_with_sign::<E, T>(false, skip, s, steps)
 }
 
 /// Like `whole_pos`, but returns minus the value of the digits. The errors are the same.
@@ -38,7 +39,7 @@ pub fn whole_neg<'a, E: Engine, T: Signed>(
     ensures answer { typed_answer T.number result ≡ whole_answer E.table T.int_type true skip s.now }
     ensures loads { TypedLoads E.table T.int_type whole skip s.now steps.old steps.new }
 {
-    whole::<E, T>(true, skip, s, steps)
+    whole_with_sign::<E, T>(true, skip, s, steps)
 }
 
 /// Like `whole_pos`, but parses the digits at the start of `s`. Also returns how many there are.
@@ -53,8 +54,9 @@ pub fn prefix_pos<'a, E: Engine, T: Number>(
         ≡ prefix_answer E.table T.int_type false skip s.now }
     ensures within { IfOk result (λ found. found.1 ≤ length s.now) }
     ensures loads { TypedLoads E.table T.int_type prefix skip s.now steps.old steps.new }
+    ensures unskipped { T.BITS ≤ 32 → skip ≡ false → steps.new ≤ steps.old + 2 }
 {
-    prefix::<E, T>(false, skip, s, steps)
+    prefix_with_sign::<E, T>(false, skip, s, steps)
 }
 
 /// Like `prefix_pos`, but returns minus the value of the digits. The errors are the same.
@@ -68,14 +70,15 @@ pub fn prefix_neg<'a, E: Engine, T: Signed>(
         ≡ prefix_answer E.table T.int_type true skip s.now }
     ensures within { IfOk result (λ found. found.1 ≤ length s.now) }
     ensures loads { TypedLoads E.table T.int_type prefix skip s.now steps.old steps.new }
+    ensures unskipped { T.BITS ≤ 32 → skip ≡ false → steps.new ≤ steps.old + 2 }
 {
-    prefix::<E, T>(true, skip, s, steps)
+    prefix_with_sign::<E, T>(true, skip, s, steps)
 }
 
 // Like `whole_neg` if `minus` is set, otherwise like `whole_pos`.
 #[inline(always)]
 #[tactic(auto, using(crate::proofs::lemmas::Calls::whole_in_bounds))]
-pub(crate) fn whole<'a, E: Engine, T: Number>(
+pub(crate) fn whole_with_sign<'a, E: Engine, T: Number>(
     minus: bool,
     skip: bool,
     s: &'a [u8],
@@ -92,7 +95,7 @@ pub(crate) fn whole<'a, E: Engine, T: Number>(
 // Like `prefix_neg` if `minus` is set, otherwise like `prefix_pos`.
 #[inline(always)]
 #[tactic(auto, using(crate::proofs::lemmas::Calls::prefix_in_bounds))]
-pub(crate) fn prefix<'a, E: Engine, T: Number>(
+pub(crate) fn prefix_with_sign<'a, E: Engine, T: Number>(
     minus: bool,
     skip: bool,
     s: &'a [u8],
@@ -103,6 +106,7 @@ pub(crate) fn prefix<'a, E: Engine, T: Number>(
         ≡ prefix_answer E.table T.int_type minus skip s.now }
     ensures within { IfOk result (λ found. found.1 ≤ length s.now) }
     ensures loads { TypedLoads E.table T.int_type prefix skip s.now steps.old steps.new }
+    ensures unskipped { T.BITS ≤ 32 → skip ≡ false → steps.new ≤ steps.old + 2 }
 {
     let (magnitude, len) = prefix_by_size::<E, T>(minus, skip, s, steps)?;
     Ok((T::from_parts(minus, magnitude), len))
@@ -147,6 +151,7 @@ fn prefix_by_size<'a, E: Engine, T: Number>(
     ensures answer { answer_of result ≡ prefix_magnitude E.table (class_of T.int_type)
         (bound_of T.int_type minus) (limit_of T.int_type) skip s.now }
     ensures loads { TypedLoads E.table T.int_type prefix skip s.now steps.old steps.new }
+    ensures unskipped { T.BITS ≤ 32 → skip ≡ false → steps.new ≤ steps.old + 2 }
 {
     let bound = greatest_magnitude::<T>(minus);
     if T::BITS <= 32 {

@@ -1,5 +1,5 @@
-//! Takes the sign and makes one call of `whole` or `prefix` for the body after it.
-ghost use Rattle.std.specs.Prelude.{◌≡◌, ◌+◌, ◌-◌, ◌≤◌, true, IfOk, length, drop};
+//! Takes the sign and makes one core call for the body after it.
+ghost use Rattle.std.specs.Prelude.{◌≡◌, ◌+◌, ◌-◌, ◌≤◌, true, false, IfOk, length, drop};
 ghost use Rattle.atoi_core.specs.Answer.{typed_answer, typed_prefix_answer, text_answer, text_prefix_answer};
 ghost use Rattle.atoi_core.specs.Loads.{TypedLoads};
 ghost use Rattle.atoi_core.specs.Magnitude.{whole, prefix};
@@ -8,7 +8,7 @@ ghost use Rattle.atoi_core.specs.Sign.{sign_of};
 use crate::engine::Engine;
 use crate::engine::steps::Steps;
 use crate::error::AtoiSimdError;
-use crate::types::core_calls::{prefix, whole};
+use crate::types::core_calls::{prefix_with_sign, whole_with_sign};
 use crate::types::number::Number;
 
 /// Consumes a `+` if `skip_plus` is on, or a `-` if `signed` is on. Returns whether it was a `-`, and
@@ -59,7 +59,7 @@ pub fn parse_text<'a, E: Engine, T: Number>(
         steps.old steps.new }
 {
     let (minus, body) = take_sign(T::SIGNED, skip_plus, s);
-    whole::<E, T>(minus, skip, body, steps)
+    whole_with_sign::<E, T>(minus, skip, body, steps)
 }
 
 /// Parses the number at the start of `s`, and returns it with its length, the sign included. Returns the
@@ -76,8 +76,9 @@ pub fn parse_prefix_text<'a, E: Engine, T: Number>(
     ensures within { IfOk result (λ found. found.1 ≤ length s.now) }
     ensures loads { TypedLoads E.table T.int_type prefix skip (sign_of T.SIGNED skip_plus s.now).body
         steps.old steps.new }
+    ensures unskipped { T.BITS ≤ 32 → skip ≡ false → steps.new ≤ steps.old + 2 }
 {
     let (minus, body) = take_sign(T::SIGNED, skip_plus, s);
-    let (number, len) = prefix::<E, T>(minus, skip, body, steps)?;
+    let (number, len) = prefix_with_sign::<E, T>(minus, skip, body, steps)?;
     Ok((number, len + (s.len() - body.len())))
 }

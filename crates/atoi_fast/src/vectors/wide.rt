@@ -1,4 +1,4 @@
-//! The parsers of 64 and 128 bits of `Vectors`. After zeros that are skipped, they read 32 bytes at once.
+//! The parsers of 64 and 128 bits of `Vectors`. To skip zeros, they read 32 bytes at once, from the start again.
 ghost use Rattle.std.specs.Prelude.{◌≡◌, ◌+◌, ◌/◌, ◌<◌, ◌≤◌, MatchOption, length, take, drop, true, false};
 ghost use Rattle.atoi_core.specs.Digit.{decimal_table};
 ghost use Rattle.atoi_core.specs.Loads.{LoadsWithin, most_loads};
