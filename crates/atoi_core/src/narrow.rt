@@ -72,6 +72,21 @@ pub fn narrow_whole_windows<'a, E: Engine>(
         let (window, is_whole) = only_window::<E>(s, steps);
         return narrow_answer(bound, window.len as usize, is_whole, window.number, s);
     }
+    narrow_whole_long::<E>(bound, s, steps)
+}
+
+// `narrow_whole_windows` for at least 16 bytes, most of them zeros if the number is in range.
+#[inline(never)]
+fn narrow_whole_long<'a, E: Engine>(
+    bound: u64,
+    s: &'a [u8],
+    steps: &mut Steps,
+) -> Result<u64, AtoiSimdError<'a>>
+    requires high { bound ≤ 4294967295 }
+    ensures answer { answer_of result ≡ whole_magnitude E.table narrow bound 0 false s.now }
+    ensures loads { LoadsWithin (most_loads E.table narrow s.now) E.table true s.now
+        steps.old steps.new }
+{
     let window = E::window(s, steps);
     if window.zeroes > 0 {
         return narrow_whole_after_zeros::<E>(bound, window.zeroes, s, steps);

@@ -6,6 +6,7 @@
 mod after_16;
 mod digits;
 mod loads;
+mod one_byte;
 mod swar;
 mod vectors;
 

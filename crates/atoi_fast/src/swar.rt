@@ -16,6 +16,7 @@ use crate::digits::{
     zeroes_of_two,
 };
 use crate::loads::{load_full, load_high, load_last};
+use crate::one_byte::window_of_one;
 use atoi_core::powers::{append_digits, power_of_ten};
 use atoi_core::wide_answer::{answer_64, answer_128, found_or_empty};
 use atoi_core::{AtoiSimdError, Engine, Steps, Window, window_after_zeros};
@@ -228,8 +229,8 @@ fn long_window(s: &[u8]) -> Window
     }
 }
 
-// `read_window` for at most 8 bytes. Fills a slice to eight bytes with zeros before it. Only length 0 has
-// a branch.
+// `read_window` for at most 8 bytes. Fills a slice to eight bytes with zeros before it. Only one byte, the
+// most frequent length, or none has a branch.
 #[inline(always)]
 #[tactic(auto, using(crate::proofs::lemmas::WordWindows::filled_fits, crate::proofs::lemmas::WordWindows::filled_digits))]
 fn short_window(s: &[u8]) -> Window
@@ -237,8 +238,8 @@ fn short_window(s: &[u8]) -> Window
     ensures of_16 { result ≡ window_of decimal_table 16 s.now }
     ensures of_8 { length s.now < 8 → result ≡ window_of decimal_table 8 s.now }
 {
-    if s.is_empty() {
-        return Window::not_full(0, 0);
+    if s.len() <= 1 {
+        return window_of_one(s);
     }
     let filled = load_high(s) + fill_of_zeros(s.len());
     let digits = digits_of(filled);

@@ -85,6 +85,13 @@ pub(crate) fn limit_64<T: Number>() -> u32
     if T::SIGNED { 19 } else { 20 }
 }
 
+// Returns `magnitude`, or minus it if `minus` is set. A product, since the compiler would branch on the sign.
+fn with_sign_64(minus: bool, magnitude: u64) -> i128
+    ensures { result ≡ with_sign minus magnitude }
+{
+    i128::from(magnitude) * (1 - 2 * i128::from(minus))
+}
+
 impl Number for u8 {
     const BITS: u32 = 8;
 
@@ -145,13 +152,7 @@ impl Number for i8 {
     }
 
     fn from_parts(minus: bool, magnitude: u128) -> i8 {
-        // If a positive number came from the magnitude itself, the compiler would branch on the sign.
-        let negative = Self::from_neg(magnitude);
-        if minus {
-            negative
-        } else {
-            negative.unsigned_abs() as i8
-        }
+        with_sign_64(minus, magnitude as u64) as i8
     }
 
     ghost type_is = { record { bits_are = refl; sign_is = refl; greatest_is = refl } };
@@ -233,12 +234,7 @@ impl Number for i16 {
     }
 
     fn from_parts(minus: bool, magnitude: u128) -> i16 {
-        let negative = Self::from_neg(magnitude);
-        if minus {
-            negative
-        } else {
-            negative.unsigned_abs() as i16
-        }
+        with_sign_64(minus, magnitude as u64) as i16
     }
 
     ghost type_is = { record { bits_are = refl; sign_is = refl; greatest_is = refl } };
@@ -320,12 +316,7 @@ impl Number for i32 {
     }
 
     fn from_parts(minus: bool, magnitude: u128) -> i32 {
-        let negative = Self::from_neg(magnitude);
-        if minus {
-            negative
-        } else {
-            negative.unsigned_abs() as i32
-        }
+        with_sign_64(minus, magnitude as u64) as i32
     }
 
     ghost type_is = { record { bits_are = refl; sign_is = refl; greatest_is = refl } };
@@ -407,12 +398,7 @@ impl Number for i64 {
     }
 
     fn from_parts(minus: bool, magnitude: u128) -> i64 {
-        let negative = Self::from_neg(magnitude);
-        if minus {
-            negative
-        } else {
-            negative.unsigned_abs() as i64
-        }
+        with_sign_64(minus, magnitude as u64) as i64
     }
 
     ghost type_is = { record { bits_are = refl; sign_is = refl; greatest_is = refl } };
@@ -585,12 +571,7 @@ impl Number for isize {
     }
 
     fn from_parts(minus: bool, magnitude: u128) -> isize {
-        let negative = Self::from_neg(magnitude);
-        if minus {
-            negative
-        } else {
-            negative.unsigned_abs() as isize
-        }
+        with_sign_64(minus, magnitude as u64) as isize
     }
 
     ghost type_is = { record { bits_are = refl; sign_is = refl; greatest_is = refl } };

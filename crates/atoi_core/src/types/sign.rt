@@ -8,7 +8,7 @@ ghost use Rattle.atoi_core.specs.Sign.{sign_of};
 use crate::engine::Engine;
 use crate::engine::steps::Steps;
 use crate::error::AtoiSimdError;
-use crate::types::core_calls::{prefix_with_sign, whole_with_sign};
+use crate::types::core_calls::{prefix_with_sign, whole_pos, whole_with_sign};
 use crate::types::number::Number;
 
 /// Consumes a `+` if `skip_plus` is on, or a `-` if `signed` is on. Returns whether it was a `-`, and
@@ -58,8 +58,33 @@ pub fn parse_text<'a, E: Engine, T: Number>(
     ensures loads { TypedLoads E.table T.int_type whole skip (sign_of T.SIGNED skip_plus s.now).body
         steps.old steps.new }
 {
+    if s.len() <= 1 {
+        return match s {
+            [b'0'..=b'9'] => whole_pos::<E, T>(skip, s, steps),
+            _ => parse_no_digit::<E, T>(skip, skip_plus, s, steps),
+        };
+    }
     let (minus, body) = take_sign(T::SIGNED, skip_plus, s);
     whole_with_sign::<E, T>(minus, skip, body, steps)
+}
+
+// `parse_text` for a byte that is no digit, or none.
+#[cold]
+#[inline(never)]
+fn parse_no_digit<'a, E: Engine, T: Number>(
+    skip: bool,
+    skip_plus: bool,
+    s: &'a [u8],
+    steps: &mut Steps,
+) -> Result<T, AtoiSimdError<'a>>
+    requires { length s.now ≤ 1 }
+    ensures answer { typed_answer T.number result ≡ text_answer E.table T.int_type skip skip_plus s.now }
+    ensures loads { TypedLoads E.table T.int_type whole skip (sign_of T.SIGNED skip_plus s.now).body
+        steps.old steps.new }
+{
+    let (minus, body) = take_sign(T::SIGNED, skip_plus, s);
+    // LLVM then leaves out the parser of longer slices.
+    whole_with_sign::<E, T>(minus, skip, &body[..body.len().min(1)], steps)
 }
 
 /// Parses the number at the start of `s`, and returns it with its length, the sign included. Returns the

@@ -11,6 +11,7 @@ ghost use Rattle.atoi_fast.specs.Vectors.{itself, padded, paired};
 
 use crate::digits::{ZEROS, digits_of, fill_of_zeros};
 use crate::loads::{load_full, load_high, load_last};
+use crate::one_byte::window_of_one;
 use atoi_core::Window;
 use atoi_core::words::load_8;
 use std::simd::prelude::*;
@@ -193,8 +194,8 @@ pub(crate) fn short_window(s: &[u8]) -> Window
     requires few { length s.now < 8 }
     ensures { result ≡ window_of decimal_table 16 s.now }
 {
-    if s.is_empty() {
-        return Window::not_full(0, 0);
+    if s.len() <= 1 {
+        return window_of_one(s);
     }
     let filled = load_high(s) + fill_of_zeros(s.len());
     let digits = digits_of(filled);
