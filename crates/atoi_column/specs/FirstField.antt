@@ -1,8 +1,9 @@
 -- The first field of the bytes that are left, as `next` finds it.
-use Rattle.std.specs.Prelude.{◌≡◌, ℕ, ◌==◌, ◌&&◌, Bool, true, if◌then◌else◌, ℤ, Option, None, Some, Ok, List, [], ◌∷◌, length}
+use Rattle.std.specs.Prelude.{◌≡◌, ℕ, ◌==◌, ◌&&◌, Bool, true, if◌then◌else◌, ℤ, Option, None, Some, Ok, List, [], ◌∷◌, length, take, drop}
 use Rattle.std.specs.List.{position_or_len, before_first, after_first}
 use Rattle.atoi_core.specs.IntType.{IntType}
-use Rattle.atoi_core.specs.Answer.{parse_answer}
+use Rattle.atoi_core.specs.Answer.{parse_answer, parse_prefix_answer}
+use Rattle.atoi_core.specs.Text.{TextWrites}
 use Rattle.atoi_column.specs.FieldItems.{cut_of}
 
 -- The text of the first field of `rest`, which the end of the input may end.
@@ -27,3 +28,9 @@ after_field trims separator (byte ∷ bytes) =
 pub record IsAcceptedField (int : IntType) (trims : Bool) (separator : ℕ) (rest : List ℕ) (number : ℤ) (following : List ℕ) : Type 0 where
   pub accepted : parse_answer int true true (first_text (cut_of trims) separator rest) ≡ Ok number
   pub after : following ≡ after_first (λ byte. byte == separator) rest
+
+-- The first byte of `rest` writes `number`, and is its prefix that does. Then comes the separator.
+pub record IsShortField (int : IntType) (separator : ℕ) (rest : List ℕ) (number : ℤ) (following : List ℕ) : Type 0 where
+  pub prefix : parse_prefix_answer int true true rest ≡ Ok (number, 1)
+  pub written : TextWrites int true (take 1 rest) number
+  pub ends : drop 1 rest ≡ separator ∷ following

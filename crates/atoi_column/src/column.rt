@@ -5,6 +5,7 @@ ghost use Rattle.atoi_column.specs.Fields.{is_separator};
 ghost use Rattle.atoi_column.specs.Items.{index_of, item_of, items_of, place_of};
 
 use crate::error::ColumnError;
+use crate::fields::short_field;
 use crate::laws::fields_are_prefixes;
 use atoi_simd::{Parse, parse_prefix};
 use std::iter::FusedIterator;
@@ -117,6 +118,12 @@ impl<'a, T: Parse> Iterator for Column<'a, T> {
         let (rest, index, place) = (self.rest, self.index, self.place);
         if self.has_ended || rest.is_empty() {
             return None;
+        }
+        if let Some((value, following)) = short_field::<T>(rest, self.separator) {
+            self.rest = following;
+            self.index = index + 1;
+            self.place = place + 2;
+            return Some(Ok(value));
         }
         // No item follows unless a separator is found.
         self.has_ended = true;

@@ -6,11 +6,11 @@ ghost use Rattle.std.specs.List.{position_or_len, after_first};
 ghost use Rattle.atoi_core.specs.Answer.{parse_answer, parse_prefix_answer};
 ghost use Rattle.atoi_column.specs.Fields.{is_separator};
 ghost use Rattle.atoi_column.specs.FieldItems.{cut_of, field_item, field_item_of, fields_in, lines_in, field_items, field_items_left, line_items, GivesFirstField};
-ghost use Rattle.atoi_column.specs.FirstField.{after_field, first_text, IsAcceptedField};
+ghost use Rattle.atoi_column.specs.FirstField.{after_field, first_text, IsAcceptedField, IsShortField};
 
 use crate::field_error::FieldError;
 use crate::laws::fields_are_prefixes;
-use atoi_core::laws::{accepted_texts, prefix_begins};
+use atoi_core::laws::{accepted_texts, prefix_begins, prefix_is_whole};
 use atoi_simd::{Parse, parse, parse_prefix};
 use std::iter::FusedIterator;
 use std::marker::{Model, PhantomData};
@@ -221,6 +221,9 @@ fn accepted_field<T: Parse, const PLUS: bool>(
     fields_are_prefixes::<T>();
     accepted_texts::<T>();
     prefix_begins::<T>();
+    if let Some((value, following)) = short_field::<T>(rest, separator) {
+        return Some((value, following));
+    }
     let (value, count) = match parse_prefix::<T, true, PLUS>(rest) {
         Ok(found) => found,
         Err(_) => return None,
@@ -228,6 +231,26 @@ fn accepted_field<T: Parse, const PLUS: bool>(
     match after_field(&rest[count..], separator, trims) {
         Some(following) => Some((value, following)),
         None => None,
+    }
+}
+
+// Returns the number of a first field of one byte, and what follows its separator.
+#[inline(always)]
+pub(crate) fn short_field<T: Parse>(rest: &[u8], separator: u8) -> Option<(T, &[u8])>
+    ensures { is_separator separator ≡ true → IfSome result (λ found. IsShortField T.int_type separator
+        rest.now (T.number found.0) found.1.now) }
+{
+    fields_are_prefixes::<T>();
+    accepted_texts::<T>();
+    prefix_is_whole::<T>();
+    match rest {
+        [first, second, following @ ..] if *second == separator && first.is_ascii_digit() => {
+            match parse::<T, true, false>(&rest[..1]) {
+                Ok(value) => Some((value, following)),
+                Err(_) => None,
+            }
+        }
+        _ => None,
     }
 }
 

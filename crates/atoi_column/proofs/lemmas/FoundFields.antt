@@ -4,14 +4,14 @@ use Rattle.std.specs.List.{position_or_len}
 use Rattle.std.specs.Char.{digit_value}
 use Rattle.std.specs.Str.Parse.{AllDigits}
 use Rattle.std.proofs.lemmas.List.{take_all, drop_all, get_or-take, length-take-le, take-take}
-use Rattle.std.proofs.lemmas.List.Sums.{prefix_len-le-length, fails_before_first, position_or_len_is}
+use Rattle.std.proofs.lemmas.List.Sums.{prefix_len-le-length, fails_before_first, passes_at_first, position_or_len_is}
 use Rattle.std.proofs.lemmas.Bool.{eq-eqb, ne_eqb, false≢true}
 use Rattle.std.proofs.lemmas.Bool.Decides.{leb_tells, eqb_tells}
 use Rattle.atoi_core.specs.IntType.{IntType}
-use Rattle.atoi_core.specs.Answer.{parse_prefix_answer}
+use Rattle.atoi_core.specs.Answer.{parse_answer, parse_prefix_answer}
 use Rattle.atoi_core.specs.Sign.{sign_of}
 use Rattle.atoi_core.specs.Text.{SignMark, no_sign, plus, minus, sign_bytes, TextWrites, BeginsWithDigit}
-use Rattle.atoi_core.specs.Laws.{AcceptedTexts, PrefixBegins, looked_for}
+use Rattle.atoi_core.specs.Laws.{AcceptedTexts, PrefixBegins, PrefixIsWhole, looked_for}
 use Rattle.atoi_column.specs.Fields.{is_separator}
 use Rattle.atoi_column.specs.FieldItems.{cut_of}
 use Rattle.atoi_column.specs.FirstField.{after_separator, after_field, IsAcceptedField}
@@ -80,11 +80,9 @@ text_with_plus writes = record {
 
 -- The number at the start of `rest`, which `count` bytes write.
 pub record HasNumber (int : IntType) (separator : ℕ) (rest : List ℕ) (number : ℤ) (count : ℕ) : Type 0 where
-  pub prefix : parse_prefix_answer int true true rest ≡ Ok (number, count)
+  pub within : count ≤ position_or_len (λ byte. byte == separator) rest
   pub written : TextWrites int true (take count rest) number
-  pub law : FieldsArePrefixes int
   pub texts : AcceptedTexts int
-  pub separates : is_separator separator ≡ true
 
 module _ {int : IntType} {separator : ℕ} {rest : List ℕ} {number : ℤ} {count : ℕ} (trims : Bool) (has : HasNumber int separator rest number count) where
   abbrev ends : ℕ → Bool
@@ -92,7 +90,7 @@ module _ {int : IntType} {separator : ℕ} {rest : List ℕ} {number : ℤ} {cou
 
   accepted_at_end : {following : List ℕ} → drop count rest ≡ [] → following ≡ [] → IsAcceptedField int trims separator rest number following
   accepted_at_end cut none =
-      let within = (has.law separator has.separates rest).within number count has.prefix in
+      let within = has.within in
       let left = prefix_len-le-length (λ byte. not (ends byte)) rest in
       let all : length rest ≤ count = omega (arith, length-drop count rest, ap length cut) in
       let end : position_or_len ends rest ≡ length rest = omega arith in
@@ -105,7 +103,7 @@ module _ {int : IntType} {separator : ℕ} {rest : List ℕ} {number : ℤ} {cou
       → IsAcceptedField int trims separator rest number following
   accepted_before byte following cut same =
       let first = drop_first count rest byte following cut in
-      let within = (has.law separator has.separates rest).within number count has.prefix in
+      let within = has.within in
       let at : position_or_len ends rest ≡ count = elim (leb_tells (position_or_len ends rest) count) [
         | inl past ↦ omega arith
         | inr before ↦ absurd (false≢true (sym (fails_before_first ends rest count 0 before.1) ∙ eq-eqb (get_or rest count 0) separator (first.1 ∙ same)))
@@ -122,7 +120,7 @@ module _ {int : IntType} {separator : ℕ} {rest : List ℕ} {number : ℤ} {cou
   accepted_line following cuts cut apart =
       let return = drop_first count rest 13 (separator ∷ following) cut in
       let first = drop_first (count + 1) rest separator following return.2 in
-      let within = (has.law separator has.separates rest).within number count has.prefix in
+      let within = has.within in
       let at : position_or_len ends rest ≡ count + 1 = position_or_len_is ends rest (count + 1) 0 (omega arith)
       (λ k below. elim (leb_tells count k) [
         | inl last ↦ let same : k ≡ count = omega (arith, last.1) in rw same (ne_eqb _ _ (λ e. apart (sym return.1 ∙ e)))
@@ -159,3 +157,38 @@ module _ {int : IntType} {separator : ℕ} {rest : List ℕ} {number : ℤ} {cou
             accepted_before byte following (cc) same.1
         | inr apart ↦ accepted_byte trims refl apart.1 cut (rw apart.0 at end)
       ]
+
+-- A text at the start of the bytes has no separator in it.
+pub text_within : {int : IntType} (separator : ℕ) (rest : List ℕ) (count : ℕ) {number : ℤ} → FieldsArePrefixes int → PrefixIsWhole int
+    → is_separator separator ≡ true → count ≤ length rest → parse_answer int true true (take count rest) ≡ Ok number
+    → count ≤ position_or_len (λ byte. byte == separator) rest
+text_within {int} separator rest count {number} law whole separates fits answer =
+    let ends : ℕ → Bool = λ byte. byte == separator in
+    let text : List ℕ = take count rest in
+    let prefix : parse_prefix_answer int true true text ≡ Ok (number, length text) = whole.back (looked_for true) true text number (inl refl) answer in
+    let few : length text ≤ position_or_len ends text = (law separator separates text).within number (length text) prefix in
+    let len : length text ≡ count = length-take-le count rest fits in
+    elim (leb_tells count (position_or_len ends rest)) [
+      | inl enough ↦ enough.1
+      | inr past ↦
+          let first : ℕ = position_or_len ends rest in
+          let passes : ends (get_or rest first 0) ≡ true = passes_at_first ends rest 0 (omega (arith, past.1)) in
+          let fails : ends (get_or text first 0) ≡ false = fails_before_first ends text first 0 (omega (arith, past.1)) in
+          let same : get_or text first 0 ≡ get_or rest first 0 = get_or-take count rest first 0 past.1 in
+          absurd (false≢true (sym fails ∙ (ap ends same ∙ passes)))
+    ]
+
+-- A number of one byte before a separator is the number at the start.
+pub short_prefix : {int : IntType} {separator : ℕ} (rest : List ℕ) {following : List ℕ} {number : ℤ} → FieldsArePrefixes int → PrefixIsWhole int → AcceptedTexts int
+    → is_separator separator ≡ true → TextWrites int true (take 1 rest) number → drop 1 rest ≡ separator ∷ following
+    → parse_prefix_answer int true true rest ≡ Ok (number, 1)
+short_prefix {int} {separator} rest {following} {number} law whole texts separates written cut =
+    let ends : ℕ → Bool = λ byte. byte == separator in
+    let first = drop_first 1 rest separator following cut in
+    let answer : parse_answer int true true (take 1 rest) ≡ Ok number = texts.number (take 1 rest) number written in
+    let within : 1 ≤ position_or_len ends rest = text_within separator rest 1 law whole separates (omega (arith, first.0)) answer in
+    let at : position_or_len ends rest ≡ 1 = elim (leb_tells (position_or_len ends rest) 1) [
+      | inl past ↦ omega arith
+      | inr before ↦ absurd (false≢true (sym (fails_before_first ends rest 1 0 before.1) ∙ eq-eqb (get_or rest 1 0) separator first.1))
+    ] in
+    rw at at ((law separator separates rest).to_prefix number (rw at answer))
