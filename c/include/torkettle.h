@@ -36,10 +36,12 @@
 
 #ifdef __cplusplus
 #define TORKETTLE_NOEXCEPT noexcept
+#define TORKETTLE_CAST_(type, value) static_cast<type>(value)
 extern "C" {
 #else
 #include <stdbool.h>
 #define TORKETTLE_NOEXCEPT
+#define TORKETTLE_CAST_(type, value) ((type)(value))
 #endif
 
 /* The version of this header. torkettle_version returns the version of the library. */
@@ -158,7 +160,7 @@ typedef struct torkettle_error {
  *     size_t offset;            For TORKETTLE_INVALID, the offset of the byte after the number, otherwise the offset of
  *                               the field. To learn more, call torkettle_parse_prefix_error_i64 with both flags for
  *                               the text from there on.
- *     uint64_t state[5];        Only for the library.
+ *     ...                       The others are only for the library.
  * };
  *
  *
@@ -222,14 +224,56 @@ typedef struct torkettle_error {
  * and torkettle_next_, one for each choice of flags, and one for JSON. They return a number and its length in two
  * registers. The length is 0 if there is no number. The length that torkettle_next_field_ returns is 1 for a number,
  * and 2 for a bad field. If `flags` is a constant, the compiler keeps only one call.
+ *
+ * A number of one digit is read here, because a call would take most of its time.
  */
+static inline bool torkettle_is_digit(char byte) TORKETTLE_NOEXCEPT
+{
+    return '0' <= byte && byte <= '9';
+}
+
+/* Whether a whole text is one digit. */
+static inline bool torkettle_whole_is_digit(const char *text, size_t length) TORKETTLE_NOEXCEPT
+{
+    return length == 1 && torkettle_is_digit(text[0]);
+}
+
+/* Whether the number at the start of a text is one digit. */
+static inline bool torkettle_prefix_is_digit(const char *text, size_t length) TORKETTLE_NOEXCEPT
+{
+    return length > 0 && torkettle_is_digit(text[0]) && (length == 1 || !torkettle_is_digit(text[1]));
+}
+
+/* How many bytes of a text are read. With a digit, `+` or `-` as the separator there are none, and so no digit is. */
+static inline size_t torkettle_rest_length(size_t length, char separator) TORKETTLE_NOEXCEPT
+{
+    return torkettle_is_digit(separator) || separator == '+' || separator == '-' ? 0 : length;
+}
+
 /* `suffix` is `_i64` and so on. The program may have `i64` itself as a macro, which the call would expand. */
 #define TORKETTLE_PICK_(kind, suffix)                                                                                  \
-    (flags & TORKETTLE_SKIP_ZEROES                                                                                     \
+    (torkettle_##kind##_is_digit(text, length) ? torkettle_digit##suffix(text)                                         \
+     : flags & TORKETTLE_SKIP_ZEROES                                                                                   \
          ? (flags & TORKETTLE_SKIP_PLUS ? torkettle_##kind##_zeroes_plus##suffix(text, length)                         \
                                         : torkettle_##kind##_zeroes##suffix(text, length))                             \
          : (flags & TORKETTLE_SKIP_PLUS ? torkettle_##kind##_plus##suffix(text, length)                                \
                                         : torkettle_##kind##suffix(text, length)))
+
+/* Reads the next field of a column or of fields. `called` does that, unless the field is one digit and a separator. */
+#define TORKETTLE_NEXT_(kind, called, suffix)                                                                          \
+    static inline torkettle_found##suffix torkettle_next_of_##kind##suffix(torkettle_##kind##suffix *fields)           \
+        TORKETTLE_NOEXCEPT                                                                                             \
+    {                                                                                                                  \
+        const char *digit = fields->rest;                                                                              \
+        if (fields->rest_length < 2 || digit[1] != fields->separator || !torkettle_is_digit(digit[0]))                 \
+            return torkettle_##called##suffix(fields);                                                                 \
+        fields->status = TORKETTLE_OK;                                                                                 \
+        fields->next_index += 1;                                                                                       \
+        fields->next_offset += 2;                                                                                      \
+        fields->rest += 2;                                                                                             \
+        fields->rest_length -= 2;                                                                                      \
+        return torkettle_digit##suffix(digit);                                                                         \
+    }
 
 #define TORKETTLE_FUNCTIONS_(name, type)                                                                               \
     typedef struct torkettle_found_##name {                                                                            \
@@ -241,7 +285,13 @@ typedef struct torkettle_error {
         torkettle_status status;                                                                                       \
         size_t index;                                                                                                  \
         size_t offset;                                                                                                 \
-        uint64_t state[5];                                                                                             \
+        size_t next_index;                                                                                             \
+        size_t next_offset;                                                                                            \
+        const char *rest;                                                                                              \
+        size_t rest_length;                                                                                            \
+        char separator;                                                                                                \
+        char is_lines;                                                                                                 \
+        uint8_t digits;                                                                                                \
     } torkettle_column_##name;                                                                                         \
                                                                                                                        \
     typedef struct torkettle_fields_##name {                                                                           \
@@ -281,6 +331,17 @@ typedef struct torkettle_error {
     size_t torkettle_fields_##name##_read(torkettle_fields_##name *fields, type *values, size_t count)                 \
         TORKETTLE_NOEXCEPT;                                                                                            \
                                                                                                                        \
+    static inline torkettle_found_##name torkettle_digit_##name(const char *digit) TORKETTLE_NOEXCEPT                  \
+    {                                                                                                                  \
+        torkettle_found_##name found;                                                                                  \
+        found.value = TORKETTLE_CAST_(type, *digit - '0');                                                             \
+        found.length = 1;                                                                                              \
+        return found;                                                                                                  \
+    }                                                                                                                  \
+                                                                                                                       \
+    TORKETTLE_NEXT_(column, next, _##name)                                                                             \
+    TORKETTLE_NEXT_(fields, next_field, _##name)                                                                       \
+                                                                                                                       \
     static inline torkettle_status torkettle_parse_##name(const char *text, size_t length, unsigned flags,             \
                                                           type *value) TORKETTLE_NOEXCEPT                              \
     {                                                                                                                  \
@@ -315,7 +376,7 @@ typedef struct torkettle_error {
                                                                                                                        \
     static inline bool torkettle_column_##name##_next(torkettle_column_##name *column, type *value) TORKETTLE_NOEXCEPT \
     {                                                                                                                  \
-        torkettle_found_##name found = torkettle_next_##name(column);                                                  \
+        torkettle_found_##name found = torkettle_next_of_column_##name(column);                                        \
         if (found.length == 0)                                                                                         \
             return false;                                                                                              \
         *value = found.value;                                                                                          \
@@ -329,7 +390,7 @@ typedef struct torkettle_error {
         fields->index = fields->offset = fields->length = fields->next_index = fields->next_offset = 0;                \
         fields->text = NULL;                                                                                           \
         fields->rest = text;                                                                                           \
-        fields->rest_length = length;                                                                                  \
+        fields->rest_length = torkettle_rest_length(length, separator);                                                \
         fields->separator = separator;                                                                                 \
         fields->is_lines = 0;                                                                                          \
         fields->digits = 0;                                                                                            \
@@ -351,7 +412,7 @@ typedef struct torkettle_error {
                                                                                                                        \
     static inline bool torkettle_fields_##name##_next(torkettle_fields_##name *fields, type *value) TORKETTLE_NOEXCEPT \
     {                                                                                                                  \
-        torkettle_found_##name found = torkettle_next_field_##name(fields);                                            \
+        torkettle_found_##name found = torkettle_next_of_fields_##name(fields);                                        \
         if (found.length == 0)                                                                                         \
             return false;                                                                                              \
         /* The caller also tests the status, so compilers do not warn that the value is not set. */                    \
@@ -393,7 +454,9 @@ size_t torkettle_error_text(char *buffer, size_t size, const torkettle_error *er
 const char *torkettle_version(void) TORKETTLE_NOEXCEPT;
 
 #undef TORKETTLE_FUNCTIONS_
+#undef TORKETTLE_NEXT_
 #undef TORKETTLE_PICK_
+#undef TORKETTLE_CAST_
 #undef TORKETTLE_NOEXCEPT
 
 #ifdef __cplusplus

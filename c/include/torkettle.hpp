@@ -30,11 +30,13 @@ struct functions;
     struct functions<size, is_signed> {                                                                                \
         static auto whole(const char *text, std::size_t length) noexcept                                               \
         {                                                                                                              \
-            return torkettle_whole_zeroes_##name(text, length);                                                        \
+            return torkettle_whole_is_digit(text, length) ? torkettle_digit_##name(text)                               \
+                                                          : torkettle_whole_zeroes_##name(text, length);               \
         }                                                                                                              \
         static auto prefix(const char *text, std::size_t length) noexcept                                              \
         {                                                                                                              \
-            return torkettle_prefix_zeroes_##name(text, length);                                                       \
+            return torkettle_prefix_is_digit(text, length) ? torkettle_digit_##name(text)                              \
+                                                           : torkettle_prefix_zeroes_##name(text, length);             \
         }                                                                                                              \
         static auto json(const char *text, std::size_t length) noexcept                                                \
         {                                                                                                              \
@@ -43,7 +45,7 @@ struct functions;
         using fields = torkettle_fields_##name;                                                                        \
         static auto next(fields &state) noexcept                                                                       \
         {                                                                                                              \
-            return torkettle_next_field_##name(&state);                                                                \
+            return torkettle_next_of_fields_##name(&state);                                                            \
         }                                                                                                              \
         static std::size_t read(fields &state, void *values, std::size_t count) noexcept                               \
         {                                                                                                              \
@@ -292,8 +294,9 @@ private:
     using functions = functions_of<T>;
 
     range(std::string_view text, char separator, char is_lines) noexcept
-        : state{TORKETTLE_OK, 0, 0, nullptr, 0, 0, 0, text.data(), text.size(), separator, is_lines, 0}
+        : state{TORKETTLE_OK, 0, 0, nullptr, 0, 0, 0, text.data(), 0, separator, is_lines, 0}
     {
+        state.rest_length = torkettle_rest_length(text.size(), separator);
     }
 
     item<T> error() const noexcept

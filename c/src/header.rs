@@ -138,6 +138,21 @@ macro_rules! field {
     };
 }
 
+// The fields of `Rest`.
+macro_rules! rest {
+    ($name:expr, $type:ty) => {
+        vec![
+            field!($name, $type, rest.next_index, "size_t"),
+            field!($name, $type, rest.next_offset, "size_t"),
+            field!($name, $type, rest.rest, "const char *"),
+            field!($name, $type, rest.rest_length, "size_t"),
+            field!($name, $type, rest.separator, "char"),
+            field!($name, $type, rest.is_lines, "char"),
+            field!($name, $type, rest.digits, "uint8_t"),
+        ]
+    };
+}
+
 fn field(name: &str, field: &str, place: usize, in_c: &str) -> String {
     let types = same_types(&format!("__typeof__((({name} *)0)->{field})"), in_c);
     asserted(&format!("offsetof({name}, {field}) == {place}")) + &types
@@ -162,7 +177,7 @@ fn layout_of_error() -> Vec<String> {
 fn layouts_of<T: Integer>() -> Vec<String> {
     let (found, column) = (Found::<T>::name(), format!("torkettle_column_{}", T::NAME));
     let fields = format!("torkettle_fields_{}", T::NAME);
-    vec![
+    let layouts = vec![
         size(&found, size_of::<Found<T>>()),
         field!(&found, Found<T>, value, T::IN_C),
         field!(&found, Found<T>, length, "size_t"),
@@ -176,14 +191,8 @@ fn layouts_of<T: Integer>() -> Vec<String> {
         field!(&fields, CheckedFields<T>, offset, "size_t"),
         field!(&fields, CheckedFields<T>, text, "const char *"),
         field!(&fields, CheckedFields<T>, length, "size_t"),
-        field!(&fields, CheckedFields<T>, rest.next_index, "size_t"),
-        field!(&fields, CheckedFields<T>, rest.next_offset, "size_t"),
-        field!(&fields, CheckedFields<T>, rest.rest, "const char *"),
-        field!(&fields, CheckedFields<T>, rest.rest_length, "size_t"),
-        field!(&fields, CheckedFields<T>, rest.separator, "char"),
-        field!(&fields, CheckedFields<T>, rest.is_lines, "char"),
-        field!(&fields, CheckedFields<T>, rest.digits, "uint8_t"),
-    ]
+    ];
+    [layouts, rest!(&column, CheckedColumn<T>), rest!(&fields, CheckedFields<T>)].concat()
 }
 
 #[test]

@@ -91,9 +91,6 @@ pub struct CheckedFields<T> {
     values: PhantomData<T>,
 }
 
-// C says how many words of a column are for the library.
-const _: () = assert!(size_of::<Rest>() == size_of::<[u64; 5]>());
-
 /// # Safety
 ///
 /// `text` points to `length` bytes that nothing writes while the slice lives, or `length` is 0.
