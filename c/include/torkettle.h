@@ -238,13 +238,15 @@ static inline bool torkettle_whole_is_digit(const char *text, size_t length) TOR
     return length == 1 && torkettle_is_digit(text[0]);
 }
 
-/* Whether the number at the start of a text is one digit. */
+/* Whether the number at the start of a text is one digit. The second byte is first, as a minus is hard to predict. */
 static inline bool torkettle_prefix_is_digit(const char *text, size_t length) TORKETTLE_NOEXCEPT
 {
-    return length > 0 && torkettle_is_digit(text[0]) && (length == 1 || !torkettle_is_digit(text[1]));
+    if (length > 1 && torkettle_is_digit(text[1]))
+        return false;
+    return length > 0 && torkettle_is_digit(text[0]);
 }
 
-/* How many bytes of a text are read. With a digit, `+` or `-` as the separator there are none, and so no digit is. */
+/* How many bytes of a text are fields: none if the separator is a digit, `+` or `-`, and so no field is one digit. */
 static inline size_t torkettle_rest_length(size_t length, char separator) TORKETTLE_NOEXCEPT
 {
     return torkettle_is_digit(separator) || separator == '+' || separator == '-' ? 0 : length;

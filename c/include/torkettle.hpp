@@ -238,12 +238,12 @@ public:
     // Reads the next field into `field`. At the end, returns false, and leaves `field` as it is.
     bool next(item<T> &field) noexcept
     {
-        const std::size_t index = state.next_index, offset = state.next_offset;
+        const std::size_t offset = state.next_offset;
         const auto found = functions::next(state);
         if (found.length == 0)
             return false;
         if (found.length == 1)
-            field = {static_cast<T>(found.value), std::errc(), std::string_view(), index, offset};
+            field = {static_cast<T>(found.value), std::errc(), std::string_view(), state.next_index - 1, offset};
         else
             field = refused();
         return true;
