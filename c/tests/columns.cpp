@@ -107,6 +107,7 @@ struct InC;
         static constexpr auto lines = torkettle_fields_##name##_init_lines;                                            \
         static constexpr auto starting_at = torkettle_fields_##name##_starting_at;                                     \
         static constexpr auto next = torkettle_fields_##name##_next;                                                   \
+        static constexpr auto called = torkettle_next_field_##name;                                                    \
         static constexpr auto read = torkettle_fields_##name##_read;                                                   \
     };
 
@@ -151,6 +152,7 @@ public:
         fields_by_next();
         fields_by_pieces(random);
         items();
+        items_beside_calls(random);
         algorithms();
         if (!shape.is_lines) {
             column_by_next();
@@ -305,6 +307,49 @@ private:
         require(fields.next_offset() == text.size() && fields.begin() == fields.end(), "the end of the items", index);
     }
 
+    // Reads on as far as `most` items, and returns the index of the first that was not read. The library reads the same
+    // fields, without the part of it that is in the header.
+    std::size_t next_items(torkettle::fields<T> &range, typename C::Fields &fields, std::size_t index,
+                           std::size_t most) const
+    {
+        torkettle::item<T> item;
+        for (; most > 0; most--, index++) {
+            const auto found = C::called(&fields);
+            const bool is_bad = fields.status != TORKETTLE_OK;
+            const bool is_here = range.next(item);
+            require(is_here == (found.length > 0) && is_here == has(index), "whether there is an item", index);
+            require(range.next_index() == fields.next_index, "next_index", index);
+            require(range.next_offset() == fields.next_offset, "next_offset", index);
+            require(range.error_item().has_value() == is_bad, "error_item", index);
+            if (!is_here)
+                break;
+            require(is_item(item, index) && item.value.has_value() == (found.length == 1), "an item by next", index);
+            require(!item.value || *item.value == found.value, "the value by next", index);
+        }
+        return index;
+    }
+
+    // Sometimes a copy of the range reads on from the middle, or many numbers are read at once.
+    void items_beside_calls(Random &random) const
+    {
+        torkettle::fields<T> range = this->range();
+        typename C::Fields fields = start(text);
+        std::size_t index = 0;
+        do {
+            torkettle::fields<T> copy = range;
+            typename C::Fields copied = fields;
+            next_items(copy, copied, index, random.below(20));
+            index = next_items(range, fields, index, 1 + random.below(200));
+            const std::size_t count = random.below(200);
+            if (random.below(2) == 0) {
+                const std::size_t read = range.read(room(count), count);
+                require(C::read(&fields, room(count), count) == read, "the count of read", index);
+                index += read + (fields.status != TORKETTLE_OK);
+            }
+        } while (has(index));
+        require(next_items(range, fields, index, 1) == expected.size(), "the number of items by next", index);
+    }
+
     void items_by_read(std::size_t count) const
     {
         torkettle::fields<T> fields = range().starting_at(0, 0);
@@ -427,6 +472,14 @@ void add_number(Random &random, std::string &text)
         text += static_cast<char>('0' + random.below(10));
 }
 
+// Appends a number that mostly has one digit.
+void add_short_number(Random &random, std::string &text)
+{
+    text += static_cast<char>('0' + random.below(10));
+    if (random.below(10) == 0)
+        text += static_cast<char>('0' + random.below(10));
+}
+
 // Appends fields with equally many digits, which _read reads faster, or of one width. One field in a hundred is changed
 // if `spoils`.
 template <class T>
@@ -455,7 +508,7 @@ void fill(Random &random, Shape shape, std::size_t bytes, unsigned rate, std::st
 {
     std::string field;
     text.clear();
-    const bool is_equal = random.below(4) == 0;
+    const bool is_equal = random.below(4) == 0, is_short = random.below(2) == 0;
     while (!is_equal && text.size() < bytes) {
         if (random.below(200) == 0) {
             add_equal_fields<T>(random, shape, rate > 0 && random.below(2) == 0, text);
@@ -464,10 +517,12 @@ void fill(Random &random, Shape shape, std::size_t bytes, unsigned rate, std::st
         if (rate > 0 && random.below(rate) == 0) {
             generate(random, field);
             text += field;
+        } else if (is_short) {
+            add_short_number(random, text);
         } else {
             add_number<T>(random, text);
         }
-        if (shape.is_lines && random.below(2) == 0)
+        if (shape.is_lines && random.below(is_short ? 10 : 2) == 0)
             text += '\r';
         text += shape.separator;
     }
