@@ -1,8 +1,11 @@
-// Exports that call a `from_chars` with each row of an input list, or with each field of a column, and exports that
-// add up a column by a range. All is inlined into an export, since only exports are placed at chosen addresses.
+// Exports that call a `from_chars` with each row of an input list, or with each field of a column, exports that parse
+// each slice of a text, and exports that add up a column by a range. All is inlined into an export, since only exports
+// are placed at chosen addresses.
 #include <charconv>
 #include <cstddef>
 #include <cstdint>
+#include <optional>
+#include <string_view>
 #include <type_traits>
 #include "torkettle.hpp"
 
@@ -17,15 +20,35 @@ struct Row {
     size_t length;
 };
 
+struct Place {
+    uint32_t start;
+    uint32_t length;
+};
+
+struct Slices {
+    const char *text;
+    const Place *places;
+    size_t count;
+};
+
 struct Standard {
     template <typename T> INLINED static auto read(const char *start, const char *end, T &value) {
         return std::from_chars(start, end, value);
+    }
+    template <typename T> INLINED static std::optional<T> whole(std::string_view text) {
+        T value;
+        auto [stop, error] = read(text.data(), text.data() + text.size(), value);
+        if (error != std::errc() || stop != text.data() + text.size()) return std::nullopt;
+        return value;
     }
 };
 
 struct Ours {
     template <typename T> INLINED static auto read(const char *start, const char *end, T &value) {
         return torkettle::from_chars(start, end, value);
+    }
+    template <typename T> INLINED static std::optional<T> whole(std::string_view text) {
+        return torkettle::parse<T>(text);
     }
 };
 
@@ -48,6 +71,18 @@ template <typename By, typename T, bool IS_WHOLE> INLINED uint64_t rows(const ui
     uint64_t sum = 0;
     for (const Row *last = row + size; row != last; ++row)
         if (!add<By, T, IS_WHOLE>(row->bytes, row->bytes + row->length, sum)) return ERROR;
+    return sum;
+}
+
+// Here the text is first the bytes of `Slices`.
+template <typename By, typename T> INLINED uint64_t slices(const uint8_t *text, size_t) {
+    const Slices *slices = reinterpret_cast<const Slices *>(text);
+    uint64_t sum = 0;
+    for (const Place *place = slices->places, *last = place + slices->count; place != last; ++place) {
+        const std::optional<T> value = By::template whole<T>({slices->text + place->start, place->length});
+        if (!value) return ERROR;
+        sum += low_bits(*value);
+    }
     return sum;
 }
 

@@ -1,8 +1,9 @@
 //! The C library and `std::from_chars`, called from one C++ program, and its columns from C, read by
-//! calls of `_read` and by calls of `_next`. The same program reads texts of real numbers.
+//! calls of `_read` and by calls of `_next`. The same program reads slices and texts of real numbers.
 
 use super::place::{ASSEMBLED_WITHIN_32_BYTES, WITHIN_32_BYTES, placed};
 use super::{Build, Compared};
+use crate::real;
 use crate::tables::{self, Shape, TimedCall};
 use std::path::{Path, PathBuf};
 use std::process::Command;
@@ -24,14 +25,16 @@ const RANGE: &str = "range_";
 pub struct OfC {
     /// The C library, and then what it is compared with.
     pub builds: Vec<Build>,
-    /// What reads a text of real numbers: three ways of ours, and then what they are compared with.
+    /// What parses slices of a text of real numbers: ours, and then what it is compared with.
+    pub slices: Compared,
+    /// What reads a text of real numbers: four ways of ours, and then what they are compared with.
     pub texts: Compared,
 }
 
 /// The C library and what it is compared with.
 pub fn builds(cache: &Cache, package: &Package) -> Result<OfC, String> {
     let compilers = [version("g++")?, version("cc")?];
-    let sources = Sources::new(&tables::c_calls()?, &tables::all_column_types()?);
+    let sources = Sources::new(&tables::c_calls()?, &real::types()?, &tables::all_column_types()?);
     let folder = cache.repository().join("c");
     let stamp = package.stamp().with_folder(&folder)?.with(&sources.cpp).with(&sources.c);
     let stamp = compilers.iter().fold(stamp, |stamp: Stamp, version| stamp.with(version));
@@ -47,18 +50,21 @@ pub fn builds(cache: &Cache, package: &Package) -> Result<OfC, String> {
     let build =
         |name: &str, prefix| Build { name: name.to_string(), prefix, files: placed.clone() };
     let standard = build(&format!("std::from_chars, g++ {}", compilers[0]), STANDARD);
+    let next = build("the column in C, by _next", NEXT);
+    let slices = vec![build("torkettle::parse", OURS), standard.clone()];
     let texts = vec![
         build("torkettle::from_chars", CHARS),
         build("the column in C, by _read", OURS),
+        next.clone(),
         build("the range torkettle::fields", RANGE),
         standard.clone(),
     ];
-    let builds = vec![
-        build("torkettle::from_chars, and the column in C, by _read", OURS),
-        standard,
-        build("the column in C, by _next", NEXT),
-    ];
-    Ok(OfC { builds, texts: Compared { builds: texts, pairs: vec![(0, 3), (1, 3), (2, 3)] } })
+    let ours = build("torkettle::from_chars, and the column in C, by _read", OURS);
+    Ok(OfC {
+        builds: vec![ours, standard, next],
+        slices: Compared { builds: slices, pairs: vec![(0, 1)] },
+        texts: Compared { builds: texts, pairs: vec![(0, 4), (1, 4), (2, 4), (3, 4)] },
+    })
 }
 
 fn version(compiler: &str) -> Result<String, String> {
@@ -96,7 +102,7 @@ struct Sources {
 }
 
 impl Sources {
-    fn new(calls: &[TimedCall], types: &[Integer]) -> Sources {
+    fn new(calls: &[TimedCall], types_of_slices: &[Integer], types: &[Integer]) -> Sources {
         let mut cpp = String::from(include_str!("../../exports/from_chars.hpp"));
         let mut c = String::from(include_str!("../../exports/columns.h"));
         let mut names = Vec::new();
@@ -105,6 +111,13 @@ impl Sources {
                 let name = format!("{prefix}{}", call.export(Form::Words));
                 let (integer, is_whole) = (c_type(call.integer), call.is_whole());
                 cpp += &format!("EXPORT({name}, rows<{by}, {integer}, {is_whole}>)\n");
+                names.push(name);
+            }
+        }
+        for integer in types_of_slices {
+            for (prefix, by) in [(OURS, "Ours"), (STANDARD, "Standard")] {
+                let name = format!("{prefix}{}", real::export(*integer, Form::Words));
+                cpp += &format!("EXPORT({name}, slices<{by}, {}>)\n", c_type(*integer));
                 names.push(name);
             }
         }

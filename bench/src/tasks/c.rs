@@ -1,8 +1,8 @@
 //! Times the calls from C and C++.
 
-use super::{columns, lists, real_columns};
+use super::{columns, lists, real_columns, slices};
 use crate::arguments::{Arguments, Work};
-use crate::builds;
+use crate::builds::{self, Compared};
 use crate::report::Table;
 use crate::tables;
 use crate::timing::Task;
@@ -24,12 +24,14 @@ pub fn run(arguments: &Arguments, cache: &Cache) -> Result<usize, String> {
     let time = |tasks: Vec<Task>, unit: &str| {
         Ok::<usize, String>(Table::new(&built.builds, tasks, unit, arguments.passes)?.print())
     };
-    let texts = real_columns(arguments)?;
+    let time_real = |compared: &Compared, tasks: Vec<Task>, unit: &str| {
+        let table = Table::new(&compared.builds, tasks, unit, arguments.passes)?;
+        Ok::<usize, String>(table.print_lists(&compared.pairs, arguments.is_markdown))
+    };
     let unit = "number of a real list in one text, from C and C++";
-    let texts = Table::new(&built.texts.builds, texts, unit, arguments.passes)?;
-    let wrong = texts.print_lists(&built.texts.pairs, arguments.is_markdown);
     let random = &mut Random::new(arguments.seed);
-    Ok(wrong
+    Ok(time_real(&built.slices, slices(arguments)?, "slice of a real list, from C++")?
+        + time_real(&built.texts, real_columns(arguments)?, unit)?
         + time(lists(arguments, tables::c_lists()?, random), "call, from C++")?
         + time(columns(arguments, false, random)?, "field, from C and C++")?)
 }
