@@ -7,6 +7,8 @@
  * A text consists of the `length` bytes at `text`. It needs no terminator, and no other byte is read. If `length` is 0,
  * the text is empty, and `text` may be NULL.
  *
+ * The functions that are inline read a number of one digit themselves, without a call of the library.
+ *
  * No function allocates memory or keeps state. You may call each of them from any thread and from a signal handler.
  * The time that a call takes is at most proportional to `length`.
  *
@@ -150,8 +152,9 @@ typedef struct torkettle_error {
  *
  * Reads several fields, which is faster. Writes at most `count` numbers to `values` and returns how many it has
  * written. It writes fewer than `count` only if it reaches a bad field or the end of the text. If `count` is 0, it
- * reads nothing, and `values` may be NULL. If `count` is 128 or more and the fields all have equally many digits, at most
- * 20, with or without a minus, it is about twice as fast, and up to 8 digits 3 times.
+ * reads nothing, and `values` may be NULL. If `count` is 128 or more and the fields all have equally many digits, at
+ * most 20, with or without a minus, it is about twice as fast, with 2 to 8 digits 3 times, and with one digit 1.4
+ * times.
  *
  * struct torkettle_column_i64 {
  *     torkettle_status status;  TORKETTLE_OK or, after a bad field, its error. TORKETTLE_INVALID means that a byte that

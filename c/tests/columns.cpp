@@ -552,12 +552,13 @@ void test_separators()
     const std::string_view refusable = "0123456789+-";
     for (const char separator : refusable) {
         std::size_t items = 0;
-        for (const auto &item : torkettle::fields<int>("1", separator)) {
+        const char text[] = {'1', separator, '2', separator};
+        for (const auto &item : torkettle::fields<int>({text, sizeof text}, separator)) {
             const bool is_error = !item.value && item.error == std::errc::invalid_argument;
-            check(is_error && item.index == SIZE_MAX && item.offset == SIZE_MAX, "a separator", 1, 0);
+            check(is_error && item.index == SIZE_MAX && item.offset == SIZE_MAX, "a separator", sizeof text, 0);
             items++;
         }
-        check(items == 1, "the items of a separator", 1, 0);
+        check(items == 1, "the items of a separator", sizeof text, 0);
     }
 }
 
