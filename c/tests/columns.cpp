@@ -509,6 +509,8 @@ void fill(Random &random, Shape shape, std::size_t bytes, unsigned rate, std::st
     std::string field;
     text.clear();
     const bool is_equal = random.below(4) == 0, is_short = random.below(2) == 0;
+    // Otherwise, long texts of short numbers would be most of the fields.
+    bytes = is_short ? bytes / 8 : bytes;
     while (!is_equal && text.size() < bytes) {
         if (random.below(200) == 0) {
             add_equal_fields<T>(random, shape, rate > 0 && random.below(2) == 0, text);
