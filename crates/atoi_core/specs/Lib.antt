@@ -2,6 +2,7 @@ pub mod Digit
 pub mod Run
 pub mod Refusal
 pub mod ErrorText
+pub mod ErrorKinds
 pub mod Magnitude
 pub mod IntType
 pub mod Sign

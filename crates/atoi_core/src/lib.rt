@@ -4,6 +4,7 @@
 
 mod engine;
 mod error;
+mod error_kinds;
 pub mod laws;
 mod loops;
 mod narrow;

@@ -19,6 +19,9 @@ impl AtoiSimdError<'_> {
     /// assert_eq!(&out[..length], b"atoi_simd overflow, input: [32, 35, 36]");
     /// assert_eq!(&out[..length], error.to_string().as_bytes());
     /// ```
+    ///
+    /// **Proved:** the start of `out` is the message, and the result is its length (see the
+    /// [specification](crate::specification#errors-refusalantt-errortextantt-errorkindsantt)).
     pub fn text(&self, out: &mut [u8; 400]) -> usize
         ensures text { take result out.new ≡ error_text (refusal_of self.now) }
         ensures fits { result ≤ 332 }
