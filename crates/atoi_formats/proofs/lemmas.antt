@@ -1,3 +1,4 @@
 pub mod Canonical
 pub mod Json
 pub mod Then
+pub mod Leading

@@ -1,12 +1,12 @@
 -- The bytes that write a number, in the formats of this crate.
-use Rattle.std.specs.Prelude.{◌≡◌, ℕ, Bool, true, false, IsFalse, ◌==◌, ◌&&◌, ◌||◌, if◌then◌else◌, List, [], ◌∷◌, ◌++◌, length, ℤ, pos, ◌≤ℤ◌}
+use Rattle.std.specs.Prelude.{◌≡◌, ◌<◌, ◌≤◌, ℕ, Bool, true, false, IsFalse, ◌==◌, ◌&&◌, ◌||◌, if◌then◌else◌, List, [], ◌∷◌, ◌++◌, length, ℤ, pos, ◌≤ℤ◌}
 use Rattle.std.specs.Fmt.{signed_decimal}
 use Rattle.std.specs.Str.Parse.{IsNumeral, digits_value}
 use Rattle.atoi_core.specs.Digit.{decimal_table, is_digit}
 use Rattle.atoi_core.specs.IntType.{IntType}
 use Rattle.atoi_core.specs.Laws.{zero_byte, least_of}
 use Rattle.atoi_core.specs.Sign.{minus_sign, with_sign}
-use Rattle.atoi_core.specs.Text.{DigitsWrite, TextWrites, has_needless_zero}
+use Rattle.atoi_core.specs.Text.{BeginsWithDigit, DigitsWrite, TextWrites, has_needless_zero}
 
 -- An optional sign and digits that write a number of the type.
 unfoldable pub IsNumber : IntType → (bytes : List ℕ) → ℤ → Type 0
@@ -22,11 +22,31 @@ pub record IsPrinted (int : IntType) (bytes : List ℕ) (number : ℤ) : Type 0 
 unfoldable pub IsCanonical : IntType → (bytes : List ℕ) → ℤ → Type 0
 IsCanonical int bytes number = IsPrinted int bytes number
 
+-- Such a number, then `rest`, which does not begin with a digit.
+pub record HasCanonical (int : IntType) (text : List ℕ) (number : ℤ) (rest : List ℕ) : Type 0 where
+  pub bytes : List ℕ
+  pub parts : text ≡ bytes ++ rest
+  pub written : IsCanonical int bytes number
+  pub ends : ¬ BeginsWithDigit rest
+
 -- `width` digits that write the number, then `rest`.
 pub record HasWidth (int : IntType) (text : List ℕ) (width : ℕ) (number : ℤ) (rest : List ℕ) : Type 0 where
   pub digits : List ℕ
   pub parts : text ≡ digits ++ rest
   pub width_is : length digits ≡ width
+  pub written : DigitsWrite int false digits number
+
+-- As many digits as there are before `rest`, or `most` if there are more; at least `least`.
+pub record AreLeading (digits rest : List ℕ) (least most : ℕ) : Type 0 where
+  pub enough : least ≤ length digits
+  pub at_most : length digits ≤ most
+  pub ends : length digits < most → ¬ BeginsWithDigit rest
+
+-- Such digits at the start, which write the number, then `rest`.
+pub record HasDigitsBetween (int : IntType) (text : List ℕ) (least most : ℕ) (number : ℤ) (rest : List ℕ) : Type 0 where
+  pub digits : List ℕ
+  pub parts : text ≡ digits ++ rest
+  pub leading : AreLeading digits rest least most
   pub written : DigitsWrite int false digits number
 
 -- A zero and more bytes, or a minus and a zero: the first byte could be left out.

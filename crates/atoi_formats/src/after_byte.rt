@@ -11,6 +11,9 @@ ghost use Rattle.std.specs.Prelude.{◌≡◌, ℕ, List, ◌∷◌, IfSome, IfN
 /// ```
 ///
 /// See the [guide](crate::guide#read-other-formats).
+///
+/// **Proved:** the result is what follows, or `None` if and only if `text` does not begin with `byte`
+/// (see the [specification](crate::specification#formats-formatsantt-in-atoi_formats)).
 #[inline]
 pub fn after(text: &[u8], byte: u8) -> Option<&[u8]>
     ensures some { IfSome result (λ rest. text.now ≡ byte ∷ rest.now) }

@@ -1,11 +1,11 @@
 //! A number exactly as `{}` prints it.
 ghost use Rattle.std.specs.Prelude.{◌≡◌, ◌++◌, ◌∷◌, ℕ, ℤ, List, IfSome, IfNone, IsFalse};
 ghost use Rattle.atoi_core.specs.Digit.{decimal_table, is_digit};
-ghost use Rattle.atoi_core.specs.Text.{IsNumberThen};
-ghost use Rattle.atoi_formats.specs.Formats.{IsCanonical, has_needless_byte};
+ghost use Rattle.atoi_core.specs.Text.{BeginsWithDigit, IsNumberThen};
+ghost use Rattle.atoi_formats.specs.Formats.{HasCanonical, IsCanonical, has_needless_byte};
 
 use crate::after_byte::after;
-use atoi_simd::laws::{decimal_texts, number_then_byte, one_number};
+use atoi_simd::laws::{decimal_texts, one_number, prefixes_and_rests};
 use atoi_simd::{Parse, parse, parse_prefix};
 
 /// Parses all of `text` as a number that is written as `{}` prints it: without a plus, a needless
@@ -24,6 +24,9 @@ use atoi_simd::{Parse, parse, parse_prefix};
 /// ```
 ///
 /// See the [guide](crate::guide#read-other-formats).
+///
+/// **Proved:** the result is the number that `{}` prints so, or `None` if and only if there is none in
+/// range (see the [specification](crate::specification#formats-formatsantt-in-atoi_formats)).
 #[inline]
 #[tactic(auto, unfolding(crate::specs::Formats::IsCanonical))]
 pub fn canonical<T: Parse>(text: &[u8]) -> Option<T>
@@ -44,6 +47,48 @@ pub fn canonical<T: Parse>(text: &[u8]) -> Option<T>
     }
 }
 
+/// Reads the number that `text` begins with, as [`canonical`] does. Returns the number, and what follows
+/// it, which does not begin with a digit.
+///
+/// Returns `None` if `text` does not begin with such a number in the range of `T`.
+///
+/// ```
+/// use torkettle::formats::canonical_prefix;
+///
+/// assert_eq!(canonical_prefix::<u64>(b"3-rc.1"), Some((3, &b"-rc.1"[..])));
+/// assert_eq!(canonical_prefix::<i8>(b"-100"), Some((-100, &b""[..])));
+/// assert_eq!(canonical_prefix::<u64>(b"03-rc.1"), None);
+/// assert_eq!(canonical_prefix::<u8>(b"256"), None);
+/// ```
+///
+/// **Proved:** all results are [as specified](crate::specification#formats-formatsantt-in-atoi_formats).
+///
+/// See the [guide](crate::guide#read-other-formats).
+#[inline]
+#[tactic(auto, unfolding(crate::specs::Formats::IsCanonical))]
+pub fn canonical_prefix<T: Parse>(text: &[u8]) -> Option<(T, &[u8])>
+    ensures some { IfSome result (λ found.
+        HasCanonical T.int_type text.now (T.number found.0) found.1.now) }
+    ensures only { IfSome result (λ found. (number : ℤ) (bytes rest : List ℕ)
+        → IsCanonical T.int_type bytes number → ¬ BeginsWithDigit rest → text.now ≡ bytes ++ rest
+        → (number ≡ T.number found.0) × (rest ≡ found.1.now)) }
+    ensures none { IfNone result ((number : ℤ) (bytes rest : List ℕ)
+        → IsCanonical T.int_type bytes number → ¬ BeginsWithDigit rest
+        → ¬ (text.now ≡ bytes ++ rest)) }
+{
+    decimal_texts::<T>();
+    prefixes_and_rests::<T>();
+    let Ok((number, count)) = parse_prefix::<T, true, false>(text) else {
+        return None;
+    };
+    let (bytes, rest) = text.split_at(count);
+    if has_needless_byte(bytes) {
+        None
+    } else {
+        Some((number, rest))
+    }
+}
+
 /// Reads the number that `text` begins with, as [`canonical`] does, and the `byte` after it, which must
 /// not be a digit. Returns the number, and what follows the byte.
 ///
@@ -57,6 +102,9 @@ pub fn canonical<T: Parse>(text: &[u8]) -> Option<T>
 /// ```
 ///
 /// See the [guide](crate::guide#read-other-formats).
+///
+/// **Proved:** the result is the only number and rest that fit, or `None` if and only if none in range
+/// fit (see the [specification](crate::specification#formats-formatsantt-in-atoi_formats)).
 ///
 /// # Panics
 ///
@@ -73,18 +121,9 @@ pub fn canonical_then<T: Parse>(text: &[u8], byte: u8) -> Option<(T, &[u8])>
     ensures none { IfNone result ((number : ℤ) (bytes rest : List ℕ)
         → IsCanonical T.int_type bytes number → ¬ (text.now ≡ bytes ++ byte ∷ rest)) }
 {
-    decimal_texts::<T>();
-    number_then_byte::<T>();
-    let Ok((number, count)) = parse_prefix::<T, true, false>(text) else {
-        return None;
-    };
-    let (bytes, tail) = text.split_at(count);
+    let (number, tail) = canonical_prefix::<T>(text)?;
     let rest = after(tail, byte)?;
-    if has_needless_byte(bytes) {
-        None
-    } else {
-        Some((number, rest))
-    }
+    Some((number, rest))
 }
 
 // Says whether a zero or a minus could be left out of `bytes`.

@@ -1,5 +1,5 @@
-//! Numbers in the formats of files and protocols: a number and the byte after it, a number of a
-//! fixed width, a number as `{}` prints it, an integer of JSON.
+//! Numbers in the formats of files and protocols: a number and the byte after it, a number with a
+//! fixed or limited number of digits, a number as `{}` prints it, an integer of JSON.
 //!
 //! Every function serves the twelve integer types of Rust. It returns `Some` exactly if the text has
 //! its format, which a caller proves from its clauses alone.
@@ -7,13 +7,15 @@
 
 mod after_byte;
 mod canonical_numbers;
+mod digit_counts;
 mod fixed_widths;
 mod json_integers;
 mod numbers;
 mod numbers_then;
 
 pub use crate::after_byte::after;
-pub use crate::canonical_numbers::{canonical, canonical_then};
+pub use crate::canonical_numbers::{canonical, canonical_prefix, canonical_then};
+pub use crate::digit_counts::digits_between;
 pub use crate::fixed_widths::fixed_width;
 pub use crate::json_integers::json_integer;
 pub use crate::numbers::number;

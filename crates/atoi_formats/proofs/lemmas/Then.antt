@@ -1,10 +1,15 @@
 -- A number and a byte that is no digit, as a prefix parse finds them.
-use Rattle.std.proofs.Common.{◌≡◌, ℕ, IsFalse, List, ◌∷◌, ◌++◌, take, drop, ℤ, sym, ap, ◌∙◌}
+use Rattle.std.proofs.Common.{◌≡◌, ℕ, IsFalse, List, ◌∷◌, ◌++◌, take, drop, ℤ, refl, sym, ap, ◌∙◌, le-leb}
+use Rattle.std.proofs.lemmas.Bool.{both_ways}
 use Rattle.std.proofs.lemmas.List.{append_cancel_right, take-append-drop}
 use Rattle.atoi_core.specs.Digit.{decimal_table, is_digit}
 use Rattle.atoi_core.specs.IntType.{IntType}
 use Rattle.atoi_core.specs.Laws.{SignForm, Writes, NumberThenByte}
-use Rattle.atoi_core.specs.Text.{PrefixWrites}
+use Rattle.atoi_core.specs.Text.{BeginsWithDigit, PrefixWrites}
+
+pub ends_before : (byte : ℕ) (rest : List ℕ) → IsFalse (is_digit decimal_table byte) → ¬ BeginsWithDigit (byte ∷ rest)
+ends_before byte rest not begins =
+    both_ways (is_digit decimal_table byte) not (rw (le-leb 48 byte begins.0, le-leb byte 57 begins.1) refl)
 
 module _ {int : IntType} (law : NumberThenByte int) (form : SignForm) (byte : ℕ) (not : IsFalse (is_digit decimal_table byte))
     {text : List ℕ} {number : ℤ} (bytes rest : List ℕ) (written : Writes int form bytes number) (parts : text ≡ bytes ++ byte ∷ rest) where

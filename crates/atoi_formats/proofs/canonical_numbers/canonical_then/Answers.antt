@@ -1,42 +1,16 @@
--- The clauses name the prefix that writes a number, and the byte after it.
-use Rattle.std.proofs.Common.{◌≡◌, false, take, refl, sym, ◌∙◌, rules}
-use Rattle.std.proofs.lemmas.Bool.{both_ways}
-use Rattle.atoi_core.specs.Laws.{looked_for}
-use Rattle.atoi_formats.specs.Formats.{IsCanonical, has_needless_byte}
-use Rattle.atoi_formats.proofs.lemmas.Canonical.{shortest, written, printed}
-use Rattle.atoi_formats.proofs.lemmas.Then.{has_prefix, only_prefix}
+-- A byte that is no digit ends the number.
+use Rattle.std.proofs.Common.{◌∷◌, rules}
+use Rattle.atoi_formats.proofs.lemmas.Then.{ends_before}
 use Rattle.atoi_formats.proofs.canonical_numbers.canonical_then.Goals as goal
 
-pub returns-in_default-clause-none : goal.returns-in_default-clause-none
-unfolding IsCanonical
-returns-in_default-clause-none g c = λ number bytes rest is parts.
-    let found = has_prefix c.number_then_byte.ensures (looked_for false) c.args.byte c.requires bytes rest (written c.decimal_texts.ensures is) parts in
-    c.in_default.ensures.refused refl number found.0 found.1
+pub returns-in_err-number-clause-none : goal.returns-in_err-number-clause-none
+returns-in_err-number-clause-none g c = rw c.from_residual.ensures (λ number bytes rest is parts.
+    c.in_err-number.ensures.none number bytes (c.args.byte ∷ rest) is (ends_before c.args.byte rest c.requires) parts)
 
 pub returns-in_err-rest-clause-none : goal.returns-in_err-rest-clause-none
-unfolding IsCanonical
-returns-in_err-rest-clause-none g c = rw c.from_residual.ensures (λ number bytes rest is parts.
-    let same = only_prefix c.number_then_byte.ensures (looked_for false) c.args.byte c.requires bytes rest (written c.decimal_texts.ensures is) parts
-    c.in-Ok.ensures.prefix in search rules)
+returns-in_err-rest-clause-none g c = rw c.from_residual-in_err-rest.ensures (λ number bytes rest is parts.
+    let same = c.in_ok-number.ensures.only number bytes (c.args.byte ∷ rest) is (ends_before c.args.byte rest c.requires) parts in search rules)
 
-pub returns-then-has_needless_byte-clause-none : goal.returns-then-has_needless_byte-clause-none
-unfolding IsCanonical
-returns-then-has_needless_byte-clause-none g c = λ number bytes rest is parts.
-    let same = only_prefix c.number_then_byte.ensures (looked_for false) c.args.byte c.requires bytes rest (written c.decimal_texts.ensures is) parts
-    c.in-Ok.ensures.prefix in
-    let front : c.split_at.result.0.now ≡ take c.in-Ok.count c.args.text.now = search rules in
-    let long = rw (front, same.1.0) at (sym c.has_needless_byte.ensures ∙ c.if-has_needless_byte.true) in
-    both_ways (has_needless_byte bytes) (shortest c.decimal_texts.ensures is) long
-
-pub returns-else-has_needless_byte-clause-some : goal.returns-else-has_needless_byte-clause-some
-unfolding IsCanonical
-returns-else-has_needless_byte-clause-some g c =
-    let front : c.split_at.result.0.now ≡ take c.in-Ok.count c.args.text.now = search rules in
-    let short = rw front at (sym c.has_needless_byte.ensures ∙ c.if-has_needless_byte.false) in
-    let is = printed c.decimal_texts.ensures c.in-Ok.ensures.prefix.written short in search rules
-
-pub returns-else-has_needless_byte-clause-only : goal.returns-else-has_needless_byte-clause-only
-unfolding IsCanonical
-returns-else-has_needless_byte-clause-only g c = λ number bytes rest is parts.
-    let same = only_prefix c.number_then_byte.ensures (looked_for false) c.args.byte c.requires bytes rest (written c.decimal_texts.ensures is) parts
-    c.in-Ok.ensures.prefix in search rules
+pub returns-clause-only : goal.returns-clause-only
+returns-clause-only g c = λ number bytes rest is parts.
+    let same = c.in_ok-number.ensures.only number bytes (c.args.byte ∷ rest) is (ends_before c.args.byte rest c.requires) parts in search rules
