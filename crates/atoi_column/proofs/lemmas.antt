@@ -10,3 +10,5 @@ pub mod Turns
 pub mod FieldsDecide
 pub mod FieldPlaces
 pub mod Pieces
+pub mod Reads
+pub mod Guesses

@@ -5,3 +5,4 @@ pub mod FirstField
 pub mod Position
 pub mod Laws
 pub mod ErrorText
+pub mod Reads

@@ -21,6 +21,8 @@ use std::marker::{Model, PhantomData};
 /// ```
 ///
 /// See the [guide](crate::guide#read-columns-and-lines).
+///
+/// **Proved:** the result is `true` for [exactly these bytes](crate::specification#columns).
 #[inline]
 pub fn is_separator(byte: u8) -> bool
     ensures { result ≡ is_separator byte }
@@ -41,7 +43,7 @@ pub fn is_separator(byte: u8) -> bool
 /// ```
 ///
 /// See the [guide](crate::guide#read-columns-and-lines).
-#[derive(Drop)]
+#[derive(Clone, Drop)]
 pub struct Column<'a, T: Parse> {
     rest: &'a [u8],
     // Set after the last field, and after an error.
@@ -81,6 +83,9 @@ impl<'a, T: Parse> Column<'a, T> {
     /// assert_eq!(total, Ok(530));
     /// ```
     ///
+    /// **Proved:** the items are [the specified ones](crate::specification#columns), and at most as many
+    /// as `input` has bytes.
+    ///
     /// # Panics
     ///
     /// In Rust, if `separator` is a digit, `+` or `-`.
@@ -104,7 +109,6 @@ impl<'a, T: Parse> Column<'a, T> {
     }
 }
 
-// There is no `size_hint`: the number of fields is not known before they are read.
 impl<'a, T: Parse> Iterator for Column<'a, T> {
     type Item = Result<T, ColumnError<'a>>;
 
@@ -149,6 +153,13 @@ impl<'a, T: Parse> Iterator for Column<'a, T> {
                 place: place + count,
             })),
         }
+    }
+
+    // A field has at least one byte, or a separator after it.
+    #[inline]
+    fn size_hint(&self) -> (usize, Option<usize>) {
+        let left = if self.has_ended { 0 } else { self.rest.len() };
+        (left.min(1), Some(left))
     }
 }
 

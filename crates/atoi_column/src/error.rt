@@ -1,5 +1,5 @@
 //! Why a field of a column has no value.
-ghost use Rattle.std.specs.Prelude.{◌≡◌, ◌↔◌, IsTrue};
+ghost use Rattle.std.specs.Prelude.{◌≡◌, ◌+◌, ◌-◌, ◌^◌, ◌↔◌, IsTrue, min};
 ghost use Rattle.atoi_core.specs.Refusal.{refusal_of};
 ghost use Rattle.atoi_column.specs.ErrorText.{fault_text};
 
@@ -54,6 +54,8 @@ impl ColumnError<'_> {
     /// let error = Column::<u8>::new(b"1,2x", b',').find_map(Result::err).unwrap();
     /// assert_eq!(error.index(), 1);
     /// ```
+    ///
+    /// **Proved:** the result is the index [in the error](crate::specification#columns).
     #[inline]
     pub fn index(&self) -> usize
         ensures { result ≡ index_of (flaw_of self.now) }
@@ -61,6 +63,24 @@ impl ColumnError<'_> {
         match self {
             ColumnError::Field { index, .. } | ColumnError::Trailing { index, .. } => *index,
         }
+    }
+
+    /// Returns the number of the field, from 1. If the fields are lines, this is the line number. See the
+    /// [guide](crate::guide#read-columns-and-lines).
+    ///
+    /// **Proved:** it is one more than the index [as specified](crate::specification#columns).
+    ///
+    /// ```
+    /// use torkettle::column::Column;
+    ///
+    /// let error = Column::<u8>::new(b"80\n44x", b'\n').find_map(Result::err).unwrap();
+    /// assert_eq!(error.line(), 2);
+    /// ```
+    #[inline]
+    pub fn line(&self) -> usize
+        ensures { result ≡ min (index_of (flaw_of self.now) + 1) (2 ^ 64 - 1) }
+    {
+        self.index().saturating_add(1)
     }
 
     /// Returns the offset of the field's first byte if no number can be read there, and otherwise the
@@ -73,6 +93,8 @@ impl ColumnError<'_> {
     /// assert_eq!(place(b"1,x2"), 2);
     /// assert_eq!(place(b"1,2x"), 3);
     /// ```
+    ///
+    /// **Proved:** the result is the offset [in the error](crate::specification#columns).
     #[inline]
     pub fn place(&self) -> usize
         ensures { result ≡ place_of (flaw_of self.now) }

@@ -1,7 +1,7 @@
 //! What is wrong with a field that `Fields` refuses.
-ghost use Rattle.std.specs.Prelude.{◌≡◌, ◌↔◌, IsTrue};
+ghost use Rattle.std.specs.Prelude.{◌≡◌, ◌+◌, ◌-◌, ◌^◌, ◌↔◌, IsTrue, min};
 ghost use Rattle.atoi_core.specs.Refusal.{refusal_of};
-ghost use Rattle.atoi_column.specs.ErrorText.{unexpected_place};
+ghost use Rattle.atoi_column.specs.ErrorText.{fault_text, unexpected_place};
 ghost use Rattle.atoi_column.specs.FieldItems.{bad_field_of};
 
 use crate::error::fault;
@@ -36,6 +36,32 @@ pub struct FieldError<'a> {
 }
 
 impl FieldError<'_> {
+    /// Returns the number of the field, from 1. If the fields are lines, this is the line number. See the
+    /// [guide](crate::guide#read-columns-and-lines).
+    ///
+    /// **Proved:** it is one more than the index [as specified](crate::specification#columns).
+    ///
+    /// ```
+    /// use torkettle::column::Fields;
+    ///
+    /// let error = Fields::<u8>::lines(b"80\n44x").find_map(Result::err).unwrap();
+    /// assert_eq!(error.line(), 2);
+    /// ```
+    #[inline]
+    pub fn line(&self) -> usize
+        ensures { result ≡ min (self.now.index + 1) (2 ^ 64 - 1) }
+    {
+        self.index.saturating_add(1)
+    }
+
+    /// Says what is wrong with the field, in words that follow its name.
+    #[doc(hidden)]
+    pub fn fault(&self) -> &'static str
+        ensures { result.now ≡ fault_text (refusal_of self.now.cause) }
+    {
+        fault(self.cause)
+    }
+
     /// Returns what `==` returns, with a contract.
     #[doc(hidden)]
     pub fn is_same_as(&self, other: &FieldError<'_>) -> bool

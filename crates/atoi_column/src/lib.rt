@@ -1,10 +1,12 @@
 //! Columns of decimal integers: the fields of a byte slice, separated by one byte.
 #![tactic(auto)]
 
+mod clones;
 mod column;
 mod error;
 mod field_error;
 mod fields;
+mod guesses;
 pub mod laws;
 
 pub use crate::column::{Column, is_separator};

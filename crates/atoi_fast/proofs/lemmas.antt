@@ -12,3 +12,4 @@ pub mod DigitLanes
 pub mod ShortLanes
 pub mod LaneWindows
 pub mod VectorAnswers
+pub mod Widths

@@ -159,6 +159,18 @@ fn a_piece_starts_where_the_last_one_ended(rt: HostRuntime) {
     check_next(&rt, &mut lines, Some(overflow), (10, 112));
 }
 
+#[test]
+fn a_read_stops_before_a_bad_field(rt: HostRuntime) {
+    let mut fields = Fields::<u8>::new(b"1,22,x,3", b',');
+    let mut numbers = [0; 4];
+    gives(&rt, fields.read(&mut numbers), 2);
+    gives(&rt, numbers, [1, 22, 0, 0]);
+    check_next(&rt, &mut fields, Some(bad(2, 5, b"x", Empty)), (3, 7));
+    gives(&rt, fields.read(&mut numbers), 1);
+    gives(&rt, numbers, [3, 22, 0, 0]);
+    check_next(&rt, &mut fields, None, (4, 8));
+}
+
 const INPUTS: [&str; 12] = [
     "",
     "\n",

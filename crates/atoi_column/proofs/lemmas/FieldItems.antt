@@ -1,5 +1,5 @@
 -- The first item of `Fields`, with the text and end of the first field.
-use Rattle.std.proofs.Common.{◌≡◌, ◌≢◌, ℕ, ◌+◌, ◌-◌, ◌<◌, ◌≤◌, ◌==◌, true, false, not, inl, inr, if◌then◌else◌, Bool, List, [], ◌∷◌, length, length-drop, ℤ, Result, refl, ap, ◌∙◌, arith}
+use Rattle.std.proofs.Common.{◌≡◌, ◌≢◌, ℕ, ◌+◌, ◌-◌, ◌<◌, ◌≤◌, ◌==◌, min, true, false, not, inl, inr, if◌then◌else◌, Bool, List, [], ◌∷◌, length, length-drop, ℤ, Result, refl, ap, ◌∙◌, arith}
 use Rattle.std.specs.List.{slice_split, position_or_len, before_first, after_first}
 use Rattle.std.proofs.lemmas.List.{drop_all}
 use Rattle.std.proofs.lemmas.List.Folds.{length-prefix_len}
@@ -89,6 +89,14 @@ module _ (int : IntType) (left : FieldsLeft) where
   unfolding field_items_left
   length-field_items_left =
       omega (arith, length-items_of_parts (cut_of left.trims) answer left.index left.place (slice_split ends left.rest), length-fields_of left.separator left.rest)
+
+  -- Where a byte is left, an item is.
+  pub some-field_items_left : min (length left.rest) 1 ≤ length (field_items_left int left)
+  some-field_items_left =
+      elim (leb_tells 1 (length left.rest)) [
+        | inl some ↦ let items = ap (λ items. length items) (field_items_left-first (omega (arith, some.1))) in omega (arith, items)
+        | inr none ↦ omega (arith, none.1)
+      ]
 
 -- What is left of an input that ends at the offset `end`.
 abbrev pub left_before : (trims : Bool) (separator index end : ℕ) → List ℕ → FieldsLeft

@@ -1,6 +1,7 @@
 -- A number that a field's separator or the end of the input follows is the whole field.
-use Rattle.std.proofs.Common.{◌≡◌, ◌≢◌, ℕ, suc, ◌+◌, ◌-◌, ◌<◌, ◌≤◌, ◌==◌, ◌&&◌, if◌then◌else◌, None, Some, true, false, not, inl, inr, Bool, List, [], ◌∷◌, ◌++◌, length, take, drop, get_or, length-drop, ℤ, Ok, refl, sym, ap, subst, ◌∙◌, arith}
+use Rattle.std.proofs.Common.{◌≡◌, ◌≢◌, ℕ, suc, ◌+◌, ◌-◌, ◌<◌, ◌≤◌, ◌==◌, ◌&&◌, if◌then◌else◌, None, Some, true, false, not, inl, inr, Bool, List, [], ◌∷◌, ◌++◌, length, take, drop, get_or, length-drop, ℤ, Ok, Err, Result, refl, sym, ap, subst, ◌∙◌, arith}
 use Rattle.std.specs.List.{position_or_len}
+use Rattle.std.specs.Result.{result_ok}
 use Rattle.std.specs.Char.{digit_value}
 use Rattle.std.specs.Str.Parse.{AllDigits}
 use Rattle.std.proofs.lemmas.List.{take_all, drop_all, get_or-take, length-take-le, take-take}
@@ -49,6 +50,11 @@ separator_then {separator} {following} (byte ∷ bytes) end =
       | inl same ↦ let next : Some bytes ≡ Some following = rw same.0 at end in cc
       | inr other ↦ let none : None ≡ Some following = rw other.0 at end in absurd (cc)
     ]
+
+-- What `ok` gives a value of.
+pub ok_is : {T E : Type 0} (result : Result T E) {value : T} → result_ok result ≡ Some value → result ≡ Ok value
+ok_is (Ok found) same = cc
+ok_is (Err bad) same = absurd (cc)
 
 -- A number that is found is found if a plus is allowed, too.
 body_of_plus : (signed : Bool) (bytes : List ℕ) → (sign_of signed false (43 ∷ bytes)).body ≡ 43 ∷ bytes

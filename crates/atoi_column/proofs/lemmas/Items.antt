@@ -74,6 +74,15 @@ module _ (int : IntType) (separator index place : ℕ) where
   items_left-empty [] h = items_left-nil
   items_left-empty (byte ∷ bytes) h = absurd (omega arith)
 
+  -- Where a byte is left, an item is.
+  pub some-items_left : (rest : List ℕ) → 0 < length rest → 0 < length (items_left int separator index place rest)
+  unfolding items_left
+  some-items_left rest some =
+      let text = before_first (λ byte. byte == separator) rest in
+      let texts = fields_of separator (after_first (λ byte. byte == separator) rest) in
+      rw (fields_of_first separator rest some) (items_from-cases (parse_answer int true true) (parse_prefix_answer int true true)
+      (λ items. 0 < length items) index place rest text texts (λ v. omega arith) (λ reason h. omega arith))
+
   pub length-items_left : (rest : List ℕ) → length (items_left int separator index place rest) ≤ length rest
   unfolding items_left
   length-items_left rest =

@@ -19,7 +19,7 @@ use Rattle.atoi_core.proofs.lemmas.WordRuns.{Change, constant, added, cut, both,
 -- ---- Counting digits and zeros
 
 -- This constant subtracts 48 from each of k bytes.
-abbrev without_48 : ℕ → ℕ
+abbrev pub without_48 : ℕ → ℕ
 without_48 zero = 1
 without_48 (suc k) = 256 * without_48 k - 48
 
@@ -116,11 +116,11 @@ first_passes true n m h = (refl, omega arith)
 first_passes false n m h = absurd (omega arith)
 
 -- A digit's lower half is the byte minus 48.
-lower_half : (b : ℕ) → is_digit decimal_table b ≡ true → bit_and b 15 ≡ (b + 208) % 256
+pub lower_half : (b : ℕ) → is_digit decimal_table b ≡ true → bit_and b 15 ≡ (b + 208) % 256
 lower_half b digit = and_mask b 4 ∙ (let range = digit_in_range b digit in omega arith)
 
 -- Subtracting 48 from k digits leaves their lower halves.
-lowered_digits : (n k word : ℕ) → k ≤ prefix_len (is_digit decimal_table) (digits_l 256 n word)
+pub lowered_digits : (n k word : ℕ) → k ≤ prefix_len (is_digit decimal_table) (digits_l 256 n word)
     → (word + without_48 n) % 2 ^ (k * 8) ≡ bit_and (word % 2 ^ (k * 8)) (repeated 15 k)
 lowered_digits n zero word digits = omega (arith, and_zero_r (word % 2 ^ (zero * 8)))
 lowered_digits zero (suc k) word digits = absurd (omega arith)

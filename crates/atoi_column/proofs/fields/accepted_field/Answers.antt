@@ -1,8 +1,10 @@
 -- The number that is found is the whole field.
-use Rattle.std.proofs.Common.{refl, sym, rules}
+use Rattle.std.proofs.Common.{refl, sym, ap, ◌∙◌, rules}
+use Rattle.std.proofs.lemmas.Result.{IfOk-at_ok}
 use Rattle.std.proofs.lemmas.List.{take_rest}
 use Rattle.std.proofs.lemmas.Bool.{eq-eqb}
-use Rattle.atoi_column.proofs.lemmas.FoundFields.{accepted, with_plus, text_with_plus}
+use Rattle.atoi_core.specs.Answer.{typed_prefix_answer}
+use Rattle.atoi_column.proofs.lemmas.FoundFields.{accepted, ok_is, with_plus, text_with_plus}
 use Rattle.atoi_column.proofs.fields.accepted_field.Goals as goal
 
 pub returns-in-Some-clause-some : goal.returns-in-Some-clause-some
@@ -15,11 +17,13 @@ returns-in-Some-clause-some g c = λ separates.
     }) {following = c.in-Some.following.now} _ short.ends (rw (eq-eqb c.args.separator _ refl) refl) in
     search rules
 
-pub returns-in-Some-after_field-clause-some : goal.returns-in-Some-after_field-clause-some
-returns-in-Some-after_field-clause-some g c = λ separates.
+pub returns-clause-some : goal.returns-clause-some
+returns-clause-some g c = λ separates.
+    let parsed = ok_is c.parse_prefix.result (sym c.ok.ensures.value ∙ c.in_ok-value.was) in
+    let answer = sym c.parse_prefix.ensures.answer ∙ ap (typed_prefix_answer g.T.Number.number) parsed in
     accepted c.args.trims (record {
       within = (c.fields_are_prefixes.ensures c.args.separator separates c.args.rest.now).within _ _
-          (with_plus g.T.Number.int_type _ c.prefix_begins.ensures c.args.rest.now (sym c.in-Ok.ensures.answer));
-      written = text_with_plus c.in-Ok.ensures.prefix.written;
+          (with_plus g.T.Number.int_type _ c.prefix_begins.ensures c.args.rest.now answer);
+      written = text_with_plus (IfOk-at_ok _ parsed c.parse_prefix.ensures.prefix).written;
       texts = c.accepted_texts.ensures;
-    }) _ (sym (take_rest c.args.rest.now c.in-Ok.found.1)) (sym c.in-Some-after_field.ensures)
+    }) _ (sym (take_rest c.args.rest.now c.in_ok-value.count)) (sym c.in_ok-following.ensures)

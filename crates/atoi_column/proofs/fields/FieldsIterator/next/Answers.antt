@@ -25,8 +25,8 @@ returns-in-Some-clause-steps g c =
 pub returns-in-None-clause-steps : goal.returns-in-None-clause-steps
 returns-in-None-clause-steps g c =
     let some : 0 < length c.self.inside.rest.now = grind (arith, nat_tests) in
-    first_field_step g.T.Number.int_type c.self.view_is some c.self.invariant.within c.read_field_cold-item.ensures.item
-    c.read_field_cold-item.ensures.following
+    first_field_step g.T.Number.int_type c.self.view_is some c.self.invariant.within c.read_field-item.ensures.item
+    c.read_field-item.ensures.following
 
 pub returns-in-Some-clause-goes : goal.returns-in-Some-clause-goes
 returns-in-Some-clause-goes g c =
