@@ -6,9 +6,9 @@
 //     line 7 is skipped: no digit
 //     line 10 is skipped: number out of range
 //     line 15 is skipped: no space after the number
-//     requests         17
-//     failed            4
-//     bytes    4831941775
+//     requests         21
+//     failed            7
+//     bytes    4831943000
 //     skipped           3
 //
 // ../../crates/atoi_log/stdout has what the second command prints.
@@ -39,17 +39,36 @@ const char *take_number(std::string_view &text, T &number)
     return nullptr;
 }
 
-// Reads the status and the size, which follow the request: `.. "GET / HTTP/1.1" 200 5316 ..`.
+// Moves `text` behind the next quote that no backslash escapes. Returns false if there is none.
+bool take_quoted(std::string_view &text)
+{
+    for (std::size_t at = 0; at < text.size(); at++) {
+        if (text[at] == '"') {
+            text.remove_prefix(at + 1);
+            return true;
+        }
+        at += text[at] == '\\';
+    }
+    return false;
+}
+
+// Reads the status and the size, which follow the request: `.. "GET / HTTP/1.1" 200 5316 ..`. A server writes a quote
+// of the request as `\"` or `\x22`, and `-` for a size of 0.
 const char *take_status_and_size(std::string_view line, std::uint16_t &status, std::uint64_t &size)
 {
-    constexpr std::string_view quote = "\" ", space = " \t\r";
-    line = line.substr(0, line.find_last_not_of(space) + 1);
-    const std::size_t at = line.find(quote);
-    if (at == line.npos)
+    line = line.substr(0, line.find_last_not_of(" \t\r") + 1);
+    if (!take_quoted(line))
         return "no request";
-    std::string_view numbers = line.substr(at + quote.size());
-    const char *const reason = take_number(numbers, status);
-    return reason ? reason : take_number(numbers, size);
+    if (!take_quoted(line))
+        return "no end of the request";
+    if (line.substr(0, 1) != " ")
+        return "no space after the request";
+    line.remove_prefix(1);
+    if (const char *const reason = take_number(line, status))
+        return reason;
+    if (line == "-" || line.substr(0, 2) == "- ")
+        return nullptr;
+    return take_number(line, size);
 }
 
 } // namespace

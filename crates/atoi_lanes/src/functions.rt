@@ -19,6 +19,9 @@ use atoi_core::laws::{accepted_texts, prefix_results, whole_results};
 /// assert_eq!(parse::<u8, false, false>(b"256"), Err(AtoiSimdError::Overflow(b"256")));
 /// ```
 ///
+/// **Proved:** all results are [as specified](crate::specification). A number is what `s` spells. With
+/// `SKIP_ZEROES`, an error means that there is none in range.
+///
 /// # Errors
 ///
 /// The first [error](AtoiSimdError) that applies: `Empty` if no digit follows the sign, `Size` if there
@@ -49,6 +52,9 @@ pub fn parse<T: Parse, const SKIP_ZEROES: bool, const SKIP_PLUS: bool>(
 /// assert_eq!(parse_pos::<i8, false>(b"-5"), Err(AtoiSimdError::Empty));
 /// ```
 ///
+/// **Proved:** all results are [as specified](crate::specification). A number is what the digits `s`
+/// spell. With `SKIP_ZEROES`, an error means that there is none in range.
+///
 /// # Errors
 ///
 /// As for [`parse`] (see the [guide](crate::guide#errors)).
@@ -71,6 +77,9 @@ pub fn parse_pos<T: Parse, const SKIP_ZEROES: bool>(s: &[u8]) -> Result<T, AtoiS
 /// assert_eq!(parse_neg::<i8, false>(b"128"), Ok(-128));
 /// assert_eq!(parse_neg::<i8, false>(b"129"), Err(AtoiSimdError::Overflow(b"129")));
 /// ```
+///
+/// **Proved:** all results are [as specified](crate::specification). A number is what a `-` and the
+/// digits `s` spell. With `SKIP_ZEROES`, an error means that there is none in range.
 ///
 /// # Errors
 ///
@@ -95,6 +104,10 @@ pub fn parse_neg<T: ParseNeg, const SKIP_ZEROES: bool>(s: &[u8]) -> Result<T, At
 /// assert_eq!(parse_prefix::<u64, false, false>(b"123something_else"), Ok((123, 3)));
 /// assert_eq!(parse_prefix::<u64, false, false>(b"-123"), Err(AtoiSimdError::Empty));
 /// ```
+///
+/// **Proved:** all results are [as specified](crate::specification). A number is what the bytes up to
+/// its length spell, where no digit follows. With `SKIP_ZEROES`, an error means that there is none in
+/// range.
 ///
 /// # Errors
 ///
@@ -124,6 +137,10 @@ pub fn parse_prefix<T: Parse, const SKIP_ZEROES: bool, const SKIP_PLUS: bool>(
 /// assert_eq!(parse_prefix_pos::<u16, false>(b"+80"), Err(AtoiSimdError::Empty));
 /// ```
 ///
+/// **Proved:** all results are [as specified](crate::specification). A number is what the digits up to
+/// its length spell, where no digit follows. With `SKIP_ZEROES`, an error means that there is none in
+/// range.
+///
 /// # Errors
 ///
 /// As for [`parse_prefix`] (see the [guide](crate::guide#errors)).
@@ -151,6 +168,10 @@ pub fn parse_prefix_pos<T: Parse, const SKIP_ZEROES: bool>(
 /// assert_eq!(parse_prefix_neg::<i32, false>(b"-12a"), Err(AtoiSimdError::Empty));
 /// ```
 ///
+/// **Proved:** all results are [as specified](crate::specification). A number is what a `-` and the
+/// digits up to its length spell, where no digit follows. With `SKIP_ZEROES`, an error means that there
+/// is none in range.
+///
 /// # Errors
 ///
 /// As for [`parse_prefix`] (see the [guide](crate::guide#errors)).
@@ -176,6 +197,9 @@ pub fn parse_prefix_neg<T: ParseNeg, const SKIP_ZEROES: bool>(
 /// assert_eq!(torkettle::parse_skipped::<isize>(b"+007"), Ok(7));
 /// ```
 ///
+/// **Proved:** all results are [as specified](crate::specification). A number is what `s` spells. An
+/// error means that there is none in range.
+///
 /// # Errors
 ///
 /// As for [`parse`] (see the [guide](crate::guide#errors)).
@@ -194,6 +218,9 @@ pub fn parse_skipped<T: Parse>(s: &[u8]) -> Result<T, AtoiSimdError<'_>>
 /// ```
 /// assert_eq!(torkettle::parse_any::<usize>(b"7 "), Ok((7, 1)));
 /// ```
+///
+/// **Proved:** all results are [as specified](crate::specification). A number is what the bytes up to
+/// its length spell, where no digit follows.
 ///
 /// # Errors
 ///
@@ -215,6 +242,9 @@ pub fn parse_any<T: Parse>(s: &[u8]) -> Result<(T, usize), AtoiSimdError<'_>>
 /// assert_eq!(torkettle::parse_any_pos::<u8>(b"255."), Ok((255, 3)));
 /// ```
 ///
+/// **Proved:** all results are [as specified](crate::specification). A number is what the digits up to
+/// its length spell, where no digit follows.
+///
 /// # Errors
 ///
 /// As for [`parse_prefix`] (see the [guide](crate::guide#errors)).
@@ -234,6 +264,9 @@ pub fn parse_any_pos<T: Parse>(s: &[u8]) -> Result<(T, usize), AtoiSimdError<'_>
 /// ```
 /// assert_eq!(torkettle::parse_any_neg::<i16>(b"1-"), Ok((-1, 1)));
 /// ```
+///
+/// **Proved:** all results are [as specified](crate::specification). A number is what a `-` and the
+/// digits up to its length spell, where no digit follows.
 ///
 /// # Errors
 ///

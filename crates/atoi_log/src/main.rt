@@ -4,7 +4,6 @@
 
 use atoi_simd::{AtoiSimdError, Parse, parse_prefix};
 use std::io::{self, BufRead, BufReader};
-use std::str::from_utf8;
 
 fn reason(error: AtoiSimdError<'_>) -> &'static str {
     match error {
@@ -23,13 +22,30 @@ fn number_and_rest<T: Parse>(text: &[u8]) -> Result<(T, &[u8]), &'static str> {
     }
 }
 
-// Returns the status and the size, which follow the request: `.. "GET / HTTP/1.1" 200 5316 ..`.
+// Returns what follows the next quote that no backslash escapes.
+fn after_quote(text: &[u8]) -> Option<&[u8]> {
+    let mut bytes = text.iter();
+    while let Some(byte) = bytes.next() {
+        match byte {
+            b'"' => return Some(bytes.as_slice()),
+            b'\\' => _ = bytes.next(),
+            _ => {}
+        }
+    }
+    None
+}
+
+// Returns the status and the size, which follow the request: `.. "GET / HTTP/1.1" 200 5316 ..`. A server
+// writes a quote of the request as `\"` or `\x22`, and `-` for a size of 0.
 fn status_and_size(line: &[u8]) -> Result<(u16, u64), &'static str> {
-    let line = from_utf8(line.trim_ascii_end()).map_err(|_| "not UTF-8")?;
-    let (_, numbers) = line.split_once("\" ").ok_or("no request")?;
-    let (status, rest) = number_and_rest::<u16>(numbers.as_bytes())?;
-    let (size, _) = number_and_rest::<u64>(rest)?;
-    Ok((status, size))
+    let request = after_quote(line.trim_ascii_end()).ok_or("no request")?;
+    let rest = after_quote(request).ok_or("no end of the request")?;
+    let numbers = rest.strip_prefix(b" ").ok_or("no space after the request")?;
+    let (status, rest) = number_and_rest::<u16>(numbers)?;
+    match rest {
+        [b'-'] | [b'-', b' ', ..] => Ok((status, 0)),
+        _ => Ok((status, number_and_rest::<u64>(rest)?.0)),
+    }
 }
 
 // Reads a log, and prints the skipped lines and the sums.
