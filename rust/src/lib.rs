@@ -1,5 +1,6 @@
 //! Parses decimal integers from byte slices, for the twelve integer types of Rust: exactly, without
-//! allocation, without `std` and, unless the feature `lanes` is on, without `unsafe` code.
+//! allocation and, unless the feature `lanes` is on, without `unsafe` code. Only the feature `std` needs
+//! an operating system.
 //!
 //! ```
 //! use torkettle::{AtoiSimdError, parse, parse_prefix};
@@ -19,6 +20,7 @@
 //! | digits without a sign, or after a `-` | [`parse_pos`], [`parse_neg`], [`parse_prefix_pos`], [`parse_prefix_neg`] |
 //! | numbers with a separator between them, or one per line | [`column::Fields`] |
 //! | such numbers up to the first error | [`column::Column`] |
+//! | the lines of a file of any size | `column::LineReader`, with the feature `std` |
 //! | the integers of a version, a date, an address or JSON | the functions of [`formats`] |
 //!
 //! Without `SKIP_ZEROES`, leading zeros are accepted too, but they count as digits, and some calls limit
@@ -40,12 +42,12 @@
 //!
 //! The sources are written in Rattle, a dialect of Rust in which functions have contracts. A proof
 //! checker has verified that every parser returns exactly what its contract says, for every input, and
-//! that no input makes it panic or run forever. A build script removes the contracts, and this crate is
-//! what remains. No proof covers these three items. You trust them:
+//! that no input makes it panic or run forever. This crate is the same code as Rust, in which the
+//! contracts are comments: "Source" shows them. No proof covers these three items. You trust them:
 //!
 //! 1. The proof checker of Rattle. It is not public, so you cannot repeat the proofs.
-//! 2. Our definitions of the correct results, which `docs/SPECIFICATION.md` explains.
-//! 3. What makes a program of the Rattle sources: the build script, the Rust code in `rust/src`, rustc,
+//! 2. Our definitions of the correct results, which the [`specification`] explains.
+//! 3. The Rust code in `rust/src`, which you can compare with the Rattle sources in the repository, rustc,
 //!    and Rust's `core`, which must do what Rattle's `std` specifies.
 //!
 //! Tests compare the results of this crate with the specification, with `str::parse`, with `atoi_simd`,
@@ -53,7 +55,8 @@
 //!
 //! # Features
 //!
-//! - `std` changes nothing, since the crate never uses `std`. It is there for programs that ask for it.
+//! - `std`, which is on by default, adds `column::LineReader`, which reads lines of files. No proof covers
+//!   it. Without `std`, the crate is `no_std` and does not allocate.
 //! - `lanes` adds the module `lanes`, which has the ten functions of the root on vectors of sixteen bytes.
 //!   It works on stable Rust and contains one `unsafe` expression. Any version may change it.
 #![no_std]
@@ -64,18 +67,35 @@
 #[cfg(not(target_pointer_width = "64"))]
 compile_error!("torkettle needs a target with 64-bit pointers: its proofs are for no others");
 
-// Some of its public functions are only for the crates themselves, whose proofs meet their conditions.
+// `.ci/erase` makes these modules of the proved crates, and keeps the lines of their sources. Some of their
+// public functions are only for the crates themselves, whose proofs meet their conditions.
 #[cfg(target_pointer_width = "64")]
 #[allow(dead_code, unused_imports, unused_variables)]
-// The build script empties lines, and the kit's `unwrap_or` has no proof here.
-#[allow(clippy::empty_line_after_doc_comments, clippy::empty_line_after_outer_attr)]
-#[allow(clippy::manual_unwrap_or)]
+#[allow(clippy::manual_unwrap_or)] // The kit's `unwrap_or` has no proof here.
+#[rustfmt::skip]
 mod proved {
-    include!(concat!(env!("OUT_DIR"), "/proved.rs"));
+    pub mod atoi_column;
+    pub mod atoi_core;
+    pub mod atoi_fast;
+    pub mod atoi_formats;
+    #[cfg(feature = "lanes")]
+    pub mod atoi_lanes;
+    #[cfg(not(feature = "lanes"))]
+    pub mod atoi_lanes {} // Its name stays for `atoi_simd`, which exports it to Rattle.
+    pub mod atoi_simd;
 }
 
 #[cfg(all(target_pointer_width = "64", feature = "lanes"))]
 mod simd;
+
+#[cfg(target_pointer_width = "64")]
+mod debug;
+
+#[cfg(feature = "std")]
+extern crate std;
+
+#[cfg(all(target_pointer_width = "64", feature = "std"))]
+mod line_reader;
 
 #[cfg(target_pointer_width = "64")]
 pub use proved::atoi_simd::{
@@ -83,12 +103,32 @@ pub use proved::atoi_simd::{
     parse_pos, parse_prefix, parse_prefix_neg, parse_prefix_pos, parse_skipped,
 };
 
-/// The guide for Rust, which is `docs/GUIDE.md` in the repository.
+/// The guide for Rust, which is `docs/GUIDE.md`.
 ///
-/// Its links to other files work only there.
+// The first of two addresses by one name counts: here, those of other pages are these.
+/// [rules]: crate::specification#the-result-for-a-body-magnitudeantt
+/// [messages]: crate::specification#errors-refusalantt-errortextantt-errorkindsantt
+/// [trust]: crate#what-is-proved-and-what-you-trust
 ///
 #[cfg_attr(all(doc, not(doctest)), doc = include_str!("../../docs/GUIDE.md"))]
 pub mod guide {}
+
+/// The specification, which is `docs/SPECIFICATION.md`. It says, for example:
+///
+/// ```
+/// use torkettle::{AtoiSimdError, parse};
+///
+/// // A `u64` has at most 20 digits. Of more than that, `Size` counts at most 24.
+/// let text = [b'7'; 99];
+/// assert_eq!(parse::<u64, false, false>(&text), Err(AtoiSimdError::Size(24, &text)));
+/// ```
+///
+/// [flags]: crate::guide#choose-the-flags
+/// [functions]: crate::guide#parse-a-number
+/// [lanes]: crate::guide#lanes
+///
+#[cfg_attr(all(doc, not(doctest)), doc = include_str!("../../docs/SPECIFICATION.md"))]
+pub mod specification {}
 
 /// Columns: the numbers of a byte slice that are separated by one byte, such as a comma.
 ///
@@ -99,10 +139,10 @@ pub mod guide {}
 /// use torkettle::column::Fields;
 ///
 /// let mut total = 0;
-/// for (line, item) in (1..).zip(Fields::<u64>::lines(b"80\r\n44x\r\n8080\r\n")) {
+/// for item in Fields::<u64>::lines(b"80\r\n44x\r\n8080\r\n") {
 ///     match item {
 ///         Ok(number) => total += number,
-///         Err(error) => assert_eq!((line, error.place, error.text), (2, 4, &b"44x"[..])),
+///         Err(error) => assert_eq!((error.line(), error.place, error.text), (2, 4, &b"44x"[..])),
 ///     }
 /// }
 /// assert_eq!(total, 8160);
@@ -119,7 +159,8 @@ pub mod guide {}
 /// assert_eq!(total(b"80,44x,8080"), Err(ColumnError::Trailing { index: 1, place: 5 }));
 /// ```
 ///
-/// A longer input can be read in pieces. Each but the last must end with a separator:
+/// With the feature `std`, `LineReader` reads the lines of a file that is larger than memory. Without it,
+/// you can read an input in pieces. Each but the last must end with a separator:
 ///
 /// ```
 /// use torkettle::column::Fields;
@@ -136,15 +177,16 @@ pub mod guide {}
 /// assert_eq!((index, place), (4, 13));
 /// ```
 ///
-/// The constructors panic if the separator is a digit, `+` or `-`. The [guide](crate::guide#read-files)
-/// reads a file that is larger than memory.
+/// The constructors panic if the separator is a digit, `+` or `-`.
 #[cfg(target_pointer_width = "64")]
 pub mod column {
+    #[cfg(feature = "std")]
+    pub use crate::line_reader::{Line, LineError, LineReader, Numbers};
     pub use crate::proved::atoi_column::{Column, ColumnError, FieldError, Fields, is_separator};
 }
 
 /// Numbers in the formats of files and protocols: a number and the byte after it, a number with a
-/// fixed number of digits, a number exactly as `{}` prints it, an integer of JSON.
+/// fixed or limited number of digits, a number exactly as `{}` prints it, an integer of JSON.
 ///
 /// Each function returns `None` if the text does not have the format. To parse a format of your own,
 /// call them one after another:
@@ -200,8 +242,8 @@ pub mod column {
 #[cfg(target_pointer_width = "64")]
 pub mod formats {
     pub use crate::proved::atoi_formats::{
-        after, canonical, canonical_then, digits_then, fixed_width, json_integer, number,
-        number_then,
+        after, canonical, canonical_prefix, canonical_then, digits_between, digits_then,
+        fixed_width, json_integer, number, number_then,
     };
 }
 

@@ -1,9 +1,26 @@
-//! Compares the items of columns with what `split`, `str::lines` and `str::parse` give, and shows which
-//! separators are refused.
+//! Compares the items of columns with what `split`, `str::lines` and `str::parse` give, and what `read`
+//! writes with the items. Shows which separators are refused.
+//!
+//! `TORKETTLE_FIELDS` sets how many fields are generated for `read`.
 
+#![allow(dead_code)]
+
+#[path = "../../diff/common/src/random.rs"]
+mod random;
+#[path = "../../diff/compare/src/texts.rs"]
+mod texts;
+
+use random::Random;
+use std::fmt::Debug;
 use std::panic::catch_unwind;
-use torkettle::AtoiSimdError;
+use std::str::FromStr;
 use torkettle::column::{Column, ColumnError, FieldError, Fields, is_separator};
+use torkettle::{AtoiSimdError, Parse};
+
+const FIELDS: usize = 1_000_000;
+
+// How many values there is room for in a read.
+const ROOMS: [usize; 5] = [0, 1, 7, 64, 1000];
 
 // Columns with good fields, and fields that are refused: empty, with other bytes, out of range.
 const COLUMNS: [&str; 13] = [
@@ -171,4 +188,145 @@ fn a_start_leaves_room_for_the_fields() {
     let error =
         Fields::<u8>::new(b"1,x", b',').starting_at(usize::MAX - 3, 7).find_map(Result::err);
     assert_eq!(error.map(|error| (error.index, error.place)), Some((usize::MAX - 2, 9)));
+}
+
+// A column of fields that mostly have equally many digits, or at most as many. Some are refused.
+fn column(random: &mut Random, separator: u8) -> Vec<u8> {
+    let mut text = Vec::new();
+    let (mut most, has_one_width) = (1 + random.below(20), random.one_in(2));
+    let (other, has_signs) = (random.pick(&[4, 60, 600]), random.one_in(3));
+    let end: &[u8] = if random.one_in(3) { b"\r" } else { b"" };
+    let count = random.pick(&[3, 20, 200, 2000]);
+    for _ in 0..1 + random.below(count) {
+        most = if random.one_in(80) { 1 + random.below(20) } else { most };
+        if random.one_in(other) {
+            texts::push_text(random, &mut text);
+        } else {
+            let sign: &[u8] = if has_signs { random.pick(&[b"-", b"", b"", b"+"]) } else { b"" };
+            text.extend_from_slice(sign);
+            let digits = if has_one_width { most } else { 1 + random.below(most) };
+            text.extend((0..digits).map(|_| random.digit()));
+        }
+        text.extend_from_slice(end);
+        text.push(separator);
+    }
+    text.truncate(text.len() - random.below(2));
+    text
+}
+
+// Checks each item by what std parses. `cut` removes what ends a field.
+fn check_items<T: Parse + FromStr + PartialEq + Debug>(
+    text: &[u8],
+    fields: Fields<'_, T>,
+    cut: impl Fn(&[u8]) -> &[u8],
+) {
+    let (mut fields, mut start) = (fields, 0);
+    while let Some(item) = fields.next() {
+        let end = fields.position().1;
+        let field = std::str::from_utf8(cut(&text[start..end])).ok();
+        let expected = field.and_then(|field| field.parse().ok());
+        assert_eq!(item.ok(), expected, "at {start} of \"{}\"", text.escape_ascii());
+        start = end;
+    }
+    assert_eq!(start, text.len());
+}
+
+// Reads all fields, `room` at once, and compares them with the items of the same fields. Returns how many
+// fields there are.
+fn check_reads<T: Parse + PartialEq + Debug + Default + Copy>(
+    fields: Fields<'_, T>,
+    items: Fields<'_, T>,
+    room: usize,
+) -> usize {
+    let (mut fields, mut items) = (fields, items);
+    let mut values = vec![T::default(); room];
+    loop {
+        let before = values.clone();
+        let read = fields.read(&mut values);
+        for value in &values[..read] {
+            assert_eq!(items.next(), Some(Ok(*value)), "from {:?}", items.position());
+        }
+        assert_eq!(values[read..], before[read..], "the other values");
+        assert_eq!(fields.position(), items.position());
+        if read == room && room > 0 {
+            continue;
+        }
+        let item = fields.next();
+        assert_eq!(item, items.next());
+        match item {
+            None => return fields.position().0,
+            Some(item) => assert!(room == 0 || item.is_err(), "a read stops before {item:?}"),
+        }
+    }
+}
+
+fn check_column<T: Parse + FromStr + PartialEq + Debug + Default + Copy>(
+    text: &[u8],
+    separator: u8,
+    room: usize,
+) -> usize {
+    check_items(text, Fields::<T>::new(text, separator), |field| {
+        field.strip_suffix(&[separator]).unwrap_or(field)
+    });
+    check_items(text, Fields::<T>::lines(text), |field| match field {
+        [line @ .., b'\r', b'\n'] | [line @ .., b'\n'] => line,
+        _ => field,
+    });
+    let fields = || Fields::<T>::new(text, separator);
+    let lines = || Fields::<T>::lines(text);
+    check_reads(fields(), fields(), room) + check_reads(lines(), lines(), room)
+}
+
+#[test]
+fn a_read_gives_the_numbers_of_the_next_items() {
+    let wanted = std::env::var("TORKETTLE_FIELDS")
+        .map_or(FIELDS, |fields| fields.parse().expect("TORKETTLE_FIELDS is not a number"));
+    let (mut random, mut fields) = (Random::new(90), 0);
+    while fields < wanted {
+        let separator = random.pick(b",,\n\n;\xFF\0:/ \r");
+        let text = column(&mut random, separator);
+        macro_rules! check {
+            ($($integer:ty)*) => {
+                $(fields += check_column::<$integer>(&text, separator, random.pick(&ROOMS));)*
+            };
+        }
+        check!(i8 u8 i16 u16 i32 u32 i64 u64 i128 u128 isize usize);
+    }
+}
+
+// At each step, how many items are left is within the hint, and a clone gives them.
+fn check_hints<I: Iterator + Clone>(mut items: I)
+where
+    I::Item: PartialEq + std::fmt::Debug,
+{
+    loop {
+        let left: Vec<_> = items.clone().collect();
+        let (least, most) = items.size_hint();
+        assert_eq!(least, left.len().min(1));
+        assert!(left.len() <= most.unwrap_or(0));
+        match items.next() {
+            Some(item) => assert_eq!(left.first(), Some(&item)),
+            None => return,
+        }
+    }
+}
+
+#[test]
+fn hints_and_clones_are_true() {
+    for text in COLUMNS {
+        check_hints(Column::<i8>::new(text.as_bytes(), b','));
+        check_hints(Fields::<i8>::new(text.as_bytes(), b','));
+        check_hints(Fields::<i8>::lines(text.replace(',', "\n").as_bytes()));
+    }
+}
+
+#[test]
+fn iterators_show_where_they_are() {
+    #[derive(Debug, Clone)]
+    struct Both<'a>(Fields<'a, u8>, Column<'a, u8>);
+    let mut both = Both(Fields::new(b"1,2,3", b','), Column::new(b"1,2,3", b','));
+    both.0.next();
+    both.1.next();
+    let shown = "Both(Fields { position: (1, 2), .. }, Column { bytes_left: 3, .. })";
+    assert_eq!(format!("{both:?}"), shown);
 }

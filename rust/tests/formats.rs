@@ -5,7 +5,8 @@ use std::panic::catch_unwind;
 use std::str::FromStr;
 use torkettle::Parse;
 use torkettle::formats::{
-    after, canonical, canonical_then, digits_then, fixed_width, number, number_then,
+    after, canonical, canonical_prefix, canonical_then, digits_between, digits_then, fixed_width,
+    number, number_then,
 };
 
 // Parts of texts: every text of up to four of them is tried.
@@ -54,6 +55,17 @@ fn check<T: Parse + FromStr + Display + PartialEq + Debug>(text: &str) {
     assert_eq!(canonical::<T>(bytes), printed(text), "canonical of {text:?}");
     let found = placed(canonical_then(bytes, b'.'));
     assert_eq!(found, before_dot(text, printed), "canonical_then of {text:?}");
+    let sign = usize::from(text.starts_with('-'));
+    let end = sign + bytes[sign..].iter().take_while(|byte| byte.is_ascii_digit()).count();
+    let expected = printed(&text[..end]).map(|value| (value, end));
+    assert_eq!(placed(canonical_prefix(bytes)), expected, "canonical_prefix of {text:?}");
+    let count = bytes.iter().take_while(|byte| byte.is_ascii_digit()).count();
+    for (least, most) in [(0, 0), (0, 1), (1, 2), (2, 3), (3, 2), (4, 21), (1, usize::MAX)] {
+        let front = Some(count.min(most)).filter(|count| *count >= least);
+        let expected = front.and_then(|count| Some((parsed(&text[..count])?, count)));
+        let found = placed(digits_between(bytes, least, most));
+        assert_eq!(found, expected, "{least} to {most} digits of {text:?}");
+    }
     for width in [0, 1, 2, 3, 21, usize::MAX] {
         let is_digits = |front: &&str| front.bytes().all(|byte| byte.is_ascii_digit());
         let front = text.get(..width).filter(is_digits);

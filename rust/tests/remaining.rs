@@ -21,7 +21,8 @@ const TESTS: [(&str, &str); 3] = [
     ),
 ];
 
-const CRATES: [&str; 6] =
+/// The crates of the package.
+pub const CRATES: [&str; 6] =
     ["atoi_core", "atoi_fast", "atoi_lanes", "atoi_simd", "atoi_column", "atoi_formats"];
 
 /// Returns the tokens of a source: comments, texts, words, and single characters.
@@ -47,7 +48,9 @@ fn length(rest: &str, first: char) -> usize {
     let byte = rest.strip_prefix('b').unwrap_or(rest);
     let prefix = rest.len() - byte.len();
     let mut after = byte.chars().skip(1);
-    if rest.starts_with("//") {
+    if rest.starts_with("/*") {
+        rest.find("*/").map_or(rest.len(), |end| end + 2)
+    } else if rest.starts_with("//") {
         rest.lines().next().map_or(0, str::len)
     } else if byte.starts_with('"') {
         prefix + text_length(byte, '"')
@@ -64,6 +67,11 @@ fn length(rest: &str, first: char) -> usize {
 fn text_length(text: &str, quote: char) -> usize {
     let escaped = text[1..].replace("\\\\", "..").replace(&format!("\\{quote}"), "..");
     2 + escaped.find(quote).expect("the last quote")
+}
+
+/// Says whether a token is a comment that documents nothing.
+pub fn is_comment(text: &str) -> bool {
+    text.starts_with("/* ") || text.starts_with("// ")
 }
 
 /// Returns the tokens that must be in the Rust of a module of the crate `name`.

@@ -1,8 +1,9 @@
 //! The code that the pages quote and that no example has.
 
 use std::io::{self, Read};
-use torkettle::column::{Column, ColumnError, FieldError, Fields, is_separator};
-use torkettle::formats::{after, digits_then, json_integer};
+use std::num::{NonZero, ParseIntError};
+use torkettle::column::{Column, ColumnError, FieldError, Fields, LineReader, is_separator};
+use torkettle::formats::{after, canonical_prefix, canonical_then, digits_then, json_integer};
 use torkettle::{
     AtoiSimdError, Parse, parse, parse_neg, parse_pos, parse_prefix, parse_prefix_neg,
     parse_prefix_pos,
@@ -66,36 +67,42 @@ fn total(input: &[u8]) -> Result<u64, ColumnError<'_>> {
     Ok(total)
 }
 
-fn total_of_good_lines(lines: &mut Fields<'_, u32>) -> u64 {
+fn total_of_numbers(input: &[u8]) -> Result<u64, FieldError<'_>> {
+    let (mut fields, mut numbers, mut total) = (Fields::<u32>::lines(input), [0; 1024], 0);
+    loop {
+        let read = fields.read(&mut numbers);
+        total += numbers[..read].iter().map(|number| u64::from(*number)).sum::<u64>();
+        if read < numbers.len() {
+            // It stopped at the end, or before a line that `next` refuses.
+            return fields.next().map_or(Ok(total), |item| item.and(Ok(total)));
+        }
+    }
+}
+
+fn total_of_good_lines(input: &[u8]) -> u64 {
     let mut total = 0;
-    for item in lines {
+    for item in Fields::<u32>::lines(input) {
         match item {
             Ok(number) => total += u64::from(number),
             // A blank line is skipped.
             Err(error) if error.text.is_empty() => {}
-            Err(error) => {
-                eprintln!("line {}: \"{}\"", error.index + 1, error.text.escape_ascii());
-            }
+            Err(error) => eprintln!("line {}: \"{}\"", error.line(), error.text.escape_ascii()),
         }
     }
     total
 }
 
-fn total_of_file(mut file: impl Read) -> io::Result<u64> {
-    let (mut text, mut total, mut index, mut place) = (Vec::new(), 0, 0, 0);
-    loop {
-        let count = file.by_ref().take(1 << 20).read_to_end(&mut text)?;
-        // Reads up to the last line feed or, at the end of the file, everything that is left.
-        let line_feed = text.iter().rposition(|byte| *byte == b'\n');
-        let end = if count == 0 { text.len() } else { line_feed.map_or(0, |offset| offset + 1) };
-        let mut lines = Fields::lines(&text[..end]).starting_at(index, place);
-        total += total_of_good_lines(&mut lines);
-        (index, place) = lines.position();
-        text.drain(..end);
-        if count == 0 {
-            return Ok(total);
+fn total_of_file(file: impl Read) -> io::Result<u64> {
+    let (mut reader, mut total) = (LineReader::new(file), 0);
+    while let Some(numbers) = reader.next_numbers::<u32>()? {
+        for item in numbers {
+            match item {
+                Ok(number) => total += u64::from(number),
+                Err(error) => eprintln!("{error}"),
+            }
         }
     }
+    Ok(total)
 }
 
 fn total_between(input: &[u8], separator: u8) -> Option<Result<u64, ColumnError<'_>>> {
@@ -121,13 +128,40 @@ fn name_and_numbers(line: &str) -> Option<(&str, u32, i8)> {
     Some((name, price, change))
 }
 
-fn total_of_second_column(table: &str) -> Result<u64, usize> {
-    let mut total = 0;
-    for (number, line) in (1_usize..).zip(table.lines()) {
-        let cell = line.split('\t').nth(1).ok_or(number)?;
-        total += u64::from(parse::<u32, true, false>(cell.as_bytes()).map_err(|_| number)?);
+// Returns the total, and how many lines have no number there.
+fn total_of_second_column(table: impl Read) -> io::Result<(u64, usize)> {
+    let (mut reader, mut total, mut bad) = (LineReader::new(table), 0, 0);
+    while let Some(line) = reader.next_line()? {
+        let cell = line.ok().and_then(|line| line.text.split(|byte| *byte == b'\t').nth(1));
+        match cell.map(parse::<u32, true, false>) {
+            Some(Ok(number)) => total += u64::from(number),
+            _ => bad += 1,
+        }
     }
-    Ok(total)
+    Ok((total, bad))
+}
+
+// Returns the numbers of a version such as `1.22.333-rc.1`, and what follows them.
+fn version_and_rest(text: &[u8]) -> Option<([u64; 3], &[u8])> {
+    let (major, rest) = canonical_then(text, b'.')?;
+    let (minor, rest) = canonical_then(rest, b'.')?;
+    let (patch, rest) = canonical_prefix(rest)?;
+    Some(([major, minor, patch], rest))
+}
+
+fn parse_as_std(text: &str) -> Result<u32, ParseIntError> {
+    parse::<u32, true, true>(text.as_bytes()).or_else(|_| text.parse())
+}
+
+fn parse_nonzero(text: &[u8]) -> Option<NonZero<u32>> {
+    NonZero::new(parse::<u32, true, true>(text.trim_ascii()).ok()?)
+}
+
+// Returns the numbers of a row such as `1,2,3`. The row `1,2,` has three cells, of which the last is empty.
+fn row(line: &[u8]) -> Option<[u32; 3]> {
+    let mut fields = Fields::new(line, b',');
+    let row = [fields.next()?.ok()?, fields.next()?.ok()?, fields.next()?.ok()?];
+    (fields.next().is_none() && !line.ends_with(b",")).then_some(row)
 }
 
 #[test]
@@ -145,7 +179,9 @@ fn totals() {
     assert_eq!(error, Err("field 1 at byte 2 has no digit at its start".to_string()));
     let error = total(b"1,2x").map_err(|error| error.to_string());
     assert_eq!(error, Err("field 1 has an unexpected byte at byte 3".to_string()));
-    assert_eq!(total_of_good_lines(&mut Fields::lines(b"1\r\nx\r\n\r\n3\r\n")), 4);
+    assert_eq!(total_of_good_lines(b"1\r\nx\r\n\r\n3\r\n"), 4);
+    assert_eq!(total_of_numbers("12\n".repeat(3000).as_bytes()), Ok(36_000));
+    assert_eq!(total_of_numbers(b"1\nx\n2").map_err(|error| error.line()), Err(2));
     let text = "1\n".repeat((1 << 20) + 1) + "x\r\n7";
     assert_eq!(total_of_file(text.as_bytes()).unwrap(), (1 << 20) + 8);
     assert_eq!(total_between(b"1;2", b';'), Some(Ok(3)));
@@ -154,9 +190,23 @@ fn totals() {
     assert_eq!(version(b"1.22.x"), None);
     assert_eq!(name_and_numbers("tea,250,-3"), Some(("tea", 250, -3)));
     assert_eq!(name_and_numbers("tea,250"), None);
-    assert_eq!(total_of_second_column("tea\t250\t-3\r\nmilk\t90"), Ok(340));
-    assert_eq!(total_of_second_column("tea\t250\nmilk\n"), Err(2));
-    assert_eq!(total_of_second_column("tea\t250\n\tx\n"), Err(2));
+    let table = b"tea\t250\t-3\r\nmilk\t90\r\nr\xf6sti\n\t\xff\n";
+    assert_eq!(total_of_second_column(&table[..]).unwrap(), (340, 2));
+}
+
+#[test]
+fn recipes() {
+    assert_eq!(version_and_rest(b"1.22.333-rc.1"), Some(([1, 22, 333], &b"-rc.1"[..])));
+    assert_eq!(version_and_rest(b"1.22.0333"), None);
+    for text in ["7", "+7", "", "-", "4294967296", "7 "] {
+        assert_eq!(parse_as_std(text), text.parse());
+    }
+    assert_eq!(parse_nonzero(b" 7\n"), NonZero::new(7));
+    assert_eq!(parse_nonzero(b"0"), None);
+    assert_eq!(row(b"1,2,3"), Some([1, 2, 3]));
+    for line in [&b"1,2"[..], b"1,2,", b",2,3", b"1,2,3,", b"1,2,3,4", b"1,2,x"] {
+        assert_eq!(row(line), None);
+    }
 }
 
 #[test]

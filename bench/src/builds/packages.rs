@@ -9,7 +9,7 @@ use torkettle_common::command::run;
 use torkettle_common::package::Package;
 
 // The file that names the engines of the package, and what is written into it for `Against::Words`.
-const ENGINES: &str = "rust/build/engines.rs";
+const ENGINES: &str = "erase/src/engines.rs";
 const TUNED: &str = "atoi_fast::Swar";
 const PLAIN: &str = "atoi_core::Words";
 
@@ -24,6 +24,7 @@ pub fn package(cache: &Cache, against: &Against) -> Result<(Package, String), St
     run(Command::new("tar").arg("-xf").arg(&archive).arg("-C").arg(&room))?;
     if *against == Against::Words {
         edit(&room.join(ENGINES), with_words)?;
+        erase(cache, &room)?;
     }
     edit(&room.join("Cargo.toml"), |manifest| Ok(with_other_version(manifest)))?;
     Ok((Package::of_folder(&room)?, name))
@@ -47,8 +48,16 @@ fn pack_commit(cache: &Cache, commit: &str, archive: &Path) -> Result<String, St
 fn pack_checkout(cache: &Cache, archive: &Path) -> Result<String, String> {
     let mut tar = Command::new("tar");
     tar.args(["--exclude=target", "--exclude=out", "-cf"]).arg(archive);
-    run(tar.arg("-C").arg(cache.repository()).args(["Cargo.toml", "crates", "rust"]))?;
+    let parts = ["Cargo.toml", "crates", "erase", "rust"];
+    run(tar.arg("-C").arg(cache.repository()).args(parts))?;
     Ok(String::from("with Words"))
+}
+
+// Makes the Rust of a package anew, with the engines that its eraser names.
+fn erase(cache: &Cache, room: &Path) -> Result<(), String> {
+    let mut cargo = Command::new("cargo");
+    cargo.args(["run", "--quiet", "--manifest-path", "erase/Cargo.toml"]).current_dir(room);
+    run(cargo.env("CARGO_TARGET_DIR", cache.folder("erase"))).map(|_| ())
 }
 
 fn edit(file: &Path, edited: fn(&str) -> Result<String, String>) -> Result<(), String> {
@@ -87,9 +96,9 @@ mod tests {
         };
         let tuned = engines("atoi_fast::Swar");
         assert_eq!(with_words(&tuned), Ok(engines("atoi_core::Words")));
-        assert!(with_words(include_str!("../../../rust/build/engines.rs")).is_ok());
+        assert!(with_words(include_str!("../../../erase/src/engines.rs")).is_ok());
         for refused in [engines("atoi_core::Words"), tuned.repeat(2)] {
-            assert!(with_words(&refused).is_err_and(|it| it.contains("rust/build/engines.rs")));
+            assert!(with_words(&refused).is_err_and(|it| it.contains("erase/src/engines.rs")));
         }
     }
 

@@ -21,13 +21,16 @@ impl Package {
     pub fn of_folder(folder: &Path) -> Result<Package, String> {
         let manifest = folder.join("Cargo.toml");
         let text = fs::read(&manifest).map_err(|error| failed(&manifest, error))?;
-        let mut contents = Stamp::new().with(text);
-        for part in ["rust/build", "rust/src"] {
-            contents = contents.with_folder(&folder.join(part))?;
-        }
-        let crates = entries(&folder.join("crates"))?;
-        for source in crates.iter().map(|it| it.join("src")).filter(|source| source.is_dir()) {
-            contents = contents.with(source.to_string_lossy().as_bytes()).with_folder(&source)?;
+        let mut contents = Stamp::new().with(text).with_folder(&folder.join("rust/src"))?;
+        // Once, a build script made Rust of the sources.
+        let script = folder.join("rust/build");
+        if script.is_dir() {
+            contents = contents.with_folder(&script)?;
+            let crates = entries(&folder.join("crates"))?;
+            for source in crates.iter().map(|it| it.join("src")).filter(|source| source.is_dir()) {
+                contents =
+                    contents.with(source.to_string_lossy().as_bytes()).with_folder(&source)?;
+            }
         }
         Ok(Package { folder: folder.to_path_buf(), contents })
     }

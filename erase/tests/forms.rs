@@ -1,17 +1,8 @@
-//! What the eraser makes of each form that it knows, what the build refuses, and that every token that
-//! must remain of each source is in the Rust, in its order and on its line, and no other token.
+//! What the eraser makes of each form that it knows, and what it refuses.
 
-mod remaining;
-#[path = "../build/main.rs"]
-#[allow(dead_code)]
-mod script;
-
-use script::engines;
-use script::erase::{CRATES, Refusal, erase};
-use script::names;
 use std::collections::BTreeSet;
-use std::fs;
-use std::path::{Path, PathBuf};
+use torkettle_erase::erase::{CRATES, Refusal, erase};
+use torkettle_erase::names;
 
 fn erased(source: &str) -> String {
     match erase("atoi_core", source, &[]) {
@@ -20,7 +11,7 @@ fn erased(source: &str) -> String {
     }
 }
 
-// What the build script does with a source.
+// What is made of a source.
 fn built(name: &str, source: &str) -> Result<String, Refusal> {
     let rust = erase(name, source, &["exported"])?;
     let mut declared = BTreeSet::new();
@@ -29,9 +20,83 @@ fn built(name: &str, source: &str) -> Result<String, Refusal> {
     Ok(rust)
 }
 
-// The words of the Rust, by single spaces.
+// The words of the Rust without its comments, by single spaces.
 fn words(source: &str) -> String {
-    erased(source).split_whitespace().collect::<Vec<_>>().join(" ")
+    without_comments(&erased(source)).split_whitespace().collect::<Vec<_>>().join(" ")
+}
+
+fn without_comments(rust: &str) -> String {
+    let mut rust = rust.to_string();
+    while let Some((before, rest)) = rust.split_once("/* ") {
+        rust = format!("{before}{}", rest.split_once(" */").unwrap().1);
+    }
+    let is_code = |line: &&str| !line.trim_start().starts_with("// ");
+    rust.lines().filter(is_code).collect::<Vec<_>>().join("\n")
+}
+
+// Comments stand where the source has what only proofs read.
+#[test]
+fn what_is_left_out_is_a_comment() {
+    let source = "#![tactic(auto)]
+
+const Z: u8 = 1;
+ghost use A.{b,
+    c};
+struct A {
+    d: u8,
+    ghost e: { ℕ },
+}
+impl Model for A {
+    // B.
+
+    ghost view = { λ x. {} };
+}
+#[derive(Drop)]
+fn a()
+    requires { x }
+    ensures name { one
+        ≡ {}
+      * two }
+{}
+trait B { fn b()
+    ensures { ℕ
+    }; ghost f: { ℕ }; }
+";
+    let rust = "// #![tactic(auto)]
+
+const Z: u8 = 1;
+// ghost use A.{b,
+//     c};
+struct A {
+    d: u8,
+    // ghost e: { ℕ },
+}
+// impl Model for A {
+//     // B.
+
+//     ghost view = { λ x. {} };
+// }
+// #[derive(Drop)]
+#[inline] fn a()
+    // requires { x }
+    // ensures name { one
+    //     ≡ {}
+    //   * two }
+{}
+trait B { fn b()
+    /* ensures { ℕ
+    } */; /* ghost f: { ℕ }; */ }
+";
+    assert_eq!(erased(source), rust);
+    assert_refused(&[
+        ("trait A { fn a()\n    ensures { b */ c }; }", 2, "in what becomes a comment"),
+        ("trait A { fn a() ensures { b /* c }; }", 1, "in what becomes a comment"),
+    ]);
+    // A clause hides no parameter that another clause names.
+    let clauses = "pub fn new(separator: u8)
+    ensures { is_separator: }\n    requires { is_separator separator ≡ true }\n{ 1 }";
+    let rust = built("atoi_column", &format!("{IMPORTS}{clauses}")).unwrap();
+    assert!(rust.contains("{assert!(crate::column::is_separator(separator)"), "{rust}");
 }
 
 #[test]
@@ -126,8 +191,8 @@ ghost use Rattle.atoi_core.specs.Digit.{decimal_table, is_digit};
 fn conditions_of_public_functions_are_tested() {
     let new = "pub fn new(separator: u8)\n    requires { is_separator separator ≡ true }\n{ 1 }";
     let rust = built("atoi_column", &format!("{IMPORTS}{new}")).unwrap();
-    let start = "\n\n\n#[inline] pub fn new(separator: u8)\n    \n{assert!(crate::column::is_separator(separator),";
-    assert!(rust.starts_with(start) && rust.ends_with("); 1 }"), "{rust}");
+    let start = "\n{assert!(crate::column::is_separator(separator), \"a sign or a digit separates fields\");";
+    assert!(rust.ends_with(&format!("{start} 1 }}")), "{rust}");
     let method = format!("{IMPORTS}struct A; impl A {{ {new} }}");
     assert!(built("atoi_core", &method).unwrap().contains("{assert!(crate::column::is_separator"));
     let then = "fn exported(byte: u8) requires same { IsFalse (is_digit decimal_table byte) } {}";
@@ -189,6 +254,12 @@ fn conditions_that_nothing_tests_are_refused() {
 fn lines_and_literals_stay() {
     let source = "// A \"quote\n/// B's.\nfn a<'a>(b: &'a str) -> char {\n    b\"\\\"{\"; '\\''; '{'; b'x'; 0xFF_FF; x.0.1; 0..2\n}\n";
     assert_eq!(erased(source), source.replace("fn a<", "#[inline] fn a<"));
+    // A character that is a brace or a quote opens nothing that hides the ghost item behind it.
+    for character in ["'{'", "'}'", "'\"'", "'('", "'\\''", "'/'", "b'{'", "b'\"'", "'é'"] {
+        let source =
+            format!("const A: char = {character};\nghost use B.{{c}};\nconst D: u8 = 1;\n");
+        assert_eq!(erased(&source), source.replace("ghost use", "// ghost use"));
+    }
     let source = "ghost use\n    a.b;\nfn a()\n    ensures {\n        ℕ\n    }\n{}\n";
     assert_eq!(erased(source).lines().count(), source.lines().count());
 }
@@ -206,6 +277,19 @@ fn assert_refused(sources: &[(&str, usize, &str)]) {
         let (found, reason) = refused(source);
         assert_eq!(found, *line, "the line of {source}");
         assert!(reason.contains(part), "{source}: {reason}");
+    }
+}
+
+// No word and no number means something else in one of the crates.
+#[test]
+fn words_and_numbers_stay_in_each_crate() {
+    let is_form = |word: &&str| *word == "Formatter" || CRATES.contains(word);
+    let words = names::NAMES.split_whitespace().chain(names::METHODS.split_whitespace());
+    let words = words.filter(|word| !is_form(word)).collect::<Vec<_>>().join("; ");
+    let numbers = (0..=256).map(|number| number.to_string()).collect::<Vec<_>>().join("; ");
+    let source = format!("const A: u8 = {{\n    {words};\n    {numbers}\n}};\n");
+    for name in CRATES {
+        assert_eq!(erase(name, &source, &["parse"]).unwrap(), source, "{name}");
     }
 }
 
@@ -346,6 +430,74 @@ fn what_differs_silently_is_refused() {
     ]);
 }
 
+// A renamed function would be called without its condition, which is tested where it is exported by name.
+#[test]
+fn no_name_hides_another() {
+    let mut names: Vec<&str> = names::NAMES.split_whitespace().chain(CRATES).collect();
+    names.extend(["exported", "a", "lanes", "r", "_"]);
+    let integers = "i8 i16 i32 i64 i128 isize u8 u16 u32 u64 u128 usize";
+    for name in names {
+        let is_form = name == "Formatter"; // It is one of the eraser's forms.
+        let [alias, path] = if is_form { ["`Formatter`"; 2] } else { ["`as`", "`core::"] };
+        assert_refused(&[
+            (&format!("fn a() {{}} pub use crate::a as {name};"), 1, alias),
+            (&format!("fn a() {{}} pub use crate::{{a as {name}}};"), 1, alias),
+            (&format!("mod b; fn atoi_c() {{}}\nuse crate::b::atoi_c as {name};"), 2, alias),
+            (&format!("use atoi_core::{{b as {name}}};"), 1, alias),
+            (&format!("fn b() {{}} pub use atoi_core::b as {name};"), 1, alias),
+            (&format!("pub use {{atoi_core as {name}}};"), 1, alias),
+            (&format!("use std::fmt as {name};"), 1, path),
+        ]);
+        let cast = built("atoi_core", &format!("fn a(b: u8) {{ b as {name} }}"));
+        assert_eq!(cast.is_ok(), names::has(integers, name), "{name}");
+    }
+    assert!(built("atoi_simd", "pub use atoi_lanes as lanes;\nfn a(b: u8) { b as u64 }").is_ok());
+}
+
+#[test]
+fn conditions_of_what_users_can_write_are_refused() {
+    let written = "a ghost item of a struct that users can write, or change";
+    let invariant = "impl Model for A {\n    ghost invariant = { ℕ };\n}";
+    assert_refused(&[
+        ("pub struct A {\n    pub b: u8,\n    ghost c: { ℕ },\n}", 3, written),
+        ("pub struct A {\n    ghost c: { ℕ },\n    pub b: u8,\n}", 2, written),
+        ("pub struct A { b: u8, pub c: u8, ghost d: { ℕ } }", 1, written),
+        ("pub struct A<T: Copy> { ghost c: { ℕ } }", 1, written),
+        ("mod a { pub struct A { pub b: u8, ghost c: { ℕ } } }", 1, written),
+        (&format!("pub struct A {{ pub b: u8 }}\n{invariant}"), 3, "an invariant of `A`"),
+        (&format!("pub struct A(u8);\n{invariant}"), 3, "an invariant of `A`"),
+        (&format!("pub enum A {{ B(u8) }}\n{invariant}"), 3, "an invariant of `A`"),
+        (&format!("use crate::b::A;\n{invariant}"), 3, "an invariant of `A`"),
+    ]);
+    let own = "pub struct A<T: Copy> { b: T, pub(crate) c: u8, ghost d: { ℕ } }\npub struct B { pub c: u8 }";
+    assert!(built("atoi_core", &format!("{own}\n{invariant}")).is_ok());
+    assert!(
+        built("atoi_core", "pub trait A { ghost b: { ℕ }; } pub struct B { pub c: u8 }").is_ok()
+    );
+}
+
+// From the Rust Reference and the prelude of `core`, and not from the eraser's list.
+const OTHER_KEYWORDS: &str = "async await dyn extern move ref super unsafe abstract become box do final gen \
+    macro override priv try typeof unsized virtual yield macro_rules union";
+const OTHER_TYPES: &str = "char f16 f32 f64 f128";
+const PRELUDE_FUNCTIONS: &str = "align_of align_of_val drop size_of size_of_val";
+
+#[test]
+fn every_other_name_of_rust_is_refused() {
+    let names = [OTHER_KEYWORDS, OTHER_TYPES, PRELUDE_FUNCTIONS].map(str::split_whitespace);
+    for name in names.into_iter().flatten() {
+        for source in [
+            format!("\nfn a() {{ {name}(b) }}"),
+            format!("\nfn a() {{ let b = {name}; }}"),
+            format!("\nfn a() {{ b.map({name}) }}"),
+            format!("\nfn a() {{ {name}::<u8>() }}"),
+            format!("\nuse crate::{name};"),
+        ] {
+            assert_eq!(refused(&source).0, 2, "{source}");
+        }
+    }
+}
+
 #[test]
 fn what_means_the_same_is_taken() {
     for source in [
@@ -364,43 +516,4 @@ fn what_means_the_same_is_taken() {
             panic!("{source}: line {line}: {reason}");
         }
     }
-}
-
-#[test]
-fn what_must_remain_remains() {
-    let top = Path::new(env!("CARGO_MANIFEST_DIR"));
-    let facade = fs::read_to_string(top.join("rust/src/lib.rs")).unwrap();
-    let exported = names::tokens(&facade).unwrap();
-    let exported: Vec<&str> = exported.iter().map(|token| token.text).collect();
-    assert!(exported.contains(&"parse_prefix") && exported.contains(&"fixed_width"));
-    assert!(exported.windows(2).all(|pair| pair != ["::", "*"]), "an export without a name");
-    let mut files = 0;
-    for name in CRATES {
-        let folder = top.join("crates").join(name).join("src");
-        for file in sources(&folder) {
-            let module = file.strip_prefix(&folder).unwrap();
-            let source = fs::read_to_string(&file).unwrap();
-            let Some(source) = engines::in_package(name, module, &source).unwrap() else {
-                continue;
-            };
-            let rust = erase(name, &source, &exported);
-            let rust = rust.unwrap_or_else(|refusal| panic!("{}: {refusal:?}", file.display()));
-            assert_eq!(source.lines().count(), rust.lines().count(), "lines of {file:?}");
-            let (kept, made) = (remaining::remaining(name, &source), remaining::tokens(&rust));
-            for (kept, made) in kept.iter().zip(&made) {
-                assert_eq!(kept, made, "{}", file.display());
-            }
-            assert_eq!(kept.len(), made.len(), "{}", file.display());
-            files += 1;
-        }
-    }
-    assert!(files > 30, "{files} sources");
-}
-
-// The sources in a folder and in the folders in it.
-fn sources(folder: &Path) -> Vec<PathBuf> {
-    let paths = fs::read_dir(folder).unwrap().map(|entry| entry.unwrap().path());
-    let (folders, files): (Vec<PathBuf>, Vec<PathBuf>) = paths.partition(|path| path.is_dir());
-    let here = files.into_iter().filter(|path| path.extension().is_some_and(|end| end == "rt"));
-    here.chain(folders.iter().flat_map(|folder| sources(folder))).collect()
 }

@@ -36,14 +36,17 @@ fn named(engine: &str, text: &str) -> Result<String, Refusal> {
     }
 }
 
-// Empties the lines that declare the modules which are left out, or import from them.
+// Makes comments of the lines that declare the modules which are left out, or import from them.
 fn without_left_out(text: &str) -> String {
     let is_left_out = |line: &str| {
         let item = line.trim_start_matches("pub ");
         let name = item.strip_prefix("mod ").or(item.strip_prefix("use crate::")).unwrap_or("");
         LEFT_OUT.contains(&name.split([';', ':']).next().unwrap_or(""))
     };
-    let lines = text.split('\n').map(|line| if is_left_out(line) { "" } else { line });
+    let lines = text.split('\n').map(|line| match is_left_out(line) {
+        true => format!("// {line}"),
+        false => line.into(),
+    });
     lines.collect::<Vec<_>>().join("\n")
 }
 

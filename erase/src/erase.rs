@@ -1,11 +1,12 @@
-//! The eraser. It makes Rust of a Rattle source by leaving out what only proofs read: ghost items,
+//! The eraser. It makes Rust of a Rattle source by making comments of what only proofs read: ghost items,
 //! contracts, hints to the prover and `impl Model`.
 //!
 //! Every other token of a source is in the Rust, in its order and on its line: only heads of paths and
-//! the signature of `fmt` are replaced, and hints to inline and tests of conditions are put in. A form
-//! that is not known here, or a name of Rust that `names.rs` does not list, stops the build. A condition
-//! of a function that users can call is tested first in its body, or stops the build, except for those in
-//! `UNTESTED`. No types are known here: reviewers see which of several methods a call means.
+//! the signature of `fmt` are replaced, `Drop` and `Model` are left out of lists, and hints to inline and
+//! tests of conditions are put in. A form that is not known here, or a name of Rust that `names.rs` does
+//! not list, is refused. A condition of a function that users can call is tested first in its body, or is
+//! refused, except for those in `UNTESTED`. So is one of a struct that users can write, or change. No
+//! types are known here: reviewers see which of several methods a call means.
 
 use super::names;
 use super::tokens::{Kind, Scanner, Token};
@@ -38,9 +39,10 @@ const CONDITIONS: [(&str, &str); 3] = [
 ];
 
 // The methods whose conditions nothing tests. DIFFERENCES describes the first three. No item that users
-// can name mentions `Engine`.
+// can name mentions `Engine`, and the methods of `impl` are private.
 const UNTESTED: &str = "atoi_core::Number::from_pos atoi_core::Number::from_parts \
-    atoi_core::Signed::from_neg atoi_core::Engine::prefix_64 atoi_core::Engine::prefix_128";
+    atoi_core::Signed::from_neg atoi_core::Engine::prefix_64 atoi_core::Engine::prefix_128 \
+    atoi_column::impl::read_guessed atoi_column::impl::read_part";
 
 /// The line of what is refused, and why it is.
 pub type Refusal = (usize, String);
@@ -52,7 +54,7 @@ pub fn refusal(text: &str, offset: usize, reason: String) -> Refusal {
 
 /// Makes Rust of the source of a module of the crate `name`. Users may call what is in `exported`.
 pub fn erase(name: &str, source: &str, exported: &[&str]) -> Result<String, Refusal> {
-    let scanner = Scanner { source, at: 0 };
+    let scanner = Scanner { source, ..Scanner::default() };
     let mut eraser = Eraser { name, exported, source, scanner, ..Eraser::default() };
     let result = eraser.run();
     result.map_err(|reason| refusal(source, eraser.scanner.at, reason)).map(|()| eraser.out)
@@ -70,10 +72,25 @@ struct Item {
 // A function whose body or `;` has not come yet.
 struct Signature<'a> {
     name: &'a str,
+    // Where it starts in the source, and what is there up to the first clause.
+    start: usize,
+    head: Option<&'a str>,
     item: Item,
     tests: String,
     // How many `(` and `[` are open.
     depth: usize,
+}
+
+// A struct whose last `}` or `;` has not come yet.
+#[derive(Clone, Copy)]
+struct Fields<'a> {
+    name: &'a str,
+    // How many braces were open before it.
+    depth: usize,
+    has_public: bool,
+    has_private: bool,
+    // Where its first ghost item is in the source.
+    ghost: Option<usize>,
 }
 
 #[derive(Default)]
@@ -91,6 +108,9 @@ struct Eraser<'a> {
     // Whether the last token was documentation or an attribute.
     is_documented: bool,
     signature: Option<Signature<'a>>,
+    fields: Option<Fields<'a>>,
+    // The structs of this module that users can neither write nor change, since their fields are private.
+    sealed: Vec<&'a str>,
     // How many braces are open.
     depth: usize,
     // The name of the trait that is read, or `impl`, and how many braces were open before it.
@@ -104,7 +124,7 @@ impl<'a> Eraser<'a> {
             match token.kind {
                 Kind::Word => self.word(token)?,
                 Kind::Symbol if token.text == "#" => self.attribute(token)?,
-                Kind::Symbol => self.symbol(token),
+                Kind::Symbol => self.symbol(token)?,
                 _ => self.keep(token),
             }
             let is_documentation = token.text.starts_with("///") || token.text == "#";
@@ -120,13 +140,17 @@ impl<'a> Eraser<'a> {
         match token.text {
             "ghost" => {
                 self.pass_ghost()?;
-                self.leave_out(token);
+                if let Some(fields) = &mut self.fields {
+                    fields.ghost.get_or_insert(token.start);
+                }
+                self.comment(token)?;
             }
             "requires" | "ensures" => self.contract(token)?,
             "impl" if self.is_model()? => self.model(token)?,
             "impl" | "trait" if self.signature.is_none() => self.owner(token)?,
             "Model" => self.leave_out_of_import(token)?,
             "fn" => self.function(token)?,
+            "struct" => self.structure(token),
             "Formatter" => {
                 self.keep_as(token, "Formatter<'_>");
                 self.leave_out_text("<W>").then_some(()).ok_or("`Formatter` without `<W>`")?;
@@ -135,6 +159,9 @@ impl<'a> Eraser<'a> {
             "pub" => {
                 self.keep(token);
                 self.item.is_public = self.scanner.peek().text != "(";
+                if let Some(fields) = &mut self.fields {
+                    fields.has_public |= self.item.is_public;
+                }
             }
             name if CRATES.contains(&name) && self.last != "::" && self.last != "." => {
                 self.keep_as(token, &format!("crate::proved::{name}"));
@@ -144,7 +171,7 @@ impl<'a> Eraser<'a> {
         Ok(())
     }
 
-    fn symbol(&mut self, token: Token<'a>) {
+    fn symbol(&mut self, token: Token<'a>) -> Result<(), String> {
         self.keep(token);
         if let Some(signature) = &mut self.signature {
             match token.text {
@@ -158,10 +185,44 @@ impl<'a> Eraser<'a> {
             "{" => self.depth += 1,
             "}" => self.depth = self.depth.saturating_sub(1),
             ";" => {}
-            _ => return,
+            "," | ":" => return self.field(token),
+            _ => return Ok(()),
         }
         self.owner = self.owner.filter(|&(_, depth)| depth < self.depth || token.text != "}");
         self.item = Item::default();
+        self.end_struct(token)
+    }
+
+    // Notes the struct whose fields come next.
+    fn structure(&mut self, token: Token<'a>) {
+        self.keep(token);
+        let (name, has_public, has_private) = (self.scanner.peek().text, false, false);
+        self.fields =
+            Some(Fields { name, depth: self.depth, has_public, has_private, ghost: None });
+    }
+
+    // Notes a field at its `:`. What comes behind its `,` is no longer public.
+    fn field(&mut self, token: Token<'a>) -> Result<(), String> {
+        if let Some(fields) = self.fields.as_mut().filter(|fields| self.depth == fields.depth + 1) {
+            fields.has_private |= token.text == ":" && !self.item.is_public;
+            self.item.is_public = false;
+        }
+        Ok(())
+    }
+
+    // Refuses a struct with a condition, which is a ghost item, that users could write or change: they
+    // need not meet it.
+    fn end_struct(&mut self, token: Token<'a>) -> Result<(), String> {
+        let ended = |fields: &Fields| token.text != "{" && self.depth == fields.depth;
+        let Some(fields) = self.fields.filter(ended) else { return Ok(()) };
+        self.fields = None;
+        if !fields.has_public && fields.has_private {
+            self.sealed.push(fields.name);
+        } else if let Some(start) = fields.ghost {
+            self.scanner.at = start;
+            return Err("a ghost item of a struct that users can write, or change".into());
+        }
+        Ok(())
     }
 
     // Puts what tests a function's conditions behind the `{` of its body, and a hint to inline before
@@ -188,14 +249,12 @@ impl<'a> Eraser<'a> {
         let is_hint = matches!(text.as_str(), "[inline]" | "[inline(always)]" | "[inline(never)]");
         self.item.is_hinted |= is_hint;
         if text.trim_start_matches('!').starts_with("[tactic(") || text == "[derive(Drop)]" {
-            self.leave_out(token);
+            self.comment(token)?;
         } else if let Some(derived) = derived {
             let kept: Vec<&str> = derived.split(',').filter(|&name| name != "Drop").collect();
-            self.leave_out(token);
-            self.out.push_str(&format!("#[derive({})]", kept.join(", ")));
+            self.replace(token, &format!("#[derive({})]", kept.join(", ")));
         } else if text == "[inline(always)]" && self.is_compiled_once()? {
-            self.leave_out(token);
-            self.out.push_str("#[cfg_attr(not(debug_assertions), inline(always))]");
+            self.replace(token, "#[cfg_attr(not(debug_assertions), inline(always))]");
         } else if is_hint || matches!(text.as_str(), "[cold]" | "[doc(hidden)]") {
             self.copy_to(self.scanner.at);
         } else {
@@ -236,21 +295,21 @@ impl<'a> Eraser<'a> {
         Ok(())
     }
 
-    // Leaves out a clause of a contract.
+    // Makes a comment of a clause of a contract.
     fn contract(&mut self, token: Token<'a>) -> Result<(), String> {
         if self.scanner.peek().kind == Kind::Word {
             self.scanner.next_token()?;
         }
         let clause = self.scanner.clause()?;
         let mut signature = self.signature.take().ok_or("a contract outside of a signature")?;
+        signature.head.get_or_insert(&self.source[signature.start..token.start]);
         if token.text == "requires" && self.is_tested(&signature)? {
             let clause = self.with_paths(&signature, clause);
             let known = CONDITIONS.iter().find(|(condition, _)| *condition == clause);
             signature.tests.push_str(known.ok_or("a condition that nothing tests in Rust")?.1);
         }
         self.signature = Some(signature);
-        self.leave_out(token);
-        Ok(())
+        self.comment(token)
     }
 
     // Says whether a test of this function's conditions is put in: users may call it.
@@ -271,9 +330,8 @@ impl<'a> Eraser<'a> {
 
     // Returns the clause with the path of each name that a `ghost use` imports and no parameter hides.
     fn with_paths(&self, function: &Signature, clause: &str) -> String {
-        let signature = &self.out[function.item.start.unwrap_or(0)..];
         let with_path = |word: &str| {
-            let is_hidden = signature.contains(&format!("{word}:"));
+            let is_hidden = function.head.unwrap_or_default().contains(&format!("{word}:"));
             let is_import = |import: &&(&str, &str)| import.1.trim_matches('◌') == word;
             let paths = self.imports.iter().filter(is_import).filter(|_| !is_hidden);
             let paths = paths.map(|(module, _)| format!("{module}.{word}"));
@@ -307,19 +365,30 @@ impl<'a> Eraser<'a> {
         Ok(false)
     }
 
-    // Leaves out an `impl` of `Model`, all of whose items must be ghost items.
+    // Makes a comment of an `impl` of `Model`, all of whose items must be ghost items.
     fn model(&mut self, token: Token<'a>) -> Result<(), String> {
-        while self.scanner.next_token()?.text != "{" {}
+        let mut of = "";
+        while self.scanner.peek().text != "{" {
+            let last = self.scanner.next_token()?.text;
+            of = if last == "for" { self.scanner.peek().text } else { of };
+        }
+        self.scanner.next_token()?;
         loop {
             match self.scanner.next_token()? {
-                next if next.text == "ghost" => self.pass_ghost()?,
+                next if next.text == "ghost" => {
+                    if self.scanner.peek().text == "invariant" && !self.sealed.contains(&of) {
+                        return Err(format!(
+                            "an invariant of `{of}`, whose fields are not private"
+                        ));
+                    }
+                    self.pass_ghost()?;
+                }
                 next if next.text == "}" => break,
                 next if next.kind == Kind::Comment => {}
                 _ => return Err("an `impl` of `Model` with an item that is not ghost".into()),
             }
         }
-        self.leave_out(token);
-        Ok(())
+        self.comment(token)
     }
 
     // Leaves `Model,` out of `use std::marker::{Model, ..}`.
@@ -328,14 +397,15 @@ impl<'a> Eraser<'a> {
         if !is_first || self.scanner.next_token()?.text != "," {
             return Err("`Model` is known only in `use std::marker::{Model, ..}`".into());
         }
-        self.leave_out(token);
+        self.replace(token, "");
         Ok(())
     }
 
     fn function(&mut self, token: Token<'a>) -> Result<(), String> {
         self.keep(token);
         let (name, item) = (self.scanner.peek(), self.item);
-        let signature = Signature { name: name.text, item, tests: String::new(), depth: 0 };
+        let (start, head, tests) = (token.start, None, String::new());
+        let signature = Signature { name: name.text, start, head, item, tests, depth: 0 };
         self.signature = (name.kind == Kind::Word).then_some(signature);
         if name.text == "fmt" {
             self.scanner.next_token()?;
@@ -389,11 +459,40 @@ impl<'a> Eraser<'a> {
         self.done = token.start + token.text.len();
     }
 
-    // Leaves out what was read from `token` on, but not its ends of lines.
-    fn leave_out(&mut self, token: Token<'a>) {
+    // Puts `text` in place of what was read from `token` on. Ends of lines stay.
+    fn replace(&mut self, token: Token<'a>, text: &str) {
         self.copy_to(token.start);
         let lines = self.source[token.start..self.scanner.at].matches('\n').count();
         self.out.extend(std::iter::repeat_n('\n', lines));
+        self.out.push_str(text);
         self.done = self.scanner.at;
     }
+
+    // Makes a comment of what was read from `token` on: a comment on each line if nothing else is on
+    // these lines, and otherwise one between signs.
+    fn comment(&mut self, token: Token<'a>) -> Result<(), String> {
+        self.copy_to(token.start);
+        let (before, text) = self.source[..self.scanner.at].split_at(token.start);
+        let indent = &before[before.rfind('\n').map_or(0, |end| end + 1)..];
+        let rest = self.source[self.scanner.at..].split('\n').next().unwrap_or_default();
+        if indent.trim().is_empty() && rest.trim().is_empty() {
+            self.out.push_str(&commented(text, indent.len()));
+        } else if text.contains("/*") || text.contains("*/") {
+            return Err("`/*` or `*/` in what becomes a comment".into());
+        } else {
+            self.out.push_str(&format!("/* {text} */"));
+        }
+        self.done = self.scanner.at;
+        Ok(())
+    }
+}
+
+// Makes a comment of each line. All but the first are indented.
+fn commented(text: &str, indent: usize) -> String {
+    let comment = |(number, line): (usize, &str)| {
+        let spaces = line.len() - line.trim_start_matches(' ').len();
+        let (before, rest) = line.split_at(if number == 0 { 0 } else { spaces.min(indent) });
+        if rest.trim().is_empty() { String::new() } else { format!("{before}// {rest}") }
+    };
+    text.split('\n').enumerate().map(comment).collect::<Vec<_>>().join("\n")
 }

@@ -6,7 +6,7 @@ pub enum Kind {
     Word,
     /// A text in quotes, a byte, a character or a lifetime.
     Literal,
-    /// A comment that starts with `//`, also one that documents an item.
+    /// A comment that starts with `//`, also one that documents an item, and one between signs in Rust.
     Comment,
     /// `::`, `..`, `..=`, or one other character.
     Symbol,
@@ -24,6 +24,8 @@ pub struct Scanner<'a> {
     pub source: &'a str,
     /// The offset of what is read next.
     pub at: usize,
+    /// Whether the source is Rust that was made here. No other has comments between signs.
+    pub is_made: bool,
 }
 
 impl<'a> Scanner<'a> {
@@ -35,6 +37,9 @@ impl<'a> Scanner<'a> {
         let Some(first) = rest.chars().next() else { return Ok(None) };
         let (kind, length) = match first {
             '/' if rest.starts_with("//") => (Kind::Comment, rest.find('\n').unwrap_or(rest.len())),
+            '/' if rest.starts_with("/*") && self.is_made => {
+                (Kind::Comment, 2 + rest.find("*/").ok_or("a comment without its end")?)
+            }
             '/' if rest.starts_with("/*") => return Err("a block comment".into()),
             '"' => (Kind::Literal, quoted(rest, 0)?),
             '\'' if rest[1..].starts_with('\\') || rest.chars().nth(2) == Some('\'') => {

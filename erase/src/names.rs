@@ -2,7 +2,7 @@
 //! that is called, in a path or large, must be listed here or, except for most methods, declared in the
 //! sources. A name is listed after a look at "What differs silently" in the kit's FROM_RUST.md.
 
-use super::erase::{Refusal, refusal};
+use super::erase::{CRATES, Refusal, refusal};
 use super::tokens::{Kind, Scanner, Token};
 use std::collections::BTreeSet;
 
@@ -10,33 +10,38 @@ use std::collections::BTreeSet;
 const KEYWORDS: &str = "as break const continue crate else enum false fn for if impl in let loop \
     match mod mut pub return static struct trait true type use where while";
 
-// Attributes, built-in types, and what the prelude and the imports give. `from` is between integers.
-const NAMES: &str = "cfg_attr cold derive doc inline not \
+// What a number is cast to.
+const INTEGERS: &str = "i8 i16 i32 i64 i128 isize u8 u16 u32 u64 u128 usize";
+
+/// Attributes, built-in types, and what the prelude and the imports give. `from` is between integers.
+pub const NAMES: &str = "cfg_attr cold derive doc inline not \
     i8 i16 i32 i64 i128 isize u8 u16 u32 u64 u128 usize bool str self Self \
     Clone Copy Debug Eq Ord PartialEq PartialOrd Iterator Option Some None Result Ok Err \
     Display Formatter Error Ordering FusedIterator PhantomData fmt from_utf8 \
+    IntErrorKind InvalidDigit NegOverflow PosOverflow \
     MIN MAX from from_le_bytes u8x16 u16x8 u64x2 from_array from_slice splat \
     proved atoi_core atoi_fast atoi_lanes atoi_simd atoi_column atoi_formats";
 
 // Rust's `core` stands for Rattle's `std`, and `rust/src/simd` for its vectors. Tests of conditions
 // name the last.
 const PATHS: &str = "core::cmp::Ordering core::error::Error core::fmt core::iter::FusedIterator \
-    core::marker::PhantomData core::marker::{PhantomData} core::str::from_utf8 \
-    crate::simd::prelude::* crate::column::is_separator";
+    core::marker::PhantomData core::marker::{PhantomData} core::num::IntErrorKind \
+    core::str::from_utf8 crate::simd::prelude::* crate::column::is_separator";
 
 // Their arguments are code. A macro that makes a text of them or of their place may differ.
 const MACROS: &str = "assert matches write";
 
-// Methods. Only slices and ranges with an end are iterated, so that `count` and `enumerate` do not
-// overflow. `cmp` and `partial_cmp` compare numbers, or are derived. `unwrap`, `split_at` and
-// `copy_from_slice` panic in Rust alone, where proofs exclude it. No item of ours has such a name.
-const METHODS: &str = "len is_empty iter first first_chunk last_chunk split_at split_at_checked \
-    split_first copy_from_slice is_ascii_digit checked_add checked_mul cmp min partial_cmp \
-    saturating_sub to_le_bytes trailing_ones trailing_zeros unsigned_abs \
+/// Methods. Only slices and ranges with an end are iterated, so that `count` and `enumerate` do not
+/// overflow. `cmp` and `partial_cmp` compare numbers, or are derived. `unwrap`, `split_at` and
+/// `copy_from_slice` panic in Rust alone, where proofs exclude it. No item of ours has such a name.
+pub const METHODS: &str = "len is_empty iter first first_chunk last_chunk split_at split_at_checked \
+    split_first copy_from_slice is_ascii_digit checked_add checked_mul checked_sub cmp max min \
+    partial_cmp saturating_add saturating_sub to_le_bytes trailing_ones trailing_zeros unsigned_abs \
     wrapping_add wrapping_mul wrapping_sub \
     count enumerate take_while ok unwrap write_str dot4 simd_eq simd_ge simd_le \
     reduce_sum swizzle_dyn_within to_array to_bitmask";
-const OWN_METHODS: &str = "parts text tick";
+const OWN_METHODS: &str = "index parts text tick \
+    guess guessed_number next_number number read_guessed read_part taken_out";
 
 // All other small names that Rust has without a declaration: keywords, types and functions.
 const REFUSED: &str = "abstract async await become box do dyn extern final gen macro macro_rules \
@@ -48,9 +53,9 @@ pub fn has(list: &str, name: &str) -> bool {
     list.split_whitespace().any(|listed| listed == name)
 }
 
-/// Returns the tokens of a source without its comments.
+/// Returns the tokens of Rust without its comments.
 pub fn tokens(rust: &str) -> Result<Vec<Token<'_>>, Refusal> {
-    let (mut scanner, mut tokens) = (Scanner { source: rust, at: 0 }, Vec::new());
+    let (mut scanner, mut tokens) = (Scanner { source: rust, at: 0, is_made: true }, Vec::new());
     while let Some(token) = scanner.token().map_err(|reason| refusal(rust, scanner.at, reason))? {
         tokens.push(token);
     }
@@ -80,7 +85,8 @@ pub fn declare<'a>(rust: &'a str, names: &mut BTreeSet<&'a str>) -> Result<(), R
 
 /// Refuses what is not known in a module, where `declared` has the names that all modules declare.
 pub fn check(rust: &str, declared: &BTreeSet<&str>) -> Result<(), Refusal> {
-    let mut names = Names { tokens: tokens(rust)?, declared, open: Vec::new(), path_end: 0 };
+    let (tokens, open) = (tokens(rust)?, Vec::new());
+    let mut names = Names { tokens, declared, open, path_end: 0, is_import: false };
     for at in 0..names.tokens.len() {
         if at >= names.path_end && !names.is_known(at) {
             let refused = &names.tokens[at..names.path_end.max(at + 1)];
@@ -97,6 +103,8 @@ struct Names<'a> {
     declared: &'a BTreeSet<&'a str>,
     open: Vec<usize>,
     path_end: usize,
+    // Whether the last `use` has no `;` yet.
+    is_import: bool,
 }
 
 impl<'a> Names<'a> {
@@ -106,6 +114,7 @@ impl<'a> Names<'a> {
 
     fn is_known(&mut self, at: usize) -> bool {
         match self.text(at) {
+            ";" => self.is_import = false,
             _ if self.tokens[at].kind == Kind::Word => return self.is_known_word(at),
             "(" | "[" | "{" => self.open.push(at),
             ")" | "]" | "}" => return self.open.pop().is_some(),
@@ -116,6 +125,7 @@ impl<'a> Names<'a> {
     }
 
     fn is_known_word(&mut self, at: usize) -> bool {
+        self.is_import |= self.text(at) == "use";
         let (name, next, after) = (self.text(at), self.text(at + 1), self.text(at + 2));
         let last = self.text(at.wrapping_sub(1));
         let is_called = matches!(next, "(" | "::");
@@ -133,7 +143,7 @@ impl<'a> Names<'a> {
             has(PATHS, &path.concat())
         } else if name == "as" {
             // A cast, or a crate. A function keeps its name, by which its conditions are found.
-            next.starts_with(['i', 'u']) && has(NAMES, next) || last.starts_with("atoi_")
+            if self.is_import { self.is_crate_alias(at) } else { has(INTEGERS, next) }
         } else if has(KEYWORDS, name) || is_large && name.len() == 1 {
             true
         } else if next == "!" && matches!(after, "(" | "[" | "{") {
@@ -145,6 +155,13 @@ impl<'a> Names<'a> {
             let is_given = is_plain || has(NAMES, name) || self.declared.contains(name);
             is_given && !has(REFUSED, name)
         }
+    }
+
+    // Says whether this `as` is that of `use crate::proved::CRATE as NAME;`.
+    fn is_crate_alias(&self, at: usize) -> bool {
+        let path: Vec<&str> = (at.saturating_sub(6)..at).map(|at| self.text(at)).collect();
+        matches!(path[..], ["use", "crate", "::", "proved", "::", name] if CRATES.contains(&name))
+            && self.text(at + 2) == ";"
     }
 
     // A range without an end never ends in Rust: only an index may have one. Rattle need not read what

@@ -1,0 +1,114 @@
+/* Made by .ci/erase from crates/atoi_column/src/field_error.rt. Do not edit. */ //! What is wrong with a field that `Fields` refuses.
+// ghost use Rattle.std.specs.Prelude.{◌≡◌, ◌+◌, ◌-◌, ◌^◌, ◌↔◌, IsTrue, min};
+// ghost use Rattle.atoi_core.specs.Refusal.{refusal_of};
+// ghost use Rattle.atoi_column.specs.ErrorText.{fault_text, unexpected_place};
+// ghost use Rattle.atoi_column.specs.FieldItems.{bad_field_of};
+
+use crate::proved::atoi_column::error::fault;
+use crate::proved::atoi_core::clones_are_the_same;
+use crate::proved::atoi_simd::AtoiSimdError;
+use core::error::Error;
+use core::fmt;
+
+/// A field that is not a number of the type, and why.
+///
+/// ```
+/// use torkettle::AtoiSimdError;
+/// use torkettle::column::Fields;
+///
+/// let error = Fields::<u8>::new(b"80,+44x", b',').find_map(Result::err).unwrap();
+/// assert_eq!((error.index, error.place, error.text), (1, 3, &b"+44x"[..]));
+/// assert_eq!(error.cause, AtoiSimdError::Invalid64(44, 2, b"44x"));
+/// assert_eq!(error.to_string(), "field 1 at byte 3 has an unexpected byte at byte 6");
+/// ```
+///
+/// See the [guide](crate::guide#read-columns-and-lines).
+#[derive(Debug, Clone, Copy, PartialEq, Eq)]
+pub struct FieldError<'a> {
+    /// How many fields precede it.
+    pub index: usize,
+    /// The offset of its first byte in the input.
+    pub place: usize,
+    /// Its bytes.
+    pub text: &'a [u8],
+    /// What `parse` returned for `text`. A slice in it ends where `text` ends.
+    pub cause: AtoiSimdError<'a>,
+}
+
+impl FieldError<'_> {
+    /// Returns the number of the field, from 1. If the fields are lines, this is the line number. See the
+    /// [guide](crate::guide#read-columns-and-lines).
+    ///
+    /// **Proved:** it is one more than the index [as specified](crate::specification#columns).
+    ///
+    /// ```
+    /// use torkettle::column::Fields;
+    ///
+    /// let error = Fields::<u8>::lines(b"80\n44x").find_map(Result::err).unwrap();
+    /// assert_eq!(error.line(), 2);
+    /// ```
+    #[inline]
+    pub fn line(&self) -> usize
+        // ensures { result ≡ min (self.now.index + 1) (2 ^ 64 - 1) }
+    {
+        self.index.saturating_add(1)
+    }
+
+    /// Says what is wrong with the field, in words that follow its name.
+    #[doc(hidden)]
+    #[inline] pub fn fault(&self) -> &'static str
+        // ensures { result.now ≡ fault_text (refusal_of self.now.cause) }
+    {
+        fault(self.cause)
+    }
+
+    /// Returns what `==` returns, with a contract.
+    #[doc(hidden)]
+    #[inline] pub fn is_same_as(&self, other: &FieldError<'_>) -> bool
+        // ensures { IsTrue result ↔ (bad_field_of self.now ≡ bad_field_of other.now) }
+    {
+        self == other
+    }
+}
+
+// Proves the law for this type.
+#[inline] fn clones() {
+    clones_are_the_same::<FieldError<'_>>();
+}
+
+impl fmt::Display for FieldError<'_> {
+    // ghost use Rattle.std.specs.Prelude.{Some};
+    // ghost use Rattle.atoi_column.specs.ErrorText.{bad_field_text};
+    // ghost use Rattle.atoi_column.specs.FieldItems.{bad_field_of};
+
+    // ghost output = { λ error. Some (bad_field_text (bad_field_of error)) };
+
+    #[inline] fn fmt(&self, f: &mut fmt::Formatter<'_>) -> fmt::Result {
+        let FieldError {
+            index,
+            place,
+            text,
+            cause,
+        } = *self;
+        let fault = fault(cause);
+        match unexpected_place(place, text, cause) {
+            Some(byte) => write!(f, "field {index} at byte {place} {fault} at byte {byte}"),
+            None => write!(f, "field {index} at byte {place} {fault}"),
+        }
+    }
+}
+
+// Returns the offset in the input of the byte that ends the digits of the field `text`, if one does.
+#[inline] fn unexpected_place(place: usize, text: &[u8], cause: AtoiSimdError<'_>) -> Option<u128>
+    // ensures { result ≡ unexpected_place place text.now (refusal_of cause.entry) }
+{
+    match cause {
+        AtoiSimdError::Invalid64(_, index, body) | AtoiSimdError::Invalid128(_, index, body) => {
+            let sign = text.len().saturating_sub(body.len());
+            Some(place as u128 + sign as u128 + index as u128)
+        }
+        _ => None,
+    }
+}
+
+impl Error for FieldError<'_> {}

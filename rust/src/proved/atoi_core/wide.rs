@@ -1,0 +1,69 @@
+/* Made by .ci/erase from crates/atoi_core/src/wide.rt. Do not edit. */ //! Parsers of integers of 64 and 128 bits, for a given bound and all of a slice.
+// ghost use Rattle.std.specs.Prelude.{◌≡◌, ◌≤◌};
+// ghost use Rattle.atoi_core.specs.Loads.{LoadsWithin, most_loads};
+// ghost use Rattle.atoi_core.specs.Magnitude.{HasDigits, wide64, wide128, whole_magnitude};
+// ghost use Rattle.atoi_core.specs.Refusal.{answer_of};
+
+use crate::proved::atoi_core::engine::Engine;
+use crate::proved::atoi_core::engine::steps::Steps;
+use crate::proved::atoi_core::error::AtoiSimdError;
+use crate::proved::atoi_core::loops::wide_answer::found_or_empty;
+use crate::proved::atoi_core::narrow::only_window;
+
+/// Like `Engine::prefix_64`, but parses all of `s`. The errors are `Empty`, `Size`, `Overflow` and
+/// `Invalid64`.
+#[inline(always)]
+// #[tactic(auto, using(crate::proofs::lemmas::LoopAnswers::whole_is_64))]
+pub fn whole_64<'a, E: Engine>(
+    bound: u64,
+    limit: u32,
+    skip: bool,
+    s: &'a [u8],
+    steps: &mut Steps,
+) -> Result<u64, AtoiSimdError<'a>>
+    // requires limit_low { 17 ≤ limit }
+    // requires limit_high { limit ≤ 20 }
+    // requires digits { HasDigits limit bound }
+    // ensures answer { answer_of result ≡ whole_magnitude E.table wide64 bound limit skip s.now }
+    // ensures loads { LoadsWithin (most_loads E.table wide64 s.now) E.table skip s.now
+    //     steps.old steps.new }
+{
+    if s.len() < 16 {
+        let (window, is_whole) = only_window::<E>(s, steps);
+        // LLVM joins this test with the engine's.
+        if is_whole && !s.is_empty() {
+            return Ok(window.number);
+        }
+        let (number, digits) = found_or_empty(window.number, window.len as usize)?;
+        return Err(AtoiSimdError::Invalid64(number, digits, s));
+    }
+    let (number, len) = E::prefix_64(bound, limit, skip, s, steps)?;
+    if len == s.len() {
+        Ok(number)
+    } else {
+        Err(AtoiSimdError::Invalid64(number, len, s))
+    }
+}
+
+/// Like `Engine::prefix_128`, but parses all of `s`. The errors are `Empty`, `Size`, `Overflow` and
+/// `Invalid128`.
+#[inline(always)]
+// #[tactic(auto, using(crate::proofs::lemmas::LoopAnswers::whole_is_128))]
+pub fn whole_128<'a, E: Engine>(
+    bound: u128,
+    skip: bool,
+    s: &'a [u8],
+    steps: &mut Steps,
+) -> Result<u128, AtoiSimdError<'a>>
+    // requires digits { HasDigits 39 bound }
+    // ensures answer { answer_of result ≡ whole_magnitude E.table wide128 bound 39 skip s.now }
+    // ensures loads { LoadsWithin (most_loads E.table wide128 s.now) E.table skip s.now
+    //     steps.old steps.new }
+{
+    let (number, len) = E::prefix_128(bound, skip, s, steps)?;
+    if len == s.len() {
+        Ok(number)
+    } else {
+        Err(AtoiSimdError::Invalid128(number, len, s))
+    }
+}

@@ -1,0 +1,183 @@
+/* Made by .ci/erase from crates/atoi_fast/src/after_16.rt. Do not edit. */ //! The answer of a prefix of 64 bits after its first sixteen digits, from words of four bytes.
+// ghost use Rattle.std.specs.Prelude.{◌≡◌, ◌+◌, ◌-◌, ◌<◌, ◌≤◌, nat_lt, if◌then◌else◌, length, take, drop, false, Ok, Err, MatchOption};
+// ghost use Rattle.atoi_core.specs.Digit.{decimal_table};
+// ghost use Rattle.atoi_core.specs.Magnitude.{HasDigits, wide64, prefix_magnitude};
+// ghost use Rattle.atoi_core.specs.Refusal.{answer_of, overflow};
+// ghost use Rattle.atoi_core.specs.Run.{run_len, value};
+// ghost use Rattle.atoi_core.specs.Words.{word_of};
+
+use crate::proved::atoi_fast::digits::{
+    digits_of, digits_of_four, starts_with_digit_of_four, value_at_end, value_in_four,
+};
+use crate::proved::atoi_fast::loads::{load_four_from, load_from, load_last_four};
+use crate::proved::atoi_core::powers::{append_digits, power_of_ten};
+use crate::proved::atoi_core::wide_answer::answer_64;
+use crate::proved::atoi_core::{AtoiSimdError, Steps};
+
+/// Returns the answer of `prefix_64` that skips no zeros, after 16 digits, which spell `high`. It counts
+/// one load.
+///
+/// # Errors
+///
+/// `Size` and `Overflow`.
+#[inline(always)]
+pub(crate) fn answer_after_16<'a>(
+    bound: u64,
+    limit: u32,
+    high: u64,
+    s: &'a [u8],
+    steps: &mut Steps,
+) -> Result<(u64, usize), AtoiSimdError<'a>>
+    // requires limit_low { 17 ≤ limit }
+    // requires limit_high { limit ≤ 20 }
+    // requires digits { HasDigits limit bound }
+    // requires full { 16 ≤ run_len decimal_table s.now }
+    // requires number { high ≡ value decimal_table (take 16 s.now) }
+    // ensures answer { answer_of result
+    //     ≡ prefix_magnitude decimal_table wide64 bound limit false s.now }
+    // ensures one_step { steps.new ≡ steps.old + 1 }
+{
+    steps.tick();
+    if s.len() <= limit as usize {
+        answer_near_end(bound, limit, high, s)
+    } else {
+        answer_by_word(bound, limit, high, s)
+    }
+}
+
+// `answer_after_16` for a slice of at most `limit` bytes, which are mostly digits.
+#[inline(always)]
+fn answer_near_end<'a>(
+    bound: u64,
+    limit: u32,
+    high: u64,
+    s: &'a [u8],
+) -> Result<(u64, usize), AtoiSimdError<'a>>
+    // requires limit_low { 17 ≤ limit }
+    // requires limit_high { limit ≤ 20 }
+    // requires digits { HasDigits limit bound }
+    // requires few { length s.now ≤ limit }
+    // requires full { 16 ≤ run_len decimal_table s.now }
+    // requires number { high ≡ value decimal_table (take 16 s.now) }
+    // ensures { answer_of result ≡ prefix_magnitude decimal_table wide64 bound limit false s.now }
+{
+    if s.len() == 16 {
+        // With `s.len()`, LLVM drops the caller's test.
+        return Ok((high, s.len()));
+    }
+    match last_four(s) {
+        Some(low) => {
+            let number = append_digits(high, s.len() as u32 - 16, u64::from(low));
+            answer_to_end(bound, number, s)
+        }
+        None => answer_by_word(bound, limit, high, s),
+    }
+}
+
+// Returns the number that the bytes after the first 16 spell, if the last four are digits.
+#[inline] fn last_four(s: &[u8]) -> Option<u32>
+    // requires some { 16 < length s.now }
+    // requires few { length s.now ≤ 20 }
+    // requires full { 16 ≤ run_len decimal_table s.now }
+    // ensures { MatchOption result (run_len decimal_table s.now < length s.now)
+    //     (λ low. (run_len decimal_table s.now ≡ length s.now)
+    //     × (low ≡ value decimal_table (drop 16 s.now))) }
+{
+    let word = load_last_four(s);
+    if digits_of_four(word) < 4 {
+        return None;
+    }
+    // Some of these four may be among the first 16.
+    Some(value_at_end(word, 20 - s.len()))
+}
+
+// Returns `number` with the length of `s`, or `Overflow` if it is above `bound`.
+#[inline] fn answer_to_end(bound: u64, number: u128, s: &[u8]) -> Result<(u64, usize), AtoiSimdError<'_>>
+    // ensures { answer_of result ≡ (if nat_lt bound number then Err (overflow s.now)
+    //     else Ok (number, length s.now)) }
+{
+    if number > u128::from(bound) {
+        Err(AtoiSimdError::Overflow(s))
+    } else {
+        Ok((number as u64, s.len()))
+    }
+}
+
+// `answer_after_16`, from the four bytes after 16.
+#[inline(always)]
+fn answer_by_word<'a>(
+    bound: u64,
+    limit: u32,
+    high: u64,
+    s: &'a [u8],
+) -> Result<(u64, usize), AtoiSimdError<'a>>
+    // requires some { 16 < length s.now }
+    // requires limit_low { 17 ≤ limit }
+    // requires limit_high { limit ≤ 20 }
+    // requires digits { HasDigits limit bound }
+    // requires full { 16 ≤ run_len decimal_table s.now }
+    // requires number { high ≡ value decimal_table (take 16 s.now) }
+    // ensures { answer_of result ≡ prefix_magnitude decimal_table wide64 bound limit false s.now }
+{
+    let word = load_four_from(s, 16);
+    if !starts_with_digit_of_four(word) {
+        return Ok((high, 16));
+    }
+    answer_from_17(bound, limit, high, word, s)
+}
+
+// `answer_by_word` if a digit follows. `word` has the four bytes after 16.
+#[inline(always)]
+fn answer_from_17<'a>(
+    bound: u64,
+    limit: u32,
+    high: u64,
+    word: u32,
+    s: &'a [u8],
+) -> Result<(u64, usize), AtoiSimdError<'a>>
+    // requires limit_high { limit ≤ 20 }
+    // requires digits { HasDigits limit bound }
+    // requires full { 17 ≤ run_len decimal_table s.now }
+    // requires number { high ≡ value decimal_table (take 16 s.now) }
+    // requires loaded { word ≡ word_of (take 4 (drop 16 s.now)) }
+    // ensures { answer_of result ≡ prefix_magnitude decimal_table wide64 bound limit false s.now }
+{
+    let more = digits_of_four(word);
+    if more == 4 {
+        let number = append_digits(high, 4, u64::from(value_in_four(word, 4)));
+        return answer_from_20(bound, limit, number, s);
+    }
+    // At most 19 digits fit in 64 bits.
+    let number = high * power_of_ten(more) + u64::from(value_in_four(word, more));
+    answer_64(bound, limit, 0, 16 + more, u128::from(number), s)
+}
+
+// `answer_from_17` after 20 digits, which spell `number`.
+#[inline(always)]
+fn answer_from_20<'a>(
+    bound: u64,
+    limit: u32,
+    number: u128,
+    s: &'a [u8],
+) -> Result<(u64, usize), AtoiSimdError<'a>>
+    // requires limit_high { limit ≤ 20 }
+    // requires full { 20 ≤ run_len decimal_table s.now }
+    // requires number { number ≡ value decimal_table (take 20 s.now) }
+    // ensures { answer_of result ≡ prefix_magnitude decimal_table wide64 bound limit false s.now }
+{
+    if limit < 20 || begins_with_digit(&s[20..]) {
+        let more = digits_of(load_from(s, 16));
+        return Err(AtoiSimdError::Size(16 + more as usize, s));
+    }
+    answer_64(bound, limit, 0, 20, number, s)
+}
+
+/// Whether the first byte is a digit.
+#[inline] pub(crate) fn begins_with_digit(s: &[u8]) -> bool
+    // ensures { result ≡ nat_lt 0 (run_len decimal_table s.now) }
+{
+    match s.first() {
+        Some(byte) => byte.is_ascii_digit(),
+        None => false,
+    }
+}

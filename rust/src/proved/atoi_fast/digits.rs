@@ -1,0 +1,166 @@
+/* Made by .ci/erase from crates/atoi_fast/src/digits.rt. Do not edit. */ //! How many digits and zeros a word begins with, and the number that they spell: the kernels of
+//! `atoi_core::words` with fewer instructions.
+// ghost use Rattle.std.specs.Prelude.{◌≡◌, ◌-◌, ◌<◌, ◌≤◌, ◌++◌, nat_lt, drop, replicate};
+// ghost use Rattle.atoi_core.specs.Digit.{decimal_table};
+// ghost use Rattle.atoi_core.specs.Run.{run_len, zeros};
+// ghost use Rattle.atoi_core.specs.Words.{low_bytes, low_value, word_of};
+// ghost use Rattle.std.specs.Int.Bits.{bit_and};
+
+/// Eight zeros, each the byte 48.
+pub(crate) const ZEROS: u64 = 0x3030_3030_3030_3030;
+
+// Four of them.
+const FOUR_ZEROS: u32 = 0x3030_3030;
+
+/// Returns the word of `8 - len` zeros, which fills a short slice to eight bytes.
+// #[tactic(auto, using(crate::proofs::lemmas::WordWindows::zeros_shifted, crate::proofs::lemmas::WordWindows::zeros_left_out))]
+#[inline] pub(crate) fn fill_of_zeros(len: usize) -> u64
+    // requires some { 0 < len }
+    // requires few { len ≤ 8 }
+    // ensures { result ≡ word_of (replicate (8 - len) 48) }
+{
+    ZEROS - (ZEROS << (64 - 8 * len))
+}
+
+// A byte is no digit if adding 70 or subtracting 48 sets its top bit. A carry or a borrow changes only
+// bytes above the first that is no digit.
+/// Returns how many digits the word begins with. `check_len_8` does so with more operations.
+// #[tactic(auto, using(crate::proofs::lemmas::WordRuns::marks_of_8, crate::proofs::lemmas::WordRuns::none_marked))]
+#[inline] pub(crate) fn digits_of(word: u64) -> u32
+    // ensures len { result ≡ run_len decimal_table (low_bytes 8 word) }
+    // ensures most { result ≤ 8 }
+{
+    let above = word.wrapping_add(0x4646_4646_4646_4646);
+    let below = word.wrapping_sub(ZEROS);
+    let marks = (above | below) & 0x8080_8080_8080_8080;
+    if marks == 0 {
+        8
+    } else {
+        marks.trailing_zeros() / 8
+    }
+}
+
+// `len_zeroes`, from the difference that `digits_of` and `value_of` compute, too, which saves
+// instructions.
+// #[tactic(auto, using(crate::proofs::lemmas::WordRuns::lowered_zeros_of_8))]
+#[inline] pub(crate) fn zeroes_of(word: u64) -> u32
+    // ensures zeroes { result ≡ zeros decimal_table (low_bytes 8 word) }
+    // ensures most { result ≤ 8 }
+{
+    word.wrapping_sub(ZEROS).trailing_zeros() / 8
+}
+
+// #[tactic(auto, using(std::proofs::lemmas::Bool::ne_eqb, crate::proofs::lemmas::LoadedWords::zeros_of_two))]
+#[inline] pub(crate) fn zeroes_of_two(first: u64, next: u64) -> u32
+    // ensures { result ≡ zeros decimal_table (low_bytes 8 first ++ low_bytes 8 next) }
+{
+    let zeroes = zeroes_of(first);
+    if zeroes == 8 {
+        8 + zeroes_of(next)
+    } else {
+        zeroes
+    }
+}
+
+/// Returns the number that the leading digits of the word spell; there may be none.
+// #[tactic(auto, using(atoi_core::proofs::lemmas::LoadedWords::sum_of_none))]
+#[inline] pub(crate) fn number_in_word(word: u64, len: u32) -> u64
+    // requires few { len ≤ 8 }
+    // requires digits { len ≡ run_len decimal_table (low_bytes 8 word) }
+    // ensures sum { result ≡ low_value (low_bytes len word) }
+    // ensures most { result ≤ 166666665 }
+{
+    if len == 0 { 0 } else { value_of(word, len) }
+}
+
+// The number that the first `len` bytes of the word spell. They are digits, at least one.
+// #[tactic(auto, using(crate::proofs::lemmas::WordRuns::lowered_value, crate::proofs::lemmas::WordRuns::lowered_sum))]
+#[inline] pub(crate) fn value_of(word: u64, len: u32) -> u64
+    // requires some { 1 ≤ len }
+    // requires few { len ≤ 8 }
+    // requires digits { len ≤ run_len decimal_table (low_bytes 8 word) }
+    // ensures sum { result ≡ low_value (low_bytes len word) }
+    // ensures most { result ≤ 166666665 }
+{
+    sum_of(word.wrapping_sub(ZEROS) << (64 - 8 * len))
+}
+
+// `value_of` for at most seven digits, or none: it shifts twice, as no shift is by 64 bits.
+// #[tactic(auto, using(crate::proofs::lemmas::WordRuns::lowered_value, crate::proofs::lemmas::WordRuns::lowered_sum, crate::proofs::lemmas::WordRuns::shifted_twice))]
+#[inline] pub(crate) fn value_of_fewer(word: u64, len: u32) -> u64
+    // requires few { len < 8 }
+    // requires digits { len ≤ run_len decimal_table (low_bytes 8 word) }
+    // ensures sum { result ≡ low_value (low_bytes len word) }
+    // ensures most { result ≤ 166666665 }
+{
+    sum_of((word.wrapping_sub(ZEROS) << (56 - 8 * len)) << 8)
+}
+
+// `sum_of` for four bytes.
+// #[tactic(auto, using(crate::proofs::lemmas::WordRuns::sum_of_four))]
+#[inline] fn sum_of_four(digits: u32) -> u32
+    // ensures { bit_and digits 0x0F0F_0F0F ≡ digits → result ≡ low_value (low_bytes 4 digits) }
+{
+    let tens = (digits.wrapping_mul(0xA01) >> 8) & 0x00FF_00FF;
+    tens.wrapping_mul(0x64_0001) >> 16
+}
+
+// `process_8` for bytes below 16. The two sums of four digits are joined by one small product,
+// which needs no 64-bit constant.
+// #[tactic(auto, using(crate::proofs::lemmas::WordRuns::sum_of_fields, atoi_core::proofs::lemmas::WordFields::sum_most))]
+#[inline] pub(crate) fn sum_of(digits: u64) -> u64
+    // requires { bit_and digits 0x0F0F_0F0F_0F0F_0F0F ≡ digits }
+    // ensures sum { result ≡ low_value (low_bytes 8 digits) }
+    // ensures most { result ≤ 166666665 }
+{
+    let tens = (digits.wrapping_mul(0xA01) >> 8) & 0x00FF_00FF_00FF_00FF;
+    let hundreds = tens.wrapping_mul(0x64_0001);
+    ((hundreds >> 16) & 0xFFFF) * 10_000 + (hundreds >> 48)
+}
+
+/// `digits_of` for a word of four bytes.
+// #[tactic(auto, using(crate::proofs::lemmas::WordRuns::marks_of_4, crate::proofs::lemmas::WordRuns::none_marked_of_4))]
+#[inline] pub(crate) fn digits_of_four(word: u32) -> u32
+    // ensures len { result ≡ run_len decimal_table (low_bytes 4 word) }
+    // ensures most { result ≤ 4 }
+{
+    let above = word.wrapping_add(0x4646_4646);
+    let below = word.wrapping_sub(FOUR_ZEROS);
+    let marks = (above | below) & 0x8080_8080;
+    if marks == 0 {
+        4
+    } else {
+        marks.trailing_zeros() / 8
+    }
+}
+
+/// Whether the first byte of a word of four is a digit.
+// #[tactic(auto, using(crate::proofs::lemmas::WordRuns::first_byte_of_4))]
+#[inline] pub(crate) fn starts_with_digit_of_four(word: u32) -> bool
+    // ensures { result ≡ nat_lt 0 (run_len decimal_table (low_bytes 4 word)) }
+{
+    ((word & 0xFF) as u8).is_ascii_digit()
+}
+
+/// Returns the number that the first `len` bytes of a word of four bytes spell. They are digits, at
+/// least one.
+// #[tactic(auto, using(crate::proofs::lemmas::WordRuns::lowered_in_four))]
+#[inline] pub(crate) fn value_in_four(word: u32, len: u32) -> u32
+    // requires some { 1 ≤ len }
+    // requires few { len ≤ 4 }
+    // requires digits { len ≤ run_len decimal_table (low_bytes 4 word) }
+    // ensures { result ≡ low_value (low_bytes len word) }
+{
+    sum_of_four(word.wrapping_sub(FOUR_ZEROS) << (32 - 8 * len))
+}
+
+/// Returns the number that a word of four digits spells after its first `skipped` bytes.
+// #[tactic(auto, using(crate::proofs::lemmas::WordRuns::lowered_end))]
+#[inline] pub(crate) fn value_at_end(word: u32, skipped: usize) -> u32
+    // requires digits { run_len decimal_table (low_bytes 4 word) ≡ 4 }
+    // requires few { skipped < 4 }
+    // ensures { result ≡ low_value (drop skipped (low_bytes 4 word)) }
+{
+    let bits = 8 * skipped;
+    sum_of_four((word.wrapping_sub(FOUR_ZEROS) >> bits) << bits)
+}

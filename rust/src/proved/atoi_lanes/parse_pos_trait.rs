@@ -1,0 +1,169 @@
+/* Made by .ci/erase from crates/atoi_lanes/src/parse_pos_trait.rt. Do not edit. */ //! Parses of digits without a sign, by the engine of this crate.
+//! atoi_simd and atoi_lanes each have this file (`.ci/twins`), and `.ci/one-call` reads its bodies.
+// ghost use Rattle.std.specs.Prelude.{◌≡◌, ◌≤◌, false, IfOk, length};
+// ghost use Rattle.atoi_core.specs.Answer.{typed_answer, typed_prefix_answer, whole_answer, prefix_answer};
+// ghost use Rattle.atoi_core.specs.Digit.{decimal_table};
+
+use crate::proved::atoi_lanes::default_engine::DefaultEngine;
+use crate::proved::atoi_core::{AtoiSimdError, Number, Parsed, Steps, prefix_pos, whole_pos};
+
+/// An integer type that is parsed from digits without a sign. No other crate can name it.
+pub trait ParsePos: Number {
+    /// The function [`parse_pos`](crate::parse_pos), with its flag as an argument.
+    fn atoi_simd_parse_pos(s: &[u8], skip_zeroes: bool) -> Result<Self, AtoiSimdError<'_>>
+        /* ensures answer { typed_answer Self.number result
+            ≡ whole_answer decimal_table Self.int_type false skip_zeroes s.now } */;
+
+    /// The function [`parse_prefix_pos`](crate::parse_prefix_pos), with its flag as an argument.
+    fn atoi_simd_parse_prefix_pos(
+        s: &[u8],
+        skip_zeroes: bool,
+    ) -> Result<(Self, usize), AtoiSimdError<'_>>
+        // ensures answer { typed_prefix_answer Self.number result
+        //     ≡ prefix_answer decimal_table Self.int_type false skip_zeroes s.now }
+        /* ensures within { IfOk result (λ found. found.1 ≤ length s.now) } */;
+}
+
+impl ParsePos for u8 {
+    #[cfg_attr(not(debug_assertions), inline(always))]
+    fn atoi_simd_parse_pos(s: &[u8], skip: bool) -> Parsed<'_, Self> {
+        whole_pos::<DefaultEngine, u8>(skip, s, &mut Steps::new())
+    }
+
+    #[cfg_attr(not(debug_assertions), inline(always))]
+    fn atoi_simd_parse_prefix_pos(s: &[u8], skip: bool) -> Parsed<'_, (Self, usize)> {
+        prefix_pos::<DefaultEngine, u8>(skip, s, &mut Steps::new())
+    }
+}
+
+impl ParsePos for i8 {
+    #[cfg_attr(not(debug_assertions), inline(always))]
+    fn atoi_simd_parse_pos(s: &[u8], skip: bool) -> Parsed<'_, Self> {
+        whole_pos::<DefaultEngine, i8>(skip, s, &mut Steps::new())
+    }
+
+    #[cfg_attr(not(debug_assertions), inline(always))]
+    fn atoi_simd_parse_prefix_pos(s: &[u8], skip: bool) -> Parsed<'_, (Self, usize)> {
+        prefix_pos::<DefaultEngine, i8>(skip, s, &mut Steps::new())
+    }
+}
+
+impl ParsePos for u16 {
+    #[cfg_attr(not(debug_assertions), inline(always))]
+    fn atoi_simd_parse_pos(s: &[u8], skip: bool) -> Parsed<'_, Self> {
+        whole_pos::<DefaultEngine, u16>(skip, s, &mut Steps::new())
+    }
+
+    #[cfg_attr(not(debug_assertions), inline(always))]
+    fn atoi_simd_parse_prefix_pos(s: &[u8], skip: bool) -> Parsed<'_, (Self, usize)> {
+        prefix_pos::<DefaultEngine, u16>(skip, s, &mut Steps::new())
+    }
+}
+
+impl ParsePos for i16 {
+    #[cfg_attr(not(debug_assertions), inline(always))]
+    fn atoi_simd_parse_pos(s: &[u8], skip: bool) -> Parsed<'_, Self> {
+        whole_pos::<DefaultEngine, i16>(skip, s, &mut Steps::new())
+    }
+
+    #[cfg_attr(not(debug_assertions), inline(always))]
+    fn atoi_simd_parse_prefix_pos(s: &[u8], skip: bool) -> Parsed<'_, (Self, usize)> {
+        prefix_pos::<DefaultEngine, i16>(skip, s, &mut Steps::new())
+    }
+}
+
+impl ParsePos for u32 {
+    #[cfg_attr(not(debug_assertions), inline(always))]
+    fn atoi_simd_parse_pos(s: &[u8], skip: bool) -> Parsed<'_, Self> {
+        whole_pos::<DefaultEngine, u32>(skip, s, &mut Steps::new())
+    }
+
+    #[cfg_attr(not(debug_assertions), inline(always))]
+    fn atoi_simd_parse_prefix_pos(s: &[u8], skip: bool) -> Parsed<'_, (Self, usize)> {
+        prefix_pos::<DefaultEngine, u32>(skip, s, &mut Steps::new())
+    }
+}
+
+impl ParsePos for i32 {
+    #[cfg_attr(not(debug_assertions), inline(always))]
+    fn atoi_simd_parse_pos(s: &[u8], skip: bool) -> Parsed<'_, Self> {
+        whole_pos::<DefaultEngine, i32>(skip, s, &mut Steps::new())
+    }
+
+    #[cfg_attr(not(debug_assertions), inline(always))]
+    fn atoi_simd_parse_prefix_pos(s: &[u8], skip: bool) -> Parsed<'_, (Self, usize)> {
+        prefix_pos::<DefaultEngine, i32>(skip, s, &mut Steps::new())
+    }
+}
+
+impl ParsePos for usize {
+    #[cfg_attr(not(debug_assertions), inline(always))]
+    fn atoi_simd_parse_pos(s: &[u8], skip: bool) -> Parsed<'_, Self> {
+        whole_pos::<DefaultEngine, usize>(skip, s, &mut Steps::new())
+    }
+
+    #[cfg_attr(not(debug_assertions), inline(always))]
+    fn atoi_simd_parse_prefix_pos(s: &[u8], skip: bool) -> Parsed<'_, (Self, usize)> {
+        prefix_pos::<DefaultEngine, usize>(skip, s, &mut Steps::new())
+    }
+}
+
+impl ParsePos for isize {
+    #[cfg_attr(not(debug_assertions), inline(always))]
+    fn atoi_simd_parse_pos(s: &[u8], skip: bool) -> Parsed<'_, Self> {
+        whole_pos::<DefaultEngine, isize>(skip, s, &mut Steps::new())
+    }
+
+    #[cfg_attr(not(debug_assertions), inline(always))]
+    fn atoi_simd_parse_prefix_pos(s: &[u8], skip: bool) -> Parsed<'_, (Self, usize)> {
+        prefix_pos::<DefaultEngine, isize>(skip, s, &mut Steps::new())
+    }
+}
+
+impl ParsePos for u64 {
+    #[cfg_attr(not(debug_assertions), inline(always))]
+    fn atoi_simd_parse_pos(s: &[u8], skip: bool) -> Parsed<'_, Self> {
+        whole_pos::<DefaultEngine, u64>(skip, s, &mut Steps::new())
+    }
+
+    #[cfg_attr(not(debug_assertions), inline(always))]
+    fn atoi_simd_parse_prefix_pos(s: &[u8], skip: bool) -> Parsed<'_, (Self, usize)> {
+        prefix_pos::<DefaultEngine, u64>(skip, s, &mut Steps::new())
+    }
+}
+
+impl ParsePos for i64 {
+    #[cfg_attr(not(debug_assertions), inline(always))]
+    fn atoi_simd_parse_pos(s: &[u8], skip: bool) -> Parsed<'_, Self> {
+        whole_pos::<DefaultEngine, i64>(skip, s, &mut Steps::new())
+    }
+
+    #[cfg_attr(not(debug_assertions), inline(always))]
+    fn atoi_simd_parse_prefix_pos(s: &[u8], skip: bool) -> Parsed<'_, (Self, usize)> {
+        prefix_pos::<DefaultEngine, i64>(skip, s, &mut Steps::new())
+    }
+}
+
+impl ParsePos for u128 {
+    #[cfg_attr(not(debug_assertions), inline(always))]
+    fn atoi_simd_parse_pos(s: &[u8], skip: bool) -> Parsed<'_, Self> {
+        whole_pos::<DefaultEngine, u128>(skip, s, &mut Steps::new())
+    }
+
+    #[cfg_attr(not(debug_assertions), inline(always))]
+    fn atoi_simd_parse_prefix_pos(s: &[u8], skip: bool) -> Parsed<'_, (Self, usize)> {
+        prefix_pos::<DefaultEngine, u128>(skip, s, &mut Steps::new())
+    }
+}
+
+impl ParsePos for i128 {
+    #[cfg_attr(not(debug_assertions), inline(always))]
+    fn atoi_simd_parse_pos(s: &[u8], skip: bool) -> Parsed<'_, Self> {
+        whole_pos::<DefaultEngine, i128>(skip, s, &mut Steps::new())
+    }
+
+    #[cfg_attr(not(debug_assertions), inline(always))]
+    fn atoi_simd_parse_prefix_pos(s: &[u8], skip: bool) -> Parsed<'_, (Self, usize)> {
+        prefix_pos::<DefaultEngine, i128>(skip, s, &mut Steps::new())
+    }
+}

@@ -1,0 +1,286 @@
+//! Compares what `LineReader` and the examples find with `Fields` over the whole text, whatever each read gives.
+
+#[path = "../examples/sum.rs"]
+#[allow(dead_code)]
+mod sum;
+#[path = "../examples/threads.rs"]
+#[allow(dead_code)]
+mod threads;
+
+use std::collections::VecDeque;
+use std::io::{self, Cursor, ErrorKind, Read};
+use torkettle::column::{Fields, LineError, LineReader};
+
+// Line ends of every kind, lines that are empty, longer than most pieces or no number, and a last line
+// without a line feed.
+const TEXTS: [&[u8]; 12] = [
+    b"",
+    b"\n",
+    b"\r\n",
+    b"7",
+    b"-7\n+8\r\n",
+    b"1\n\n\n2\r\r\n\r3\r",
+    b"1\r\nx\r\n3\r\n4\r",
+    b"\n\n\n\r\n\r\n\n1",
+    b"9223372036854775807\r\n9223372036854775808\r\n-9223372036854775808\n-9223372036854775809",
+    b"00000000000000000000000000000000000000000000000000000000000000001\n1\n",
+    b"12345678901234567890123456789012345678901234567890\n\xff\xfe\n\0\n 1\n1 \n",
+    b"1\n22\n333\n4444\n55555\n666666\n7777777\n88888888\n999999999\n-1000000000\nx\n",
+];
+
+// A linear congruential generator.
+struct Drawn(u64);
+
+impl Drawn {
+    fn below(&mut self, limit: usize) -> usize {
+        self.0 = self.0.wrapping_mul(6_364_136_223_846_793_005).wrapping_add(1);
+        (self.0 >> 33) as usize % limit
+    }
+}
+
+fn each_text(mut check: impl FnMut(&[u8])) {
+    TEXTS.into_iter().for_each(&mut check);
+    let mut drawn = Drawn(1);
+    for _ in 0..80 {
+        let length = drawn.below(120);
+        let text: Vec<u8> =
+            (0..length).map(|_| b"0123456789012345\n\n\n\r-+x"[drawn.below(23)]).collect();
+        check(&text);
+    }
+}
+
+// Gives 1 to `most` bytes per call, and sometimes an error before them.
+struct Slow<'a> {
+    text: &'a [u8],
+    most: usize,
+    drawn: Drawn,
+    errors: &'a [ErrorKind],
+}
+
+impl Read for Slow<'_> {
+    fn read(&mut self, room: &mut [u8]) -> io::Result<usize> {
+        let error = self.drawn.below(2 + 2 * self.errors.len());
+        if let Some(kind) = self.errors.get(error) {
+            return Err((*kind).into());
+        }
+        let count = (1 + self.drawn.below(self.most)).min(self.text.len()).min(room.len());
+        let (given, rest) = self.text.split_at(count);
+        room[..count].copy_from_slice(given);
+        self.text = rest;
+        Ok(count)
+    }
+}
+
+fn slow<'a>(text: &'a [u8], most: usize, errors: &'a [ErrorKind]) -> Slow<'a> {
+    Slow { text, most, drawn: Drawn(most as u64), errors }
+}
+
+// Calls again after each error, which must be one that the input may give.
+fn retried<T>(mut call: impl FnMut() -> io::Result<T>) -> T {
+    loop {
+        match call() {
+            Ok(value) => return value,
+            Err(error) => assert_eq!(error.kind(), ErrorKind::WouldBlock),
+        }
+    }
+}
+
+fn in_words(item: Result<i64, LineError<'_>>) -> String {
+    match item {
+        Ok(number) => number.to_string(),
+        Err(LineError::Field(error)) => format!("{error:?}"),
+        Err(LineError::TooLong { index, place, .. }) => format!("{index} at {place} is too long"),
+    }
+}
+
+fn numbers<R: Read>(mut reader: LineReader<R>) -> (Vec<String>, (usize, usize)) {
+    let mut words = Vec::new();
+    loop {
+        // This lends the reader for one call only.
+        let found = retried(|| {
+            let numbers = reader.next_numbers::<i64>()?;
+            Ok(numbers.map(|numbers| numbers.map(in_words).collect::<Vec<_>>()))
+        });
+        match found {
+            Some(found) => words.extend(found),
+            None => return (words, reader.position()),
+        }
+    }
+}
+
+fn lines<R: Read>(mut reader: LineReader<R>) -> (Vec<String>, (usize, usize)) {
+    let mut words = Vec::new();
+    loop {
+        let found = retried(|| {
+            let line = reader.next_line()?;
+            Ok(line.map(|line| match line {
+                Ok(line) => {
+                    match Fields::lines(line.text).starting_at(line.index, line.place).next() {
+                        Some(item) => in_words(item.map_err(LineError::Field)),
+                        None => format!("{} at {} is empty", line.index, line.place),
+                    }
+                }
+                Err(error) => in_words(Err(error)),
+            }))
+        });
+        match found {
+            Some(found) => words.push(found),
+            None => return (words, reader.position()),
+        }
+    }
+}
+
+// The items of the lines of a text, of which those of more than `longest` bytes are too long.
+fn expected(text: &[u8], longest: usize) -> (Vec<String>, (usize, usize)) {
+    let (mut words, mut place) = (Vec::new(), 0);
+    for (index, line) in text.split_inclusive(|byte| *byte == b'\n').enumerate() {
+        if line.strip_suffix(b"\n").unwrap_or(line).len() > longest {
+            words.push(format!("{index} at {place} is too long"));
+        } else {
+            let fields = Fields::lines(line).starting_at(index, place);
+            words.extend(fields.map(|item| in_words(item.map_err(LineError::Field))));
+        }
+        place += line.len();
+    }
+    let count = words.len();
+    (words, (count, place))
+}
+
+const ERRORS: [&[ErrorKind]; 3] = [
+    &[],
+    &[ErrorKind::Interrupted],
+    &[ErrorKind::Interrupted, ErrorKind::WouldBlock, ErrorKind::WouldBlock],
+];
+
+#[test]
+fn whatever_a_read_gives_the_items_are_the_same() {
+    each_text(|text| {
+        for longest in [0, 1, 2, 8, 20, 1 << 20] {
+            let expected = expected(text, longest);
+            assert_eq!(numbers(LineReader::with_longest_line(longest, text)), expected);
+            let step = if longest == 1 << 20 { 1 } else { 13 };
+            for most in (1..=40).step_by(step) {
+                for errors in ERRORS {
+                    let input = slow(text, most, errors);
+                    let found = numbers(LineReader::with_longest_line(longest, input));
+                    assert_eq!(found, expected, "1 to {most} bytes a read: {text:?}");
+                }
+            }
+        }
+    });
+}
+
+#[test]
+fn the_lines_are_those_of_the_items() {
+    each_text(|text| {
+        for (longest, most) in [(1 << 20, 1), (1 << 20, 7), (1 << 20, 200), (5, 3)] {
+            let (mut words, position) = expected(text, longest);
+            let found = lines(LineReader::with_longest_line(longest, slow(text, most, ERRORS[2])));
+            let empty = |word: &String| word.contains("text: []");
+            for (word, line) in words.iter_mut().zip(&found.0) {
+                if empty(word) && line.ends_with("is empty") {
+                    *word = line.clone();
+                }
+            }
+            assert_eq!(found, (words, position), "1 to {most} bytes a read: {text:?}");
+        }
+    });
+}
+
+#[test]
+fn a_dropped_iterator_skips_its_lines() {
+    for taken in 0..6 {
+        let mut reader = LineReader::new(&b"1\n2x\n3\n4\n5"[..]).starting_at(10, 100);
+        if let Some(numbers) = reader.next_numbers::<u8>().expect("a slice can be read") {
+            numbers.take(taken).for_each(drop);
+        }
+        assert_eq!(reader.position(), (14, 109), "{taken} taken");
+    }
+}
+
+#[test]
+fn long_lines_take_no_more_memory_and_time() {
+    // A line of 100 MB, of which each read gives one page.
+    let line = io::repeat(b'0').take(100 << 20);
+    let input = line.chain(&b"\n7"[..]);
+    let (words, position) = numbers(LineReader::new(io::BufReader::with_capacity(4096, input)));
+    assert_eq!(words, ["0 at 0 is too long", "7"]);
+    assert_eq!(position, (2, (100 << 20) + 2));
+    // The longest line that fits, and one byte more.
+    for (length, expected) in [(1 << 20, "0"), ((1 << 20) + 1, "0 at 0 is too long")] {
+        let (words, _) = numbers(LineReader::new(io::repeat(b'0').take(length)));
+        assert_eq!(words, [expected]);
+    }
+}
+
+#[test]
+fn a_read_that_fails_or_lies_is_reported() {
+    struct Liar;
+    impl Read for Liar {
+        fn read(&mut self, room: &mut [u8]) -> io::Result<usize> {
+            Ok(room.len() + 1)
+        }
+    }
+    let error = LineReader::new(Liar).next_line().unwrap_err();
+    assert_eq!(error.kind(), ErrorKind::InvalidData);
+
+    struct Steps(VecDeque<io::Result<&'static [u8]>>);
+    impl Read for Steps {
+        fn read(&mut self, room: &mut [u8]) -> io::Result<usize> {
+            let given = self.0.pop_front().unwrap_or(Ok(b""))?;
+            room[..given.len()].copy_from_slice(given);
+            Ok(given.len())
+        }
+    }
+    let refused = || Err(ErrorKind::PermissionDenied.into());
+    let steps = [Ok(&b"1\n2"[..]), refused(), Ok(&b"3\n"[..]), refused(), Ok(&b"4"[..])];
+    let mut reader = LineReader::new(Steps(steps.into()));
+    let mut items = Vec::new();
+    for _ in 0..6 {
+        items.push(match reader.next_line() {
+            Ok(line) => line.map(|line| line.map(|line| line.text.to_vec()).expect("it is short")),
+            Err(error) => Some(error.kind().to_string().into_bytes()),
+        });
+    }
+    let line = |text: &[u8]| Some(text.to_vec());
+    let denied = line(b"permission denied");
+    assert_eq!(items, [line(b"1"), denied.clone(), line(b"23"), denied, line(b"4"), None]);
+}
+
+fn printed(text: &[u8]) -> String {
+    let mut out = Vec::new();
+    sum::print_sum(text, &mut out).expect("a slice can be read, and a vector written");
+    String::from_utf8(out).expect("all bytes are escaped")
+}
+
+#[test]
+fn threads_print_what_the_sum_prints() {
+    each_text(|text| {
+        for count in 1..=9 {
+            let cuts = threads::cuts(Cursor::new(text), count).expect("a slice can be read");
+            assert_eq!(cuts.len() as u64, count + 1);
+            let pieces = cuts.windows(2).map(|piece| {
+                let piece = text.get(piece[0] as usize..piece[1] as usize).unwrap_or_default();
+                threads::read_piece(piece).expect("a slice can be read")
+            });
+            let mut out = Vec::new();
+            threads::print_sum(pieces.collect(), &mut out).expect("a vector can be written");
+            assert_eq!(String::from_utf8(out), Ok(printed(text)), "{count} threads: {text:?}");
+        }
+    });
+}
+
+#[test]
+fn the_example_prints_each_bad_line_and_the_sum() {
+    assert_eq!(printed(b""), "0 numbers\nsum 0\n");
+    assert_eq!(
+        printed(b"200\r\n40x\r\n\n\xff\"\\\'\t\r\r\n+3\n-5"),
+        "line 2 is skipped: \"40x\"\nline 3 is skipped: \"\"\n\
+         line 4 is skipped: \"\\xff\\\"\\\\\\'\\t\\r\"\n3 numbers\nsum 198\n"
+    );
+    assert_eq!(printed(b"9223372036854775807\n1\n-1\n"), "3 numbers\nsum out of range\n");
+    let mut long = vec![b'0'; (1 << 20) + 1];
+    assert_eq!(printed(&long), "line 1 is skipped: more than 1048576 bytes\n0 numbers\nsum 0\n");
+    long[1] = b'\n';
+    assert_eq!(printed(&long), "2 numbers\nsum 0\n");
+}
