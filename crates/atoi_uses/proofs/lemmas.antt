@@ -1,2 +1,3 @@
 pub mod Arrays
+pub mod BlockTotals
 pub mod Commands

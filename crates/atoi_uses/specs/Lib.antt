@@ -10,3 +10,4 @@ pub mod Durations
 pub mod BadFields
 pub mod Arrays
 pub mod BadLines
+pub mod BlockTotals

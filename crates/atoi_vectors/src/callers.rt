@@ -5,6 +5,7 @@ mod addresses;
 mod arrays;
 mod bad_fields;
 mod bad_lines;
+mod block_totals;
 mod cents;
 mod commands;
 mod durations;
