@@ -1,3 +1,4 @@
 pub mod Arrays
 pub mod BlockTotals
 pub mod Commands
+pub mod Times

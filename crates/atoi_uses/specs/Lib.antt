@@ -11,3 +11,5 @@ pub mod BadFields
 pub mod Arrays
 pub mod BadLines
 pub mod BlockTotals
+pub mod Releases
+pub mod Times
