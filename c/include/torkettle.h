@@ -177,7 +177,7 @@ typedef struct torkettle_error {
  *         if (fields.status == TORKETTLE_OK)
  *             sum += value;
  *         else
- *             fprintf(stderr, "line %zu is no number: %.*s\n", fields.index + 1, (int)fields.length, fields.text);
+ *             fprintf(stderr, "no number in line %zu, at byte %zu\n", fields.index + 1, fields.offset);
  *
  * void torkettle_fields_i64_init(torkettle_fields_i64 *fields, const char *text, size_t length, char separator);
  *
@@ -247,6 +247,15 @@ static inline bool torkettle_prefix_is_digit(const char *text, size_t length) TO
     if (length > 1 && torkettle_is_digit(text[1]))
         return false;
     return length > 0 && torkettle_is_digit(text[0]);
+}
+
+/*
+ * The status of a call that found no number. It is never TORKETTLE_OK, but a compiler cannot know that, and would warn
+ * that the value of such a call may not be set.
+ */
+static inline torkettle_status torkettle_refusal(torkettle_status status) TORKETTLE_NOEXCEPT
+{
+    return status == TORKETTLE_OK ? TORKETTLE_EMPTY : status;
 }
 
 /* How many bytes of a text are fields: none if the separator is a digit, `+` or `-`, and so no field is one digit. */
@@ -352,7 +361,7 @@ static inline size_t torkettle_rest_length(size_t length, char separator) TORKET
     {                                                                                                                  \
         torkettle_found_##name found = TORKETTLE_PICK_(whole, _##name);                                                \
         if (found.length == 0)                                                                                         \
-            return torkettle_parse_error_##name(text, length, flags).status;                                           \
+            return torkettle_refusal(torkettle_parse_error_##name(text, length, flags).status);                        \
         *value = found.value;                                                                                          \
         return TORKETTLE_OK;                                                                                           \
     }                                                                                                                  \
@@ -362,7 +371,7 @@ static inline size_t torkettle_rest_length(size_t length, char separator) TORKET
     {                                                                                                                  \
         torkettle_found_##name found = TORKETTLE_PICK_(prefix, _##name);                                               \
         if (found.length == 0)                                                                                         \
-            return torkettle_parse_prefix_error_##name(text, length, flags).status;                                    \
+            return torkettle_refusal(torkettle_parse_prefix_error_##name(text, length, flags).status);                 \
         *value = found.value;                                                                                          \
         *count = found.length;                                                                                         \
         return TORKETTLE_OK;                                                                                           \

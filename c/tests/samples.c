@@ -65,7 +65,7 @@ static uint64_t sum_of_lines(const char *text, size_t length)
         if (lines.status == TORKETTLE_OK)
             sum += value;
         else
-            printf("line %zu is skipped: %.*s\n", lines.index + 1, (int)lines.length, lines.text);
+            printf("no number in line %zu, at byte %zu\n", lines.index + 1, lines.offset);
     }
 
     return sum;
@@ -83,7 +83,7 @@ static uint64_t sum_of_lines_by_read(const char *text, size_t length)
         for (size_t at = 0; at < count; at++)
             sum += values[at];
         if (lines.status != TORKETTLE_OK)
-            printf("line %zu is skipped: %.*s\n", lines.index + 1, (int)lines.length, lines.text);
+            printf("no number in line %zu, at byte %zu\n", lines.index + 1, lines.offset);
     }
 
     return sum;

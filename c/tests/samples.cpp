@@ -15,7 +15,7 @@ static std::uint64_t sum_of_lines(std::string_view text)
         if (item.value)
             sum += *item.value;
         else
-            std::cout << "line " << item.index + 1 << " is skipped: " << item.text << '\n';
+            std::cout << "no number in line " << item.index + 1 << ", at byte " << item.offset << '\n';
     }
     return sum;
 }
