@@ -5,9 +5,9 @@ ghost use Rattle.atoi_column.specs.Fields.{is_separator};
 ghost use Rattle.atoi_column.specs.Items.{index_of, item_of, items_of, place_of};
 
 use crate::error::ColumnError;
-use crate::fields::short_field;
+use crate::fields::{first_number, short_field};
 use crate::laws::fields_are_prefixes;
-use atoi_simd::{Parse, parse_prefix};
+use atoi_simd::Parse;
 use std::iter::FusedIterator;
 use std::marker::{Model, PhantomData};
 
@@ -131,7 +131,7 @@ impl<'a, T: Parse> Iterator for Column<'a, T> {
         }
         // No item follows unless a separator is found.
         self.has_ended = true;
-        let (value, count) = match parse_prefix::<T, true, true>(rest) {
+        let (value, count) = match first_number::<T, true>(rest) {
             Ok(found) => found,
             Err(cause) => return Some(Err(ColumnError::Field {
                 index,

@@ -1,9 +1,10 @@
 //! An iterator over the fields of a byte slice, which goes on after an error.
-ghost use Rattle.std.specs.Prelude.{◌≡◌, ◌+◌, ◌^◌, ◌<◌, ◌≤◌, ◌==◌, ◌∷◌, ◌++◌, ℕ, ℤ, true, None, Ok, length, take, drop, map, All, IsFalse, IfSome, IfNone, IfErr};
+ghost use Rattle.std.specs.Prelude.{◌≡◌, ◌+◌, ◌^◌, ◌<◌, ◌≤◌, ◌==◌, ◌∷◌, ◌++◌, ℕ, ℤ, true, None, Ok, length, take, drop, map, All, IsFalse, IfSome, IfNone, IfOk, IfErr};
 ghost use Rattle.std.specs.Iterator.{item_count};
 ghost use Rattle.std.specs.Option.{option_map};
 ghost use Rattle.std.specs.List.{position_or_len, after_first};
-ghost use Rattle.atoi_core.specs.Answer.{parse_answer, parse_prefix_answer};
+ghost use Rattle.atoi_core.specs.Answer.{parse_answer, parse_prefix_answer, typed_prefix_answer};
+ghost use Rattle.atoi_core.specs.Text.{PrefixWrites, TextWrites};
 ghost use Rattle.atoi_column.specs.Fields.{is_separator};
 ghost use Rattle.atoi_column.specs.FieldItems.{cut_of, field_item, field_item_of, fields_in, lines_in, field_items, field_items_left, after_first_field, line_items, GivesFirstField};
 ghost use Rattle.atoi_column.specs.FirstField.{after_field, first_text, IsAcceptedField, IsShortField};
@@ -13,7 +14,7 @@ use crate::field_error::FieldError;
 use crate::guesses::{is_likely, number_of_digits, sign_len};
 use crate::laws::fields_are_prefixes;
 use atoi_core::laws::{accepted_texts, prefix_begins, prefix_is_whole};
-use atoi_simd::{Parse, parse, parse_prefix};
+use atoi_simd::{AtoiSimdError, Parse, parse, parse_prefix, parse_prefix_pos};
 use std::iter::FusedIterator;
 use std::marker::{Model, PhantomData};
 
@@ -440,9 +441,26 @@ fn accepted_field<T: Parse, const PLUS: bool>(
     if let Some((value, following)) = short_field::<T>(rest, separator) {
         return Some((value, following));
     }
-    let (value, count) = parse_prefix::<T, true, PLUS>(rest).ok()?;
+    let (value, count) = first_number::<T, PLUS>(rest).ok()?;
     let following = after_field(&rest[count..], separator, trims)?;
     Some((value, following))
+}
+
+// `parse_prefix`. Signed numbers mostly have no sign, and a digit says so before the sign is looked for.
+#[inline(always)]
+pub(crate) fn first_number<T: Parse, const PLUS: bool>(
+    rest: &[u8],
+) -> Result<(T, usize), AtoiSimdError<'_>>
+    ensures answer { typed_prefix_answer T.number result
+        ≡ parse_prefix_answer T.int_type true PLUS rest.now }
+    ensures within { IfOk result (λ found. found.1 ≤ length rest.now) }
+    ensures prefix { IfOk result (λ found.
+        PrefixWrites (TextWrites T.int_type PLUS) rest.now (T.number found.0) found.1) }
+{
+    match rest {
+        [b'0'..=b'9', ..] if T::SIGNED => parse_prefix_pos::<T, true>(rest),
+        _ => parse_prefix::<T, true, PLUS>(rest),
+    }
 }
 
 // Returns the number of a first field of one byte, and what follows its separator.

@@ -19,11 +19,11 @@ returns-in-Some-clause-some g c = λ separates.
 
 pub returns-clause-some : goal.returns-clause-some
 returns-clause-some g c = λ separates.
-    let parsed = ok_is c.parse_prefix.result (sym c.ok.ensures.value ∙ c.in_ok-value.was) in
-    let answer = sym c.parse_prefix.ensures.answer ∙ ap (typed_prefix_answer g.T.Number.number) parsed in
+    let parsed = ok_is c.first_number.result (sym c.ok.ensures.value ∙ c.in_ok-value.was) in
+    let answer = sym c.first_number.ensures.answer ∙ ap (typed_prefix_answer g.T.Number.number) parsed in
     accepted c.args.trims (record {
       within = (c.fields_are_prefixes.ensures c.args.separator separates c.args.rest.now).within _ _
           (with_plus g.T.Number.int_type _ c.prefix_begins.ensures c.args.rest.now answer);
-      written = text_with_plus (IfOk-at_ok _ parsed c.parse_prefix.ensures.prefix).written;
+      written = text_with_plus (IfOk-at_ok _ parsed c.first_number.ensures.prefix).written;
       texts = c.accepted_texts.ensures;
     }) _ (sym (take_rest c.args.rest.now c.in_ok-value.count)) (sym c.in_ok-following.ensures)
